@@ -21,3 +21,6 @@ pub use status::{Reset, Status};
 
 /// The answer of a growth that was refused.
 pub type NoMemory = std::alloc::AllocError;
+
+#[cfg(test)]
+mod tests;
