@@ -1,3 +1,4 @@
 pub mod Values
 pub mod Faults
 pub mod Layout
+pub mod Reading

@@ -1,6 +1,8 @@
 ghost use Rattle.std.specs.Prelude.{◌≡◌};
 ghost use Rattle.tds_request.specs.Faults.{number_of};
 
+use std::alloc::AllocError;
+
 /// Why bytes are no request: the first field that is wrong or cut short.
 #[derive(Debug, Drop)]
 pub enum RequestFault {
@@ -65,5 +67,15 @@ impl RequestFault {
             RequestFault::BytesLeftOver => RequestFault::BytesLeftOver,
             RequestFault::Memory => RequestFault::Memory,
         }
+    }
+}
+
+impl From<AllocError> for RequestFault {
+    ghost use Rattle.tds_request.specs.declared.fault.RequestFault.TheVariants.{Memory};
+
+    ghost from_gives = { λ _ fault. fault ≡ Memory };
+
+    fn from(_: AllocError) -> RequestFault {
+        RequestFault::Memory
     }
 }

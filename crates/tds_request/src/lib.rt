@@ -1,13 +1,18 @@
 //! The requests that a client sends to a server in the Tabular Data Stream (MS-TDS): a batch of
-//! statements, and the transaction manager's begin, commit and rollback. Each behind ALL_HEADERS,
-//! written as it is spelled, and read exactly where it is spelled so.
+//! statements, and the transaction manager's begin, commit and rollback. Each stands behind
+//! ALL_HEADERS, is written as it is spelled, and is read exactly where it is spelled so.
 #![tactic(auto)]
 
+mod decoding;
+mod encoding;
 mod fault;
+mod fields;
 mod isolation;
 mod request;
 mod text;
 
+pub use decoding::decode;
+pub use encoding::encode;
 pub use fault::RequestFault;
 pub use isolation::Isolation;
 pub use request::{Request, RequestKind};

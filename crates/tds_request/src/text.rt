@@ -1,6 +1,8 @@
-ghost use Rattle.std.specs.Prelude.{◌≡◌, SomeIff};
+ghost use Rattle.std.specs.Prelude.{◌≡◌, IfOk, SomeIff, length, true};
+ghost use Rattle.tds_request.specs.Reading.{is_text_length, units_of};
 ghost use Rattle.tds_request.specs.Values.{IsBatchText};
 
+use std::alloc::{AllocError, Global};
 use std::marker::Model;
 
 /// The text of a batch: 1 to 2,000 UTF-16 units, whatever they are (MS-TDS 2.2.6.7).
@@ -39,4 +41,25 @@ impl BatchText {
     {
         self.units.as_slice()
     }
+
+    /// The text that these bytes spell, each unit's low byte first.
+    pub(crate) fn from_le_bytes(alloc: Global, bytes: &[u8]) -> Result<BatchText, AllocError>
+        requires { is_text_length (length bytes.now) ≡ true }
+        ensures { IfOk result (λ text. text ≡ units_of bytes.now) }
+    {
+        let units = units_from(alloc, bytes)?;
+        Ok(BatchText { units })
+    }
+}
+
+fn units_from(alloc: Global, bytes: &[u8]) -> Result<Vec<u16>, AllocError>
+    ensures { IfOk result (λ units. units.items ≡ units_of bytes.now) }
+{
+    let mut units = Vec::with_capacity(alloc, bytes.len() / 2)?;
+    let mut rest = bytes;
+    'units: while let [low, high, after @ ..] = rest {
+        units.push(u16::from(*low) + 256 * u16::from(*high))?;
+        rest = after;
+    }
+    Ok(units)
 }
