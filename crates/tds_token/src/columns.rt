@@ -1,8 +1,10 @@
 ghost use Rattle.std.specs.Prelude.{◌≡◌, ◌≤◌, None, length};
 ghost use Rattle.tds_token.specs.Texts.{AreColumns};
+ghost use Rattle.tds_token.specs.Layout.{columns_after, token_of};
 ghost use Rattle.tds_token.specs.Reading.{columns_of};
 
 use crate::text::Text;
+use crate::token::TokenRef;
 use std::marker::Model;
 
 /// What is told of a column: its user type, its flags and its name (MS-TDS 2.2.7.4). Its type is
@@ -125,5 +127,21 @@ impl Columns {
         ensures range { AreColumns self }
     {
         self.0
+    }
+
+    /// What is known behind this token.
+    pub(crate) fn after(self, token: &TokenRef<'_>) -> Columns
+        ensures value { result ≡ columns_after self (token_of token.now) }
+        ensures known { AreColumns result }
+    {
+        match token {
+            TokenRef::Columns(columns) => Columns(Some(columns.count())),
+            TokenRef::Done { .. } => Columns(None),
+            TokenRef::Info(_)
+            | TokenRef::Error(_)
+            | TokenRef::ReturnStatus(_)
+            | TokenRef::Env(_)
+            | TokenRef::Row(_) => self,
+        }
     }
 }

@@ -8,10 +8,13 @@
 mod columns;
 mod env_change;
 mod fault;
+pub mod laws;
 mod message;
+mod reading;
 mod row;
 mod text;
 mod token;
+mod tokens;
 
 pub use columns::{Column, ColumnList, Columns, ColumnsRef};
 pub use env_change::EnvChange;
@@ -20,6 +23,7 @@ pub use message::{Message, MessageRef};
 pub use row::{Row, RowRef};
 pub use text::{Text, TextRef};
 pub use token::{Token, TokenRef};
+pub use tokens::Tokens;
 
 /// The answer of a growth that was refused.
 pub type NoMemory = std::alloc::AllocError;
