@@ -1,3 +1,4 @@
+pub mod Keeping
 pub mod Fields
 pub mod Small
 pub mod Wordings

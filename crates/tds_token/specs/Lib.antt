@@ -5,3 +5,4 @@ pub mod Reading
 pub mod Lent
 pub mod Cursor
 pub mod Told
+pub mod Vectors
