@@ -1,17 +1,17 @@
 -- The tokens of a packet's data, one step at a time.
-use Rattle.std.proofs.Common.{◌≡◌, ℕ, zero, suc, ◌+◌, ◌-◌, ◌<◌, ◌≤◌, Bool, true, false, cond, eqb, List, [], ◌∷◌, ◌++◌, length, Option, Some, None, Result, Ok, Err, refl, sym, ap, subst, ◌∙◌, arith}
+use Rattle.std.proofs.Common.{◌≡◌, ℕ, zero, suc, ◌+◌, ◌-◌, ◌<◌, ◌≤◌, Bool, true, false, cond, eqb, List, [], ◌∷◌, ◌++◌, length, Option, Some, None, Result, Ok, Err, refl, sym, ap, subst, ◌∙◌, append_assoc, arith}
 use Rattle.std.proofs.lemmas.Bool.{eqb-true}
 use Rattle.std.proofs.lemmas.List.{nil_from_length, length-append}
 use Rattle.tds_token.specs.declared.fault.TokenFault.{TokenFault}
 use Rattle.tds_token.specs.declared.token.Token.{Token}
 use Rattle.tds_token.specs.declared.token.Token.TheVariants as tokens
 use Rattle.tds_token.specs.Texts.{AreColumns, IsBytes}
-use Rattle.tds_token.specs.Layout.{spelling, columns_after}
-use Rattle.tds_token.specs.Reading.{token_at}
+use Rattle.tds_token.specs.Layout.{spelling, columns_after, IsToken, IsTokens}
+use Rattle.tds_token.specs.Reading.{token_at, fault_of, wrong_token}
 use Rattle.tds_token.specs.Cursor.{Cursor, step_by, step}
-use Rattle.tds_token.specs.Contents.{Contents, no_more, at_fault, with_token, contents_by, contents_within, contents_of, contents_before}
+use Rattle.tds_token.specs.Contents.{Contents, AreContents, EndsAt, no_more, at_fault, with_token, contents_by, contents_within, contents_of, contents_before}
 use Rattle.tds_token.proofs.Small.{Good}
-use Rattle.tds_token.proofs.Whole.{token_takes}
+use Rattle.tds_token.proofs.Whole.{token_takes, token_again}
 
 -- columns are columns behind each token
 pub known_after : (columns : Option ℕ) (t : Token) → AreColumns columns → Good columns t → AreColumns (columns_after columns t)
@@ -94,3 +94,79 @@ pub contents_step : (c d : Cursor) (answer : Option (Result Token TokenFault)) �
     → contents_of c.columns c.bytes ≡ contents_before answer (contents_of d.columns d.bytes)
 contents_step c d answer known fits e =
     at_step c c.bytes refl known fits ∙ ap (λ (p : Option (Result Token TokenFault) × Cursor). contents_before p.0 (contents_of p.1.columns p.1.bytes)) (sym e)
+
+-- ---- the contents in the words of the layout
+
+one_more : (columns : Option ℕ) (bytes : List ℕ) (b : ℕ) (rest : List ℕ) (r : Result (Token × List ℕ) TokenFault) → bytes ≡ b ∷ rest → token_at columns bytes ≡ r → contents_of columns bytes ≡ contents_by (contents_within (length rest)) columns r
+one_more columns bytes b rest r e read = more (record { bytes = bytes; columns = columns }) b rest e ∙ ap (contents_by (contents_within (length rest)) columns) read
+
+-- the contents behind a token
+behind_token : (columns : Option ℕ) (bytes : List ℕ) (x : Token × List ℕ) → AreColumns columns → IsBytes bytes → token_at columns bytes ≡ Ok x → contents_of columns bytes ≡ with_token x.0 (contents_of (columns_after columns x.0) x.1)
+behind_token columns [] x known fits e = let l = left_behind columns [] x known fits e in absurd (omega (arith, l.shorter))
+behind_token columns (b ∷ rest) x known fits e =
+    let l = left_behind columns (b ∷ rest) x known fits e in
+    one_more columns (b ∷ rest) b rest (Ok x) refl e ∙ ap (with_token x.0) (enough (length rest) (length x.1) (columns_after columns x.0) x.1 l.known l.bytes_fit (omega (arith, l.shorter)) (omega arith))
+
+at_a_fault : (columns : Option ℕ) (bytes : List ℕ) (fault : TokenFault) → 1 ≤ length bytes → token_at columns bytes ≡ Err fault → contents_of columns bytes ≡ at_fault fault columns
+at_a_fault columns [] fault le e = absurd (omega arith)
+at_a_fault columns (b ∷ rest) fault le e = one_more columns (b ∷ rest) b rest (Err fault) refl e
+
+empty_contents : (columns : Option ℕ) → AreContents columns [] (no_more columns)
+empty_contents columns = record { front = []; rest = []; split = refl; spelled = (refl, refl); ends = refl }
+
+fault_contents : (columns : Option ℕ) (bytes : List ℕ) (fault : TokenFault) → 1 ≤ length bytes → token_at columns bytes ≡ Err fault → AreContents columns bytes (at_fault fault columns)
+fault_contents columns bytes fault le e = record { front = []; rest = bytes; split = refl; spelled = (refl, refl); ends = (le, ap fault_of e) }
+
+token_contents : (columns : Option ℕ) (bytes : List ℕ) (x : Token × List ℕ) (all : Contents) → (bytes ≡ spelling x.0 ++ x.1) → Good columns x.0 → AreContents (columns_after columns x.0) x.1 all → AreContents columns bytes (with_token x.0 all)
+token_contents columns bytes x all e g a = record {
+  front = spelling x.0 ++ a.front;
+  rest = a.rest;
+  split = e ∙ ap (λ (y : List ℕ). spelling x.0 ++ y) a.split ∙ sym (append_assoc (spelling x.0) a.front a.rest);
+  spelled = (spelling x.0, a.front, columns_after columns x.0, refl, record { spelled = refl; fits = g.fits; ranged = g.ranged; under = g.under; after_is = refl }, a.spelled);
+  ends = a.ends;
+}
+
+found_by_result : (n : ℕ) (columns : Option ℕ) (bytes : List ℕ) (r : Result (Token × List ℕ) TokenFault) → AreColumns columns → IsBytes bytes → 1 ≤ length bytes → length bytes ≤ suc n → token_at columns bytes ≡ r
+    → ((columns : Option ℕ) (bytes : List ℕ) → AreColumns columns → IsBytes bytes → length bytes ≤ n → AreContents columns bytes (contents_of columns bytes)) → AreContents columns bytes (contents_of columns bytes)
+found_by_result n columns bytes (Ok x) known fits le most e below =
+    let l = left_behind columns bytes x known fits e in
+    let t = token_takes columns bytes x known fits e in
+    rw (behind_token columns bytes x known fits e) (token_contents columns bytes x (contents_of (columns_after columns x.0) x.1) t.0 t.1 (below (columns_after columns x.0) x.1 l.known l.bytes_fit (omega (arith, l.shorter))))
+found_by_result n columns bytes (Err fault) known fits le most e below =
+    rw (at_a_fault columns bytes fault le e) (fault_contents columns bytes fault le e)
+
+found_within : (n : ℕ) (columns : Option ℕ) (bytes : List ℕ) → AreColumns columns → IsBytes bytes → length bytes ≤ n → AreContents columns bytes (contents_of columns bytes)
+unfolding contents_within
+found_within n columns [] known fits le = empty_contents columns
+found_within zero columns (b ∷ bytes) known fits le = absurd (omega arith)
+found_within (suc n) columns (b ∷ bytes) known fits le =
+    found_by_result n columns (b ∷ bytes) (token_at columns (b ∷ bytes)) known fits (omega arith) le refl (found_within n)
+
+pub contents_found : (columns : Option ℕ) (bytes : List ℕ) → AreColumns columns → IsBytes bytes → AreContents columns bytes (contents_of columns bytes)
+contents_found columns bytes known fits = found_within (length bytes) columns bytes known fits (omega arith)
+
+fault_is : (r : Result (Token × List ℕ) TokenFault) (fault : TokenFault) → fault_of r ≡ Some fault → r ≡ Err fault
+fault_is (Ok x) fault e = absurd cc
+fault_is (Err f) fault e = cc
+
+ends_only : (columns : Option ℕ) (rest : List ℕ) (fault : Option TokenFault) → EndsAt columns rest fault → contents_of columns rest ≡ record { tokens = []; fault = fault; columns = columns }
+unfolding contents_within
+ends_only columns rest None e = rw e refl
+ends_only columns rest (Some fault) e = at_a_fault columns rest fault e.0 (fault_is (token_at columns rest) fault e.1)
+
+only_of : (columns : Option ℕ) (bytes : List ℕ) (ts : List Token) (front rest : List ℕ) (after : Option ℕ) (fault : Option TokenFault) → AreColumns columns → IsBytes bytes → bytes ≡ front ++ rest → IsTokens columns ts front after → EndsAt after rest fault
+    → contents_of columns bytes ≡ record { tokens = ts; fault = fault; columns = after }
+only_of columns bytes [] front rest after fault known fits e spelled ends =
+    ap (λ (c : Option ℕ). contents_of c bytes) (sym spelled.1) ∙ ap (contents_of after) (e ∙ ap (λ (f : List ℕ). f ++ rest) spelled.0) ∙ ends_only after rest fault ends
+only_of columns bytes (t ∷ ts) front rest after fault known fits e spelled ends =
+    let one = spelled.0 in
+    let others = spelled.1 in
+    let is : IsToken columns t one spelled.2 = spelled.4 in
+    let whole : bytes ≡ one ++ (others ++ rest) = e ∙ ap (λ (f : List ℕ). f ++ rest) spelled.3 ∙ append_assoc one others rest in
+    let read : token_at columns bytes ≡ Ok (t, others ++ rest) = rw (whole, is.spelled) (token_again columns t (others ++ rest) (record { fits = is.fits; ranged = is.ranged; under = is.under })) in
+    let l = left_behind columns bytes (t, others ++ rest) known fits read in
+    let behind = only_of spelled.2 (others ++ rest) ts others rest after fault (rw is.after_is l.known) l.bytes_fit refl spelled.5 ends in
+    behind_token columns bytes (t, others ++ rest) known fits read ∙ ap (with_token t) (ap (λ (c : Option ℕ). contents_of c (others ++ rest)) (sym is.after_is) ∙ behind)
+
+pub contents_only : (columns : Option ℕ) (bytes : List ℕ) (all : Contents) → AreColumns columns → IsBytes bytes → AreContents columns bytes all → all ≡ contents_of columns bytes
+contents_only columns bytes all known fits a = sym (only_of columns bytes all.tokens a.front a.rest all.columns all.fault known fits a.split a.spelled a.ends)

@@ -1,5 +1,5 @@
 -- All the tokens of a packet's data.
-use Rattle.std.specs.Prelude.{◌≡◌, ◌≢◌, ℕ, zero, suc, List, [], ◌∷◌, ◌++◌, length, ◌==◌, if◌then◌else◌, Option, Some, None, Result, Ok, Err}
+use Rattle.std.specs.Prelude.{◌≡◌, ◌≤◌, ℕ, zero, suc, List, [], ◌∷◌, ◌++◌, length, ◌==◌, if◌then◌else◌, Option, Some, None, Result, Ok, Err}
 use Rattle.tds_token.specs.declared.fault.TokenFault.{TokenFault}
 use Rattle.tds_token.specs.declared.token.Token.{Token}
 use Rattle.tds_token.specs.Layout.{IsTokens, columns_after}
@@ -40,3 +40,17 @@ abbrev pub contents_before : Option (Result Token TokenFault) → Contents → C
 contents_before None rest = rest
 contents_before (Some (Ok token)) rest = with_token token rest
 contents_before (Some (Err fault)) rest = at_fault fault rest.columns
+
+-- Where the tokens end: at the end of the data, or before bytes that spell no token.
+abbrev pub EndsAt : Option ℕ → List ℕ → Option TokenFault → Type 0
+EndsAt columns rest None = rest ≡ []
+EndsAt columns rest (Some fault) = (1 ≤ length rest) × (wrong_token columns rest ≡ Some fault)
+
+-- The contents in the words of the layout: a front of the data spells the tokens, the columns
+-- handed on, and they end behind it.
+pub record AreContents (columns : Option ℕ) (bytes : List ℕ) (all : Contents) : Type 0 where
+  pub front : List ℕ
+  pub rest : List ℕ
+  pub split : bytes ≡ front ++ rest
+  pub spelled : IsTokens columns all.tokens front all.columns
+  pub ends : EndsAt all.columns rest all.fault
