@@ -112,12 +112,15 @@ at_a_fault columns [] fault le e = absurd (omega arith)
 at_a_fault columns (b ∷ rest) fault le e = one_more columns (b ∷ rest) b rest (Err fault) refl e
 
 empty_contents : (columns : Option ℕ) → AreContents columns [] (no_more columns)
+unfolding IsTokens
 empty_contents columns = record { front = []; rest = []; split = refl; spelled = (refl, refl); ends = refl }
 
 fault_contents : (columns : Option ℕ) (bytes : List ℕ) (fault : TokenFault) → 1 ≤ length bytes → token_at columns bytes ≡ Err fault → AreContents columns bytes (at_fault fault columns)
+unfolding IsTokens
 fault_contents columns bytes fault le e = record { front = []; rest = bytes; split = refl; spelled = (refl, refl); ends = (le, ap fault_of e) }
 
 token_contents : (columns : Option ℕ) (bytes : List ℕ) (x : Token × List ℕ) (all : Contents) → (bytes ≡ spelling x.0 ++ x.1) → Good columns x.0 → AreContents (columns_after columns x.0) x.1 all → AreContents columns bytes (with_token x.0 all)
+unfolding IsTokens
 token_contents columns bytes x all e g a = record {
   front = spelling x.0 ++ a.front;
   rest = a.rest;
@@ -156,6 +159,7 @@ ends_only columns rest (Some fault) e = at_a_fault columns rest fault e.0 (fault
 
 only_of : (columns : Option ℕ) (bytes : List ℕ) (ts : List Token) (front rest : List ℕ) (after : Option ℕ) (fault : Option TokenFault) → AreColumns columns → IsBytes bytes → bytes ≡ front ++ rest → IsTokens columns ts front after → EndsAt after rest fault
     → contents_of columns bytes ≡ record { tokens = ts; fault = fault; columns = after }
+unfolding IsTokens
 only_of columns bytes [] front rest after fault known fits e spelled ends =
     ap (λ (c : Option ℕ). contents_of c bytes) (sym spelled.1) ∙ ap (contents_of after) (e ∙ ap (λ (f : List ℕ). f ++ rest) spelled.0) ∙ ends_only after rest fault ends
 only_of columns bytes (t ∷ ts) front rest after fault known fits e spelled ends =
