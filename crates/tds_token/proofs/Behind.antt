@@ -1,13 +1,12 @@
 -- The tokens of a packet's data, one step at a time.
-use Rattle.std.proofs.Common.{◌≡◌, ℕ, zero, suc, ◌+◌, ◌-◌, ◌<◌, ◌≤◌, Bool, true, false, cond, eqb, List, [], ◌∷◌, ◌++◌, length, Option, Some, None, Result, Ok, Err, refl, sym, ap, subst, ◌∙◌, append_assoc, arith}
-use Rattle.std.proofs.lemmas.Bool.{eqb-true}
+use Rattle.std.proofs.Common.{◌≡◌, ℕ, zero, suc, ◌<◌, ◌≤◌, false, cond, eqb, List, [], ◌∷◌, ◌++◌, length, Option, Some, None, Result, Ok, Err, refl, sym, ap, ◌∙◌, append_assoc, arith}
 use Rattle.std.proofs.lemmas.List.{nil_from_length, length-append}
 use Rattle.tds_token.specs.declared.fault.TokenFault.{TokenFault}
 use Rattle.tds_token.specs.declared.token.Token.{Token}
 use Rattle.tds_token.specs.declared.token.Token.TheVariants as tokens
 use Rattle.tds_token.specs.Texts.{AreColumns, IsBytes}
 use Rattle.tds_token.specs.Layout.{spelling, columns_after, IsToken, IsTokens}
-use Rattle.tds_token.specs.Reading.{token_at, fault_of, wrong_token}
+use Rattle.tds_token.specs.Reading.{token_at, fault_of}
 use Rattle.tds_token.specs.Cursor.{Cursor, step_by, step}
 use Rattle.tds_token.specs.Contents.{Contents, AreContents, EndsAt, no_more, at_fault, with_token, contents_by, contents_within, contents_of, contents_before}
 use Rattle.tds_token.proofs.Small.{Good}
