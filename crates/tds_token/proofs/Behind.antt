@@ -4,12 +4,14 @@ use Rattle.std.proofs.lemmas.List.{nil_from_length, length-append}
 use Rattle.tds_token.specs.declared.fault.TokenFault.{TokenFault}
 use Rattle.tds_token.specs.declared.token.Token.{Token}
 use Rattle.tds_token.specs.declared.token.Token.TheVariants as tokens
+use Rattle.tds_token.specs.declared.token.TokenRef.{TokenRef}
 use Rattle.tds_token.specs.Texts.{AreColumns, IsBytes}
-use Rattle.tds_token.specs.Layout.{spelling, columns_after, IsToken, IsTokens}
+use Rattle.tds_token.specs.Layout.{token_of, spelling, columns_after, IsToken, IsTokens}
 use Rattle.tds_token.specs.Reading.{token_at, fault_of}
-use Rattle.tds_token.specs.Cursor.{Cursor, step_by, step}
+use Rattle.tds_token.specs.Cursor.{Cursor, answer_of, step_by, step}
 use Rattle.tds_token.specs.Contents.{Contents, AreContents, EndsAt, no_more, at_fault, with_token, contents_by, contents_within, contents_of, contents_before}
 use Rattle.tds_token.proofs.Small.{Good}
+use Rattle.tds_token.proofs.Stepping.{found_by, wrong_by, end_by}
 use Rattle.tds_token.proofs.Whole.{token_takes, token_again}
 
 -- columns are columns behind each token
@@ -84,7 +86,8 @@ unfolding contents_within
 more c b rest e = let full : eqb (length (b ∷ rest)) 0 ≡ false = search arith in rw (e, full) refl
 
 at_step : (c : Cursor) (bytes : List ℕ) → c.bytes ≡ bytes → AreColumns c.columns → IsBytes c.bytes → contents_of c.columns c.bytes ≡ contents_before (step c).0 (contents_of (step c).1.columns (step c).1.bytes)
-at_step c [] e known fits = rw (no_step c e) refl
+unfolding contents_within
+at_step c [] e known fits = rw (no_step c e, e) refl
 at_step c (b ∷ rest) e known fits =
     let s = step_read c (length rest) (token_at c.columns c.bytes) known fits (rw e refl) refl in
     rw (a_step c b rest e) (more c b rest e ∙ s)
@@ -93,6 +96,24 @@ pub contents_step : (c d : Cursor) (answer : Option (Result Token TokenFault)) �
     → contents_of c.columns c.bytes ≡ contents_before answer (contents_of d.columns d.bytes)
 contents_step c d answer known fits e =
     at_step c c.bytes refl known fits ∙ ap (λ (p : Option (Result Token TokenFault) × Cursor). contents_before p.0 (contents_of p.1.columns p.1.bytes)) (sym e)
+
+has_some : (bytes : List ℕ) → (bytes ≡ [] → ⊥) → 1 ≤ length bytes
+has_some [] none = absurd (none refl)
+has_some (b ∷ bytes) none = omega arith
+
+not_none : (fault : TokenFault) (result : Option (Result TokenRef TokenFault)) → result ≡ Some (Err fault) → result ≡ None → ⊥
+not_none fault None is e = absurd cc
+not_none fault (Some answer) is e = absurd cc
+
+-- each answer leaves fewer bytes
+pub shorter_by : (c d : Cursor) (result : Option (Result TokenRef TokenFault)) (answer : Result TokenRef TokenFault) → AreColumns c.columns → IsBytes c.bytes → (answer_of result, d) ≡ step c → result ≡ Some answer → length d.bytes < length c.bytes
+shorter_by c d result (Ok t) known fits e is =
+    let f = found_by c d result t known fits e is in
+    omega (arith, ap length f.2, length-append f.0 d.bytes, ap length f.1.spelled, has_a_byte (token_of t))
+shorter_by c d result (Err fault) known fits e is =
+    let w = wrong_by c d result fault e is in
+    let some : 1 ≤ length c.bytes = has_some c.bytes (λ empty. not_none fault result is (end_by c d result e empty).0) in
+    omega (arith, some, ap (λ (d : Cursor). length d.bytes) w.1)
 
 -- ---- the contents in the words of the layout
 
