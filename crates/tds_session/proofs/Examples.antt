@@ -94,4 +94,3 @@ leading_zero = refl
 
 no_statement : statements_of [] ≡ None
 no_statement = refl
-

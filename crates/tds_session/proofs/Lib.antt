@@ -1,5 +1,4 @@
 mod Examples
 mod Rows
 mod Numbers
-mod Pieces
 mod Reading

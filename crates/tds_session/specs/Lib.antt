@@ -8,3 +8,4 @@ pub mod Script
 pub mod Lawful
 pub mod Answer
 pub mod Laws
+pub mod Spelling

@@ -5,8 +5,8 @@ ghost use Rattle.tds_session.specs.Effects.{Effect};
 ghost use Rattle.tds_session.specs.Lawful.{IsEffect, FitsPacket};
 ghost use Rattle.tds_session.specs.Session.{SessionState, IsSession};
 
-use crate::session::Session;
 use crate::NoMemory;
+use crate::session::Session;
 use std::alloc::Global;
 use tds_token::Token;
 

@@ -3,6 +3,7 @@
 #![tactic(auto)]
 
 mod engine;
+pub mod laws;
 mod message;
 mod parsing;
 mod running;
@@ -13,6 +14,7 @@ mod transaction;
 mod words;
 
 pub use engine::Engine;
+pub use message::error_token;
 pub use script::ScriptEngine;
 pub use session::Session;
 pub use statement::{Key, Statement, Within, Word};

@@ -2,7 +2,6 @@
 ghost use Rattle.std.specs.Prelude.{◌≡◌, ◌<◌, ◌^◌, ℕ, IfOk};
 ghost use Rattle.tds_session.specs.Effects.{message, error};
 
-
 use crate::NoMemory;
 use std::alloc::Global;
 use tds_token::{Message, Text, Token};
@@ -11,12 +10,7 @@ use tds_token::{Message, Text, Token};
 const ERROR_CLASS: u8 = 16;
 
 /// A message without names of a server or procedure.
-pub(crate) fn message(
-    alloc: Global,
-    number: u32,
-    class: u8,
-    text: Text,
-) -> Message
+pub(crate) fn message(alloc: Global, number: u32, class: u8, text: Text) -> Message
     requires { number < 2 ^ 31 }
     ensures { result ≡ message number class text }
 {
@@ -32,7 +26,7 @@ pub(crate) fn message(
 }
 
 /// An ERROR of this number below 2^31, with an ASCII text.
-pub fn error(alloc: Global, number: u32, text: &[u8]) -> Result<Token, NoMemory>
+pub fn error_token(alloc: Global, number: u32, text: &[u8]) -> Result<Token, NoMemory>
     requires { number < 2 ^ 31 }
     ensures { IfOk result (λ token. token ≡ error number text.now) }
 {

@@ -17,10 +17,7 @@ const SEMICOLON: u16 = 0x3b;
 const SPACE: u16 = 0x20;
 
 /// The statements that a text spells, or None where it is not in the language.
-pub(crate) fn parse_text(
-    alloc: Global,
-    text: &[u16],
-) -> Result<Option<Vec<Statement>>, NoMemory>
+pub(crate) fn parse_text(alloc: Global, text: &[u16]) -> Result<Option<Vec<Statement>>, NoMemory>
     ensures { IfOk result (λ found. option_map (λ v. v.items) found ≡ statements_of text.now) }
 {
     let mut statements = Vec::new(alloc);

@@ -7,7 +7,7 @@ ghost use Rattle.tds_session.specs.Words.{is_word};
 ghost use Rattle.tds_token.specs.declared.token.Token.TheVariants as token;
 
 use crate::NoMemory;
-use crate::message::{error, message};
+use crate::message::{error_token, message};
 use crate::session::Session;
 use crate::statement::{Statement, Word};
 use crate::transaction::{begin_transaction, commit_transaction, roll_back_transaction};
@@ -46,7 +46,7 @@ pub(crate) fn run(
         Statement::Commit => put_with_done(commit_transaction(alloc, session)?, tokens),
         Statement::Rollback => put_with_done(roll_back_transaction(alloc, session)?, tokens),
         Statement::Fail { number } => {
-            tokens.push(error(alloc, number.get(), b"fail")?)?;
+            tokens.push(error_token(alloc, number.get(), b"fail")?)?;
             Ok(())
         }
     }
@@ -102,12 +102,7 @@ fn put_result_set(
     Ok(())
 }
 
-fn put_rows(
-    alloc: Global,
-    first: u32,
-    count: u32,
-    tokens: &mut Vec<Token>,
-) -> Result<(), NoMemory>
+fn put_rows(alloc: Global, first: u32, count: u32, tokens: &mut Vec<Token>) -> Result<(), NoMemory>
     requires first { first ≤ 1000000 }
     requires count { count ≤ 64 }
     ensures { OnOk result (tokens.new.items ≡ tokens.old.items ++ rows_from first count) }

@@ -20,17 +20,11 @@ impl Model for Session {
 
     ghost Value = { SessionState };
 
-    ghost view = {
-        λ a. record { settings = a.settings; descriptor = a.descriptor; next_descriptor = a.next_descriptor }
-    };
+    ghost view = { λ a. record { settings = a.settings; descriptor = a.descriptor; next_descriptor = a.next_descriptor } };
 
-    ghost invariant = {
-        λ a. IsSession (record { settings = a.settings; descriptor = a.descriptor; next_descriptor = a.next_descriptor })
-    };
+    ghost invariant = { λ a. IsSession (record { settings = a.settings; descriptor = a.descriptor; next_descriptor = a.next_descriptor }) };
 
-    ghost inverse = {
-        λ s. record { settings = s.settings; descriptor = s.descriptor; next_descriptor = s.next_descriptor }
-    };
+    ghost inverse = { λ s. record { settings = s.settings; descriptor = s.descriptor; next_descriptor = s.next_descriptor } };
 }
 
 impl Session {
@@ -128,5 +122,13 @@ impl Session {
             Reset::Full => self.descriptor = 0,
             Reset::KeepTransaction => {}
         }
+    }
+
+    /// A session whose descriptors are used up.
+    #[cfg(test)]
+    pub(crate) fn last() -> Session {
+        let mut session = Session::new();
+        session.next_descriptor = u64::MAX;
+        session
     }
 }

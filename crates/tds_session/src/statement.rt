@@ -110,9 +110,14 @@ pub enum Statement {
         count: Within<0, 64>,
     },
     /// `set k V`: gives the key a value.
-    Set { key: Key, value: i32 },
+    Set {
+        key: Key,
+        value: i32,
+    },
     /// `get k`: gives the value of the key.
-    Get { key: Key },
+    Get {
+        key: Key,
+    },
     /// `begin`: begins a transaction.
     Begin,
     /// `commit`: ends the transaction, and keeps what it did.
@@ -120,5 +125,7 @@ pub enum Statement {
     /// `rollback`: ends the transaction, and undoes what it did.
     Rollback,
     /// `fail N`: gives an error of this number.
-    Fail { number: Within<1, 999_999> },
+    Fail {
+        number: Within<1, 999_999>,
+    },
 }

@@ -4,7 +4,7 @@ ghost use Rattle.tds_session.specs.Effects.{begins, ends};
 ghost use Rattle.tds_token.specs.declared.env_change.EnvChange.TheVariants as change;
 
 use crate::NoMemory;
-use crate::message::error;
+use crate::message::error_token;
 use crate::session::Session;
 use std::alloc::Global;
 use tds_token::{EnvChange, Token};
@@ -17,11 +17,11 @@ pub fn begin_transaction(alloc: Global, session: &mut Session) -> Result<Token, 
     ensures refused { OnErr result (session.new ≡ session.old) }
 {
     if session.descriptor() != 0 {
-        return error(alloc, 50002, b"in transaction");
+        return error_token(alloc, 50002, b"in transaction");
     }
     match session.begin() {
         Some(descriptor) => Ok(Token::Env(EnvChange::Begin(descriptor))),
-        None => error(alloc, 50004, b"no descriptor"),
+        None => error_token(alloc, 50004, b"no descriptor"),
     }
 }
 
@@ -34,7 +34,7 @@ pub fn commit_transaction(alloc: Global, session: &mut Session) -> Result<Token,
 {
     match session.end() {
         Some(descriptor) => Ok(Token::Env(EnvChange::Commit(descriptor))),
-        None => error(alloc, 50003, b"no transaction"),
+        None => error_token(alloc, 50003, b"no transaction"),
     }
 }
 
@@ -47,6 +47,6 @@ pub fn roll_back_transaction(alloc: Global, session: &mut Session) -> Result<Tok
 {
     match session.end() {
         Some(descriptor) => Ok(Token::Env(EnvChange::Rollback(descriptor))),
-        None => error(alloc, 50003, b"no transaction"),
+        None => error_token(alloc, 50003, b"no transaction"),
     }
 }

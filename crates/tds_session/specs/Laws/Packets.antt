@@ -1,5 +1,5 @@
 -- Each statement's tokens fit into a packet.
-use Rattle.std.proofs.Common.{◌≡◌, ◌≤◌, ◌<◌, ◌^◌, ℕ, zero, suc, ◌+◌, ◌*◌, ℤ, pos, Bool, true, false, ◌&&◌, ◌||◌, nat_le, List, [], ◌∷◌, ◌++◌, length, Option, Some, None, IfSome, FitsSigned, ◌-◌, ◌==◌, slice_index_or, unwrap_or, refl, arith, lit<, lit≤, codes}
+use Rattle.std.proofs.Common.{◌≡◌, ◌≤◌, ◌<◌, ◌^◌, ℕ, zero, suc, ◌+◌, ◌*◌, ℤ, pos, Bool, true, false, ◌||◌, nat_le, List, [], ◌∷◌, ◌++◌, length, Option, Some, None, IfSome, FitsSigned, ◌-◌, ◌==◌, slice_index_or, unwrap_or, refl, arith, lit<, lit≤, codes}
 use Rattle.std.specs.Int.{w32}
 use Rattle.std.specs.List.{All, list_all}
 use Rattle.std.proofs.lemmas.List.{length-append}
@@ -12,6 +12,7 @@ use Rattle.tds_session.specs.Effects.{message, error, done, begin_by, end_by}
 use Rattle.tds_session.specs.Script.{with_more, rows_from, result_set, row_column, step_of}
 use Rattle.tds_session.specs.Words.{is_within, is_digit, is_letter_or_digit, is_word}
 use Rattle.tds_session.specs.Laws.Spells.{is_within_is}
+use Rattle.tds_session.specs.Laws.Numerals.{both, or_cases}
 use Rattle.tds_session.specs.Within.{IsWithin}
 use Rattle.tds_session.specs.Statements.{IsStatement}
 use Rattle.tds_session.specs.Lawful.{FitsPacket}
@@ -82,30 +83,22 @@ fits_by ts after size h w s = record { fit = w.fit; bytes = w.bytes; columns = w
 abbrev is_unit : ℕ → Bool
 is_unit u = nat_le u 65535
 
-and_both : (a b : Bool) → (a && b) ≡ true → (a ≡ true) × (b ≡ true)
-and_both true b h = (refl, h)
-and_both false b h = absurd (let z : false ≡ true = h in cc)
-
 units_by : (test : ℕ → Bool) → ((u : ℕ) → test u ≡ true → u < 2 ^ 16) → (us : List ℕ) → list_all test us ≡ true → AreUnits us
 units_by test small [] h = tt
-units_by test small (u ∷ us) h = let p = and_both (test u) (list_all test us) h in (small u p.0, units_by test small us p.1)
+units_by test small (u ∷ us) h = let p = both (test u) (list_all test us) h in (small u p.0, units_by test small us p.1)
 
 within_small : (low high u : ℕ) → high < 2 ^ 16 → is_within low high u ≡ true → u < 2 ^ 16
 within_small low high u k h = let p = is_within_is low high u h in omega (arith, k, p.most)
 
-or_cases : (P : Type 0) (a b : Bool) → (a ≡ true → P) → (b ≡ true → P) → (a || b) ≡ true → P
-or_cases P true b f g h = f refl
-or_cases P false b f g h = g h
-
 letter_small : (u : ℕ) → is_letter_or_digit u ≡ true → u < 2 ^ 16
 letter_small u h =
     or_cases (u < 2 ^ 16) (is_digit u || is_within 65 90 u) (is_within 97 122 u)
-        (or_cases (u < 2 ^ 16) (is_digit u) (is_within 65 90 u) (within_small 48 57 u (lit< tt)) (within_small 65 90 u (lit< tt)))
-        (within_small 97 122 u (lit< tt)) h
+    (or_cases (u < 2 ^ 16) (is_digit u) (is_within 65 90 u) (within_small 48 57 u (lit< tt)) (within_small 65 90 u (lit< tt)))
+    (within_small 97 122 u (lit< tt)) h
 
 word_short : (w : List ℕ) → is_word w ≡ true → IsShortText w
 word_short w h =
-    let p = and_both (is_within 1 200 (length w)) (list_all is_letter_or_digit w) h in
+    let p = both (is_within 1 200 (length w)) (list_all is_letter_or_digit w) h in
     record { units = units_by is_letter_or_digit letter_small w p.1; few = (is_within_is 1 200 (length w) p.0).most }
 
 int_is : (n : ℕ) → n < 2 ^ 31 → IsInt (pos n)
@@ -121,12 +114,12 @@ info_written : (columns : Option ℕ) (number : ℕ) (text : List ℕ) (ts : Lis
     → Written columns (token.Info (message number 0 text) ∷ ts) (417 + size)
 info_written columns number text ts size n short w =
     behind columns (token.Info (message number 0 text)) ts 417 size (fits_message number 0 text short.few) (ranged_message number 0 text n (lit< tt) short.units) tt
-        (omega (arith, message_short number 0 text short.few)) w
+    (omega (arith, message_short number 0 text short.few)) w
 
 error_written : (number : ℕ) (text : List ℕ) → number < 2 ^ 31 → IsShortText text → Written None (error number text ∷ []) 417
 error_written number text n short =
     behind None (error number text) [] 417 0 (fits_message number 16 text short.few) (ranged_message number 16 text n (lit< tt) short.units) tt
-        (omega (arith, message_short number 16 text short.few)) (nothing None)
+    (omega (arith, message_short number 16 text short.few)) (nothing None)
 
 -- an ERROR alone
 error_fits : (number : ℕ) (text : List ℕ) (s : SessionState) → number < 2 ^ 31 → IsShortText text → IsSession s → FitsPacket (record { tokens = error number text ∷ []; after = s })
@@ -180,7 +173,7 @@ rows_written : (first count : ℕ) (ts : List Token) (size : ℕ) → first + co
 rows_written first zero ts size h w = with_room (Some 1) ts size (5 * 0 + size) (omega arith) w
 rows_written first (suc count) ts size h w =
     with_room (Some 1) (rows_from first (suc count) ++ ts) (5 + (5 * count + size)) (5 * suc count + size) (omega arith)
-        (row_written first (rows_from (first + 1) count ++ ts) (5 * count + size) (omega (arith, h)) (rows_written (first + 1) count ts size (omega (arith, h)) w))
+    (row_written first (rows_from (first + 1) count ++ ts) (5 * count + size) (omega (arith, h)) (rows_written (first + 1) count ts size (omega (arith, h)) w))
 
 count_fits : Fits (token.Done 17 0 0)
 unfolding is_done_status
@@ -193,7 +186,7 @@ result_fits first count s a n h =
     let name : AreUnits (codes "n") = (lit< tt, tt) in
     let column : RangedColumn row_column = record { user_type = lit< tt; flags = lit< tt; name = name } in
     fits_by (result_set first count) s (13 + (5 * count + 13)) (omega (arith, n.most))
-        (behind None (token.Columns (row_column ∷ [])) (rows_from first count ++ token.Done 17 0 count ∷ []) 13 (5 * count + 13) (lit≤ tt, lit≤ tt, (lit≤ tt, tt)) (column, tt) tt (lit≤ tt) rows) h
+    (behind None (token.Columns (row_column ∷ [])) (rows_from first count ++ token.Done 17 0 count ∷ []) 13 (5 * count + 13) (lit≤ tt, lit≤ tt, (lit≤ tt, tt)) (column, tt) tt (lit≤ tt) rows) h
 
 or_zero : (v : Option ℤ) → IfSome v (FitsSigned w32) → FitsSigned w32 (unwrap_or v (pos 0))
 or_zero None h = int_is 0 (lit< tt)
@@ -205,7 +198,7 @@ value_fits s key k h = or_zero (slice_index_or s.settings (key - 97) None) (h.va
 get_fits : (s : SessionState) (key : ℕ) → IsWithin 97 122 key → IsSession s → FitsPacket (step_of s (statement.Get key))
 get_fits s key k h =
     fits_by (token.ReturnStatus (value_of s key) ∷ done 1 ∷ []) s 18 (lit≤ tt)
-        (behind None (token.ReturnStatus (value_of s key)) (done 1 ∷ []) 5 13 tt (value_fits s key k h) tt (lit≤ tt) (more_written None)) h
+    (behind None (token.ReturnStatus (value_of s key)) (done 1 ∷ []) 5 13 tt (value_fits s key k h) tt (lit≤ tt) (more_written None)) h
 
 set_is_session : (s : SessionState) (key : ℕ) (value : ℤ) → FitsSigned w32 value → IsSession s → IsSession (with_value key value s)
 set_is_session s key value v h = record {

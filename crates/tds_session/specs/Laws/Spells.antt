@@ -15,7 +15,7 @@ use Rattle.tds_session.specs.declared.statement.Statement.{Statement}
 use Rattle.tds_session.specs.declared.statement.Statement.TheVariants as statement
 
 -- one of two options
-either : {A : Type 0} (P : A → Type 0) (b : Bool) (x y : Option A) → IfSome x P → IfSome y P → IfSome (if b then x else y) P
+pub either : {A : Type 0} (P : A → Type 0) (b : Bool) (x y : Option A) → IfSome x P → IfSome y P → IfSome (if b then x else y) P
 either P true x y h k = h
 either P false x y h k = k
 
@@ -24,12 +24,12 @@ passed : {A : Type 0} (test : A → Bool) (b : Bool) (x : A) → test x ≡ b �
 passed test true x e = e
 passed test false x e = tt
 
-such_passes : {A : Type 0} (test : A → Bool) (found : Option A) → IfSome (such test found) (λ x. test x ≡ true)
+pub such_passes : {A : Type 0} (test : A → Bool) (found : Option A) → IfSome (such test found) (λ x. test x ≡ true)
 such_passes test None = tt
 such_passes test (Some x) = passed test (test x) x refl
 
 -- what a function makes of an option
-made : {A B : Type 0} (P : B → Type 0) (Q : A → Type 0) (f : A → B) (found : Option A) → IfSome found Q → ((x : A) → Q x → P (f x)) → IfSome (option_map f found) P
+pub made : {A B : Type 0} (P : B → Type 0) (Q : A → Type 0) (f : A → B) (found : Option A) → IfSome found Q → ((x : A) → Q x → P (f x)) → IfSome (option_map f found) P
 made P Q f None h k = tt
 made P Q f (Some x) h k = k x h
 
@@ -51,7 +51,7 @@ fits_is (negsuc n) h =
     let f : Fits w32 (4294967296 - suc n) = (let m : 4294967296 - suc n < 4294967296 = omega arith in search rules) in
     let P : ℤ → Type 0 = λ z. FitsSigned w32 z in subst P (to_z-neg w32 n (small n (nat_le n 2147483647) refl h)) (sfits_to_z f)
 
-mapped : {A : Type 0} (P Q : A → Type 0) (found : Option A) → ((x : A) → P x → Q x) → IfSome found P → IfSome found Q
+pub mapped : {A : Type 0} (P Q : A → Type 0) (found : Option A) → ((x : A) → P x → Q x) → IfSome found P → IfSome found Q
 mapped P Q None f h = tt
 mapped P Q (Some x) f h = f x h
 
@@ -60,7 +60,7 @@ key_is [] = tt
 key_is (u ∷ []) = mapped (λ k. is_within 97 122 k ≡ true) (λ k. IsWithin 97 122 k) (such (is_within 97 122) (Some u)) (is_within_is 97 122) (such_passes (is_within 97 122) (Some u))
 key_is (u ∷ v ∷ us) = tt
 
-number_is : (low high : ℕ) (us : List ℕ) → IfSome (number_within low high us) (λ n. IsWithin low high n)
+pub number_is : (low high : ℕ) (us : List ℕ) → IfSome (number_within low high us) (λ n. IsWithin low high n)
 number_is low high us = mapped (λ k. is_within low high k ≡ true) (λ k. IsWithin low high k) (number_within low high us) (is_within_is low high) (such_passes (is_within low high) (number_of us))
 
 rows_are : (a b : Option ℕ) → IfSome a (λ n. IsWithin 0 1000000 n) → IfSome b (λ n. IsWithin 0 64 n) → IfSome (rows_of a b) IsStatement
@@ -73,7 +73,7 @@ set_is None b h k = tt
 set_is (Some a) None h k = tt
 set_is (Some a) (Some b) h k = (h, k)
 
-value_is : (us : List ℕ) → IfSome (such fits_i32 (signed_of us)) (λ z. FitsSigned w32 z)
+pub value_is : (us : List ℕ) → IfSome (such fits_i32 (signed_of us)) (λ z. FitsSigned w32 z)
 value_is us = mapped (λ z. fits_i32 z ≡ true) (λ z. FitsSigned w32 z) (such fits_i32 (signed_of us)) fits_is (such_passes fits_i32 (signed_of us))
 
 one_is : (w : List ℕ) → IfSome (one_word w) IsStatement
@@ -82,13 +82,13 @@ one_is w = either IsStatement (is_name (codes "begin") w) _ _ tt (either IsState
 two_are : (w x : List ℕ) → IfSome (two_words w x) IsStatement
 two_are w x =
     either IsStatement (is_name (codes "say") w) _ _ (made IsStatement (λ y. is_word y ≡ true) statement.Say (such is_word (Some x)) (such_passes is_word (Some x)) (λ y h. h))
-        (either IsStatement (is_name (codes "get") w) _ _ (made IsStatement (λ k. IsWithin 97 122 k) statement.Get (key_of x) (key_is x) (λ k h. h))
-            (either IsStatement (is_name (codes "fail") w) _ _ (made IsStatement (λ n. IsWithin 1 999999 n) statement.Fail (number_within 1 999999 x) (number_is 1 999999 x) (λ n h. h)) tt))
+    (either IsStatement (is_name (codes "get") w) _ _ (made IsStatement (λ k. IsWithin 97 122 k) statement.Get (key_of x) (key_is x) (λ k h. h))
+    (either IsStatement (is_name (codes "fail") w) _ _ (made IsStatement (λ n. IsWithin 1 999999 n) statement.Fail (number_within 1 999999 x) (number_is 1 999999 x) (λ n h. h)) tt))
 
 three_are : (w x y : List ℕ) → IfSome (three_words w x y) IsStatement
 three_are w x y =
     either IsStatement (is_name (codes "rows") w) _ _ (rows_are (number_within 0 1000000 x) (number_within 0 64 y) (number_is 0 1000000 x) (number_is 0 64 y))
-        (either IsStatement (is_name (codes "set") w) _ _ (set_is (key_of x) (such fits_i32 (signed_of y)) (key_is x) (value_is y)) tt)
+    (either IsStatement (is_name (codes "set") w) _ _ (set_is (key_of x) (such fits_i32 (signed_of y)) (key_is x) (value_is y)) tt)
 
 words_are : (ws : List (List ℕ)) → IfSome (of_words ws) IsStatement
 words_are [] = tt

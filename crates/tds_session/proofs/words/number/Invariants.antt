@@ -7,5 +7,5 @@ abbrev pub invariant-loop-unit : goal.invariant-loop-unit
 invariant-loop-unit l = record {
   small : l.value ≤ l.most;
   digits : list_all is_digit (drop l.unit-index l.units) ≡ true;
-  value : digits_value l.value (drop l.unit-index l.units) ≡ digits_value 0 l.units
+  value : digits_value l.value (drop l.unit-index l.units) ≡ digits_value 0 l.units;
 }
