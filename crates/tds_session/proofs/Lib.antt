@@ -1,0 +1,4 @@
+mod Examples
+mod Rows
+mod Numbers
+mod Reading

@@ -1,0 +1,11 @@
+pub mod Session
+pub mod Within
+pub mod Words
+pub mod Language
+pub mod Statements
+pub mod Effects
+pub mod Script
+pub mod Lawful
+pub mod Answer
+pub mod Laws
+pub mod Spelling
