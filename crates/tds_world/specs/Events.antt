@@ -115,11 +115,14 @@ happens_at setup answers e w (Opens n) = settles e n w (opens (next_number w.lea
 abbrev pub happens : Setup → Answers → Event → World → Outcome × World
 happens setup answers event.RestartServer w =
     (outcome.RestartedServer, record w { connections = map cut w.connections })
-happens setup answers event.RestartClient w = (outcome.RestartedClient, record w {
-  connections = map cut w.connections;
-  leases = map ended w.leases;
-  tickets = map ended w.tickets;
-})
+happens setup answers event.RestartClient w = (
+  outcome.RestartedClient,
+  record w {
+    connections = map cut w.connections;
+    leases = map ended w.leases;
+    tickets = map ended w.tickets;
+  },
+)
 happens setup answers e w = happens_at setup answers e w (about setup w e)
 
 -- The world after the events, one after the other.

@@ -54,7 +54,7 @@ abbrev pub event_reports : Setup → Answers → List Event → World → List E
 event_reports setup answers [] w = []
 event_reports setup answers (e ∷ es) w =
     event_report (happens setup answers e w)
-      ∷ event_reports setup answers es (happens setup answers e w).1
+    ∷ event_reports setup answers es (happens setup answers e w).1
 
 -- What is told of a request on a connection that is cut, or isn't.
 abbrev pub request_report : Bool → Record → RequestReport

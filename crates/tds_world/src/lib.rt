@@ -7,6 +7,7 @@
 #![tactic(auto)]
 
 mod event;
+pub mod laws;
 mod outcome;
 mod report;
 mod sequence;
