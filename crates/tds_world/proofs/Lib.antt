@@ -1,3 +1,4 @@
+pub mod examples
 pub mod Flow
 pub mod Arrivals
 pub mod Heard

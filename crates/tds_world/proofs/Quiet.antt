@@ -1,10 +1,9 @@
 -- An idle connection is quiet.
 use Rattle.std.proofs.Common.{◌≡◌, ℕ, List, [], subst, length, ◌-◌, arith, flat_map}
-use Rattle.std.specs.List.{AllByRecursion}
 use Rattle.tds_session.specs.Answer.{Answers}
 use Rattle.tds_world.specs.declared.event.Setup.{Setup}
 use Rattle.tds_world.specs.Connection.{Connection, phase}
-use Rattle.tds_world.specs.Entries.{Up, Down, up_bytes, down_bytes}
+use Rattle.tds_world.specs.Entries.{up_bytes, down_bytes}
 use Rattle.tds_world.specs.Events.{world_after}
 use Rattle.tds_world.specs.Lawful.{Lawful}
 use Rattle.tds_world.specs.Laws.{Always, IsQuiet, IdleIsQuiet}

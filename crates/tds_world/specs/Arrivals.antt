@@ -1,13 +1,13 @@
 -- What the server and the client do when an entry arrives, what comes with a delivery, and what the
 -- server's work sends.
-use Rattle.std.specs.Prelude.{ℕ, ◌+◌, ◌-◌, min, List, [], ◌∷◌, ◌++◌, length, Bool, true, false, if◌then◌else◌, nat_lt, Option, Some, None, unwrap_or}
+use Rattle.std.specs.Prelude.{ℕ, ◌+◌, ◌-◌, min, List, [], ◌∷◌, ◌++◌, length, Bool, true, if◌then◌else◌, nat_lt, Option, Some, None, unwrap_or}
 use Rattle.tds_packet.specs.declared.status.Reset.{Reset}
 use Rattle.tds_packet.specs.declared.status.Reset.TheVariants.{Full, KeepTransaction}
 use Rattle.tds_session.specs.Answer as answer
 use Rattle.tds_session.specs.Answer.{Answers}
 use Rattle.tds_token.specs.Told.{ResetEffect, no_reset, ends_transaction, keeps_transaction, changes_of, applied}
 use Rattle.tds_world.specs.declared.report.Place.TheVariants as place
-use Rattle.tds_world.specs.Connection.{Connection, Standing, In, Cut, is_idle, with_record, up_underway, down_underway}
+use Rattle.tds_world.specs.Connection.{Connection, Standing, In, is_idle, with_record, up_underway, down_underway}
 use Rattle.tds_world.specs.Entries.{Up, Part, End, Drop, Attention, Down, Step, Acknowledgement, up_bytes, down_bytes}
 use Rattle.tds_world.specs.Lane.{append, passed, with_waiting}
 use Rattle.tds_world.specs.Record.{gives, acknowledges, runs}

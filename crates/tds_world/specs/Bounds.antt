@@ -1,6 +1,6 @@
 -- What is never exceeded, and never comes twice.
-use Rattle.std.specs.Prelude.{ℕ, zero, suc, eqb, ◌≡◌, ◌≤◌, ◌+◌, List, [], ◌∷◌, ◌++◌, flat_map, Option, Some, None}
-use Rattle.std.specs.List.{AllByRecursion, IsDistinct}
+use Rattle.std.specs.Prelude.{ℕ, suc, eqb, ◌≡◌, ◌≤◌, List, [], ◌∷◌, ◌++◌, flat_map, Some}
+use Rattle.std.specs.List.{IsDistinct}
 use Rattle.tds_request.specs.Layout.{Fits}
 use Rattle.tds_session.specs.Session.{SessionState}
 use Rattle.tds_token.specs.declared.env_change.EnvChange.{EnvChange}
@@ -9,7 +9,7 @@ use Rattle.tds_token.specs.Told.{changes_of}
 use Rattle.tds_world.specs.declared.event.Event.{Event}
 use Rattle.tds_world.specs.declared.event.Event.TheVariants as event
 use Rattle.tds_world.specs.declared.event.Setup.{Setup}
-use Rattle.tds_world.specs.Connection.{Connection, up_underway}
+use Rattle.tds_world.specs.Connection.{up_underway}
 use Rattle.tds_world.specs.Entries.{Up, Part, End, Drop, Attention, Down, Step, Acknowledgement}
 use Rattle.tds_world.specs.Laws.{OfEachConnection, OfEachRequest}
 use Rattle.tds_world.specs.World.{World}

@@ -4,7 +4,6 @@ use Rattle.tds_packet.specs.declared.status.Reset.{Reset}
 use Rattle.tds_session.specs.Answer as answer
 use Rattle.tds_session.specs.Session.{SessionState, new_session}
 use Rattle.tds_world.specs.declared.report.Place.{Place}
-use Rattle.tds_world.specs.declared.report.Place.TheVariants as place
 use Rattle.tds_world.specs.Entries.{Up, Down, up_bytes, down_bytes}
 use Rattle.tds_world.specs.Lane.{Lane, empty_lane, underway}
 use Rattle.tds_world.specs.Phase.{Phase, phase_in, is_settled}

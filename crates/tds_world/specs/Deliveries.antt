@@ -1,6 +1,6 @@
 -- What a delivery makes arrive: the longest front of what waits whose sizes sum to at most the bytes
 -- that have come.
-use Rattle.std.specs.Prelude.{ℕ, ◌≡◌, ◌+◌, ◌-◌, min, List, ◌++◌, length, flat_map}
+use Rattle.std.specs.Prelude.{ℕ, ◌≡◌, ◌+◌, min, List, ◌++◌, length, flat_map}
 use Rattle.tds_world.specs.Lane.{Lane, IsLongestFront, underway}
 
 -- A lane from which n more bytes were delivered, or all where fewer are underway, became this one.

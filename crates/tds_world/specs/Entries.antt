@@ -1,11 +1,10 @@
 -- What lies on a connection: packets, each with the tag of the request that it belongs to. No end
 -- can see a tag.
-use Rattle.std.specs.Prelude.{ℕ, ◌+◌, ◌%◌, List, [], ◌∷◌, ◌++◌, length, flat_map, if◌then◌else◌, Option, Some, None}
+use Rattle.std.specs.Prelude.{ℕ, ◌+◌, ◌%◌, List, [], ◌++◌, length, flat_map, if◌then◌else◌, Option}
 use Rattle.tds_packet.specs.declared.header.Header.{Header}
 use Rattle.tds_packet.specs.declared.kind.Kind.{Kind}
 use Rattle.tds_packet.specs.declared.kind.Kind.TheVariants as kind
 use Rattle.tds_packet.specs.declared.status.Reset.{Reset}
-use Rattle.tds_packet.specs.declared.status.Reset.TheVariants.{Full, KeepTransaction}
 use Rattle.tds_packet.specs.declared.status.Status.{Status}
 use Rattle.tds_packet.specs.Layout.{header_bytes}
 use Rattle.tds_request.specs.declared.request.Request.{Request}

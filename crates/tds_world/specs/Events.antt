@@ -1,5 +1,5 @@
 -- The events: which connection each is about, what it does there, and what the world notes.
-use Rattle.std.specs.Prelude.{ℕ, ◌-◌, min, List, [], ◌∷◌, ◌++◌, map, Bool, true, false, if◌then◌else◌, Option, Some, None}
+use Rattle.std.specs.Prelude.{ℕ, ◌-◌, min, List, [], ◌∷◌, ◌++◌, map, Bool, true, false, Option, Some, None}
 use Rattle.tds_request.specs.declared.request.Request.{Request}
 use Rattle.tds_session.specs.Answer as answer
 use Rattle.tds_session.specs.Answer.{Answers}
@@ -16,7 +16,7 @@ use Rattle.tds_world.specs.declared.outcome.WorkOutcome.TheVariants as work
 use Rattle.tds_world.specs.Arrivals.{to_server, to_client, works}
 use Rattle.tds_world.specs.Caller.{asks, sends, sends_last, cancels, cancel_outcome}
 use Rattle.tds_world.specs.Connection.{Connection, phase, is_idle, up_underway, down_underway, cut}
-use Rattle.tds_world.specs.Phase.{Phase, Settled, Asked, Sending, Reading, Cancelling}
+use Rattle.tds_world.specs.Phase.{Phase, Asked, Sending}
 use Rattle.tds_world.specs.Pool.{Acted, Refuses, Does, to_lend, opens, lends, resumes, gives_back, abandons, keeps}
 use Rattle.tds_world.specs.Record.{Record}
 use Rattle.tds_world.specs.World.{World, Found, Missing, Here, Opens, put_numbered, next_number, holding, ended, ended_numbered, by_number, by_lease, by_ticket, not_cut}

@@ -1,8 +1,7 @@
 -- The session laws: what holds after any events.
-use Rattle.std.specs.Prelude.{ℕ, ◌≡◌, ◌<◌, List, [], ◌∷◌, ◌++◌, flat_map, true, false, Option, Some, None}
+use Rattle.std.specs.Prelude.{ℕ, ◌≡◌, ◌<◌, List, [], ◌++◌, flat_map, true, false, Option, Some, None}
 use Rattle.std.specs.List.{AllByRecursion}
 use Rattle.tds_request.specs.declared.request.Request.{Request}
-use Rattle.tds_session.specs.Answer as answer
 use Rattle.tds_session.specs.Answer.{Answers}
 use Rattle.tds_session.specs.Session.{SessionState, IsFresh, no_settings}
 use Rattle.tds_token.specs.declared.token.Token.{Token}

@@ -1,5 +1,5 @@
 -- Where a request is, and what a report shows of it.
-use Rattle.std.specs.Prelude.{ℕ, Bool, true, false, Option, Some, None}
+use Rattle.std.specs.Prelude.{Bool, true, false, Option, Some, None}
 use Rattle.tds_world.specs.declared.report.ClientView.{ClientView}
 use Rattle.tds_world.specs.declared.report.ClientView.TheVariants as view
 use Rattle.tds_world.specs.declared.report.RequestStatus.{RequestStatus}
