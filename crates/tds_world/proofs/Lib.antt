@@ -7,3 +7,5 @@ pub mod Cancels
 pub mod Worlds
 pub mod Sound
 pub mod Quiet
+pub mod Lawful
+pub mod Script

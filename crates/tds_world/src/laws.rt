@@ -1,12 +1,24 @@
 //! The session laws. Each is the contract of a function without a body: what holds of the model
 //! after any events, whatever their order, and whatever the sizes of the deliveries.
-ghost use Rattle.tds_session.specs.Answer.{Answers};
+ghost use Rattle.tds_session.specs.Answer.{Answers, answer_of, script_answers};
 ghost use Rattle.tds_world.specs.Lawful.{Lawful};
 ghost use Rattle.tds_world.specs.Laws.{Always, IdleIsQuiet};
 ghost use Rattle.tds_world.specs.declared.event.Setup.{Setup};
+
+use tds_session::Engine;
 
 /// Where nobody waits for an answer, nothing is underway, and both ends hold one transaction
 /// descriptor.
 pub fn idle_is_quiet()
     ensures { (setup : Setup) (answers : Answers) → Lawful answers → Always setup answers IdleIsQuiet }
+{}
+
+/// What a server answers is lawful, whatever its engine.
+pub fn engine_is_lawful<E: Engine>(engine: &E)
+    ensures { Lawful (answer_of (E.statements_of engine.now) (E.step_of engine.now)) }
+{}
+
+/// What a server with the batch language answers is lawful.
+pub fn script_is_lawful()
+    ensures { Lawful script_answers }
 {}
