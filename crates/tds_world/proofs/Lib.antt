@@ -9,3 +9,4 @@ pub mod Sound
 pub mod Quiet
 pub mod Lawful
 pub mod Script
+pub mod Deliveries

@@ -10,7 +10,7 @@ pub mod World
 pub mod Pool
 pub mod Events
 pub mod Observed
-pub mod Deliveries
 pub mod Lawful
 pub mod Laws
 pub mod Bounds
+pub mod Deliveries

@@ -1,6 +1,7 @@
 //! The session laws. Each is the contract of a function without a body: what holds of the model
 //! after any events, whatever their order, and whatever the sizes of the deliveries.
 ghost use Rattle.tds_session.specs.Answer.{Answers, answer_of, script_answers};
+ghost use Rattle.tds_world.specs.Deliveries.{DeliversExactly};
 ghost use Rattle.tds_world.specs.Lawful.{Lawful};
 ghost use Rattle.tds_world.specs.Laws.{Always, IdleIsQuiet};
 ghost use Rattle.tds_world.specs.declared.event.Setup.{Setup};
@@ -21,4 +22,10 @@ pub fn engine_is_lawful<E: Engine>(engine: &E)
 /// What a server with the batch language answers is lawful.
 pub fn script_is_lawful()
     ensures { Lawful script_answers }
+{}
+
+/// What a delivery makes arrive, either way, is the longest front of what waits whose sizes sum to
+/// at most the bytes that have come. It holds for any answers.
+pub fn delivers_exactly()
+    ensures { (setup : Setup) (answers : Answers) → Always setup answers (DeliversExactly answers) }
 {}
