@@ -10,13 +10,13 @@ use Rattle.tds_world.specs.declared.event.Event.{Event}
 use Rattle.tds_world.specs.declared.event.Event.TheVariants as event
 use Rattle.tds_world.specs.declared.event.Setup.{Setup}
 use Rattle.tds_world.specs.Arrivals.{server_acts, client_acts, reach_server, reach_client, to_server, to_client, works_on}
-use Rattle.tds_world.specs.Caller.{cancels, cancels_in, cancels_by, sends_by, sends_last}
+use Rattle.tds_world.specs.Caller.{cancels_in, cancels_by, sends_by, sends_last}
 use Rattle.tds_world.specs.Connection.{Connection, phase, is_idle, Standing, In, Cut, up_underway, down_underway}
-use Rattle.tds_world.specs.Deliveries.{IsDelivered, DeliversExactly}
+use Rattle.tds_world.specs.Deliveries.{IsDelivered, DeliversOn, DeliversExactly}
 use Rattle.tds_world.specs.Entries.{Up, Part, End, Drop, Attention, Down, Step, Acknowledgement, up_bytes, down_bytes}
 use Rattle.tds_world.specs.Events.{acts, asks_by, sends_in, world_after}
 use Rattle.tds_world.specs.Lane.{Lane, append, passed, IsLongestFront, underway}
-use Rattle.tds_world.specs.Laws.{Always, OfEachConnection}
+use Rattle.tds_world.specs.Laws.{Always}
 use Rattle.tds_world.specs.Phase.{Phase, Settled, Asked, Sending, Reading, Cancelling, phase_of}
 use Rattle.tds_world.specs.Pool.{gives_back_at, abandons_at, keeps_by, is_full}
 use Rattle.tds_world.specs.Record.{Record}
@@ -80,8 +80,8 @@ rest_within : {Entry : Type 0} (bytes : Entry → List ℕ) (entries : List Entr
 rest_within bytes entries k arrived new h r =
     let split : entries ≡ r.front ++ new.waiting = r.longest.split in
     let whole : length (flat_map bytes entries) ≡ length (flat_map bytes r.front) + length (flat_map bytes new.waiting) =
-      ap (λ es. length (flat_map bytes es)) split
-        ∙ (ap (λ bs. length bs) (flat_map-append bytes r.front new.waiting) ∙ length-append (flat_map bytes r.front) (flat_map bytes new.waiting)) in
+    ap (λ es. length (flat_map bytes es)) split
+    ∙ (ap (λ bs. length bs) (flat_map-append bytes r.front new.waiting) ∙ length-append (flat_map bytes r.front) (flat_map bytes new.waiting)) in
     let part : length (flat_map bytes r.front) + new.part ≡ k = r.part in
     let most : k ≤ length (flat_map bytes r.front) + length (flat_map bytes new.waiting) = subst (λ n. k ≤ n) whole h in
     omega arith
@@ -89,7 +89,7 @@ rest_within bytes entries k arrived new h r =
 pub append_within : {Entry : Type 0} (bytes : Entry → List ℕ) (e : Entry) (lane : Lane Entry) → Within bytes lane → Within bytes (append e lane)
 append_within bytes e lane h =
     let size : length (flat_map bytes (lane.waiting ++ e ∷ [])) ≡ length (flat_map bytes lane.waiting) + length (flat_map bytes (e ∷ [])) =
-      ap (λ bs. length bs) (flat_map-append bytes lane.waiting (e ∷ [])) ∙ length-append (flat_map bytes lane.waiting) (flat_map bytes (e ∷ [])) in
+    ap (λ bs. length bs) (flat_map-append bytes lane.waiting (e ∷ [])) ∙ length-append (flat_map bytes lane.waiting) (flat_map bytes (e ∷ [])) in
     let whole : lane.part ≤ length (flat_map bytes lane.waiting) = h in
     rw size (omega arith)
 
@@ -143,18 +143,18 @@ server_reached answers c [] k h w = (none_reached up_bytes k c.to_server.arrived
 server_reached answers c (e ∷ es) k h w =
     let p : Connection = record c { to_server = passed e c.to_server } in
     let ih : ServerReached (server_acts answers p e) es (k - length (up_bytes e)) (reach_server answers (server_acts answers p e) es (k - length (up_bytes e))) =
-      server_reached answers (server_acts answers p e) es (k - length (up_bytes e)) (come_less up_bytes e es k h) (server_within answers p e w) in
+    server_reached answers (server_acts answers p e) es (k - length (up_bytes e)) (come_less up_bytes e es k h) (server_within answers p e w) in
     let lane : (server_acts answers p e).to_server.arrived ≡ c.to_server.arrived ++ e ∷ [] = ap (λ l. l.arrived) (server_leaves answers p e) in
     by_test (ServerReached c (e ∷ es) k) (ltb k (length (up_bytes e)))
-      (record c { to_server = record c.to_server { waiting = e ∷ es; part = k } })
-      (reach_server answers (server_acts answers p e) es (k - length (up_bytes e)))
-      (λ t. (part_reached up_bytes e es k c.to_server.arrived (less_of true k (length (up_bytes e)) t), w))
-      (λ t. (
-        more_reached up_bytes e es k c.to_server.arrived (reach_server answers (server_acts answers p e) es (k - length (up_bytes e))).to_server
+    (record c { to_server = record c.to_server { waiting = e ∷ es; part = k } })
+    (reach_server answers (server_acts answers p e) es (k - length (up_bytes e)))
+    (λ t. (part_reached up_bytes e es k c.to_server.arrived (less_of true k (length (up_bytes e)) t), w))
+    (λ t. (
+      more_reached up_bytes e es k c.to_server.arrived (reach_server answers (server_acts answers p e) es (k - length (up_bytes e))).to_server
           (less_of false k (length (up_bytes e)) t)
           (subst (λ xs. Reached up_bytes es (k - length (up_bytes e)) xs (reach_server answers (server_acts answers p e) es (k - length (up_bytes e))).to_server) lane ih.0),
-        ih.1,
-      ))
+      ih.1,
+    ))
 
 -- What one to the client does.
 abbrev ClientReached : Connection → List Down → ℕ → Connection → Type 0
@@ -165,18 +165,18 @@ client_reached c [] k h = (none_reached down_bytes k c.to_client.arrived (come_n
 client_reached c (e ∷ es) k h =
     let p : Connection = record c { to_client = passed e c.to_client } in
     let ih : ClientReached (client_acts p e) es (k - length (down_bytes e)) (reach_client (client_acts p e) es (k - length (down_bytes e))) =
-      client_reached (client_acts p e) es (k - length (down_bytes e)) (come_less down_bytes e es k h) in
+    client_reached (client_acts p e) es (k - length (down_bytes e)) (come_less down_bytes e es k h) in
     let lane : (client_acts p e).to_client.arrived ≡ c.to_client.arrived ++ e ∷ [] = ap (λ l. l.arrived) (client_leaves p e) in
     by_test (ClientReached c (e ∷ es) k) (ltb k (length (down_bytes e)))
-      (record c { to_client = record c.to_client { waiting = e ∷ es; part = k } })
-      (reach_client (client_acts p e) es (k - length (down_bytes e)))
-      (λ t. (part_reached down_bytes e es k c.to_client.arrived (less_of true k (length (down_bytes e)) t), refl))
-      (λ t. (
-        more_reached down_bytes e es k c.to_client.arrived (reach_client (client_acts p e) es (k - length (down_bytes e))).to_client
+    (record c { to_client = record c.to_client { waiting = e ∷ es; part = k } })
+    (reach_client (client_acts p e) es (k - length (down_bytes e)))
+    (λ t. (part_reached down_bytes e es k c.to_client.arrived (less_of true k (length (down_bytes e)) t), refl))
+    (λ t. (
+      more_reached down_bytes e es k c.to_client.arrived (reach_client (client_acts p e) es (k - length (down_bytes e))).to_client
           (less_of false k (length (down_bytes e)) t)
           (subst (λ xs. Reached down_bytes es (k - length (down_bytes e)) xs (reach_client (client_acts p e) es (k - length (down_bytes e))).to_client) lane ih.0),
-        ih.1 ∙ client_leaves_other p e,
-      ))
+      ih.1 ∙ client_leaves_other p e,
+    ))
 
 -- No more bytes come than there are.
 come_within : {Entry : Type 0} (bytes : Entry → List ℕ) (lane : Lane Entry) (n : ℕ) → Within bytes lane → lane.part + min n (underway bytes lane) ≤ length (flat_map bytes lane.waiting)
@@ -194,7 +194,7 @@ pub to_client_reached : (n : ℕ) (c : Connection) → LanesWithin c → ClientR
 to_client_reached n c w =
     client_reached c c.to_client.waiting (c.to_client.part + min n (down_underway c)) (come_within down_bytes c.to_client n w.1)
 
-delivers : (answers : Answers) (c : Connection) → LanesWithin c → (n : ℕ) → IsDelivered up_bytes n c.to_server (to_server answers n c).to_server × IsDelivered down_bytes n c.to_client (to_client n c).to_client
+delivers : (answers : Answers) (c : Connection) → LanesWithin c → DeliversOn answers c
 delivers answers c w n = (
   delivered_of up_bytes n c.to_server (to_server answers n c).to_server (to_server_reached answers n c w).0,
   delivered_of down_bytes n c.to_client (to_client n c).to_client (to_client_reached n c w).0,
@@ -289,6 +289,6 @@ within_kept setup answers = record {
 
 pub delivers_exactly : (setup : Setup) (answers : Answers) → Always setup answers (DeliversExactly answers)
 delivers_exactly setup answers events =
-    each_follows LanesWithin (λ c. (n : ℕ) → IsDelivered up_bytes n c.to_server (to_server answers n c).to_server × IsDelivered down_bytes n c.to_client (to_client n c).to_client)
-      (world_after setup answers events new_world).connections (delivers answers)
-      (after_keeps LanesWithin setup answers events new_world (within_kept setup answers) tt)
+    each_follows LanesWithin (DeliversOn answers)
+    (world_after setup answers events new_world).connections (delivers answers)
+    (after_keeps LanesWithin setup answers events new_world (within_kept setup answers) tt)

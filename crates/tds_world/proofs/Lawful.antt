@@ -1,5 +1,5 @@
 -- Answers made of an engine's two functions are lawful.
-use Rattle.std.proofs.Common.{◌≡◌, ℕ, suc, List, [], ◌∷◌, ◌++◌, Bool, true, false, cond, refl, ap, ◌∙◌, Option, Some, None, eqb, arith}
+use Rattle.std.proofs.Common.{◌≡◌, ℕ, List, [], ◌∷◌, ◌++◌, Bool, true, false, cond, refl, ap, ◌∙◌, Option, Some, None, eqb, arith}
 use Rattle.std.proofs.lemmas.Bool.Decides.{nat_tests}
 use Rattle.std.specs.Prelude.{codes, ◌==◌, if◌then◌else◌}
 use Rattle.tds_packet.specs.declared.status.Reset.{Reset}
@@ -11,7 +11,6 @@ use Rattle.std.specs.List.{list_any}
 use Rattle.tds_session.specs.Script.{with_more}
 use Rattle.tds_session.specs.Effects.{Effect, is_error, has_error, fails, done, begin_by, begins, end_by, ends}
 use Rattle.tds_session.specs.Session.{SessionState, after_reset, last_descriptor}
-use Rattle.tds_token.specs.declared.env_change.EnvChange.{EnvChange}
 use Rattle.tds_token.specs.declared.env_change.EnvChange.TheVariants as change
 use Rattle.tds_token.specs.declared.token.Token.{Token}
 use Rattle.tds_token.specs.declared.token.Token.TheVariants as token

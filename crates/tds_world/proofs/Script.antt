@@ -1,5 +1,5 @@
 -- Each statement of the batch language tells what it changes.
-use Rattle.std.proofs.Common.{◌≡◌, ℕ, zero, suc, List, [], ◌∷◌, ◌++◌, refl, ap, ◌+◌}
+use Rattle.std.proofs.Common.{◌≡◌, ℕ, zero, suc, [], ◌∷◌, ◌++◌, refl, ap, ◌+◌}
 use Rattle.std.specs.Prelude.{◌==◌}
 use Rattle.tds_session.specs.Answer.{script_answers}
 use Rattle.tds_session.specs.declared.statement.Statement.{Statement}
@@ -9,7 +9,6 @@ use Rattle.tds_session.specs.Language.{statements_of}
 use Rattle.tds_session.specs.Script.{step_of, rows_from}
 use Rattle.tds_session.specs.Session.{SessionState, last_descriptor}
 use Rattle.tds_token.specs.declared.env_change.EnvChange.TheVariants as change
-use Rattle.tds_token.specs.declared.token.Token.{Token}
 use Rattle.tds_token.specs.declared.token.Token.TheVariants as token
 use Rattle.tds_token.specs.Told.{applied, changes_of, no_reset}
 use Rattle.tds_world.specs.Lawful.{Lawful}

@@ -85,7 +85,9 @@ reach_server answers c [] k = record c { to_server = with_waiting [] 0 c.to_serv
 reach_server answers c (e ∷ es) k =
     if nat_lt k (length (up_bytes e))
     then record c { to_server = with_waiting (e ∷ es) k c.to_server }
-    else reach_server answers (server_acts answers (record c { to_server = passed e c.to_server }) e) es (k - length (up_bytes e))
+    else reach_server answers
+    (server_acts answers (record c { to_server = passed e c.to_server }) e)
+    es (k - length (up_bytes e))
 
 -- The same at the client.
 abbrev pub reach_client : Connection → List Down → ℕ → Connection
@@ -93,7 +95,9 @@ reach_client c [] k = record c { to_client = with_waiting [] 0 c.to_client }
 reach_client c (e ∷ es) k =
     if nat_lt k (length (down_bytes e))
     then record c { to_client = with_waiting (e ∷ es) k c.to_client }
-    else reach_client (client_acts (record c { to_client = passed e c.to_client }) e) es (k - length (down_bytes e))
+    else reach_client
+    (client_acts (record c { to_client = passed e c.to_client }) e)
+    es (k - length (down_bytes e))
 
 -- A draining connection is free once it is idle.
 abbrev pub drained : Bool → Standing → Standing

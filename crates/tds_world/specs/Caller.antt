@@ -16,8 +16,8 @@ use Rattle.tds_world.specs.Lane.{append}
 use Rattle.tds_world.specs.Phase.{Phase, Settled, Asked, Sending, Reading, Cancelling, phase_of}
 use Rattle.tds_world.specs.Record.{Record, new_record, Out, NotBegun, Begun, Whole, packets_of, cancelled}
 
--- A request is asked: it takes the mark and the descriptor heard of this moment, and none of it goes
--- out yet.
+-- A request is asked: it takes the mark and the descriptor heard of this moment, and none of it
+-- goes out yet.
 abbrev pub asks : ℕ → ℕ → ℕ → Request → Connection → Connection
 asks number lease conn q c = record c {
   past = records c;

@@ -32,8 +32,10 @@ sent_as true = sent.Last
 sent_as false = sent.More
 
 abbrev pub sends_in : Phase → ℕ → Option Record → Connection → Acted
-sends_in Asked room (Some q) c = Does (outcome.Sent (sent_as (sends_last room q))) (sends room q c)
-sends_in Sending room (Some q) c = Does (outcome.Sent (sent_as (sends_last room q))) (sends room q c)
+sends_in Asked room (Some q) c =
+    Does (outcome.Sent (sent_as (sends_last room q))) (sends room q c)
+sends_in Sending room (Some q) c =
+    Does (outcome.Sent (sent_as (sends_last room q))) (sends room q c)
 sends_in p room q c = Refuses refusal.NotSending
 
 -- What work answers, by the answer that was due.
@@ -110,8 +112,8 @@ happens_at setup answers e w (Missing why) = (outcome.Refused why, w)
 happens_at setup answers e w (Here n c) = settles e n w (acts setup answers w e n c)
 happens_at setup answers e w (Opens n) = settles e n w (opens (next_number w.leases) n)
 
--- One event: its outcome, and the world after it. A restart of the server cuts every connection; one
--- of the client also ends every lease and ticket.
+-- One event: its outcome, and the world after it. A restart of the server cuts every connection;
+-- one of the client also ends every lease and ticket.
 abbrev pub happens : Setup → Answers → Event → World → Outcome × World
 happens setup answers event.RestartServer w =
     (outcome.RestartedServer, record w { connections = map cut w.connections })

@@ -32,7 +32,9 @@ abbrev pub underway : {Entry : Type 0} → (Entry → List ℕ) → Lane Entry �
 underway bytes lane = length (flat_map bytes lane.waiting) - lane.part
 
 -- The front is the longest one of these entries whose sizes sum to at most n.
-pub record IsLongestFront {Entry : Type 0} (bytes : Entry → List ℕ) (entries : List Entry) (n : ℕ) (front rest : List Entry) : Type 0 where
+pub record IsLongestFront {Entry : Type 0} (bytes : Entry → List ℕ) (entries : List Entry) (n : ℕ)
+    (front rest : List Entry) : Type 0 where
   pub split : entries ≡ front ++ rest
   pub fits : length (flat_map bytes front) ≤ n
-  pub longest : (e : Entry) (es : List Entry) → rest ≡ e ∷ es → n < length (flat_map bytes front) + length (bytes e)
+  pub longest : (e : Entry) (es : List Entry) → rest ≡ e ∷ es
+      → n < length (flat_map bytes front) + length (bytes e)

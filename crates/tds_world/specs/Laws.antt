@@ -29,8 +29,8 @@ OfEachRequest P w = AllByRecursion (λ c. AllByRecursion (P c) (records c)) w.co
 
 -- Own answers
 
--- All that the answer to a request gives its caller, where it runs in this session: without a reset,
--- and with the session's own descriptor in its header.
+-- All that the answer to a request gives its caller, where it runs in this session: without a
+-- reset, and with the session's own descriptor in its header.
 abbrev pub whole_answer : Answers → SessionState → Request → List Token
 whole_answer answers s q = told (flat_map (λ step. step.tokens) (answers s s.descriptor None q))
 
@@ -39,8 +39,8 @@ pub record IsAnswer (given whole : List Token) (q : Record) : Type 0 where
   pub begins : (rest : List Token) × (given ++ rest ≡ whole)
   pub ends : q.finished ≡ true → given ≡ whole
 
--- A request that ran in a session was given a beginning of its own answer there. One that didn't run
--- was given nothing, and isn't finished.
+-- A request that ran in a session was given a beginning of its own answer there. One that didn't
+-- run was given nothing, and isn't finished.
 abbrev pub IsOwnAnswer : Answers → Record → Option SessionState → Type 0
 IsOwnAnswer answers q None = (q.given ≡ []) × (q.finished ≡ false)
 IsOwnAnswer answers q (Some s) = IsAnswer q.given (whole_answer answers s q.asking.request) q
@@ -64,7 +64,9 @@ abbrev pub NothingAfterCancel : Setup → Answers → Type 0
 NothingAfterCancel setup answers =
     (events later : List Event) (n number : ℕ) (q : Record)
     → request_on (world_after setup answers events new_world) n number ≡ Some q → q.cancelled ≡ true
-    → (p : Record) × (request_on (world_after setup answers (events ++ later) new_world) n number ≡ Some p) × (p.given ≡ q.given)
+    → (p : Record)
+    × (request_on (world_after setup answers (events ++ later) new_world) n number ≡ Some p)
+    × (p.given ≡ q.given)
 
 -- Idle is quiet
 
@@ -75,8 +77,11 @@ pub record IsQuiet (c : Connection) : Type 0 where
   pub descriptor : c.heard ≡ c.session.descriptor
 
 -- Each idle connection is quiet.
+abbrev pub QuietIfIdle : Connection → Type 0
+QuietIfIdle c = phase c ≡ Settled → IsQuiet c
+
 abbrev pub IdleIsQuiet : World → Type 0
-IdleIsQuiet w = OfEachConnection (λ c. phase c ≡ Settled → IsQuiet c) w
+IdleIsQuiet w = OfEachConnection QuietIfIdle w
 
 -- Fresh start
 
@@ -101,5 +106,10 @@ IsFirstToRun c q =
 
 -- The first request of a lease that runs finds a fresh session, or the kept transaction without
 -- settings.
+abbrev pub StartsFresh : World → Connection → Record → Type 0
+StartsFresh w c q =
+    (s : SessionState)
+    → q.ran ≡ Some s → IsFirstToRun c q → StartsUnder w (numbered w.leases q.lease) s
+
 abbrev pub FreshStart : World → Type 0
-FreshStart w = OfEachRequest (λ c q. (s : SessionState) → q.ran ≡ Some s → IsFirstToRun c q → StartsUnder w (numbered w.leases q.lease) s) w
+FreshStart w = OfEachRequest (StartsFresh w) w

@@ -90,7 +90,9 @@ report_of w events = record { events = events; requests = request_reports w 1 w.
 
 abbrev pub observed : Setup → Answers → List Event → Report
 observed setup answers events =
-    report_of (world_after setup answers events new_world) (event_reports setup answers events new_world)
+    report_of
+    (world_after setup answers events new_world)
+    (event_reports setup answers events new_world)
 
 -- All bytes that were sent on a connection, one way.
 abbrev pub bytes_on : Direction → Connection → List ℕ

@@ -15,8 +15,8 @@ pub data Phase : Type 0 where
   Reading : Phase
   Cancelling : Phase
 
--- By what became of it: finished, acknowledged, cancelled, and how much of it is out. A finished, an
--- acknowledged and a never sent cancelled request are settled.
+-- By what became of it: finished, acknowledged, cancelled, and how much of it is out. A finished,
+-- an acknowledged and a never sent cancelled request are settled.
 abbrev pub phase_by : Bool → Bool → Bool → Out → Phase
 phase_by true acknowledged cancelled out = Settled
 phase_by false true cancelled out = Settled

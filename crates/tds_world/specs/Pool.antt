@@ -19,8 +19,8 @@ use Rattle.tds_world.specs.Caller.{cancels}
 use Rattle.tds_world.specs.Connection.{Connection, new_connection, Standing, In, Cut, is_cut, is_idle}
 use Rattle.tds_world.specs.World.{World, Found, Missing, Opens, numbered, next_number, there}
 
--- What an event does to its connection: it is refused, or it has this outcome, and the connection is
--- this one after it.
+-- What an event does to its connection: it is refused, or it has this outcome, and the connection
+-- is this one after it.
 pub data Acted : Type 0 where
   Refuses : (refusal : Refusal) → Acted
   Does : (outcome : Outcome) (connection : Connection) → Acted
@@ -47,8 +47,8 @@ abbrev pub pool_count : List Connection → ℕ
 pool_count [] = 0
 pool_count (c ∷ cs) = (if is_cut c.standing then 0 else 1) + pool_count cs
 
--- The connection that the next lease gets: the free one with the lowest number, or else a new one, if
--- the pool has room.
+-- The connection that the next lease gets: the free one with the lowest number, or else a new one,
+-- if the pool has room.
 abbrev pub to_lend_by : Setup → World → Option ℕ → Found
 to_lend_by setup w (Some n) = there refusal.AllInUse n (numbered w.connections n)
 to_lend_by setup w None =
@@ -89,10 +89,11 @@ returned_as false = returned.Draining
 
 abbrev pub comes_back : Connection → Acted
 comes_back c =
-    Does (outcome.GivenBack (returned_as (is_idle c))) (record c { standing = In (place_back (is_idle c)) })
+    Does (outcome.GivenBack (returned_as (is_idle c)))
+    (record c { standing = In (place_back (is_idle c)) })
 
--- A lease is given back: what is underway is cancelled first. Of a cut connection nothing is left to
--- cancel.
+-- A lease is given back: what is underway is cancelled first. Of a cut connection nothing is left
+-- to cancel.
 abbrev pub gives_back_at : Standing → Connection → Acted
 gives_back_at (In p) c = comes_back (cancels c)
 gives_back_at Cut c = Does (outcome.GivenBack returned.Closed) c
@@ -102,7 +103,8 @@ gives_back c = gives_back_at c.standing c
 
 -- A ticket is abandoned. A kept connection is idle, so it is free then.
 abbrev pub abandons_at : Standing → Connection → Acted
-abandons_at (In p) c = Does (outcome.Abandoned abandoned.Free) (record c { standing = In place.Free })
+abandons_at (In p) c =
+    Does (outcome.Abandoned abandoned.Free) (record c { standing = In place.Free })
 abandons_at Cut c = Does (outcome.Abandoned abandoned.Closed) c
 
 abbrev pub abandons : Connection → Acted
@@ -118,7 +120,8 @@ is_full (Some KeepTransaction) = false
 abbrev pub keeps_by : Bool → Bool → ℕ → Connection → Acted
 keeps_by false nothing ticket c = Refuses refusal.NotIdle
 keeps_by true true ticket c = Refuses refusal.NothingToKeep
-keeps_by true false ticket c = Does (outcome.Kept ticket) (record c { standing = In (place.Kept ticket) })
+keeps_by true false ticket c =
+    Does (outcome.Kept ticket) (record c { standing = In (place.Kept ticket) })
 
 abbrev pub keeps : ℕ → Connection → Acted
 keeps ticket c = keeps_by (is_idle c) (c.heard == 0 || is_full c.mark) ticket c

@@ -72,8 +72,8 @@ ran_in None None before after = before
 abbrev pub runs : SessionState → answer.Step → Record → Record
 runs before s q = record q { ran = Some (ran_in q.ran s.reset before s.after) }
 
--- This step of it arrived: its tokens are given to the caller, and the last step finishes it, unless
--- it was cancelled.
+-- This step of it arrived: its tokens are given to the caller, and the last step finishes it,
+-- unless it was cancelled.
 abbrev pub gives : answer.Step → Record → Record
 gives s q = record q {
   given = if q.cancelled then q.given else q.given ++ told s.tokens;
