@@ -19,3 +19,6 @@ pub use outcome::{
 };
 pub use report::{ClientView, EventReport, Place, Report, RequestReport, RequestStatus, Snapshot};
 pub use sequence::Sequence;
+
+#[cfg(test)]
+mod tests;
