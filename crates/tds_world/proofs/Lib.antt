@@ -4,7 +4,10 @@ pub mod Arrivals
 pub mod Heard
 pub mod Keeps
 pub mod Cancels
+pub mod Places
 pub mod Worlds
+pub mod Standings
+pub mod Agreement
 pub mod Sound
 pub mod Quiet
 pub mod Lawful

@@ -136,7 +136,7 @@ settled P e n w (Does what c) g h =
 found : (P : Connection → Type 0) (setup : Setup) (answers : Answers) (e : Event) (w : World) (f : Found) → Kept setup answers P → OfFound P f → AllByRecursion P w.connections → AllByRecursion P (happens_at setup answers e w f).1.connections
 found P setup answers e w (Missing why) k g h = h
 found P setup answers e w (Here n c) k g h = settled P e n w (acts setup answers w e n c) (k.acted w e n c g) h
-found P setup answers e w (Opens n) k g h = settled P e n w (opens (next_number w.leases) n) (k.opened (next_number w.leases)) h
+found P setup answers e w (Opens n) k g h = settled P event.Lease n w (opens (next_number w.leases) n) (k.opened (next_number w.leases)) h
 
 all_cut : (P : Connection → Type 0) (cs : List Connection) → ((c : Connection) → P c → P (cut c)) → AllByRecursion P cs → AllByRecursion P (map cut cs)
 all_cut P [] k h = tt
