@@ -1,5 +1,5 @@
 -- Leases and tickets agree with where connections stand, after any events.
-use Rattle.std.proofs.Common.{◌≡◌, ◌≢◌, ◌⊎◌, ℕ, zero, suc, List, [], ◌∷◌, ◌++◌, map, Bool, true, false, cond, length, inl, inr, refl, sym, ap, subst, ◌∙◌, Option, Some, None}
+use Rattle.std.proofs.Common.{◌≡◌, ◌≢◌, ℕ, zero, suc, List, [], ◌∷◌, ◌++◌, map, true, false, inl, inr, refl, sym, ap, subst, ◌∙◌, Some, None}
 use Rattle.tds_session.specs.Answer.{Answers}
 use Rattle.tds_world.specs.declared.event.Event.{Event}
 use Rattle.tds_world.specs.declared.event.Event.TheVariants as event
@@ -7,13 +7,13 @@ use Rattle.tds_world.specs.declared.event.Setup.{Setup}
 use Rattle.tds_world.specs.declared.outcome.Outcome.{Outcome}
 use Rattle.tds_world.specs.declared.report.Place.{Place}
 use Rattle.tds_world.specs.declared.report.Place.TheVariants as place
-use Rattle.tds_world.specs.Connection.{Connection, new_connection, Standing, In, Cut, cut}
-use Rattle.tds_world.specs.Events.{about, acts, settles, happens_at, happens, world_after}
+use Rattle.tds_world.specs.Connection.{Connection, new_connection, In, Cut, cut}
+use Rattle.tds_world.specs.Events.{about, acts, settles, happens_at, happens}
 use Rattle.tds_world.specs.Pool.{Acted, Refuses, Does, opens}
 use Rattle.tds_world.specs.World.{World, new_world, Holding, Found, Missing, Here, Opens, numbered, next_number, put_numbered, holding, ended, ended_numbered}
 use Rattle.tds_world.proofs.Places.{StandsAt, Holds, Agrees, StandsFor, FoundWith, about_stands, Moved, moved_holds, here_holds, holds_put, holds_end_at, none_at_end, began, is_over}
 use Rattle.tds_world.proofs.Standings.{IsHeld, Still, StandsThen, stands_then}
-use Rattle.tds_world.proofs.Worlds.{OfActed}
+use Rattle.tds_world.proofs.Words.{OfActed}
 
 -- The holders of one kind have their connections.
 abbrev HaveAll : (ℕ → Place) → List Holding → List Connection → Type 0

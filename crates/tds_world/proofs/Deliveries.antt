@@ -21,7 +21,8 @@ use Rattle.tds_world.specs.Phase.{Phase, Settled, Asked, Sending, Reading, Cance
 use Rattle.tds_world.specs.Pool.{gives_back_at, abandons_at, keeps_by, is_full}
 use Rattle.tds_world.specs.Record.{Record}
 use Rattle.tds_world.specs.World.{World, new_world, next_number}
-use Rattle.tds_world.proofs.Worlds.{OfActed, Kept, after_keeps, each_follows}
+use Rattle.tds_world.proofs.Words.{OfActed}
+use Rattle.tds_world.proofs.Worlds.{Any, Kept, always, each_follows}
 use Rattle.std.specs.Prelude.{◌==◌, ◌||◌}
 
 -- No more bytes have come of what waits than there are.
@@ -280,10 +281,10 @@ acted setup answers w event.RestartClient n c h = tt
 nothing_within : (n : ℕ) → 0 ≤ n
 nothing_within n = omega arith
 
-pub within_kept : (setup : Setup) (answers : Answers) → Kept setup answers LanesWithin
+pub within_kept : (setup : Setup) (answers : Answers) → Kept setup answers Any LanesWithin
 within_kept setup answers = record {
   opened = λ lease. (nothing_within 0, nothing_within 0);
-  acted = λ w e n c h. acted setup answers w e n c h;
+  acted = λ w e n c x s h. acted setup answers w e n c h;
   was_cut = λ c h. h;
 }
 
@@ -291,4 +292,4 @@ pub delivers_exactly : (setup : Setup) (answers : Answers) → Always setup answ
 delivers_exactly setup answers events =
     each_follows LanesWithin (DeliversOn answers)
     (world_after setup answers events new_world).connections (delivers answers)
-    (after_keeps LanesWithin setup answers events new_world (within_kept setup answers) tt)
+    (always LanesWithin setup answers events (within_kept setup answers))

@@ -4,10 +4,13 @@ pub mod Arrivals
 pub mod Heard
 pub mod Keeps
 pub mod Cancels
+pub mod Words
 pub mod Places
 pub mod Worlds
 pub mod Standings
 pub mod Agreement
+pub mod Grows
+pub mod Given
 pub mod Sound
 pub mod Quiet
 pub mod Lawful

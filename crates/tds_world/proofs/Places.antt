@@ -1,9 +1,7 @@
 -- Leases and tickets agree with where connections stand: a lease that is not over has its connection,
 -- unless that was cut, and no other lease or ticket has it.
-use Rattle.std.proofs.Common.{◌≡◌, ◌≢◌, ◌⊎◌, ◌+◌, ℕ, zero, suc, List, [], ◌∷◌, ◌++◌, map, Bool, true, false, cond, length, ltb, inl, inr, refl, sym, ap, subst, ◌∙◌, Option, Some, None, arith, nat_lt, option_map}
+use Rattle.std.proofs.Common.{◌≡◌, ◌≢◌, ◌⊎◌, ◌+◌, ℕ, zero, suc, List, [], ◌∷◌, ◌++◌, Bool, true, false, cond, length, ltb, inl, inr, refl, sym, ap, subst, ◌∙◌, Option, Some, None, arith}
 use Rattle.std.specs.Prelude.{slice_get}
-use Rattle.tds_session.specs.Answer as answer
-use Rattle.tds_session.specs.Answer.{Answers}
 use Rattle.tds_world.specs.declared.event.Event.{Event}
 use Rattle.tds_world.specs.declared.event.Event.TheVariants as event
 use Rattle.tds_world.specs.declared.event.Setup.{Setup}
@@ -11,10 +9,10 @@ use Rattle.tds_world.specs.declared.outcome.Refusal.{Refusal}
 use Rattle.tds_world.specs.declared.outcome.Refusal.TheVariants as refusal
 use Rattle.tds_world.specs.declared.report.Place.{Place}
 use Rattle.tds_world.specs.declared.report.Place.TheVariants as place
-use Rattle.tds_world.specs.Connection.{Connection, Standing, In, Cut, is_cut, cut}
+use Rattle.tds_world.specs.Connection.{Connection, Standing, In, Cut, is_cut}
 use Rattle.tds_world.specs.Events.{about}
-use Rattle.tds_world.specs.Pool.{to_lend, to_lend_by, lowest_free, first_of, is_free, pool_count}
-use Rattle.tds_world.specs.World.{World, Holding, Found, Missing, Here, Opens, numbered, next_number, put, put_numbered, ended, ended_at, ended_numbered, uncut, uncut_in, there, held, not_cut, by_lease, by_ticket, by_number}
+use Rattle.tds_world.specs.Pool.{to_lend_by, lowest_free, first_of, is_free, pool_count}
+use Rattle.tds_world.specs.World.{World, Holding, Found, Missing, Here, Opens, numbered, next_number, put, put_numbered, ended, ended_at, ended_numbered, uncut_in, there, held, not_cut, by_lease, by_ticket}
 
 -- A connection stands at this place, or was cut.
 abbrev pub StandsAt : Place → Standing → Type 0

@@ -10,7 +10,7 @@ use Rattle.tds_world.specs.Laws.{Always, QuietIfIdle, IdleIsQuiet}
 use Rattle.tds_world.specs.World.{new_world}
 use Rattle.tds_world.proofs.Flow.{Quiet, FlowIn, number_in, Hears, Sound}
 use Rattle.tds_world.proofs.Sound.{sound_kept}
-use Rattle.tds_world.proofs.Worlds.{after_keeps, each_follows}
+use Rattle.tds_world.proofs.Worlds.{always, each_follows}
 
 nothing : {Entry : Type 0} (bytes : Entry → List ℕ) (entries : List Entry) (k : ℕ) → entries ≡ [] → length (flat_map bytes entries) - k ≡ 0
 nothing bytes entries k e = rw e (omega arith)
@@ -28,4 +28,4 @@ sound_is_quiet c f e =
 pub idle_is_quiet : (setup : Setup) (answers : Answers) → Lawful answers → Always setup answers IdleIsQuiet
 idle_is_quiet setup answers l events =
     each_follows Sound QuietIfIdle (world_after setup answers events new_world).connections sound_is_quiet
-    (after_keeps Sound setup answers events new_world (sound_kept setup answers l) tt)
+    (always Sound setup answers events (sound_kept setup answers l))

@@ -15,7 +15,8 @@ use Rattle.tds_world.specs.World.{World, next_number}
 use Rattle.tds_world.proofs.Cancels.{cancels_keeps}
 use Rattle.tds_world.proofs.Flow.{Sound}
 use Rattle.tds_world.proofs.Keeps.{is_sending, to_server_keeps, to_client_keeps, works_keeps, asks_keeps, sends_keeps}
-use Rattle.tds_world.proofs.Worlds.{OfActed, Kept}
+use Rattle.tds_world.proofs.Words.{OfActed}
+use Rattle.tds_world.proofs.Worlds.{Any, Kept}
 
 back : (s : Standing) (c : Connection) → Sound c → OfActed Sound (gives_back_at s c)
 back (In p) c f = cancels_keeps c f
@@ -60,9 +61,9 @@ acted setup answers w event.RestartServer n c l f = tt
 acted setup answers w event.RestartClient n c l f = tt
 
 -- With lawful answers every connection is sound, after any events.
-pub sound_kept : (setup : Setup) (answers : Answers) → Lawful answers → Kept setup answers Sound
+pub sound_kept : (setup : Setup) (answers : Answers) → Lawful answers → Kept setup answers Any Sound
 sound_kept setup answers l = record {
   opened = λ lease. ((refl, refl, refl, refl), (refl, tt));
-  acted = λ w e n c f. acted setup answers w e n c l f;
+  acted = λ w e n c x s f. acted setup answers w e n c l f;
   was_cut = λ c f. f;
 }

@@ -1,5 +1,5 @@
 -- What each act does to where a connection stands.
-use Rattle.std.proofs.Common.{◌≡◌, ◌⊎◌, ℕ, List, [], ◌∷◌, Bool, true, false, cond, length, ltb, inl, inr, refl, sym, ap, subst, ◌∙◌, Option, Some, None, ◌-◌, ◌+◌, min}
+use Rattle.std.proofs.Common.{◌≡◌, ℕ, List, [], ◌∷◌, Bool, true, false, cond, length, ltb, inl, inr, refl, sym, subst, ◌∙◌, Option, Some, None, ◌-◌, ◌+◌, min}
 use Rattle.std.specs.Prelude.{◌==◌, ◌||◌}
 use Rattle.tds_request.specs.declared.request.Request.{Request}
 use Rattle.tds_session.specs.Answer as answer
@@ -19,8 +19,8 @@ use Rattle.tds_world.specs.Phase.{Phase, Settled, Asked, Sending, Reading, Cance
 use Rattle.tds_world.specs.Pool.{gives_back_at, abandons_at, keeps_by, is_full}
 use Rattle.tds_world.specs.Record.{Record}
 use Rattle.tds_world.specs.World.{World, next_number}
-use Rattle.tds_world.proofs.Places.{StandsAt, StandsFor}
-use Rattle.tds_world.proofs.Worlds.{OfActed}
+use Rattle.tds_world.proofs.Places.{StandsAt}
+use Rattle.tds_world.proofs.Words.{OfActed}
 
 -- A place that a lease or a ticket has.
 abbrev pub IsHeld : Place → Type 0

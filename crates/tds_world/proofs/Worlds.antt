@@ -12,26 +12,25 @@ use Rattle.tds_world.specs.declared.report.Place.TheVariants as place
 use Rattle.tds_world.specs.Connection.{Connection, new_connection, is_cut, cut}
 use Rattle.tds_world.specs.Events.{about, acts, notes, settles, happens_at, happens, world_after}
 use Rattle.tds_world.specs.Pool.{Acted, Refuses, Does, to_lend_by, lowest_free, pool_count, opens}
-use Rattle.tds_world.specs.World.{World, Holding, Found, Missing, Here, Opens, numbered, next_number, put, put_numbered, uncut_in, there, held, not_cut, by_lease, by_ticket}
+use Rattle.tds_world.proofs.Agreement.{happens_agrees, new_agrees}
+use Rattle.tds_world.proofs.Places.{StandsFor, FoundWith, about_stands, Agrees}
+use Rattle.tds_world.proofs.Words.{OfSome, OfFound, OfActed}
+use Rattle.tds_world.specs.World.{World, new_world, Holding, Found, Missing, Here, Opens, numbered, next_number, put, put_numbered, uncut_in, there, held, not_cut, by_lease, by_ticket}
 
-abbrev pub OfSome : {A : Type 0} → (A → Type 0) → Option A → Type 0
-OfSome P None = Unit {0}
-OfSome P (Some x) = P x
-
-abbrev pub OfFound : (Connection → Type 0) → Found → Type 0
-OfFound P (Missing why) = Unit {0}
-OfFound P (Here n c) = P c
-OfFound P (Opens n) = Unit {0}
-
-abbrev pub OfActed : (Connection → Type 0) → Acted → Type 0
-OfActed P (Refuses why) = Unit {0}
-OfActed P (Does outcome c) = P c
-
--- What an invariant of a connection owes.
-pub record Kept (setup : Setup) (answers : Answers) (P : Connection → Type 0) : Type 0 where
+-- What an invariant of a connection owes, for events of this kind: it holds of a new connection, is
+-- kept by what an event does to a connection that stands where the event wants it, and by a cut.
+pub record Kept (setup : Setup) (answers : Answers) (E : Event → Type 0) (P : Connection → Type 0) : Type 0 where
   pub opened : (lease : ℕ) → P (new_connection (place.Leased lease))
-  pub acted : (w : World) (e : Event) (n : ℕ) (c : Connection) → P c → OfActed P (acts setup answers w e n c)
+  pub acted : (w : World) (e : Event) (n : ℕ) (c : Connection) → E e → StandsFor e c.standing → P c → OfActed P (acts setup answers w e n c)
   pub was_cut : (c : Connection) → P c → P (cut c)
+
+-- Events of any kind.
+abbrev pub Any : Event → Type 0
+Any e = Unit {0}
+
+all_any : (events : List Event) → AllByRecursion Any events
+all_any [] = tt
+all_any (e ∷ es) = (tt, all_any es)
 
 -- ---- Lists of connections
 
@@ -133,39 +132,46 @@ settled P e n w (Refuses why) g h = h
 settled P e n w (Does what c) g h =
     noted P e n c.heard (record w { connections = put_numbered n c w.connections }) (put_at_number P n c w.connections g h)
 
-found : (P : Connection → Type 0) (setup : Setup) (answers : Answers) (e : Event) (w : World) (f : Found) → Kept setup answers P → OfFound P f → AllByRecursion P w.connections → AllByRecursion P (happens_at setup answers e w f).1.connections
-found P setup answers e w (Missing why) k g h = h
-found P setup answers e w (Here n c) k g h = settled P e n w (acts setup answers w e n c) (k.acted w e n c g) h
-found P setup answers e w (Opens n) k g h = settled P event.Lease n w (opens (next_number w.leases) n) (k.opened (next_number w.leases)) h
+found : (P : Connection → Type 0) (E : Event → Type 0) (setup : Setup) (answers : Answers) (e : Event) (w : World) (f : Found) → Kept setup answers E P → E e → FoundWith w (StandsFor e) f → OfFound P f → AllByRecursion P w.connections → AllByRecursion P (happens_at setup answers e w f).1.connections
+found P E setup answers e w (Missing why) k x s g h = h
+found P E setup answers e w (Here n c) k x s g h = settled P e n w (acts setup answers w e n c) (k.acted w e n c x s.1 g) h
+found P E setup answers e w (Opens n) k x s g h = settled P event.Lease n w (opens (next_number w.leases) n) (k.opened (next_number w.leases)) h
 
 all_cut : (P : Connection → Type 0) (cs : List Connection) → ((c : Connection) → P c → P (cut c)) → AllByRecursion P cs → AllByRecursion P (map cut cs)
 all_cut P [] k h = tt
 all_cut P (c ∷ cs) k h = (k c h.0, all_cut P cs k h.1)
 
-at_event : (P : Connection → Type 0) (setup : Setup) (answers : Answers) (e : Event) (w : World) → Kept setup answers P → AllByRecursion P w.connections → AllByRecursion P (happens_at setup answers e w (about setup w e)).1.connections
-at_event P setup answers e w k h = found P setup answers e w (about setup w e) k (about_has P setup w e h) h
+at_event : (P : Connection → Type 0) (E : Event → Type 0) (setup : Setup) (answers : Answers) (e : Event) (w : World) → Kept setup answers E P → E e → Agrees w → AllByRecursion P w.connections → AllByRecursion P (happens_at setup answers e w (about setup w e)).1.connections
+at_event P E setup answers e w k x a h = found P E setup answers e w (about setup w e) k x (about_stands setup w e a) (about_has P setup w e h) h
 
-happens_keeps : (P : Connection → Type 0) (setup : Setup) (answers : Answers) (e : Event) (w : World) → Kept setup answers P → AllByRecursion P w.connections → AllByRecursion P (happens setup answers e w).1.connections
-happens_keeps P setup answers event.RestartServer w k h = all_cut P w.connections k.was_cut h
-happens_keeps P setup answers event.RestartClient w k h = all_cut P w.connections k.was_cut h
-happens_keeps P setup answers event.Lease w k h = at_event P setup answers event.Lease w k h
-happens_keeps P setup answers (event.Resume t) w k h = at_event P setup answers (event.Resume t) w k h
-happens_keeps P setup answers (event.GiveBack l) w k h = at_event P setup answers (event.GiveBack l) w k h
-happens_keeps P setup answers (event.Keep l) w k h = at_event P setup answers (event.Keep l) w k h
-happens_keeps P setup answers (event.Abandon t) w k h = at_event P setup answers (event.Abandon t) w k h
-happens_keeps P setup answers (event.Ask l q) w k h = at_event P setup answers (event.Ask l q) w k h
-happens_keeps P setup answers (event.Send l) w k h = at_event P setup answers (event.Send l) w k h
-happens_keeps P setup answers (event.Cancel l) w k h = at_event P setup answers (event.Cancel l) w k h
-happens_keeps P setup answers (event.Work n) w k h = at_event P setup answers (event.Work n) w k h
-happens_keeps P setup answers (event.ToServer n m) w k h = at_event P setup answers (event.ToServer n m) w k h
-happens_keeps P setup answers (event.ToClient n m) w k h = at_event P setup answers (event.ToClient n m) w k h
-happens_keeps P setup answers (event.Cut n) w k h = at_event P setup answers (event.Cut n) w k h
+happens_keeps : (P : Connection → Type 0) (E : Event → Type 0) (setup : Setup) (answers : Answers) (e : Event) (w : World) → Kept setup answers E P → E e → Agrees w → AllByRecursion P w.connections → AllByRecursion P (happens setup answers e w).1.connections
+happens_keeps P E setup answers event.RestartServer w k x a h = all_cut P w.connections k.was_cut h
+happens_keeps P E setup answers event.RestartClient w k x a h = all_cut P w.connections k.was_cut h
+happens_keeps P E setup answers event.Lease w k x a h = at_event P E setup answers event.Lease w k x a h
+happens_keeps P E setup answers (event.Resume t) w k x a h = at_event P E setup answers (event.Resume t) w k x a h
+happens_keeps P E setup answers (event.GiveBack l) w k x a h = at_event P E setup answers (event.GiveBack l) w k x a h
+happens_keeps P E setup answers (event.Keep l) w k x a h = at_event P E setup answers (event.Keep l) w k x a h
+happens_keeps P E setup answers (event.Abandon t) w k x a h = at_event P E setup answers (event.Abandon t) w k x a h
+happens_keeps P E setup answers (event.Ask l q) w k x a h = at_event P E setup answers (event.Ask l q) w k x a h
+happens_keeps P E setup answers (event.Send l) w k x a h = at_event P E setup answers (event.Send l) w k x a h
+happens_keeps P E setup answers (event.Cancel l) w k x a h = at_event P E setup answers (event.Cancel l) w k x a h
+happens_keeps P E setup answers (event.Work n) w k x a h = at_event P E setup answers (event.Work n) w k x a h
+happens_keeps P E setup answers (event.ToServer n m) w k x a h = at_event P E setup answers (event.ToServer n m) w k x a h
+happens_keeps P E setup answers (event.ToClient n m) w k x a h = at_event P E setup answers (event.ToClient n m) w k x a h
+happens_keeps P E setup answers (event.Cut n) w k x a h = at_event P E setup answers (event.Cut n) w k x a h
+
+after_keeps : (P : Connection → Type 0) (E : Event → Type 0) (setup : Setup) (answers : Answers) (events : List Event) (w : World) → Kept setup answers E P → AllByRecursion E events → Agrees w → AllByRecursion P w.connections → AllByRecursion P (world_after setup answers events w).connections
+after_keeps P E setup answers [] w k x a h = h
+after_keeps P E setup answers (e ∷ es) w k x a h =
+    after_keeps P E setup answers es (happens setup answers e w).1 k x.1 (happens_agrees setup answers e w a) (happens_keeps P E setup answers e w k x.0 a h)
+
+-- After any events of the kind.
+pub always_such : (P : Connection → Type 0) (E : Event → Type 0) (setup : Setup) (answers : Answers) (events : List Event) → Kept setup answers E P → AllByRecursion E events → AllByRecursion P (world_after setup answers events new_world).connections
+always_such P E setup answers events k x = after_keeps P E setup answers events new_world k x new_agrees tt
 
 -- After any events.
-pub after_keeps : (P : Connection → Type 0) (setup : Setup) (answers : Answers) (events : List Event) (w : World) → Kept setup answers P → AllByRecursion P w.connections → AllByRecursion P (world_after setup answers events w).connections
-after_keeps P setup answers [] w k h = h
-after_keeps P setup answers (e ∷ es) w k h =
-    after_keeps P setup answers es (happens setup answers e w).1 k (happens_keeps P setup answers e w k h)
+pub always : (P : Connection → Type 0) (setup : Setup) (answers : Answers) (events : List Event) → Kept setup answers Any P → AllByRecursion P (world_after setup answers events new_world).connections
+always P setup answers events k = always_such P Any setup answers events k (all_any events)
 
 -- A fact that follows from it does too.
 pub each_follows : (P Q : Connection → Type 0) (cs : List Connection) → ((c : Connection) → P c → Q c) → AllByRecursion P cs → AllByRecursion Q cs

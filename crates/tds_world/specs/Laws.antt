@@ -52,12 +52,12 @@ OwnAnswers answers w = OfEachRequest (λ c q. IsOwnAnswer answers q q.ran) w
 -- Nothing after its cancel
 
 -- The request of this number, asked on this connection.
+abbrev pub request_in : ℕ → Option Connection → Option Record
+request_in number None = None
+request_in number (Some c) = record_on number c
+
 abbrev pub request_on : World → ℕ → ℕ → Option Record
 request_on w n number = request_in number (numbered w.connections n)
-  where
-    request_in : ℕ → Option Connection → Option Record
-    request_in r None = None
-    request_in r (Some c) = record_on r c
 
 -- Whatever happens after a cancel, the caller has been given what it had been given then.
 abbrev pub NothingAfterCancel : Setup → Answers → Type 0

@@ -3,7 +3,7 @@
 ghost use Rattle.tds_session.specs.Answer.{Answers, answer_of, script_answers};
 ghost use Rattle.tds_world.specs.Deliveries.{DeliversExactly};
 ghost use Rattle.tds_world.specs.Lawful.{Lawful};
-ghost use Rattle.tds_world.specs.Laws.{Always, IdleIsQuiet};
+ghost use Rattle.tds_world.specs.Laws.{Always, IdleIsQuiet, NothingAfterCancel};
 ghost use Rattle.tds_world.specs.declared.event.Setup.{Setup};
 
 use tds_session::Engine;
@@ -28,4 +28,10 @@ pub fn script_is_lawful()
 /// at most the bytes that have come. It holds for any answers.
 pub fn delivers_exactly()
     ensures { (setup : Setup) (answers : Answers) → Always setup answers (DeliversExactly answers) }
+{}
+
+/// Whatever happens after a cancel, the caller has been given what it had been given then. It holds
+/// for any answers.
+pub fn nothing_after_cancel()
+    ensures { (setup : Setup) (answers : Answers) → NothingAfterCancel setup answers }
 {}
