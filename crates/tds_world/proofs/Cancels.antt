@@ -26,7 +26,7 @@ rest_by : (r : ℕ) (last : Bool) (es : List Down) (due : List answer.Step) → 
 rest_by r true es due p q = rw (p refl).0 tt
 rest_by r false es due p q = q refl
 
-only_steps : (r : ℕ) (downs : List Down) (due : List answer.Step) → StepsAndDue r downs due → OnlySteps r downs
+pub only_steps : (r : ℕ) (downs : List Down) (due : List answer.Step) → StepsAndDue r downs due → OnlySteps r downs
 only_steps r [] due h = tt
 only_steps r (Step q i s ∷ es) due h = (h.0, rest_by r s.last es due h.1 (λ t. only_steps r es due (h.2 t)))
 only_steps r (Acknowledgement q i ∷ es) due h = absurd h

@@ -1,5 +1,5 @@
 -- What a cancelled request was given stays as it is.
-use Rattle.std.proofs.Common.{◌≡◌, ℕ, zero, suc, List, [], ◌∷◌, ◌++◌, map, Bool, true, false, cond, length, ltb, eqb, refl, sym, ap, subst, ◌∙◌, Option, Some, None, option_map, ◌-◌, ◌+◌, min}
+use Rattle.std.proofs.Common.{◌≡◌, ℕ, zero, suc, List, [], ◌∷◌, ◌++◌, map, Bool, true, false, cond, length, ltb, refl, sym, ap, subst, ◌∙◌, Option, Some, None, option_map, ◌-◌, ◌+◌, min}
 use Rattle.std.specs.Prelude.{find, slice_get, ◌==◌, ◌||◌}
 use Rattle.tds_request.specs.declared.request.Request.{Request}
 use Rattle.tds_session.specs.Answer as answer
@@ -7,8 +7,8 @@ use Rattle.tds_session.specs.Answer.{Answers}
 use Rattle.tds_world.specs.declared.event.Event.{Event}
 use Rattle.tds_world.specs.declared.event.Event.TheVariants as event
 use Rattle.tds_world.specs.declared.event.Setup.{Setup}
-use Rattle.tds_world.specs.Arrivals.{server_acts, client_acts, reach_server, reach_client, to_server, to_client, works_on, hears}
-use Rattle.tds_world.specs.Caller.{cancels, cancels_in, cancels_by, sends_by, sends_last}
+use Rattle.tds_world.specs.Arrivals.{server_acts, client_acts, reach_server, reach_client, works_on}
+use Rattle.tds_world.specs.Caller.{cancels_in, cancels_by, sends_by, sends_last}
 use Rattle.tds_world.specs.Connection.{Connection, joined, records, phase, is_idle, Standing, In, Cut, up_underway, down_underway}
 use Rattle.tds_world.specs.Entries.{Up, Part, End, Drop, Attention, Down, Step, Acknowledgement, up_bytes, down_bytes}
 use Rattle.tds_world.specs.Events.{acts, asks_by, sends_in, world_after}
@@ -111,7 +111,7 @@ works_follow : (c : Connection) (due : List answer.Step) → Follows c (works_on
 works_follow c [] = longer_same (records c)
 works_follow c (s ∷ ss) =
     changed_joined (if_numbered c.answering (runs c.session s)) c.past c.current
-      (λ q. later_when (q.number == c.answering) (runs c.session s) q (record { number = refl; cancelled = λ e. e; given = λ e. refl }))
+    (λ q. later_when (q.number == c.answering) (runs c.session s) q (record { number = refl; cancelled = λ e. e; given = λ e. refl }))
 
 server_follows : (answers : Answers) (c : Connection) (e : Up) → Follows c (server_acts answers c e)
 server_follows answers c (Part r p) = longer_same (records c)
@@ -124,7 +124,7 @@ client_follows c (Step r place s) =
     changed_joined (if_numbered r (gives s)) c.past c.current (λ q. later_when (q.number == r) (gives s) q (gives_later s q))
 client_follows c (Acknowledgement r place) =
     changed_joined (if_numbered r acknowledges) c.past c.current
-      (λ q. later_when (q.number == r) acknowledges q (record { number = refl; cancelled = λ e. e; given = λ e. refl }))
+    (λ q. later_when (q.number == r) acknowledges q (record { number = refl; cancelled = λ e. e; given = λ e. refl }))
 
 either : (c : Connection) (b : Bool) (x y : Connection) → Follows c x → Follows c y → Follows c (cond b x y)
 either c true x y f g = f
@@ -136,8 +136,8 @@ reach_server_follows answers c (e ∷ es) k =
     let p : Connection = record c { to_server = passed e c.to_server } in
     let d : Connection = server_acts answers p e in
     either c (ltb k (length (up_bytes e))) (record c { to_server = with_waiting (e ∷ es) k c.to_server }) (reach_server answers d es (k - length (up_bytes e)))
-      (longer_same (records c))
-      (follows_then p d (reach_server answers d es (k - length (up_bytes e))) (server_follows answers p e) (reach_server_follows answers d es (k - length (up_bytes e))))
+    (longer_same (records c))
+    (follows_then p d (reach_server answers d es (k - length (up_bytes e))) (server_follows answers p e) (reach_server_follows answers d es (k - length (up_bytes e))))
 
 reach_client_follows : (c : Connection) (es : List Down) (k : ℕ) → Follows c (reach_client c es k)
 reach_client_follows c [] k = longer_same (records c)
@@ -145,8 +145,8 @@ reach_client_follows c (e ∷ es) k =
     let p : Connection = record c { to_client = passed e c.to_client } in
     let d : Connection = client_acts p e in
     either c (ltb k (length (down_bytes e))) (record c { to_client = with_waiting (e ∷ es) k c.to_client }) (reach_client d es (k - length (down_bytes e)))
-      (longer_same (records c))
-      (follows_then p d (reach_client d es (k - length (down_bytes e))) (client_follows p e) (reach_client_follows d es (k - length (down_bytes e))))
+    (longer_same (records c))
+    (follows_then p d (reach_client d es (k - length (down_bytes e))) (client_follows p e) (reach_client_follows d es (k - length (down_bytes e))))
 
 back_follows : (s : Standing) (c : Connection) → OfActed (Follows c) (gives_back_at s c)
 back_follows (In p) c = cancels_follow_in c.current c refl
@@ -233,10 +233,9 @@ pub nothing_after_cancel : (setup : Setup) (answers : Answers) → NothingAfterC
 nothing_after_cancel setup answers events later n number q e c =
     let w : World = world_after setup answers events new_world in
     let grown : Grown Follows w.connections (world_after setup answers later w).connections =
-      after_grow setup answers Follows later w (growth setup answers) (after_agrees setup answers events new_world new_agrees) in
+    after_grow setup answers Follows later w (growth setup answers) (after_agrees setup answers events new_world new_agrees) in
     let found : (p : Record) × (request_in number (numbered (world_after setup answers later w).connections n) ≡ Some p) × Later q p =
-      in_grown number n w.connections (world_after setup answers later w).connections q grown e in
-    (
+    in_grown number n w.connections (world_after setup answers later w).connections q grown e in (
       found.0,
       subst (λ v. request_on v n number ≡ Some found.0) (sym (after_both setup answers events later new_world)) found.1,
       found.2.given c,

@@ -1,6 +1,6 @@
 -- What each event does to a connection, it does over any events: for a relation that is reflexive and
 -- transitive.
-use Rattle.std.proofs.Common.{◌≡◌, ℕ, zero, suc, List, [], ◌∷◌, ◌++◌, map, length, refl, sym, subst, ◌∙◌, Option, Some, None}
+use Rattle.std.proofs.Common.{◌≡◌, ℕ, zero, suc, List, [], ◌∷◌, ◌++◌, map, refl, sym, subst, ◌∙◌, Option, Some, None}
 use Rattle.std.specs.Prelude.{slice_get}
 use Rattle.tds_session.specs.Answer.{Answers}
 use Rattle.tds_world.specs.declared.event.Event.{Event}
@@ -39,6 +39,7 @@ grown_then setup answers R bs cs ds g f h k b e = next (slice_get cs k) refl (f 
     last : (c : Connection) (o : Option Connection) → R b c → Related R c o → Related R b o
     last c None r s = s
     last c (Some d) r s = g.then b c d r s
+
     next : (o : Option Connection) → slice_get cs k ≡ o → Related R b o → Related R b (slice_get ds k)
     next None i r = absurd r
     next (Some c) i r = last c (slice_get ds k) r (h k c i)
@@ -80,7 +81,7 @@ notes_leave event.RestartClient n heard w = refl
 did_grow : (setup : Setup) (answers : Answers) (R : Connection → Connection → Type 0) (e : Event) (n : ℕ) (w : World) (c : Connection) (what : Outcome) → Growth setup answers R → ((b : Connection) → numbered w.connections n ≡ Some b → R b c) → Grown R w.connections (settles e n w (Does what c)).1.connections
 did_grow setup answers R e n w c what g r =
     subst (Grown R w.connections) (sym (notes_leave e n c.heard (record w { connections = put_numbered n c w.connections })))
-      (put_number_grown setup answers R n c w.connections g r)
+    (put_number_grown setup answers R n c w.connections g r)
 
 acted_grow : (setup : Setup) (answers : Answers) (R : Connection → Connection → Type 0) (e : Event) (n : ℕ) (w : World) (c : Connection) (a : Acted) → Growth setup answers R → numbered w.connections n ≡ Some c → OfActed (R c) a → Grown R w.connections (settles e n w a).1.connections
 acted_grow setup answers R e n w c (Refuses why) g i r = grown_same setup answers R w.connections g
@@ -96,7 +97,7 @@ found_grow setup answers R e w (Opens n) g s = opened_grow (opens (next_number w
     opened_grow (Refuses why) = grown_same setup answers R w.connections g
     opened_grow (Does what d) =
         did_grow setup answers R event.Lease n w d what g
-          (λ b j. absurd (none_at_end w.connections b (subst (λ i. numbered w.connections i ≡ Some b) s j)))
+        (λ b j. absurd (none_at_end w.connections b (subst (λ i. numbered w.connections i ≡ Some b) s j)))
 
 at_event : (setup : Setup) (answers : Answers) (R : Connection → Connection → Type 0) (e : Event) (w : World) → Growth setup answers R → Agrees w → Grown R w.connections (happens_at setup answers e w (about setup w e)).1.connections
 at_event setup answers R e w g a = found_grow setup answers R e w (about setup w e) g (about_stands setup w e a)
@@ -122,8 +123,8 @@ pub after_grow : (setup : Setup) (answers : Answers) (R : Connection → Connect
 after_grow setup answers R [] w g a = grown_same setup answers R w.connections g
 after_grow setup answers R (e ∷ es) w g a =
     grown_then setup answers R w.connections (happens setup answers e w).1.connections (world_after setup answers es (happens setup answers e w).1).connections g
-      (happens_grow setup answers R e w g a)
-      (after_grow setup answers R es (happens setup answers e w).1 g (happens_agrees setup answers e w a))
+    (happens_grow setup answers R e w g a)
+    (after_grow setup answers R es (happens setup answers e w).1 g (happens_agrees setup answers e w a))
 
 -- Events one after the other.
 pub after_both : (setup : Setup) (answers : Answers) (es fs : List Event) (w : World) → world_after setup answers (es ++ fs) w ≡ world_after setup answers fs (world_after setup answers es w)

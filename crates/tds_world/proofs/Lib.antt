@@ -13,6 +13,7 @@ pub mod Grows
 pub mod Given
 pub mod Sound
 pub mod Quiet
+pub mod Counts
 pub mod Lawful
 pub mod Script
 pub mod Deliveries

@@ -177,3 +177,8 @@ always P setup answers events k = always_such P Any setup answers events k (all_
 pub each_follows : (P Q : Connection → Type 0) (cs : List Connection) → ((c : Connection) → P c → Q c) → AllByRecursion P cs → AllByRecursion Q cs
 each_follows P Q [] f h = tt
 each_follows P Q (c ∷ cs) f h = (f c h.0, each_follows P Q cs f h.1)
+
+-- Two facts of each are one.
+pub each_both : (P Q : Connection → Type 0) (cs : List Connection) → AllByRecursion P cs → AllByRecursion Q cs → AllByRecursion (λ c. P c × Q c) cs
+each_both P Q [] f g = tt
+each_both P Q (c ∷ cs) f g = ((f.0, g.0), each_both P Q cs f.1 g.1)

@@ -1,6 +1,7 @@
 //! The session laws. Each is the contract of a function without a body: what holds of the model
 //! after any events, whatever their order, and whatever the sizes of the deliveries.
 ghost use Rattle.tds_session.specs.Answer.{Answers, answer_of, script_answers};
+ghost use Rattle.tds_world.specs.Bounds.{OneAttention};
 ghost use Rattle.tds_world.specs.Deliveries.{DeliversExactly};
 ghost use Rattle.tds_world.specs.Lawful.{Lawful};
 ghost use Rattle.tds_world.specs.Laws.{Always, IdleIsQuiet, NothingAfterCancel};
@@ -34,4 +35,9 @@ pub fn delivers_exactly()
 /// for any answers.
 pub fn nothing_after_cancel()
     ensures { (setup : Setup) (answers : Answers) → NothingAfterCancel setup answers }
+{}
+
+/// At most one attention of a connection is without an arrived acknowledgement.
+pub fn one_attention()
+    ensures { (setup : Setup) (answers : Answers) → Lawful answers → Always setup answers OneAttention }
 {}
