@@ -1,0 +1,9 @@
+pub mod Texts
+pub mod Layout
+pub mod Faults
+pub mod Reading
+pub mod Lent
+pub mod Cursor
+pub mod Contents
+pub mod Told
+pub mod Vectors
