@@ -104,7 +104,7 @@ pub works_keeps : (c : Connection) → Sound c → Sound (works c)
 works_keeps c f = works_keeps_on c c.due refl f
 
 -- a new request
-ask_fits : (p : Phase) (r a : ℕ) (ups : List Up) (downs : List Down) (parts : List ℕ) (due : List answer.Step) → is_settled p ≡ true → FlowIn p r a ups downs parts due → Quiet ups downs parts due
+pub ask_fits : (p : Phase) (r a : ℕ) (ups : List Up) (downs : List Down) (parts : List ℕ) (due : List answer.Step) → is_settled p ≡ true → FlowIn p r a ups downs parts due → Quiet ups downs parts due
 ask_fits Settled r a ups downs parts due e f = f
 ask_fits Asked r a ups downs parts due e f = absurd (cc)
 ask_fits Sending r a ups downs parts due e f = absurd (cc)

@@ -14,6 +14,7 @@ pub mod Given
 pub mod Sound
 pub mod Quiet
 pub mod Counts
+pub mod Sizes
 pub mod Lawful
 pub mod Script
 pub mod Deliveries

@@ -19,6 +19,11 @@ use Rattle.tds_world.specs.World.{World, Holding, new_world, numbered}
 abbrev pub Always : Setup → Answers → (World → Type 0) → Type 0
 Always setup answers P = (events : List Event) → P (world_after setup answers events new_world)
 
+-- P holds of the world after any events of a kind.
+abbrev pub AlwaysOf : (Event → Type 0) → Setup → Answers → (World → Type 0) → Type 0
+AlwaysOf E setup answers P =
+    (events : List Event) → AllByRecursion E events → P (world_after setup answers events new_world)
+
 -- P holds of each connection.
 abbrev pub OfEachConnection : (Connection → Type 0) → World → Type 0
 OfEachConnection P w = AllByRecursion P w.connections

@@ -1,10 +1,10 @@
 //! The session laws. Each is the contract of a function without a body: what holds of the model
 //! after any events, whatever their order, and whatever the sizes of the deliveries.
 ghost use Rattle.tds_session.specs.Answer.{Answers, answer_of, script_answers};
-ghost use Rattle.tds_world.specs.Bounds.{OneAttention};
+ghost use Rattle.tds_world.specs.Bounds.{FewUnderway, IsEvent, IsSetup, OneAttention};
 ghost use Rattle.tds_world.specs.Deliveries.{DeliversExactly};
 ghost use Rattle.tds_world.specs.Lawful.{Lawful};
-ghost use Rattle.tds_world.specs.Laws.{Always, IdleIsQuiet, NothingAfterCancel};
+ghost use Rattle.tds_world.specs.Laws.{Always, AlwaysOf, IdleIsQuiet, NothingAfterCancel};
 ghost use Rattle.tds_world.specs.declared.event.Setup.{Setup};
 
 use tds_session::Engine;
@@ -40,4 +40,10 @@ pub fn nothing_after_cancel()
 /// At most one attention of a connection is without an arrived acknowledgement.
 pub fn one_attention()
     ensures { (setup : Setup) (answers : Answers) → Lawful answers → Always setup answers OneAttention }
+{}
+
+/// At most 4,094 bytes of a connection are underway to its server, for a setup that a play takes and
+/// requests that have a spelling.
+pub fn few_underway()
+    ensures { (setup : Setup) (answers : Answers) → IsSetup setup → Lawful answers → AlwaysOf IsEvent setup answers FewUnderway }
 {}
