@@ -1,0 +1,18 @@
+-- What holds of what was found, or of what was done.
+use Rattle.std.proofs.Common.{Option, Some, None}
+use Rattle.tds_world.specs.Connection.{Connection}
+use Rattle.tds_world.specs.Pool.{Acted, Refuses, Does}
+use Rattle.tds_world.specs.World.{Found, Missing, Here, Opens}
+
+abbrev pub OfSome : {A : Type 0} → (A → Type 0) → Option A → Type 0
+OfSome P None = Unit {0}
+OfSome P (Some x) = P x
+
+abbrev pub OfFound : (Connection → Type 0) → Found → Type 0
+OfFound P (Missing why) = Unit {0}
+OfFound P (Here n c) = P c
+OfFound P (Opens n) = Unit {0}
+
+abbrev pub OfActed : (Connection → Type 0) → Acted → Type 0
+OfActed P (Refuses why) = Unit {0}
+OfActed P (Does outcome c) = P c

@@ -1,0 +1,24 @@
+-- Plays, computed: what each comes to, and what it sends.
+pub mod Shown
+pub mod FirstRun
+pub mod BeginInATransaction
+pub mod RefusedEvents
+pub mod CommitAndRollback
+pub mod AnErrorEndsTheBatch
+pub mod AttentionInTheMiddle
+pub mod AnswerAndAttentionCross
+pub mod CancelledBeforeItsFirstPacket
+pub mod CancelledInTheMiddleOfItsPackets
+pub mod TheLongestRequest
+pub mod BeginCancelledAfterItsStep
+pub mod ResetCancelledBeforeItsStep
+pub mod ResetCancelledAfterItsStep
+pub mod NothingLeaksToTheNextLease
+pub mod KeepAndResume
+pub mod NoKeepUnderAFullReset
+pub mod CancelledThreeTimes
+pub mod CutAndRestart
+pub mod GivenBackWhileAnswering
+pub mod TheLowestNumberIsLentFirst
+pub mod ARestartedClientHasNoTickets
+pub mod ARestartedServerHasNoTransactions

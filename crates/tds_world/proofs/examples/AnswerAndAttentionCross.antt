@@ -1,0 +1,54 @@
+-- The end of an answer and the attention cross. The acknowledgement is a message of its own, and until it comes the client is cancelling.
+use Rattle.std.specs.Prelude.{◌≡◌, refl, List, [], ◌∷◌, Some, None, codes}
+use Rattle.tds_packet.specs.declared.kind.Direction.TheVariants.{ToClient}
+use Rattle.tds_request.specs.declared.request.Request.TheVariants.{Batch}
+use Rattle.tds_session.specs.Answer.{script_answers}
+use Rattle.tds_world.specs.declared.event.Event.{Event}
+use Rattle.tds_world.specs.declared.event.Event.TheVariants as event
+use Rattle.tds_world.specs.declared.outcome.CancelOutcome.TheVariants as cancel
+use Rattle.tds_world.specs.declared.outcome.Opened.TheVariants.{New}
+use Rattle.tds_world.specs.declared.outcome.Outcome.TheVariants as outcome
+use Rattle.tds_world.specs.declared.outcome.SendOutcome.TheVariants as sent
+use Rattle.tds_world.specs.declared.outcome.WorkOutcome.TheVariants as work
+use Rattle.tds_world.specs.declared.report.ClientView.TheVariants.{Idle, Cancelling}
+use Rattle.tds_world.specs.declared.report.Place.TheVariants.{Leased}
+use Rattle.tds_world.specs.declared.report.Report.{Report}
+use Rattle.tds_world.specs.declared.report.RequestStatus.TheVariants as status
+use Rattle.tds_world.specs.Events.{world_after}
+use Rattle.tds_world.specs.Observed.{observed, bytes_of}
+use Rattle.tds_world.specs.World.{World, new_world}
+use Rattle.tds_world.proofs.examples.Shown.{with_max, connections_after, Shows, asked, seen, session}
+
+abbrev events : List Event
+events =
+    event.Lease ∷ event.Ask 1 (Batch (codes "get x")) ∷ event.Send 1 ∷ event.ToServer 1 40 ∷
+    event.Work 1 ∷ event.Work 1 ∷ event.Cancel 1 ∷ event.ToClient 1 47 ∷ event.ToServer 1 8 ∷
+    event.ToClient 1 21 ∷ []
+
+abbrev report : Report
+report = observed (with_max 1) script_answers events
+
+pub shown : Shows report
+    (outcome.Leased 1 1 New ∷ outcome.Asked 1 ∷ outcome.Sent sent.Last ∷ outcome.ToServer 40 ∷
+    outcome.Work work.Step ∷ outcome.Work work.Finished ∷ outcome.Cancel cancel.Asked ∷
+    outcome.ToClient 47 ∷ outcome.ToServer 8 ∷ outcome.ToClient 21 ∷ [])
+    (asked 1 1 status.Acknowledged (Some (session 0 1)) [] ∷ [])
+    (seen 1 Idle (Leased 1) 0 None (session 0 1) 0 0 ∷ [])
+shown = (refl, refl, refl)
+
+-- The whole answer has come, and the client is not idle.
+pub crossed : connections_after 8 report ≡ seen 1 Cancelling (Leased 1) 0 None (session 0 1) 8 0 ∷ []
+crossed = refl
+
+abbrev world : World
+world = world_after (with_max 1) script_answers events new_world
+
+-- The answer of two packets, and then the acknowledgement.
+pub answer_bytes : bytes_of world 1 ToClient ≡
+    0x04 ∷ 0x00 ∷ 0x00 ∷ 0x1A ∷ 0x00 ∷ 0x00 ∷ 0x01 ∷ 0x00 ∷ 0x79 ∷ 0x00 ∷ 0x00 ∷ 0x00 ∷ 0x00 ∷
+    0xFD ∷ 0x01 ∷ 0x00 ∷ 0x00 ∷ 0x00 ∷ 0x00 ∷ 0x00 ∷ 0x00 ∷ 0x00 ∷ 0x00 ∷ 0x00 ∷ 0x00 ∷ 0x00 ∷
+    0x04 ∷ 0x01 ∷ 0x00 ∷ 0x15 ∷ 0x00 ∷ 0x00 ∷ 0x02 ∷ 0x00 ∷ 0xFD ∷ 0x00 ∷ 0x00 ∷ 0x00 ∷ 0x00 ∷
+    0x00 ∷ 0x00 ∷ 0x00 ∷ 0x00 ∷ 0x00 ∷ 0x00 ∷ 0x00 ∷ 0x00 ∷ 0x04 ∷ 0x01 ∷ 0x00 ∷ 0x15 ∷ 0x00 ∷
+    0x00 ∷ 0x01 ∷ 0x00 ∷ 0xFD ∷ 0x20 ∷ 0x00 ∷ 0x00 ∷ 0x00 ∷ 0x00 ∷ 0x00 ∷ 0x00 ∷ 0x00 ∷ 0x00 ∷
+    0x00 ∷ 0x00 ∷ 0x00 ∷ []
+answer_bytes = refl

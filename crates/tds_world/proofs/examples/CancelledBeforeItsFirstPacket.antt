@@ -1,0 +1,45 @@
+-- A request that is cancelled before its first packet never goes out.
+use Rattle.std.specs.Prelude.{◌≡◌, refl, List, [], ◌∷◌, None, codes}
+use Rattle.tds_packet.specs.declared.kind.Direction.TheVariants.{ToServer}
+use Rattle.tds_request.specs.declared.request.Request.TheVariants.{Batch}
+use Rattle.tds_session.specs.Answer.{script_answers}
+use Rattle.tds_world.specs.declared.event.Event.{Event}
+use Rattle.tds_world.specs.declared.event.Event.TheVariants as event
+use Rattle.tds_world.specs.declared.outcome.CancelOutcome.TheVariants as cancel
+use Rattle.tds_world.specs.declared.outcome.Opened.TheVariants.{New}
+use Rattle.tds_world.specs.declared.outcome.Outcome.TheVariants as outcome
+use Rattle.tds_world.specs.declared.outcome.SendOutcome.TheVariants as sent
+use Rattle.tds_world.specs.declared.report.ClientView.TheVariants.{Reading}
+use Rattle.tds_world.specs.declared.report.Place.TheVariants.{Leased}
+use Rattle.tds_world.specs.declared.report.Report.{Report}
+use Rattle.tds_world.specs.declared.report.RequestStatus.TheVariants as status
+use Rattle.tds_world.specs.Events.{world_after}
+use Rattle.tds_world.specs.Observed.{observed, bytes_of}
+use Rattle.tds_world.specs.World.{World, new_world}
+use Rattle.tds_world.proofs.examples.Shown.{with_max, Shows, asked, seen, session}
+
+abbrev events : List Event
+events =
+    event.Lease ∷ event.Ask 1 (Batch (codes "get x")) ∷ event.Cancel 1 ∷
+    event.Ask 1 (Batch (codes "get y")) ∷ event.Send 1 ∷ []
+
+abbrev report : Report
+report = observed (with_max 1) script_answers events
+
+pub shown : Shows report
+    (outcome.Leased 1 1 New ∷ outcome.Asked 1 ∷ outcome.Cancel cancel.Unsent ∷ outcome.Asked 2 ∷
+    outcome.Sent sent.Last ∷ [])
+    (asked 1 1 status.Unsent None [] ∷ asked 1 1 status.Open None [] ∷ [])
+    (seen 1 Reading (Leased 1) 0 None (session 0 1) 40 0 ∷ [])
+shown = (refl, refl, refl)
+
+abbrev world : World
+world = world_after (with_max 1) script_answers events new_world
+
+-- What goes out is the second request.
+pub request_bytes : bytes_of world 1 ToServer ≡
+    0x01 ∷ 0x01 ∷ 0x00 ∷ 0x28 ∷ 0x00 ∷ 0x00 ∷ 0x01 ∷ 0x00 ∷ 0x16 ∷ 0x00 ∷ 0x00 ∷ 0x00 ∷ 0x12 ∷
+    0x00 ∷ 0x00 ∷ 0x00 ∷ 0x02 ∷ 0x00 ∷ 0x00 ∷ 0x00 ∷ 0x00 ∷ 0x00 ∷ 0x00 ∷ 0x00 ∷ 0x00 ∷ 0x00 ∷
+    0x01 ∷ 0x00 ∷ 0x00 ∷ 0x00 ∷ 0x67 ∷ 0x00 ∷ 0x65 ∷ 0x00 ∷ 0x74 ∷ 0x00 ∷ 0x20 ∷ 0x00 ∷ 0x79 ∷
+    0x00 ∷ []
+request_bytes = refl

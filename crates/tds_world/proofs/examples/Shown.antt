@@ -1,0 +1,90 @@
+-- What an example shows of a play, and short words for it.
+use Rattle.std.specs.Prelude.{ℕ, ◌≡◌, pos, List, [], map, length, Option, Some, None}
+use Rattle.tds_packet.specs.declared.status.Reset.{Reset}
+use Rattle.tds_session.specs.Session.{SessionState, no_settings}
+use Rattle.tds_token.specs.declared.message.Message.{Message}
+use Rattle.tds_token.specs.declared.token.Token.{Token}
+use Rattle.tds_token.specs.declared.token.Token.TheVariants as token
+use Rattle.tds_world.specs.declared.event.Setup.{Setup}
+use Rattle.tds_world.specs.declared.outcome.Outcome.{Outcome}
+use Rattle.tds_world.specs.declared.report.ClientView.{ClientView}
+use Rattle.tds_world.specs.declared.report.EventReport.{EventReport}
+use Rattle.tds_world.specs.declared.report.Place.{Place}
+use Rattle.tds_world.specs.declared.report.Report.{Report}
+use Rattle.tds_world.specs.declared.report.RequestReport.{RequestReport}
+use Rattle.tds_world.specs.declared.report.RequestStatus.{RequestStatus}
+use Rattle.tds_world.specs.declared.report.Snapshot.{Snapshot}
+use Rattle.tds_world.specs.World.{numbered}
+
+-- Packets of 512 bytes, and so many connections.
+abbrev pub with_max : ℕ → Setup
+with_max most = record { packet_size = 512; max = most }
+
+-- The connections after the event of this number.
+abbrev pub connections_in : Option EventReport → List Snapshot
+connections_in None = []
+connections_in (Some e) = e.snapshots
+
+abbrev pub connections_after : ℕ → Report → List Snapshot
+connections_after number r = connections_in (numbered r.events number)
+
+-- The outcomes, the records, and the connections at the end.
+abbrev pub Shows : Report → List Outcome → List RequestReport → List Snapshot → Type 0
+Shows r outcomes requests connections =
+    (map (λ e. e.outcome) r.events ≡ outcomes) × (r.requests ≡ requests) × (connections_after (length r.events) r ≡ connections)
+
+-- A request of a lease on a connection: its status, the session that it ran in, and its tokens.
+abbrev pub asked : ℕ → ℕ → RequestStatus → Option SessionState → List Token → RequestReport
+asked lease conn status ran tokens = record {
+  lease = lease;
+  conn = conn;
+  status = status;
+  ran = ran;
+  tokens = tokens;
+}
+
+-- A connection: its client, its place, the descriptor heard and the mark, the server's session, and
+-- the bytes underway.
+abbrev pub seen : ℕ → ClientView → Place → ℕ → Option Reset → SessionState → ℕ → ℕ → Snapshot
+seen conn client place descriptor mark server to_server to_client = record {
+  conn = conn;
+  client = client;
+  place = place;
+  descriptor = descriptor;
+  mark = mark;
+  server = server;
+  to_server = to_server;
+  to_client = to_client;
+}
+
+-- A session without settings, of this descriptor and this next one.
+abbrev pub session : ℕ → ℕ → SessionState
+session descriptor next = record {
+  settings = no_settings;
+  descriptor = descriptor;
+  next_descriptor = next;
+}
+
+-- Tokens.
+abbrev pub message : ℕ → ℕ → List ℕ → Message
+message number class text = record {
+  number = pos number;
+  state = 1;
+  class = class;
+  text = text;
+  server = [];
+  procedure = [];
+  line = pos 0;
+}
+
+abbrev pub info : ℕ → List ℕ → Token
+info number text = token.Info (message number 0 text)
+
+abbrev pub error : ℕ → List ℕ → Token
+error number text = token.Error (message number 16 text)
+
+abbrev pub value : ℕ → Token
+value n = token.ReturnStatus (pos n)
+
+abbrev pub done : ℕ → ℕ → Token
+done status rows = token.Done status 0 rows

@@ -1,0 +1,5 @@
+use Rattle.tds_world.proofs.Deliveries as deliveries
+use Rattle.tds_world.proofs.laws.delivers_exactly.Goals as goal
+
+pub returns : goal.returns
+returns c = deliveries.delivers_exactly

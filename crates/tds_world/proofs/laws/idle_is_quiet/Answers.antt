@@ -1,0 +1,5 @@
+use Rattle.tds_world.proofs.Quiet as quiet
+use Rattle.tds_world.proofs.laws.idle_is_quiet.Goals as goal
+
+pub returns : goal.returns
+returns c = quiet.idle_is_quiet

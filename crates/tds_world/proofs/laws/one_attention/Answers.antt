@@ -1,0 +1,5 @@
+use Rattle.tds_world.proofs.Counts as counts
+use Rattle.tds_world.proofs.laws.one_attention.Goals as goal
+
+pub returns : goal.returns
+returns c = counts.one_attention

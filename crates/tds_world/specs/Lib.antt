@@ -1,0 +1,16 @@
+pub mod Refusals
+pub mod Entries
+pub mod Lane
+pub mod Record
+pub mod Phase
+pub mod Connection
+pub mod Arrivals
+pub mod Caller
+pub mod World
+pub mod Pool
+pub mod Events
+pub mod Observed
+pub mod Lawful
+pub mod Laws
+pub mod Bounds
+pub mod Deliveries

@@ -1,0 +1,49 @@
+//! The session laws. Each is the contract of a function without a body: what holds of the model
+//! after any events, whatever their order, and whatever the sizes of the deliveries.
+ghost use Rattle.tds_session.specs.Answer.{Answers, answer_of, script_answers};
+ghost use Rattle.tds_world.specs.Bounds.{FewUnderway, IsEvent, IsSetup, OneAttention};
+ghost use Rattle.tds_world.specs.Deliveries.{DeliversExactly};
+ghost use Rattle.tds_world.specs.Lawful.{Lawful};
+ghost use Rattle.tds_world.specs.Laws.{Always, AlwaysOf, IdleIsQuiet, NothingAfterCancel};
+ghost use Rattle.tds_world.specs.declared.event.Setup.{Setup};
+
+use tds_session::Engine;
+
+/// Where nobody waits for an answer, nothing is underway, and both ends hold one transaction
+/// descriptor.
+pub fn idle_is_quiet()
+    ensures { (setup : Setup) (answers : Answers) → Lawful answers → Always setup answers IdleIsQuiet }
+{}
+
+/// What a server answers is lawful, whatever its engine.
+pub fn engine_is_lawful<E: Engine>(engine: &E)
+    ensures { Lawful (answer_of (E.statements_of engine.now) (E.step_of engine.now)) }
+{}
+
+/// What a server with the batch language answers is lawful.
+pub fn script_is_lawful()
+    ensures { Lawful script_answers }
+{}
+
+/// What a delivery makes arrive, either way, is the longest front of what waits whose sizes sum to
+/// at most the bytes that have come. It holds for any answers.
+pub fn delivers_exactly()
+    ensures { (setup : Setup) (answers : Answers) → Always setup answers (DeliversExactly answers) }
+{}
+
+/// Whatever happens after a cancel, the caller has been given what it had been given then. It holds
+/// for any answers.
+pub fn nothing_after_cancel()
+    ensures { (setup : Setup) (answers : Answers) → NothingAfterCancel setup answers }
+{}
+
+/// At most one attention of a connection is without an arrived acknowledgement.
+pub fn one_attention()
+    ensures { (setup : Setup) (answers : Answers) → Lawful answers → Always setup answers OneAttention }
+{}
+
+/// At most 4,094 bytes of a connection are underway to its server, for a setup that a play takes and
+/// requests that have a spelling.
+pub fn few_underway()
+    ensures { (setup : Setup) (answers : Answers) → IsSetup setup → Lawful answers → AlwaysOf IsEvent setup answers FewUnderway }
+{}
