@@ -1,0 +1,5 @@
+pub mod Faults
+pub mod Session
+pub mod Packets
+pub mod Sending
+pub mod Fields
