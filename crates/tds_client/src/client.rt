@@ -2,6 +2,8 @@ ghost use Rattle.std.specs.Prelude.{◌≡◌, ◌≤◌, None, IfOk, IfErr, OnO
 ghost use Rattle.tds_client.specs.Session.{new_session, state_of, lost, marked, unless_idle};
 ghost use Rattle.tds_client.specs.Sending.{Does, IsRefusal, started, sent, cancelled, refusal_of};
 
+mod taking;
+
 use crate::fault::{ClientFault, ClientRefusal};
 use crate::heard::{FinalDone, Heard};
 use crate::packets::{kind_of, put, put_attention, put_ignore_and_attention, request_status};

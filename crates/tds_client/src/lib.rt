@@ -8,6 +8,7 @@ mod fault;
 mod heard;
 mod packets;
 mod state;
+mod walks;
 
 pub use client::Client;
 pub use fault::{ClientFault, ClientRefusal};
