@@ -14,7 +14,7 @@ use Rattle.tds_client.specs.declared.fault.ClientFault.TheVariants as faults
 use Rattle.tds_client.specs.declared.heard.Heard.{Heard}
 use Rattle.tds_client.specs.declared.heard.FinalDone.{FinalDone}
 use Rattle.tds_client.specs.declared.heard.FinalDone.TheVariants.{Awaited, Answered, Acknowledged}
-use Rattle.tds_client.specs.Contents.{Contents}
+use Rattle.tds_token.specs.Contents.{Contents}
 
 -- One thing behind another: where the first is at fault, that is the fault.
 infixl 10 ◌>>=◌
@@ -105,7 +105,7 @@ at_end_of_data (Some fault) heard = Err (faults.Token fault)
 
 -- All of a packet's data.
 abbrev pub hear_contents : Bool → Heard → Contents → Result Heard ClientFault
-hear_contents cancelling heard contents = hear_all cancelling heard contents.tokens >>= λ next. at_end_of_data contents.wrong next
+hear_contents cancelling heard contents = hear_all cancelling heard contents.tokens >>= λ next. at_end_of_data contents.fault next
 
 -- A message ends behind its final DONE, which may stand in an earlier packet of it.
 abbrev pub at_end_of_message : Bool → FinalDone → Heard → Result Heard ClientFault

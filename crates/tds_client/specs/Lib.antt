@@ -2,7 +2,7 @@ pub mod Faults
 pub mod Session
 pub mod Packets
 pub mod Sending
-pub mod Contents
 pub mod Hearing
 pub mod Taking
+pub mod Marks
 pub mod Fields

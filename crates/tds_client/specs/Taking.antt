@@ -9,7 +9,7 @@ use Rattle.tds_client.specs.declared.heard.FinalDone.{FinalDone}
 use Rattle.tds_client.specs.declared.heard.FinalDone.TheVariants.{Awaited, Answered, Acknowledged}
 use Rattle.tds_client.specs.declared.state.Taken.{Taken}
 use Rattle.tds_client.specs.declared.state.Taken.TheVariants as takes
-use Rattle.tds_client.specs.Contents.{Contents, contents_of}
+use Rattle.tds_token.specs.Contents.{Contents, contents_of}
 use Rattle.tds_client.specs.Hearing.{◌>>=◌, with_done, hear_packet}
 use Rattle.tds_client.specs.Session.{ClientSession, Stage, Idle, Sending, Reading, Cancelling, Broken, with_stage}
 

@@ -1,4 +1,6 @@
-ghost use Rattle.std.specs.Prelude.{◌≡◌, ◌≤◌, None, IfOk, IfErr, OnOk, OnErr, length};
+ghost use Rattle.std.specs.Prelude.{◌≡◌, None, Err, IfOk, IfErr, OnOk, OnErr};
+ghost use Rattle.tds_client.specs.declared.fault.ClientRefusal.{ClientRefusal};
+ghost use Rattle.tds_client.specs.declared.state.Cancelled.{Cancelled};
 ghost use Rattle.tds_client.specs.Session.{new_session, state_of, lost, marked, unless_idle};
 ghost use Rattle.tds_client.specs.Sending.{Does, IsRefusal, started, sent, cancelled, refusal_of};
 
@@ -220,6 +222,7 @@ impl Client {
     pub fn cancel(&mut self, out: &mut Vec<u8>) -> Result<Cancelled, ClientRefusal>
         ensures ok { IfOk result (λ answer. Does (cancelled self.old) answer self.new out.old.items out.new.items) }
         ensures refused { IfErr result (IsRefusal (refusal_of (cancelled self.old))) }
+        ensures memory { result ≡ Err ClientRefusal.Memory → IfOk (cancelled self.old) (λ wanted. wanted.answer ≡ Cancelled.Asked) }
         ensures err { OnErr result (self.new ≡ self.old) }
         ensures nothing { OnErr result (out.new.items ≡ out.old.items) }
     {

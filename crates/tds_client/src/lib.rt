@@ -6,6 +6,7 @@
 mod client;
 mod fault;
 mod heard;
+pub mod laws;
 mod packets;
 mod state;
 mod walks;
@@ -16,3 +17,6 @@ pub use state::{Cancelled, ClientState, Sent, Taken};
 
 /// The answer of a growth that was refused.
 pub type NoMemory = std::alloc::AllocError;
+
+#[cfg(test)]
+mod tests;

@@ -3,7 +3,7 @@
 
 ghost use Rattle.std.specs.Prelude.{◌≡◌, ◌++◌, Ok, Err, IfOk, OnOk, MatchResult, length, take};
 ghost use Rattle.tds_token.specs.Told.{told};
-ghost use Rattle.tds_client.specs.Contents.{contents_of};
+ghost use Rattle.tds_token.specs.Contents.{contents_of};
 ghost use Rattle.tds_client.specs.Hearing.{hear_contents, hear_packet};
 
 use crate::NoMemory;

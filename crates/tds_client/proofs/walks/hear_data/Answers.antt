@@ -1,27 +1,25 @@
-use Rattle.std.proofs.Common.{Ok, Err}
+use Rattle.std.proofs.Common.{ap, ◌∙◌}
 use Rattle.std.proofs.lemmas.Result.{err_from_is_err_and}
-use Rattle.tds_token.specs.Layout.{token_of}
-use Rattle.tds_client.specs.Contents.{contents_of}
-use Rattle.tds_client.proofs.Reading.{read_token, read_fault, read_shorter}
-use Rattle.tds_client.proofs.Walking.{hears_on, hears_fault, hears_wrong}
+use Rattle.tds_token.specs.Cursor.{Cursor}
+use Rattle.tds_client.proofs.Reading.{read_token, read_fault, read_end}
+use Rattle.tds_client.proofs.Walking.{hears_on, hears_fault, hears_wrong, hears_end}
 use Rattle.tds_client.proofs.walks.hear_data.Goals as goal
 
 pub returns-in_err-heard-in-Ok-clause-heard : goal.returns-in_err-heard-in-Ok-clause-heard
 returns-in_err-heard-in-Ok-clause-heard c =
-    let e = read_token c.tokens.tokens c.next.new.self c.next.result c.in-Some.next c.in-Ok.token c.next.ensures.exact c.in-Some.is c.in-Ok.is in
-    let less = read_shorter c.tokens.tokens c.next.new.self c.next.result c.in-Some.next c.in-Ok.token c.next.ensures.found c.in-Some.is c.in-Ok.is in
     let p = err_from_is_err_and c.from_residual.result c.from_residual.ensures.1 in
-    rw (p.1, p.2) (hears_fault c.args.cancelling c.tokens.heard c.args.heard c.tokens.tokens c.next.new.self (contents_of c.args.columns c.args.data.now) (token_of c.in-Ok.token) _ c.tokens.invariant e less c.in_err-heard-in-Ok.ensures)
+    rw (p.1, p.2) (hears_fault _ _ _ _ _ c.tokens.invariant _ _ _ (read_token _ _ _ _ _ c.next.ensures.contents c.in-Some.is c.in-Ok.is) c.in_err-heard-in-Ok.ensures)
 
 pub tokens-preserved : goal.tokens-preserved
-tokens-preserved c =
-    let e = read_token c.tokens.tokens c.next.new.self c.next.result c.in-Some.next c.in-Ok.token c.next.ensures.exact c.in-Some.is c.in-Ok.is in
-    let less = read_shorter c.tokens.tokens c.next.new.self c.next.result c.in-Some.next c.in-Ok.token c.next.ensures.found c.in-Some.is c.in-Ok.is in
-    hears_on c.args.cancelling c.tokens.heard c.args.heard c.tokens.tokens c.next.new.self (contents_of c.args.columns c.args.data.now) (token_of c.in-Ok.token) _ c.tokens.invariant e less c.in_ok-heard-in-Ok.ensures
+tokens-preserved c = hears_on _ _ _ _ _ c.tokens.invariant _ _ _ (read_token _ _ _ _ _ c.next.ensures.contents c.in-Some.is c.in-Ok.is) c.in_ok-heard-in-Ok.ensures
 
 pub returns-in-Err-clause-heard : goal.returns-in-Err-clause-heard
-returns-in-Err-clause-heard c =
-    let e = read_fault c.tokens.tokens c.next.new.self c.next.result c.in-Some.next c.in-Err.fault c.next.ensures.exact c.in-Some.is c.in-Err.is in
-    let is = c.in-Some.is in
-    hears_wrong c.args.cancelling c.tokens.heard c.args.heard c.tokens.tokens c.next.new.self (contents_of c.args.columns c.args.data.now) c.in-Err.fault c.tokens.invariant e
-      (λ none. let end = c.next.ensures.end none in let no_token = end.0 in cc)
+returns-in-Err-clause-heard c = hears_wrong _ _ _ _ _ c.tokens.invariant _ _ (read_fault _ _ _ _ _ c.next.ensures.contents c.in-Some.is c.in-Err.is)
+
+pub returns-clause-heard : goal.returns-clause-heard
+returns-clause-heard c = (hears_end _ _ _ _ _ c.tokens.invariant _ (read_end _ _ (c.next.ensures.none c.in_default.is).0)).0
+
+pub returns-clause-columns : goal.returns-clause-columns
+returns-clause-columns c =
+    c.columns.ensures ∙ (ap (λ (d : Cursor). d.columns) (c.next.ensures.none c.in_default.is).1
+    ∙ (hears_end _ _ _ _ _ c.tokens.invariant _ (read_end _ _ (c.next.ensures.none c.in_default.is).0)).1)
