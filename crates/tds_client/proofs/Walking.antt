@@ -86,8 +86,8 @@ module _ (out before : List Token) (left whole : Contents) (h : Tells out left b
       let others = told rest.tokens in
       record {
         told_is = ap (λ (ts : List Token). ts ++ others) pushed
-          ∙ (append_assoc out (t ∷ []) others
-          ∙ (ap (λ (ts : List Token). out ++ ts) (sym (told_other t rest.tokens env)) ∙ (sym (ap (λ (x : Contents). out ++ told x.tokens) e) ∙ h.told_is)));
+            ∙ (append_assoc out (t ∷ []) others
+            ∙ (ap (λ (ts : List Token). out ++ ts) (sym (told_other t rest.tokens env)) ∙ (sym (ap (λ (x : Contents). out ++ told x.tokens) e) ∙ h.told_is)));
         more = h.more ++ t ∷ [];
         kept = pushed ∙ (ap (λ (ts : List Token). ts ++ t ∷ []) h.kept ∙ append_assoc before h.more (t ∷ []));
       }

@@ -33,7 +33,7 @@ started s request = with_stage s (Sending (packet_kind (kind_of_request request)
 -- ---- Sending
 
 -- What a call does: its answer, the client behind it, and the bytes that it appends.
-pub record Done (A : Type 0) : Type 0 where
+pub record Effect (A : Type 0) : Type 0 where
   pub answer : A
   pub session : ClientSession
   pub bytes : List ℕ
@@ -43,21 +43,21 @@ abbrev pub room : ClientSession → ℕ
 room s = s.size - 8
 
 -- The next packet is a full one, unless it is the last.
-unfoldable pub sent_of : ClientSession → Kind → List ℕ → ℕ → Done Sent
+unfoldable pub sent_of : ClientSession → Kind → List ℕ → ℕ → Effect Sent
 sent_of s kind left packets =
     if nat_le (length left) (room s)
-        then record {
-          answer = sents.Last;
-          session = with_stage s Reading;
-          bytes = packet_bytes kind (end_bit true + mark_bit packets s.heard.mark) packets left;
-        }
-        else record {
-          answer = sents.More;
-          session = with_stage s (Sending kind (drop (room s) left) (packets + 1));
-          bytes = packet_bytes kind (end_bit false + mark_bit packets s.heard.mark) packets (take (room s) left);
-        }
+    then record {
+      answer = sents.Last;
+      session = with_stage s Reading;
+      bytes = packet_bytes kind (end_bit true + mark_bit packets s.heard.mark) packets left;
+    }
+    else record {
+      answer = sents.More;
+      session = with_stage s (Sending kind (drop (room s) left) (packets + 1));
+      bytes = packet_bytes kind (end_bit false + mark_bit packets s.heard.mark) packets (take (room s) left);
+    }
 
-abbrev pub sent_in : ClientSession → Stage → Result (Done Sent) ClientRefusal
+abbrev pub sent_in : ClientSession → Stage → Result (Effect Sent) ClientRefusal
 sent_in s Idle = Err refusals.NotSending
 sent_in s (Sending kind left packets) = Ok (sent_of s kind left packets)
 sent_in s Reading = Err refusals.NotSending
@@ -65,20 +65,20 @@ sent_in s Cancelling = Err refusals.NotSending
 sent_in s (Broken fault) = Err refusals.Broken
 
 -- Sending, want of memory aside.
-abbrev pub sent : ClientSession → Result (Done Sent) ClientRefusal
+abbrev pub sent : ClientSession → Result (Effect Sent) ClientRefusal
 sent s = sent_in s s.stage
 
 -- ---- Cancelling
 
 -- A request of which nothing is out is forgotten. One that is out in part is ended by a packet that is ignored, and the
 -- attention stands behind that.
-unfoldable pub cancelled_sending : ClientSession → Kind → ℕ → Done Cancelled
+unfoldable pub cancelled_sending : ClientSession → Kind → ℕ → Effect Cancelled
 cancelled_sending s kind packets =
     if packets == 0
-        then record { answer = cancels.Unsent; session = with_stage s Idle; bytes = [] }
-        else record { answer = cancels.Asked; session = with_stage s Cancelling; bytes = ignore kind packets ++ attention }
+    then record { answer = cancels.Unsent; session = with_stage s Idle; bytes = [] }
+    else record { answer = cancels.Asked; session = with_stage s Cancelling; bytes = ignore kind packets ++ attention }
 
-abbrev pub cancelled_in : ClientSession → Stage → Result (Done Cancelled) ClientRefusal
+abbrev pub cancelled_in : ClientSession → Stage → Result (Effect Cancelled) ClientRefusal
 cancelled_in s Idle = Ok (record { answer = cancels.Nothing; session = s; bytes = [] })
 cancelled_in s (Sending kind left packets) = Ok (cancelled_sending s kind packets)
 cancelled_in s Reading = Ok (record { answer = cancels.Asked; session = with_stage s Cancelling; bytes = attention })
@@ -86,13 +86,13 @@ cancelled_in s Cancelling = Ok (record { answer = cancels.Already; session = s; 
 cancelled_in s (Broken fault) = Err refusals.Broken
 
 -- Cancelling, want of memory aside.
-abbrev pub cancelled : ClientSession → Result (Done Cancelled) ClientRefusal
+abbrev pub cancelled : ClientSession → Result (Effect Cancelled) ClientRefusal
 cancelled s = cancelled_in s s.stage
 
 -- ---- What a call answers
 
 -- What a call did is what it is to do: it answered so, the client is that one, and the bytes are appended.
-abbrev pub Does : {A : Type 0} → Result (Done A) ClientRefusal → A → ClientSession → List ℕ → List ℕ → Type 0
+abbrev pub Does : {A : Type 0} → Result (Effect A) ClientRefusal → A → ClientSession → List ℕ → List ℕ → Type 0
 Does wanted answer session before after =
     (more : List ℕ) × (wanted ≡ Ok (record { answer = answer; session = session; bytes = more })) × (after ≡ before ++ more)
 

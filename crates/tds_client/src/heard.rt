@@ -7,6 +7,7 @@ use tds_token::{EnvChange, TokenRef};
 
 /// The bits of a DONE's status (MS-TDS 2.2.7.6): more follows, and an attention is acknowledged.
 const MORE: u16 = 0x0001;
+
 const ATTENTION: u16 = 0x0020;
 
 /// How the message that comes stands: whether its final DONE has come, and which (MS-TDS 2.2.7.6).

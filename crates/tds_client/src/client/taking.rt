@@ -2,7 +2,8 @@ ghost use Rattle.std.specs.Prelude.{◌≡◌, List, Ok, Err, IfOk, IfErr, OnErr
 ghost use Rattle.tds_packet.specs.declared.kind.Kind.TheVariants.{Answer};
 ghost use Rattle.tds_packet.specs.Layout.{bits_of, has_bit};
 ghost use Rattle.tds_token.specs.declared.token.Token.{Token};
-ghost use Rattle.tds_client.specs.Session.{Reading, Cancelling};
+ghost use Rattle.tds_client.specs.declared.fault.ClientFault.{ClientFault};
+ghost use Rattle.tds_client.specs.Session.{Reading, Cancelling, Broken};
 ghost use Rattle.tds_client.specs.Taking.{Takes, taken, taken_reading, taken_cancelling, broken_by};
 
 use super::{Client, Stage};
@@ -32,6 +33,8 @@ impl Client {
         ensures fault { IfErr result (λ fault. taken self.old (has_bit (bits_of packet.entry.header.status) 1) packet.entry.data.now ≡ Err fault) }
         ensures broken { IfErr result (λ fault. self.new ≡ broken_by self.old fault) }
         ensures nothing { OnErr result (out.new.items ≡ out.old.items) }
+        // A client that is broken stays as it is, and answers the fault that broke it.
+        ensures again { (fault : ClientFault) → self.old.stage ≡ Broken fault → (result ≡ Err fault) × (self.new ≡ self.old) }
     {
         let ends = packet.header.status.ends();
         match &self.stage {

@@ -4,8 +4,14 @@ use super::*;
 fn an_answer_in_parts(rt: HostRuntime) -> Result<(), Fail> {
     let mut client = asked(rt.alloc(), &batch(rt.alloc(), b"say a")?)?;
     let mut told = Vec::new(rt.alloc());
-    assert_eq!(rt; taken(rt.alloc(), &mut client, &SAID, &mut told)?, Taken::More);
-    assert_eq!(rt; taken(rt.alloc(), &mut client, &DONE, &mut told)?, Taken::Finished);
+    assert_eq!(rt;
+        taken(rt.alloc(), &mut client, &SAID, &mut told)?,
+        Taken::More
+    );
+    assert_eq!(rt;
+        taken(rt.alloc(), &mut client, &DONE, &mut told)?,
+        Taken::Finished
+    );
     let [
         Token::Info(message),
         Token::Done { status: 1, .. },
@@ -32,8 +38,14 @@ fn rows_in_two_packets(rt: HostRuntime) -> Result<(), Fail> {
         0x00, 0x00, 0x00, 0x02, 0x00, 0x00, 0x00, 0x00, 0x00, 0x00, 0x00,
     ];
     let mut told = Vec::new(rt.alloc());
-    assert_eq!(rt; taken(rt.alloc(), &mut client, &first, &mut told)?, Taken::More);
-    assert_eq!(rt; taken(rt.alloc(), &mut client, &second, &mut told)?, Taken::Finished);
+    assert_eq!(rt;
+        taken(rt.alloc(), &mut client, &first, &mut told)?,
+        Taken::More
+    );
+    assert_eq!(rt;
+        taken(rt.alloc(), &mut client, &second, &mut told)?,
+        Taken::Finished
+    );
     let [
         Token::Columns(columns),
         Token::Row(five),
@@ -57,20 +69,38 @@ fn an_empty_end(rt: HostRuntime) -> Result<(), Fail> {
     let end = [0x04, 0x01, 0x00, 0x08, 0x00, 0x00, 0x02, 0x00];
     let mut client = asked(rt.alloc(), &batch(rt.alloc(), b"get x")?)?;
     let mut told = Vec::new(rt.alloc());
-    assert_eq!(rt; taken(rt.alloc(), &mut client, &part, &mut told)?, Taken::More);
-    assert_eq!(rt; taken(rt.alloc(), &mut client, &end, &mut told)?, Taken::Finished);
+    assert_eq!(rt;
+        taken(rt.alloc(), &mut client, &part, &mut told)?,
+        Taken::More
+    );
+    assert_eq!(rt;
+        taken(rt.alloc(), &mut client, &end, &mut told)?,
+        Taken::Finished
+    );
     assert_eq!(rt; told.len(), 1);
     // Also where the cancel comes in between: then the answer's end acknowledges nothing.
     start(&mut client, &batch(rt.alloc(), b"get x")?)?;
     let _ = send(rt.alloc(), &mut client)?;
-    assert_eq!(rt; taken(rt.alloc(), &mut client, &part, &mut told)?, Taken::More);
+    assert_eq!(rt;
+        taken(rt.alloc(), &mut client, &part, &mut told)?,
+        Taken::More
+    );
     let _ = cancel(rt.alloc(), &mut client)?;
-    assert_eq!(rt; taken(rt.alloc(), &mut client, &end, &mut told)?, Taken::More);
+    assert_eq!(rt;
+        taken(rt.alloc(), &mut client, &end, &mut told)?,
+        Taken::More
+    );
     assert!(rt; is_cancelling(&client));
     let mut part = ACKNOWLEDGED;
     part[1] = 0;
-    assert_eq!(rt; taken(rt.alloc(), &mut client, &part, &mut told)?, Taken::More);
-    assert_eq!(rt; taken(rt.alloc(), &mut client, &end, &mut told)?, Taken::Acknowledged);
+    assert_eq!(rt;
+        taken(rt.alloc(), &mut client, &part, &mut told)?,
+        Taken::More
+    );
+    assert_eq!(rt;
+        taken(rt.alloc(), &mut client, &end, &mut told)?,
+        Taken::Acknowledged
+    );
     assert_eq!(rt; told.len(), 2);
     Ok(())
 }
@@ -79,13 +109,22 @@ fn an_empty_end(rt: HostRuntime) -> Result<(), Fail> {
 fn cancelled_in_the_middle(rt: HostRuntime) -> Result<(), Fail> {
     let mut client = asked(rt.alloc(), &batch(rt.alloc(), b"say a;say b")?)?;
     let mut told = Vec::new(rt.alloc());
-    assert_eq!(rt; taken(rt.alloc(), &mut client, &SAID, &mut told)?, Taken::More);
+    assert_eq!(rt;
+        taken(rt.alloc(), &mut client, &SAID, &mut told)?,
+        Taken::More
+    );
     let _ = cancel(rt.alloc(), &mut client)?;
     // What was on its way is not told.
-    assert_eq!(rt; taken(rt.alloc(), &mut client, &SAID, &mut told)?, Taken::More);
+    assert_eq!(rt;
+        taken(rt.alloc(), &mut client, &SAID, &mut told)?,
+        Taken::More
+    );
     let mut last = ACKNOWLEDGED;
     last[6] = 3;
-    assert_eq!(rt; taken(rt.alloc(), &mut client, &last, &mut told)?, Taken::Acknowledged);
+    assert_eq!(rt;
+        taken(rt.alloc(), &mut client, &last, &mut told)?,
+        Taken::Acknowledged
+    );
     assert!(rt; is_idle(&client));
     assert_eq!(rt; told.len(), 2);
     Ok(())
@@ -96,8 +135,14 @@ fn answer_and_attention_cross(rt: HostRuntime) -> Result<(), Fail> {
     let mut client = asked(rt.alloc(), &batch(rt.alloc(), b"get x")?)?;
     let _ = cancel(rt.alloc(), &mut client)?;
     let mut told = Vec::new(rt.alloc());
-    assert_eq!(rt; taken(rt.alloc(), &mut client, &GOT, &mut told)?, Taken::More);
-    assert_eq!(rt; taken(rt.alloc(), &mut client, &DONE, &mut told)?, Taken::More);
+    assert_eq!(rt;
+        taken(rt.alloc(), &mut client, &GOT, &mut told)?,
+        Taken::More
+    );
+    assert_eq!(rt;
+        taken(rt.alloc(), &mut client, &DONE, &mut told)?,
+        Taken::More
+    );
     assert!(rt; is_cancelling(&client));
     let answer = taken(rt.alloc(), &mut client, &ACKNOWLEDGED, &mut told)?;
     assert_eq!(rt; answer, Taken::Acknowledged);
@@ -112,7 +157,10 @@ fn a_cancelled_begin_has_begun(rt: HostRuntime) -> Result<(), Fail> {
     let mut client = asked(rt.alloc(), &begin(0)?)?;
     let _ = cancel(rt.alloc(), &mut client)?;
     let mut told = Vec::new(rt.alloc());
-    assert_eq!(rt; taken(rt.alloc(), &mut client, &BEGUN, &mut told)?, Taken::More);
+    assert_eq!(rt;
+        taken(rt.alloc(), &mut client, &BEGUN, &mut told)?,
+        Taken::More
+    );
     let answer = taken(rt.alloc(), &mut client, &ACKNOWLEDGED, &mut told)?;
     assert_eq!(rt; answer, Taken::Acknowledged);
     assert_eq!(rt; client.descriptor(), 1);
@@ -131,7 +179,10 @@ fn a_cancelled_reset(rt: HostRuntime) -> Result<(), Fail> {
         let _ = cancel(rt.alloc(), &mut client)?;
         let mut told = Vec::new(rt.alloc());
         if done {
-            assert_eq!(rt; taken(rt.alloc(), &mut client, &RESET, &mut told)?, Taken::More);
+            assert_eq!(rt;
+                taken(rt.alloc(), &mut client, &RESET, &mut told)?,
+                Taken::More
+            );
         }
         let answer = taken(rt.alloc(), &mut client, &ACKNOWLEDGED, &mut told)?;
         assert_eq!(rt; answer, Taken::Acknowledged);

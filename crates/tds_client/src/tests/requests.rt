@@ -16,7 +16,16 @@ fn a_begin_and_its_answer(rt: HostRuntime) -> Result<(), Fail> {
     assert_eq!(rt; answer, Taken::Finished);
     assert!(rt; is_idle(&client));
     assert_eq!(rt; client.descriptor(), 1);
-    assert!(rt; matches!(told.as_slice(), [Token::Done { status: 0, cur_cmd: 0, rows: 0 }]));
+    assert!(rt;
+        matches!(
+            told.as_slice(),
+            [Token::Done {
+                status: 0,
+                cur_cmd: 0,
+                rows: 0
+            }]
+        )
+    );
     Ok(())
 }
 
@@ -54,7 +63,10 @@ fn a_full_reset_has_no_descriptor(rt: HostRuntime) -> Result<(), Fail> {
     assert_eq!(rt; bytes.as_slice(), batch.as_slice());
     assert_eq!(rt; client.reset_mark(), Some(Reset::Full));
     let mut told = Vec::new(rt.alloc());
-    assert_eq!(rt; taken(rt.alloc(), &mut client, &RESET, &mut told)?, Taken::More);
+    assert_eq!(rt;
+        taken(rt.alloc(), &mut client, &RESET, &mut told)?,
+        Taken::More
+    );
     assert_eq!(rt; client.reset_mark(), None);
     assert_eq!(rt; client.descriptor(), 0);
     assert!(rt; told.is_empty());
@@ -75,14 +87,20 @@ fn a_reset_that_keeps_the_transaction(rt: HostRuntime) -> Result<(), Fail> {
         0x08, 0x00, 0x00, 0x00,
     ];
     assert_eq!(rt; bytes.as_slice(), rollback.as_slice());
-    assert_eq!(rt; taken(rt.alloc(), &mut client, &RESET, &mut told)?, Taken::More);
+    assert_eq!(rt;
+        taken(rt.alloc(), &mut client, &RESET, &mut told)?,
+        Taken::More
+    );
     assert_eq!(rt; client.reset_mark(), None);
     assert_eq!(rt; client.descriptor(), 1);
     let rolled_back = [
         0x04, 0x01, 0x00, 0x23, 0x00, 0x00, 0x02, 0x00, 0xE3, 0x0B, 0x00, 0x0A, 0x00, 0x08, 0x01,
         0x00, 0x00, 0x00, 0x00, 0x00, 0x00, 0x00, 0xFD, 0, 0, 0, 0, 0, 0, 0, 0, 0, 0, 0, 0,
     ];
-    assert_eq!(rt; taken(rt.alloc(), &mut client, &rolled_back, &mut told)?, Taken::Finished);
+    assert_eq!(rt;
+        taken(rt.alloc(), &mut client, &rolled_back, &mut told)?,
+        Taken::Finished
+    );
     assert_eq!(rt; client.descriptor(), 0);
     Ok(())
 }
