@@ -1,5 +1,7 @@
 -- What taking a packet does.
 use Rattle.std.specs.Prelude.{◌≡◌, ℕ, Bool, true, false, List, [], ◌++◌, Option, Some, None, Result, Ok, Err, IsOk}
+use Rattle.tds_packet.specs.declared.reader.PacketRef.{PacketRef}
+use Rattle.tds_packet.specs.Layout.{bits_of, has_bit}
 use Rattle.tds_token.specs.declared.token.Token.{Token}
 use Rattle.tds_token.specs.Told.{told}
 use Rattle.tds_client.specs.declared.fault.ClientFault.{ClientFault}
@@ -32,8 +34,8 @@ abbrev pub read : ClientSession → Bool → Heard → Contents → Took
 read s false heard contents = record { answer = takes.More; session = goes_on s heard contents.columns; tokens = told contents.tokens }
 read s true heard contents = record { answer = takes.Finished; session = ended s Idle heard; tokens = told contents.tokens }
 
--- In cancelling, none is. The attention is acknowledged by the end of a message whose final DONE says so, and by nothing else: the
--- answer that was underway may end before.
+-- In cancelling, none is. The attention is acknowledged by the end of a message whose final DONE says so, and by
+-- nothing else: the answer that was underway may end before.
 abbrev pub skipped_to_end : ClientSession → Heard → FinalDone → Took
 skipped_to_end s heard Awaited = record { answer = takes.More; session = ended s Cancelling heard; tokens = [] }
 skipped_to_end s heard Answered = record { answer = takes.More; session = ended s Cancelling heard; tokens = [] }
@@ -61,6 +63,10 @@ taken_in (Broken fault) s ends bytes = Err fault
 -- Taking a packet of an answer, which ends its message or not, with these data; want of memory aside.
 abbrev pub taken : ClientSession → Bool → List ℕ → Result Took ClientFault
 taken s ends bytes = taken_in s.stage s ends bytes
+
+-- The same, of a packet that is lent.
+abbrev pub taken_of : ClientSession → PacketRef → Result Took ClientFault
+taken_of s packet = taken s (has_bit (bits_of packet.header.status) 1) packet.«data».now
 
 -- A fault breaks the client, and changes nothing else.
 abbrev pub broken_by : ClientSession → ClientFault → ClientSession

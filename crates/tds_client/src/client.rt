@@ -39,9 +39,9 @@ enum Stage {
 /// The client's end of one connection.
 ///
 /// One request is underway at a time. `start` takes it, `send` appends its packets one by one, and
-/// `take` reads its answer. `cancel` asks for the answer's end by an attention (MS-TDS 2.2.1.7), and
-/// the client is idle again once that is acknowledged. A peer's fault breaks the client: every call
-/// is refused from then on, and `take` answers the same fault.
+/// `take` reads its answer. `cancel` asks for the answer's end by an attention (MS-TDS 2.2.1.7),
+/// and the client is idle again once that is acknowledged. A peer's fault breaks the client: every
+/// call is refused from then on, and `take` answers the same fault.
 #[derive(Debug, Drop)]
 pub struct Client {
     size: PacketSize,
@@ -103,8 +103,8 @@ impl Client {
         self.heard.descriptor
     }
 
-    /// The reset that the next request asks for (MS-TDS 2.2.3.1.2). It stands until the server tells
-    /// that a reset is done.
+    /// The reset that the next request asks for (MS-TDS 2.2.3.1.2). It stands until the server
+    /// tells that a reset is done.
     pub fn reset_mark(&self) -> Option<Reset>
         ensures { result ≡ self.now.heard.mark }
     {
@@ -183,7 +183,8 @@ impl Client {
     /// status bit (MS-TDS 2.2.3.1.2).
     #[tactic(auto, unfolding(crate::specs::Sending::sent_of))]
     pub fn send(&mut self, out: &mut Vec<u8>) -> Result<Sent, ClientRefusal>
-        ensures ok { IfOk result (λ answer. Does (sent self.old) answer self.new out.old.items out.new.items) }
+        ensures ok { IfOk result (λ answer.
+            Does (sent self.old) answer self.new out.old.items out.new.items) }
         ensures refused { IfErr result (IsRefusal (refusal_of (sent self.old))) }
         ensures err { OnErr result (self.new ≡ self.old) }
         ensures nothing { OnErr result (out.new.items ≡ out.old.items) }
@@ -220,9 +221,11 @@ impl Client {
     /// Memory is wanted only where something is appended.
     #[tactic(auto, unfolding(crate::specs::Sending::cancelled_sending))]
     pub fn cancel(&mut self, out: &mut Vec<u8>) -> Result<Cancelled, ClientRefusal>
-        ensures ok { IfOk result (λ answer. Does (cancelled self.old) answer self.new out.old.items out.new.items) }
+        ensures ok { IfOk result (λ answer.
+            Does (cancelled self.old) answer self.new out.old.items out.new.items) }
         ensures refused { IfErr result (IsRefusal (refusal_of (cancelled self.old))) }
-        ensures memory { result ≡ Err ClientRefusal.Memory → IfOk (cancelled self.old) (λ wanted. wanted.answer ≡ Cancelled.Asked) }
+        ensures memory { result ≡ Err ClientRefusal.Memory
+            → IfOk (cancelled self.old) (λ wanted. wanted.answer ≡ Cancelled.Asked) }
         ensures err { OnErr result (self.new ≡ self.old) }
         ensures nothing { OnErr result (out.new.items ≡ out.old.items) }
     {

@@ -13,7 +13,7 @@ const ATTENTION: u16 = 0x0020;
 /// How the message that comes stands: whether its final DONE has come, and which (MS-TDS 2.2.7.6).
 /// A DONE is final when its bit `0001` is clear.
 #[derive(Clone, Copy, PartialEq, Eq, Debug)]
-pub enum FinalDone {
+pub(crate) enum FinalDone {
     /// It has not come.
     Awaited,
     /// It ended an answer.

@@ -12,8 +12,10 @@ ghost use Rattle.tds_client.specs.Marks.{mark_behind};
 /// other, and the mark is what the changes leave of it: the end of a reset clears it, and nothing
 /// else does.
 pub fn changes_apply()
-    ensures descriptor { (cancelling : Bool) (heard next : Heard) (tokens : List Token) → hear_all cancelling heard tokens ≡ Ok next
+    ensures descriptor { (cancelling : Bool) (heard next : Heard) (tokens : List Token)
+        → hear_all cancelling heard tokens ≡ Ok next
         → applied (reset_effect heard.mark) heard.descriptor (changes_of tokens) ≡ Some next.descriptor }
-    ensures mark { (cancelling : Bool) (heard next : Heard) (tokens : List Token) → hear_all cancelling heard tokens ≡ Ok next
+    ensures mark { (cancelling : Bool) (heard next : Heard) (tokens : List Token)
+        → hear_all cancelling heard tokens ≡ Ok next
         → next.mark ≡ mark_behind (changes_of tokens) heard.mark }
 {}

@@ -1,6 +1,7 @@
 ghost use Rattle.std.specs.Prelude.{◌≡◌, ◌+◌, ◌≤◌, ◌<◌, ◌^◌, ◌++◌, OnOk, OnErr, length};
 ghost use Rattle.tds_packet.specs.Layout.{bits_of};
-ghost use Rattle.tds_client.specs.Packets.{packet_bytes, end_bit, mark_bit, reset_bit, packet_kind, attention, ignore};
+ghost use Rattle.tds_client.specs.Packets.{packet_bytes, packet_kind};
+ghost use Rattle.tds_client.specs.Packets.{end_bit, mark_bit, reset_bit, attention, ignore};
 
 use crate::NoMemory;
 use bitflags::Flags;
@@ -54,7 +55,8 @@ pub(crate) fn put(
 ) -> Result<(), NoMemory>
     requires length { length data.now ≤ 32759 }
     requires before { before < 2 ^ 63 }
-    ensures ok { OnOk result (out.new.items ≡ out.old.items ++ packet_bytes kind (bits_of status) before data.now) }
+    ensures ok { OnOk result
+        (out.new.items ≡ out.old.items ++ packet_bytes kind (bits_of status) before data.now) }
     ensures err { OnErr result (out.new.items ≡ out.old.items) }
 {
     let header = Header {

@@ -20,7 +20,8 @@ fn hear_data(
     columns: Columns,
     data: &[u8],
 ) -> Result<(Heard, Columns), ClientFault>
-    ensures heard { MatchResult result (λ x. hear_contents cancelling heard (contents_of columns data.now) ≡ Ok x.0)
+    ensures heard { MatchResult result
+        (λ x. hear_contents cancelling heard (contents_of columns data.now) ≡ Ok x.0)
         (λ fault. hear_contents cancelling heard (contents_of columns data.now) ≡ Err fault) }
     ensures columns { IfOk result (λ x. x.1 ≡ (contents_of columns data.now).columns) }
 {
@@ -44,7 +45,8 @@ pub(crate) fn hear_packet(
     ends: bool,
     data: &[u8],
 ) -> Result<(Heard, Columns), ClientFault>
-    ensures heard { MatchResult result (λ x. hear_packet cancelling heard ends (contents_of columns data.now) ≡ Ok x.0)
+    ensures heard { MatchResult result
+        (λ x. hear_packet cancelling heard ends (contents_of columns data.now) ≡ Ok x.0)
         (λ fault. hear_packet cancelling heard ends (contents_of columns data.now) ≡ Err fault) }
     ensures columns { IfOk result (λ x. x.1 ≡ (contents_of columns data.now).columns) }
 {
@@ -67,7 +69,8 @@ pub(crate) fn put_told(
     data: &[u8],
     out: &mut Vec<Token>,
 ) -> Result<(), NoMemory>
-    ensures ok { OnOk result (out.new.items ≡ out.old.items ++ told (contents_of columns data.now).tokens) }
+    ensures ok { OnOk result
+        (out.new.items ≡ out.old.items ++ told (contents_of columns data.now).tokens) }
     ensures kept { take (length out.old.items) out.new.items ≡ out.old.items }
 {
     let mut tokens = Tokens::new(data, columns);

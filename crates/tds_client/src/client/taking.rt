@@ -1,10 +1,9 @@
 ghost use Rattle.std.specs.Prelude.{◌≡◌, List, Ok, Err, IfOk, IfErr, OnErr};
 ghost use Rattle.tds_packet.specs.declared.kind.Kind.TheVariants.{Answer};
-ghost use Rattle.tds_packet.specs.Layout.{bits_of, has_bit};
 ghost use Rattle.tds_token.specs.declared.token.Token.{Token};
 ghost use Rattle.tds_client.specs.declared.fault.ClientFault.{ClientFault};
 ghost use Rattle.tds_client.specs.Session.{Reading, Cancelling, Broken};
-ghost use Rattle.tds_client.specs.Taking.{Takes, taken, taken_reading, taken_cancelling, broken_by};
+ghost use Rattle.tds_client.specs.Taking.{Takes, taken_of, taken_reading, taken_cancelling, broken_by};
 
 use super::{Client, Stage};
 use crate::fault::ClientFault;
@@ -29,12 +28,15 @@ impl Client {
         out: &mut Vec<Token>,
     ) -> Result<Taken, ClientFault>
         requires { packet.header.kind ≡ Answer }
-        ensures taken { IfOk result (λ answer. Takes (taken self.old (has_bit (bits_of packet.entry.header.status) 1) packet.entry.data.now) answer self.old self.new out.old.items out.new.items) }
-        ensures fault { IfErr result (λ fault. taken self.old (has_bit (bits_of packet.entry.header.status) 1) packet.entry.data.now ≡ Err fault) }
+        ensures taken { IfOk result (λ answer.
+            Takes (taken_of self.old packet.entry) answer self.old self.new
+            out.old.items out.new.items) }
+        ensures fault { IfErr result (λ fault. taken_of self.old packet.entry ≡ Err fault) }
         ensures broken { IfErr result (λ fault. self.new ≡ broken_by self.old fault) }
         ensures nothing { OnErr result (out.new.items ≡ out.old.items) }
         // A client that is broken stays as it is, and answers the fault that broke it.
-        ensures again { (fault : ClientFault) → self.old.stage ≡ Broken fault → (result ≡ Err fault) × (self.new ≡ self.old) }
+        ensures again { (fault : ClientFault) → self.old.stage ≡ Broken fault
+            → (result ≡ Err fault) × (self.new ≡ self.old) }
     {
         let ends = packet.header.status.ends();
         match &self.stage {
@@ -66,7 +68,9 @@ impl Client {
         out: &mut Vec<Token>,
     ) -> Result<Taken, ClientFault>
         requires { self.old.stage ≡ Reading }
-        ensures taken { IfOk result (λ answer. Takes (taken_reading self.old ends data.now) answer self.old self.new out.old.items out.new.items) }
+        ensures taken { IfOk result (λ answer.
+            Takes (taken_reading self.old ends data.now) answer self.old self.new
+            out.old.items out.new.items) }
         ensures fault { IfErr result (λ fault. taken_reading self.old ends data.now ≡ Err fault) }
         ensures broken { IfErr result (λ fault. self.new ≡ broken_by self.old fault) }
         ensures nothing { OnErr result (out.new.items ≡ out.old.items) }
@@ -95,8 +99,11 @@ impl Client {
     #[tactic(auto, unfolding(crate::specs::Taking::taken_cancelling))]
     fn take_cancelling(&mut self, ends: bool, data: &[u8]) -> Result<Taken, ClientFault>
         requires { self.old.stage ≡ Cancelling }
-        ensures taken { (tokens : List Token) → IfOk result (λ answer. Takes (taken_cancelling self.old ends data.now) answer self.old self.new tokens tokens) }
-        ensures fault { IfErr result (λ fault. taken_cancelling self.old ends data.now ≡ Err fault) }
+        ensures taken { (tokens : List Token) → IfOk result (λ answer.
+            Takes (taken_cancelling self.old ends data.now) answer self.old self.new
+            tokens tokens) }
+        ensures fault { IfErr result (λ fault.
+            taken_cancelling self.old ends data.now ≡ Err fault) }
         ensures broken { IfErr result (λ fault. self.new ≡ broken_by self.old fault) }
     {
         let (heard, columns) = match hear_packet(true, self.heard, self.columns, ends, data) {
