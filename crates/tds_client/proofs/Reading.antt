@@ -1,5 +1,5 @@
 -- One answer of a reader of tokens.
-use Rattle.std.proofs.Common.{◌≡◌, ℕ, List, [], Option, Some, None, Result, Ok, Err, ap, ◌∙◌}
+use Rattle.std.proofs.Common.{◌≡◌, ℕ, List, [], Option, Some, Result, Ok, Err, ap, ◌∙◌}
 use Rattle.tds_token.specs.declared.fault.TokenFault.{TokenFault}
 use Rattle.tds_token.specs.declared.token.TokenRef.{TokenRef}
 use Rattle.tds_token.specs.Layout.{token_of}

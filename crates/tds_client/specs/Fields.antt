@@ -2,7 +2,6 @@
 use Rattle.std.specs.Prelude.{ℕ, ◌≤◌, List, length, drop}
 use Rattle.tds_client.specs.declared.client.Stage.{Stage}
 use Rattle.tds_client.specs.declared.client.Stage.TheVariants as stages
-use Rattle.tds_client.specs.declared.client.Outgoing.{Outgoing}
 use Rattle.tds_client.specs.declared.client.Client.TheInside.{Inside}
 use Rattle.tds_client.specs.Session as session
 

@@ -1,5 +1,5 @@
 -- What taking a packet does.
-use Rattle.std.specs.Prelude.{◌≡◌, ℕ, Bool, true, false, List, [], ◌++◌, Option, Some, None, Result, Ok, Err, IsOk}
+use Rattle.std.specs.Prelude.{◌≡◌, ℕ, Bool, true, false, List, [], ◌++◌, Option, None, Result, Ok, Err, IsOk}
 use Rattle.tds_packet.specs.declared.reader.PacketRef.{PacketRef}
 use Rattle.tds_packet.specs.Layout.{bits_of, has_bit}
 use Rattle.tds_token.specs.declared.token.Token.{Token}
