@@ -1,0 +1,5 @@
+mod Examples
+pub mod Joined
+pub mod Settings
+pub mod Writing
+pub mod Remaining
