@@ -1,5 +1,5 @@
 -- Reports and their texts, computed.
-use Rattle.std.specs.Prelude.{◌≡◌, refl, ℕ, pos, negsuc, List, [], ◌∷◌, ◌++◌, true, false, Some, None, replicate, codes}
+use Rattle.std.specs.Prelude.{◌≡◌, refl, ℕ, pos, negsuc, List, [], ◌∷◌, ◌++◌, true, false, Some, None, codes}
 use Rattle.std.specs.Fmt.{digits}
 use Rattle.tds_packet.specs.declared.status.Reset.TheVariants as reset
 use Rattle.tds_session.specs.Session.{SessionState, no_settings, with_value, new_session}

@@ -1,9 +1,7 @@
 -- The settings of a session, one key more.
-use Rattle.std.proofs.Common.{◌≡◌, ◌<◌, ◌+◌, ℕ, List, [], ◌∷◌, ◌++◌, length, Option, Some, None, take, get_or, refl, ap, sym, ◌∙◌, arith, ℤ, length-take, append-nil}
+use Rattle.std.proofs.Common.{◌≡◌, ◌<◌, ◌+◌, ℕ, List, [], ◌∷◌, ◌++◌, length, Option, Some, None, take, get_or, refl, ap, ◌∙◌, arith, ℤ, length-take, append-nil}
 use Rattle.std.proofs.lemmas.List.{take_more}
-use Rattle.tds_play.specs.Texts.{with_commas, comma_behind}
 use Rattle.tds_play.specs.Sessions.{setting_text, settings_from}
-use Rattle.tds_play.proofs.Joined.{joined_more}
 
 -- the settings of keys, and of one key more
 settings_on : (key n : ℕ) (xs ys : List (Option ℤ)) → n ≡ key + length xs → settings_from key (xs ++ ys) ≡ settings_from key xs ++ settings_from n ys

@@ -5,3 +5,6 @@ pub mod Sessions
 pub mod Lines
 pub mod Written
 pub mod Faults
+pub mod Fields
+pub mod Events
+pub mod Schedule

@@ -1,5 +1,5 @@
 -- How texts, numbers and lists of them stand in a report.
-use Rattle.std.specs.Prelude.{ℕ, zero, suc, ◌+◌, ◌/◌, ◌%◌, List, [], ◌∷◌, ◌++◌, map, flat_map, Bool, ◌&&◌, not, ◌==◌, nat_le, nat_lt, if◌then◌else◌, codes}
+use Rattle.std.specs.Prelude.{ℕ, zero, suc, ◌+◌, ◌/◌, ◌%◌, List, [], ◌∷◌, ◌++◌, flat_map, Bool, ◌&&◌, not, ◌==◌, nat_le, nat_lt, if◌then◌else◌, codes}
 use Rattle.std.specs.List.{join_with_byte}
 
 -- Each line ends with a line feed.

@@ -3,8 +3,10 @@
 #![tactic(auto)]
 
 mod rendering;
+mod schedule;
 
 pub use rendering::{RenderFault, render};
+pub use schedule::{ScheduleFault, read_schedule};
 
 /// The answer of a growth that was refused.
 pub type NoMemory = std::alloc::AllocError;

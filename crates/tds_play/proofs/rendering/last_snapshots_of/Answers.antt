@@ -1,4 +1,4 @@
-use Rattle.std.proofs.Common.{◌≡◌, ◌-◌, ◌+◌, length, ◌∙◌, sym, arith}
+use Rattle.std.proofs.Common.{◌≡◌, ◌-◌, ◌+◌, length, arith}
 use Rattle.tds_play.proofs.Remaining.{last_of}
 use Rattle.tds_play.proofs.rendering.last_snapshots_of.Goals as goal
 

@@ -1,5 +1,4 @@
-use Rattle.std.proofs.Common.{◌≡◌, ◌<◌, ◌+◌, ◌++◌, ◌∷◌, [], ◌∙◌, sym, ap, List, ℕ, string_bytes, take, length, length-append, arith}
-use Rattle.tds_play.specs.Texts.{with_commas}
+use Rattle.std.proofs.Common.{◌≡◌, ◌<◌, ◌+◌, ◌++◌, ◌∷◌, [], ◌∙◌, string_bytes, take, length, length-append, arith}
 use Rattle.tds_play.specs.Sessions.{setting_text, settings_from}
 use Rattle.tds_play.proofs.Joined.{counted_more}
 use Rattle.tds_play.proofs.Settings.{none_more, some_more}

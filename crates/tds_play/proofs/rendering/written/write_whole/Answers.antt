@@ -1,4 +1,4 @@
-use Rattle.std.proofs.Common.{drop, take, sym}
+use Rattle.std.proofs.Common.{drop, take}
 use Rattle.std.proofs.lemmas.List.{take_rest, take-append-drop}
 use Rattle.tds_play.proofs.Writing.{one_more}
 use Rattle.tds_play.proofs.rendering.written.write_whole.Goals as goal
