@@ -6,3 +6,5 @@ pub mod Remaining
 pub mod FieldCounts
 pub mod Utf16
 pub mod Batches
+pub mod Judged
+mod ScheduleExamples

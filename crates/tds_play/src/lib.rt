@@ -6,7 +6,10 @@ mod rendering;
 mod schedule;
 
 pub use rendering::{RenderFault, render};
-pub use schedule::{ScheduleFault, read_schedule};
+pub use schedule::{ScheduleFault, read_schedule, right_or_wrong_somewhere};
 
 /// The answer of a growth that was refused.
 pub type NoMemory = std::alloc::AllocError;
+
+#[cfg(test)]
+mod tests;

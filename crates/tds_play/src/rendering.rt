@@ -22,8 +22,10 @@ use written::write_whole;
 
 /// Writes the text of a report, line by line. After a fault a beginning of the text went out.
 pub fn render<W: Write>(alloc: Global, report: &Report, writer: &mut W) -> Result<(), RenderFault>
-    ensures ok { OnOk result (Appends (W.contents writer.old) (W.contents writer.new) (text_of report.now)) }
-    ensures fault { OnErr result (WritesBeginning (W.contents writer.old) (W.contents writer.new) (text_of report.now)) }
+    ensures ok { OnOk result
+        (Appends (W.contents writer.old) (W.contents writer.new) (text_of report.now)) }
+    ensures fault { OnErr result
+        (WritesBeginning (W.contents writer.old) (W.contents writer.new) (text_of report.now)) }
 {
     let mut line = String::new(alloc);
     let events = report.events.as_slice();
@@ -46,8 +48,11 @@ fn write_events<W: Write>(
     line: &mut String,
     events: &[EventReport],
 ) -> Result<(), RenderFault>
-    ensures ok { OnOk result (Appends (W.contents writer.old) (W.contents writer.new) (event_lines 1 events.now)) }
-    ensures fault { OnErr result (WritesBeginning (W.contents writer.old) (W.contents writer.new) (event_lines 1 events.now)) }
+    ensures ok { OnOk result
+        (Appends (W.contents writer.old) (W.contents writer.new) (event_lines 1 events.now)) }
+    ensures fault { OnErr result
+        (WritesBeginning (W.contents writer.old) (W.contents writer.new)
+        (event_lines 1 events.now)) }
 {
     for (index, event) in events.iter().enumerate() {
         write_event(writer, line, index + 1, event)?;
@@ -61,8 +66,11 @@ fn write_event<W: Write>(
     place: usize,
     event: &EventReport,
 ) -> Result<(), RenderFault>
-    ensures ok { OnOk result (Appends (W.contents writer.old) (W.contents writer.new) (event_line place event.now)) }
-    ensures fault { OnErr result (WritesBeginning (W.contents writer.old) (W.contents writer.new) (event_line place event.now)) }
+    ensures ok { OnOk result
+        (Appends (W.contents writer.old) (W.contents writer.new) (event_line place event.now)) }
+    ensures fault { OnErr result
+        (WritesBeginning (W.contents writer.old) (W.contents writer.new)
+        (event_line place event.now)) }
 {
     line.clear();
     put_event(line, place, event)?;
@@ -74,8 +82,11 @@ fn write_requests<W: Write>(
     line: &mut String,
     requests: &[RequestReport],
 ) -> Result<(), RenderFault>
-    ensures ok { OnOk result (Appends (W.contents writer.old) (W.contents writer.new) (request_blocks 1 requests.now)) }
-    ensures fault { OnErr result (WritesBeginning (W.contents writer.old) (W.contents writer.new) (request_blocks 1 requests.now)) }
+    ensures ok { OnOk result
+        (Appends (W.contents writer.old) (W.contents writer.new) (request_blocks 1 requests.now)) }
+    ensures fault { OnErr result
+        (WritesBeginning (W.contents writer.old) (W.contents writer.new)
+        (request_blocks 1 requests.now)) }
 {
     for (index, request) in requests.iter().enumerate() {
         write_request(writer, line, index + 1, request)?;
@@ -89,8 +100,12 @@ fn write_request<W: Write>(
     number: usize,
     request: &RequestReport,
 ) -> Result<(), RenderFault>
-    ensures ok { OnOk result (Appends (W.contents writer.old) (W.contents writer.new) (request_block number request.now)) }
-    ensures fault { OnErr result (WritesBeginning (W.contents writer.old) (W.contents writer.new) (request_block number request.now)) }
+    ensures ok { OnOk result
+        (Appends (W.contents writer.old) (W.contents writer.new)
+        (request_block number request.now)) }
+    ensures fault { OnErr result
+        (WritesBeginning (W.contents writer.old) (W.contents writer.new)
+        (request_block number request.now)) }
 {
     line.clear();
     put_request(line, number, request)?;
@@ -102,8 +117,12 @@ fn write_connections<W: Write>(
     line: &mut String,
     snapshots: &[Snapshot],
 ) -> Result<(), RenderFault>
-    ensures ok { OnOk result (Appends (W.contents writer.old) (W.contents writer.new) (flat_map connection_line snapshots.now)) }
-    ensures fault { OnErr result (WritesBeginning (W.contents writer.old) (W.contents writer.new) (flat_map connection_line snapshots.now)) }
+    ensures ok { OnOk result
+        (Appends (W.contents writer.old) (W.contents writer.new)
+        (flat_map connection_line snapshots.now)) }
+    ensures fault { OnErr result
+        (WritesBeginning (W.contents writer.old) (W.contents writer.new)
+        (flat_map connection_line snapshots.now)) }
 {
     for snapshot in snapshots {
         write_connection(writer, line, snapshot)?;
@@ -116,8 +135,11 @@ fn write_connection<W: Write>(
     line: &mut String,
     snapshot: &Snapshot,
 ) -> Result<(), RenderFault>
-    ensures ok { OnOk result (Appends (W.contents writer.old) (W.contents writer.new) (connection_line snapshot.now)) }
-    ensures fault { OnErr result (WritesBeginning (W.contents writer.old) (W.contents writer.new) (connection_line snapshot.now)) }
+    ensures ok { OnOk result
+        (Appends (W.contents writer.old) (W.contents writer.new) (connection_line snapshot.now)) }
+    ensures fault { OnErr result
+        (WritesBeginning (W.contents writer.old) (W.contents writer.new)
+        (connection_line snapshot.now)) }
 {
     line.clear();
     put_connection(line, snapshot)?;

@@ -7,10 +7,12 @@ ghost use Rattle.tds_play.specs.Schedule.{IsJson, IsSchedule, has_four_keys, is_
 mod event;
 mod fault;
 mod fields;
+mod laws;
 mod word;
 
 use event::read_event;
 pub use fault::ScheduleFault;
+pub use laws::right_or_wrong_somewhere;
 use serde_json::Value;
 use std::alloc::Global;
 use tds_world::{Event, Setup};
@@ -20,8 +22,11 @@ use tds_world::{Event, Setup};
 /// schedule, or the fault tells the first wrong place: 0 outside the events, which are looked at
 /// after it, in order, from 1.
 pub fn read_schedule(alloc: Global, bytes: &[u8]) -> Result<(Setup, Vec<Event>), ScheduleFault>
-    ensures ok { IfOk result (λ found. (value : Data) × IsJson bytes.now value × IsSchedule value found.0 found.1.items) }
-    ensures wrong { (place : ℕ) → IsErrOf result (ScheduleFault.Wrong place) → (value : Data) × IsJson bytes.now value × (wrong_place value ≡ Some place) }
+    ensures ok { IfOk result
+        (λ found. (value : Data) × IsJson bytes.now value
+        × IsSchedule value found.0 found.1.items) }
+    ensures wrong { (place : ℕ) → IsErrOf result (ScheduleFault.Wrong place)
+        → (value : Data) × IsJson bytes.now value × (wrong_place value ≡ Some place) }
     ensures json { IsErrOf result ScheduleFault.Json → (value : Data) → ¬ IsJson bytes.now value }
 {
     let value = match Value::from_slice(alloc, bytes) {
@@ -34,7 +39,8 @@ pub fn read_schedule(alloc: Global, bytes: &[u8]) -> Result<(Setup, Vec<Event>),
 
 fn read_value(alloc: Global, value: &Value) -> Result<(Setup, Vec<Event>), ScheduleFault>
     ensures ok { IfOk result (λ found. IsSchedule (view value.now) found.0 found.1.items) }
-    ensures wrong { (place : ℕ) → IsErrOf result (ScheduleFault.Wrong place) → wrong_place (view value.now) ≡ Some place }
+    ensures wrong { (place : ℕ) → IsErrOf result (ScheduleFault.Wrong place)
+        → wrong_place (view value.now) ≡ Some place }
     ensures json { ¬ IsErrOf result ScheduleFault.Json }
 {
     match read_outer(value) {
@@ -44,7 +50,8 @@ fn read_value(alloc: Global, value: &Value) -> Result<(Setup, Vec<Event>), Sched
 }
 
 fn read_outer(value: &Value) -> Option<(Setup, &[Value])>
-    ensures { option_map (λ found. (found.0, items_view found.1.now)) result ≡ outer_of (view value.now) }
+    ensures { option_map (λ found. (found.0, items_view found.1.now)) result
+        ≡ outer_of (view value.now) }
 {
     if !is_version_1(value) {
         return None;
@@ -87,7 +94,8 @@ fn read_values(value: &Value) -> Option<&[Value]>
 
 fn read_events(alloc: Global, values: &[Value]) -> Result<Vec<Event>, ScheduleFault>
     ensures ok { IfOk result (λ events. events_of (items_view values.now) ≡ Some events.items) }
-    ensures wrong { (place : ℕ) → IsErrOf result (ScheduleFault.Wrong place) → wrong_event 1 (items_view values.now) ≡ Some place }
+    ensures wrong { (place : ℕ) → IsErrOf result (ScheduleFault.Wrong place)
+        → wrong_event 1 (items_view values.now) ≡ Some place }
     ensures json { ¬ IsErrOf result ScheduleFault.Json }
 {
     let mut events = Vec::new(alloc);

@@ -16,7 +16,8 @@ pub(crate) fn put_event(
     place: usize,
     event: &EventReport,
 ) -> Result<(), AllocError>
-    ensures { OnOk result (string_bytes text.new ≡ string_bytes text.old ++ event_line place event.now) }
+    ensures { OnOk result
+        (string_bytes text.new ≡ string_bytes text.old ++ event_line place event.now) }
 {
     write!(text, "{place} ")?;
     put_outcome(text, event.outcome)?;
@@ -32,7 +33,8 @@ pub(crate) fn put_request(
     number: usize,
     request: &RequestReport,
 ) -> Result<(), AllocError>
-    ensures { OnOk result (string_bytes text.new ≡ string_bytes text.old ++ request_block number request.now) }
+    ensures { OnOk result
+        (string_bytes text.new ≡ string_bytes text.old ++ request_block number request.now) }
 {
     put_request_line(text, number, request)?;
     for token in request.tokens.as_slice() {
@@ -46,7 +48,8 @@ fn put_request_line(
     number: usize,
     request: &RequestReport,
 ) -> Result<(), AllocError>
-    ensures { OnOk result (string_bytes text.new ≡ string_bytes text.old ++ request_line number request.now) }
+    ensures { OnOk result
+        (string_bytes text.new ≡ string_bytes text.old ++ request_line number request.now) }
 {
     put_request_head(text, number, request)?;
     write!(text, " {} ", status_word_of(request.status))?;
@@ -60,7 +63,8 @@ fn put_request_head(
     number: usize,
     request: &RequestReport,
 ) -> Result<(), AllocError>
-    ensures { OnOk result (string_bytes text.new ≡ string_bytes text.old ++ request_head number request.now) }
+    ensures { OnOk result
+        (string_bytes text.new ≡ string_bytes text.old ++ request_head number request.now) }
 {
     let RequestReport { lease, conn, .. } = request;
     write!(text, "request {number} lease {lease} on {conn}")
@@ -80,7 +84,8 @@ fn put_ran(text: &mut String, ran: &Option<Session>) -> Result<(), AllocError>
 
 /// Appends the line of a connection.
 pub(crate) fn put_connection(text: &mut String, snapshot: &Snapshot) -> Result<(), AllocError>
-    ensures { OnOk result (string_bytes text.new ≡ string_bytes text.old ++ connection_line snapshot.now) }
+    ensures { OnOk result
+        (string_bytes text.new ≡ string_bytes text.old ++ connection_line snapshot.now) }
 {
     put_connection_head(text, snapshot)?;
     text.push_str(" ")?;
@@ -94,7 +99,8 @@ pub(crate) fn put_connection(text: &mut String, snapshot: &Snapshot) -> Result<(
 
 #[tactic(auto, unfolding(crate::specs::Lines::connection_head))]
 fn put_connection_head(text: &mut String, snapshot: &Snapshot) -> Result<(), AllocError>
-    ensures { OnOk result (string_bytes text.new ≡ string_bytes text.old ++ connection_head snapshot.now) }
+    ensures { OnOk result
+        (string_bytes text.new ≡ string_bytes text.old ++ connection_head snapshot.now) }
 {
     let Snapshot { conn, client, .. } = snapshot;
     write!(text, "connection {conn} {}", client_word_of(*client))
@@ -102,7 +108,8 @@ fn put_connection_head(text: &mut String, snapshot: &Snapshot) -> Result<(), All
 
 #[tactic(auto, unfolding(crate::specs::Lines::client_text))]
 fn put_client(text: &mut String, snapshot: &Snapshot) -> Result<(), AllocError>
-    ensures { OnOk result (string_bytes text.new ≡ string_bytes text.old ++ client_text snapshot.now) }
+    ensures { OnOk result
+        (string_bytes text.new ≡ string_bytes text.old ++ client_text snapshot.now) }
 {
     let descriptor = snapshot.descriptor;
     write!(
@@ -114,7 +121,8 @@ fn put_client(text: &mut String, snapshot: &Snapshot) -> Result<(), AllocError>
 
 #[tactic(auto, unfolding(crate::specs::Lines::underway_text))]
 fn put_underway(text: &mut String, snapshot: &Snapshot) -> Result<(), AllocError>
-    ensures { OnOk result (string_bytes text.new ≡ string_bytes text.old ++ underway_text snapshot.now) }
+    ensures { OnOk result
+        (string_bytes text.new ≡ string_bytes text.old ++ underway_text snapshot.now) }
 {
     let Snapshot {
         to_server,

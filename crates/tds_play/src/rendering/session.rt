@@ -10,7 +10,8 @@ use tds_session::Session;
 /// Appends a session: its descriptor, and its settings by rising key.
 #[tactic(auto, unfolding(crate::specs::Sessions::session_text))]
 pub(crate) fn put_session(text: &mut String, session: &Session) -> Result<(), AllocError>
-    ensures { OnOk result (string_bytes text.new ≡ string_bytes text.old ++ session_text session.now) }
+    ensures { OnOk result
+        (string_bytes text.new ≡ string_bytes text.old ++ session_text session.now) }
 {
     let descriptor = session.descriptor();
     write!(text, "{descriptor} ")?;
@@ -18,7 +19,8 @@ pub(crate) fn put_session(text: &mut String, session: &Session) -> Result<(), Al
 }
 
 fn put_settings(text: &mut String, settings: &[Option<i32>; 26]) -> Result<(), AllocError>
-    ensures { OnOk result (string_bytes text.new ≡ string_bytes text.old ++ or_dash (settings_from 97 settings.now)) }
+    ensures { OnOk result
+        (string_bytes text.new ≡ string_bytes text.old ++ or_dash (settings_from 97 settings.now)) }
 {
     let mut count = 0;
     for (index, setting) in settings.iter().enumerate() {
@@ -36,7 +38,8 @@ fn put_settings(text: &mut String, settings: &[Option<i32>; 26]) -> Result<(), A
 
 fn put_setting(text: &mut String, key: u8, value: &i32) -> Result<(), AllocError>
     requires { key < 128 }
-    ensures { OnOk result (string_bytes text.new ≡ string_bytes text.old ++ setting_text key value.now) }
+    ensures { OnOk result
+        (string_bytes text.new ≡ string_bytes text.old ++ setting_text key value.now) }
 {
     text.push(char::from(key))?;
     write!(text, "={value}")

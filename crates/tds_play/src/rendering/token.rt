@@ -42,7 +42,8 @@ pub(crate) fn put_token_line(text: &mut String, token: &Token) -> Result<(), All
 }
 
 fn put_message(text: &mut String, message: &Message) -> Result<(), AllocError>
-    ensures { OnOk result (string_bytes text.new ≡ string_bytes text.old ++ message_text message.now) }
+    ensures { OnOk result
+        (string_bytes text.new ≡ string_bytes text.old ++ message_text message.now) }
 {
     let number = message.number;
     write!(text, "{number} ")?;
@@ -50,7 +51,8 @@ fn put_message(text: &mut String, message: &Message) -> Result<(), AllocError>
 }
 
 fn put_names(text: &mut String, columns: &[Column]) -> Result<(), AllocError>
-    ensures { OnOk result (string_bytes text.new ≡ string_bytes text.old ++ names_text columns.now) }
+    ensures { OnOk result
+        (string_bytes text.new ≡ string_bytes text.old ++ names_text columns.now) }
 {
     for (index, column) in columns.iter().enumerate() {
         put_comma(text, index)?;
@@ -60,7 +62,8 @@ fn put_names(text: &mut String, columns: &[Column]) -> Result<(), AllocError>
 }
 
 fn put_values(text: &mut String, values: &[i32]) -> Result<(), AllocError>
-    ensures { OnOk result (string_bytes text.new ≡ string_bytes text.old ++ values_text values.now) }
+    ensures { OnOk result
+        (string_bytes text.new ≡ string_bytes text.old ++ values_text values.now) }
 {
     for (index, value) in values.iter().enumerate() {
         put_comma(text, index)?;

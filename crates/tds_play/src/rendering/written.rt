@@ -1,4 +1,4 @@
-ghost use Rattle.std.specs.Prelude.{OnOk, OnErr};
+ghost use Rattle.std.specs.Prelude.{IsOkUnless, OnOk, OnErr};
 ghost use Rattle.std.specs.Io.KnownBytes.{Appends};
 ghost use Rattle.tds_play.specs.Written.{WritesBeginning};
 
@@ -8,7 +8,9 @@ use std::io::Write;
 /// Writes a text, by as many calls as it takes.
 pub(crate) fn write_whole<W: Write>(writer: &mut W, text: &str) -> Result<(), RenderFault>
     ensures ok { OnOk result (Appends (W.contents writer.old) (W.contents writer.new) text.now) }
-    ensures fault { OnErr result (WritesBeginning (W.contents writer.old) (W.contents writer.new) text.now) }
+    ensures fault { OnErr result
+        (WritesBeginning (W.contents writer.old) (W.contents writer.new) text.now) }
+    ensures cause { IsOkUnless result RenderFault.Write }
 {
     let mut rest = text.as_bytes();
     while !rest.is_empty() {

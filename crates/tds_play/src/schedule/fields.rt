@@ -62,7 +62,8 @@ pub(crate) fn number_and_text(
 
 /// The two fields, as they stand.
 fn pair(fields: &[Value]) -> Option<(&Value, &Value)>
-    ensures { option_map (λ p. (view p.0.now, view p.1.now)) result ≡ pair_of (items_view fields.now) }
+    ensures { option_map (λ p. (view p.0.now, view p.1.now)) result
+        ≡ pair_of (items_view fields.now) }
 {
     if fields.len() != 2 {
         return None;
