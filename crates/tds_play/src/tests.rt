@@ -1,0 +1,2 @@
+mod rendering;
+mod schedule;

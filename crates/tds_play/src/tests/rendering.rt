@@ -1,0 +1,339 @@
+use crate::{RenderFault, render};
+use std::alloc::{AllocError, Global};
+use std::io;
+use std::io::Write;
+use std::test::Fail;
+use tds_packet::Reset;
+use tds_session::Session;
+use tds_token::{Column, ColumnList, EnvChange, Message, Row, Text, Token};
+use tds_world::{
+    AbandonOutcome, CancelOutcome, ClientView, End, EventReport, GiveBackOutcome, Layer, Opened,
+    Outcome, Place, Refusal, Report, RequestReport, RequestStatus, SendOutcome, Sequence, Snapshot,
+    WorkOutcome,
+};
+
+fn text(alloc: Global, units: &[u16]) -> Result<Text, AllocError> {
+    Ok(Text::new(units.to_vec(alloc)?))
+}
+
+fn message(alloc: Global, number: i32, units: &[u16]) -> Result<Message, AllocError> {
+    Ok(Message {
+        number,
+        state: 1,
+        class: 0,
+        text: text(alloc, units)?,
+        server: text(alloc, &[])?,
+        procedure: text(alloc, &[])?,
+        line: 0,
+    })
+}
+
+fn column(alloc: Global, name: &[u16]) -> Result<Column, AllocError> {
+    Ok(Column {
+        user_type: 0,
+        flags: 0,
+        name: text(alloc, name)?,
+    })
+}
+
+/// An event after which no connection is there.
+fn plain(alloc: Global, outcome: Outcome) -> EventReport {
+    EventReport {
+        outcome,
+        lost: false,
+        snapshots: Sequence::new(Vec::new(alloc)),
+    }
+}
+
+/// A report of events alone, none of them lost.
+fn report_of(alloc: Global, outcomes: &[Outcome]) -> Result<Report, AllocError> {
+    let mut events = Vec::new(alloc);
+    for outcome in outcomes {
+        events.push(plain(alloc, *outcome))?;
+    }
+    Ok(Report {
+        events: Sequence::new(events),
+        requests: Sequence::new(Vec::new(alloc)),
+    })
+}
+
+/// A report of one request, with these tokens.
+fn report_with(alloc: Global, tokens: Vec<Token>) -> Result<Report, AllocError> {
+    let mut requests = Vec::new(alloc);
+    requests.push(RequestReport {
+        lease: 2,
+        conn: 3,
+        status: RequestStatus::Open,
+        ran: Some(Session::new()),
+        tokens: Sequence::new(tokens),
+    })?;
+    Ok(Report {
+        events: Sequence::new(Vec::new(alloc)),
+        requests: Sequence::new(requests),
+    })
+}
+
+/// What a report is written as.
+fn written(alloc: Global, report: &Report) -> Result<Vec<u8>, Fail> {
+    let mut bytes = Vec::new(alloc);
+    match render(alloc, report, &mut bytes) {
+        Ok(()) => Ok(bytes),
+        Err(_) => Err("a fault".into()),
+    }
+}
+
+#[test]
+fn a_report_of_nothing(rt: HostRuntime) -> Result<(), Fail> {
+    let report = report_of(rt.alloc(), &[])?;
+    let bytes = written(rt.alloc(), &report)?;
+    assert_eq!(rt; bytes.len(), 0);
+    Ok(())
+}
+
+#[test]
+fn each_outcome(rt: HostRuntime) -> Result<(), Fail> {
+    let report = report_of(
+        rt.alloc(),
+        &[
+            Outcome::Leased {
+                lease: 1,
+                conn: 1,
+                opened: Opened::New,
+            },
+            Outcome::Leased {
+                lease: 2,
+                conn: 1,
+                opened: Opened::Reused,
+            },
+            Outcome::Leased {
+                lease: 4294967295,
+                conn: 12,
+                opened: Opened::Resumed,
+            },
+            Outcome::GivenBack(GiveBackOutcome::Free),
+            Outcome::GivenBack(GiveBackOutcome::Draining),
+            Outcome::GivenBack(GiveBackOutcome::Closed),
+            Outcome::Kept(1),
+            Outcome::Abandoned(AbandonOutcome::Free),
+            Outcome::Abandoned(AbandonOutcome::Closed),
+            Outcome::Asked(10),
+            Outcome::Sent(SendOutcome::More),
+            Outcome::Sent(SendOutcome::Last),
+            Outcome::Cancel(CancelOutcome::Nothing),
+            Outcome::Cancel(CancelOutcome::Already),
+            Outcome::Cancel(CancelOutcome::Unsent),
+            Outcome::Cancel(CancelOutcome::Asked),
+            Outcome::Work(WorkOutcome::Idle),
+            Outcome::Work(WorkOutcome::Step),
+            Outcome::Work(WorkOutcome::Finished),
+            Outcome::ToServer(34),
+            Outcome::ToClient(0),
+            Outcome::Cut,
+            Outcome::RestartedServer,
+            Outcome::RestartedClient,
+            Outcome::Refused(Refusal::ConnectionCut),
+            Outcome::Fault {
+                end: End::Server,
+                layer: Layer::Packet,
+                number: 3,
+            },
+            Outcome::Fault {
+                end: End::Client,
+                layer: Layer::Core,
+                number: 10,
+            },
+        ],
+    )?;
+    let bytes = written(rt.alloc(), &report)?;
+    let expected =
+        b"1 leased 1 on 1 new\n2 leased 2 on 1 reused\n3 leased 4294967295 on 12 resumed\n\
+        4 given back free\n5 given back draining\n6 given back closed\n7 kept 1\n\
+        8 abandoned free\n9 abandoned closed\n10 asked 10\n11 sent more\n12 sent last\n\
+        13 cancel nothing\n14 cancel already\n15 cancel unsent\n16 cancel asked\n\
+        17 work idle\n18 work step\n19 work finished\n20 to server 34\n21 to client 0\n\
+        22 cut\n23 restarted server\n24 restarted client\n25 refused 8\n\
+        26 fault server packet 3\n27 fault client core 10\n";
+    assert_eq!(rt; bytes.as_slice(), expected.as_slice());
+    Ok(())
+}
+
+#[test]
+fn each_token(rt: HostRuntime) -> Result<(), Fail> {
+    let alloc = rt.alloc();
+    let mut columns = Vec::new(alloc);
+    columns.push(column(alloc, &[0x6E])?)?;
+    columns.push(column(alloc, &[0x20, 0x5C])?)?;
+    let mut tokens = Vec::new(alloc);
+    // Space, tilde, a backslash, the units around the plain ones, and half of a pair.
+    let odd = [0x20, 0x7E, 0x5C, 0x1F, 0x7F, 0xD83D, 0x0A];
+    tokens.push(Token::Info(message(alloc, 50000, &odd)?))?;
+    tokens.push(Token::Info(message(alloc, -1, &[])?))?;
+    tokens.push(Token::Error(message(alloc, 50001, &[0x78])?))?;
+    tokens.push(Token::ReturnStatus(-2147483648))?;
+    tokens.push(Token::Columns(ColumnList::new(columns)))?;
+    tokens.push(Token::Row(Row::new([5, -6].to_vec(alloc)?)))?;
+    tokens.push(Token::Env(EnvChange::Begin(1)))?;
+    tokens.push(Token::Done {
+        status: 0xABCD,
+        cur_cmd: 9,
+        rows: 18446744073709551615,
+    })?;
+    let report = report_with(alloc, tokens)?;
+    let bytes = written(alloc, &report)?;
+    let expected =
+        b"request 1 lease 2 on 3 open ran 0 -\n  info 50000  ~\\u005c\\u001f\\u007f\\ud83d\\u000a\n\
+        \x20 info -1 \n  error 50001 x\n  status -2147483648\n  columns n, \\u005c\n  row 5,-6\n\
+        \x20 done abcd 18446744073709551615\n";
+    assert_eq!(rt; bytes.as_slice(), expected.as_slice());
+    Ok(())
+}
+
+/// A snapshot of a connection that has settings.
+fn snapshot(conn: u32, client: ClientView, place: Place, mark: Option<Reset>) -> Snapshot {
+    let mut server = Session::new();
+    server.set(b'x', 7);
+    server.set(b'y', -1);
+    Snapshot {
+        conn,
+        client,
+        place,
+        descriptor: 3,
+        mark,
+        server,
+        to_server: 8,
+        to_client: 21,
+    }
+}
+
+#[test]
+fn connections_of_the_last_event(rt: HostRuntime) -> Result<(), Fail> {
+    let alloc = rt.alloc();
+    let mut first = Vec::new(alloc);
+    first.push(snapshot(9, ClientView::Idle, Place::Free, None))?;
+    let mut last = Vec::new(alloc);
+    last.push(snapshot(1, ClientView::Idle, Place::Leased(4), None))?;
+    last.push(snapshot(2, ClientView::Sending, Place::Kept(5), Some(Reset::Full)))?;
+    last.push(snapshot(
+        3,
+        ClientView::Reading,
+        Place::Free,
+        Some(Reset::KeepTransaction),
+    ))?;
+    last.push(snapshot(4, ClientView::Cancelling, Place::Draining, None))?;
+    let mut events = Vec::new(alloc);
+    events.push(EventReport {
+        outcome: Outcome::Cut,
+        lost: false,
+        snapshots: Sequence::new(first),
+    })?;
+    events.push(EventReport {
+        outcome: Outcome::Sent(SendOutcome::More),
+        lost: true,
+        snapshots: Sequence::new(last),
+    })?;
+    let report = Report {
+        events: Sequence::new(events),
+        requests: Sequence::new(Vec::new(alloc)),
+    };
+    let bytes = written(alloc, &report)?;
+    let expected = b"1 cut\n2 sent more lost\n\
+        connection 1 idle leased 4 descriptor 3 mark none server 0 x=7,y=-1 underway 8 21\n\
+        connection 2 sending kept 5 descriptor 3 mark full server 0 x=7,y=-1 underway 8 21\n\
+        connection 3 reading free descriptor 3 mark keep server 0 x=7,y=-1 underway 8 21\n\
+        connection 4 cancelling draining descriptor 3 mark none server 0 x=7,y=-1 underway 8 21\n";
+    assert_eq!(rt; bytes.as_slice(), expected.as_slice());
+    Ok(())
+}
+
+#[test]
+fn each_status(rt: HostRuntime) -> Result<(), Fail> {
+    let alloc = rt.alloc();
+    let mut requests = Vec::new(alloc);
+    for status in [
+        RequestStatus::Open,
+        RequestStatus::Cancelling,
+        RequestStatus::Finished,
+        RequestStatus::Acknowledged,
+        RequestStatus::Unsent,
+        RequestStatus::Lost,
+    ] {
+        requests.push(RequestReport {
+            lease: 1,
+            conn: 1,
+            status,
+            ran: None,
+            tokens: Sequence::new(Vec::new(alloc)),
+        })?;
+    }
+    let report = Report {
+        events: Sequence::new(Vec::new(alloc)),
+        requests: Sequence::new(requests),
+    };
+    let bytes = written(alloc, &report)?;
+    let expected =
+        b"request 1 lease 1 on 1 open not run\nrequest 2 lease 1 on 1 cancelling not run\n\
+        request 3 lease 1 on 1 finished not run\nrequest 4 lease 1 on 1 acknowledged not run\n\
+        request 5 lease 1 on 1 unsent not run\nrequest 6 lease 1 on 1 lost not run\n";
+    assert_eq!(rt; bytes.as_slice(), expected.as_slice());
+    Ok(())
+}
+
+/// A writer that takes one byte at a time, and fails at a call of its own choice.
+#[derive(Drop)]
+struct Slow {
+    bytes: Vec<u8>,
+    calls: u32,
+    fails_at: u32,
+}
+
+impl Write for Slow {
+    fn write(&mut self, buf: &[u8]) -> io::Result<usize> {
+        self.calls = self.calls.wrapping_add(1);
+        if self.calls == self.fails_at {
+            return Err(io::Error::from(io::ErrorKind::Other));
+        }
+        match buf.first() {
+            None => Ok(0),
+            Some(byte) => match self.bytes.push(*byte) {
+                Ok(()) => Ok(1),
+                Err(_) => Err(io::Error::from(io::ErrorKind::OutOfMemory)),
+            },
+        }
+    }
+
+    fn flush(&mut self) -> io::Result<()> {
+        Ok(())
+    }
+}
+
+#[test]
+fn a_writer_that_takes_one_byte_at_a_time(rt: HostRuntime) -> Result<(), Fail> {
+    let report = report_of(rt.alloc(), &[Outcome::Cut, Outcome::Asked(1)])?;
+    let mut slow = Slow {
+        bytes: Vec::new(rt.alloc()),
+        calls: 0,
+        fails_at: 0,
+    };
+    assert!(rt; render(rt.alloc(), &report, &mut slow).is_ok());
+    assert_eq!(rt; slow.bytes.as_slice(), b"1 cut\n2 asked 1\n".as_slice());
+    assert_eq!(rt; slow.calls, 16);
+    Ok(())
+}
+
+#[test]
+fn a_writer_that_fails_at_its_third_write(rt: HostRuntime) -> Result<(), Fail> {
+    let report = report_of(rt.alloc(), &[Outcome::Cut, Outcome::Asked(1)])?;
+    let mut slow = Slow {
+        bytes: Vec::new(rt.alloc()),
+        calls: 0,
+        fails_at: 3,
+    };
+    let Err(fault) = render(rt.alloc(), &report, &mut slow) else {
+        return Err("no fault".into());
+    };
+    assert!(rt; matches!(fault, RenderFault::Write));
+    assert_eq!(rt; fault.number(), 1);
+    assert_eq!(rt; slow.bytes.as_slice(), b"1 ".as_slice());
+    assert_eq!(rt; slow.calls, 3);
+    Ok(())
+}
