@@ -1,0 +1,10 @@
+pub mod Keeping
+pub mod Fields
+pub mod Small
+pub mod Wordings
+pub mod Messages
+pub mod Skipping
+pub mod Tables
+pub mod Whole
+pub mod Stepping
+pub mod Spelled

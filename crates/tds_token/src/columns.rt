@@ -1,0 +1,147 @@
+ghost use Rattle.std.specs.Prelude.{◌≡◌, ◌≤◌, None, length};
+ghost use Rattle.tds_token.specs.Texts.{AreColumns};
+ghost use Rattle.tds_token.specs.Layout.{columns_after, token_of};
+ghost use Rattle.tds_token.specs.Reading.{columns_of};
+
+use crate::text::Text;
+use crate::token::TokenRef;
+use std::marker::Model;
+
+/// What is told of a column: its user type, its flags and its name (MS-TDS 2.2.7.4). Its type is
+/// always INT4.
+#[derive(Debug, Drop)]
+pub struct Column {
+    pub user_type: u32,
+    pub flags: u16,
+    pub name: Text,
+}
+
+/// The columns of a result, from left to right.
+#[derive(Debug, Drop)]
+pub struct ColumnList {
+    columns: Vec<Column>,
+}
+
+impl Model for ColumnList {
+    ghost use Rattle.std.specs.Prelude.{List};
+    ghost use Rattle.tds_token.specs.declared.columns.Column.{Column};
+
+    ghost Value = { List Column };
+
+    ghost view = { λ a. a.columns.items };
+}
+
+impl ColumnList {
+    /// The list of these columns.
+    pub fn new(columns: Vec<Column>) -> ColumnList
+        ensures { result ≡ columns.items }
+    {
+        ColumnList { columns }
+    }
+
+    /// The columns.
+    pub fn as_slice(&self) -> &[Column]
+        ensures { result.now ≡ self.now }
+    {
+        self.columns.as_slice()
+    }
+
+    /// The columns, given back.
+    pub fn into_vec(self) -> Vec<Column>
+        ensures { result.items ≡ self }
+    {
+        self.columns
+    }
+}
+
+/// Columns that lie in a packet's data, 1 to 16.
+#[derive(Debug, Drop)]
+pub struct ColumnsRef<'a> {
+    count: u8,
+    bytes: &'a [u8],
+}
+
+impl<'a> Model for ColumnsRef<'a> {
+    ghost use Rattle.std.specs.Prelude.{List};
+    ghost use Rattle.tds_token.specs.declared.columns.Column.{Column};
+
+    ghost Value = { List Column };
+
+    ghost use Rattle.tds_token.specs.Lent.{lent_columns, AreLentColumns};
+
+    ghost view = { lent_columns };
+
+    ghost invariant = { AreLentColumns };
+}
+
+impl<'a> ColumnsRef<'a> {
+    /// The columns at the front of these bytes.
+    pub(crate) fn new(count: u8, bytes: &'a [u8]) -> ColumnsRef<'a>
+        requires whole { length (columns_of count bytes.now) ≡ count }
+        requires least { 1 ≤ count }
+        requires most { count ≤ 16 }
+        ensures { result ≡ columns_of count bytes.now }
+    {
+        ColumnsRef { count, bytes }
+    }
+
+    /// How many columns there are.
+    pub fn count(&self) -> u8
+        ensures value { result ≡ length self.now }
+        ensures least { 1 ≤ result }
+        ensures most { result ≤ 16 }
+    {
+        self.count
+    }
+}
+
+/// How many values a row has, where that is known: none, or 1 to 16. A COLMETADATA tells it, and
+/// a DONE ends it.
+#[derive(Clone, Copy, Debug, PartialEq, Eq)]
+pub struct Columns(Option<u8>);
+
+impl Model for Columns {
+    ghost use Rattle.std.specs.Prelude.{ℕ, Option};
+    ghost use Rattle.tds_token.specs.Texts.{AreColumns};
+
+    ghost Value = { Option ℕ };
+
+    ghost view = { λ a. a.0 };
+
+    ghost invariant = { λ a. AreColumns a.0 };
+
+    ghost inverse = { λ n. record { 0 = n } };
+}
+
+impl Columns {
+    /// No columns are known.
+    pub fn none() -> Columns
+        ensures { result ≡ None }
+    {
+        Columns(None)
+    }
+
+    /// The count, where it is known.
+    pub fn count(self) -> Option<u8>
+        ensures value { result ≡ self }
+        ensures range { AreColumns self }
+    {
+        self.0
+    }
+
+    /// What is known behind this token.
+    pub(crate) fn after(self, token: &TokenRef<'_>) -> Columns
+        ensures value { result ≡ columns_after self (token_of token.now) }
+        ensures known { AreColumns result }
+    {
+        match token {
+            TokenRef::Columns(columns) => Columns(Some(columns.count())),
+            TokenRef::Done { .. } => Columns(None),
+            TokenRef::Info(_)
+            | TokenRef::Error(_)
+            | TokenRef::ReturnStatus(_)
+            | TokenRef::Env(_)
+            | TokenRef::Row(_) => self,
+        }
+    }
+}

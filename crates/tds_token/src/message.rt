@@ -1,0 +1,26 @@
+use crate::text::{Text, TextRef};
+
+/// What an INFO or an ERROR says (MS-TDS 2.2.7.13, 2.2.7.10). `class` is its severity, and `line`
+/// the line of the batch.
+#[derive(Debug, Drop)]
+pub struct Message {
+    pub number: i32,
+    pub state: u8,
+    pub class: u8,
+    pub text: Text,
+    pub server: Text,
+    pub procedure: Text,
+    pub line: i32,
+}
+
+/// A message whose texts lie in a packet's data.
+#[derive(Debug, Drop)]
+pub struct MessageRef<'a> {
+    pub number: i32,
+    pub state: u8,
+    pub class: u8,
+    pub text: TextRef<'a>,
+    pub server: TextRef<'a>,
+    pub procedure: TextRef<'a>,
+    pub line: i32,
+}

@@ -1,0 +1,98 @@
+//! Reading one token from the front of a packet's data. Each function here is the definition of
+//! `specs/Reading.antt` that it names: the value and the bytes after it, or the first fault.
+
+ghost use Rattle.std.specs.Prelude.{◌≡◌};
+ghost use Rattle.tds_token.specs.Layout.{is_done_status, token_of};
+ghost use Rattle.tds_token.specs.Reading.{Gives, done_at, token_behind, token_at};
+
+mod env_changes;
+mod fields;
+mod messages;
+mod tables;
+
+use crate::columns::Columns;
+use crate::fault::TokenFault;
+use crate::reading::env_changes::env_change;
+use crate::reading::fields::{byte, int, number16, number64};
+use crate::reading::messages::message;
+use crate::reading::tables::{column_list, row};
+use crate::token::TokenRef;
+
+/// Whether a DONE may have this status.
+#[tactic(auto, unfolding(crate::specs::Layout::is_done_status))]
+pub(crate) fn is_status(status: u16) -> bool
+    ensures { result ≡ is_done_status status }
+{
+    status & 0xFEC8 == 0 && status & 0x21 != 0x21
+}
+
+#[tactic(auto, unfolding(crate::specs::Reading::done_at))]
+fn done(bytes: &[u8]) -> Result<(TokenRef<'_>, &[u8]), TokenFault>
+    ensures { Gives (λ x. (token_of x.0, x.1.now)) result (done_at bytes.now) }
+{
+    let (status, rest) = number16(bytes, TokenFault::Cut)?;
+    if !is_status(status) {
+        return Err(TokenFault::WrongStatus);
+    }
+    let (cur_cmd, rest) = number16(rest, TokenFault::Cut)?;
+    let (rows, rest) = number64(rest, TokenFault::Cut)?;
+    Ok((
+        TokenRef::Done {
+            status,
+            cur_cmd,
+            rows,
+        },
+        rest,
+    ))
+}
+
+/// The token with this token byte.
+#[tactic(auto, unfolding(crate::specs::Reading::token_behind))]
+fn token_of_kind(
+    columns: Columns,
+    kind: u8,
+    bytes: &[u8],
+) -> Result<(TokenRef<'_>, &[u8]), TokenFault>
+    ensures { Gives (λ x. (token_of x.0, x.1.now)) result (token_behind columns kind bytes.now) }
+{
+    match kind {
+        0xAB => {
+            let (message, rest) = message(bytes)?;
+            Ok((TokenRef::Info(message), rest))
+        }
+        0xAA => {
+            let (message, rest) = message(bytes)?;
+            Ok((TokenRef::Error(message), rest))
+        }
+        0x79 => {
+            let (value, rest) = int(bytes, TokenFault::Cut)?;
+            Ok((TokenRef::ReturnStatus(value), rest))
+        }
+        0xE3 => {
+            let (change, rest) = env_change(bytes)?;
+            Ok((TokenRef::Env(change), rest))
+        }
+        0xFD => done(bytes),
+        0x81 => {
+            let (columns, rest) = column_list(bytes)?;
+            Ok((TokenRef::Columns(columns), rest))
+        }
+        0xD1 => {
+            let Some(count) = columns.count() else {
+                return Err(TokenFault::NoColumns);
+            };
+            let (values, rest) = row(bytes, count)?;
+            Ok((TokenRef::Row(values), rest))
+        }
+        _ => Err(TokenFault::UnknownToken),
+    }
+}
+
+/// The token at the front, and the bytes after it.
+#[tactic(auto, unfolding(crate::specs::Reading::token_at))]
+pub(crate) fn token(columns: Columns, bytes: &[u8]) -> Result<(TokenRef<'_>, &[u8]), TokenFault>
+    ensures { Gives (λ x. (token_of x.0, x.1.now)) result (token_at columns bytes.now) }
+{
+    let (kind, rest) = byte(bytes, TokenFault::Cut)?;
+    token_of_kind(columns, kind, rest)
+}

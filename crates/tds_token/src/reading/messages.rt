@@ -1,0 +1,44 @@
+//! What stands behind the token byte of an INFO or an ERROR (MS-TDS 2.2.7.13, 2.2.7.10).
+
+ghost use Rattle.std.specs.Prelude.{◌≡◌};
+ghost use Rattle.tds_token.specs.Layout.{message_of};
+ghost use Rattle.tds_token.specs.Reading.{Gives, message_in, message_at};
+
+use crate::fault::TokenFault;
+use crate::message::MessageRef;
+use crate::reading::fields::{byte, int, long_text, short_text, sized};
+
+/// The message that fills the bytes which a Length counts.
+#[tactic(auto, unfolding(crate::specs::Reading::message_in))]
+fn message_inside(inside: &[u8]) -> Result<MessageRef<'_>, TokenFault>
+    ensures { Gives message_of result (message_in inside.now) }
+{
+    let (number, rest) = int(inside, TokenFault::WrongLength)?;
+    let (state, rest) = byte(rest, TokenFault::WrongLength)?;
+    let (class, rest) = byte(rest, TokenFault::WrongLength)?;
+    let (text, rest) = long_text(rest)?;
+    let (server, rest) = short_text(rest)?;
+    let (procedure, rest) = short_text(rest)?;
+    let (line, rest) = int(rest, TokenFault::WrongLength)?;
+    if !rest.is_empty() {
+        return Err(TokenFault::WrongLength);
+    }
+    Ok(MessageRef {
+        number,
+        state,
+        class,
+        text,
+        server,
+        procedure,
+        line,
+    })
+}
+
+#[tactic(auto, unfolding(crate::specs::Reading::message_at))]
+pub(crate) fn message(bytes: &[u8]) -> Result<(MessageRef<'_>, &[u8]), TokenFault>
+    ensures { Gives (λ x. (message_of x.0, x.1.now)) result (message_at bytes.now) }
+{
+    let (inside, rest) = sized(bytes)?;
+    let message = message_inside(inside)?;
+    Ok((message, rest))
+}

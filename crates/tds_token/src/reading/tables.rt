@@ -1,0 +1,61 @@
+//! What stands behind the token byte of a COLMETADATA or a ROW (MS-TDS 2.2.7.4, 2.2.7.20).
+
+ghost use Rattle.std.specs.Prelude.{◌≡◌};
+ghost use Rattle.tds_token.specs.Reading.{Gives, after_of, column_at, columns_at, column_list_at, columns_of, row_at};
+
+use crate::columns::ColumnsRef;
+use crate::fault::TokenFault;
+use crate::reading::fields::{byte, number16, number32, run, units};
+use crate::row::RowRef;
+
+/// The bytes behind a column, which must be right.
+#[tactic(auto, unfolding(crate::specs::Reading::column_at))]
+fn skip_column(bytes: &[u8]) -> Result<&[u8], TokenFault>
+    ensures { Gives (λ x. x.now) result (after_of (column_at bytes.now)) }
+{
+    let (_, rest) = number32(bytes, TokenFault::Cut)?;
+    let (_, rest) = number16(rest, TokenFault::Cut)?;
+    let (kind, rest) = byte(rest, TokenFault::Cut)?;
+    if kind != 0x38 {
+        return Err(TokenFault::WrongColumn);
+    }
+    let (n, rest) = byte(rest, TokenFault::Cut)?;
+    if n > 10 {
+        return Err(TokenFault::WrongColumn);
+    }
+    let (_, rest) = units(rest, usize::from(n), TokenFault::Cut)?;
+    Ok(rest)
+}
+
+/// The bytes behind so many columns, which must be right.
+fn skip_columns(count: u8, bytes: &[u8]) -> Result<&[u8], TokenFault>
+    ensures { Gives (λ x. x.now) result (after_of (columns_at count bytes.now)) }
+{
+    let mut rest = bytes;
+    'columns: for _ in 0..count {
+        rest = skip_column(rest)?;
+    }
+    Ok(rest)
+}
+
+#[tactic(auto, unfolding(crate::specs::Reading::column_list_at))]
+pub(crate) fn column_list(bytes: &[u8]) -> Result<(ColumnsRef<'_>, &[u8]), TokenFault>
+    ensures { Gives (λ x. (x.0, x.1.now)) result (column_list_at bytes.now) }
+{
+    let (count, rest) = number16(bytes, TokenFault::Cut)?;
+    if count == 0 || count > 16 {
+        return Err(TokenFault::WrongColumn);
+    }
+    let count = count as u8;
+    let after = skip_columns(count, rest)?;
+    Ok((ColumnsRef::new(count, rest), after))
+}
+
+/// A row of `count` values.
+#[tactic(auto, unfolding(crate::specs::Reading::row_at))]
+pub(crate) fn row(bytes: &[u8], count: u8) -> Result<(RowRef<'_>, &[u8]), TokenFault>
+    ensures { Gives (λ x. (x.0, x.1.now)) result (row_at count bytes.now) }
+{
+    let (front, rest) = run(bytes, 4 * usize::from(count), TokenFault::Cut)?;
+    Ok((RowRef::new(front), rest))
+}

@@ -1,0 +1,66 @@
+ghost use Rattle.std.specs.Prelude.{◌≡◌};
+ghost use Rattle.tds_token.specs.Texts.{ints_of};
+
+use std::marker::Model;
+
+/// The values of a row, in the order of the columns (MS-TDS 2.2.7.20). Each is an INT4.
+#[derive(Debug, Drop)]
+pub struct Row {
+    values: Vec<i32>,
+}
+
+impl Model for Row {
+    ghost use Rattle.std.specs.Prelude.{ℤ, List};
+
+    ghost Value = { List ℤ };
+
+    ghost view = { λ a. a.values.items };
+}
+
+impl Row {
+    /// The row of these values.
+    pub fn new(values: Vec<i32>) -> Row
+        ensures { result ≡ values.items }
+    {
+        Row { values }
+    }
+
+    /// The values.
+    pub fn as_slice(&self) -> &[i32]
+        ensures { result.now ≡ self.now }
+    {
+        self.values.as_slice()
+    }
+
+    /// The values, given back.
+    pub fn into_vec(self) -> Vec<i32>
+        ensures { result.items ≡ self }
+    {
+        self.values
+    }
+}
+
+/// A row that lies in a packet's data, four bytes a value.
+#[derive(Debug, Drop)]
+pub struct RowRef<'a> {
+    bytes: &'a [u8],
+}
+
+impl<'a> Model for RowRef<'a> {
+    ghost use Rattle.std.specs.Prelude.{ℤ, List};
+
+    ghost Value = { List ℤ };
+
+    ghost use Rattle.tds_token.specs.Texts.{ints_of};
+
+    ghost view = { λ a. ints_of a.bytes.now };
+}
+
+impl<'a> RowRef<'a> {
+    /// The values that lie in these bytes.
+    pub(crate) fn new(bytes: &'a [u8]) -> RowRef<'a>
+        ensures { result ≡ ints_of bytes.now }
+    {
+        RowRef { bytes }
+    }
+}

@@ -1,0 +1,87 @@
+ghost use Rattle.std.specs.Prelude.{◌≡◌, IfOk};
+ghost use Rattle.tds_token.specs.Texts.{units_of};
+
+use std::alloc::{AllocError, Global};
+use std::marker::Model;
+
+/// A text, as UTF-16 units. They are carried as they are: a surrogate may stand alone.
+#[derive(Debug, Drop)]
+pub struct Text {
+    units: Vec<u16>,
+}
+
+impl Model for Text {
+    ghost use Rattle.std.specs.Prelude.{ℕ, List};
+
+    ghost Value = { List ℕ };
+
+    ghost view = { λ a. a.units.items };
+}
+
+impl Text {
+    /// The text of these units.
+    pub fn new(units: Vec<u16>) -> Text
+        ensures { result ≡ units.items }
+    {
+        Text { units }
+    }
+
+    /// The units.
+    pub fn units(&self) -> &[u16]
+        ensures { result.now ≡ self.now }
+    {
+        self.units.as_slice()
+    }
+
+    /// The units, given back.
+    pub fn into_units(self) -> Vec<u16>
+        ensures { result.items ≡ self }
+    {
+        self.units
+    }
+}
+
+/// A text that lies in a packet's data, each unit with its low byte first.
+#[derive(Debug, Drop)]
+pub struct TextRef<'a> {
+    bytes: &'a [u8],
+}
+
+impl<'a> Model for TextRef<'a> {
+    ghost use Rattle.std.specs.Prelude.{ℕ, List};
+
+    ghost Value = { List ℕ };
+
+    ghost use Rattle.tds_token.specs.Texts.{units_of};
+
+    ghost view = { λ a. units_of a.bytes.now };
+}
+
+impl<'a> TextRef<'a> {
+    /// The text that lies in these bytes.
+    pub(crate) fn new(bytes: &'a [u8]) -> TextRef<'a>
+        ensures { result ≡ units_of bytes.now }
+    {
+        TextRef { bytes }
+    }
+
+    /// The same text, in memory of its own.
+    pub fn own(&self, alloc: Global) -> Result<Text, AllocError>
+        ensures { IfOk result (λ text. text ≡ self.now) }
+    {
+        let units = units_from(alloc, self.bytes)?;
+        Ok(Text { units })
+    }
+}
+
+fn units_from(alloc: Global, bytes: &[u8]) -> Result<Vec<u16>, AllocError>
+    ensures { IfOk result (λ units. units.items ≡ units_of bytes.now) }
+{
+    let mut units = Vec::new(alloc);
+    let mut rest = bytes;
+    'units: while let [low, high, after @ ..] = rest {
+        units.push(u16::from(*low) + 256 * u16::from(*high))?;
+        rest = after;
+    }
+    Ok(units)
+}

@@ -1,0 +1,93 @@
+ghost use Rattle.std.specs.Prelude.{◌≡◌, ◌++◌, [], List, ℕ, Option, Some, None, Ok, Err};
+ghost use Rattle.tds_token.specs.declared.fault.TokenFault.{TokenFault};
+ghost use Rattle.tds_token.specs.declared.token.Token.{Token};
+ghost use Rattle.tds_token.specs.declared.token.TokenRef.{TokenRef};
+ghost use Rattle.tds_token.specs.Cursor.{answer_of, step};
+ghost use Rattle.tds_token.specs.Layout.{IsToken, token_of};
+ghost use Rattle.tds_token.specs.Reading.{wrong_token};
+ghost use Rattle.tds_token.specs.Texts.{AreColumns, IsBytes};
+
+use crate::columns::Columns;
+use crate::fault::TokenFault;
+use crate::reading::token;
+use crate::token::TokenRef;
+use std::marker::Model;
+
+/// Reads the tokens of a packet's data, one behind the other. A reader takes no memory: what it
+/// answers is lent from the data.
+#[derive(Debug, Drop)]
+pub struct Tokens<'a> {
+    /// What is left. Behind a fault that is nothing.
+    bytes: &'a [u8],
+    columns: Columns,
+}
+
+impl<'a> Model for Tokens<'a> {
+    ghost use Rattle.tds_token.specs.Cursor.{Cursor};
+
+    ghost Value = { Cursor };
+
+    ghost use Rattle.tds_token.specs.Texts.{AreColumns, IsBytes};
+
+    ghost view = { λ a. record { bytes = a.bytes.now; columns = a.columns } };
+
+    ghost invariant = { λ a. AreColumns a.columns × IsBytes a.bytes.now };
+}
+
+impl<'a> Tokens<'a> {
+    /// The tokens of these data, where these columns are known: none for the first packet of a
+    /// message, and then what `columns` answered at the end of the packet before.
+    pub fn new(bytes: &'a [u8], columns: Columns) -> Tokens<'a>
+        ensures { result ≡ record { bytes = bytes.now; columns = columns } }
+    {
+        Tokens { bytes, columns }
+    }
+
+    /// The columns that are known behind what was read.
+    pub fn columns(&self) -> Columns
+        ensures { result ≡ self.now.columns }
+    {
+        self.columns
+    }
+
+    /// The next token, or the fault where none is spelled. None at the end of the data, and behind
+    /// a fault.
+    pub fn next(&mut self) -> Option<Result<TokenRef<'a>, TokenFault>>
+        // What is read is spelled by the front that is gone.
+        ensures found { (t : TokenRef) → result ≡ Some (Ok t) → (front : List ℕ) × IsToken self.old.columns (token_of t) front self.new.columns
+            × (self.old.bytes ≡ front ++ self.new.bytes) }
+        // What a front spells is read, whatever follows it.
+        ensures only { (token : Token) (front rest : List ℕ) (after : Option ℕ) → IsToken self.old.columns token front after → self.old.bytes ≡ front ++ rest
+            → (answer_of result ≡ Some (Ok token)) × (self.new ≡ record { bytes = rest; columns = after }) }
+        // The fault is the first field that is wrong or cut. Nothing is left behind it.
+        ensures wrong { (fault : TokenFault) → result ≡ Some (Err fault) → (wrong_token self.old.columns self.old.bytes ≡ Some fault)
+            × (self.new ≡ record { bytes = []; columns = self.old.columns }) }
+        ensures end { self.old.bytes ≡ [] → (result ≡ None) × (self.new ≡ self.old) }
+        ensures none { result ≡ None → (self.old.bytes ≡ []) × (self.new ≡ self.old) }
+        ensures exact { (answer_of result, self.new) ≡ step self.old }
+    {
+        self.advance()
+    }
+
+    #[tactic(auto, unfolding(crate::specs::Cursor::step))]
+    fn advance(&mut self) -> Option<Result<TokenRef<'a>, TokenFault>>
+        ensures exact { (answer_of result, self.new) ≡ step self.old }
+        ensures known { AreColumns self.old.columns }
+        ensures bytes { IsBytes self.old.bytes }
+    {
+        if self.bytes.is_empty() {
+            return None;
+        }
+        match token(self.columns, self.bytes) {
+            Ok((token, rest)) => {
+                self.columns = self.columns.after(&token);
+                self.bytes = rest;
+                Some(Ok(token))
+            }
+            Err(fault) => {
+                self.bytes = &[];
+                Some(Err(fault))
+            }
+        }
+    }
+}
