@@ -1,0 +1,61 @@
+-- Each request, and the bytes that spell it: whole messages, without the headers of their packets. All numbers are little-endian.
+use Rattle.std.specs.Prelude.{◌≡◌, ℕ, ◌^◌, ◌<◌, List, [], ◌∷◌, ◌++◌}
+use Rattle.std.specs.Int.{w16, w32, w64, to_le_bytes}
+use Rattle.std.specs.List.{flat_map}
+use Rattle.tds_request.specs.declared.request.Request.{Request}
+use Rattle.tds_request.specs.declared.request.Request.TheVariants as requests
+use Rattle.tds_request.specs.declared.request.RequestKind.{RequestKind}
+use Rattle.tds_request.specs.declared.request.RequestKind.TheVariants as kinds
+use Rattle.tds_request.specs.Values.{IsBatchText, IsIsolation}
+
+-- Which message a request is: a batch (packet type 01), or a transaction manager request (packet type 0E). MS-TDS 2.2.3.1.1.
+abbrev pub kind_of_request : Request → RequestKind
+kind_of_request (requests.Batch units) = kinds.Batch
+kind_of_request (requests.Begin isolation) = kinds.Transaction
+kind_of_request requests.Commit = kinds.Transaction
+kind_of_request requests.Rollback = kinds.Transaction
+
+-- The transaction descriptor header: its length 18 (four bytes), its type 2 (two), the descriptor (eight), and the count of outstanding requests (four), always 1. MS-TDS 2.2.5.3.2.
+abbrev pub descriptor_header : ℕ → List ℕ
+descriptor_header descriptor = to_le_bytes w32 18 ++ (to_le_bytes w16 2 ++ (to_le_bytes w64 descriptor ++ to_le_bytes w32 1))
+
+-- ALL_HEADERS: the total length 22 (four bytes), and the one header. MS-TDS 2.2.5.3.
+abbrev pub all_headers : ℕ → List ℕ
+all_headers descriptor = to_le_bytes w32 22 ++ descriptor_header descriptor
+
+-- A text, unit by unit.
+abbrev pub text_bytes : List ℕ → List ℕ
+text_bytes units = flat_map (λ unit. to_le_bytes w16 unit) units
+
+-- An empty name of a transaction: its length of one byte. MS-TDS 2.2.6.9.
+abbrev pub no_name : List ℕ
+no_name = 0 ∷ []
+
+-- No flags: no new transaction is begun behind a commit or rollback. MS-TDS 2.2.6.9.
+abbrev pub no_flags : List ℕ
+no_flags = 0 ∷ []
+
+-- What stands behind ALL_HEADERS: the text of a batch (MS-TDS 2.2.6.7), or the request type of two bytes and its payload (MS-TDS 2.2.6.9).
+abbrev pub body_of : Request → List ℕ
+body_of (requests.Batch units) = text_bytes units
+body_of (requests.Begin isolation) = to_le_bytes w16 5 ++ (isolation ∷ no_name)
+body_of requests.Commit = to_le_bytes w16 7 ++ (no_name ++ no_flags)
+body_of requests.Rollback = to_le_bytes w16 8 ++ (no_name ++ no_flags)
+
+-- The whole message of a request in the transaction of this descriptor, or in none: then it is 0.
+abbrev pub spelling : ℕ → Request → List ℕ
+spelling descriptor request = all_headers descriptor ++ body_of request
+
+-- The values that a request may have.
+abbrev pub Fits : Request → Type 0
+Fits (requests.Batch units) = IsBatchText units
+Fits (requests.Begin isolation) = IsIsolation isolation
+Fits requests.Commit = Unit {0}
+Fits requests.Rollback = Unit {0}
+
+-- The bytes are a message of this kind, and spell this descriptor and this request.
+pub record IsRequest (kind : RequestKind) (descriptor : ℕ) (request : Request) (bytes : List ℕ) : Type 0 where
+  pub kind_is : kind ≡ kind_of_request request
+  pub spelled : bytes ≡ spelling descriptor request
+  pub fits : Fits request
+  pub ranged : descriptor < 2 ^ 64

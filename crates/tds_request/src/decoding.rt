@@ -1,0 +1,139 @@
+ghost use Rattle.std.specs.Prelude.{◌≡◌, ◌⊎◌, ℕ, Ok, Err, Some, None, IfOk, IfErr};
+ghost use Rattle.tds_request.specs.declared.fault.RequestFault.{RequestFault};
+ghost use Rattle.tds_request.specs.declared.fault.RequestFault.TheVariants.{Memory};
+ghost use Rattle.tds_request.specs.declared.request.Request.{Request};
+ghost use Rattle.tds_request.specs.Layout.{IsRequest};
+ghost use Rattle.tds_request.specs.Reading.{Gives, Answers, headers_at, header_fields_at, batch_in, begin_in, end_in, transaction_in, body_in, isolation_of, read_request, wrong_request, is_text_length};
+
+use crate::fault::RequestFault;
+use crate::fields::{byte, byte_is, number16, number16_is, number32_is, number64};
+use crate::isolation::Isolation;
+use crate::request::{Request, RequestKind};
+use crate::text::BatchText;
+use std::alloc::Global;
+
+/// The descriptor and the request that a whole message of this kind spells.
+pub fn decode(
+    alloc: Global,
+    kind: RequestKind,
+    bytes: &[u8],
+) -> Result<(u64, Request), RequestFault>
+    // What is read is spelled so.
+    ensures found { IfOk result (λ x. IsRequest kind x.0 x.1 bytes.now) }
+    // What is spelled so is read, unless memory runs out.
+    ensures only { (descriptor : ℕ) (request : Request) → IsRequest kind descriptor request bytes.now → (result ≡ Ok (descriptor, request)) ⊎ (result ≡ Err Memory) }
+    // The first wrong field is the fault, before any growth.
+    ensures wrong { (fault : RequestFault) → wrong_request kind bytes.now ≡ Some fault → result ≡ Err fault }
+    // Any fault but want of memory is that of the first wrong field.
+    ensures fault { IfErr result (λ fault. (wrong_request kind bytes.now ≡ Some fault) ⊎ (fault ≡ Memory)) }
+    // Memory is wanted only for what spells a request.
+    ensures memory { result ≡ Err Memory → (descriptor : ℕ) × (request : Request) × IsRequest kind descriptor request bytes.now }
+    ensures exact { Answers result (read_request kind bytes.now) }
+{
+    message(alloc, kind, bytes)
+}
+
+#[tactic(auto, unfolding(crate::specs::Reading::read_request))]
+fn message(alloc: Global, kind: RequestKind, bytes: &[u8]) -> Result<(u64, Request), RequestFault>
+    ensures { Answers result (read_request kind bytes.now) }
+{
+    let (descriptor, body) = headers(bytes)?;
+    let request = match kind {
+        RequestKind::Batch => batch(alloc, body)?,
+        RequestKind::Transaction => transaction(body)?,
+    };
+    Ok((descriptor, request))
+}
+
+/// The descriptor in ALL_HEADERS, and the bytes behind them (MS-TDS 2.2.5.3).
+#[tactic(auto, unfolding(crate::specs::Reading::headers_at))]
+fn headers(bytes: &[u8]) -> Result<(u64, &[u8]), RequestFault>
+    ensures { Gives (λ x. (x.0, x.1.now)) result (headers_at bytes.now) }
+{
+    if bytes.len() < 22 {
+        return Err(RequestFault::Short);
+    }
+    header_fields(bytes)
+}
+
+#[tactic(auto, unfolding(crate::specs::Reading::header_fields_at))]
+fn header_fields(bytes: &[u8]) -> Result<(u64, &[u8]), RequestFault>
+    ensures { Gives (λ x. (x.0, x.1.now)) result (header_fields_at bytes.now) }
+{
+    let rest = number32_is(bytes, 22, RequestFault::WrongTotalLength)?;
+    let rest = number32_is(rest, 18, RequestFault::WrongHeader)?;
+    let rest = number16_is(rest, 2, RequestFault::WrongHeader)?;
+    let (descriptor, rest) = number64(rest)?;
+    let rest = number32_is(rest, 1, RequestFault::WrongCount)?;
+    Ok((descriptor, rest))
+}
+
+/// Whether the text of a batch has this many bytes.
+fn is_length_of_text(length: usize) -> bool
+    ensures { result ≡ is_text_length length }
+{
+    length != 0 && length % 2 == 0 && length <= 4000
+}
+
+/// The batch with this text (MS-TDS 2.2.6.7).
+#[tactic(auto, unfolding(crate::specs::Reading::batch_in))]
+fn batch(alloc: Global, bytes: &[u8]) -> Result<Request, RequestFault>
+    ensures { Answers result (batch_in bytes.now) }
+{
+    if !is_length_of_text(bytes.len()) {
+        return Err(RequestFault::WrongTextLength);
+    }
+    let text = BatchText::from_le_bytes(alloc, bytes)?;
+    Ok(Request::Batch(text))
+}
+
+/// The transaction manager request with this type and payload (MS-TDS 2.2.6.9).
+#[tactic(auto, unfolding(crate::specs::Reading::transaction_in))]
+fn transaction(bytes: &[u8]) -> Result<Request, RequestFault>
+    ensures { Gives (λ x. x) result (transaction_in bytes.now) }
+{
+    let (kind, payload) = number16(bytes)?;
+    match kind {
+        5 => begin(payload),
+        7 => end(payload, Request::Commit),
+        8 => end(payload, Request::Rollback),
+        _ => Err(RequestFault::WrongRequestType),
+    }
+}
+
+/// The begin with this payload: an isolation level and an empty name.
+#[tactic(auto, unfolding(crate::specs::Reading::begin_in))]
+fn begin(payload: &[u8]) -> Result<Request, RequestFault>
+    ensures { Gives (λ x. x) result (begin_in payload.now) }
+{
+    let (number, rest) = byte(payload)?;
+    let level = isolation(number)?;
+    let rest = byte_is(rest, 0, RequestFault::WrongName)?;
+    if !rest.is_empty() {
+        return Err(RequestFault::BytesLeftOver);
+    }
+    Ok(Request::Begin(level))
+}
+
+/// The commit or rollback with this payload: an empty name and no flags.
+#[tactic(auto, unfolding(crate::specs::Reading::end_in))]
+fn end(payload: &[u8], request: Request) -> Result<Request, RequestFault>
+    ensures { Gives (λ x. x) result (end_in request payload.now) }
+{
+    let rest = byte_is(payload, 0, RequestFault::WrongName)?;
+    let rest = byte_is(rest, 0, RequestFault::WrongFlags)?;
+    if !rest.is_empty() {
+        return Err(RequestFault::BytesLeftOver);
+    }
+    Ok(request)
+}
+
+/// The isolation level of this number.
+fn isolation(number: u8) -> Result<Isolation, RequestFault>
+    ensures { Gives (λ x. x) result (isolation_of number) }
+{
+    match Isolation::new(number) {
+        Some(level) => Ok(level),
+        None => Err(RequestFault::WrongIsolation),
+    }
+}

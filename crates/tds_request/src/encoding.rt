@@ -1,0 +1,65 @@
+ghost use Rattle.std.specs.Prelude.{◌≡◌, ◌++◌, ◌+◌, ◌*◌, ◌≤◌, IsOk, OnOk, OnErr, length};
+ghost use Rattle.std.specs.Vec.{vec_len, vec_capacity};
+ghost use Rattle.tds_request.specs.Layout.{IsRequest, kind_of_request, spelling, all_headers, text_bytes};
+
+use crate::request::Request;
+use std::alloc::AllocError;
+
+/// Appends the whole message of this request in the transaction of this descriptor, or in none: then
+/// the descriptor is 0. Where memory runs out, the bytes are as they were.
+pub fn encode(request: &Request, descriptor: u64, out: &mut Vec<u8>) -> Result<(), AllocError>
+    ensures appended { OnOk result (out.new.items ≡ out.old.items ++ spelling descriptor request.now) }
+    ensures spelled { IsRequest (kind_of_request request.now) descriptor request.now (spelling descriptor request.now) }
+    ensures unchanged { OnErr result (out.new.items ≡ out.old.items) }
+{
+    match request {
+        Request::Batch(text) => put_batch(descriptor, text.units(), out),
+        Request::Begin(isolation) => put_message(descriptor, &[5, 0, isolation.get(), 0], out),
+        Request::Commit => put_message(descriptor, &[7, 0, 0, 0], out),
+        Request::Rollback => put_message(descriptor, &[8, 0, 0, 0], out),
+    }
+}
+
+/// ALL_HEADERS with this descriptor (MS-TDS 2.2.5.3).
+fn headers(descriptor: u64) -> [u8; 22]
+    ensures { result ≡ all_headers descriptor }
+{
+    let d = descriptor.to_le_bytes();
+    [
+        22, 0, 0, 0, 18, 0, 0, 0, 2, 0, d[0], d[1], d[2], d[3], d[4], d[5], d[6], d[7], 1, 0, 0, 0,
+    ]
+}
+
+/// A message with this body.
+fn put_message(descriptor: u64, body: &[u8], out: &mut Vec<u8>) -> Result<(), AllocError>
+    requires { length body.now ≤ 4000 }
+    ensures appended { OnOk result (out.new.items ≡ out.old.items ++ (all_headers descriptor ++ body.now)) }
+    ensures unchanged { OnErr result (out.new.items ≡ out.old.items) }
+{
+    out.reserve(22 + body.len())?;
+    out.extend_from_slice(&headers(descriptor))?;
+    out.extend_from_slice(body)
+}
+
+/// A batch with this text.
+fn put_batch(descriptor: u64, units: &[u16], out: &mut Vec<u8>) -> Result<(), AllocError>
+    requires { length units.now ≤ 2000 }
+    ensures appended { OnOk result (out.new.items ≡ out.old.items ++ (all_headers descriptor ++ text_bytes units.now)) }
+    ensures unchanged { OnErr result (out.new.items ≡ out.old.items) }
+{
+    out.reserve(22 + 2 * units.len())?;
+    out.extend_from_slice(&headers(descriptor))?;
+    put_units(units, out)
+}
+
+/// A text, where there is room for it.
+fn put_units(units: &[u16], out: &mut Vec<u8>) -> Result<(), AllocError>
+    requires room { vec_len out.old + 2 * length units.now ≤ vec_capacity out.old }
+    ensures appended { out.new.items ≡ out.old.items ++ text_bytes units.now }
+    ensures ok { IsOk result }
+{
+    'units: for unit in units {
+        out.extend_from_slice(&unit.to_le_bytes())?;
+    }
+    Ok(())
+}

@@ -1,0 +1,81 @@
+ghost use Rattle.std.specs.Prelude.{◌≡◌};
+ghost use Rattle.tds_request.specs.Faults.{number_of};
+
+use std::alloc::AllocError;
+
+/// Why bytes are no request: the first field that is wrong or cut short.
+#[derive(Debug, Drop)]
+pub enum RequestFault {
+    /// Under 22 bytes, or the input ends before a field's last byte.
+    Short,
+    /// The total length of ALL_HEADERS (MS-TDS 2.2.5.3) is not 22.
+    WrongTotalLength,
+    /// The first header's length is not 18, or its type is not 2 (MS-TDS 2.2.5.3.2).
+    WrongHeader,
+    /// The count of outstanding requests is not 1 (MS-TDS 2.2.5.3.2).
+    WrongCount,
+    /// The text of a batch has no byte, an odd number of bytes, or over 4,000 (MS-TDS 2.2.6.7).
+    WrongTextLength,
+    /// The request type is not begin, commit or rollback (MS-TDS 2.2.6.9).
+    WrongRequestType,
+    /// The isolation level is over 5 (MS-TDS 2.2.6.9).
+    WrongIsolation,
+    /// The name of a transaction is not empty (MS-TDS 2.2.6.9).
+    WrongName,
+    /// The flags of a commit or rollback are not 0 (MS-TDS 2.2.6.9).
+    WrongFlags,
+    /// There are bytes behind the last field.
+    BytesLeftOver,
+    /// The bytes spell a request, and a growth was refused.
+    Memory,
+}
+
+impl RequestFault {
+    /// The number of this fault, from 1 to 11.
+    pub fn number(&self) -> u8
+        ensures { result ≡ number_of self.now }
+    {
+        match self {
+            RequestFault::Short => 1,
+            RequestFault::WrongTotalLength => 2,
+            RequestFault::WrongHeader => 3,
+            RequestFault::WrongCount => 4,
+            RequestFault::WrongTextLength => 5,
+            RequestFault::WrongRequestType => 6,
+            RequestFault::WrongIsolation => 7,
+            RequestFault::WrongName => 8,
+            RequestFault::WrongFlags => 9,
+            RequestFault::BytesLeftOver => 10,
+            RequestFault::Memory => 11,
+        }
+    }
+
+    /// The same fault again.
+    pub fn again(&self) -> RequestFault
+        ensures { result ≡ self.now }
+    {
+        match self {
+            RequestFault::Short => RequestFault::Short,
+            RequestFault::WrongTotalLength => RequestFault::WrongTotalLength,
+            RequestFault::WrongHeader => RequestFault::WrongHeader,
+            RequestFault::WrongCount => RequestFault::WrongCount,
+            RequestFault::WrongTextLength => RequestFault::WrongTextLength,
+            RequestFault::WrongRequestType => RequestFault::WrongRequestType,
+            RequestFault::WrongIsolation => RequestFault::WrongIsolation,
+            RequestFault::WrongName => RequestFault::WrongName,
+            RequestFault::WrongFlags => RequestFault::WrongFlags,
+            RequestFault::BytesLeftOver => RequestFault::BytesLeftOver,
+            RequestFault::Memory => RequestFault::Memory,
+        }
+    }
+}
+
+impl From<AllocError> for RequestFault {
+    ghost use Rattle.tds_request.specs.declared.fault.RequestFault.TheVariants.{Memory};
+
+    ghost from_gives = { λ _ fault. fault ≡ Memory };
+
+    fn from(_: AllocError) -> RequestFault {
+        RequestFault::Memory
+    }
+}
