@@ -7,4 +7,5 @@ pub mod Skipping
 pub mod Tables
 pub mod Whole
 pub mod Stepping
+pub mod Behind
 pub mod Spelled
