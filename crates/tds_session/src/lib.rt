@@ -4,10 +4,12 @@
 
 mod engine;
 mod message;
-mod script;
+mod parsing;
+mod running;
 mod session;
 mod statement;
 mod transaction;
+mod words;
 
 pub use engine::Engine;
 pub use session::Session;

@@ -1,8 +1,8 @@
-use Rattle.std.proofs.Common.{◌≡◌, ◌++◌, [], ◌∷◌, pos, append_assoc, rules, sym, arith}
+use Rattle.std.proofs.Common.{◌≡◌, ◌++◌, [], ◌∷◌, pos, append_assoc, sym, arith}
 use Rattle.std.proofs.lemmas.Grind.{common_steps}
 use Rattle.tds_session.proofs.Rows.{rows_next}
 use Rattle.tds_token.specs.declared.token.Token.TheVariants as token
-use Rattle.tds_session.proofs.script.put_rows.Goals as goal
+use Rattle.tds_session.proofs.running.put_rows.Goals as goal
 
 pub loop-number-preserved : goal.loop-number-preserved
 loop-number-preserved c =
