@@ -3,7 +3,7 @@ use Rattle.std.proofs.Common.{rules, ℕ, ◌+◌, ◌≤◌, ◌<◌, List, [],
 use Rattle.std.specs.List.{All, flat_map}
 use Rattle.std.proofs.lemmas.Bool.Decides.{nat_tests}
 use Rattle.std.proofs.lemmas.List.Elements.{All-cons, All-nil}
-use Rattle.tds_server.specs.Packets.{FitsOnePacket, LeavesRoom, final}
+use Rattle.tds_server.specs.Packets.{FitsOnePacket, answer_packet, LeavesRoom, final}
 use Rattle.tds_session.specs.Effects.{error, done, Effect, begins, begin_by, ends, end_by, fails}
 use Rattle.tds_session.specs.Session.{SessionState, IsSession, last_descriptor}
 use Rattle.tds_session.specs.Lawful.{FitsPacket}
@@ -99,3 +99,6 @@ of_engine e fits = record {
   fit = fits.fit;
   short = omega (arith, ap length (spelled_joined _ _ e.tokens fits.bytes fits.spelled), fits.short);
 }
+
+pub packet_count : (id : ℕ) (last : Bool) (tokens : List Token) → FitsOnePacket tokens → length (answer_packet id last tokens) ≤ 512
+packet_count id last tokens fits = omega (arith, fits.short)

@@ -3,4 +3,5 @@ pub mod Packets
 pub mod State
 pub mod Taking
 pub mod Working
+pub mod Whole
 pub mod Due

@@ -43,3 +43,10 @@ lost_in (Broken fault) = Broken fault
 
 abbrev pub lost_of : {E : Type 0} → ServerState E → ServerState E
 lost_of s = record s { phase = lost_in s.phase }
+
+-- a step is to be done
+abbrev pub IsAnswering : Phase → Type 0
+IsAnswering Waiting = ⊥
+IsAnswering (Receiving message) = ⊥
+IsAnswering (Answering due id) = Unit {0}
+IsAnswering (Broken fault) = ⊥

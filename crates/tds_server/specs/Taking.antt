@@ -1,5 +1,5 @@
 -- How a server takes a packet.
-use Rattle.std.specs.Prelude.{◌≡◌, ℕ, List, [], ◌++◌, length, Bool, true, false, ◌&&◌, ◌==◌, not, nat_lt, if◌then◌else◌, Option, Some, None, Result, Ok, Err}
+use Rattle.std.specs.Prelude.{◌≡◌, ◌≢◌, ℕ, List, [], ◌++◌, length, Bool, true, false, ◌&&◌, ◌==◌, not, nat_lt, if◌then◌else◌, Option, Some, None, Result, Ok, Err}
 use Rattle.tds_packet.specs.declared.header.Header.{Header}
 use Rattle.tds_packet.specs.declared.kind.Kind.{Kind}
 use Rattle.tds_packet.specs.declared.kind.Kind.TheVariants as kind
@@ -13,7 +13,7 @@ use Rattle.tds_request.specs.Reading.{read_request}
 use Rattle.tds_session.specs.Answer.{Answers}
 use Rattle.tds_session.specs.Session.{SessionState}
 use Rattle.tds_server.specs.declared.fault.ServerFault.{ServerFault}
-use Rattle.tds_server.specs.declared.fault.ServerFault.TheVariants.{RequestWhileAnswering, TypeChanged, BothResets, WrongAttention, LongMessage, WrongRequest, IgnoredPart}
+use Rattle.tds_server.specs.declared.fault.ServerFault.TheVariants.{RequestWhileAnswering, TypeChanged, BothResets, WrongAttention, LongMessage, WrongRequest, IgnoredPart, Lost}
 use Rattle.tds_server.specs.declared.outcome.ServerTook.{ServerTook}
 use Rattle.tds_server.specs.declared.outcome.ServerTook.TheVariants as took
 use Rattle.tds_server.specs.Packets.{acknowledgement}
@@ -137,6 +137,18 @@ unless_broken (Some fault) r = Err fault
 abbrev pub moved : Answers → SessionState → Phase → Header → List ℕ → Result Move ServerFault
 moved answers session phase header content =
     unless_broken (fault_in phase) (moved_by header.kind answers session phase (bits_of header.status) content)
+
+-- what needs a growth: data that are kept or appended, and a whole message that is read
+abbrev pub TakesMemory : Result Move ServerFault → Type 0
+TakesMemory (Ok m) = m.took ≢ took.Dropped
+TakesMemory (Err (WrongRequest fault)) = Unit {0}
+TakesMemory (Err RequestWhileAnswering) = ⊥
+TakesMemory (Err TypeChanged) = ⊥
+TakesMemory (Err BothResets) = ⊥
+TakesMemory (Err WrongAttention) = ⊥
+TakesMemory (Err LongMessage) = ⊥
+TakesMemory (Err IgnoredPart) = ⊥
+TakesMemory (Err Lost) = ⊥
 
 -- where a packet is taken as the move says: the answer, the phase then, and the reply, appended
 abbrev pub Moves : Result Move ServerFault → ServerTook → Phase → List ℕ → List ℕ → Type 0

@@ -7,6 +7,7 @@
 
 mod answer;
 mod fault;
+pub mod laws;
 mod message;
 mod outcome;
 mod packets;
@@ -17,9 +18,12 @@ pub use fault::ServerFault;
 pub use outcome::{ServerTook, Worked};
 pub use server::Server;
 pub use tds_session::{
-    Engine, Key, Session, Statement, Within, Word, begin_transaction, commit_transaction,
-    roll_back_transaction,
+    Engine, Key, ScriptEngine, Session, Statement, Within, Word, begin_transaction,
+    commit_transaction, roll_back_transaction,
 };
 
 /// The answer of a growth that was refused.
 pub type NoMemory = std::alloc::AllocError;
+
+#[cfg(test)]
+mod tests;

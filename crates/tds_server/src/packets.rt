@@ -1,5 +1,5 @@
 //! The packets that a server sends.
-ghost use Rattle.std.specs.Prelude.{◌≡◌, ◌++◌, OnOk, OnErr, IfOk};
+ghost use Rattle.std.specs.Prelude.{◌≡◌, ◌≤◌, ◌++◌, length, OnOk, OnErr, IfOk};
 ghost use Rattle.std.specs.List.{All, flat_map};
 ghost use Rattle.tds_server.specs.Packets.{answer_packet, acknowledgement, status_of, FitsOnePacket};
 ghost use Rattle.tds_token.specs.Layout.{Fits, spelling};
@@ -34,6 +34,7 @@ fn spell(alloc: Global, tokens: &[Token]) -> Result<Vec<u8>, NoMemory>
 }
 
 /// Appends a packet of an answer. At want of memory nothing is appended.
+#[tactic(auto, using(crate::proofs::Short::packet_count))]
 pub(crate) fn put_answer(
     alloc: Global,
     out: &mut Vec<u8>,
@@ -43,6 +44,7 @@ pub(crate) fn put_answer(
 ) -> Result<(), NoMemory>
     requires { FitsOnePacket tokens.now }
     ensures ok { OnOk result (out.new.items ≡ out.old.items ++ answer_packet packet_id last tokens.now) }
+    ensures short { length (answer_packet packet_id last tokens.now) ≤ 512 }
     ensures err { OnErr result (out.new.items ≡ out.old.items) }
 {
     let bytes = spell(alloc, tokens)?;

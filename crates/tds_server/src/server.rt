@@ -1,10 +1,10 @@
 //! The server's end of a connection.
-ghost use Rattle.std.specs.Prelude.{◌≡◌, ◌≢◌, ◌++◌, OnOk, OnErr, IfOk, IfErr, Ok, Err};
+ghost use Rattle.std.specs.Prelude.{◌≡◌, ◌≢◌, ◌≤◌, ◌++◌, length, OnOk, OnErr, IfOk, IfErr, Ok, Err};
 ghost use Rattle.tds_packet.specs.declared.kind.Direction.TheVariants.{ToServer};
 ghost use Rattle.tds_packet.specs.Layout.{bits_of, direction_of};
 ghost use Rattle.tds_server.specs.declared.outcome.ServerTook.TheVariants.{NoMemory};
-ghost use Rattle.tds_server.specs.State.{new_server, lost_of};
-ghost use Rattle.tds_server.specs.Taking.{taken, moved, Moves, goes_on, attended, acknowledging_id, part_taken};
+ghost use Rattle.tds_server.specs.State.{new_server, lost_of, IsAnswering};
+ghost use Rattle.tds_server.specs.Taking.{taken, moved, Moves, TakesMemory, goes_on, attended, acknowledging_id, part_taken};
 ghost use Rattle.tds_server.specs.Packets.{acknowledgement};
 ghost use Rattle.tds_server.specs.Working.{worked};
 ghost use Rattle.tds_session.specs.Answer.{answer_of};
@@ -31,7 +31,6 @@ use tds_session::{Engine, Session};
 pub struct Server<E: Engine + Drop> {
     alloc: Global,
     engine: E,
-    size: PacketSize,
     session: Session,
     state: State<E::Stmt>,
     /// The data of the message that is being received; in any other state they mean nothing.
@@ -50,13 +49,15 @@ impl<E: Engine + Drop> Model for Server<E> {
 
 impl<E: Engine + Drop> Server<E> {
     /// A server as a connection begins.
-    pub fn new(alloc: Global, engine: E, size: PacketSize) -> Server<E>
+    ///
+    /// The packet size is not looked at: an answer's packets have at most 512 bytes, and so fit any,
+    /// and the packets that come have been through a reader of that size.
+    pub fn new(alloc: Global, engine: E, _size: PacketSize) -> Server<E>
         ensures { result ≡ new_server engine }
     {
         Server {
             alloc,
             engine,
-            size,
             session: Session::new(),
             state: State::Waiting,
             data: Vec::new(alloc),
@@ -99,7 +100,10 @@ impl<E: Engine + Drop> Server<E> {
         ensures state { result ≢ Ok NoMemory → self.new ≡ (taken (answer_of (E.statements_of self.old.engine) (E.step_of self.old.engine)) self.old packet.entry.header packet.entry.data.now).state }
         ensures answer { result ≢ Ok NoMemory → result ≡ (taken (answer_of (E.statements_of self.old.engine) (E.step_of self.old.engine)) self.old packet.entry.header packet.entry.data.now).answer }
         ensures reply { result ≢ Ok NoMemory → reply.new.items ≡ reply.old.items ++ (taken (answer_of (E.statements_of self.old.engine) (E.step_of self.old.engine)) self.old packet.entry.header packet.entry.data.now).reply }
+        // At want of memory nothing changes. It comes only where a growth is needed, so not in place of
+        // a fault, but for one that a message has once all its data have been joined.
         ensures memory { result ≡ Ok NoMemory → (self.new ≡ self.old) × (reply.new.items ≡ reply.old.items) }
+        ensures wanted { result ≡ Ok NoMemory → TakesMemory (moved (answer_of (E.statements_of self.old.engine) (E.step_of self.old.engine)) self.old.session self.old.phase packet.entry.header packet.entry.data.now) }
     {
         match self.take_unbroken(packet, reply) {
             Ok(took) => Ok(took),
@@ -123,6 +127,7 @@ impl<E: Engine + Drop> Server<E> {
             → Moves (moved (answer_of (E.statements_of self.old.engine) (E.step_of self.old.engine)) self.old.session self.old.phase packet.entry.header packet.entry.data.now)
             took self.new.phase reply.old.items reply.new.items) }
         ensures memory { result ≡ Ok NoMemory → (self.new ≡ self.old) × (reply.new.items ≡ reply.old.items) }
+        ensures wanted { result ≡ Ok NoMemory → TakesMemory (moved (answer_of (E.statements_of self.old.engine) (E.step_of self.old.engine)) self.old.session self.old.phase packet.entry.header packet.entry.data.now) }
         ensures fault { IfErr result (λ fault. moved (answer_of (E.statements_of self.old.engine) (E.step_of self.old.engine)) self.old.session self.old.phase packet.entry.header packet.entry.data.now ≡ Err fault) }
         ensures quiet { OnErr result (reply.new.items ≡ reply.old.items) }
     {
@@ -150,6 +155,7 @@ impl<E: Engine + Drop> Server<E> {
         ensures session { self.new.session ≡ self.old.session }
         ensures moved { IfOk result (λ took. took ≢ NoMemory → part_taken (answer_of (E.statements_of self.old.engine) (E.step_of self.old.engine)) self.old.session self.old.phase kind (bits_of status) «data».now ≡ Ok (goes_on self.new.phase took)) }
         ensures memory { result ≡ Ok NoMemory → self.new ≡ self.old }
+        ensures wanted { result ≡ Ok NoMemory → TakesMemory (part_taken (answer_of (E.statements_of self.old.engine) (E.step_of self.old.engine)) self.old.session self.old.phase kind (bits_of status) «data».now) }
         ensures fault { IfErr result (λ fault. part_taken (answer_of (E.statements_of self.old.engine) (E.step_of self.old.engine)) self.old.session self.old.phase kind (bits_of status) «data».now ≡ Err fault) }
     {
         let reset = self.state.reset_of_message(kind, status)?;
@@ -197,6 +203,7 @@ impl<E: Engine + Drop> Server<E> {
         ensures moved { IfOk result (λ took. took ≢ NoMemory → attended self.old.phase (bits_of status) «data».now ≡ Ok (record { phase = self.new.phase; took = took; reply = acknowledgement (acknowledging_id self.old.phase) })) }
         ensures reply { IfOk result (λ took. took ≢ NoMemory → reply.new.items ≡ reply.old.items ++ acknowledgement (acknowledging_id self.old.phase)) }
         ensures memory { result ≡ Ok NoMemory → (self.new ≡ self.old) × (reply.new.items ≡ reply.old.items) }
+        ensures wanted { result ≡ Ok NoMemory → TakesMemory (attended self.old.phase (bits_of status) «data».now) }
         ensures fault { IfErr result (λ fault. attended self.old.phase (bits_of status) «data».now ≡ Err fault) }
         ensures quiet { OnErr result (reply.new.items ≡ reply.old.items) }
     {
@@ -220,7 +227,10 @@ impl<E: Engine + Drop> Server<E> {
         ensures state { OnOk result (self.new ≡ (worked self.old).state) }
         ensures answer { IfOk result (λ answer. answer ≡ (worked self.old).answer) }
         ensures packet { OnOk result (out.new.items ≡ out.old.items ++ (worked self.old).packet) }
+        ensures short { OnOk result (length (worked self.old).packet ≤ 512) }
+        // At want of memory nothing changes. It comes only where a step is to be done.
         ensures refused { OnErr result ((self.new ≡ self.old) × (out.new.items ≡ out.old.items)) }
+        ensures wanted { OnErr result (IsAnswering self.old.phase) }
     {
         let State::Answering(answer) = &mut self.state else {
             return Ok(Worked::Idle);
