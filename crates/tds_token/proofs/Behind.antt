@@ -1,16 +1,17 @@
 -- The tokens of a packet's data, one step at a time.
-use Rattle.std.proofs.Common.{◌≡◌, ℕ, zero, suc, ◌+◌, ◌-◌, ◌<◌, ◌≤◌, Bool, true, false, cond, eqb, List, [], ◌∷◌, ◌++◌, length, Option, Some, None, Result, Ok, Err, refl, sym, ap, subst, ◌∙◌, append_assoc, arith}
-use Rattle.std.proofs.lemmas.Bool.{eqb-true}
+use Rattle.std.proofs.Common.{◌≡◌, ℕ, zero, suc, ◌<◌, ◌≤◌, false, cond, eqb, List, [], ◌∷◌, ◌++◌, length, Option, Some, None, Result, Ok, Err, refl, sym, ap, ◌∙◌, append_assoc, arith}
 use Rattle.std.proofs.lemmas.List.{nil_from_length, length-append}
 use Rattle.tds_token.specs.declared.fault.TokenFault.{TokenFault}
 use Rattle.tds_token.specs.declared.token.Token.{Token}
 use Rattle.tds_token.specs.declared.token.Token.TheVariants as tokens
+use Rattle.tds_token.specs.declared.token.TokenRef.{TokenRef}
 use Rattle.tds_token.specs.Texts.{AreColumns, IsBytes}
-use Rattle.tds_token.specs.Layout.{spelling, columns_after, IsToken, IsTokens}
-use Rattle.tds_token.specs.Reading.{token_at, fault_of, wrong_token}
-use Rattle.tds_token.specs.Cursor.{Cursor, step_by, step}
+use Rattle.tds_token.specs.Layout.{token_of, spelling, columns_after, IsToken, IsTokens}
+use Rattle.tds_token.specs.Reading.{token_at, fault_of}
+use Rattle.tds_token.specs.Cursor.{Cursor, answer_of, step_by, step}
 use Rattle.tds_token.specs.Contents.{Contents, AreContents, EndsAt, no_more, at_fault, with_token, contents_by, contents_within, contents_of, contents_before}
 use Rattle.tds_token.proofs.Small.{Good}
+use Rattle.tds_token.proofs.Stepping.{found_by, wrong_by, end_by}
 use Rattle.tds_token.proofs.Whole.{token_takes, token_again}
 
 -- columns are columns behind each token
@@ -85,7 +86,8 @@ unfolding contents_within
 more c b rest e = let full : eqb (length (b ∷ rest)) 0 ≡ false = search arith in rw (e, full) refl
 
 at_step : (c : Cursor) (bytes : List ℕ) → c.bytes ≡ bytes → AreColumns c.columns → IsBytes c.bytes → contents_of c.columns c.bytes ≡ contents_before (step c).0 (contents_of (step c).1.columns (step c).1.bytes)
-at_step c [] e known fits = rw (no_step c e) refl
+unfolding contents_within
+at_step c [] e known fits = rw (no_step c e, e) refl
 at_step c (b ∷ rest) e known fits =
     let s = step_read c (length rest) (token_at c.columns c.bytes) known fits (rw e refl) refl in
     rw (a_step c b rest e) (more c b rest e ∙ s)
@@ -94,6 +96,24 @@ pub contents_step : (c d : Cursor) (answer : Option (Result Token TokenFault)) �
     → contents_of c.columns c.bytes ≡ contents_before answer (contents_of d.columns d.bytes)
 contents_step c d answer known fits e =
     at_step c c.bytes refl known fits ∙ ap (λ (p : Option (Result Token TokenFault) × Cursor). contents_before p.0 (contents_of p.1.columns p.1.bytes)) (sym e)
+
+has_some : (bytes : List ℕ) → (bytes ≡ [] → ⊥) → 1 ≤ length bytes
+has_some [] none = absurd (none refl)
+has_some (b ∷ bytes) none = omega arith
+
+not_none : (fault : TokenFault) (result : Option (Result TokenRef TokenFault)) → result ≡ Some (Err fault) → result ≡ None → ⊥
+not_none fault None is e = absurd cc
+not_none fault (Some answer) is e = absurd cc
+
+-- each answer leaves fewer bytes
+pub shorter_by : (c d : Cursor) (result : Option (Result TokenRef TokenFault)) (answer : Result TokenRef TokenFault) → AreColumns c.columns → IsBytes c.bytes → (answer_of result, d) ≡ step c → result ≡ Some answer → length d.bytes < length c.bytes
+shorter_by c d result (Ok t) known fits e is =
+    let f = found_by c d result t known fits e is in
+    omega (arith, ap length f.2, length-append f.0 d.bytes, ap length f.1.spelled, has_a_byte (token_of t))
+shorter_by c d result (Err fault) known fits e is =
+    let w = wrong_by c d result fault e is in
+    let some : 1 ≤ length c.bytes = has_some c.bytes (λ empty. not_none fault result is (end_by c d result e empty).0) in
+    omega (arith, some, ap (λ (d : Cursor). length d.bytes) w.1)
 
 -- ---- the contents in the words of the layout
 
@@ -112,12 +132,15 @@ at_a_fault columns [] fault le e = absurd (omega arith)
 at_a_fault columns (b ∷ rest) fault le e = one_more columns (b ∷ rest) b rest (Err fault) refl e
 
 empty_contents : (columns : Option ℕ) → AreContents columns [] (no_more columns)
+unfolding IsTokens
 empty_contents columns = record { front = []; rest = []; split = refl; spelled = (refl, refl); ends = refl }
 
 fault_contents : (columns : Option ℕ) (bytes : List ℕ) (fault : TokenFault) → 1 ≤ length bytes → token_at columns bytes ≡ Err fault → AreContents columns bytes (at_fault fault columns)
+unfolding IsTokens
 fault_contents columns bytes fault le e = record { front = []; rest = bytes; split = refl; spelled = (refl, refl); ends = (le, ap fault_of e) }
 
 token_contents : (columns : Option ℕ) (bytes : List ℕ) (x : Token × List ℕ) (all : Contents) → (bytes ≡ spelling x.0 ++ x.1) → Good columns x.0 → AreContents (columns_after columns x.0) x.1 all → AreContents columns bytes (with_token x.0 all)
+unfolding IsTokens
 token_contents columns bytes x all e g a = record {
   front = spelling x.0 ++ a.front;
   rest = a.rest;
@@ -156,6 +179,7 @@ ends_only columns rest (Some fault) e = at_a_fault columns rest fault e.0 (fault
 
 only_of : (columns : Option ℕ) (bytes : List ℕ) (ts : List Token) (front rest : List ℕ) (after : Option ℕ) (fault : Option TokenFault) → AreColumns columns → IsBytes bytes → bytes ≡ front ++ rest → IsTokens columns ts front after → EndsAt after rest fault
     → contents_of columns bytes ≡ record { tokens = ts; fault = fault; columns = after }
+unfolding IsTokens
 only_of columns bytes [] front rest after fault known fits e spelled ends =
     ap (λ (c : Option ℕ). contents_of c bytes) (sym spelled.1) ∙ ap (contents_of after) (e ∙ ap (λ (f : List ℕ). f ++ rest) spelled.0) ∙ ends_only after rest fault ends
 only_of columns bytes (t ∷ ts) front rest after fault known fits e spelled ends =

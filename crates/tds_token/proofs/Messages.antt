@@ -1,14 +1,14 @@
 -- Messages.
-use Rattle.std.proofs.Common.{◌≡◌, ℕ, ℤ, zero, suc, ◌+◌, ◌-◌, ◌*◌, ◌^◌, ◌<◌, ◌≤◌, List, [], ◌∷◌, ◌++◌, length, get_or, Result, Ok, Err, refl, sym, ap, subst, ◌∙◌, append_assoc, append-nil, arith}
-use Rattle.std.specs.Int.{w16, w32, to_le_bytes, cast_unsigned}
+use Rattle.std.proofs.Common.{◌≡◌, ℕ, ℤ, ◌+◌, ◌*◌, ◌^◌, ◌<◌, List, [], ◌∷◌, ◌++◌, length, get_or, Result, Ok, refl, sym, ap, subst, ◌∙◌, append_assoc, arith}
+use Rattle.std.specs.Int.{w16, to_le_bytes}
 use Rattle.std.proofs.lemmas.List.{length-append, get_or-append-add}
 use Rattle.tds_token.specs.declared.fault.TokenFault.{TokenFault}
-use Rattle.tds_token.specs.declared.fault.TokenFault.TheVariants.{Cut, WrongLength}
+use Rattle.tds_token.specs.declared.fault.TokenFault.TheVariants.{WrongLength}
 use Rattle.tds_token.specs.declared.message.Message.{Message}
 use Rattle.tds_token.specs.Texts.{units_bytes}
-use Rattle.tds_token.specs.Layout.{IsInt, int_bytes, long_text, short_text, message_inside, sized, FitsMessage, RangedMessage}
-use Rattle.tds_token.specs.Reading.{◌>>=◌, byte_at, int_at, long_text_at, short_text_at, message_in, message_at, sized_at, ended}
-use Rattle.tds_token.proofs.Fields.{IsBytes, IsField, step, bind_ok, ok_is, byte_field, int_field, sized_field, sized_any, ended_ok}
+use Rattle.tds_token.specs.Layout.{int_bytes, long_text, short_text, message_inside, sized, FitsMessage, RangedMessage}
+use Rattle.tds_token.specs.Reading.{◌>>=◌, int_at, message_in, message_at, sized_at, ended}
+use Rattle.tds_token.proofs.Fields.{IsBytes, step, bind_ok, ok_is, byte_field, int_field, sized_field, sized_any, ended_ok}
 use Rattle.tds_token.proofs.Wordings.{IsLong, IsShort, long_field, short_field, units_length}
 
 pub message_length : (m : Message) → length (message_inside m) ≡ 14 + 2 * (length m.text + length m.server + length m.procedure)

@@ -1,8 +1,7 @@
 -- DONE and ENVCHANGE.
-use Rattle.std.proofs.Common.{◌≡◌, ℕ, ℤ, zero, suc, ◌+◌, ◌*◌, ◌^◌, ◌<◌, ◌≤◌, Bool, true, false, cond, eqb, ltb, ◌⊎◌, List, [], ◌∷◌, ◌++◌, length, Option, Some, None, Result, Ok, Err, refl, sym, ap, subst, ◌∙◌, append_assoc, arith, inl, inr}
-use Rattle.std.specs.Int.{w16, w32, w64, to_le_bytes}
+use Rattle.std.proofs.Common.{◌≡◌, ℕ, ◌^◌, ◌<◌, true, false, cond, eqb, List, [], ◌∷◌, ◌++◌, length, Option, Ok, Err, refl, sym, ap, subst, ◌∙◌, append_assoc, arith, inl, inr}
+use Rattle.std.specs.Int.{w16, w64, to_le_bytes}
 use Rattle.std.proofs.lemmas.Bool.{eqb-true, eqb-false}
-use Rattle.tds_token.specs.declared.fault.TokenFault.{TokenFault}
 use Rattle.tds_token.specs.declared.fault.TokenFault.TheVariants.{Cut, WrongLength, WrongEnvChange, WrongStatus}
 use Rattle.tds_token.specs.declared.token.Token.{Token}
 use Rattle.tds_token.specs.declared.token.Token.TheVariants as tokens
@@ -10,7 +9,7 @@ use Rattle.tds_token.specs.declared.env_change.EnvChange.{EnvChange}
 use Rattle.tds_token.specs.declared.env_change.EnvChange.TheVariants.{Begin, Commit, Rollback, ResetDone}
 use Rattle.tds_token.specs.Layout.{spelling, env_inside, sized, Fits, FitsEnv, Ranged, RangedEnv, Under, is_done_status}
 use Rattle.tds_token.specs.Reading.{◌>>=◌, number_at, byte_at, sized_at, ended, empty_at, descriptor_at, new_descriptor_in, old_descriptor_in, no_descriptor_in, env_of, env_in, env_at, done_at}
-use Rattle.tds_token.proofs.Fields.{IsBytes, IsField, bind_ok, want_ok, unless_ok, chosen, ok_is, wide16, wide64, number_field, byte_field, sized_field, sized_any, ended_ok}
+use Rattle.tds_token.proofs.Fields.{IsBytes, bind_ok, want_ok, unless_ok, chosen, ok_is, wide16, wide64, number_field, byte_field, sized_field, sized_any, ended_ok}
 
 -- what a token needs for its spelling, where these columns are known
 pub record Good (columns : Option ℕ) (token : Token) : Type 0 where

@@ -1,15 +1,11 @@
 -- The definitions, held against bytes that were written by hand.
-use Rattle.std.proofs.Common.{◌≡◌, ℕ, ℤ, List, [], ◌∷◌, ◌++◌, Option, Some, None, Result, Ok, Err, refl}
+use Rattle.std.proofs.Common.{◌≡◌, [], ◌∷◌, Some, None, refl}
 use Rattle.std.specs.Prelude.{pos, negsuc}
-use Rattle.tds_token.specs.declared.fault.TokenFault.{TokenFault}
-use Rattle.tds_token.specs.declared.fault.TokenFault.TheVariants.{UnknownToken, Cut, WrongLength, WrongEnvChange, WrongStatus, NoColumns, WrongColumn}
 use Rattle.tds_token.specs.declared.env_change.EnvChange.TheVariants.{Begin, Commit, Rollback, ResetDone}
 use Rattle.tds_token.specs.declared.message.Message.{Message}
-use Rattle.tds_token.specs.declared.token.Token.{Token}
 use Rattle.tds_token.specs.declared.token.Token.TheVariants as tokens
 use Rattle.tds_token.specs.Layout.{spelling}
-use Rattle.tds_token.specs.Reading.{token_at}
-use Rattle.tds_token.specs.Told.{told, changes_of, applied, ends_transaction, keeps_transaction, no_reset}
+use Rattle.tds_token.specs.Told.{told, applied, ends_transaction, keeps_transaction, no_reset}
 
 abbrev say_a : Message
 say_a = record { number = pos 50000; state = 1; class = 0; text = 97 ∷ []; server = []; procedure = []; line = pos 0 }

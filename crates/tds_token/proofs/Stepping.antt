@@ -1,16 +1,14 @@
 -- One step of a reader of tokens, in the words of the layout.
-use Rattle.std.proofs.Common.{◌≡◌, ℕ, ◌≤◌, Bool, true, false, cond, eqb, List, [], ◌∷◌, ◌++◌, length, Option, Some, None, Result, Ok, Err, refl, sym, ap, subst, ◌∙◌, arith}
+use Rattle.std.proofs.Common.{◌≡◌, ℕ, Bool, true, false, cond, eqb, List, [], ◌∷◌, ◌++◌, length, Option, Some, None, Result, Ok, Err, refl, sym, ap, subst, ◌∙◌, arith}
 use Rattle.tds_token.specs.declared.fault.TokenFault.{TokenFault}
-use Rattle.tds_token.specs.declared.fault.TokenFault.TheVariants.{Cut}
 use Rattle.tds_token.specs.declared.token.Token.{Token}
 use Rattle.tds_token.specs.declared.token.TokenRef.{TokenRef}
 use Rattle.tds_token.specs.Texts.{AreColumns, IsBytes}
 use Rattle.tds_token.specs.Layout.{spelling, IsToken, columns_after, token_of}
 use Rattle.std.proofs.lemmas.Bool.{eqb-true}
 use Rattle.std.proofs.lemmas.List.{nil_from_length}
-use Rattle.tds_token.specs.Reading.{◌>>=◌, token_at, fault_of, wrong_token}
+use Rattle.tds_token.specs.Reading.{token_at, fault_of, wrong_token}
 use Rattle.tds_token.specs.Cursor.{Cursor, answer_of, step_by, step}
-use Rattle.tds_token.proofs.Small.{Good}
 use Rattle.tds_token.proofs.Whole.{token_takes, token_again}
 
 abbrev Answer : Type 0

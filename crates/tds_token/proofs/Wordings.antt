@@ -1,18 +1,16 @@
 -- Texts and messages.
-use Rattle.std.proofs.Common.{◌≡◌, ℕ, ℤ, zero, suc, ◌+◌, ◌-◌, ◌*◌, ◌^◌, ◌<◌, ◌≤◌, Bool, true, false, cond, ltb, List, [], ◌∷◌, ◌++◌, length, get_or, take, drop, Result, Ok, Err, refl, sym, ap, subst, ◌∙◌, append_assoc, arith}
-use Rattle.std.specs.Int.{w16, w32, w64, to_le_bytes, from_le_bytes}
-use Rattle.std.specs.List.{flat_map, AllByRecursion}
+use Rattle.std.proofs.Common.{◌≡◌, ℕ, zero, suc, ◌+◌, ◌-◌, ◌*◌, ◌^◌, ◌<◌, ◌≤◌, false, ltb, List, [], ◌∷◌, ◌++◌, length, take, drop, Ok, refl, sym, ap, subst, ◌∙◌, append_assoc, arith}
+use Rattle.std.specs.Int.{w16, to_le_bytes, from_le_bytes}
 use Rattle.std.proofs.lemmas.Bool.{ltb-false, le-ltb}
 use Rattle.std.proofs.lemmas.List.{take_at, drop_at, take-append-drop, length-append, length-take}
 use Rattle.std.proofs.lemmas.List.Concat.{flat_map-cons}
 use Rattle.std.proofs.lemmas.Nat.{le_bytes_2, from_le_bytes-to_le_bytes_2}
 use Rattle.tds_token.specs.declared.fault.TokenFault.{TokenFault}
-use Rattle.tds_token.specs.declared.fault.TokenFault.TheVariants.{Cut, WrongLength}
-use Rattle.tds_token.specs.declared.message.Message.{Message}
+use Rattle.tds_token.specs.declared.fault.TokenFault.TheVariants.{WrongLength}
 use Rattle.tds_token.specs.Texts.{units_of, units_bytes}
-use Rattle.tds_token.specs.Layout.{AreUnits, IsInt, int_bytes, long_text, short_text, message_inside, sized, FitsMessage, RangedMessage}
-use Rattle.tds_token.specs.Reading.{◌>>=◌, number_at, byte_at, int_at, units_at, long_text_at, short_text_at, message_in, message_at, sized_at, ended}
-use Rattle.tds_token.proofs.Fields.{IsBytes, IsBytes-rest, IsBytes-take, IsBytes-drop, IsField, bind_ok, guard_ok, ok_is, wide16, number_field, byte_field, int_field, sized_field, sized_any, ended_ok}
+use Rattle.tds_token.specs.Layout.{AreUnits, long_text, short_text}
+use Rattle.tds_token.specs.Reading.{number_at, byte_at, units_at, long_text_at, short_text_at}
+use Rattle.tds_token.proofs.Fields.{IsBytes, IsBytes-rest, IsBytes-take, IsBytes-drop, IsField, bind_ok, guard_ok, wide16, number_field, byte_field}
 
 pub record AreBack (front units : List ℕ) (n : ℕ) : Type 0 where
   pub bytes : units_bytes units ≡ front

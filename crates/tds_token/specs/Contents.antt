@@ -37,7 +37,7 @@ contents_of columns bytes = contents_within (length bytes) columns bytes
 
 -- What one answer of `Tokens::next` makes of the contents of what is left behind it.
 abbrev pub contents_before : Option (Result Token TokenFault) → Contents → Contents
-contents_before None rest = rest
+contents_before None rest = no_more rest.columns
 contents_before (Some (Ok token)) rest = with_token token rest
 contents_before (Some (Err fault)) rest = at_fault fault rest.columns
 

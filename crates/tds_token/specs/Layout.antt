@@ -192,7 +192,7 @@ pub record IsToken (columns : Option ℕ) (token : Token) (bytes : List ℕ) (af
   pub after_is : after ≡ columns_after columns token
 
 -- These bytes spell these tokens, one behind the other, and the columns are handed on.
-abbrev pub IsTokens : Option ℕ → List Token → List ℕ → Option ℕ → Type 0
+unfoldable pub IsTokens : Option ℕ → List Token → List ℕ → Option ℕ → Type 0
 IsTokens columns [] bytes after = (bytes ≡ []) × (after ≡ columns)
 IsTokens columns (token ∷ others) bytes after =
     (front : List ℕ) × (rest : List ℕ) × (middle : Option ℕ) × (bytes ≡ front ++ rest) × IsToken columns token front middle × IsTokens middle others rest after

@@ -1,6 +1,6 @@
 -- Reading from left to right. Each field is looked at as soon as it is there, and the first one
 -- that is wrong or cut is the fault. This is also the definition of which fault that is.
-use Rattle.std.specs.Prelude.{◌≡◌, ℕ, ℤ, ◌*◌, zero, suc, List, [], ◌∷◌, length, take, drop, Option, Some, None, Result, Ok, Err, MatchResult, nat_lt, nat_le, ◌||◌, ◌==◌, if◌then◌else◌, not}
+use Rattle.std.specs.Prelude.{◌≡◌, ℕ, ℤ, ◌*◌, zero, suc, List, [], ◌∷◌, length, take, drop, Option, Some, None, Result, Ok, Err, MatchResult, nat_lt, ◌||◌, ◌==◌, if◌then◌else◌}
 use Rattle.std.specs.Int.{Width, w16, w32, w64, byte_len, from_le_bytes, cast_signed}
 use Rattle.tds_token.specs.declared.columns.Column.{Column}
 use Rattle.tds_token.specs.declared.env_change.EnvChange.{EnvChange}

@@ -1,5 +1,5 @@
 -- What a client tells of tokens, and what it takes from them.
-use Rattle.std.specs.Prelude.{ℕ, zero, suc, List, [], ◌∷◌, Option, Some, None, ◌==◌, if◌then◌else◌}
+use Rattle.std.specs.Prelude.{ℕ, List, [], ◌∷◌, Option, Some, None, ◌==◌, if◌then◌else◌}
 use Rattle.tds_token.specs.declared.env_change.EnvChange.{EnvChange}
 use Rattle.tds_token.specs.declared.env_change.EnvChange.TheVariants.{Begin, Commit, Rollback, ResetDone}
 use Rattle.tds_token.specs.declared.token.Token.{Token}

@@ -1,4 +1,4 @@
-ghost use Rattle.std.specs.Prelude.{◌≡◌, ◌++◌, [], List, ℕ, Option, Some, None, Ok, Err};
+ghost use Rattle.std.specs.Prelude.{◌≡◌, ◌<◌, ◌++◌, [], List, ℕ, Option, Some, None, Result, Ok, Err, length};
 ghost use Rattle.tds_token.specs.declared.fault.TokenFault.{TokenFault};
 ghost use Rattle.tds_token.specs.declared.token.Token.{Token};
 ghost use Rattle.tds_token.specs.declared.token.TokenRef.{TokenRef};
@@ -65,6 +65,8 @@ impl<'a> Tokens<'a> {
             × (self.new ≡ record { bytes = []; columns = self.old.columns }) }
         ensures end { self.old.bytes ≡ [] → (result ≡ None) × (self.new ≡ self.old) }
         ensures none { result ≡ None → (self.old.bytes ≡ []) × (self.new ≡ self.old) }
+        // A token has a byte at least, so a loop ends.
+        ensures shorter { (answer : Result TokenRef TokenFault) → result ≡ Some answer → length self.new.bytes < length self.old.bytes }
         // So a loop reads the contents of the data, token by token.
         ensures contents { contents_of self.old.columns self.old.bytes
             ≡ contents_before (answer_of result) (contents_of self.new.columns self.new.bytes) }

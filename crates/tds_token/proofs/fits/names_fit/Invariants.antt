@@ -1,4 +1,4 @@
-use Rattle.std.proofs.Common.{◌≡◌, ◌≤◌, length, take}
+use Rattle.std.proofs.Common.{take}
 use Rattle.std.specs.List.{AllByRecursion}
 use Rattle.tds_token.specs.Layout.{FitsColumn}
 use Rattle.tds_token.proofs.fits.names_fit.Given as goal

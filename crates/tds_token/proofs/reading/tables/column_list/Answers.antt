@@ -1,5 +1,4 @@
-use Rattle.tds_token.specs.Reading.{columns_at}
-use Rattle.tds_token.proofs.Skipping.{count_is, list_is, no_list}
+use Rattle.tds_token.proofs.Skipping.{count_is}
 use Rattle.tds_token.proofs.reading.tables.column_list.Goals as goal
 
 pub new-requires-clause-whole : goal.new-requires-clause-whole

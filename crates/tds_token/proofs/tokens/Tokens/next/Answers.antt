@@ -1,5 +1,5 @@
 use Rattle.tds_token.specs.Cursor.{answer_of}
-use Rattle.tds_token.proofs.Behind.{contents_step}
+use Rattle.tds_token.proofs.Behind.{contents_step, shorter_by}
 use Rattle.tds_token.proofs.Stepping.{found_by, only_by, wrong_by, end_by, none_by}
 use Rattle.tds_token.proofs.tokens.Tokens.next.Goals as goal
 
@@ -21,3 +21,7 @@ returns-clause-none c = λ is. none_by c.args.self.now c.advance.new.self c.adva
 pub returns-clause-contents : goal.returns-clause-contents
 returns-clause-contents c =
     contents_step c.args.self.now c.advance.new.self (answer_of c.advance.result) c.advance.ensures.known c.advance.ensures.bytes c.advance.ensures.exact
+
+pub returns-clause-shorter : goal.returns-clause-shorter
+returns-clause-shorter c = λ answer is.
+    shorter_by c.args.self.now c.advance.new.self c.advance.result answer c.advance.ensures.known c.advance.ensures.bytes c.advance.ensures.exact is

@@ -1,5 +1,4 @@
-use Rattle.std.proofs.Common.{◌≡◌, ◌++◌, length, take}
-use Rattle.tds_token.specs.Layout.{AreUnits}
+use Rattle.std.proofs.Common.{◌≡◌, ◌++◌, take}
 use Rattle.tds_token.specs.Texts.{units_bytes}
 use Rattle.tds_token.proofs.writing.fields.put_units.Given as goal
 

@@ -1,4 +1,4 @@
-use Rattle.std.proofs.Common.{◌≡◌, ◌++◌, ◌∷◌, length, take}
+use Rattle.std.proofs.Common.{◌≡◌, ◌++◌, ◌∷◌, take}
 use Rattle.std.specs.List.{flat_map, AllByRecursion}
 use Rattle.tds_token.specs.Layout.{IsInt, int_bytes}
 use Rattle.tds_token.proofs.writing.tables.put_row.Given as goal
