@@ -91,6 +91,7 @@ joined : {a b x y : List ℕ} → a ≡ x → b ≡ y → a ++ b ≡ x ++ y
 joined e f = cc
 
 spelled_joined : (columns after : Option ℕ) (tokens : List Token) (bytes : List ℕ) → IsTokens columns tokens bytes after → bytes ≡ flat_map spelling tokens
+unfolding IsTokens
 spelled_joined columns after [] bytes h = h.0
 spelled_joined columns after (t ∷ ts) bytes h = rw h.3 (joined h.4.spelled (spelled_joined _ after ts _ h.5))
 
