@@ -1,0 +1,5 @@
+mod Short
+mod Begun
+mod Wanted
+mod Ended
+mod Stepping

@@ -1,0 +1,7 @@
+pub mod Faults
+pub mod Packets
+pub mod State
+pub mod Taking
+pub mod Working
+pub mod Whole
+pub mod Due
