@@ -1,11 +1,11 @@
 -- The last step of an answer ends it, and no other one does.
-use Rattle.std.proofs.Common.{◌≡◌, ℕ, Bool, true, false, if◌then◌else◌, ◌==◌, List, [], ◌∷◌, Option, Some, None, refl, codes}
+use Rattle.std.proofs.Common.{◌≡◌, ℕ, Bool, true, false, if◌then◌else◌, ◌==◌, List, [], ◌∷◌, Option, Some, None, refl}
 use Rattle.tds_packet.specs.declared.status.Reset.{Reset}
 use Rattle.tds_request.specs.declared.request.Request.{Request}
 use Rattle.tds_request.specs.declared.request.Request.TheVariants as request
 use Rattle.tds_server.specs.Whole.{IsEnded}
 use Rattle.tds_session.specs.Answer.{Step, step_then, and_then, batch_steps, steps_in, steps_of, wrong_descriptor, reset_step, answer_to, answer_of}
-use Rattle.tds_session.specs.Effects.{Effect, has_error, fails}
+use Rattle.tds_session.specs.Effects.{Effect, has_error}
 use Rattle.tds_session.specs.Session.{SessionState, after_reset}
 
 behind : (first : Step) (rest : List Step) → first.last ≡ false → IsEnded rest → IsEnded (first ∷ rest)

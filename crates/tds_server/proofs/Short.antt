@@ -1,13 +1,12 @@
 -- The steps that a server makes itself fit into a packet.
-use Rattle.std.proofs.Common.{rules, ℕ, ◌+◌, ◌≤◌, ◌<◌, List, [], ◌∷◌, ◌++◌, length, arith, refl, ap, sym, codes, ◌==◌, Bool, true, false, if◌then◌else◌, ◌≡◌, length-append, Option, None}
-use Rattle.std.specs.List.{All, flat_map}
+use Rattle.std.proofs.Common.{rules, ℕ, ◌≤◌, ◌<◌, List, [], ◌∷◌, ◌++◌, length, arith, refl, ap, sym, codes, ◌==◌, Bool, true, false, if◌then◌else◌, ◌≡◌, length-append, Option}
+use Rattle.std.specs.List.{flat_map}
 use Rattle.std.proofs.lemmas.Bool.Decides.{nat_tests}
 use Rattle.std.proofs.lemmas.List.Elements.{All-cons, All-nil}
 use Rattle.tds_server.specs.Packets.{FitsOnePacket, answer_packet, LeavesRoom, final}
-use Rattle.tds_session.specs.Effects.{error, done, Effect, begins, begin_by, ends, end_by, fails}
-use Rattle.tds_session.specs.Session.{SessionState, IsSession, last_descriptor}
+use Rattle.tds_session.specs.Effects.{error, done, Effect, begins, begin_by, ends, end_by}
+use Rattle.tds_session.specs.Session.{SessionState, IsSession}
 use Rattle.tds_session.specs.Lawful.{FitsPacket}
-use Rattle.tds_session.specs.Answer.{last_step}
 use Rattle.tds_token.specs.declared.env_change.EnvChange.{EnvChange}
 use Rattle.tds_token.specs.declared.env_change.EnvChange.TheVariants as change
 use Rattle.tds_token.specs.Layout.{Fits, spelling, is_done_status, IsTokens}

@@ -4,7 +4,7 @@ use Rattle.tds_session.specs.Answer.{Step}
 use Rattle.tds_server.specs.Packets.{answer_packet, next_id}
 use Rattle.tds_server.specs.State.{ServerState, Waiting, Answering}
 use Rattle.tds_server.specs.Whole.{IsEnded, after_works, bytes_of_works, packets_from, session_after}
-use Rattle.tds_server.specs.Working.{Work, worked, works_in, does, phase_behind}
+use Rattle.tds_server.specs.Working.{worked, works_in, does, phase_behind}
 
 one_step : {E : Type 0} (s : ServerState E) (step : Step) (rest : List Step) (id : ℕ) → s.phase ≡ Answering (step ∷ rest) id → worked s ≡ does s step rest id
 one_step s step rest id e = ap (λ phase. works_in s phase) e
@@ -14,15 +14,15 @@ bytes_are s [] id h e = absurd h
 bytes_are s (x ∷ []) id h e = ap (λ w. w.packet ++ []) (one_step s x [] id e)
 bytes_are s (x ∷ y ∷ ys) id h e =
     rw (one_step s x (y ∷ ys) id e)
-        (ap (λ rest. answer_packet id x.last x.tokens ++ rest)
-            (bytes_are (does s x (y ∷ ys) id).state (y ∷ ys) (next_id id) h.1 (ap (λ last. phase_behind last (y ∷ ys) id) h.0)))
+    (ap (λ rest. answer_packet id x.last x.tokens ++ rest)
+    (bytes_are (does s x (y ∷ ys) id).state (y ∷ ys) (next_id id) h.1 (ap (λ last. phase_behind last (y ∷ ys) id) h.0)))
 
 pub server_is : {E : Type 0} (s : ServerState E) (steps : List Step) (id : ℕ) → IsEnded steps → s.phase ≡ Answering steps id →
     after_works (length steps) s ≡ record s { session = session_after s.session steps; phase = Waiting }
 server_is s [] id h e = absurd h
 server_is s (x ∷ []) id h e =
     ap (λ w. w.state) (one_step s x [] id e)
-        ∙ ap (λ last. record s { session = x.after; phase = phase_behind last [] id }) h
+    ∙ ap (λ last. record s { session = x.after; phase = phase_behind last [] id }) h
 server_is s (x ∷ y ∷ ys) id h e =
     ap (λ w. after_works (length (y ∷ ys)) w.state) (one_step s x (y ∷ ys) id e)
-        ∙ server_is (does s x (y ∷ ys) id).state (y ∷ ys) (next_id id) h.1 (ap (λ last. phase_behind last (y ∷ ys) id) h.0)
+    ∙ server_is (does s x (y ∷ ys) id).state (y ∷ ys) (next_id id) h.1 (ap (λ last. phase_behind last (y ∷ ys) id) h.0)

@@ -1,5 +1,5 @@
 -- Where memory is wanted.
-use Rattle.std.proofs.Common.{◌≡◌, ◌≢◌, rules, ℕ, Option, Result, Ok, Err}
+use Rattle.std.proofs.Common.{rules, ℕ, Option, Result, Ok, Err}
 use Rattle.tds_packet.specs.declared.status.Reset.{Reset}
 use Rattle.tds_request.specs.declared.fault.RequestFault.{RequestFault}
 use Rattle.tds_request.specs.declared.request.Request.{Request}

@@ -15,7 +15,7 @@ use Rattle.tds_server.specs.declared.answer.Task.{Task}
 use Rattle.tds_server.specs.declared.answer.Task.TheVariants as task
 use Rattle.tds_server.specs.declared.state.State.{State}
 use Rattle.tds_server.specs.declared.state.State.TheVariants as state
-use Rattle.tds_server.specs.State.{Message, Phase, Waiting, Receiving, Answering, Broken}
+use Rattle.tds_server.specs.State.{Phase, Waiting, Receiving, Answering, Broken}
 
 -- the statements of a batch in the language
 abbrev pub statements_in : {S : Type 0} → Task S → List S

@@ -1,10 +1,10 @@
 -- An answer as a whole: what calls of `work` do, one after another.
-use Rattle.std.specs.Prelude.{◌≡◌, ℕ, zero, suc, List, [], ◌∷◌, ◌++◌, length, true, false}
+use Rattle.std.specs.Prelude.{◌≡◌, ℕ, zero, suc, List, [], ◌∷◌, ◌++◌, true, false}
 use Rattle.tds_session.specs.Answer.{Step}
 use Rattle.tds_session.specs.Session.{SessionState}
 use Rattle.tds_server.specs.Packets.{answer_packet, next_id}
-use Rattle.tds_server.specs.State.{ServerState, Waiting, Answering}
-use Rattle.tds_server.specs.Working.{Work, worked}
+use Rattle.tds_server.specs.State.{ServerState}
+use Rattle.tds_server.specs.Working.{worked}
 
 -- the server after so many calls of `work`
 abbrev pub after_works : {E : Type 0} → ℕ → ServerState E → ServerState E

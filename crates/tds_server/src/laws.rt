@@ -24,7 +24,7 @@ pub fn attention_is_acknowledged()
     ensures { (answers : Answers) (session : SessionState) (phase : Phase) (header : Header)
         → fault_in phase ≡ None → header.kind ≡ Attention → bits_of header.status ≡ 1
         → moved answers session phase header []
-            ≡ Ok (record { phase = Waiting; took = Acknowledged; reply = acknowledgement (acknowledging_id phase) }) }
+        ≡ Ok (record { phase = Waiting; took = Acknowledged; reply = acknowledgement (acknowledging_id phase) }) }
 {}
 
 /// A broken server answers its fault to every packet.
@@ -34,10 +34,7 @@ pub fn a_fault_stays()
 {}
 
 /// A message that ends with the ignore bit is forgotten, whatever its data are.
-#[tactic(
-    auto,
-    unfolding(crate::specs::Taking::continued, crate::specs::Taking::ignored)
-)]
+#[tactic(auto, unfolding(crate::specs::Taking::continued, crate::specs::Taking::ignored))]
 pub fn an_ignored_message_is_dropped()
     ensures { (answers : Answers) (session : SessionState) (phase : Phase) (kind : RequestKind) (status : ℕ) (content : List ℕ) (m : Message)
         → message_before phase kind status ≡ Ok m → has_bit status 1 ≡ true → has_bit status 2 ≡ true
