@@ -4,3 +4,4 @@ pub mod Texts
 pub mod Messages
 pub mod Memoryless
 pub mod Decoded
+pub mod Whole

@@ -15,3 +15,7 @@ pub record IsBatchText (units : List ℕ) : Type 0 where
 -- 0 no change, 1 read uncommitted, 2 read committed, 3 repeatable read, 4 serializable, 5 snapshot. MS-TDS 2.2.6.9.
 abbrev pub IsIsolation : ℕ → Type 0
 IsIsolation level = level ≤ 5
+
+-- Every byte is a number of one byte.
+abbrev pub AreBytes : List ℕ → Type 0
+AreBytes bytes = All (λ byte. byte < 256) bytes

@@ -8,6 +8,7 @@ mod encoding;
 mod fault;
 mod fields;
 mod isolation;
+pub mod laws;
 mod request;
 mod text;
 
@@ -20,3 +21,6 @@ pub use text::BatchText;
 
 /// The answer of a growth that was refused.
 pub type NoMemory = std::alloc::AllocError;
+
+#[cfg(test)]
+mod tests;

@@ -1,3 +1,4 @@
+pub mod Keeping
 pub mod Fields
 pub mod Small
 pub mod Wordings
@@ -6,4 +7,5 @@ pub mod Skipping
 pub mod Tables
 pub mod Whole
 pub mod Stepping
+pub mod Behind
 pub mod Spelled

@@ -1,7 +1,7 @@
 -- Messages.
-use Rattle.std.proofs.Common.{◌≡◌, ℕ, ℤ, zero, suc, ◌+◌, ◌-◌, ◌*◌, ◌^◌, ◌<◌, ◌≤◌, List, [], ◌∷◌, ◌++◌, length, Result, Ok, Err, refl, sym, ap, subst, ◌∙◌, append_assoc, append-nil, arith}
+use Rattle.std.proofs.Common.{◌≡◌, ℕ, ℤ, zero, suc, ◌+◌, ◌-◌, ◌*◌, ◌^◌, ◌<◌, ◌≤◌, List, [], ◌∷◌, ◌++◌, length, get_or, Result, Ok, Err, refl, sym, ap, subst, ◌∙◌, append_assoc, append-nil, arith}
 use Rattle.std.specs.Int.{w16, w32, to_le_bytes, cast_unsigned}
-use Rattle.std.proofs.lemmas.List.{length-append}
+use Rattle.std.proofs.lemmas.List.{length-append, get_or-append-add}
 use Rattle.tds_token.specs.declared.fault.TokenFault.{TokenFault}
 use Rattle.tds_token.specs.declared.fault.TokenFault.TheVariants.{Cut, WrongLength}
 use Rattle.tds_token.specs.declared.message.Message.{Message}
@@ -11,7 +11,7 @@ use Rattle.tds_token.specs.Reading.{◌>>=◌, byte_at, int_at, long_text_at, sh
 use Rattle.tds_token.proofs.Fields.{IsBytes, IsField, step, bind_ok, ok_is, byte_field, int_field, sized_field, sized_any, ended_ok}
 use Rattle.tds_token.proofs.Wordings.{IsLong, IsShort, long_field, short_field, units_length}
 
-message_length : (m : Message) → length (message_inside m) ≡ 14 + 2 * (length m.text + length m.server + length m.procedure)
+pub message_length : (m : Message) → length (message_inside m) ≡ 14 + 2 * (length m.text + length m.server + length m.procedure)
 message_length m =
     let a = units_length m.text in
     let b = units_length m.server in
@@ -82,3 +82,27 @@ unfolding message_at
 message_again m rest fits ranged =
     let short : length (message_inside m) < 2 ^ 16 = omega (arith, message_length m, fits.whole) in
     rw (sized_any (message_inside m) rest short, message_in_again m fits ranged) refl
+
+regrouped : (a b c d e f : List ℕ) → ((((a ++ b) ++ c) ++ d) ++ e) ++ f ≡ a ++ (b ++ (c ++ (d ++ (e ++ f))))
+regrouped a b c d e f =
+    append_assoc (((a ++ b) ++ c) ++ d) e f ∙ append_assoc ((a ++ b) ++ c) d (e ++ f) ∙ append_assoc (a ++ b) c (d ++ (e ++ f)) ∙ append_assoc a b (c ++ (d ++ (e ++ f)))
+
+-- the parts of a message, each behind the one before
+pub message_written : (old a b c d e : List ℕ) (kind n : ℕ) (m : Message) → n ≡ 14 + 2 * (length m.text + length m.server + length m.procedure)
+    → a ≡ old ++ kind ∷ (to_le_bytes w16 n ++ (int_bytes m.number ++ m.state ∷ m.class ∷ [])) → b ≡ a ++ long_text m.text → c ≡ b ++ short_text m.server → d ≡ c ++ short_text m.procedure → e ≡ d ++ int_bytes m.line
+    → e ≡ old ++ kind ∷ sized (message_inside m)
+message_written old a b c d e kind n m counted ea eb ec ed ee =
+    let l : n ≡ length (message_inside m) = counted ∙ sym (message_length m) in
+    let whole : e ≡ ((((old ++ kind ∷ (to_le_bytes w16 n ++ (int_bytes m.number ++ m.state ∷ m.class ∷ []))) ++ long_text m.text) ++ short_text m.server) ++ short_text m.procedure) ++ int_bytes m.line = cc in
+    whole ∙ regrouped old (kind ∷ (to_le_bytes w16 n ++ (int_bytes m.number ++ m.state ∷ m.class ∷ []))) (long_text m.text) (short_text m.server) (short_text m.procedure) (int_bytes m.line) ∙ ap (λ (n : ℕ). old ++ kind ∷ (to_le_bytes w16 n ++ message_inside m)) l
+
+-- a byte of a vector is a byte
+byte_behind : (old behind new : List ℕ) (i : ℕ) → new ≡ old ++ behind → i < length behind → ((i d : ℕ) → i < length new → get_or new i d < 256) → get_or behind i 0 < 256
+byte_behind old behind new i e lt bytes =
+    let at : get_or new (length old + i) 0 ≡ get_or behind i 0 = rw e (get_or-append-add old behind i 0) in
+    let long : length old + i < length new = rw e (omega (arith, length-append old behind)) in
+    omega (arith, at, bytes (length old + i) 0 long)
+
+pub state_and_class : (old new : List ℕ) (kind : ℕ) (m : Message) → new ≡ old ++ kind ∷ sized (message_inside m) → ((i d : ℕ) → i < length new → get_or new i d < 256) → (m.state < 256) × (m.class < 256)
+state_and_class old new kind m e bytes =
+    (byte_behind old (kind ∷ sized (message_inside m)) new 7 e (omega arith) bytes, byte_behind old (kind ∷ sized (message_inside m)) new 8 e (omega arith) bytes)

@@ -3,6 +3,7 @@ use Rattle.std.specs.Prelude.{◌≡◌, ℕ, ℤ, ◌+◌, ◌*◌, ◌<◌, �
 use Rattle.std.specs.Int.{w16, w32, w64, to_le_bytes, cast_unsigned}
 use Rattle.std.specs.List.{flat_map, AllByRecursion}
 use Rattle.tds_token.specs.declared.columns.Column.{Column}
+use Rattle.tds_token.specs.declared.columns.ColumnRef.{ColumnRef}
 use Rattle.tds_token.specs.declared.env_change.EnvChange.{EnvChange}
 use Rattle.tds_token.specs.declared.env_change.EnvChange.TheVariants.{Begin, Commit, Rollback, ResetDone}
 use Rattle.tds_token.specs.declared.message.Message.{Message}
@@ -26,6 +27,10 @@ message_of m = record {
   procedure = m.procedure;
   line = m.line;
 }
+
+-- The column that is lent.
+abbrev pub column_of : ColumnRef → Column
+column_of c = record { user_type = c.user_type; flags = c.flags; name = c.name }
 
 -- The token that is lent.
 abbrev pub token_of : TokenRef → Token
@@ -187,7 +192,7 @@ pub record IsToken (columns : Option ℕ) (token : Token) (bytes : List ℕ) (af
   pub after_is : after ≡ columns_after columns token
 
 -- These bytes spell these tokens, one behind the other, and the columns are handed on.
-pub IsTokens : Option ℕ → List Token → List ℕ → Option ℕ → Type 0
+abbrev pub IsTokens : Option ℕ → List Token → List ℕ → Option ℕ → Type 0
 IsTokens columns [] bytes after = (bytes ≡ []) × (after ≡ columns)
 IsTokens columns (token ∷ others) bytes after =
     (front : List ℕ) × (rest : List ℕ) × (middle : Option ℕ) × (bytes ≡ front ++ rest) × IsToken columns token front middle × IsTokens middle others rest after

@@ -4,4 +4,6 @@ pub mod Faults
 pub mod Reading
 pub mod Lent
 pub mod Cursor
+pub mod Contents
 pub mod Told
+pub mod Vectors

@@ -31,8 +31,8 @@ run_at short n bytes = if nat_lt (length bytes) n then Err short else Ok (take n
 abbrev pub number_at : TokenFault → Width → List ℕ → Result (ℕ × List ℕ) TokenFault
 number_at short w bytes =
     if nat_lt (length bytes) (byte_len w)
-        then Err short
-        else Ok (from_le_bytes w (take (byte_len w) bytes), drop (byte_len w) bytes)
+    then Err short
+    else Ok (from_le_bytes w (take (byte_len w) bytes), drop (byte_len w) bytes)
 
 abbrev pub int_at : TokenFault → List ℕ → Result (ℤ × List ℕ) TokenFault
 int_at short bytes = number_at short w32 bytes >>= λ n. Ok (cast_signed w32 n.0, n.1)
@@ -45,8 +45,8 @@ byte_at short (b ∷ rest) = Ok (b, rest)
 abbrev pub units_at : TokenFault → ℕ → List ℕ → Result (List ℕ × List ℕ) TokenFault
 units_at short n bytes =
     if nat_lt (length bytes) (2 * n)
-        then Err short
-        else Ok (units_of (take (2 * n) bytes), drop (2 * n) bytes)
+    then Err short
+    else Ok (units_of (take (2 * n) bytes), drop (2 * n) bytes)
 
 -- ---- Lengths: the bytes that a Length counts must all be there. Inside them, a field that passes
 -- their end is a wrong Length, and so is what is left over.

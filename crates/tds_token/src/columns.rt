@@ -1,10 +1,12 @@
-ghost use Rattle.std.specs.Prelude.{◌≡◌, ◌≤◌, None, length};
+ghost use Rattle.std.specs.Prelude.{◌≡◌, ◌≤◌, None, IfOk, length};
 ghost use Rattle.tds_token.specs.Texts.{AreColumns};
-ghost use Rattle.tds_token.specs.Layout.{columns_after, token_of};
+ghost use Rattle.tds_token.specs.Layout.{column_of, columns_after, token_of};
 ghost use Rattle.tds_token.specs.Reading.{columns_of};
 
-use crate::text::Text;
+use crate::reading::column;
+use crate::text::{Text, TextRef};
 use crate::token::TokenRef;
+use std::alloc::{AllocError, Global};
 use std::marker::Model;
 
 /// What is told of a column: its user type, its flags and its name (MS-TDS 2.2.7.4). Its type is
@@ -14,6 +16,27 @@ pub struct Column {
     pub user_type: u32,
     pub flags: u16,
     pub name: Text,
+}
+
+/// A column whose name lies in a packet's data.
+#[derive(Debug, Drop)]
+pub(crate) struct ColumnRef<'a> {
+    pub(crate) user_type: u32,
+    pub(crate) flags: u16,
+    pub(crate) name: TextRef<'a>,
+}
+
+impl<'a> ColumnRef<'a> {
+    /// The same column, in memory of its own.
+    fn own(&self, alloc: Global) -> Result<Column, AllocError>
+        ensures { IfOk result (λ column. column ≡ column_of self.now) }
+    {
+        Ok(Column {
+            user_type: self.user_type,
+            flags: self.flags,
+            name: self.name.own(alloc)?,
+        })
+    }
 }
 
 /// The columns of a result, from left to right.
@@ -93,6 +116,31 @@ impl<'a> ColumnsRef<'a> {
     {
         self.count
     }
+
+    /// The same columns, in memory of their own.
+    pub fn own(&self, alloc: Global) -> Result<ColumnList, AllocError>
+        ensures { IfOk result (λ columns. columns ≡ self.now) }
+    {
+        let columns = columns_from(alloc, self.count, self.bytes)?;
+        Ok(ColumnList { columns })
+    }
+}
+
+fn columns_from(alloc: Global, count: u8, bytes: &[u8]) -> Result<Vec<Column>, AllocError>
+    requires whole { length (columns_of count bytes.now) ≡ count }
+    requires least { 1 ≤ count }
+    ensures { IfOk result (λ columns. columns.items ≡ columns_of count bytes.now) }
+{
+    let mut columns = Vec::new(alloc);
+    let mut rest = bytes;
+    'columns: for _ in 0..count {
+        let Ok((first, after)) = column(rest) else {
+            unreachable!();
+        };
+        columns.push(first.own(alloc)?)?;
+        rest = after;
+    }
+    Ok(columns)
 }
 
 /// How many values a row has, where that is known: none, or 1 to 16. A COLMETADATA tells it, and

@@ -8,6 +8,7 @@
 mod columns;
 mod env_change;
 mod fault;
+mod fits;
 pub mod laws;
 mod message;
 mod reading;
@@ -15,6 +16,7 @@ mod row;
 mod text;
 mod token;
 mod tokens;
+mod writing;
 
 pub use columns::{Column, ColumnList, Columns, ColumnsRef};
 pub use env_change::EnvChange;
@@ -24,6 +26,10 @@ pub use row::{Row, RowRef};
 pub use text::{Text, TextRef};
 pub use token::{Token, TokenRef};
 pub use tokens::Tokens;
+pub use writing::put_token;
 
 /// The answer of a growth that was refused.
 pub type NoMemory = std::alloc::AllocError;
+
+#[cfg(test)]
+mod tests;

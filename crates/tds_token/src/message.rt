@@ -1,4 +1,8 @@
+ghost use Rattle.std.specs.Prelude.{◌≡◌, IfOk};
+ghost use Rattle.tds_token.specs.Layout.{message_of};
+
 use crate::text::{Text, TextRef};
+use std::alloc::{AllocError, Global};
 
 /// What an INFO or an ERROR says (MS-TDS 2.2.7.13, 2.2.7.10). `class` is its severity, and `line`
 /// the line of the batch.
@@ -23,4 +27,21 @@ pub struct MessageRef<'a> {
     pub server: TextRef<'a>,
     pub procedure: TextRef<'a>,
     pub line: i32,
+}
+
+impl<'a> MessageRef<'a> {
+    /// The same message, in memory of its own.
+    pub fn own(&self, alloc: Global) -> Result<Message, AllocError>
+        ensures { IfOk result (λ message. message ≡ message_of self.now) }
+    {
+        Ok(Message {
+            number: self.number,
+            state: self.state,
+            class: self.class,
+            text: self.text.own(alloc)?,
+            server: self.server.own(alloc)?,
+            procedure: self.procedure.own(alloc)?,
+            line: self.line,
+        })
+    }
 }

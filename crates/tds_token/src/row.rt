@@ -1,6 +1,7 @@
-ghost use Rattle.std.specs.Prelude.{◌≡◌};
+ghost use Rattle.std.specs.Prelude.{◌≡◌, IfOk};
 ghost use Rattle.tds_token.specs.Texts.{ints_of};
 
+use std::alloc::{AllocError, Global};
 use std::marker::Model;
 
 /// The values of a row, in the order of the columns (MS-TDS 2.2.7.20). Each is an INT4.
@@ -63,4 +64,24 @@ impl<'a> RowRef<'a> {
     {
         RowRef { bytes }
     }
+
+    /// The same row, in memory of its own.
+    pub fn own(&self, alloc: Global) -> Result<Row, AllocError>
+        ensures { IfOk result (λ row. row ≡ self.now) }
+    {
+        let values = values_from(alloc, self.bytes)?;
+        Ok(Row { values })
+    }
+}
+
+fn values_from(alloc: Global, bytes: &[u8]) -> Result<Vec<i32>, AllocError>
+    ensures { IfOk result (λ values. values.items ≡ ints_of bytes.now) }
+{
+    let mut values = Vec::new(alloc);
+    let mut rest = bytes;
+    'values: while let [a, b, c, d, after @ ..] = rest {
+        values.push(i32::from_le_bytes([*a, *b, *c, *d]))?;
+        rest = after;
+    }
+    Ok(values)
 }

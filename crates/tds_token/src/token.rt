@@ -1,7 +1,11 @@
+ghost use Rattle.std.specs.Prelude.{◌≡◌, IfOk};
+ghost use Rattle.tds_token.specs.Layout.{is_env, token_of};
+
 use crate::columns::{ColumnList, ColumnsRef};
 use crate::env_change::EnvChange;
 use crate::message::{Message, MessageRef};
 use crate::row::{Row, RowRef};
+use std::alloc::{AllocError, Global};
 
 /// A token (MS-TDS 2.2.7), in memory of its own.
 #[derive(Debug, Drop)]
@@ -40,4 +44,36 @@ pub enum TokenRef<'a> {
         cur_cmd: u16,
         rows: u64,
     },
+}
+
+impl<'a> TokenRef<'a> {
+    /// Whether it is an ENVCHANGE.
+    pub fn is_env(&self) -> bool
+        ensures { result ≡ is_env (token_of self.now) }
+    {
+        matches!(self, TokenRef::Env(_))
+    }
+
+    /// The same token, in memory of its own.
+    pub fn own(&self, alloc: Global) -> Result<Token, AllocError>
+        ensures { IfOk result (λ token. token ≡ token_of self.now) }
+    {
+        Ok(match self {
+            TokenRef::Info(message) => Token::Info(message.own(alloc)?),
+            TokenRef::Error(message) => Token::Error(message.own(alloc)?),
+            TokenRef::ReturnStatus(value) => Token::ReturnStatus(*value),
+            TokenRef::Columns(columns) => Token::Columns(columns.own(alloc)?),
+            TokenRef::Row(row) => Token::Row(row.own(alloc)?),
+            TokenRef::Env(change) => Token::Env(*change),
+            TokenRef::Done {
+                status,
+                cur_cmd,
+                rows,
+            } => Token::Done {
+                status: *status,
+                cur_cmd: *cur_cmd,
+                rows: *rows,
+            },
+        })
+    }
 }

@@ -2,6 +2,7 @@ ghost use Rattle.std.specs.Prelude.{◌≡◌, ◌++◌, [], List, ℕ, Option, 
 ghost use Rattle.tds_token.specs.declared.fault.TokenFault.{TokenFault};
 ghost use Rattle.tds_token.specs.declared.token.Token.{Token};
 ghost use Rattle.tds_token.specs.declared.token.TokenRef.{TokenRef};
+ghost use Rattle.tds_token.specs.Contents.{contents_before, contents_of};
 ghost use Rattle.tds_token.specs.Cursor.{answer_of, step};
 ghost use Rattle.tds_token.specs.Layout.{IsToken, token_of};
 ghost use Rattle.tds_token.specs.Reading.{wrong_token};
@@ -64,6 +65,9 @@ impl<'a> Tokens<'a> {
             × (self.new ≡ record { bytes = []; columns = self.old.columns }) }
         ensures end { self.old.bytes ≡ [] → (result ≡ None) × (self.new ≡ self.old) }
         ensures none { result ≡ None → (self.old.bytes ≡ []) × (self.new ≡ self.old) }
+        // So a loop reads the contents of the data, token by token.
+        ensures contents { contents_of self.old.columns self.old.bytes
+            ≡ contents_before (answer_of result) (contents_of self.new.columns self.new.bytes) }
         ensures exact { (answer_of result, self.new) ≡ step self.old }
     {
         self.advance()

@@ -1,20 +1,21 @@
 //! What stands behind the token byte of a COLMETADATA or a ROW (MS-TDS 2.2.7.4, 2.2.7.20).
 
 ghost use Rattle.std.specs.Prelude.{◌≡◌};
+ghost use Rattle.tds_token.specs.Layout.{column_of};
 ghost use Rattle.tds_token.specs.Reading.{Gives, after_of, column_at, columns_at, column_list_at, columns_of, row_at};
 
-use crate::columns::ColumnsRef;
+use crate::columns::{ColumnRef, ColumnsRef};
 use crate::fault::TokenFault;
 use crate::reading::fields::{byte, number16, number32, run, units};
 use crate::row::RowRef;
 
-/// The bytes behind a column, which must be right.
+/// A column.
 #[tactic(auto, unfolding(crate::specs::Reading::column_at))]
-fn skip_column(bytes: &[u8]) -> Result<&[u8], TokenFault>
-    ensures { Gives (λ x. x.now) result (after_of (column_at bytes.now)) }
+pub(crate) fn column(bytes: &[u8]) -> Result<(ColumnRef<'_>, &[u8]), TokenFault>
+    ensures { Gives (λ x. (column_of x.0, x.1.now)) result (column_at bytes.now) }
 {
-    let (_, rest) = number32(bytes, TokenFault::Cut)?;
-    let (_, rest) = number16(rest, TokenFault::Cut)?;
+    let (user_type, rest) = number32(bytes, TokenFault::Cut)?;
+    let (flags, rest) = number16(rest, TokenFault::Cut)?;
     let (kind, rest) = byte(rest, TokenFault::Cut)?;
     if kind != 0x38 {
         return Err(TokenFault::WrongColumn);
@@ -23,7 +24,22 @@ fn skip_column(bytes: &[u8]) -> Result<&[u8], TokenFault>
     if n > 10 {
         return Err(TokenFault::WrongColumn);
     }
-    let (_, rest) = units(rest, usize::from(n), TokenFault::Cut)?;
+    let (name, rest) = units(rest, usize::from(n), TokenFault::Cut)?;
+    Ok((
+        ColumnRef {
+            user_type,
+            flags,
+            name,
+        },
+        rest,
+    ))
+}
+
+/// The bytes behind a column, which must be right.
+fn skip_column(bytes: &[u8]) -> Result<&[u8], TokenFault>
+    ensures { Gives (λ x. x.now) result (after_of (column_at bytes.now)) }
+{
+    let (_, rest) = column(bytes)?;
     Ok(rest)
 }
 

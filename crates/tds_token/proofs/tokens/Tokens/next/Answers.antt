@@ -1,4 +1,5 @@
 use Rattle.tds_token.specs.Cursor.{answer_of}
+use Rattle.tds_token.proofs.Behind.{contents_step}
 use Rattle.tds_token.proofs.Stepping.{found_by, only_by, wrong_by, end_by, none_by}
 use Rattle.tds_token.proofs.tokens.Tokens.next.Goals as goal
 
@@ -16,3 +17,7 @@ returns-clause-end c = λ empty. end_by c.args.self.now c.advance.new.self c.adv
 
 pub returns-clause-none : goal.returns-clause-none
 returns-clause-none c = λ is. none_by c.args.self.now c.advance.new.self c.advance.result c.advance.ensures.exact is
+
+pub returns-clause-contents : goal.returns-clause-contents
+returns-clause-contents c =
+    contents_step c.args.self.now c.advance.new.self (answer_of c.advance.result) c.advance.ensures.known c.advance.ensures.bytes c.advance.ensures.exact

@@ -1,0 +1,25 @@
+use Rattle.std.proofs.Common.{ap, ◌∙◌}
+use Rattle.std.proofs.lemmas.Result.{err_from_is_err_and}
+use Rattle.tds_token.specs.Cursor.{Cursor}
+use Rattle.tds_client.proofs.Reading.{read_token, read_fault, read_end}
+use Rattle.tds_client.proofs.Walking.{hears_on, hears_fault, hears_wrong, hears_end}
+use Rattle.tds_client.proofs.walks.hear_data.Goals as goal
+
+pub returns-in_err-heard-in-Ok-clause-heard : goal.returns-in_err-heard-in-Ok-clause-heard
+returns-in_err-heard-in-Ok-clause-heard c =
+    let p = err_from_is_err_and c.from_residual.result c.from_residual.ensures.1 in
+    rw (p.1, p.2) (hears_fault _ _ _ _ _ c.tokens.invariant _ _ _ (read_token _ _ _ _ _ c.next.ensures.contents c.in-Some.is c.in-Ok.is) c.in_err-heard-in-Ok.ensures)
+
+pub tokens-preserved : goal.tokens-preserved
+tokens-preserved c = hears_on _ _ _ _ _ c.tokens.invariant _ _ _ (read_token _ _ _ _ _ c.next.ensures.contents c.in-Some.is c.in-Ok.is) c.in_ok-heard-in-Ok.ensures
+
+pub returns-in-Err-clause-heard : goal.returns-in-Err-clause-heard
+returns-in-Err-clause-heard c = hears_wrong _ _ _ _ _ c.tokens.invariant _ _ (read_fault _ _ _ _ _ c.next.ensures.contents c.in-Some.is c.in-Err.is)
+
+pub returns-clause-heard : goal.returns-clause-heard
+returns-clause-heard c = (hears_end _ _ _ _ _ c.tokens.invariant _ (read_end _ _ (c.next.ensures.none c.in_default.is).0)).0
+
+pub returns-clause-columns : goal.returns-clause-columns
+returns-clause-columns c =
+    c.columns.ensures ∙ (ap (λ (d : Cursor). d.columns) (c.next.ensures.none c.in_default.is).1
+    ∙ (hears_end _ _ _ _ _ c.tokens.invariant _ (read_end _ _ (c.next.ensures.none c.in_default.is).0)).1)

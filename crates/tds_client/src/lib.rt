@@ -1,0 +1,22 @@
+//! The client's end of a connection that speaks the Tabular Data Stream (MS-TDS): a state machine
+//! that does no input or output. Packets go in and tokens come out; what is to be sent is appended
+//! to a vector.
+#![tactic(auto)]
+
+mod client;
+mod fault;
+mod heard;
+pub mod laws;
+mod packets;
+mod state;
+mod walks;
+
+pub use client::Client;
+pub use fault::{ClientFault, ClientRefusal};
+pub use state::{Cancelled, ClientState, Sent, Taken};
+
+/// The answer of a growth that was refused.
+pub type NoMemory = std::alloc::AllocError;
+
+#[cfg(test)]
+mod tests;
