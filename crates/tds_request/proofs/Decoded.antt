@@ -1,11 +1,11 @@
 -- What reading gives, in the words of the layout.
-use Rattle.std.proofs.Common.{◌≡◌, ◌⊎◌, ℕ, List, Result, Ok, Err, IfOk, IfErr, IsOk, Option, Some, None, refl, sym, ap, ◌∙◌, inl, inr}
+use Rattle.std.proofs.Common.{◌≡◌, ◌⊎◌, ℕ, List, Result, Ok, Err, IfOk, IsOk, refl, sym, ap, ◌∙◌, inl, inr}
 use Rattle.tds_request.specs.declared.fault.RequestFault.{RequestFault}
 use Rattle.tds_request.specs.declared.fault.RequestFault.TheVariants.{Memory}
 use Rattle.tds_request.specs.declared.request.Request.{Request}
 use Rattle.tds_request.specs.declared.request.RequestKind.{RequestKind}
 use Rattle.tds_request.specs.Layout.{IsRequest}
-use Rattle.tds_request.specs.Reading.{Answers, read_request, wrong_request}
+use Rattle.tds_request.specs.Reading.{Answers, read_request}
 use Rattle.tds_request.proofs.Readers.{IsBytes}
 use Rattle.tds_request.proofs.Memoryless.{no_memory_fault}
 use Rattle.tds_request.proofs.Messages.{spelled_is_read, read_is_spelled}

@@ -1,9 +1,8 @@
 -- A message that is read is spelled so, and what is spelled so is read.
-use Rattle.std.proofs.Common.{◌≡◌, ℕ, ◌+◌, ◌*◌, ◌^◌, ◌<◌, ◌≤◌, Bool, true, false, cond, eqb, ltb, nat_le, nat_lt, ◌⊎◌, List, [], ◌∷◌, ◌++◌, length, Result, Ok, Err, refl, sym, ap, subst, ◌∙◌, arith, inl, inr}
+use Rattle.std.proofs.Common.{◌≡◌, ℕ, ◌^◌, ◌<◌, true, false, cond, eqb, ltb, nat_le, List, [], ◌∷◌, ◌++◌, length, Ok, Err, refl, sym, ap, subst, ◌∙◌, arith, inl, inr}
 use Rattle.std.specs.Int.{w16, w32, w64, to_le_bytes}
-use Rattle.std.proofs.lemmas.Bool.{ltb-false, le-ltb, eqb-true, leb-true, le-leb}
+use Rattle.std.proofs.lemmas.Bool.{le-ltb, eqb-true, leb-true, le-leb}
 use Rattle.std.proofs.lemmas.List.{length-append, nil_from_length}
-use Rattle.tds_request.specs.declared.fault.RequestFault.{RequestFault}
 use Rattle.tds_request.specs.declared.fault.RequestFault.TheVariants.{Short, WrongTotalLength, WrongHeader, WrongCount, WrongTextLength, WrongRequestType, WrongIsolation, WrongName, WrongFlags, BytesLeftOver}
 use Rattle.tds_request.specs.declared.request.Request.{Request}
 use Rattle.tds_request.specs.declared.request.Request.TheVariants as requests
@@ -11,9 +10,9 @@ use Rattle.tds_request.specs.declared.request.RequestKind.{RequestKind}
 use Rattle.tds_request.specs.declared.request.RequestKind.TheVariants as kinds
 use Rattle.tds_request.specs.Values.{IsBatchText, IsIsolation}
 use Rattle.tds_request.specs.Layout.{kind_of_request, all_headers, body_of, spelling, text_bytes, Fits, IsRequest}
-use Rattle.tds_request.specs.Reading.{◌>>=◌, number_at, byte_at, number_is_at, byte_is_at, header_fields_at, headers_at, units_of, is_text_length, batch_in, ended, isolation_of, begin_in, end_in, transaction_in, body_in, read_request}
+use Rattle.tds_request.specs.Reading.{◌>>=◌, number_is_at, byte_is_at, header_fields_at, headers_at, units_of, is_text_length, batch_in, ended, isolation_of, begin_in, end_in, transaction_in, body_in, read_request}
 use Rattle.tds_request.proofs.Readers.{IsBytes, IsMark, bind_ok, want_ok, unless_ok, chosen, ok_is, step, mark_step, step_again, mark_again, wide16, wide32, wide64, number_field, byte_field, number_mark, byte_mark}
-use Rattle.tds_request.proofs.Texts.{text_length, units_again, text_of, is_length}
+use Rattle.tds_request.proofs.Texts.{units_again, text_of, is_length}
 
 -- ---- ALL_HEADERS
 

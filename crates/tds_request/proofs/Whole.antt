@@ -1,5 +1,5 @@
 -- Laws of whole messages.
-use Rattle.std.proofs.Common.{◌≡◌, ◌⊎◌, ℕ, ◌+◌, ◌*◌, ◌<◌, ◌≤◌, List, [], ◌++◌, length, get_or, Result, Ok, Err, IsOk, Option, Some, None, refl, sym, ap, ◌∙◌, arith, inl, inr}
+use Rattle.std.proofs.Common.{◌≡◌, ℕ, ◌+◌, ◌≤◌, List, length, Result, Ok, Err, None, refl, sym, ap, ◌∙◌, arith, inl, inr}
 use Rattle.std.proofs.lemmas.Bool.{cases_lt}
 use Rattle.std.proofs.lemmas.List.{length-append, get_or_past}
 use Rattle.tds_request.specs.declared.fault.RequestFault.{RequestFault}
@@ -7,7 +7,7 @@ use Rattle.tds_request.specs.declared.request.Request.{Request}
 use Rattle.tds_request.specs.declared.request.Request.TheVariants as requests
 use Rattle.tds_request.specs.declared.request.RequestKind.{RequestKind}
 use Rattle.tds_request.specs.Values.{AreBytes}
-use Rattle.tds_request.specs.Layout.{Fits, IsRequest, all_headers, body_of, spelling, text_bytes}
+use Rattle.tds_request.specs.Layout.{Fits, IsRequest, all_headers, body_of, spelling}
 use Rattle.tds_request.specs.Reading.{read_request, fault_of, wrong_request}
 use Rattle.tds_request.proofs.Readers.{IsBytes, ok_is}
 use Rattle.tds_request.proofs.Texts.{text_length}

@@ -3,7 +3,9 @@ ghost use Rattle.tds_request.specs.declared.fault.RequestFault.{RequestFault};
 ghost use Rattle.tds_request.specs.declared.fault.RequestFault.TheVariants.{Memory};
 ghost use Rattle.tds_request.specs.declared.request.Request.{Request};
 ghost use Rattle.tds_request.specs.Layout.{IsRequest};
-ghost use Rattle.tds_request.specs.Reading.{Gives, Answers, headers_at, header_fields_at, batch_in, begin_in, end_in, transaction_in, body_in, isolation_of, read_request, wrong_request, is_text_length};
+ghost use Rattle.tds_request.specs.Reading.{Answers, Gives, read_request, wrong_request};
+ghost use Rattle.tds_request.specs.Reading.{headers_at, header_fields_at, is_text_length, batch_in};
+ghost use Rattle.tds_request.specs.Reading.{transaction_in, begin_in, end_in, isolation_of};
 
 use crate::fault::RequestFault;
 use crate::fields::{byte, byte_is, number16, number16_is, number32_is, number64};
@@ -21,13 +23,19 @@ pub fn decode(
     // What is read is spelled so.
     ensures found { IfOk result (λ x. IsRequest kind x.0 x.1 bytes.now) }
     // What is spelled so is read, unless memory runs out.
-    ensures only { (descriptor : ℕ) (request : Request) → IsRequest kind descriptor request bytes.now → (result ≡ Ok (descriptor, request)) ⊎ (result ≡ Err Memory) }
+    ensures only { (descriptor : ℕ) (request : Request)
+        → IsRequest kind descriptor request bytes.now
+        → (result ≡ Ok (descriptor, request)) ⊎ (result ≡ Err Memory) }
     // The first wrong field is the fault, before any growth.
-    ensures wrong { (fault : RequestFault) → wrong_request kind bytes.now ≡ Some fault → result ≡ Err fault }
+    ensures wrong { (fault : RequestFault)
+        → wrong_request kind bytes.now ≡ Some fault → result ≡ Err fault }
     // Any fault but want of memory is that of the first wrong field.
-    ensures fault { IfErr result (λ fault. (wrong_request kind bytes.now ≡ Some fault) ⊎ (fault ≡ Memory)) }
+    ensures fault { IfErr result (λ fault.
+        (wrong_request kind bytes.now ≡ Some fault) ⊎ (fault ≡ Memory)) }
     // Memory is wanted only for what spells a request.
-    ensures memory { result ≡ Err Memory → (descriptor : ℕ) × (request : Request) × IsRequest kind descriptor request bytes.now }
+    ensures memory { result ≡ Err Memory
+        → (descriptor : ℕ) × (request : Request) × IsRequest kind descriptor request bytes.now }
+    // What reading gives, as one equation.
     ensures exact { Answers result (read_request kind bytes.now) }
 {
     message(alloc, kind, bytes)

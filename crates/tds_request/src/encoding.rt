@@ -1,15 +1,22 @@
 ghost use Rattle.std.specs.Prelude.{◌≡◌, ◌++◌, ◌+◌, ◌*◌, ◌≤◌, IsOk, OnOk, OnErr, length};
 ghost use Rattle.std.specs.Vec.{vec_len, vec_capacity};
-ghost use Rattle.tds_request.specs.Layout.{IsRequest, kind_of_request, spelling, all_headers, text_bytes};
+ghost use Rattle.tds_request.specs.Layout.{IsRequest, kind_of_request, spelling};
+ghost use Rattle.tds_request.specs.Layout.{all_headers, text_bytes};
 
+use crate::NoMemory;
 use crate::request::Request;
-use std::alloc::AllocError;
 
-/// Appends the whole message of this request in the transaction of this descriptor, or in none: then
-/// the descriptor is 0. Where memory runs out, the bytes are as they were.
-pub fn encode(request: &Request, descriptor: u64, out: &mut Vec<u8>) -> Result<(), AllocError>
-    ensures appended { OnOk result (out.new.items ≡ out.old.items ++ spelling descriptor request.now) }
-    ensures spelled { IsRequest (kind_of_request request.now) descriptor request.now (spelling descriptor request.now) }
+/// Appends the whole message of this request in the transaction of this descriptor, which is 0
+/// outside one. Where memory runs out, the bytes are as they were.
+#[tactic(auto, using(crate::proofs::Texts::text_length))]
+pub fn encode(request: &Request, descriptor: u64, out: &mut Vec<u8>) -> Result<(), NoMemory>
+    // What is appended spells the descriptor and the request.
+    ensures appended { OnOk result
+        (out.new.items ≡ out.old.items ++ spelling descriptor request.now) }
+    ensures spelled { IsRequest (kind_of_request request.now) descriptor request.now
+        (spelling descriptor request.now) }
+    ensures limits { (24 ≤ length (spelling descriptor request.now))
+        × (length (spelling descriptor request.now) ≤ 4022) }
     ensures unchanged { OnErr result (out.new.items ≡ out.old.items) }
 {
     match request {
@@ -31,9 +38,10 @@ fn headers(descriptor: u64) -> [u8; 22]
 }
 
 /// A message with this body.
-fn put_message(descriptor: u64, body: &[u8], out: &mut Vec<u8>) -> Result<(), AllocError>
+fn put_message(descriptor: u64, body: &[u8], out: &mut Vec<u8>) -> Result<(), NoMemory>
     requires { length body.now ≤ 4000 }
-    ensures appended { OnOk result (out.new.items ≡ out.old.items ++ (all_headers descriptor ++ body.now)) }
+    ensures appended { OnOk result
+        (out.new.items ≡ out.old.items ++ (all_headers descriptor ++ body.now)) }
     ensures unchanged { OnErr result (out.new.items ≡ out.old.items) }
 {
     out.reserve(22 + body.len())?;
@@ -42,9 +50,10 @@ fn put_message(descriptor: u64, body: &[u8], out: &mut Vec<u8>) -> Result<(), Al
 }
 
 /// A batch with this text.
-fn put_batch(descriptor: u64, units: &[u16], out: &mut Vec<u8>) -> Result<(), AllocError>
+fn put_batch(descriptor: u64, units: &[u16], out: &mut Vec<u8>) -> Result<(), NoMemory>
     requires { length units.now ≤ 2000 }
-    ensures appended { OnOk result (out.new.items ≡ out.old.items ++ (all_headers descriptor ++ text_bytes units.now)) }
+    ensures appended { OnOk result
+        (out.new.items ≡ out.old.items ++ (all_headers descriptor ++ text_bytes units.now)) }
     ensures unchanged { OnErr result (out.new.items ≡ out.old.items) }
 {
     out.reserve(22 + 2 * units.len())?;
@@ -53,7 +62,7 @@ fn put_batch(descriptor: u64, units: &[u16], out: &mut Vec<u8>) -> Result<(), Al
 }
 
 /// A text, where there is room for it.
-fn put_units(units: &[u16], out: &mut Vec<u8>) -> Result<(), AllocError>
+fn put_units(units: &[u16], out: &mut Vec<u8>) -> Result<(), NoMemory>
     requires room { vec_len out.old + 2 * length units.now ≤ vec_capacity out.old }
     ensures appended { out.new.items ≡ out.old.items ++ text_bytes units.now }
     ensures ok { IsOk result }

@@ -1,4 +1,5 @@
-ghost use Rattle.std.specs.Prelude.{◌≡◌};
+ghost use Rattle.std.specs.Prelude.{◌≡◌, ◌↔◌, IsTrue};
+ghost use Rattle.tds_request.specs.declared.fault.RequestFault.TheVariants.{Memory};
 ghost use Rattle.tds_request.specs.Faults.{number_of};
 
 use std::alloc::AllocError;
@@ -50,6 +51,13 @@ impl RequestFault {
         }
     }
 
+    /// Whether it says nothing of the bytes: a growth was refused.
+    pub fn is_memory(&self) -> bool
+        ensures { IsTrue result ↔ (self.now ≡ Memory) }
+    {
+        matches!(self, RequestFault::Memory)
+    }
+
     /// The same fault again.
     pub fn again(&self) -> RequestFault
         ensures { result ≡ self.now }
@@ -71,8 +79,6 @@ impl RequestFault {
 }
 
 impl From<AllocError> for RequestFault {
-    ghost use Rattle.tds_request.specs.declared.fault.RequestFault.TheVariants.{Memory};
-
     ghost from_gives = { λ _ fault. fault ≡ Memory };
 
     fn from(_: AllocError) -> RequestFault {

@@ -17,24 +17,36 @@ use std::alloc::Global;
 
 /// A descriptor and a request have one spelling, and it is a message of one kind.
 pub fn one_spelling()
-    ensures { (kind other : RequestKind) (descriptor : ℕ) (request : Request) (first second : List ℕ) → IsRequest kind descriptor request first → IsRequest other descriptor request second → (first ≡ second) × (kind ≡ other) }
+    ensures { (kind other : RequestKind) (descriptor : ℕ) (request : Request)
+        (first second : List ℕ)
+        → IsRequest kind descriptor request first → IsRequest other descriptor request second
+        → (first ≡ second) × (kind ≡ other) }
 {}
 
 /// A message has one descriptor and one request. Its kind is not in these bytes: the type of its
 /// packets says it.
 pub fn one_value()
-    ensures { (kind : RequestKind) (first second : ℕ) (one other : Request) (bytes : List ℕ) → IsRequest kind first one bytes → IsRequest kind second other bytes → (first ≡ second) × (one ≡ other) }
+    ensures { (kind : RequestKind) (first second : ℕ) (one other : Request)
+        (bytes : List ℕ)
+        → IsRequest kind first one bytes → IsRequest kind second other bytes
+        → (first ≡ second) × (one ≡ other) }
 {}
 
 /// A message has 24 to 4,022 bytes.
 pub fn length_of_message()
-    ensures { (kind : RequestKind) (descriptor : ℕ) (request : Request) (bytes : List ℕ) → IsRequest kind descriptor request bytes → (24 ≤ length bytes) × (length bytes ≤ 4022) }
+    ensures { (kind : RequestKind) (descriptor : ℕ) (request : Request)
+        (bytes : List ℕ)
+        → IsRequest kind descriptor request bytes → (24 ≤ length bytes) × (length bytes ≤ 4022) }
 {}
 
 /// Bytes spell a request, or one of their fields is the first wrong one: never both, never neither.
 pub fn spelled_or_wrong()
-    ensures spelled { (kind : RequestKind) (descriptor : ℕ) (request : Request) (bytes : List ℕ) → IsRequest kind descriptor request bytes → wrong_request kind bytes ≡ None }
-    ensures wrong { (kind : RequestKind) (bytes : List ℕ) → AreBytes bytes → wrong_request kind bytes ≡ None → (descriptor : ℕ) × (request : Request) × IsRequest kind descriptor request bytes }
+    ensures spelled { (kind : RequestKind) (descriptor : ℕ) (request : Request)
+        (bytes : List ℕ)
+        → IsRequest kind descriptor request bytes → wrong_request kind bytes ≡ None }
+    ensures wrong { (kind : RequestKind) (bytes : List ℕ)
+        → AreBytes bytes → wrong_request kind bytes ≡ None
+        → (descriptor : ℕ) × (request : Request) × IsRequest kind descriptor request bytes }
 {}
 
 /// What was encoded is decoded again, unless memory runs out. It rests on the contracts of the two

@@ -141,8 +141,9 @@ fn texts(rt: HostRuntime) -> Result<(), Fail> {
         let request = Request::Batch(text);
         assert_eq!(rt; request.kind(), RequestKind::Batch);
         let out = written(rt.alloc(), &request, 0)?;
-        assert_eq!(rt; out.as_slice()[0], 0xAA);
-        assert_eq!(rt; &out.as_slice()[1..], bytes);
+        let (before, message) = out.as_slice().split_first().ok_or("no byte")?;
+        assert_eq!(rt; *before, 0xAA);
+        assert_eq!(rt; message, bytes);
         let (descriptor, text) = read_text(rt.alloc(), bytes)?;
         assert_eq!(rt; descriptor, 0);
         assert_eq!(rt; text.ok_or("no batch")?.units(), units);
@@ -161,7 +162,8 @@ fn longest_text(rt: HostRuntime) -> Result<(), Fail> {
     assert_eq!(rt; bytes.len(), 4022);
     let text = BatchText::new(units.clone()?).ok_or("no text")?;
     let out = written(rt.alloc(), &Request::Batch(text), 0)?;
-    assert_eq!(rt; &out.as_slice()[1..], bytes.as_slice());
+    let (_, message) = out.as_slice().split_first().ok_or("no byte")?;
+    assert_eq!(rt; message, bytes.as_slice());
     let (_, text) = read_text(rt.alloc(), bytes.as_slice())?;
     assert_eq!(rt; text.ok_or("no batch")?.units(), units.as_slice());
     units.push(0x263A)?;
@@ -183,11 +185,12 @@ fn transactions(rt: HostRuntime) -> Result<(), Fail> {
     for (request, descriptor, bytes) in table {
         assert_eq!(rt; request.kind(), RequestKind::Transaction);
         let out = written(rt.alloc(), &request, descriptor)?;
-        assert_eq!(rt; &out.as_slice()[1..], bytes.as_slice());
+        let (_, message) = out.as_slice().split_first().ok_or("no byte")?;
+        assert_eq!(rt; message, bytes.as_slice());
         let (heard, found) = decode(rt.alloc(), RequestKind::Transaction, bytes)?;
         assert_eq!(rt; heard, descriptor);
         let again = written(rt.alloc(), &found, heard)?;
-        assert_eq!(rt; &again.as_slice()[1..], bytes.as_slice());
+        assert_eq!(rt; again.as_slice(), out.as_slice());
     }
     Ok(())
 }

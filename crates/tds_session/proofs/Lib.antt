@@ -1,2 +1,6 @@
 mod Examples
 mod Sessions
+mod Rows
+mod Numbers
+mod Pieces
+mod Reading

@@ -1,12 +1,10 @@
 -- Every session of the program stays one.
-use Rattle.std.proofs.Common.{◌≡◌, ℕ, ◌+◌, ◌<◌, ◌≤◌, ◌^◌, ℤ, List, length, Option, Some, None, slice_set, FitsSigned, refl, arith, rules, lit<}
-use Rattle.std.proofs.lemmas.Grind.{common_steps}
-use Rattle.std.specs.Int.{w32}
+use Rattle.std.proofs.Common.{◌<◌, None, refl, arith, lit<}
 use Rattle.std.specs.List.{All}
 use Rattle.std.proofs.lemmas.List.Elements.{All-replicate}
 use Rattle.tds_packet.specs.declared.status.Reset.{Reset}
 use Rattle.tds_packet.specs.declared.status.Reset.TheVariants.{Full, KeepTransaction}
-use Rattle.tds_session.specs.Session.{SessionState, IsSession, IsSetting, no_settings, new_session, with_value, begun, ended, after_reset}
+use Rattle.tds_session.specs.Session.{SessionState, IsSession, IsSetting, no_settings, new_session, begun, ended, after_reset}
 
 -- keys that are unset
 pub unset : All IsSetting no_settings

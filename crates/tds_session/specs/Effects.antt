@@ -30,9 +30,13 @@ is_error t = false
 abbrev pub has_error : Effect → Bool
 has_error e = list_any is_error e.tokens
 
--- an ERROR alone, in an unchanged session
+-- one token, in an unchanged session
+abbrev pub gives : Token → SessionState → Effect
+gives t s = record { tokens = t ∷ []; after = s }
+
+-- an ERROR alone
 abbrev pub fails : ℕ → List ℕ → SessionState → Effect
-fails number text s = record { tokens = error number text ∷ []; after = s }
+fails number text s = gives (error number text) s
 
 -- a DONE without a row count (MS-TDS 2.2.7.6)
 abbrev pub done : ℕ → Token

@@ -1,6 +1,9 @@
 pub mod Session
+pub mod Within
 pub mod Words
 pub mod Language
+pub mod Statements
 pub mod Effects
 pub mod Script
+pub mod Lawful
 pub mod Answer

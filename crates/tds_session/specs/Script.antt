@@ -1,7 +1,8 @@
 -- The statements of the batch language: what each one does.
 use Rattle.std.specs.Prelude.{ℕ, zero, suc, ◌+◌, pos, List, [], ◌∷◌, ◌++◌, if◌then◌else◌, codes}
+use Rattle.std.specs.List.{list_any}
 use Rattle.tds_session.specs.Session.{SessionState, value_of, with_value}
-use Rattle.tds_session.specs.Effects.{Effect, message, fails, has_error, done, begins, ends}
+use Rattle.tds_session.specs.Effects.{Effect, message, gives, fails, is_error, done, begins, ends}
 use Rattle.tds_session.specs.declared.statement.Statement.{Statement}
 use Rattle.tds_session.specs.declared.statement.Statement.TheVariants as statement
 use Rattle.tds_token.specs.declared.env_change.EnvChange.TheVariants as change
@@ -9,13 +10,13 @@ use Rattle.tds_token.specs.declared.columns.Column.{Column}
 use Rattle.tds_token.specs.declared.token.Token.{Token}
 use Rattle.tds_token.specs.declared.token.Token.TheVariants as token
 
--- an effect with a DONE `0001` behind it: more follows; none stands behind an ERROR
-abbrev pub with_more : Effect → Effect
-with_more e = record { tokens = if has_error e then e.tokens else e.tokens ++ done 1 ∷ []; after = e.after }
+-- tokens, and behind them a DONE `0001`: more follows; none stands behind an ERROR
+abbrev pub with_done : List Token → List Token
+with_done ts = if list_any is_error ts then ts else ts ++ done 1 ∷ []
 
--- tokens and a DONE `0001`, in an unchanged session
-abbrev pub answers : List Token → SessionState → Effect
-answers ts s = with_more (record { tokens = ts; after = s })
+-- an effect with such a DONE
+abbrev pub with_more : Effect → Effect
+with_more e = record { tokens = with_done e.tokens; after = e.after }
 
 -- the one column of `rows`, named `n` (MS-TDS 2.2.7.4)
 abbrev pub row_column : Column
@@ -32,10 +33,10 @@ result_set first count = token.Columns (row_column ∷ []) ∷ (rows_from first 
 
 -- a statement's tokens, and the session after it
 abbrev pub step_of : SessionState → Statement → Effect
-step_of s (statement.Say word) = answers (token.Info (message 50000 0 word) ∷ []) s
+step_of s (statement.Say word) = with_more (gives (token.Info (message 50000 0 word)) s)
 step_of s (statement.Rows first count) = record { tokens = result_set first count; after = s }
-step_of s (statement.Set key value) = answers [] (with_value key value s)
-step_of s (statement.Get key) = answers (token.ReturnStatus (value_of s key) ∷ []) s
+step_of s (statement.Set key value) = record { tokens = done 1 ∷ []; after = with_value key value s }
+step_of s (statement.Get key) = with_more (gives (token.ReturnStatus (value_of s key)) s)
 step_of s statement.Begin = with_more (begins s)
 step_of s statement.Commit = with_more (ends change.Commit s)
 step_of s statement.Rollback = with_more (ends change.Rollback s)

@@ -1,11 +1,20 @@
-//! Sessions, the engine behind a server, the batch language, and what each request is answered with.
+//! Sessions, the engine that a server runs, the batch language, and what each request is answered
+//! with.
 #![tactic(auto)]
 
+mod engine;
+mod message;
+mod parsing;
+mod running;
 mod session;
 mod statement;
+mod transaction;
+mod words;
 
+pub use engine::Engine;
 pub use session::Session;
 pub use statement::{Key, Statement, Within, Word};
+pub use transaction::{begin_transaction, commit_transaction, roll_back_transaction};
 
 /// The answer of a growth that was refused.
 pub type NoMemory = std::alloc::AllocError;

@@ -1,0 +1,61 @@
+//! Why a server is broken.
+ghost use Rattle.std.specs.Prelude.{◌≡◌};
+ghost use Rattle.tds_server.specs.Faults.{number_of};
+
+use tds_request::RequestFault;
+
+/// Why a server takes nothing any more: what its peer did that the protocol does not allow, or that
+/// the connection was lost.
+#[derive(Debug, Drop)]
+pub enum ServerFault {
+    /// A packet of a request came while a request was being answered.
+    RequestWhileAnswering,
+    /// The packet's type is not that of the message that it goes on with (MS-TDS 2.2.3.1.1).
+    TypeChanged,
+    /// A message's first packet asks for both resets (MS-TDS 2.2.3.1.2).
+    BothResets,
+    /// An attention has data, or a status other than end of message (MS-TDS 2.2.1.7).
+    WrongAttention,
+    /// A message has more than 4,022 bytes of data.
+    LongMessage,
+    /// A whole message is no request.
+    WrongRequest(RequestFault),
+    /// A packet has the ignore bit without end of message (MS-TDS 2.2.3.1.2).
+    IgnoredPart,
+    /// The connection was lost.
+    Lost,
+}
+
+impl ServerFault {
+    /// The fault's number, 1 to 8.
+    pub fn number(&self) -> u8
+        ensures { result ≡ number_of self.now }
+    {
+        match self {
+            ServerFault::RequestWhileAnswering => 1,
+            ServerFault::TypeChanged => 2,
+            ServerFault::BothResets => 3,
+            ServerFault::WrongAttention => 4,
+            ServerFault::LongMessage => 5,
+            ServerFault::WrongRequest(_) => 6,
+            ServerFault::IgnoredPart => 7,
+            ServerFault::Lost => 8,
+        }
+    }
+
+    /// The same fault again.
+    pub fn again(&self) -> ServerFault
+        ensures { result ≡ self.now }
+    {
+        match self {
+            ServerFault::RequestWhileAnswering => ServerFault::RequestWhileAnswering,
+            ServerFault::TypeChanged => ServerFault::TypeChanged,
+            ServerFault::BothResets => ServerFault::BothResets,
+            ServerFault::WrongAttention => ServerFault::WrongAttention,
+            ServerFault::LongMessage => ServerFault::LongMessage,
+            ServerFault::WrongRequest(fault) => ServerFault::WrongRequest(fault.again()),
+            ServerFault::IgnoredPart => ServerFault::IgnoredPart,
+            ServerFault::Lost => ServerFault::Lost,
+        }
+    }
+}

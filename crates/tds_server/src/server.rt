@@ -1,0 +1,251 @@
+//! The server's end of a connection.
+ghost use Rattle.std.specs.Prelude.{◌≡◌, ◌≢◌, ◌++◌, OnOk, OnErr, IfOk, IfErr, Ok, Err};
+ghost use Rattle.tds_packet.specs.declared.kind.Direction.TheVariants.{ToServer};
+ghost use Rattle.tds_packet.specs.Layout.{bits_of, direction_of};
+ghost use Rattle.tds_server.specs.declared.outcome.ServerTook.TheVariants.{NoMemory};
+ghost use Rattle.tds_server.specs.State.{new_server, lost_of};
+ghost use Rattle.tds_server.specs.Taking.{taken, moved, Moves, goes_on, attended, acknowledging_id, part_taken};
+ghost use Rattle.tds_server.specs.Packets.{acknowledgement};
+ghost use Rattle.tds_server.specs.Working.{worked};
+ghost use Rattle.tds_session.specs.Answer.{answer_of};
+
+use crate::answer::do_step;
+use crate::fault::ServerFault;
+use crate::message::{MESSAGE_LIMIT, is_ignored, read_answer, refusal};
+use crate::outcome::{ServerTook, Worked};
+use crate::packets::{put_acknowledgement, put_answer};
+use crate::state::State;
+use bitflags::Flags;
+use std::alloc::{AllocError, Global};
+use std::marker::Model;
+use tds_packet::{Kind, PacketRef, PacketSize, Status};
+use tds_request::RequestKind;
+use tds_session::{Engine, Session};
+
+/// The server's end of a connection, with the engine that runs its statements.
+///
+/// It begins logged in, with a fresh session. Packets of a request are taken one by one; the request
+/// is then answered step by step, one packet each. A fault breaks it: each later packet is answered
+/// by the same fault.
+#[derive(Drop)]
+pub struct Server<E: Engine + Drop> {
+    alloc: Global,
+    engine: E,
+    size: PacketSize,
+    session: Session,
+    state: State<E::Stmt>,
+    /// The data of the message that is being received; in any other state they mean nothing.
+    data: Vec<u8>,
+}
+
+impl<E: Engine + Drop> Model for Server<E> {
+    ghost use Rattle.tds_server.specs.State.{ServerState};
+
+    ghost Value = { ServerState E };
+
+    ghost use Rattle.tds_server.specs.Due.{phase_of};
+
+    ghost view = { λ a. record { engine = a.engine; session = a.session; phase = phase_of (E.step_of a.engine) a.session a.state a.data.items } };
+}
+
+impl<E: Engine + Drop> Server<E> {
+    /// A server as a connection begins.
+    pub fn new(alloc: Global, engine: E, size: PacketSize) -> Server<E>
+        ensures { result ≡ new_server engine }
+    {
+        Server {
+            alloc,
+            engine,
+            size,
+            session: Session::new(),
+            state: State::Waiting,
+            data: Vec::new(alloc),
+        }
+    }
+
+    /// The session as it is now.
+    pub fn session(&self) -> &Session
+        ensures { result.now ≡ self.now.session }
+    {
+        &self.session
+    }
+
+    /// Says that the connection is lost. A server that is broken already keeps its fault.
+    pub fn lost(&mut self)
+        ensures { self.new ≡ lost_of self.old }
+    {
+        match &self.state {
+            State::Broken(_) => {}
+            State::Waiting => self.state = State::Broken(ServerFault::Lost),
+            State::Receiving { .. } => self.state = State::Broken(ServerFault::Lost),
+            State::Answering(_) => self.state = State::Broken(ServerFault::Lost),
+        }
+    }
+
+    /// Takes a packet of a request, or an attention.
+    ///
+    /// A request that is whole is answered from then on, by `work`; the session is never touched
+    /// here. An attention ends what was being received or answered, and is acknowledged at once, by
+    /// one packet that is appended to `reply`. A fault breaks the server, which answers the same one
+    /// from then on. At want of memory nothing changes.
+    pub fn take(
+        &mut self,
+        packet: PacketRef<'_>,
+        reply: &mut Vec<u8>,
+    ) -> Result<ServerTook, ServerFault>
+        requires { direction_of packet.header.kind ≡ ToServer }
+        ensures engine { self.new.engine ≡ self.old.engine }
+        ensures session { self.new.session ≡ self.old.session }
+        ensures state { result ≢ Ok NoMemory → self.new ≡ (taken (answer_of (E.statements_of self.old.engine) (E.step_of self.old.engine)) self.old packet.entry.header packet.entry.data.now).state }
+        ensures answer { result ≢ Ok NoMemory → result ≡ (taken (answer_of (E.statements_of self.old.engine) (E.step_of self.old.engine)) self.old packet.entry.header packet.entry.data.now).answer }
+        ensures reply { result ≢ Ok NoMemory → reply.new.items ≡ reply.old.items ++ (taken (answer_of (E.statements_of self.old.engine) (E.step_of self.old.engine)) self.old packet.entry.header packet.entry.data.now).reply }
+        ensures memory { result ≡ Ok NoMemory → (self.new ≡ self.old) × (reply.new.items ≡ reply.old.items) }
+    {
+        match self.take_unbroken(packet, reply) {
+            Ok(took) => Ok(took),
+            Err(fault) => {
+                self.state = State::Broken(fault.again());
+                Err(fault)
+            }
+        }
+    }
+
+    /// Takes a packet. A fault is left to break the server.
+    fn take_unbroken(
+        &mut self,
+        packet: PacketRef<'_>,
+        reply: &mut Vec<u8>,
+    ) -> Result<ServerTook, ServerFault>
+        requires { direction_of packet.header.kind ≡ ToServer }
+        ensures engine { self.new.engine ≡ self.old.engine }
+        ensures session { self.new.session ≡ self.old.session }
+        ensures moved { IfOk result (λ took. took ≢ NoMemory
+            → Moves (moved (answer_of (E.statements_of self.old.engine) (E.step_of self.old.engine)) self.old.session self.old.phase packet.entry.header packet.entry.data.now)
+            took self.new.phase reply.old.items reply.new.items) }
+        ensures memory { result ≡ Ok NoMemory → (self.new ≡ self.old) × (reply.new.items ≡ reply.old.items) }
+        ensures fault { IfErr result (λ fault. moved (answer_of (E.statements_of self.old.engine) (E.step_of self.old.engine)) self.old.session self.old.phase packet.entry.header packet.entry.data.now ≡ Err fault) }
+        ensures quiet { OnErr result (reply.new.items ≡ reply.old.items) }
+    {
+        if let Some(fault) = self.state.fault() {
+            return Err(fault);
+        }
+        let status = packet.header.status;
+        match packet.header.kind {
+            Kind::Batch => self.take_part(RequestKind::Batch, status, packet.data),
+            Kind::Transaction => self.take_part(RequestKind::Transaction, status, packet.data),
+            Kind::Attention => self.take_attention(status, packet.data, reply),
+            Kind::Answer => unreachable!(),
+        }
+    }
+
+    /// Takes a packet of a request. A fault is left to break the server.
+    #[tactic(auto, unfolding(crate::specs::Taking::continued, crate::specs::Taking::joined, crate::specs::Taking::ignored))]
+    fn take_part(
+        &mut self,
+        kind: RequestKind,
+        status: Status,
+        data: &[u8],
+    ) -> Result<ServerTook, ServerFault>
+        ensures engine { self.new.engine ≡ self.old.engine }
+        ensures session { self.new.session ≡ self.old.session }
+        ensures moved { IfOk result (λ took. took ≢ NoMemory → part_taken (answer_of (E.statements_of self.old.engine) (E.step_of self.old.engine)) self.old.session self.old.phase kind (bits_of status) «data».now ≡ Ok (goes_on self.new.phase took)) }
+        ensures memory { result ≡ Ok NoMemory → self.new ≡ self.old }
+        ensures fault { IfErr result (λ fault. part_taken (answer_of (E.statements_of self.old.engine) (E.step_of self.old.engine)) self.old.session self.old.phase kind (bits_of status) «data».now ≡ Err fault) }
+    {
+        let reset = self.state.reset_of_message(kind, status)?;
+        if is_ignored(status) {
+            if !status.ends() {
+                return Err(ServerFault::IgnoredPart);
+            }
+            self.state = State::Waiting;
+            return Ok(ServerTook::Dropped);
+        }
+        let received = self.state.received(self.data.len());
+        if received + data.len() > MESSAGE_LIMIT {
+            return Err(ServerFault::LongMessage);
+        }
+        self.data.truncate(received);
+        if self.data.extend_from_slice(data).is_err() {
+            return Ok(ServerTook::NoMemory);
+        }
+        if !status.ends() {
+            self.state = State::Receiving { kind, reset };
+            return Ok(ServerTook::More);
+        }
+        match read_answer(self.alloc, &self.engine, kind, reset, self.data.as_slice()) {
+            Ok(answer) => {
+                self.state = State::Answering(answer);
+                Ok(ServerTook::Request)
+            }
+            Err(fault) => {
+                self.data.truncate(received);
+                refusal(fault)
+            }
+        }
+    }
+
+    /// Takes an attention (MS-TDS 2.2.1.7). A fault is left to break the server.
+    #[tactic(auto, unfolding(crate::specs::Taking::attended))]
+    fn take_attention(
+        &mut self,
+        status: Status,
+        data: &[u8],
+        reply: &mut Vec<u8>,
+    ) -> Result<ServerTook, ServerFault>
+        ensures engine { self.new.engine ≡ self.old.engine }
+        ensures session { self.new.session ≡ self.old.session }
+        ensures moved { IfOk result (λ took. took ≢ NoMemory → attended self.old.phase (bits_of status) «data».now ≡ Ok (record { phase = self.new.phase; took = took; reply = acknowledgement (acknowledging_id self.old.phase) })) }
+        ensures reply { IfOk result (λ took. took ≢ NoMemory → reply.new.items ≡ reply.old.items ++ acknowledgement (acknowledging_id self.old.phase)) }
+        ensures memory { result ≡ Ok NoMemory → (self.new ≡ self.old) × (reply.new.items ≡ reply.old.items) }
+        ensures fault { IfErr result (λ fault. attended self.old.phase (bits_of status) «data».now ≡ Err fault) }
+        ensures quiet { OnErr result (reply.new.items ≡ reply.old.items) }
+    {
+        if status.bits() != 0x01 || !data.is_empty() {
+            return Err(ServerFault::WrongAttention);
+        }
+        let packet_id = self.state.acknowledging_id();
+        if put_acknowledgement(self.alloc, reply, packet_id).is_err() {
+            return Ok(ServerTook::NoMemory);
+        }
+        self.state = State::Waiting;
+        Ok(ServerTook::Acknowledged)
+    }
+
+    /// Does one step of the answer and appends its packet, or neither at want of memory.
+    ///
+    /// The PacketIDs of an answer count from 1, modulo 256; end of message is set on the last packet
+    /// alone. Where nothing is being answered, also in a broken server, nothing happens.
+    pub fn work(&mut self, out: &mut Vec<u8>) -> Result<Worked, AllocError>
+        ensures engine { self.new.engine ≡ self.old.engine }
+        ensures state { OnOk result (self.new ≡ (worked self.old).state) }
+        ensures answer { IfOk result (λ answer. answer ≡ (worked self.old).answer) }
+        ensures packet { OnOk result (out.new.items ≡ out.old.items ++ (worked self.old).packet) }
+        ensures refused { OnErr result ((self.new ≡ self.old) × (out.new.items ≡ out.old.items)) }
+    {
+        let State::Answering(answer) = &mut self.state else {
+            return Ok(Worked::Idle);
+        };
+        let mut session = self.session;
+        let done = do_step(self.alloc, &self.engine, answer, &mut session)?;
+        let last = done.next.is_none();
+        put_answer(
+            self.alloc,
+            out,
+            answer.packet_id,
+            last,
+            done.tokens.as_slice(),
+        )?;
+        self.session = session;
+        match done.next {
+            Some(due) => {
+                answer.due = due;
+                answer.packet_id = answer.packet_id.wrapping_add(1);
+                Ok(Worked::Step)
+            }
+            None => {
+                self.state = State::Waiting;
+                Ok(Worked::Finished)
+            }
+        }
+    }
+}
