@@ -1,5 +1,4 @@
 mod Examples
-mod Sessions
 mod Rows
 mod Numbers
 mod Pieces

@@ -7,3 +7,4 @@ pub mod Effects
 pub mod Script
 pub mod Lawful
 pub mod Answer
+pub mod Laws

@@ -6,12 +6,14 @@ mod engine;
 mod message;
 mod parsing;
 mod running;
+mod script;
 mod session;
 mod statement;
 mod transaction;
 mod words;
 
 pub use engine::Engine;
+pub use script::ScriptEngine;
 pub use session::Session;
 pub use statement::{Key, Statement, Within, Word};
 pub use transaction::{begin_transaction, commit_transaction, roll_back_transaction};

@@ -1,7 +1,9 @@
 //! The batch language: what each statement does.
-ghost use Rattle.std.specs.Prelude.{◌≡◌, ◌≤◌, ◌++◌, [], ◌∷◌, IfOk, OnOk, OnErr};
+ghost use Rattle.std.specs.Prelude.{◌≡◌, ◌≤◌, ◌++◌, [], ◌∷◌, IfOk, OnOk, true};
 ghost use Rattle.tds_session.specs.Effects.{message};
 ghost use Rattle.tds_session.specs.Script.{step_of, with_done, result_set, rows_from, row_column};
+ghost use Rattle.tds_session.specs.Statements.{IsStatement};
+ghost use Rattle.tds_session.specs.Words.{is_word};
 ghost use Rattle.tds_token.specs.declared.token.Token.TheVariants as token;
 
 use crate::NoMemory;
@@ -27,6 +29,7 @@ pub(crate) fn run(
 ) -> Result<(), NoMemory>
     ensures tokens { OnOk result (tokens.new.items ≡ tokens.old.items ++ (step_of session.old statement.now).tokens) }
     ensures session { OnOk result (session.new ≡ (step_of session.old statement.now).after) }
+    ensures limits { IsStatement statement.now }
 {
     match statement {
         Statement::Say(word) => put_with_done(info(alloc, word)?, tokens),
@@ -51,7 +54,8 @@ pub(crate) fn run(
 
 /// An INFO of this word.
 fn info(alloc: Global, word: &Word) -> Result<Token, NoMemory>
-    ensures { IfOk result (λ given. given ≡ token.Info (message 50000 0 word.now)) }
+    ensures token { IfOk result (λ given. given ≡ token.Info (message 50000 0 word.now)) }
+    ensures word { is_word word.now ≡ true }
 {
     let text = Text::new(word.units().to_vec(alloc)?);
     Ok(Token::Info(message(alloc, 50000, 0, text)))

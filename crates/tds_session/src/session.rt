@@ -53,6 +53,18 @@ impl Session {
         self.descriptor
     }
 
+    /// The same session, to work on.
+    pub(crate) fn draft(&self) -> Session
+        ensures value { result ≡ self.now }
+        ensures session { IsSession self.now }
+    {
+        Session {
+            settings: self.settings,
+            descriptor: self.descriptor,
+            next_descriptor: self.next_descriptor,
+        }
+    }
+
     /// The values of the keys `a` to `z`, in their order.
     pub fn settings(&self) -> [Option<i32>; 26]
         ensures { result ≡ self.now.settings }

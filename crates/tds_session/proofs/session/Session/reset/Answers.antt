@@ -1,5 +1,5 @@
 use Rattle.tds_packet.specs.declared.status.Reset.TheVariants.{Full, KeepTransaction}
-use Rattle.tds_session.proofs.Sessions.{reset_is_session}
+use Rattle.tds_session.specs.Laws.Sessions.{reset_is_session}
 use Rattle.tds_session.proofs.session.Session.reset.Goals as goal
 
 pub invariant_of-self : goal.invariant_of-self
