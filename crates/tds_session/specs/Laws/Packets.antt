@@ -34,13 +34,11 @@ record Written (columns : Option ℕ) (tokens : List Token) (size : ℕ) : Type 
   pub short : length bytes ≤ size
 
 nothing : (columns : Option ℕ) → Written columns [] 0
-unfolding IsTokens
 nothing columns = record { fit = All-nil Fits; bytes = []; after = columns; spelled = (refl, refl); short = lit≤ tt }
 
 -- a token, and the others
 behind : (columns : Option ℕ) (t : Token) (ts : List Token) (most size : ℕ) → Fits t → Ranged t → Under columns t → length (spelling t) ≤ most
     → Written (columns_after columns t) ts size → Written columns (t ∷ ts) (most + size)
-unfolding IsTokens
 behind columns t ts most size fits ranged under short w = record {
   fit = All-cons Fits t ts fits w.fit;
   bytes = spelling t ++ w.bytes;
