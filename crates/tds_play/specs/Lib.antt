@@ -5,3 +5,7 @@ pub mod Sessions
 pub mod Lines
 pub mod Written
 pub mod Faults
+pub mod Pipe
+pub mod Memory
+pub mod Ties
+pub mod Refused

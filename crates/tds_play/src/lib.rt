@@ -2,8 +2,18 @@
 //! it reports.
 #![tactic(auto)]
 
+mod carrier;
+mod feeding;
+mod link;
+mod memory;
+mod player;
+mod playing;
+mod pool;
 mod rendering;
 
+pub use carrier::{Carrier, CarrierError};
+pub use memory::MemoryCarrier;
+pub use playing::{PlayRefusal, play};
 pub use rendering::{RenderFault, render};
 
 /// The answer of a growth that was refused.
