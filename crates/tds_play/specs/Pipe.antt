@@ -57,16 +57,21 @@ IsOpen None = ⊥
 IsOpen (Some p) = (p.is_cut ≡ false) × (p.open_failures ≡ 0)
 
 -- These bytes were handed over, with so many failures.
+abbrev pub sent : Traffic → List ℕ → ℕ → Traffic
+sent t bytes failures = record t {
+  handed = t.handed ++ bytes;
+  send_failures = t.send_failures + failures;
+}
+
 abbrev pub sent_on : Option Pipe → Direction → List ℕ → ℕ → Option Pipe
-sent_on p d bytes failures = with_traffic_in p d (record (traffic p d) {
-  handed = (traffic p d).handed ++ bytes;
-  send_failures = (traffic p d).send_failures + failures;
-})
+sent_on p d bytes failures = with_traffic_in p d (sent (traffic p d) bytes failures)
 
 -- These bytes came out.
+abbrev pub carried : Traffic → List ℕ → Traffic
+carried t bytes = record t { came = t.came ++ bytes }
+
 abbrev pub carried_on : Option Pipe → Direction → List ℕ → Option Pipe
-carried_on p d bytes =
-    with_traffic_in p d (record (traffic p d) { came = (traffic p d).came ++ bytes })
+carried_on p d bytes = with_traffic_in p d (carried (traffic p d) bytes)
 
 -- Nothing came out, and that is a failure.
 abbrev pub stuck_on : Option Pipe → Direction → Option Pipe

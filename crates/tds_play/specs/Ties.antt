@@ -9,8 +9,8 @@ use Rattle.tds_play.specs.declared.link.Link.{Link}
 -- So many bytes are underway each way, or more.
 pub record Holds (up down : ℕ) (pipe : Option Pipe) : Type 0 where
   pub is_open : IsOpen pipe
-  pub up : up + length (traffic pipe ToServer).came ≤ length (traffic pipe ToServer).handed
-  pub down : down + length (traffic pipe ToClient).came ≤ length (traffic pipe ToClient).handed
+  pub to_server : up + length (traffic pipe ToServer).came ≤ length (traffic pipe ToServer).handed
+  pub to_client : down + length (traffic pipe ToClient).came ≤ length (traffic pipe ToClient).handed
 
 -- A connection of the play, and what the carrier knows of it.
 pub record IsTied {E S : Type 0} (link : Link E S) (pipe : Option Pipe) : Type 0 where

@@ -2,7 +2,7 @@
 ghost use Rattle.std.specs.Prelude.{◌≡◌, ◌≤◌, ◌+◌, ℕ, length, true, false, Some, IfOk, OnOk};
 ghost use Rattle.tds_packet.specs.declared.kind.Direction.{Direction};
 ghost use Rattle.tds_packet.specs.declared.kind.Direction.TheVariants.{ToServer, ToClient};
-ghost use Rattle.tds_play.specs.Pipe.{Pipe, AreSame, IsOpen, new_pipe};
+ghost use Rattle.tds_play.specs.Pipe.{AreSame, IsUncut, new_pipe};
 ghost use Rattle.tds_play.specs.Ties.{IsTied, counted};
 
 pub(crate) mod acts;
@@ -120,7 +120,7 @@ impl<E: Engine + Drop> Link<E> {
         size: PacketSize,
     ) -> Result<Link<E>, NoMemory>
         ensures number { IfOk result (λ link. link.number ≡ number) }
-        ensures tied { IfOk result (λ link. (pipe : Option Pipe) → IsOpen pipe → IsTied link pipe) }
+        ensures tied { IfOk result (λ link. IsTied link (Some (new_pipe 0))) }
         ensures live { IfOk result (λ link. link.is_cut ≡ false) }
     {
         Ok(Link {
@@ -215,8 +215,9 @@ impl<E: Engine + Drop> Link<E> {
 
     /// Cuts the connection. A request that is not settled is lost.
     pub(crate) fn cut<C: Carrier>(&mut self, carrier: &mut C)
-        requires live { self.old.is_cut ≡ false }
-        requires tied { IsTied self.old (C.pipes carrier.old self.old.number) }
+        requires uncut { IsUncut (C.pipes carrier.old self.old.number) }
+        requires server_reads { self.old.server_reader.direction ≡ ToServer }
+        requires client_reads { self.old.client_reader.direction ≡ ToClient }
         ensures number { self.new.number ≡ self.old.number }
         ensures tied { IsTied self.new (C.pipes carrier.new self.old.number) }
         ensures others { AreSame (C.pipes carrier.old) (C.pipes carrier.new) self.old.number }

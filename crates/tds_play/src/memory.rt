@@ -1,12 +1,13 @@
 //! A carrier in memory.
-ghost use Rattle.std.specs.Prelude.{◌≡◌, ◌≤◌, ◌<◌, ◌+◌, ◌++◌, ◌≢◌, ℕ, List, length, take, drop, None, Some, Ok, Err, IfOk, OnOk, OnErr};
-ghost use Rattle.tds_play.specs.Memory.{pipe_at, traffic_in};
-ghost use Rattle.tds_play.specs.Pipe.{Pipe, Changes, new_pipe, sent_on, carried_on, stuck_on, cut_pipe, traffic, IsOpen, IsUncut};
+ghost use Rattle.std.specs.Prelude.{[], ◌≡◌, ◌≤◌, ◌<◌, ◌+◌, ◌++◌, ◌≢◌, ℕ, List, length, take, drop, None, Some, Ok, Err, IfOk, OnOk, OnErr};
+ghost use Rattle.tds_play.specs.Memory.{pipe_at};
+ghost use Rattle.tds_play.specs.Pipe.{Pipe, Changes, no_traffic, new_pipe, sent, sent_on, carried, carried_on, stuck_on, cut_pipe, traffic, IsOpen, IsUncut};
 ghost use Rattle.tds_play.specs.declared.carrier.CarrierError.TheVariants.{Lost, Memory};
 
 use crate::carrier::{Carrier, CarrierError};
 use std::alloc::{AllocError, Global};
 use std::collections::BTreeMap;
+use std::marker::Model;
 use tds_packet::Direction;
 
 /// The bytes of one direction, and how many of them came out.
@@ -43,9 +44,21 @@ impl MemoryCarrier {
     }
 }
 
+impl Model for Queue {
+    ghost use Rattle.tds_play.specs.Pipe.{Traffic};
+
+    ghost Value = { Traffic };
+
+    ghost use Rattle.tds_play.specs.Memory.{traffic_in, IsQueue};
+
+    ghost view = { traffic_in };
+
+    ghost invariant = { IsQueue };
+}
+
 impl Queue {
     fn new(alloc: Global) -> Queue
-        ensures { (result.bytes.items ≡ []) × (result.place ≡ 0) }
+        ensures { result ≡ no_traffic }
     {
         Queue {
             bytes: Vec::new(alloc),
@@ -53,15 +66,21 @@ impl Queue {
         }
     }
 
+    /// Puts bytes behind the others.
+    fn put(&mut self, bytes: &[u8]) -> Result<(), AllocError>
+        ensures { OnOk result (self.new ≡ sent self.old bytes.now 0) }
+    {
+        self.bytes.extend_from_slice(bytes)?;
+        Ok(())
+    }
+
     /// Takes so many bytes out.
     fn take(&mut self, count: usize, out: &mut Vec<u8>) -> Result<(), AllocError>
-        requires some { 0 < count }
-        requires underway { length (traffic_in self.old).came + count ≤ length (traffic_in self.old).handed }
+        requires { length self.old.came + count ≤ length self.old.handed }
         ensures count { OnOk result (length out.new.items ≡ length out.old.items + count) }
         ensures kept { OnOk result (take (length out.old.items) out.new.items ≡ out.old.items) }
-        ensures bytes { OnOk result (out.new.items ≡ out.old.items ++ take count (drop (length (traffic_in self.old).came) (traffic_in self.old).handed)) }
-        ensures came { OnOk result (take self.new.place self.new.bytes.items ≡ take self.old.place self.old.bytes.items ++ drop (length out.old.items) out.new.items) }
-        ensures handed { self.new.bytes.items ≡ self.old.bytes.items }
+        ensures bytes { OnOk result (out.new.items ≡ out.old.items ++ take count (drop (length self.old.came) self.old.handed)) }
+        ensures queue { OnOk result (self.new ≡ carried self.old (drop (length out.old.items) out.new.items)) }
     {
         let end = self.place + count;
         out.extend_from_slice(&self.bytes[self.place..end])?;
@@ -81,8 +100,6 @@ impl From<AllocError> for CarrierError {
 }
 
 impl Carrier for MemoryCarrier {
-    ghost use Rattle.std.specs.Prelude.{Unit};
-
     ghost pipes = { λ m. pipe_at m.pipes };
 
     ghost tells = { λ _. Unit {0} };
@@ -103,8 +120,8 @@ impl Carrier for MemoryCarrier {
         match self.pipes.get_mut(&conn) {
             None => unreachable!(),
             Some(pipe) => match direction {
-                Direction::ToServer => pipe.to_server.bytes.extend_from_slice(bytes)?,
-                Direction::ToClient => pipe.to_client.bytes.extend_from_slice(bytes)?,
+                Direction::ToServer => pipe.to_server.put(bytes)?,
+                Direction::ToClient => pipe.to_client.put(bytes)?,
             },
         }
         Ok(())

@@ -1,6 +1,7 @@
 //! All connections of a play, and what each event does to them.
-ghost use Rattle.std.specs.Prelude.{◌≡◌, ◌≤◌, ◌<◌, ℕ, suc, length, OnOk};
+ghost use Rattle.std.specs.Prelude.{◌≡◌, ◌≤◌, ◌<◌, ℕ, suc, [], length, OnOk};
 ghost use Rattle.tds_play.specs.Ties.{AreTied};
+ghost use Rattle.tds_play.specs.declared.pool.Found.TheVariants.{Here};
 
 use crate::NoMemory;
 use crate::carrier::{Carrier, CarrierError};
@@ -29,7 +30,9 @@ pub(crate) struct Player<E: Engine + Copy> {
 
 impl<E: Engine + Copy> Player<E> {
     /// A play before any event.
-    pub(crate) fn new(alloc: Global, engine: E, size: PacketSize, max: u8) -> Player<E> {
+    pub(crate) fn new(alloc: Global, engine: E, size: PacketSize, max: u8) -> Player<E>
+        ensures { result.links.items ≡ [] }
+    {
         Player {
             alloc,
             engine,
@@ -47,7 +50,12 @@ impl<E: Engine + Copy> Player<E> {
         &mut self,
         carrier: &mut C,
         event: &Event,
-    ) -> Result<Done, NoMemory> {
+    ) -> Result<Done, NoMemory>
+        requires tied { AreTied self.old.links.items (C.pipes carrier.old) }
+        requires few { length self.old.links.items < 10000 }
+        ensures tied { OnOk result (AreTied self.new.links.items (C.pipes carrier.new)) }
+        ensures grows { OnOk result (length self.new.links.items ≤ suc (length self.old.links.items)) }
+    {
         match event {
             Event::RestartServer => {
                 self.cut_all(carrier);
@@ -74,7 +82,9 @@ impl<E: Engine + Copy> Player<E> {
     }
 
     /// The connection that an event is about.
-    fn about(&self, event: &Event) -> Found {
+    fn about(&self, event: &Event) -> Found
+        ensures { (place : ℕ) → result ≡ Here place → place < length self.now.links.items }
+    {
         match event {
             Event::Lease => to_lend(self.links.as_slice(), self.max),
             Event::Resume(ticket) | Event::Abandon(ticket) => {
@@ -96,7 +106,9 @@ impl<E: Engine + Copy> Player<E> {
     }
 
     /// The connection that a lease or ticket holds, if that is known.
-    fn held(&self, conn: Option<u32>, why: Refusal) -> Found {
+    fn held(&self, conn: Option<u32>, why: Refusal) -> Found
+        ensures { (place : ℕ) → result ≡ Here place → place < length self.now.links.items }
+    {
         match conn {
             None => Found::Missing(why),
             Some(conn) => by_number(self.links.len(), conn, why),
@@ -109,7 +121,12 @@ impl<E: Engine + Copy> Player<E> {
         carrier: &mut C,
         place: usize,
         event: &Event,
-    ) -> Result<Done, NoMemory> {
+    ) -> Result<Done, NoMemory>
+        requires tied { AreTied self.old.links.items (C.pipes carrier.old) }
+        requires there { place < length self.old.links.items }
+        ensures tied { OnOk result (AreTied self.new.links.items (C.pipes carrier.new)) }
+        ensures count { OnOk result (length self.new.links.items ≡ length self.old.links.items) }
+    {
         let next = Next {
             lease: self.leases.next(),
             ticket: self.tickets.next(),
@@ -123,7 +140,9 @@ impl<E: Engine + Copy> Player<E> {
     }
 
     /// Notes an event that applied, on this connection.
-    fn note(&mut self, event: &Event, conn: u32) -> Result<(), NoMemory> {
+    fn note(&mut self, event: &Event, conn: u32) -> Result<(), NoMemory>
+        ensures { self.new.links ≡ self.old.links }
+    {
         match event {
             Event::Lease => self.leases.give(conn),
             Event::Resume(ticket) => {
@@ -151,7 +170,12 @@ impl<E: Engine + Copy> Player<E> {
     }
 
     /// A new connection is opened and lent.
-    fn open<C: Carrier>(&mut self, carrier: &mut C) -> Result<Done, NoMemory> {
+    fn open<C: Carrier>(&mut self, carrier: &mut C) -> Result<Done, NoMemory>
+        requires tied { AreTied self.old.links.items (C.pipes carrier.old) }
+        requires few { length self.old.links.items < 10000 }
+        ensures tied { OnOk result (AreTied self.new.links.items (C.pipes carrier.new)) }
+        ensures count { OnOk result (length self.new.links.items ≡ suc (length self.old.links.items)) }
+    {
         let conn = next_number(self.links.len());
         let lease = self.leases.next();
         let mut link = Link::new(self.alloc, conn, lease, self.engine, self.size)?;
@@ -167,13 +191,19 @@ impl<E: Engine + Copy> Player<E> {
             conn,
             opened: Opened::New,
         };
-        let done = link.end(carrier, outcome, lost);
+        if lost {
+            link.cut(carrier);
+        }
         self.links.push(link)?;
-        Ok(done)
+        Ok(Done { outcome, lost })
     }
 
     /// Every connection is cut.
-    fn cut_all<C: Carrier>(&mut self, carrier: &mut C) {
+    fn cut_all<C: Carrier>(&mut self, carrier: &mut C)
+        requires tied { AreTied self.old.links.items (C.pipes carrier.old) }
+        ensures tied { AreTied self.new.links.items (C.pipes carrier.new) }
+        ensures count { length self.new.links.items ≡ length self.old.links.items }
+    {
         'links: for place in 0..self.links.len() {
             let link = &mut self.links[place];
             if !link.is_cut {

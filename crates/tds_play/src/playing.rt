@@ -1,5 +1,5 @@
 //! A whole play.
-ghost use Rattle.std.specs.Prelude.{◌≡◌, ◌≢◌, ◌<◌, ◌≤◌, ℕ, length, None, Some, Err, IfErr, OnOk};
+ghost use Rattle.std.specs.Prelude.{◌≡◌, ◌≢◌, ◌<◌, ◌≤◌, ℕ, [], length, None, Some, Err, IfErr, OnOk};
 ghost use Rattle.tds_play.specs.declared.playing.PlayRefusal.{PlayRefusal};
 ghost use Rattle.tds_play.specs.declared.playing.PlayRefusal.TheVariants.{Memory};
 ghost use Rattle.tds_play.specs.Refused.{first_refusal, play_refusal_number};
@@ -96,7 +96,7 @@ fn play_on<E: Engine + Copy, C: Carrier>(
     if setup.max == 0 || setup.max > 64 {
         return Err(PlayRefusal::WrongSetup);
     }
-    let mut player = Player::new(alloc, engine, size, setup.max);
+    let player = Player::new(alloc, engine, size, setup.max);
     play_events(alloc, player, events, carrier)
 }
 
@@ -106,7 +106,11 @@ fn play_events<E: Engine + Copy, C: Carrier>(
     mut player: Player<E>,
     events: &[Event],
     carrier: &mut C,
-) -> Result<Report, PlayRefusal> {
+) -> Result<Report, PlayRefusal>
+    requires begins { player.links.items ≡ [] }
+    requires few { length events.now ≤ 10000 }
+    ensures { IfErr result (λ why. why ≡ Memory) }
+{
     let mut reports = Vec::new(alloc);
     'events: for event in events {
         let done = player.happen(carrier, event)?;

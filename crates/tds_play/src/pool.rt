@@ -1,5 +1,6 @@
 //! The pool: leases and tickets by their numbers, and which connection the next lease gets.
-ghost use Rattle.std.specs.Prelude.{◌≡◌, ◌<◌, ℕ, length, IfOk};
+ghost use Rattle.std.specs.Prelude.{◌≡◌, ◌<◌, ℕ, suc, length};
+ghost use Rattle.tds_play.specs.declared.pool.Found.TheVariants.{Here};
 
 use crate::NoMemory;
 use crate::link::Link;
@@ -8,7 +9,9 @@ use tds_session::Engine;
 use tds_world::{Place, Refusal};
 
 /// The number of the next one, where there are so many.
-pub(crate) fn next_number(count: usize) -> u32 {
+pub(crate) fn next_number(count: usize) -> u32
+    ensures { count < 4294967295 → result ≡ suc count }
+{
     match u32::try_from(count) {
         Ok(count) => count.saturating_add(1),
         Err(_) => u32::MAX,
@@ -81,6 +84,7 @@ pub(crate) enum Found {
 
 /// The connection of this number.
 pub(crate) fn by_number(count: usize, conn: u32, why: Refusal) -> Found
+    ensures { (place : ℕ) → result ≡ Here place → place < count }
 {
     if conn == 0 || conn as usize > count {
         return Found::Missing(why);
@@ -91,17 +95,18 @@ pub(crate) fn by_number(count: usize, conn: u32, why: Refusal) -> Found
 /// The connection that the next lease gets: the free one with the lowest number, or else a new one,
 /// if the pool has room.
 pub(crate) fn to_lend<E: Engine + Drop>(links: &[Link<E>], max: u8) -> Found
+    ensures { (place : ℕ) → result ≡ Here place → place < length links.now }
 {
-    let mut count = 0;
+    let mut room = max;
     for (place, link) in links.iter().enumerate() {
         if !link.is_cut {
             if link.place == Place::Free {
                 return Found::Here(place);
             }
-            count += 1;
+            room = room.saturating_sub(1);
         }
     }
-    if count < usize::from(max) {
+    if room > 0 {
         return Found::Opens;
     }
     Found::Missing(Refusal::AllInUse)

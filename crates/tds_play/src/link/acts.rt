@@ -1,5 +1,6 @@
 //! What each event does on its connection.
-ghost use Rattle.std.specs.Prelude.{◌≡◌, false, Option, OnOk};
+ghost use Rattle.std.specs.Prelude.{◌≡◌, ◌≤◌, false, min, Option, OnOk};
+ghost use Rattle.tds_packet.specs.declared.kind.Direction.TheVariants.{ToClient};
 ghost use Rattle.tds_play.specs.Pipe.{Pipe, AreSame};
 ghost use Rattle.tds_play.specs.Ties.{IsTied};
 
@@ -53,7 +54,11 @@ fn on_cut(event: &Event) -> Done {
     }
 }
 
-fn at_most(underway: u64, most: u32) -> u32 {
+/// So many of the bytes underway, or all where there are fewer.
+fn at_most(underway: u64, most: u32) -> u32
+    ensures value { result ≡ min most underway }
+    ensures within { result ≤ underway }
+{
     match u32::try_from(underway) {
         Ok(count) => count.min(most),
         Err(_) => most,
@@ -317,6 +322,7 @@ impl<E: Engine + Drop> Link<E> {
 
     /// The client takes what came, for the newest request.
     fn hear(&mut self, alloc: Global, piece: &[u8]) -> Result<Heard, NoMemory>
+        requires { self.old.client_reader.direction ≡ ToClient }
         ensures number { self.new.number ≡ self.old.number }
         ensures live { self.new.is_cut ≡ self.old.is_cut }
         ensures tied { (pipe : Option Pipe) → IsTied self.old pipe → OnOk result (IsTied self.new pipe) }
