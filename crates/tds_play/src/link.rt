@@ -112,7 +112,7 @@ pub(crate) struct Link<E: Engine + Drop> {
 
 impl<E: Engine + Drop> Link<E> {
     /// A connection as it begins, under this lease.
-    pub(crate) fn new(
+    fn new(
         alloc: Global,
         number: u32,
         lease: u32,
@@ -136,6 +136,31 @@ impl<E: Engine + Drop> Link<E> {
             current: None,
             past: Vec::new(alloc),
         })
+    }
+
+    /// Opens a connection at the carrier. It answers whether the carrier failed, so that the
+    /// connection is cut.
+    pub(crate) fn open<C: Carrier>(
+        alloc: Global,
+        carrier: &mut C,
+        number: u32,
+        lease: u32,
+        engine: E,
+        size: PacketSize,
+    ) -> Result<(Link<E>, bool), NoMemory>
+        ensures number { IfOk result (λ opened. opened.0.number ≡ number) }
+        ensures tied { IfOk result (λ opened. IsTied opened.0 (C.pipes carrier.new number)) }
+        ensures others { OnOk result (AreSame (C.pipes carrier.old) (C.pipes carrier.new) number) }
+    {
+        let mut link = Link::new(alloc, number, lease, engine, size)?;
+        match carrier.open(number) {
+            Ok(()) => Ok((link, false)),
+            Err(CarrierError::Lost) => {
+                link.cut(carrier);
+                Ok((link, true))
+            }
+            Err(CarrierError::Memory) => Err(AllocError),
+        }
     }
 
     /// Whether nobody waits for an answer.

@@ -4,11 +4,11 @@ ghost use Rattle.tds_play.specs.Ties.{AreTied};
 ghost use Rattle.tds_play.specs.declared.pool.Found.TheVariants.{Here};
 
 use crate::NoMemory;
-use crate::carrier::{Carrier, CarrierError};
+use crate::carrier::Carrier;
 use crate::link::acts::{Next, refused};
 use crate::link::{Done, Link};
 use crate::pool::{Found, Holdings, by_number, next_number, to_lend};
-use std::alloc::{AllocError, Global};
+use std::alloc::Global;
 use tds_packet::PacketSize;
 use tds_session::Engine;
 use tds_world::{Event, Opened, Outcome, Refusal, RequestReport, Snapshot};
@@ -178,23 +178,14 @@ impl<E: Engine + Copy> Player<E> {
     {
         let conn = next_number(self.links.len());
         let lease = self.leases.next();
-        let mut link = Link::new(self.alloc, conn, lease, self.engine, self.size)?;
-        self.links.reserve(1)?;
         self.leases.give(conn)?;
-        let lost = match carrier.open(conn) {
-            Ok(()) => false,
-            Err(CarrierError::Lost) => true,
-            Err(CarrierError::Memory) => return Err(AllocError),
-        };
+        let (link, lost) = Link::open(self.alloc, carrier, conn, lease, self.engine, self.size)?;
+        self.links.push(link)?;
         let outcome = Outcome::Leased {
             lease,
             conn,
             opened: Opened::New,
         };
-        if lost {
-            link.cut(carrier);
-        }
-        self.links.push(link)?;
         Ok(Done { outcome, lost })
     }
 
