@@ -265,12 +265,7 @@ impl<E: Engine + Drop> Link<E> {
     }
 
     /// The end of an event: where the carrier failed, the connection is cut.
-    pub(crate) fn end<C: Carrier>(
-        &mut self,
-        carrier: &mut C,
-        outcome: Outcome,
-        lost: bool,
-    ) -> Done
+    pub(crate) fn end<C: Carrier>(&mut self, carrier: &mut C, outcome: Outcome, lost: bool) -> Done
         requires live { self.old.is_cut ≡ false }
         requires tied { IsTied self.old (C.pipes carrier.old self.old.number) }
         ensures number { self.new.number ≡ self.old.number }

@@ -87,17 +87,34 @@ fn play_on<E: Engine + Copy, C: Carrier>(
     ensures played { OnOk result (first_refusal setup.now (length events.now) ≡ None) }
     ensures named { IfErr result (λ why. why ≢ Memory → first_refusal setup.now (length events.now) ≡ Some why) }
 {
-    if events.len() > EVENT_LIMIT {
+    match packet_size(setup, events.len()) {
+        Ok(size) => {
+            let player = Player::new(alloc, engine, size, setup.max);
+            play_events(alloc, player, events, carrier)
+        }
+        Err(refusal) => Err(refusal),
+    }
+}
+
+/// The size of the packets, where so many events are played with this setup.
+#[tactic(auto, unfolding(crate::specs::Refused::first_refusal))]
+fn packet_size(setup: &Setup, events: usize) -> Result<PacketSize, PlayRefusal>
+    ensures ok { OnOk result (first_refusal setup.now events ≡ None) }
+    ensures few { OnOk result (events ≤ 10000) }
+    ensures refused { IfErr result (λ why. first_refusal setup.now events ≡ Some why) }
+{
+    if events > EVENT_LIMIT {
         return Err(PlayRefusal::TooManyEvents);
     }
-    let Some(size) = PacketSize::new(setup.packet_size) else {
-        return Err(PlayRefusal::WrongSetup);
-    };
-    if setup.max == 0 || setup.max > 64 {
-        return Err(PlayRefusal::WrongSetup);
+    match PacketSize::new(setup.packet_size) {
+        None => Err(PlayRefusal::WrongSetup),
+        Some(size) => {
+            if setup.max == 0 || setup.max > 64 {
+                return Err(PlayRefusal::WrongSetup);
+            }
+            Ok(size)
+        }
     }
-    let player = Player::new(alloc, engine, size, setup.max);
-    play_events(alloc, player, events, carrier)
 }
 
 /// Plays the events, one after the other, and tells of them and of the requests.

@@ -117,11 +117,7 @@ impl<E: Engine + Drop> Link<E> {
     }
 
     /// The lease ends. What is underway is cancelled first.
-    fn give_back<C: Carrier>(
-        &mut self,
-        alloc: Global,
-        carrier: &mut C,
-    ) -> Result<Done, NoMemory>
+    fn give_back<C: Carrier>(&mut self, alloc: Global, carrier: &mut C) -> Result<Done, NoMemory>
         requires live { self.old.is_cut ≡ false }
         requires tied { IsTied self.old (C.pipes carrier.old self.old.number) }
         ensures number { self.new.number ≡ self.old.number }
@@ -330,7 +326,12 @@ impl<E: Engine + Drop> Link<E> {
         match &mut self.current {
             None => {
                 let mut nobody = Vec::new(alloc);
-                feed_client(&mut self.client, &mut self.client_reader, piece, &mut nobody)
+                feed_client(
+                    &mut self.client,
+                    &mut self.client_reader,
+                    piece,
+                    &mut nobody,
+                )
             }
             Some(record) => {
                 let told = &mut record.tokens;

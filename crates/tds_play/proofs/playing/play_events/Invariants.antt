@@ -5,5 +5,5 @@ use Rattle.tds_play.proofs.playing.play_events.Given as goal
 abbrev pub invariant-events : goal.invariant-events
 invariant-events g l = record {
   tied : AreTied l.player.links.items (g.C.Carrier.pipes l.carrier);
-  few : length l.player.links.items ≤ l.item-index;
+  few : length l.player.links.items ≤ l.event-index;
 }
