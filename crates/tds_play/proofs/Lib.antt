@@ -8,3 +8,5 @@ pub mod Utf16
 pub mod Batches
 pub mod Judged
 mod ScheduleExamples
+pub mod Queues
+pub mod Listed

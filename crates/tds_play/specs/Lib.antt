@@ -8,3 +8,7 @@ pub mod Faults
 pub mod Fields
 pub mod Events
 pub mod Schedule
+pub mod Pipe
+pub mod Memory
+pub mod Ties
+pub mod Refused

@@ -2,9 +2,19 @@
 //! it reports.
 #![tactic(auto)]
 
+mod carrier;
+mod feeding;
+mod link;
+mod memory;
+mod player;
+mod playing;
+mod pool;
 mod rendering;
 mod schedule;
 
+pub use carrier::{Carrier, CarrierError};
+pub use memory::MemoryCarrier;
+pub use playing::{PlayRefusal, play};
 pub use rendering::{RenderFault, render};
 pub use schedule::{ScheduleFault, read_schedule, right_or_wrong_somewhere};
 

@@ -1,0 +1,29 @@
+-- What a play keeps of its connections, whatever comes: what it counts as underway is underway at
+-- the carrier.
+use Rattle.std.specs.Prelude.{ℕ, suc, ◌+◌, ◌≡◌, ◌≤◌, ◌<◌, List, length, Option, Bool, true, false, slice_index_or}
+use Rattle.tds_packet.specs.declared.kind.Direction.{Direction}
+use Rattle.tds_packet.specs.declared.kind.Direction.TheVariants.{ToServer, ToClient}
+use Rattle.tds_play.specs.Pipe.{Pipe, traffic, IsOpen}
+use Rattle.tds_play.specs.declared.link.Link.{Link}
+
+-- So many bytes are underway each way, or more.
+pub record Holds (up down : ℕ) (pipe : Option Pipe) : Type 0 where
+  pub is_open : IsOpen pipe
+  pub to_server : up + length (traffic pipe ToServer).came ≤ length (traffic pipe ToServer).handed
+  pub to_client : down + length (traffic pipe ToClient).came ≤ length (traffic pipe ToClient).handed
+
+-- A connection of the play, and what the carrier knows of it.
+pub record IsTied {E S : Type 0} (link : Link E S) (pipe : Option Pipe) : Type 0 where
+  pub server_reads : link.server_reader.direction ≡ ToServer
+  pub client_reads : link.client_reader.direction ≡ ToClient
+  pub holds : link.is_cut ≡ false → Holds link.to_server link.to_client pipe
+
+-- The bytes that a connection counts as underway one way.
+abbrev pub counted : {E S : Type 0} → Link E S → Direction → ℕ
+counted link ToServer = link.to_server
+counted link ToClient = link.to_client
+
+-- All connections of a play, numbered from 1.
+pub record AreTied {E S : Type 0} (links : List (Link E S)) (pipes : ℕ → Option Pipe) : Type 0 where
+  pub numbered : (i : ℕ) (d : Link E S) → i < length links → (slice_index_or links i d).number ≡ suc i
+  pub tied : (i : ℕ) (d : Link E S) → i < length links → IsTied (slice_index_or links i d) (pipes (suc i))

@@ -1,0 +1,334 @@
+//! One connection: both its ends, what is underway between them, and the requests asked on it.
+ghost use Rattle.std.specs.Prelude.{◌≡◌, ◌≤◌, ◌+◌, ℕ, length, true, false, Some, IfOk, OnOk};
+ghost use Rattle.tds_packet.specs.declared.kind.Direction.{Direction};
+ghost use Rattle.tds_packet.specs.declared.kind.Direction.TheVariants.{ToServer, ToClient};
+ghost use Rattle.tds_play.specs.Pipe.{AreSame, IsUncut, new_pipe};
+ghost use Rattle.tds_play.specs.Ties.{IsTied, counted};
+
+pub(crate) mod acts;
+
+use crate::NoMemory;
+use crate::carrier::{Carrier, CarrierError};
+use crate::feeding::Fault;
+use std::alloc::{AllocError, Global};
+use tds_client::{Client, ClientState};
+use tds_packet::{Direction, PacketReader, PacketSize, Reset};
+use tds_server::Server;
+use tds_session::{Engine, Session};
+use tds_token::Token;
+use tds_world::{ClientView, Outcome, Place, RequestReport, RequestStatus, Sequence, Snapshot};
+
+/// What is known of a request.
+#[derive(Debug, Drop)]
+pub(crate) struct Record {
+    lease: u32,
+    /// The reset that it asks for.
+    mark: Option<Reset>,
+    status: RequestStatus,
+    /// The session that it ran in.
+    ran: Option<Session>,
+    /// What its caller was given.
+    tokens: Vec<Token>,
+}
+
+impl Record {
+    /// A request that is asked now.
+    fn new(alloc: Global, lease: u32, mark: Option<Reset>) -> Record {
+        Record {
+            lease,
+            mark,
+            status: RequestStatus::Open,
+            ran: None,
+            tokens: Vec::new(alloc),
+        }
+    }
+
+    /// A step of its answer was done, from the one session to the other. The first one says in
+    /// which session it runs: with a reset the one after that step, else the one before it.
+    fn note_step(&mut self, before: Session, after: Session) {
+        if self.ran.is_none() {
+            self.ran = match self.mark {
+                None => Some(before),
+                Some(_) => Some(after),
+            };
+        }
+    }
+
+    /// What is told of it in the end, where this is its connection.
+    pub(crate) fn report(self, conn: u32) -> RequestReport {
+        let Record {
+            lease,
+            mark: _,
+            status,
+            ran,
+            tokens,
+        } = self;
+        RequestReport {
+            lease,
+            conn,
+            status,
+            ran,
+            tokens: Sequence::new(tokens),
+        }
+    }
+}
+
+/// What an event came to on its connection.
+#[derive(Clone, Copy, Debug)]
+pub(crate) struct Done {
+    pub(crate) outcome: Outcome,
+    /// Whether the carrier failed, so that the connection was cut.
+    pub(crate) lost: bool,
+}
+
+/// What a carrier brought.
+#[derive(Clone, Copy, Debug)]
+struct Carried {
+    count: u32,
+    /// Whether it failed then.
+    lost: bool,
+}
+
+/// A connection.
+#[derive(Drop)]
+pub(crate) struct Link<E: Engine + Drop> {
+    /// From 1.
+    pub(crate) number: u32,
+    pub(crate) is_cut: bool,
+    /// Where it stands in the pool. It means nothing once the connection is cut.
+    pub(crate) place: Place,
+    pub(crate) client: Client,
+    server: Server<E>,
+    /// What comes to each end goes through its reader.
+    client_reader: PacketReader,
+    server_reader: PacketReader,
+    /// How many bytes are underway.
+    to_server: u64,
+    to_client: u64,
+    /// The newest request, and those before it in their order.
+    current: Option<Record>,
+    past: Vec<Record>,
+}
+
+impl<E: Engine + Drop> Link<E> {
+    /// A connection as it begins, under this lease.
+    fn new(
+        alloc: Global,
+        number: u32,
+        lease: u32,
+        engine: E,
+        size: PacketSize,
+    ) -> Result<Link<E>, NoMemory>
+        ensures number { IfOk result (λ link. link.number ≡ number) }
+        ensures tied { IfOk result (λ link. IsTied link (Some (new_pipe 0))) }
+        ensures live { IfOk result (λ link. link.is_cut ≡ false) }
+    {
+        Ok(Link {
+            number,
+            is_cut: false,
+            place: Place::Leased(lease),
+            client: Client::new(alloc, size),
+            server: Server::new(alloc, engine, size),
+            client_reader: PacketReader::new(alloc, size, Direction::ToClient)?,
+            server_reader: PacketReader::new(alloc, size, Direction::ToServer)?,
+            to_server: 0,
+            to_client: 0,
+            current: None,
+            past: Vec::new(alloc),
+        })
+    }
+
+    /// Opens a connection at the carrier. It answers whether the carrier failed, so that the
+    /// connection is cut.
+    pub(crate) fn open<C: Carrier>(
+        alloc: Global,
+        carrier: &mut C,
+        number: u32,
+        lease: u32,
+        engine: E,
+        size: PacketSize,
+    ) -> Result<(Link<E>, bool), NoMemory>
+        ensures number { IfOk result (λ opened. opened.0.number ≡ number) }
+        ensures tied { IfOk result (λ opened. IsTied opened.0 (C.pipes carrier.new number)) }
+        ensures others { OnOk result (AreSame (C.pipes carrier.old) (C.pipes carrier.new) number) }
+    {
+        let mut link = Link::new(alloc, number, lease, engine, size)?;
+        match carrier.open(number) {
+            Ok(()) => Ok((link, false)),
+            Err(CarrierError::Lost) => {
+                link.cut(carrier);
+                Ok((link, true))
+            }
+            Err(CarrierError::Memory) => Err(AllocError),
+        }
+    }
+
+    /// Whether nobody waits for an answer.
+    pub(crate) fn is_idle(&self) -> bool {
+        matches!(self.client.state(), ClientState::Idle)
+    }
+
+    /// Hands bytes to the carrier, if there are any, and counts them. It answers whether the
+    /// carrier failed.
+    fn hand_over<C: Carrier>(
+        &mut self,
+        carrier: &mut C,
+        direction: Direction,
+        bytes: &[u8],
+    ) -> Result<bool, NoMemory>
+        requires live { self.old.is_cut ≡ false }
+        requires tied { IsTied self.old (C.pipes carrier.old self.old.number) }
+        ensures number { self.new.number ≡ self.old.number }
+        ensures live { self.new.is_cut ≡ false }
+        ensures tied { OnOk result (IsTied self.new (C.pipes carrier.new self.old.number)) }
+        ensures others { OnOk result (AreSame (C.pipes carrier.old) (C.pipes carrier.new) self.old.number) }
+    {
+        if bytes.is_empty() {
+            return Ok(false);
+        }
+        let lost = match carrier.send(self.number, direction, bytes) {
+            Ok(()) => false,
+            Err(CarrierError::Lost) => true,
+            Err(CarrierError::Memory) => return Err(AllocError),
+        };
+        let count = bytes.len() as u64;
+        match direction {
+            Direction::ToServer => self.to_server = self.to_server.saturating_add(count),
+            Direction::ToClient => self.to_client = self.to_client.saturating_add(count),
+        }
+        Ok(lost)
+    }
+
+    /// Lets the carrier bring so many of the bytes underway, by as many calls as that takes, or
+    /// until it fails.
+    fn carry<C: Carrier>(
+        &mut self,
+        carrier: &mut C,
+        direction: Direction,
+        count: u32,
+        out: &mut Vec<u8>,
+    ) -> Result<Carried, NoMemory>
+        requires live { self.old.is_cut ≡ false }
+        requires tied { IsTied self.old (C.pipes carrier.old self.old.number) }
+        requires underway { count ≤ counted self.old direction }
+        ensures number { self.new.number ≡ self.old.number }
+        ensures live { self.new.is_cut ≡ false }
+        ensures tied { OnOk result (IsTied self.new (C.pipes carrier.new self.old.number)) }
+        ensures others { OnOk result (AreSame (C.pipes carrier.old) (C.pipes carrier.new) self.old.number) }
+    {
+        let mut left = count;
+        'pieces: while left > 0 {
+            match carrier.carry(self.number, direction, left as usize, out) {
+                Ok(piece) => {
+                    left -= piece as u32;
+                    match direction {
+                        Direction::ToServer => self.to_server -= piece as u64,
+                        Direction::ToClient => self.to_client -= piece as u64,
+                    }
+                }
+                Err(CarrierError::Lost) => {
+                    return Ok(Carried {
+                        count: count - left,
+                        lost: true,
+                    });
+                }
+                Err(CarrierError::Memory) => return Err(AllocError),
+            }
+        }
+        Ok(Carried { count, lost: false })
+    }
+
+    /// Cuts the connection. A request that is not settled is lost.
+    pub(crate) fn cut<C: Carrier>(&mut self, carrier: &mut C)
+        requires uncut { IsUncut (C.pipes carrier.old self.old.number) }
+        requires server_reads { self.old.server_reader.direction ≡ ToServer }
+        requires client_reads { self.old.client_reader.direction ≡ ToClient }
+        ensures number { self.new.number ≡ self.old.number }
+        ensures tied { IsTied self.new (C.pipes carrier.new self.old.number) }
+        ensures others { AreSame (C.pipes carrier.old) (C.pipes carrier.new) self.old.number }
+    {
+        carrier.cut(self.number);
+        self.is_cut = true;
+        self.client.lost();
+        self.server.lost();
+        if let Some(record) = &mut self.current {
+            match record.status {
+                RequestStatus::Open | RequestStatus::Cancelling => {
+                    record.status = RequestStatus::Lost;
+                }
+                RequestStatus::Finished
+                | RequestStatus::Acknowledged
+                | RequestStatus::Unsent
+                | RequestStatus::Lost => {}
+            }
+        }
+    }
+
+    /// The end of an event: where the carrier failed, the connection is cut.
+    pub(crate) fn end<C: Carrier>(&mut self, carrier: &mut C, outcome: Outcome, lost: bool) -> Done
+        requires live { self.old.is_cut ≡ false }
+        requires tied { IsTied self.old (C.pipes carrier.old self.old.number) }
+        ensures number { self.new.number ≡ self.old.number }
+        ensures tied { IsTied self.new (C.pipes carrier.new self.old.number) }
+        ensures others { AreSame (C.pipes carrier.old) (C.pipes carrier.new) self.old.number }
+    {
+        if lost {
+            self.cut(carrier);
+        }
+        Done { outcome, lost }
+    }
+
+    /// The end of a delivery that an end refused: the connection is cut.
+    fn end_by_fault<C: Carrier>(&mut self, carrier: &mut C, fault: Fault, lost: bool) -> Done
+        requires live { self.old.is_cut ≡ false }
+        requires tied { IsTied self.old (C.pipes carrier.old self.old.number) }
+        ensures number { self.new.number ≡ self.old.number }
+        ensures tied { IsTied self.new (C.pipes carrier.new self.old.number) }
+        ensures others { AreSame (C.pipes carrier.old) (C.pipes carrier.new) self.old.number }
+    {
+        self.cut(carrier);
+        Done {
+            outcome: fault.outcome(),
+            lost,
+        }
+    }
+
+    /// What is seen of it, unless it is cut.
+    pub(crate) fn snapshot(&self) -> Option<Snapshot> {
+        if self.is_cut {
+            return None;
+        }
+        let client = match self.client.state() {
+            ClientState::Idle => ClientView::Idle,
+            ClientState::Sending => ClientView::Sending,
+            ClientState::Reading => ClientView::Reading,
+            ClientState::Cancelling => ClientView::Cancelling,
+            // A client that breaks is cut in the same event.
+            ClientState::Broken(_) => return None,
+        };
+        Some(Snapshot {
+            conn: self.number,
+            client,
+            place: self.place,
+            descriptor: self.client.descriptor(),
+            mark: self.client.reset_mark(),
+            server: *self.server.session(),
+            to_server: self.to_server,
+            to_client: self.to_client,
+        })
+    }
+
+    /// The requests that were asked on it, in their order, with its number.
+    pub(crate) fn into_records(self) -> Result<(u32, Vec<Record>), NoMemory> {
+        let Link {
+            number,
+            current,
+            mut past,
+            ..
+        } = self;
+        if let Some(record) = current {
+            past.push(record)?;
+        }
+        Ok((number, past))
+    }
+}

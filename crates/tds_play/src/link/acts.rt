@@ -1,0 +1,346 @@
+//! What each event does on its connection.
+ghost use Rattle.std.specs.Prelude.{◌≡◌, ◌≤◌, false, min, Option, OnOk};
+ghost use Rattle.tds_packet.specs.declared.kind.Direction.TheVariants.{ToClient};
+ghost use Rattle.tds_play.specs.Pipe.{Pipe, AreSame};
+ghost use Rattle.tds_play.specs.Ties.{IsTied};
+
+use super::{Done, Link, Record};
+use crate::NoMemory;
+use crate::carrier::Carrier;
+use crate::feeding::{Heard, feed_client, feed_server};
+use std::alloc::{AllocError, Global};
+use tds_client::{Cancelled, ClientRefusal, Sent};
+use tds_packet::{Direction, Reset};
+use tds_request::Request;
+use tds_server::Worked;
+use tds_session::{Engine, Session};
+use tds_world::{
+    AbandonOutcome, CancelOutcome, Event, GiveBackOutcome, Opened, Outcome, Place, Refusal,
+    RequestStatus, SendOutcome, WorkOutcome,
+};
+
+/// The numbers that the next ones get.
+#[derive(Clone, Copy, Debug)]
+pub(crate) struct Next {
+    pub(crate) lease: u32,
+    pub(crate) ticket: u32,
+    pub(crate) request: u32,
+}
+
+/// An event that doesn't apply.
+pub(crate) fn refused(refusal: Refusal) -> Done {
+    Done {
+        outcome: Outcome::Refused(refusal),
+        lost: false,
+    }
+}
+
+fn done(outcome: Outcome) -> Done {
+    Done {
+        outcome,
+        lost: false,
+    }
+}
+
+/// What an event comes to whose connection is cut.
+fn on_cut(event: &Event) -> Done {
+    match event {
+        Event::GiveBack(_) => done(Outcome::GivenBack(GiveBackOutcome::Closed)),
+        Event::Abandon(_) => done(Outcome::Abandoned(AbandonOutcome::Closed)),
+        Event::Work(_) | Event::ToServer(..) | Event::ToClient(..) | Event::Cut(_) => {
+            refused(Refusal::UnknownConnection)
+        }
+        _ => refused(Refusal::ConnectionCut),
+    }
+}
+
+/// So many of the bytes underway, or all where there are fewer.
+fn at_most(underway: u64, most: u32) -> u32
+    ensures value { result ≡ min most underway }
+    ensures within { result ≤ underway }
+{
+    match u32::try_from(underway) {
+        Ok(count) => count.min(most),
+        Err(_) => most,
+    }
+}
+
+impl<E: Engine + Drop> Link<E> {
+    /// Does what this event does on its connection.
+    pub(crate) fn act<C: Carrier>(
+        &mut self,
+        alloc: Global,
+        carrier: &mut C,
+        next: Next,
+        event: &Event,
+    ) -> Result<Done, NoMemory>
+        requires { IsTied self.old (C.pipes carrier.old self.old.number) }
+        ensures number { self.new.number ≡ self.old.number }
+        ensures tied { OnOk result (IsTied self.new (C.pipes carrier.new self.old.number)) }
+        ensures others { OnOk result (AreSame (C.pipes carrier.old) (C.pipes carrier.new) self.old.number) }
+    {
+        if self.is_cut {
+            return Ok(on_cut(event));
+        }
+        match event {
+            Event::Lease => Ok(self.lend(next, Reset::Full, Opened::Reused)),
+            Event::Resume(_) => Ok(self.lend(next, Reset::KeepTransaction, Opened::Resumed)),
+            Event::GiveBack(_) => self.give_back(alloc, carrier),
+            Event::Keep(_) => Ok(self.keep(next)),
+            Event::Abandon(_) => Ok(self.abandon()),
+            Event::Ask(lease, request) => self.ask(alloc, next, *lease, request),
+            Event::Send(_) => self.send(alloc, carrier),
+            Event::Cancel(_) => self.cancel(alloc, carrier),
+            Event::Work(_) => self.work(alloc, carrier),
+            Event::ToServer(_, most) => self.deliver_to_server(alloc, carrier, *most),
+            Event::ToClient(_, most) => self.deliver_to_client(alloc, carrier, *most),
+            Event::Cut(_) | Event::RestartServer | Event::RestartClient => {
+                self.cut(carrier);
+                Ok(done(Outcome::Cut))
+            }
+        }
+    }
+
+    /// The connection is lent, and its next request is to ask for this reset.
+    fn lend(&mut self, next: Next, mark: Reset, opened: Opened) -> Done
+        ensures number { self.new.number ≡ self.old.number }
+        ensures tied { (pipe : Option Pipe) → IsTied self.old pipe → IsTied self.new pipe }
+    {
+        // A connection that is lent is idle, so this is not refused.
+        let _ = self.client.mark_reset(mark);
+        self.place = Place::Leased(next.lease);
+        done(Outcome::Leased {
+            lease: next.lease,
+            conn: self.number,
+            opened,
+        })
+    }
+
+    /// The lease ends. What is underway is cancelled first.
+    fn give_back<C: Carrier>(&mut self, alloc: Global, carrier: &mut C) -> Result<Done, NoMemory>
+        requires live { self.old.is_cut ≡ false }
+        requires tied { IsTied self.old (C.pipes carrier.old self.old.number) }
+        ensures number { self.new.number ≡ self.old.number }
+        ensures tied { OnOk result (IsTied self.new (C.pipes carrier.new self.old.number)) }
+        ensures others { OnOk result (AreSame (C.pipes carrier.old) (C.pipes carrier.new) self.old.number) }
+    {
+        let mut out = Vec::new(alloc);
+        let _ = self.cancel_request(&mut out)?;
+        let returned = if self.is_idle() {
+            self.place = Place::Free;
+            GiveBackOutcome::Free
+        } else {
+            self.place = Place::Draining;
+            GiveBackOutcome::Draining
+        };
+        let lost = self.hand_over(carrier, Direction::ToServer, out.as_slice())?;
+        Ok(self.end(carrier, Outcome::GivenBack(returned), lost))
+    }
+
+    /// The lease becomes a ticket, which keeps the transaction that the client heard of.
+    fn keep(&mut self, next: Next) -> Done
+        ensures number { self.new.number ≡ self.old.number }
+        ensures tied { (pipe : Option Pipe) → IsTied self.old pipe → IsTied self.new pipe }
+    {
+        if !self.is_idle() {
+            return refused(Refusal::NotIdle);
+        }
+        if self.client.descriptor() == 0 || self.client.reset_mark() == Some(Reset::Full) {
+            return refused(Refusal::NothingToKeep);
+        }
+        self.place = Place::Kept(next.ticket);
+        done(Outcome::Kept(next.ticket))
+    }
+
+    /// The ticket ends. The connection that it kept is idle, so it is free then.
+    fn abandon(&mut self) -> Done
+        ensures number { self.new.number ≡ self.old.number }
+        ensures tied { (pipe : Option Pipe) → IsTied self.old pipe → IsTied self.new pipe }
+    {
+        self.place = Place::Free;
+        done(Outcome::Abandoned(AbandonOutcome::Free))
+    }
+
+    /// A request is asked. None of it goes out yet.
+    fn ask(
+        &mut self,
+        alloc: Global,
+        next: Next,
+        lease: u32,
+        request: &Request,
+    ) -> Result<Done, NoMemory>
+        ensures number { self.new.number ≡ self.old.number }
+        ensures tied { (pipe : Option Pipe) → IsTied self.old pipe → IsTied self.new pipe }
+    {
+        let mark = self.client.reset_mark();
+        match self.client.start(request) {
+            Ok(()) => {}
+            Err(ClientRefusal::Memory) => return Err(AllocError),
+            Err(_) => return Ok(refused(Refusal::NotIdle)),
+        }
+        if let Some(settled) = self.current.take() {
+            self.past.push(settled)?;
+        }
+        self.current = Some(Record::new(alloc, lease, mark));
+        Ok(done(Outcome::Asked(next.request)))
+    }
+
+    /// The request's next packet goes out.
+    fn send<C: Carrier>(&mut self, alloc: Global, carrier: &mut C) -> Result<Done, NoMemory>
+        requires live { self.old.is_cut ≡ false }
+        requires tied { IsTied self.old (C.pipes carrier.old self.old.number) }
+        ensures number { self.new.number ≡ self.old.number }
+        ensures tied { OnOk result (IsTied self.new (C.pipes carrier.new self.old.number)) }
+        ensures others { OnOk result (AreSame (C.pipes carrier.old) (C.pipes carrier.new) self.old.number) }
+    {
+        let mut out = Vec::new(alloc);
+        let sent = match self.client.send(&mut out) {
+            Ok(Sent::More) => SendOutcome::More,
+            Ok(Sent::Last) => SendOutcome::Last,
+            Err(ClientRefusal::Memory) => return Err(AllocError),
+            Err(_) => return Ok(refused(Refusal::NotSending)),
+        };
+        let lost = self.hand_over(carrier, Direction::ToServer, out.as_slice())?;
+        Ok(self.end(carrier, Outcome::Sent(sent), lost))
+    }
+
+    /// Cancels the request underway, and appends what goes out for it.
+    fn cancel_request(&mut self, out: &mut Vec<u8>) -> Result<CancelOutcome, NoMemory>
+        ensures number { self.new.number ≡ self.old.number }
+        ensures tied { (pipe : Option Pipe) → IsTied self.old pipe → IsTied self.new pipe }
+        ensures live { self.new.is_cut ≡ self.old.is_cut }
+    {
+        let (outcome, status) = match self.client.cancel(out) {
+            Ok(Cancelled::Nothing) => return Ok(CancelOutcome::Nothing),
+            Ok(Cancelled::Already) => return Ok(CancelOutcome::Already),
+            Ok(Cancelled::Unsent) => (CancelOutcome::Unsent, RequestStatus::Unsent),
+            Ok(Cancelled::Asked) => (CancelOutcome::Asked, RequestStatus::Cancelling),
+            Err(ClientRefusal::Memory) => return Err(AllocError),
+            // A connection whose client broke is cut, so this does not come.
+            Err(_) => return Ok(CancelOutcome::Nothing),
+        };
+        if let Some(record) = &mut self.current {
+            record.status = status;
+        }
+        Ok(outcome)
+    }
+
+    /// The request underway is cancelled.
+    fn cancel<C: Carrier>(&mut self, alloc: Global, carrier: &mut C) -> Result<Done, NoMemory>
+        requires live { self.old.is_cut ≡ false }
+        requires tied { IsTied self.old (C.pipes carrier.old self.old.number) }
+        ensures number { self.new.number ≡ self.old.number }
+        ensures tied { OnOk result (IsTied self.new (C.pipes carrier.new self.old.number)) }
+        ensures others { OnOk result (AreSame (C.pipes carrier.old) (C.pipes carrier.new) self.old.number) }
+    {
+        let mut out = Vec::new(alloc);
+        let cancelled = self.cancel_request(&mut out)?;
+        let lost = self.hand_over(carrier, Direction::ToServer, out.as_slice())?;
+        Ok(self.end(carrier, Outcome::Cancel(cancelled), lost))
+    }
+
+    /// The server does the next step of the answer that is due.
+    fn work<C: Carrier>(&mut self, alloc: Global, carrier: &mut C) -> Result<Done, NoMemory>
+        requires live { self.old.is_cut ≡ false }
+        requires tied { IsTied self.old (C.pipes carrier.old self.old.number) }
+        ensures number { self.new.number ≡ self.old.number }
+        ensures tied { OnOk result (IsTied self.new (C.pipes carrier.new self.old.number)) }
+        ensures others { OnOk result (AreSame (C.pipes carrier.old) (C.pipes carrier.new) self.old.number) }
+    {
+        let before = *self.server.session();
+        let mut out = Vec::new(alloc);
+        let outcome = match self.server.work(&mut out)? {
+            Worked::Idle => return Ok(done(Outcome::Work(WorkOutcome::Idle))),
+            Worked::Step => WorkOutcome::Step,
+            Worked::Finished => WorkOutcome::Finished,
+        };
+        let after = *self.server.session();
+        if let Some(record) = &mut self.current {
+            record.note_step(before, after);
+        }
+        let lost = self.hand_over(carrier, Direction::ToClient, out.as_slice())?;
+        Ok(self.end(carrier, Outcome::Work(outcome), lost))
+    }
+
+    /// Bytes come to the server, and what they cause goes out.
+    fn deliver_to_server<C: Carrier>(
+        &mut self,
+        alloc: Global,
+        carrier: &mut C,
+        most: u32,
+    ) -> Result<Done, NoMemory>
+        requires live { self.old.is_cut ≡ false }
+        requires tied { IsTied self.old (C.pipes carrier.old self.old.number) }
+        ensures number { self.new.number ≡ self.old.number }
+        ensures tied { OnOk result (IsTied self.new (C.pipes carrier.new self.old.number)) }
+        ensures others { OnOk result (AreSame (C.pipes carrier.old) (C.pipes carrier.new) self.old.number) }
+    {
+        let count = at_most(self.to_server, most);
+        let mut piece = Vec::new(alloc);
+        let carried = self.carry(carrier, Direction::ToServer, count, &mut piece)?;
+        let mut reply = Vec::new(alloc);
+        let piece = piece.as_slice();
+        match feed_server(&mut self.server, &mut self.server_reader, piece, &mut reply)? {
+            None => {
+                let lost = self.hand_over(carrier, Direction::ToClient, reply.as_slice())?;
+                let outcome = Outcome::ToServer(carried.count);
+                Ok(self.end(carrier, outcome, carried.lost || lost))
+            }
+            Some(fault) => Ok(self.end_by_fault(carrier, fault, carried.lost)),
+        }
+    }
+
+    /// Bytes come to the client, which tells their tokens to the newest request's caller.
+    fn deliver_to_client<C: Carrier>(
+        &mut self,
+        alloc: Global,
+        carrier: &mut C,
+        most: u32,
+    ) -> Result<Done, NoMemory>
+        requires live { self.old.is_cut ≡ false }
+        requires tied { IsTied self.old (C.pipes carrier.old self.old.number) }
+        ensures number { self.new.number ≡ self.old.number }
+        ensures tied { OnOk result (IsTied self.new (C.pipes carrier.new self.old.number)) }
+        ensures others { OnOk result (AreSame (C.pipes carrier.old) (C.pipes carrier.new) self.old.number) }
+    {
+        let count = at_most(self.to_client, most);
+        let mut piece = Vec::new(alloc);
+        let carried = self.carry(carrier, Direction::ToClient, count, &mut piece)?;
+        let heard = self.hear(alloc, piece.as_slice())?;
+        if let Some(fault) = heard.fault {
+            return Ok(self.end_by_fault(carrier, fault, carried.lost));
+        }
+        if self.place == Place::Draining && self.is_idle() {
+            self.place = Place::Free;
+        }
+        Ok(self.end(carrier, Outcome::ToClient(carried.count), carried.lost))
+    }
+
+    /// The client takes what came, for the newest request.
+    fn hear(&mut self, alloc: Global, piece: &[u8]) -> Result<Heard, NoMemory>
+        requires { self.old.client_reader.direction ≡ ToClient }
+        ensures number { self.new.number ≡ self.old.number }
+        ensures live { self.new.is_cut ≡ self.old.is_cut }
+        ensures tied { (pipe : Option Pipe) → IsTied self.old pipe → OnOk result (IsTied self.new pipe) }
+    {
+        match &mut self.current {
+            None => {
+                let mut nobody = Vec::new(alloc);
+                feed_client(
+                    &mut self.client,
+                    &mut self.client_reader,
+                    piece,
+                    &mut nobody,
+                )
+            }
+            Some(record) => {
+                let told = &mut record.tokens;
+                let heard = feed_client(&mut self.client, &mut self.client_reader, piece, told)?;
+                if let Some(status) = heard.settled {
+                    record.status = status;
+                }
+                Ok(heard)
+            }
+        }
+    }
+}

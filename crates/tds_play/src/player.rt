@@ -1,0 +1,243 @@
+//! All connections of a play, and what each event does to them.
+ghost use Rattle.std.specs.Prelude.{◌≡◌, ◌≤◌, ◌<◌, ℕ, suc, [], length, OnOk};
+ghost use Rattle.tds_play.specs.Ties.{AreTied};
+ghost use Rattle.tds_play.specs.declared.pool.Found.TheVariants.{Here};
+
+use crate::NoMemory;
+use crate::carrier::Carrier;
+use crate::link::acts::{Next, refused};
+use crate::link::{Done, Link};
+use crate::pool::{Found, Holdings, by_number, next_number, to_lend};
+use std::alloc::Global;
+use tds_packet::PacketSize;
+use tds_session::Engine;
+use tds_world::{Event, Opened, Outcome, Refusal, RequestReport, Snapshot};
+
+/// What a play knows.
+#[derive(Drop)]
+pub(crate) struct Player<E: Engine + Copy> {
+    alloc: Global,
+    engine: E,
+    size: PacketSize,
+    max: u8,
+    /// Numbered from 1.
+    links: Vec<Link<E>>,
+    leases: Holdings,
+    tickets: Holdings,
+    /// The connection of each request, in the order in which they were asked.
+    asked_on: Vec<u32>,
+}
+
+impl<E: Engine + Copy> Player<E> {
+    /// A play before any event.
+    pub(crate) fn new(alloc: Global, engine: E, size: PacketSize, max: u8) -> Player<E>
+        ensures { result.links.items ≡ [] }
+    {
+        Player {
+            alloc,
+            engine,
+            size,
+            max,
+            links: Vec::new(alloc),
+            leases: Holdings::new(alloc),
+            tickets: Holdings::new(alloc),
+            asked_on: Vec::new(alloc),
+        }
+    }
+
+    /// One event.
+    pub(crate) fn happen<C: Carrier>(
+        &mut self,
+        carrier: &mut C,
+        event: &Event,
+    ) -> Result<Done, NoMemory>
+        requires tied { AreTied self.old.links.items (C.pipes carrier.old) }
+        requires few { length self.old.links.items < 10000 }
+        ensures tied { OnOk result (AreTied self.new.links.items (C.pipes carrier.new)) }
+        ensures grows { OnOk result (length self.new.links.items ≤ suc (length self.old.links.items)) }
+    {
+        match event {
+            Event::RestartServer => {
+                self.cut_all(carrier);
+                Ok(Done {
+                    outcome: Outcome::RestartedServer,
+                    lost: false,
+                })
+            }
+            Event::RestartClient => {
+                self.cut_all(carrier);
+                self.leases.end_all();
+                self.tickets.end_all();
+                Ok(Done {
+                    outcome: Outcome::RestartedClient,
+                    lost: false,
+                })
+            }
+            _ => match self.about(event) {
+                Found::Missing(refusal) => Ok(refused(refusal)),
+                Found::Here(place) => self.act_at(carrier, place, event),
+                Found::Opens => self.open(carrier),
+            },
+        }
+    }
+
+    /// The connection that an event is about.
+    fn about(&self, event: &Event) -> Found
+        ensures { (place : ℕ) → result ≡ Here place → place < length self.now.links.items }
+    {
+        match event {
+            Event::Lease => to_lend(self.links.as_slice(), self.max),
+            Event::Resume(ticket) | Event::Abandon(ticket) => {
+                self.held(self.tickets.conn(*ticket), Refusal::UnknownTicket)
+            }
+            Event::GiveBack(lease)
+            | Event::Keep(lease)
+            | Event::Ask(lease, _)
+            | Event::Send(lease)
+            | Event::Cancel(lease) => self.held(self.leases.conn(*lease), Refusal::UnknownLease),
+            Event::Work(conn)
+            | Event::ToServer(conn, _)
+            | Event::ToClient(conn, _)
+            | Event::Cut(conn) => by_number(self.links.len(), *conn, Refusal::UnknownConnection),
+            Event::RestartServer | Event::RestartClient => {
+                Found::Missing(Refusal::UnknownConnection)
+            }
+        }
+    }
+
+    /// The connection that a lease or ticket holds, if that is known.
+    fn held(&self, conn: Option<u32>, why: Refusal) -> Found
+        ensures { (place : ℕ) → result ≡ Here place → place < length self.now.links.items }
+    {
+        match conn {
+            None => Found::Missing(why),
+            Some(conn) => by_number(self.links.len(), conn, why),
+        }
+    }
+
+    /// An event, on the connection at this place.
+    fn act_at<C: Carrier>(
+        &mut self,
+        carrier: &mut C,
+        place: usize,
+        event: &Event,
+    ) -> Result<Done, NoMemory>
+        requires tied { AreTied self.old.links.items (C.pipes carrier.old) }
+        requires there { place < length self.old.links.items }
+        ensures tied { OnOk result (AreTied self.new.links.items (C.pipes carrier.new)) }
+        ensures count { OnOk result (length self.new.links.items ≡ length self.old.links.items) }
+    {
+        let next = Next {
+            lease: self.leases.next(),
+            ticket: self.tickets.next(),
+            request: next_number(self.asked_on.len()),
+        };
+        let done = self.links[place].act(self.alloc, carrier, next, event)?;
+        if !matches!(done.outcome, Outcome::Refused(_)) {
+            self.note(event, next_number(place))?;
+        }
+        Ok(done)
+    }
+
+    /// Notes an event that applied, on this connection.
+    fn note(&mut self, event: &Event, conn: u32) -> Result<(), NoMemory>
+        ensures { self.new.links ≡ self.old.links }
+    {
+        match event {
+            Event::Lease => self.leases.give(conn),
+            Event::Resume(ticket) => {
+                self.tickets.end(*ticket);
+                self.leases.give(conn)
+            }
+            Event::GiveBack(lease) => {
+                self.leases.end(*lease);
+                Ok(())
+            }
+            Event::Keep(lease) => {
+                self.leases.end(*lease);
+                self.tickets.give(conn)
+            }
+            Event::Abandon(ticket) => {
+                self.tickets.end(*ticket);
+                Ok(())
+            }
+            Event::Ask(..) => {
+                self.asked_on.push(conn)?;
+                Ok(())
+            }
+            _ => Ok(()),
+        }
+    }
+
+    /// A new connection is opened and lent.
+    fn open<C: Carrier>(&mut self, carrier: &mut C) -> Result<Done, NoMemory>
+        requires tied { AreTied self.old.links.items (C.pipes carrier.old) }
+        requires few { length self.old.links.items < 10000 }
+        ensures tied { OnOk result (AreTied self.new.links.items (C.pipes carrier.new)) }
+        ensures count { OnOk result (length self.new.links.items ≡ suc (length self.old.links.items)) }
+    {
+        let conn = next_number(self.links.len());
+        let lease = self.leases.next();
+        self.leases.give(conn)?;
+        let (link, lost) = Link::open(self.alloc, carrier, conn, lease, self.engine, self.size)?;
+        self.links.push(link)?;
+        let outcome = Outcome::Leased {
+            lease,
+            conn,
+            opened: Opened::New,
+        };
+        Ok(Done { outcome, lost })
+    }
+
+    /// Every connection is cut.
+    fn cut_all<C: Carrier>(&mut self, carrier: &mut C)
+        requires tied { AreTied self.old.links.items (C.pipes carrier.old) }
+        ensures tied { AreTied self.new.links.items (C.pipes carrier.new) }
+        ensures count { length self.new.links.items ≡ length self.old.links.items }
+    {
+        'links: for place in 0..self.links.len() {
+            let link = &mut self.links[place];
+            if !link.is_cut {
+                link.cut(carrier);
+            }
+        }
+    }
+
+    /// What is seen of each connection that isn't cut.
+    pub(crate) fn snapshots(&self) -> Result<Vec<Snapshot>, NoMemory> {
+        let mut snapshots = Vec::new(self.alloc);
+        for link in &self.links {
+            if let Some(snapshot) = link.snapshot() {
+                snapshots.push(snapshot)?;
+            }
+        }
+        Ok(snapshots)
+    }
+
+    /// What is told of each request in the end, in the order in which they were asked.
+    pub(crate) fn into_requests(self) -> Result<Vec<RequestReport>, NoMemory> {
+        let Player {
+            alloc,
+            links,
+            asked_on,
+            ..
+        } = self;
+        let mut records = Vec::new(alloc);
+        for link in links {
+            let (_, mut asked) = link.into_records()?;
+            // The oldest comes last, where it is taken from.
+            asked.reverse();
+            records.push(asked)?;
+        }
+        let mut reports = Vec::new(alloc);
+        for conn in asked_on {
+            if conn > 0
+                && let Some(asked) = records.get_mut(conn as usize - 1)
+                && let Some(record) = asked.pop()
+            {
+                reports.push(record.report(conn))?;
+            }
+        }
+        Ok(reports)
+    }
+}

@@ -1,0 +1,144 @@
+//! A whole play.
+ghost use Rattle.std.specs.Prelude.{◌≡◌, ◌≢◌, ◌<◌, ◌≤◌, ℕ, [], length, None, Some, Err, IfErr, OnOk};
+ghost use Rattle.tds_play.specs.declared.playing.PlayRefusal.{PlayRefusal};
+ghost use Rattle.tds_play.specs.declared.playing.PlayRefusal.TheVariants.{Memory};
+ghost use Rattle.tds_play.specs.Refused.{first_refusal, play_refusal_number};
+
+use crate::carrier::Carrier;
+use crate::memory::MemoryCarrier;
+use crate::player::Player;
+use std::alloc::{AllocError, AllocFailed, Global};
+use tds_packet::PacketSize;
+use tds_session::{Engine, ScriptEngine};
+use tds_world::{Event, EventReport, Report, Sequence, Setup};
+
+/// How many events a schedule may have.
+const EVENT_LIMIT: usize = 10_000;
+
+/// Why there is no report.
+#[derive(Debug, Drop)]
+pub enum PlayRefusal {
+    /// 1: there are more than 10,000 events.
+    TooManyEvents,
+    /// 2: the packet size is not 512 to 32,767, or the number of connections not 1 to 64.
+    WrongSetup,
+    /// 3: a growth was refused. The carrier may have been used.
+    Memory,
+}
+
+impl PlayRefusal {
+    /// The refusal's number, 1 to 3.
+    pub fn number(&self) -> u8
+        ensures { result ≡ play_refusal_number self.now }
+    {
+        match self {
+            PlayRefusal::TooManyEvents => 1,
+            PlayRefusal::WrongSetup => 2,
+            PlayRefusal::Memory => 3,
+        }
+    }
+}
+
+impl From<AllocError> for PlayRefusal {
+    ghost use Rattle.tds_play.specs.declared.playing.PlayRefusal.TheVariants.{Memory};
+
+    ghost from_gives = { λ _ refusal. refusal ≡ Memory };
+
+    fn from(_: AllocError) -> PlayRefusal {
+        PlayRefusal::Memory
+    }
+}
+
+impl<T: Drop> From<AllocFailed<T>> for PlayRefusal {
+    ghost use Rattle.tds_play.specs.declared.playing.PlayRefusal.TheVariants.{Memory};
+
+    ghost from_gives = { λ _ refusal. refusal ≡ Memory };
+
+    fn from(_: AllocFailed<T>) -> PlayRefusal {
+        PlayRefusal::Memory
+    }
+}
+
+/// Plays a schedule from nothing: both ends of each connection, over bytes that the carrier brings.
+pub fn play(
+    alloc: Global,
+    setup: &Setup,
+    events: &[Event],
+    carrier: &mut MemoryCarrier,
+) -> Result<Report, PlayRefusal>
+    ensures refused { (why : PlayRefusal) → first_refusal setup.now (length events.now) ≡ Some why → result ≡ Err why }
+    ensures unused { (why : PlayRefusal) → first_refusal setup.now (length events.now) ≡ Some why → carrier.new ≡ carrier.old }
+    ensures played { OnOk result (first_refusal setup.now (length events.now) ≡ None) }
+    ensures named { IfErr result (λ why. why ≢ Memory → first_refusal setup.now (length events.now) ≡ Some why) }
+{
+    play_on(alloc, setup, events, ScriptEngine, carrier)
+}
+
+/// Plays a schedule from nothing, with any engine and any carrier.
+fn play_on<E: Engine + Copy, C: Carrier>(
+    alloc: Global,
+    setup: &Setup,
+    events: &[Event],
+    engine: E,
+    carrier: &mut C,
+) -> Result<Report, PlayRefusal>
+    ensures refused { (why : PlayRefusal) → first_refusal setup.now (length events.now) ≡ Some why → result ≡ Err why }
+    ensures unused { (why : PlayRefusal) → first_refusal setup.now (length events.now) ≡ Some why → carrier.new ≡ carrier.old }
+    ensures played { OnOk result (first_refusal setup.now (length events.now) ≡ None) }
+    ensures named { IfErr result (λ why. why ≢ Memory → first_refusal setup.now (length events.now) ≡ Some why) }
+{
+    match packet_size(setup, events.len()) {
+        Ok(size) => {
+            let player = Player::new(alloc, engine, size, setup.max);
+            play_events(alloc, player, events, carrier)
+        }
+        Err(refusal) => Err(refusal),
+    }
+}
+
+/// The size of the packets, where so many events are played with this setup.
+#[tactic(auto, unfolding(crate::specs::Refused::first_refusal))]
+fn packet_size(setup: &Setup, events: usize) -> Result<PacketSize, PlayRefusal>
+    ensures ok { OnOk result (first_refusal setup.now events ≡ None) }
+    ensures few { OnOk result (events ≤ 10000) }
+    ensures refused { IfErr result (λ why. first_refusal setup.now events ≡ Some why) }
+{
+    if events > EVENT_LIMIT {
+        return Err(PlayRefusal::TooManyEvents);
+    }
+    match PacketSize::new(setup.packet_size) {
+        None => Err(PlayRefusal::WrongSetup),
+        Some(size) => {
+            if setup.max == 0 || setup.max > 64 {
+                return Err(PlayRefusal::WrongSetup);
+            }
+            Ok(size)
+        }
+    }
+}
+
+/// Plays the events, one after the other, and tells of them and of the requests.
+fn play_events<E: Engine + Copy, C: Carrier>(
+    alloc: Global,
+    mut player: Player<E>,
+    events: &[Event],
+    carrier: &mut C,
+) -> Result<Report, PlayRefusal>
+    requires begins { player.links.items ≡ [] }
+    requires few { length events.now ≤ 10000 }
+    ensures { IfErr result (λ why. why ≡ Memory) }
+{
+    let mut reports = Vec::new(alloc);
+    'events: for event in events {
+        let done = player.happen(carrier, event)?;
+        reports.push(EventReport {
+            outcome: done.outcome,
+            lost: done.lost,
+            snapshots: Sequence::new(player.snapshots()?),
+        })?;
+    }
+    Ok(Report {
+        events: Sequence::new(reports),
+        requests: Sequence::new(player.into_requests()?),
+    })
+}
