@@ -22,3 +22,6 @@ pub use transaction::{begin_transaction, commit_transaction, roll_back_transacti
 
 /// The answer of a growth that was refused.
 pub type NoMemory = std::alloc::AllocError;
+
+#[cfg(test)]
+mod tests;
