@@ -10,3 +10,4 @@ pub mod Judged
 mod ScheduleExamples
 pub mod Queues
 pub mod Listed
+pub mod Running

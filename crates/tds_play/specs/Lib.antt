@@ -12,3 +12,4 @@ pub mod Pipe
 pub mod Memory
 pub mod Ties
 pub mod Refused
+pub mod Runs

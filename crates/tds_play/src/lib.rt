@@ -10,13 +10,17 @@ mod player;
 mod playing;
 mod pool;
 mod rendering;
+mod run;
 mod schedule;
+mod words;
 
 pub use carrier::{Carrier, CarrierError};
 pub use memory::MemoryCarrier;
 pub use playing::{PlayRefusal, play};
 pub use rendering::{RenderFault, render};
+pub use run::run_play;
 pub use schedule::{ScheduleFault, read_schedule, right_or_wrong_somewhere};
+pub use words::{Command, LineFault, read_words};
 
 /// The answer of a growth that was refused.
 pub type NoMemory = std::alloc::AllocError;

@@ -11,7 +11,7 @@ mod outcome;
 mod session;
 mod text;
 mod token;
-mod written;
+pub(crate) mod written;
 
 pub use fault::RenderFault;
 use line::{put_connection, put_event, put_request};

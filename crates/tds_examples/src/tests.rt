@@ -1,0 +1,5 @@
+mod batches;
+mod cores;
+mod faults;
+mod runs;
+mod schedules;

@@ -1,0 +1,125 @@
+//! The cores on their own: a descriptor that differs, and faults of changed bytes.
+
+use std::alloc::Global;
+use std::test::Fail;
+use tds_client::Client;
+use tds_packet::{Direction, PacketReader, PacketSize};
+use tds_request::{Isolation, Request};
+use tds_server::Server;
+use tds_session::ScriptEngine;
+
+/// A begin at isolation level 0, with descriptor 0.
+const BEGIN: [u8; 34] = [
+    0x0E, 0x01, 0x00, 0x22, 0x00, 0x00, 0x01, 0x00, 0x16, 0x00, 0x00, 0x00, 0x12, 0x00, 0x00, 0x00,
+    0x02, 0x00, 0x00, 0x00, 0x00, 0x00, 0x00, 0x00, 0x00, 0x00, 0x01, 0x00, 0x00, 0x00, 0x05, 0x00,
+    0x00, 0x00,
+];
+
+/// Its answer: descriptor 1 has begun, and a final DONE.
+const BEGUN: [u8; 35] = [
+    0x04, 0x01, 0x00, 0x23, 0x00, 0x00, 0x01, 0x00, 0xE3, 0x0B, 0x00, 0x08, 0x08, 0x01, 0x00, 0x00,
+    0x00, 0x00, 0x00, 0x00, 0x00, 0x00, 0xFD, 0x00, 0x00, 0x00, 0x00, 0x00, 0x00, 0x00, 0x00, 0x00,
+    0x00, 0x00, 0x00,
+];
+
+/// The batch `get x`, with descriptor 7.
+const GET_IN_SEVEN: [u8; 40] = [
+    0x01, 0x01, 0x00, 0x28, 0x00, 0x00, 0x01, 0x00, 0x16, 0x00, 0x00, 0x00, 0x12, 0x00, 0x00, 0x00,
+    0x02, 0x00, 0x07, 0x00, 0x00, 0x00, 0x00, 0x00, 0x00, 0x00, 0x01, 0x00, 0x00, 0x00, 0x67, 0x00,
+    0x65, 0x00, 0x74, 0x00, 0x20, 0x00, 0x78, 0x00,
+];
+
+/// ERROR 50010 `descriptor`, in the first packet of an answer.
+const WRONG_DESCRIPTOR: [u8; 45] = [
+    0x04, 0x00, 0x00, 0x2D, 0x00, 0x00, 0x01, 0x00, 0xAA, 0x22, 0x00, 0x5A, 0xC3, 0x00, 0x00, 0x01,
+    0x10, 0x0A, 0x00, 0x64, 0x00, 0x65, 0x00, 0x73, 0x00, 0x63, 0x00, 0x72, 0x00, 0x69, 0x00, 0x70,
+    0x00, 0x74, 0x00, 0x6F, 0x00, 0x72, 0x00, 0x00, 0x00, 0x00, 0x00, 0x00, 0x00,
+];
+
+/// The final DONE after an error, in the second packet of an answer.
+const ENDED_BY_ERROR: [u8; 21] = [
+    0x04, 0x01, 0x00, 0x15, 0x00, 0x00, 0x02, 0x00, 0xFD, 0x02, 0x00, 0x00, 0x00, 0, 0, 0, 0, 0, 0,
+    0, 0,
+];
+
+fn size() -> Result<PacketSize, Fail> {
+    Ok(PacketSize::new(512).ok_or("size")?)
+}
+
+/// The number of the fault that a reader finds in these bytes, or else a server.
+fn server_fault(alloc: Global, bytes: &[u8]) -> Result<(u8, u8), Fail> {
+    let mut reader = PacketReader::new(alloc, size()?, Direction::ToServer)?;
+    if let Err(fault) = reader.feed(bytes) {
+        return Ok((fault.number(), 0));
+    }
+    let mut server = Server::new(alloc, ScriptEngine, size()?);
+    let mut out = Vec::new(alloc);
+    let packet = reader.packet().ok_or("no whole packet")?;
+    match server.take(packet, &mut out) {
+        Ok(_) => Ok((0, 0)),
+        Err(fault) => Ok((0, fault.number())),
+    }
+}
+
+/// The same at a client that waits for the answer to a begin.
+fn client_fault(alloc: Global, bytes: &[u8]) -> Result<(u8, u8), Fail> {
+    let mut reader = PacketReader::new(alloc, size()?, Direction::ToClient)?;
+    if let Err(fault) = reader.feed(bytes) {
+        return Ok((fault.number(), 0));
+    }
+    let mut client = Client::new(alloc, size()?);
+    let begin = Request::Begin(Isolation::new(0).ok_or("isolation")?);
+    let mut out = Vec::new(alloc);
+    match client.start(&begin) {
+        Ok(()) => {}
+        Err(_) => return Err("not started".into()),
+    }
+    match client.send(&mut out) {
+        Ok(_) => {}
+        Err(_) => return Err("not sent".into()),
+    }
+    let mut tokens = Vec::new(alloc);
+    let packet = reader.packet().ok_or("no whole packet")?;
+    match client.take(packet, &mut tokens) {
+        Ok(_) => Ok((0, 0)),
+        Err(fault) => Ok((0, fault.number())),
+    }
+}
+
+#[test]
+fn changed_bytes(rt: HostRuntime) -> Result<(), Fail> {
+    let alloc = rt.alloc();
+    assert_eq!(rt; server_fault(alloc, &BEGIN)?, (0, 0));
+    assert_eq!(rt; client_fault(alloc, &BEGUN)?, (0, 0));
+    let mut unknown_type = BEGUN;
+    unknown_type[0] = 0x05;
+    assert_eq!(rt; client_fault(alloc, &unknown_type)?, (1, 0));
+    let mut wrong_total = BEGIN;
+    wrong_total[8] = 0x17;
+    assert_eq!(rt; server_fault(alloc, &wrong_total)?, (0, 6));
+    let mut attention_done = BEGUN;
+    attention_done[23] = 0x20;
+    assert_eq!(rt; client_fault(alloc, &attention_done)?, (0, 3));
+    Ok(())
+}
+
+#[test]
+fn descriptor_that_differs(rt: HostRuntime) -> Result<(), Fail> {
+    let alloc = rt.alloc();
+    let mut reader = PacketReader::new(alloc, size()?, Direction::ToServer)?;
+    let _ = reader.feed(&GET_IN_SEVEN);
+    let mut server = Server::new(alloc, ScriptEngine, size()?);
+    let mut out = Vec::new(alloc);
+    let packet = reader.packet().ok_or("no whole packet")?;
+    assert!(rt; server.take(packet, &mut out).is_ok());
+    assert_eq!(rt; out.as_slice(), b"".as_slice());
+    let _ = server.work(&mut out)?;
+    assert_eq!(rt; out.as_slice(), WRONG_DESCRIPTOR.as_slice());
+    out.clear();
+    let _ = server.work(&mut out)?;
+    assert_eq!(rt; out.as_slice(), ENDED_BY_ERROR.as_slice());
+    out.clear();
+    let _ = server.work(&mut out)?;
+    assert_eq!(rt; out.as_slice(), b"".as_slice());
+    Ok(())
+}

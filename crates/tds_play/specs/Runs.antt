@@ -1,0 +1,92 @@
+-- What a run of a schedule file comes to: the text of a report, or one line about a fault.
+use Rattle.std.specs.Prelude.{◌≡◌, ℕ, List, ◌++◌, length, Option, Some, None, IfSome, ⊤, ◌⊎◌, codes, decimal}
+use Rattle.std.specs.Io.KnownBytes.{Appends, Keeps}
+use Rattle.serde_json.specs.Data.{Data}
+use Rattle.tds_world.specs.declared.event.Setup.{Setup}
+use Rattle.tds_world.specs.declared.event.Event.{Event}
+use Rattle.tds_world.specs.declared.report.Report.{Report}
+use Rattle.tds_play.specs.Texts.{line_feed}
+use Rattle.tds_play.specs.Lines.{text_of}
+use Rattle.tds_play.specs.Written.{WritesBeginning}
+use Rattle.tds_play.specs.Schedule.{IsJson, IsSchedule, wrong_place}
+use Rattle.tds_play.specs.Refused.{first_refusal, play_refusal_number}
+use Rattle.tds_play.specs.declared.schedule.fault.ScheduleFault.{ScheduleFault}
+use Rattle.tds_play.specs.declared.schedule.fault.ScheduleFault.TheVariants as schedule
+use Rattle.tds_play.specs.declared.playing.PlayRefusal.{PlayRefusal}
+use Rattle.tds_play.specs.declared.playing.PlayRefusal.TheVariants as play
+use Rattle.tds_play.specs.declared.run.RunFault.{RunFault}
+use Rattle.tds_play.specs.declared.run.RunFault.TheVariants as run
+
+-- These are the bytes that the reader had left, where it tells them.
+abbrev pub AreLeft : Option (List ℕ) → List ℕ → Type 0
+AreLeft left bytes = IfSome left (λ all. bytes ≡ all)
+
+-- Bytes are a schedule file of this setup and these events.
+abbrev pub Spells : List ℕ → Setup → List Event → Type 0
+Spells bytes setup events = (value : Data) × IsJson bytes value × IsSchedule value setup events
+
+-- Bytes are a schedule file, and the events are refused for this or for nothing.
+abbrev pub IsRefused : List ℕ → Option PlayRefusal → Type 0
+IsRefused bytes why = (setup : Setup) × (events : List Event) × Spells bytes setup events × (first_refusal setup (length events) ≡ why)
+
+-- What a fault says of the bytes that were read. That reading failed, that a write failed and that
+-- memory was refused can't be seen in them; a report is printed only of what is played.
+abbrev pub IsFaultOf : RunFault → List ℕ → Type 0
+IsFaultOf run.File bytes = ⊤
+IsFaultOf run.Json bytes = (value : Data) → ¬ IsJson bytes value
+IsFaultOf (run.Schedule place) bytes = (value : Data) × IsJson bytes value × (wrong_place value ≡ Some place)
+IsFaultOf (run.Play refusal) bytes = IsRefused bytes (Some refusal)
+IsFaultOf run.Output bytes = IsRefused bytes None
+IsFaultOf run.Memory bytes = ⊤
+
+-- A fault that comes before anything is printed.
+abbrev pub IsBeforeOutput : RunFault → Type 0
+IsBeforeOutput fault = ¬ (fault ≡ run.Output)
+
+-- A fault that comes before the bytes are looked at.
+abbrev pub IsUnread : RunFault → Option (List ℕ) → Type 0
+IsUnread fault left = ((bytes : List ℕ) × AreLeft left bytes × IsFaultOf fault bytes) × IsBeforeOutput fault
+
+-- What went to the output before a fault: a beginning of a report's text where it was printed then,
+-- else nothing.
+abbrev pub LeavesOutput : RunFault → Option (List ℕ) → Option (List ℕ) → Type 0
+LeavesOutput run.Output old new = (report : Report) × WritesBeginning old new (text_of report)
+LeavesOutput run.Memory old new = Keeps old new ⊎ ((report : Report) × WritesBeginning old new (text_of report))
+LeavesOutput run.File old new = Keeps old new
+LeavesOutput run.Json old new = Keeps old new
+LeavesOutput (run.Schedule place) old new = Keeps old new
+LeavesOutput (run.Play refusal) old new = Keeps old new
+
+-- The line of a fault.
+abbrev pub fault_line : RunFault → List ℕ
+fault_line run.File = codes "error: file\n"
+fault_line run.Json = codes "error: json\n"
+fault_line (run.Schedule place) = codes "error: schedule " ++ decimal place ++ line_feed
+fault_line (run.Play refusal) = codes "error: play " ++ decimal (play_refusal_number refusal) ++ line_feed
+fault_line run.Output = codes "error: output\n"
+fault_line run.Memory = codes "error: memory\n"
+
+-- A fault's line went out, or a beginning of it where a write failed. Where memory was refused to
+-- make the line, it is the one of memory.
+abbrev pub TellsFault : Option (List ℕ) → Option (List ℕ) → RunFault → Type 0
+TellsFault old new fault = WritesBeginning old new (fault_line fault) ⊎ WritesBeginning old new (fault_line run.Memory)
+
+-- The bytes that were left are a schedule that is played, and the text of a report went out.
+abbrev pub Reports : Option (List ℕ) → Option (List ℕ) → Option (List ℕ) → Type 0
+Reports left old new = (bytes : List ℕ) × AreLeft left bytes × IsRefused bytes None × (report : Report) × Appends old new (text_of report)
+
+-- A run ended by this fault.
+abbrev pub EndsBy : RunFault → Option (List ℕ) → Option (List ℕ) → Option (List ℕ) → Type 0
+EndsBy fault left old new = ((bytes : List ℕ) × AreLeft left bytes × IsFaultOf fault bytes) × LeavesOutput fault old new
+
+-- The fault of a run, by the one of the schedule.
+abbrev pub of_schedule : ScheduleFault → RunFault
+of_schedule schedule.Json = run.Json
+of_schedule (schedule.Wrong place) = run.Schedule place
+of_schedule schedule.Memory = run.Memory
+
+-- The fault of a run, by why nothing is played.
+abbrev pub of_refusal : PlayRefusal → RunFault
+of_refusal play.Memory = run.Memory
+of_refusal play.TooManyEvents = run.Play play.TooManyEvents
+of_refusal play.WrongSetup = run.Play play.WrongSetup

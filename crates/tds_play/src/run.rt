@@ -1,0 +1,171 @@
+//! A run from a schedule file to the printed report.
+ghost use Rattle.std.specs.Prelude.{◌≡◌, ◌++◌, ◌⊎◌, ℕ, List, None, OnOk, IfOk, IfErr, string_bytes};
+ghost use Rattle.std.specs.Io.KnownBytes.{Appends, Keeps};
+ghost use Rattle.tds_play.specs.Lines.{text_of};
+ghost use Rattle.tds_play.specs.Written.{WritesBeginning};
+ghost use Rattle.tds_play.specs.Runs.{AreLeft, IsRefused, IsFaultOf, IsBeforeOutput, IsUnread, EndsBy, Reports, TellsFault, fault_line, of_schedule, of_refusal};
+ghost use Rattle.tds_play.specs.declared.run.RunFault.{RunFault};
+ghost use Rattle.tds_play.specs.declared.run.RunFault.TheVariants.{Output, Memory};
+
+use crate::memory::MemoryCarrier;
+use crate::playing::{PlayRefusal, play};
+use crate::rendering::written::write_whole;
+use crate::rendering::{RenderFault, render};
+use crate::schedule::{ScheduleFault, read_schedule};
+use std::alloc::{AllocError, Global};
+use std::io::{ErrorKind, Read, Write};
+use tds_world::Report;
+
+/// What ends a run before the whole report is printed.
+#[derive(Debug, Drop)]
+pub(crate) enum RunFault {
+    /// Reading failed.
+    File,
+    /// What was read is no JSON text.
+    Json,
+    /// The JSON value spells no schedule: the place of the first wrong event, or 0.
+    Schedule(usize),
+    /// The schedule isn't played.
+    Play(PlayRefusal),
+    /// A write of the report failed.
+    Output,
+    /// Memory.
+    Memory,
+}
+
+impl From<ScheduleFault> for RunFault {
+    ghost from_gives = { λ fault e. e ≡ of_schedule fault };
+
+    fn from(fault: ScheduleFault) -> RunFault {
+        match fault {
+            ScheduleFault::Json => RunFault::Json,
+            ScheduleFault::Wrong { place } => RunFault::Schedule(place),
+            ScheduleFault::Memory => RunFault::Memory,
+        }
+    }
+}
+
+impl From<PlayRefusal> for RunFault {
+    ghost from_gives = { λ refusal e. e ≡ of_refusal refusal };
+
+    fn from(refusal: PlayRefusal) -> RunFault {
+        match refusal {
+            PlayRefusal::Memory => RunFault::Memory,
+            PlayRefusal::TooManyEvents => RunFault::Play(PlayRefusal::TooManyEvents),
+            PlayRefusal::WrongSetup => RunFault::Play(PlayRefusal::WrongSetup),
+        }
+    }
+}
+
+impl RunFault {
+    /// Appends the fault's line.
+    fn put(&self, line: &mut String) -> Result<(), AllocError>
+        ensures { OnOk result (string_bytes line.new ≡ string_bytes line.old ++ fault_line self.now) }
+    {
+        use std::fmt::Write;
+
+        match self {
+            RunFault::File => line.push_str("error: file\n"),
+            RunFault::Json => line.push_str("error: json\n"),
+            RunFault::Schedule(place) => write!(line, "error: schedule {place}\n"),
+            RunFault::Play(refusal) => write!(line, "error: play {}\n", refusal.number()),
+            RunFault::Output => write!(line, "error: output\n"),
+            RunFault::Memory => line.push_str("error: memory\n"),
+        }
+    }
+}
+
+/// Reads a schedule, plays it, and prints the report to `output`, or a line about the first fault
+/// to `errors`. It answers the exit status: 0 if the whole report went out, else 1.
+pub fn run_play<R: Read, W: Write, F: Write>(
+    alloc: Global,
+    reader: &mut R,
+    carrier: &mut MemoryCarrier,
+    output: &mut W,
+    errors: &mut F,
+) -> u8
+    ensures status { (result ≡ 0) ⊎ (result ≡ 1) }
+    ensures report { result ≡ 0 → Reports (R.remaining reader.old) (W.contents output.old) (W.contents output.new) }
+    ensures silent { result ≡ 0 → F.contents errors.new ≡ F.contents errors.old }
+    ensures fault { result ≡ 1 → (fault : RunFault)
+        × EndsBy fault (R.remaining reader.old) (W.contents output.old) (W.contents output.new)
+        × TellsFault (F.contents errors.old) (F.contents errors.new) fault }
+{
+    match report_file(alloc, reader, carrier, output) {
+        Ok(()) => 0,
+        Err(fault) => {
+            tell(alloc, &fault, errors);
+            1
+        }
+    }
+}
+
+fn tell<F: Write>(alloc: Global, fault: &RunFault, errors: &mut F)
+    ensures { TellsFault (F.contents errors.old) (F.contents errors.new) fault.now }
+{
+    let mut line = String::new(alloc);
+    match fault.put(&mut line) {
+        Ok(()) => write_line(errors, line.as_str()),
+        Err(_) => write_line(errors, "error: memory\n"),
+    }
+}
+
+/// Writes a line, or a beginning of it where a write fails: then there is nobody to tell.
+#[tactic(auto, using(crate::proofs::Running::whole_is_beginning))]
+fn write_line<F: Write>(errors: &mut F, line: &str)
+    ensures { WritesBeginning (F.contents errors.old) (F.contents errors.new) line.now }
+{
+    match write_whole(errors, line) {
+        Ok(()) => {}
+        Err(_) => {}
+    }
+}
+
+#[tactic(auto, using(crate::proofs::Running::leaves_all))]
+fn report_file<R: Read, W: Write>(
+    alloc: Global,
+    reader: &mut R,
+    carrier: &mut MemoryCarrier,
+    output: &mut W,
+) -> Result<(), RunFault>
+    ensures report { OnOk result (Reports (R.remaining reader.old) (W.contents output.old) (W.contents output.new)) }
+    ensures fault { IfErr result (λ fault. EndsBy fault (R.remaining reader.old) (W.contents output.old) (W.contents output.new)) }
+{
+    let bytes = read_file(alloc, reader)?;
+    let report = play_file(alloc, bytes.as_slice(), carrier)?;
+    print_report(alloc, &report, output)
+}
+
+fn read_file<R: Read>(alloc: Global, reader: &mut R) -> Result<Vec<u8>, RunFault>
+    ensures bytes { IfOk result (λ bytes. AreLeft (R.remaining reader.old) bytes.items) }
+    ensures fault { IfErr result (λ fault. IsUnread fault (R.remaining reader.old)) }
+{
+    let mut bytes = Vec::new(alloc);
+    match reader.read_to_end(&mut bytes) {
+        Ok(_) => Ok(bytes),
+        Err(error) => match error.kind() {
+            ErrorKind::OutOfMemory => Err(RunFault::Memory),
+            _ => Err(RunFault::File),
+        },
+    }
+}
+
+fn play_file(alloc: Global, bytes: &[u8], carrier: &mut MemoryCarrier) -> Result<Report, RunFault>
+    ensures played { OnOk result (IsRefused bytes.now None) }
+    ensures fault { IfErr result (λ fault. IsFaultOf fault bytes.now × IsBeforeOutput fault) }
+{
+    let (setup, events) = read_schedule(alloc, bytes)?;
+    Ok(play(alloc, &setup, events.as_slice(), carrier)?)
+}
+
+fn print_report<W: Write>(alloc: Global, report: &Report, output: &mut W) -> Result<(), RunFault>
+    ensures whole { OnOk result (Appends (W.contents output.old) (W.contents output.new) (text_of report.now)) }
+    ensures begun { IfErr result (λ fault. WritesBeginning (W.contents output.old) (W.contents output.new) (text_of report.now)) }
+    ensures fault { IfErr result (λ fault. (fault ≡ Output) ⊎ (fault ≡ Memory)) }
+{
+    match render(alloc, report, output) {
+        Ok(()) => Ok(()),
+        Err(RenderFault::Write) => Err(RunFault::Output),
+        Err(RenderFault::Memory) => Err(RunFault::Memory),
+    }
+}
