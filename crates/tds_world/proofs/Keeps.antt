@@ -38,7 +38,7 @@ down_act c (Step q id s) es f = (step_arrives c.current c.answering q id s c.to_
 down_act c (Acknowledgement q id) es f = (ack_arrives c.current c.answering q id c.to_server.waiting es c.parts c.due f.0, client_heard c (Acknowledgement q id) es f.1)
 
 -- what is to the server stays as it is
-down_act_at : (c : Connection) (e : Down) (es : List Down) → SoundWith c c.to_server.waiting (e ∷ es) → SoundWith (client_acts (record c { to_client = passed e c.to_client }) e) (client_acts (record c { to_client = passed e c.to_client }) e).to_server.waiting es
+pub down_act_at : (c : Connection) (e : Down) (es : List Down) → SoundWith c c.to_server.waiting (e ∷ es) → SoundWith (client_acts (record c { to_client = passed e c.to_client }) e) (client_acts (record c { to_client = passed e c.to_client }) e).to_server.waiting es
 down_act_at c (Step q id s) es f = down_act c (Step q id s) es f
 down_act_at c (Acknowledgement q id) es f = down_act c (Acknowledgement q id) es f
 
