@@ -82,7 +82,7 @@ ack_whole : (fin can : Bool) (out : Out) → is_sending (phase_by fin true can o
 ack_whole true can out = refl
 ack_whole false can out = refl
 
-ack_settles : (fin can : Bool) (out : Out) → is_settled (phase_by fin true can out) ≡ true
+pub ack_settles : (fin can : Bool) (out : Out) → is_settled (phase_by fin true can out) ≡ true
 ack_settles true can out = refl
 ack_settles false can out = refl
 
@@ -122,7 +122,7 @@ down_marked answers c e es f h =
     (busy_down (phase c) (number_in c.current) c.answering c.to_server.waiting e es c.parts c.due f.0) h
 
 -- What is to the server stays as it is.
-down_marked_at : (answers : Answers) (c : Connection) (e : Down) (es : List Down) → SoundWith c c.to_server.waiting (e ∷ es) → NewestWith answers c c.to_server.waiting (e ∷ es) → NewestWith answers (client_acts (record c { to_client = passed e c.to_client }) e) (client_acts (record c { to_client = passed e c.to_client }) e).to_server.waiting es
+pub down_marked_at : (answers : Answers) (c : Connection) (e : Down) (es : List Down) → SoundWith c c.to_server.waiting (e ∷ es) → NewestWith answers c c.to_server.waiting (e ∷ es) → NewestWith answers (client_acts (record c { to_client = passed e c.to_client }) e) (client_acts (record c { to_client = passed e c.to_client }) e).to_server.waiting es
 down_marked_at answers c (Step r place s) es f h = down_marked answers c (Step r place s) es f h
 down_marked_at answers c (Acknowledgement r place) es f h = down_marked answers c (Acknowledgement r place) es f h
 
@@ -135,7 +135,7 @@ reach_client_marked answers c (e ∷ es) k f h =
 
 -- ---- The server works
 
-not_none : {A : Type 0} (x : A) (xs : List A) → x ∷ xs ≡ [] → ⊥
+pub not_none : {A : Type 0} (x : A) (xs : List A) → x ∷ xs ≡ [] → ⊥
 not_none x xs e = absurd (cc)
 
 -- By the record whose answer is due: before and after this step.
@@ -236,7 +236,7 @@ sends_newest answers c r body p p1 p2 a None s o h = (
 )
 sends_newest answers c r body p p1 p2 a (Some x) s o h = let z : true ≡ false = sym s ∙ h.whole in absurd (cc)
 
-is_open : (p : Phase) → is_sending p ≡ true → is_settled p ≡ false
+pub is_open : (p : Phase) → is_sending p ≡ true → is_settled p ≡ false
 is_open Settled e = absurd (cc)
 is_open Asked e = refl
 is_open Sending e = refl

@@ -4,7 +4,7 @@ ghost use Rattle.tds_session.specs.Answer.{Answers, answer_of, script_answers};
 ghost use Rattle.tds_world.specs.Bounds.{FewUnderway, IsEvent, IsSetup, OneAttention, OwnTransaction};
 ghost use Rattle.tds_world.specs.Deliveries.{DeliversExactly};
 ghost use Rattle.tds_world.specs.Lawful.{Lawful};
-ghost use Rattle.tds_world.specs.Laws.{Always, AlwaysOf, IdleIsQuiet, NothingAfterCancel};
+ghost use Rattle.tds_world.specs.Laws.{Always, AlwaysOf, FreshStart, IdleIsQuiet, NothingAfterCancel};
 ghost use Rattle.tds_world.specs.declared.event.Setup.{Setup};
 
 use tds_session::Engine;
@@ -51,4 +51,10 @@ pub fn few_underway()
 /// A request that ran did so in the transaction that its header names.
 pub fn own_transaction()
     ensures { (setup : Setup) (answers : Answers) → Lawful answers → Always setup answers OwnTransaction }
+{}
+
+/// The first request of a lease that runs finds a session without settings and outside a
+/// transaction; for a lease that came from a ticket, without settings and in the kept transaction.
+pub fn fresh_start()
+    ensures { (setup : Setup) (answers : Answers) → Lawful answers → Always setup answers FreshStart }
 {}
