@@ -160,3 +160,10 @@ sends_keeps_by false room q c e s f =
 
 pub sends_keeps : (room : ℕ) (q : Record) (c : Connection) → c.current ≡ Some q → is_sending (phase_of q) ≡ true → Sound c → Sound (sends room q c)
 sends_keeps room q c e s f = sends_keeps_by (sends_last room q) room q c e s f
+
+-- An entry arrives at the server, and at the client.
+pub server_act_keeps : (ans : Answers) (c : Connection) (e : Up) (es : List Up) → Lawful ans → SoundWith c (e ∷ es) c.to_client.waiting → SoundWith (server_acts ans (record c { to_server = passed e c.to_server }) e) es (server_acts ans (record c { to_server = passed e c.to_server }) e).to_client.waiting
+server_act_keeps ans c e es w f = up_act ans c e es w f
+
+pub client_act_keeps : (c : Connection) (e : Down) (es : List Down) → SoundWith c c.to_server.waiting (e ∷ es) → SoundWith (client_acts (record c { to_client = passed e c.to_client }) e) (client_acts (record c { to_client = passed e c.to_client }) e).to_server.waiting es
+client_act_keeps c e es f = down_act_at c e es f

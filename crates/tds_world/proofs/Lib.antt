@@ -18,3 +18,6 @@ pub mod Sizes
 pub mod Lawful
 pub mod Script
 pub mod Deliveries
+pub mod Numbers
+pub mod Own
+pub mod OwnActs
