@@ -21,3 +21,6 @@ pub mod Deliveries
 pub mod Numbers
 pub mod Own
 pub mod OwnActs
+pub mod OwnAnswers
+pub mod Begins
+pub mod HandsOut

@@ -274,7 +274,7 @@ kept answers false nothing ticket c h = tt
 kept answers true true ticket c h = tt
 kept answers true false ticket c h = h
 
-all_have : (answers : Answers) (s : SessionState) (past : List Record) (current : Option Record) (ups : List Up) (downs : List Down) (due : List answer.Step) → OwnsPast answers past → OwnsIn answers s current ups downs due → OwnsPast answers (joined past current)
+pub all_have : (answers : Answers) (s : SessionState) (past : List Record) (current : Option Record) (ups : List Up) (downs : List Down) (due : List answer.Step) → OwnsPast answers past → OwnsIn answers s current ups downs due → OwnsPast answers (joined past current)
 all_have answers s past None ups downs due g h = g
 all_have answers s past (Some q) ups downs due g h = with_newest past g
   where

@@ -14,3 +14,4 @@ pub mod Lawful
 pub mod Laws
 pub mod Bounds
 pub mod Deliveries
+pub mod Begins

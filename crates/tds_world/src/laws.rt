@@ -1,7 +1,8 @@
 //! The session laws. Each is the contract of a function without a body: what holds of the model
 //! after any events, whatever their order, and whatever the sizes of the deliveries.
 ghost use Rattle.tds_session.specs.Answer.{Answers, answer_of, script_answers};
-ghost use Rattle.tds_world.specs.Bounds.{FewUnderway, IsEvent, IsSetup, OneAttention};
+ghost use Rattle.tds_world.specs.Begins.{HandsOutNext};
+ghost use Rattle.tds_world.specs.Bounds.{BeginsOnce, FewUnderway, IsEvent, IsSetup, OneAttention};
 ghost use Rattle.tds_world.specs.Deliveries.{DeliversExactly};
 ghost use Rattle.tds_world.specs.Lawful.{Lawful};
 ghost use Rattle.tds_world.specs.Laws.{Always, AlwaysOf, IdleIsQuiet, NothingAfterCancel};
@@ -46,4 +47,15 @@ pub fn one_attention()
 /// requests that have a spelling.
 pub fn few_underway()
     ensures { (setup : Setup) (answers : Answers) → IsSetup setup → Lawful answers → AlwaysOf IsEvent setup answers FewUnderway }
+{}
+
+/// No two steps of a connection tell that the same transaction began, where the answers hand out
+/// what the session's next descriptor says.
+pub fn begins_once()
+    ensures { (setup : Setup) (answers : Answers) → HandsOutNext answers → Always setup answers BeginsOnce }
+{}
+
+/// A server with the batch language hands out what the session's next descriptor says.
+pub fn script_hands_out_next()
+    ensures { HandsOutNext script_answers }
 {}
