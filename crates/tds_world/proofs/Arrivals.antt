@@ -134,11 +134,11 @@ ack_bits false false false (Whole n) r a q id ups es parts due f = elim f [
 ack_bits false false false (Begun n) r a q id ups es parts due f = let z : Acknowledgement q id ∷ es ≡ [] = f.1 in absurd (cc)
 ack_bits false false false NotBegun r a q id ups es parts due f = let z : Acknowledgement q id ∷ es ≡ [] = f.1 in absurd (cc)
 
-same_number : (q r : ℕ) → q ≡ r → eqb r q ≡ true
+pub same_number : (q r : ℕ) → q ≡ r → eqb r q ≡ true
 same_number q r e = grind (arith, nat_tests)
 
 -- of the record that has the number, what holds of the changed one
-of_changed : (P : Record → Type 0) (b : Bool) (f : Record → Record) (p : Record) → b ≡ true → P (f p) → P (when b f p)
+pub of_changed : (P : Record → Type 0) (b : Bool) (f : Record → Record) (p : Record) → b ≡ true → P (f p) → P (when b f p)
 of_changed P b f p e h = subst (λ x. P (when x f p)) (sym e) h
 
 pub step_arrives : (cur : Option Record) (a q id : ℕ) (s : answer.Step) (ups : List Up) (es : List Down) (parts : List ℕ) (due : List answer.Step) → FlowIn (phase_in cur) (number_in cur) a ups (Step q id s ∷ es) parts due → FlowIn (phase_in (option_map (if_numbered q (gives s)) cur)) (number_in (option_map (if_numbered q (gives s)) cur)) a ups es parts due

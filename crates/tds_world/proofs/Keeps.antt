@@ -19,7 +19,7 @@ either : (P : Connection → Type 0) (b : Bool) (x y : Connection) → P x → P
 either P true x y p q = p
 either P false x y p q = q
 
-up_act : (ans : Answers) (c : Connection) (e : Up) (es : List Up) → Lawful ans → SoundWith c (e ∷ es) c.to_client.waiting → SoundWith (server_acts ans (record c { to_server = passed e c.to_server }) e) es (server_acts ans (record c { to_server = passed e c.to_server }) e).to_client.waiting
+pub up_act : (ans : Answers) (c : Connection) (e : Up) (es : List Up) → Lawful ans → SoundWith c (e ∷ es) c.to_client.waiting → SoundWith (server_acts ans (record c { to_server = passed e c.to_server }) e) es (server_acts ans (record c { to_server = passed e c.to_server }) e).to_client.waiting
 up_act ans c (Part q p) es w f = (up_arrives ans c (phase c) (number_in c.current) (Part q p) es w f.0, server_heard ans c (Part q p) w f.1)
 up_act ans c (End q a p) es w f = (up_arrives ans c (phase c) (number_in c.current) (End q a p) es w f.0, server_heard ans c (End q a p) w f.1)
 up_act ans c (Drop q p) es w f = (up_arrives ans c (phase c) (number_in c.current) (Drop q p) es w f.0, server_heard ans c (Drop q p) w f.1)
@@ -38,7 +38,7 @@ down_act c (Step q id s) es f = (step_arrives c.current c.answering q id s c.to_
 down_act c (Acknowledgement q id) es f = (ack_arrives c.current c.answering q id c.to_server.waiting es c.parts c.due f.0, client_heard c (Acknowledgement q id) es f.1)
 
 -- what is to the server stays as it is
-down_act_at : (c : Connection) (e : Down) (es : List Down) → SoundWith c c.to_server.waiting (e ∷ es) → SoundWith (client_acts (record c { to_client = passed e c.to_client }) e) (client_acts (record c { to_client = passed e c.to_client }) e).to_server.waiting es
+pub down_act_at : (c : Connection) (e : Down) (es : List Down) → SoundWith c c.to_server.waiting (e ∷ es) → SoundWith (client_acts (record c { to_client = passed e c.to_client }) e) (client_acts (record c { to_client = passed e c.to_client }) e).to_server.waiting es
 down_act_at c (Step q id s) es f = down_act c (Step q id s) es f
 down_act_at c (Acknowledgement q id) es f = down_act c (Acknowledgement q id) es f
 
@@ -160,10 +160,3 @@ sends_keeps_by false room q c e s f =
 
 pub sends_keeps : (room : ℕ) (q : Record) (c : Connection) → c.current ≡ Some q → is_sending (phase_of q) ≡ true → Sound c → Sound (sends room q c)
 sends_keeps room q c e s f = sends_keeps_by (sends_last room q) room q c e s f
-
--- An entry arrives at the server, and at the client.
-pub server_act_keeps : (ans : Answers) (c : Connection) (e : Up) (es : List Up) → Lawful ans → SoundWith c (e ∷ es) c.to_client.waiting → SoundWith (server_acts ans (record c { to_server = passed e c.to_server }) e) es (server_acts ans (record c { to_server = passed e c.to_server }) e).to_client.waiting
-server_act_keeps ans c e es w f = up_act ans c e es w f
-
-pub client_act_keeps : (c : Connection) (e : Down) (es : List Down) → SoundWith c c.to_server.waiting (e ∷ es) → SoundWith (client_acts (record c { to_client = passed e c.to_client }) e) (client_acts (record c { to_client = passed e c.to_client }) e).to_server.waiting es
-client_act_keeps c e es f = down_act_at c e es f

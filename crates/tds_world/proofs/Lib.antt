@@ -7,6 +7,16 @@ pub mod Cancels
 pub mod Words
 pub mod Places
 pub mod Worlds
+pub mod Adds
+pub mod Noted
+pub mod Busy
+pub mod Rests
+pub mod Cores
+pub mod Numbers
+pub mod Asking
+pub mod Runs
+pub mod Marks
+pub mod OwnTransactions
 pub mod Standings
 pub mod Agreement
 pub mod Grows
@@ -18,7 +28,6 @@ pub mod Sizes
 pub mod Lawful
 pub mod Script
 pub mod Deliveries
-pub mod Numbers
 pub mod Own
 pub mod OwnActs
 pub mod OwnAnswers

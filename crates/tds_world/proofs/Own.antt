@@ -15,11 +15,9 @@ use Rattle.tds_world.specs.Entries.{Up, Part, End, Drop, Attention, Down, Step, 
 use Rattle.tds_world.specs.Lawful.{Lawful, TakesNoReset}
 use Rattle.tds_world.specs.Laws.{IsAnswer}
 use Rattle.tds_world.specs.Record.{Record, Out, NotBegun, Begun, Whole, gives, acknowledges, runs, ran_in}
+use Rattle.tds_world.proofs.Asking.{EndsAsk}
 
 -- ---- Tokens
-
-tokens_in : answer.Step → List Token
-tokens_in s = s.tokens
 
 -- The tokens of the steps that wait, and of those that are due.
 abbrev pub waiting_tokens : List Down → List Token
@@ -70,14 +68,6 @@ abbrev pub HasOwn : Answers → Record → Option SessionState → Type 0
 HasOwn answers q None = (q.given ≡ []) × (q.finished ≡ false)
 HasOwn answers q (Some s) = IsAnswer q.given (asked_answer answers s q.asking) q
 
--- Each end that waits carries what this request asks.
-abbrev pub AsksFor : Asking → List Up → Type 0
-AsksFor a [] = Unit {0}
-AsksFor a (Part r p ∷ es) = AsksFor a es
-AsksFor a (End r b p ∷ es) = (b ≡ a) × AsksFor a es
-AsksFor a (Drop r p ∷ es) = AsksFor a es
-AsksFor a (Attention r ∷ es) = AsksFor a es
-
 abbrev pub is_whole : Out → Bool
 is_whole NotBegun = false
 is_whole (Begun n) = false
@@ -87,7 +77,7 @@ is_whole (Whole n) = true
 -- session of this moment; after it, what was given, what waits and what is due are its answer.
 abbrev pub Underway : Answers → SessionState → Record → List Up → List Down → List answer.Step → Option SessionState → Type 0
 Underway answers s q ups downs due None =
-    (q.given ≡ []) × AsksFor q.asking ups × (downs ≡ [])
+    (q.given ≡ []) × EndsAsk q.asking ups × (downs ≡ [])
     × ((due ≡ []) ⊎ (due ≡ answers s q.asking.descriptor q.asking.mark q.asking.request))
 Underway answers s q ups downs due (Some t) =
     (ups ≡ []) × (is_whole q.out ≡ true) × (q.given ++ told (tokens_left downs due) ≡ asked_answer answers t q.asking)

@@ -23,9 +23,13 @@ use Rattle.tds_world.specs.Pool.{Acted, Refuses, Does, gives_back_at, abandons_a
 use Rattle.tds_world.specs.Record.{Record, Out, NotBegun, Begun, Whole, gives, acknowledges, runs, cancelled, when, if_numbered}
 use Rattle.tds_world.specs.World.{World, next_number}
 use Rattle.tds_world.proofs.Flow.{Quiet, FlowIn, number_in, SoundWith, Sound}
-use Rattle.tds_world.proofs.Keeps.{is_sending, ask_fits, server_act_keeps, client_act_keeps}
-use Rattle.tds_world.proofs.Numbers.{KeptBy, count_then, Below, NumberedBy, Numbered, older_stay, client_numbered, numbered_kept}
-use Rattle.tds_world.proofs.Own.{HasOwn, AsksFor, is_whole, Underway, Owns, OwnsIn, OwnsPast, OwnWith, Own, part_owned, drop_owned, end_owned, gives_owned, acknowledged_owned, runs_owned}
+use Rattle.tds_world.proofs.Keeps.{is_sending, ask_fits, up_act, down_act_at}
+use Rattle.tds_world.proofs.Arrivals.{same_number, of_changed}
+use Rattle.tds_world.proofs.Asking.{EndsAsk}
+use Rattle.tds_world.proofs.Cores.{core_of, past_of, newest_of, client_same}
+use Rattle.tds_world.proofs.Noted.{KeptIn, on_top}
+use Rattle.tds_world.proofs.Numbers.{NumbersOf, InOrder, in_order_kept, past_stays, same_numbers}
+use Rattle.tds_world.proofs.Own.{HasOwn, is_whole, Underway, Owns, OwnsIn, OwnsPast, OwnWith, Own, part_owned, drop_owned, end_owned, gives_owned, acknowledged_owned, runs_owned}
 use Rattle.tds_world.proofs.Sound.{sound_kept}
 use Rattle.tds_world.proofs.Words.{OfActed}
 use Rattle.tds_world.proofs.Worlds.{Any, Kept}
@@ -161,21 +165,23 @@ reach_server_owned answers c [] k l f h = h
 reach_server_owned answers c (e ∷ es) k l f h =
     let d : Connection = server_acts answers (record c { to_server = passed e c.to_server }) e in
     either (Own answers) (ltb k (length (up_bytes e))) (record c { to_server = with_waiting (e ∷ es) k c.to_server }) (reach_server answers d es (k - length (up_bytes e))) h
-    (reach_server_owned answers d es (k - length (up_bytes e)) l (server_act_keeps answers c e es l f) (server_owned answers c e es f h))
-
-same_number : (q r : ℕ) → q ≡ r → eqb r q ≡ true
-same_number q r e = grind (arith, nat_tests)
+    (reach_server_owned answers d es (k - length (up_bytes e)) l (up_act answers c e es l f) (server_owned answers c e es f h))
 
 -- The newest request has the tag, and so no older one.
 newest_has : (P : Record → Type 0) (number : ℕ) (change : Record → Record) (q : Record) → number ≡ q.number → P (change q) → P (if_numbered number change q)
-newest_has P number change q e h = subst (λ x. P (when x change q)) (sym (same_number number q.number e)) h
+newest_has P number change q e h = of_changed P (eqb q.number number) change q (same_number number q.number e) h
 
-step_owned : (answers : Answers) (count : ℕ) (c : Connection) (current : Option Record) (r i : ℕ) (s : answer.Step) (es : List Down) → NumberedBy count c.past current → FlowIn (phase_in current) (number_in current) c.answering c.to_server.waiting (Step r i s ∷ es) c.parts c.due → OwnsPast answers c.past → OwnsIn answers c.session current c.to_server.waiting (Step r i s ∷ es) c.due
+-- What is done to the record of its number is not done to an older one.
+older_owned : (answers : Answers) (n number : ℕ) (change : Record → Record) (past : List Record) → number ≡ n → AllByRecursion (λ p. p.number < n) (map core_of past) → OwnsPast answers past → OwnsPast answers (map (if_numbered number change) past)
+older_owned answers n number change past e b h =
+    subst (λ k. OwnsPast answers (map (if_numbered k change) past)) (sym e) (subst (OwnsPast answers) (sym (past_stays n change past b)) h)
+
+step_owned : (answers : Answers) (count : ℕ) (c : Connection) (current : Option Record) (r i : ℕ) (s : answer.Step) (es : List Down) → NumbersOf count (past_of c) (option_map core_of current) → FlowIn (phase_in current) (number_in current) c.answering c.to_server.waiting (Step r i s ∷ es) c.parts c.due → OwnsPast answers c.past → OwnsIn answers c.session current c.to_server.waiting (Step r i s ∷ es) c.due
     → OwnsPast answers (map (if_numbered r (gives s)) c.past) × OwnsIn answers c.session (option_map (if_numbered r (gives s)) current) c.to_server.waiting es c.due
 step_owned answers count c None r i s es b f g h = absurd (no_more (Step r i s) es f.1)
 step_owned answers count c (Some q) r i s es b f g h =
     let k = step_flow q.finished q.acknowledged q.cancelled q.out q.number c.answering r i s c.to_server.waiting es c.parts c.due f in (
-      older_stay (λ p. HasOwn answers p p.ran) r (gives s) c.past (subst (λ n. Below n c.past) (sym k.0) b.1) g,
+      older_owned answers q.number r (gives s) c.past k.0 b.1 g,
       newest_has (λ p. Owns answers c.session p c.to_server.waiting es c.due) r (gives s) q k.0 (gives_owned answers c.session q r i s c.to_server.waiting es c.due k.1 h),
     )
 
@@ -199,36 +205,36 @@ acknowledged_newest answers s (Some q) a r i ups es parts due f h =
     (acknowledged_number q.finished q.acknowledged q.cancelled q.out q.number a r i ups es parts due f)
     (acknowledged_owned answers s q r i ups es due h)
 
-client_owned : (answers : Answers) (count : ℕ) (c : Connection) (e : Down) (es : List Down) → Numbered count c → SoundWith c c.to_server.waiting (e ∷ es) → OwnWith answers c c.to_server.waiting (e ∷ es) → OwnWith answers (client_acts (record c { to_client = passed e c.to_client }) e) c.to_server.waiting es
+client_owned : (answers : Answers) (count : ℕ) (c : Connection) (e : Down) (es : List Down) → NumbersOf count (past_of c) (newest_of c) → SoundWith c c.to_server.waiting (e ∷ es) → OwnWith answers c c.to_server.waiting (e ∷ es) → OwnWith answers (client_acts (record c { to_client = passed e c.to_client }) e) c.to_server.waiting es
 client_owned answers count c (Step r i s) es b f h = step_owned answers count c c.current r i s es b f.0 h.0 h.1
 client_owned answers count c (Acknowledgement r i) es b f h =
     (acknowledged_past answers r c.past h.0, acknowledged_newest answers c.session c.current c.answering r i c.to_server.waiting es c.parts c.due f.0 h.1)
 
-client_owned_at : (answers : Answers) (count : ℕ) (c : Connection) (e : Down) (es : List Down) → Numbered count c → SoundWith c c.to_server.waiting (e ∷ es) → OwnWith answers c c.to_server.waiting (e ∷ es) → OwnWith answers (client_acts (record c { to_client = passed e c.to_client }) e) (client_acts (record c { to_client = passed e c.to_client }) e).to_server.waiting es
+client_owned_at : (answers : Answers) (count : ℕ) (c : Connection) (e : Down) (es : List Down) → NumbersOf count (past_of c) (newest_of c) → SoundWith c c.to_server.waiting (e ∷ es) → OwnWith answers c c.to_server.waiting (e ∷ es) → OwnWith answers (client_acts (record c { to_client = passed e c.to_client }) e) (client_acts (record c { to_client = passed e c.to_client }) e).to_server.waiting es
 client_owned_at answers count c (Step r i s) es b f h = client_owned answers count c (Step r i s) es b f h
 client_owned_at answers count c (Acknowledgement r i) es b f h = client_owned answers count c (Acknowledgement r i) es b f h
 
-reach_client_owned : (answers : Answers) (count : ℕ) (c : Connection) (es : List Down) (k : ℕ) → Numbered count c → SoundWith c c.to_server.waiting es → OwnWith answers c c.to_server.waiting es → Own answers (reach_client c es k)
+reach_client_owned : (answers : Answers) (count : ℕ) (c : Connection) (es : List Down) (k : ℕ) → NumbersOf count (past_of c) (newest_of c) → SoundWith c c.to_server.waiting es → OwnWith answers c c.to_server.waiting es → Own answers (reach_client c es k)
 reach_client_owned answers count c [] k b f h = h
 reach_client_owned answers count c (e ∷ es) k b f h =
     let d : Connection = client_acts (record c { to_client = passed e c.to_client }) e in
     either (Own answers) (ltb k (length (down_bytes e))) (record c { to_client = with_waiting (e ∷ es) k c.to_client }) (reach_client d es (k - length (down_bytes e))) h
     (reach_client_owned answers count d es (k - length (down_bytes e))
-    (client_numbered count (record c { to_client = passed e c.to_client }) e b) (client_act_keeps c e es f) (client_owned_at answers count c e es b f h))
+    (same_numbers count c d (client_same c e) b) (down_act_at c e es f) (client_owned_at answers count c e es b f h))
 
 -- ---- Work
 
-runs_owned_in : (answers : Answers) (count : ℕ) (c : Connection) (current : Option Record) (s : answer.Step) (ss : List answer.Step) (i : ℕ) → Lawful answers → NumberedBy count c.past current → FlowIn (phase_in current) (number_in current) c.answering c.to_server.waiting c.to_client.waiting c.parts (s ∷ ss) → OwnsPast answers c.past → OwnsIn answers c.session current c.to_server.waiting c.to_client.waiting (s ∷ ss)
+runs_owned_in : (answers : Answers) (count : ℕ) (c : Connection) (current : Option Record) (s : answer.Step) (ss : List answer.Step) (i : ℕ) → Lawful answers → NumbersOf count (past_of c) (option_map core_of current) → FlowIn (phase_in current) (number_in current) c.answering c.to_server.waiting c.to_client.waiting c.parts (s ∷ ss) → OwnsPast answers c.past → OwnsIn answers c.session current c.to_server.waiting c.to_client.waiting (s ∷ ss)
     → OwnsPast answers (map (if_numbered c.answering (runs c.session s)) c.past) × OwnsIn answers s.after (option_map (if_numbered c.answering (runs c.session s)) current) c.to_server.waiting (c.to_client.waiting ++ Step c.answering i s ∷ []) ss
 runs_owned_in answers count c None s ss i l b f g h = absurd (no_more s ss f.3)
 runs_owned_in answers count c (Some q) s ss i l b f g h =
     let k = due_flow q.finished q.acknowledged q.cancelled q.out q.number c.answering c.to_server.waiting c.to_client.waiting c.parts s ss f in (
-      older_stay (λ p. HasOwn answers p p.ran) c.answering (runs c.session s) c.past (subst (λ n. Below n c.past) (sym k.0) b.1) g,
+      older_owned answers q.number c.answering (runs c.session s) c.past k.0 b.1 g,
       newest_has (λ p. Owns answers s.after p c.to_server.waiting (c.to_client.waiting ++ Step c.answering i s ∷ []) ss) c.answering (runs c.session s) q k.0
           (runs_owned answers c.session q c.answering i s ss c.to_server.waiting c.to_client.waiting l k.1 h),
     )
 
-works_owned : (answers : Answers) (count : ℕ) (c : Connection) (due : List answer.Step) → c.due ≡ due → Lawful answers → Numbered count c → Sound c → Own answers c → Own answers (works_on c due)
+works_owned : (answers : Answers) (count : ℕ) (c : Connection) (due : List answer.Step) → c.due ≡ due → Lawful answers → NumbersOf count (past_of c) (newest_of c) → Sound c → Own answers c → Own answers (works_on c due)
 works_owned answers count c [] e l b f h = h
 works_owned answers count c (s ∷ ss) e l b f h =
     runs_owned_in answers count c c.current s ss _ l b
@@ -282,7 +288,7 @@ all_have answers s past (Some q) ups downs due g h = with_newest past g
     with_newest [] f = (h.has, tt)
     with_newest (p ∷ ps) f = (f.0, with_newest ps f.1)
 
-none_ask : (a : Asking) (ups : List Up) → ups ≡ [] → AsksFor a ups
+none_ask : (a : Asking) (ups : List Up) → ups ≡ [] → EndsAsk a ups
 none_ask a ups e = rw e tt
 
 asked : (answers : Answers) (b : Bool) (number lease n : ℕ) (q : Request) (c : Connection) → is_idle c ≡ b → Sound c → Own answers c → OfActed (Own answers) (asks_by b number lease n q c)
@@ -294,7 +300,7 @@ asked answers true number lease n q c e f h =
       record { has = (refl, refl); live = λ x y. (refl, none_ask _ c.to_server.waiting quiet.0, quiet.1, inl quiet.3) },
     )
 
-asks_more : (a : Asking) (ups : List Up) (e : Up) → AsksFor a (e ∷ []) → AsksFor a ups → AsksFor a (ups ++ e ∷ [])
+asks_more : (a : Asking) (ups : List Up) (e : Up) → EndsAsk a (e ∷ []) → EndsAsk a ups → EndsAsk a (ups ++ e ∷ [])
 asks_more a [] e g h = g
 asks_more a (Part r p ∷ es) e g h = asks_more a es e g h
 asks_more a (End r b p ∷ es) e g h = (h.0, asks_more a es e g h.1)
@@ -311,7 +317,7 @@ not_whole false false false NotBegun e = refl
 not_whole false false false (Begun n) e = refl
 not_whole false false false (Whole n) e = absurd (cc)
 
-sends_live : (answers : Answers) (s : SessionState) (q : Record) (left : List ℕ) (out : Out) (ups : List Up) (e : Up) (downs : List Down) (due : List answer.Step) (ran : Option SessionState) → is_whole q.out ≡ false → AsksFor q.asking (e ∷ []) → Underway answers s q ups downs due ran → Underway answers s (record q { left = left; out = out }) (ups ++ e ∷ []) downs due ran
+sends_live : (answers : Answers) (s : SessionState) (q : Record) (left : List ℕ) (out : Out) (ups : List Up) (e : Up) (downs : List Down) (due : List answer.Step) (ran : Option SessionState) → is_whole q.out ≡ false → EndsAsk q.asking (e ∷ []) → Underway answers s q ups downs due ran → Underway answers s (record q { left = left; out = out }) (ups ++ e ∷ []) downs due ran
 sends_live answers s q left out ups e downs due None w g h = (h.0, asks_more q.asking ups e g h.1, h.2, h.3)
 sends_live answers s q left out ups e downs due (Some t) w g h = let z : true ≡ false = sym h.1 ∙ w in absurd (cc)
 
@@ -319,7 +325,7 @@ sends_has : (answers : Answers) (q : Record) (left : List ℕ) (out : Out) (ran 
 sends_has answers q left out None h = h
 sends_has answers q left out (Some s) h = record { begins = h.begins; ends = h.ends }
 
-sends_owns : (answers : Answers) (s : SessionState) (q : Record) (left : List ℕ) (out : Out) (ups : List Up) (e : Up) (downs : List Down) (due : List answer.Step) → is_whole q.out ≡ false → AsksFor q.asking (e ∷ []) → Owns answers s q ups downs due → Owns answers s (record q { left = left; out = out }) (ups ++ e ∷ []) downs due
+sends_owns : (answers : Answers) (s : SessionState) (q : Record) (left : List ℕ) (out : Out) (ups : List Up) (e : Up) (downs : List Down) (due : List answer.Step) → is_whole q.out ≡ false → EndsAsk q.asking (e ∷ []) → Owns answers s q ups downs due → Owns answers s (record q { left = left; out = out }) (ups ++ e ∷ []) downs due
 sends_owns answers s q left out ups e downs due w g h = record {
   has = sends_has answers q left out q.ran h.has;
   live = λ x y. sends_live answers s q left out ups e downs due q.ran w g (h.live x y);
@@ -342,7 +348,7 @@ sent answers Cancelling room current c e s h = tt
 
 -- ---- Each act
 
-acted : (setup : Setup) (answers : Answers) (w : World) (e : Event) (n : ℕ) (c : Connection) → Lawful answers → Sound c → Numbered (length w.asked_on) c → Own answers c → OfActed (Own answers) (acts setup answers w e n c)
+acted : (setup : Setup) (answers : Answers) (w : World) (e : Event) (n : ℕ) (c : Connection) → Lawful answers → Sound c → NumbersOf (length w.asked_on) (past_of c) (newest_of c) → Own answers c → OfActed (Own answers) (acts setup answers w e n c)
 acted setup answers w event.Lease n c l f b h = h
 acted setup answers w (event.Resume t) n c l f b h = h
 acted setup answers w (event.GiveBack x) n c l f b h = back answers c.standing c h
@@ -358,21 +364,14 @@ acted setup answers w (event.Cut k) n c l f b h = h
 acted setup answers w event.RestartServer n c l f b h = tt
 acted setup answers w event.RestartClient n c l f b h = tt
 
--- Sound, numbered, and each with its own answer.
-abbrev pub Owned : Answers → ℕ → Connection → Type 0
-Owned answers count c = (Sound c × Numbered count c) × Own answers c
+-- In order, and each with its own answer.
+abbrev pub Owned : Answers → World → Connection → Type 0
+Owned answers w c = InOrder w c × Own answers c
 
-all_three : (P Q R : Connection → Type 0) (a : Acted) → OfActed P a → OfActed Q a → OfActed R a → OfActed (λ c. (P c × Q c) × R c) a
-all_three P Q R (Refuses why) f g h = tt
-all_three P Q R (Does what c) f g h = ((f, g), h)
-
-pub owned_kept : (setup : Setup) (answers : Answers) → Lawful answers → KeptBy setup answers (Owned answers)
-owned_kept setup answers l =
-    let sound : Kept setup answers Any Sound = sound_kept setup answers l in
-    let numbered : KeptBy setup answers Numbered = numbered_kept setup answers in record {
-      opened = λ count lease. ((sound.opened lease, numbered.opened count lease), (tt, tt));
-      acted = λ w e n c s h. all_three Sound (Numbered (count_then e (length w.asked_on))) (Own answers) (acts setup answers w e n c)
-          (sound.acted w e n c tt s h.0.0) (numbered.acted w e n c s h.0.1) (acted setup answers w e n c l h.0.0 h.0.1 h.1);
-      was_cut = λ count c h. ((sound.was_cut c h.0.0, numbered.was_cut count c h.0.1), h.1);
-      more = λ count c h. ((h.0.0, numbered.more count c h.0.1), h.1);
-    }
+pub owned_kept : (setup : Setup) (answers : Answers) → Lawful answers → KeptIn setup answers (Owned answers)
+owned_kept setup answers l = on_top setup answers InOrder (λ w c. Own answers c) (in_order_kept setup answers l) (record {
+  grows = λ w v c a h. h;
+  opened = λ w n. (tt, tt);
+  acted = λ w e n c s f h. acted setup answers w e n c l f.0.0 f.1 h;
+  was_cut = λ w c h. h;
+})

@@ -1,5 +1,5 @@
--- Each caller has a beginning of its own answer, where each request ran in the transaction that its
--- header names.
+-- Each caller has a beginning of its own answer: a request runs in the transaction that its header
+-- names, so its answer is that of its own session's descriptor.
 use Rattle.std.proofs.Common.{◌≡◌, ℕ, List, [], ◌∷◌, ◌++◌, refl, sym, subst, Option, Some, None, length, flat_map}
 use Rattle.std.specs.List.{AllByRecursion}
 use Rattle.tds_session.specs.Answer.{Answers}
@@ -11,12 +11,13 @@ use Rattle.tds_world.specs.Bounds.{RanInOwn, OwnTransaction}
 use Rattle.tds_world.specs.Connection.{Connection, records}
 use Rattle.tds_world.specs.Events.{world_after}
 use Rattle.tds_world.specs.Lawful.{Lawful}
-use Rattle.tds_world.specs.Laws.{IsAnswer, IsOwnAnswer, OwnAnswers}
+use Rattle.tds_world.specs.Laws.{Always, IsAnswer, IsOwnAnswer, OwnAnswers}
 use Rattle.tds_world.specs.Record.{Record}
 use Rattle.tds_world.specs.World.{World, new_world}
-use Rattle.tds_world.proofs.Numbers.{always_by}
+use Rattle.tds_world.proofs.Noted.{always_in}
 use Rattle.tds_world.proofs.Own.{HasOwn, OwnsPast}
 use Rattle.tds_world.proofs.OwnActs.{Owned, owned_kept, all_have}
+use Rattle.tds_world.proofs.OwnTransactions.{own_transaction}
 
 own_by : (answers : Answers) (q : Record) (ran : Option SessionState) → ((s : SessionState) → ran ≡ Some s → q.asking.descriptor ≡ s.descriptor) → HasOwn answers q ran → IsOwnAnswer answers q ran
 own_by answers q None f h = h
@@ -26,12 +27,12 @@ each_own : (answers : Answers) (c : Connection) (qs : List Record) → AllByRecu
 each_own answers c [] f h = tt
 each_own answers c (q ∷ qs) f h = (own_by answers q q.ran f.0 h.0, each_own answers c qs f.1 h.1)
 
-all_own : (answers : Answers) (count : ℕ) (cs : List Connection) → AllByRecursion (λ c. AllByRecursion (RanInOwn c) (records c)) cs → AllByRecursion (Owned answers count) cs → AllByRecursion (λ c. AllByRecursion (λ q. IsOwnAnswer answers q q.ran) (records c)) cs
-all_own answers count [] f h = tt
-all_own answers count (c ∷ cs) f h =
-    (each_own answers c (records c) f.0 (all_have answers c.session c.past c.current c.to_server.waiting c.to_client.waiting c.due h.0.1.0 h.0.1.1), all_own answers count cs f.1 h.1)
+all_own : (answers : Answers) (w : World) (cs : List Connection) → AllByRecursion (λ c. AllByRecursion (RanInOwn c) (records c)) cs → AllByRecursion (Owned answers w) cs → AllByRecursion (λ c. AllByRecursion (λ q. IsOwnAnswer answers q q.ran) (records c)) cs
+all_own answers w [] f h = tt
+all_own answers w (c ∷ cs) f h =
+    (each_own answers c (records c) f.0 (all_have answers c.session c.past c.current c.to_server.waiting c.to_client.waiting c.due h.0.1.0 h.0.1.1), all_own answers w cs f.1 h.1)
 
-pub own_where : (setup : Setup) (answers : Answers) (events : List Event) → Lawful answers → OwnTransaction (world_after setup answers events new_world) → OwnAnswers answers (world_after setup answers events new_world)
-own_where setup answers events l f =
-    all_own answers (length (world_after setup answers events new_world).asked_on) (world_after setup answers events new_world).connections f
-    (always_by setup answers (Owned answers) events (owned_kept setup answers l))
+pub own_answers : (setup : Setup) (answers : Answers) → Lawful answers → Always setup answers (OwnAnswers answers)
+own_answers setup answers l events =
+    let w : World = world_after setup answers events new_world in
+    all_own answers w w.connections (own_transaction setup answers l events) (always_in setup answers (Owned answers) events (owned_kept setup answers l))

@@ -92,7 +92,7 @@ to_lend_has P setup w None h =
 to_lend_has P setup w (Some n) h =
     there_has P refusal.AllInUse n (numbered w.connections n) (at_number P w.connections n h)
 
-about_has : (P : Connection → Type 0) (setup : Setup) (w : World) (e : Event) → AllByRecursion P w.connections → OfFound P (about setup w e)
+pub about_has : (P : Connection → Type 0) (setup : Setup) (w : World) (e : Event) → AllByRecursion P w.connections → OfFound P (about setup w e)
 about_has P setup w event.Lease h = to_lend_has P setup w (lowest_free 1 w.connections) h
 about_has P setup w (event.Resume t) h = not_cut_has P (by_ticket w t) (by_ticket_has P w t h)
 about_has P setup w (event.GiveBack l) h = by_lease_has P w l h
@@ -127,7 +127,7 @@ noted P (event.Cut k) n heard w h = h
 noted P event.RestartServer n heard w h = h
 noted P event.RestartClient n heard w h = h
 
-settled : (P : Connection → Type 0) (e : Event) (n : ℕ) (w : World) (a : Acted) → OfActed P a → AllByRecursion P w.connections → AllByRecursion P (settles e n w a).1.connections
+pub settled : (P : Connection → Type 0) (e : Event) (n : ℕ) (w : World) (a : Acted) → OfActed P a → AllByRecursion P w.connections → AllByRecursion P (settles e n w a).1.connections
 settled P e n w (Refuses why) g h = h
 settled P e n w (Does what c) g h =
     noted P e n c.heard (record w { connections = put_numbered n c w.connections }) (put_at_number P n c w.connections g h)
@@ -137,7 +137,7 @@ found P E setup answers e w (Missing why) k x s g h = h
 found P E setup answers e w (Here n c) k x s g h = settled P e n w (acts setup answers w e n c) (k.acted w e n c x s.1 g) h
 found P E setup answers e w (Opens n) k x s g h = settled P event.Lease n w (opens (next_number w.leases) n) (k.opened (next_number w.leases)) h
 
-all_cut : (P : Connection → Type 0) (cs : List Connection) → ((c : Connection) → P c → P (cut c)) → AllByRecursion P cs → AllByRecursion P (map cut cs)
+pub all_cut : (P : Connection → Type 0) (cs : List Connection) → ((c : Connection) → P c → P (cut c)) → AllByRecursion P cs → AllByRecursion P (map cut cs)
 all_cut P [] k h = tt
 all_cut P (c ∷ cs) k h = (k c h.0, all_cut P cs k h.1)
 

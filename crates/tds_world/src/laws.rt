@@ -2,10 +2,10 @@
 //! after any events, whatever their order, and whatever the sizes of the deliveries.
 ghost use Rattle.tds_session.specs.Answer.{Answers, answer_of, script_answers};
 ghost use Rattle.tds_world.specs.Begins.{HandsOutNext};
-ghost use Rattle.tds_world.specs.Bounds.{BeginsOnce, FewUnderway, IsEvent, IsSetup, OneAttention};
+ghost use Rattle.tds_world.specs.Bounds.{BeginsOnce, FewUnderway, IsEvent, IsSetup, OneAttention, OwnTransaction};
 ghost use Rattle.tds_world.specs.Deliveries.{DeliversExactly};
 ghost use Rattle.tds_world.specs.Lawful.{Lawful};
-ghost use Rattle.tds_world.specs.Laws.{Always, AlwaysOf, IdleIsQuiet, NothingAfterCancel};
+ghost use Rattle.tds_world.specs.Laws.{Always, AlwaysOf, IdleIsQuiet, NothingAfterCancel, OwnAnswers};
 ghost use Rattle.tds_world.specs.declared.event.Setup.{Setup};
 
 use tds_session::Engine;
@@ -49,6 +49,11 @@ pub fn few_underway()
     ensures { (setup : Setup) (answers : Answers) → IsSetup setup → Lawful answers → AlwaysOf IsEvent setup answers FewUnderway }
 {}
 
+/// A request that ran did so in the transaction that its header names.
+pub fn own_transaction()
+    ensures { (setup : Setup) (answers : Answers) → Lawful answers → Always setup answers OwnTransaction }
+{}
+
 /// No two steps of a connection tell that the same transaction began, where the answers hand out
 /// what the session's next descriptor says.
 pub fn begins_once()
@@ -58,4 +63,10 @@ pub fn begins_once()
 /// A server with the batch language hands out what the session's next descriptor says.
 pub fn script_hands_out_next()
     ensures { HandsOutNext script_answers }
+{}
+
+/// Each caller has a beginning of its own request's answer, in the session that the request ran in,
+/// and all of it where the request is finished; where it did not run, nothing.
+pub fn own_answers()
+    ensures { (setup : Setup) (answers : Answers) → Lawful answers → Always setup answers (OwnAnswers answers) }
 {}
