@@ -33,3 +33,6 @@ pub mod OwnActs
 pub mod OwnAnswers
 pub mod Begins
 pub mod HandsOut
+pub mod Sent
+pub mod Steps
+pub mod Welcome

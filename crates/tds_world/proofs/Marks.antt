@@ -122,7 +122,7 @@ down_marked answers c e es f h =
     (busy_down (phase c) (number_in c.current) c.answering c.to_server.waiting e es c.parts c.due f.0) h
 
 -- What is to the server stays as it is.
-down_marked_at : (answers : Answers) (c : Connection) (e : Down) (es : List Down) → SoundWith c c.to_server.waiting (e ∷ es) → NewestWith answers c c.to_server.waiting (e ∷ es) → NewestWith answers (client_acts (record c { to_client = passed e c.to_client }) e) (client_acts (record c { to_client = passed e c.to_client }) e).to_server.waiting es
+pub down_marked_at : (answers : Answers) (c : Connection) (e : Down) (es : List Down) → SoundWith c c.to_server.waiting (e ∷ es) → NewestWith answers c c.to_server.waiting (e ∷ es) → NewestWith answers (client_acts (record c { to_client = passed e c.to_client }) e) (client_acts (record c { to_client = passed e c.to_client }) e).to_server.waiting es
 down_marked_at answers c (Step r place s) es f h = down_marked answers c (Step r place s) es f h
 down_marked_at answers c (Acknowledgement r place) es f h = down_marked answers c (Acknowledgement r place) es f h
 

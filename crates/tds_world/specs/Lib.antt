@@ -15,3 +15,5 @@ pub mod Laws
 pub mod Bounds
 pub mod Deliveries
 pub mod Begins
+pub mod Steps
+pub mod Welcome

@@ -6,6 +6,8 @@ ghost use Rattle.tds_world.specs.Bounds.{BeginsOnce, FewUnderway, IsEvent, IsSet
 ghost use Rattle.tds_world.specs.Deliveries.{DeliversExactly};
 ghost use Rattle.tds_world.specs.Lawful.{Lawful};
 ghost use Rattle.tds_world.specs.Laws.{Always, AlwaysOf, IdleIsQuiet, NothingAfterCancel, OwnAnswers};
+ghost use Rattle.tds_world.specs.Steps.{MessagesEndOnce, StepsAreOfAnswers};
+ghost use Rattle.tds_world.specs.Welcome.{AllWelcome};
 ghost use Rattle.tds_world.specs.declared.event.Setup.{Setup};
 
 use tds_session::Engine;
@@ -69,4 +71,22 @@ pub fn script_hands_out_next()
 /// and all of it where the request is finished; where it did not run, nothing.
 pub fn own_answers()
     ensures { (setup : Setup) (answers : Answers) → Lawful answers → Always setup answers (OwnAnswers answers) }
+{}
+
+/// Each entry that waits is welcome where it arrives: no packet of a request comes to a server while
+/// an answer is due, no answer comes to a client that waits for none, each change applies to the
+/// descriptor heard, and the end of a reset meets the mark.
+pub fn all_welcome()
+    ensures { (setup : Setup) (answers : Answers) → Lawful answers → Always setup answers (AllWelcome answers) }
+{}
+
+/// Each message towards a client ends once, with the last step of an answer or an acknowledgement,
+/// and each of its packets stands at its place.
+pub fn messages_end_once()
+    ensures { (setup : Setup) (answers : Answers) → Lawful answers → Always setup answers MessagesEndOnce }
+{}
+
+/// Each step that was sent or is due is a step of an answer.
+pub fn steps_are_of_answers()
+    ensures { (setup : Setup) (answers : Answers) → Lawful answers → Always setup answers (StepsAreOfAnswers answers) }
 {}
