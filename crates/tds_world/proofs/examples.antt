@@ -22,3 +22,4 @@ pub mod GivenBackWhileAnswering
 pub mod TheLowestNumberIsLentFirst
 pub mod ARestartedClientHasNoTickets
 pub mod ARestartedServerHasNoTransactions
+pub mod EachTransactionBeginsOnce
