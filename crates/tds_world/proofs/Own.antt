@@ -191,11 +191,12 @@ runs_live answers s q r place t ss ups downs (Some before) l u w h =
 runs_live answers s q r place t ss ups downs None l u w h = elim h.3 [
   | inl e ↦ absurd (no_more t ss e)
   | inr e ↦ (
-    u, w,
+    u,
+    w,
     ap (λ (xs : List Token). xs ++ told (tokens_left (downs ++ Step r place t ∷ []) ss)) h.0
-    ∙ (ap told (work_told r place t downs ss)
-    ∙ (ap (λ ds. told (tokens_left ds (t ∷ ss))) h.2
-    ∙ first_owned answers s q.asking q.asking.mark t ss l refl e)),
+        ∙ (ap told (work_told r place t downs ss)
+        ∙ (ap (λ ds. told (tokens_left ds (t ∷ ss))) h.2
+        ∙ first_owned answers s q.asking q.asking.mark t ss l refl e)),
   )
 ]
 
