@@ -36,3 +36,4 @@ pub mod HandsOut
 pub mod Sent
 pub mod Steps
 pub mod Welcome
+pub mod Requests

@@ -17,3 +17,4 @@ pub mod Deliveries
 pub mod Begins
 pub mod Steps
 pub mod Welcome
+pub mod Requests

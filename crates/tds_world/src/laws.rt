@@ -6,6 +6,7 @@ ghost use Rattle.tds_world.specs.Bounds.{BeginsOnce, FewUnderway, IsEvent, IsSet
 ghost use Rattle.tds_world.specs.Deliveries.{DeliversExactly};
 ghost use Rattle.tds_world.specs.Lawful.{Lawful};
 ghost use Rattle.tds_world.specs.Laws.{Always, AlwaysOf, IdleIsQuiet, NothingAfterCancel, OwnAnswers};
+ghost use Rattle.tds_world.specs.Requests.{RequestsAreSpelled};
 ghost use Rattle.tds_world.specs.Steps.{MessagesEndOnce, StepsAreOfAnswers};
 ghost use Rattle.tds_world.specs.Welcome.{AllWelcome};
 ghost use Rattle.tds_world.specs.declared.event.Setup.{Setup};
@@ -89,4 +90,10 @@ pub fn messages_end_once()
 /// Each step that was sent or is due is a step of an answer.
 pub fn steps_are_of_answers()
     ensures { (setup : Setup) (answers : Answers) → Lawful answers → Always setup answers (StepsAreOfAnswers answers) }
+{}
+
+/// What is sent to a server is messages, each a request's spelling cut into packets of one type, or a
+/// beginning of one that is dropped; and attentions between them.
+pub fn requests_are_spelled()
+    ensures { (setup : Setup) (answers : Answers) → Lawful answers → Always setup answers RequestsAreSpelled }
 {}
