@@ -8,7 +8,6 @@ use Rattle.std.specs.Prelude.{◌==◌, ◌||◌}
 use Rattle.tds_request.specs.declared.request.Request.{Request}
 use Rattle.tds_session.specs.Answer as answer
 use Rattle.tds_session.specs.Answer.{Answers}
-use Rattle.tds_session.specs.Session.{SessionState}
 use Rattle.tds_token.specs.Told.{changes_of}
 use Rattle.tds_world.specs.declared.event.Event.{Event}
 use Rattle.tds_world.specs.declared.event.Event.TheVariants as event

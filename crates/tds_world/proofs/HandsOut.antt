@@ -2,15 +2,15 @@
 -- whose statements do.
 use Rattle.std.proofs.Common.{◌≡◌, ℕ, zero, suc, ◌+◌, List, [], ◌∷◌, ◌++◌, Bool, true, false, cond, refl, ap, sym, subst, Option, Some, None, eqb, flat_map}
 use Rattle.std.specs.List.{list_any}
-use Rattle.std.specs.Prelude.{codes, ◌==◌}
+use Rattle.std.specs.Prelude.{◌==◌}
 use Rattle.tds_packet.specs.declared.status.Reset.{Reset}
 use Rattle.tds_packet.specs.declared.status.Reset.TheVariants.{Full, KeepTransaction}
 use Rattle.tds_request.specs.declared.request.Request.{Request}
 use Rattle.tds_request.specs.declared.request.Request.TheVariants as request
-use Rattle.tds_session.specs.Answer.{Step, step_then, last_step, final_step, and_then, batch_steps, refused_batch, steps_in, steps_of, wrong_descriptor, reset_step, answer_to, answer_of, script_answers}
+use Rattle.tds_session.specs.Answer.{Step, last_step, and_then, batch_steps, steps_in, steps_of, wrong_descriptor, answer_to, answer_of, script_answers}
 use Rattle.tds_session.specs.declared.statement.Statement.{Statement}
 use Rattle.tds_session.specs.declared.statement.Statement.TheVariants as statement
-use Rattle.tds_session.specs.Effects.{Effect, is_error, has_error, fails, done, begin_by, begins, end_by, ends}
+use Rattle.tds_session.specs.Effects.{Effect, is_error, has_error, done, begin_by, begins, end_by, ends}
 use Rattle.tds_session.specs.Language.{statements_of}
 use Rattle.tds_session.specs.Script.{step_of, rows_from, with_more}
 use Rattle.tds_session.specs.Session.{SessionState, after_reset, last_descriptor}

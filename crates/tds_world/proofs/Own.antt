@@ -1,6 +1,6 @@
 -- Own answers: of a request that waits for its answer, what its caller was given, what waits and what
 -- is due are together its whole answer, in the session that it ran in.
-use Rattle.std.proofs.Common.{◌≡◌, ◌⊎◌, ℕ, List, [], ◌∷◌, ◌++◌, inl, inr, Bool, true, false, cond, refl, sym, ap, subst, ◌∙◌, Option, Some, None, option_map, map, flat_map, eqb}
+use Rattle.std.proofs.Common.{◌≡◌, ◌⊎◌, ℕ, List, [], ◌∷◌, ◌++◌, inl, inr, Bool, true, false, cond, refl, sym, ap, subst, ◌∙◌, Option, Some, None, flat_map}
 use Rattle.std.proofs.lemmas.List.{append_assoc, append-nil}
 use Rattle.std.specs.List.{AllByRecursion}
 use Rattle.tds_packet.specs.declared.status.Reset.{Reset}
@@ -11,7 +11,7 @@ use Rattle.tds_token.specs.declared.token.Token.{Token}
 use Rattle.tds_token.specs.declared.token.Token.TheVariants as token
 use Rattle.tds_token.specs.Told.{told}
 use Rattle.tds_world.specs.Connection.{Connection}
-use Rattle.tds_world.specs.Entries.{Up, Part, End, Drop, Attention, Down, Step, Acknowledgement, Asking, Packet}
+use Rattle.tds_world.specs.Entries.{Up, Part, End, Drop, Down, Step, Acknowledgement, Asking, Packet}
 use Rattle.tds_world.specs.Lawful.{Lawful, TakesNoReset}
 use Rattle.tds_world.specs.Laws.{IsAnswer}
 use Rattle.tds_world.specs.Record.{Record, Out, NotBegun, Begun, Whole, gives, acknowledges, runs, ran_in}

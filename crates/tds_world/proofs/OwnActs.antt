@@ -1,6 +1,5 @@
 -- Each act keeps own answers.
-use Rattle.std.proofs.Common.{◌≡◌, ◌<◌, ◌-◌, ◌+◌, ℕ, suc, List, [], ◌∷◌, ◌++◌, inl, inr, Bool, true, false, cond, length, ltb, eqb, refl, sym, ap, subst, ◌∙◌, Option, Some, None, option_map, map, min, arith}
-use Rattle.std.proofs.lemmas.Bool.Decides.{nat_tests}
+use Rattle.std.proofs.Common.{◌≡◌, ◌<◌, ◌-◌, ◌+◌, ℕ, List, [], ◌∷◌, ◌++◌, inl, inr, Bool, true, false, cond, length, ltb, eqb, refl, sym, ap, subst, ◌∙◌, Option, Some, None, option_map, map, min}
 use Rattle.std.specs.List.{AllByRecursion}
 use Rattle.std.specs.Prelude.{◌==◌, ◌||◌}
 use Rattle.tds_request.specs.declared.request.Request.{Request}
@@ -13,13 +12,12 @@ use Rattle.tds_world.specs.declared.event.Setup.{Setup}
 use Rattle.tds_world.specs.Arrivals.{server_acts, client_acts, reach_server, reach_client, works_on}
 use Rattle.tds_world.specs.Caller.{cancels_in, cancels_by, sends_by, sends_last}
 use Rattle.tds_world.specs.Connection.{Connection, joined, phase, is_idle, Standing, In, Cut, up_underway, down_underway}
-use Rattle.tds_world.specs.Entries.{Up, Part, End, Drop, Attention, Down, Step, Acknowledgement, Asking, Packet, up_bytes, down_bytes}
-use Rattle.tds_world.specs.Events.{acts, asks_by, sends_in, world_after}
+use Rattle.tds_world.specs.Entries.{Up, Part, End, Drop, Attention, Down, Step, Acknowledgement, Asking, up_bytes, down_bytes}
+use Rattle.tds_world.specs.Events.{acts, asks_by, sends_in}
 use Rattle.tds_world.specs.Lane.{passed, with_waiting}
 use Rattle.tds_world.specs.Lawful.{Lawful}
-use Rattle.tds_world.specs.Laws.{IsAnswer}
 use Rattle.tds_world.specs.Phase.{Phase, Settled, Asked, Sending, Reading, Cancelling, phase_of, phase_by, phase_in}
-use Rattle.tds_world.specs.Pool.{Acted, Refuses, Does, gives_back_at, abandons_at, keeps_by, is_full}
+use Rattle.tds_world.specs.Pool.{gives_back_at, abandons_at, keeps_by, is_full}
 use Rattle.tds_world.specs.Record.{Record, Out, NotBegun, Begun, Whole, gives, acknowledges, runs, cancelled, when, if_numbered}
 use Rattle.tds_world.specs.World.{World, next_number}
 use Rattle.tds_world.proofs.Flow.{Quiet, FlowIn, number_in, SoundWith, Sound}
@@ -30,9 +28,7 @@ use Rattle.tds_world.proofs.Cores.{core_of, past_of, newest_of, client_same}
 use Rattle.tds_world.proofs.Noted.{KeptIn, on_top}
 use Rattle.tds_world.proofs.Numbers.{NumbersOf, InOrder, in_order_kept, past_stays, same_numbers}
 use Rattle.tds_world.proofs.Own.{HasOwn, is_whole, Underway, Owns, OwnsIn, OwnsPast, OwnWith, Own, part_owned, drop_owned, end_owned, gives_owned, acknowledged_owned, runs_owned}
-use Rattle.tds_world.proofs.Sound.{sound_kept}
 use Rattle.tds_world.proofs.Words.{OfActed}
-use Rattle.tds_world.proofs.Worlds.{Any, Kept}
 
 no_more : {A : Type 0} (x : A) (xs : List A) → x ∷ xs ≡ [] → ⊥
 no_more x xs e = absurd (cc)

@@ -1,13 +1,12 @@
 -- Each caller has a beginning of its own answer: a request runs in the transaction that its header
 -- names, so its answer is that of its own session's descriptor.
-use Rattle.std.proofs.Common.{◌≡◌, ℕ, List, [], ◌∷◌, ◌++◌, refl, sym, subst, Option, Some, None, length, flat_map}
+use Rattle.std.proofs.Common.{◌≡◌, List, [], ◌∷◌, refl, subst, Option, Some, None, flat_map}
 use Rattle.std.specs.List.{AllByRecursion}
 use Rattle.tds_session.specs.Answer.{Answers}
 use Rattle.tds_session.specs.Session.{SessionState}
 use Rattle.tds_token.specs.Told.{told}
-use Rattle.tds_world.specs.declared.event.Event.{Event}
 use Rattle.tds_world.specs.declared.event.Setup.{Setup}
-use Rattle.tds_world.specs.Bounds.{RanInOwn, OwnTransaction}
+use Rattle.tds_world.specs.Bounds.{RanInOwn}
 use Rattle.tds_world.specs.Connection.{Connection, records}
 use Rattle.tds_world.specs.Events.{world_after}
 use Rattle.tds_world.specs.Lawful.{Lawful}

@@ -1,5 +1,5 @@
 -- What is sent to a server is messages that spell requests.
-use Rattle.std.proofs.Common.{◌≡◌, ◌-◌, ◌+◌, ℕ, List, [], ◌∷◌, ◌++◌, inl, inr, Bool, true, false, cond, length, ltb, eqb, take, drop, refl, sym, ap, subst, ◌∙◌, Option, Some, None, option_map, min}
+use Rattle.std.proofs.Common.{◌≡◌, ◌-◌, ◌+◌, ℕ, List, [], ◌∷◌, ◌++◌, Bool, true, false, cond, length, ltb, eqb, take, drop, refl, sym, ap, subst, ◌∙◌, Option, Some, None, option_map, min}
 use Rattle.std.proofs.lemmas.List.{append_assoc, take-append-drop}
 use Rattle.std.specs.Prelude.{◌==◌, ◌||◌}
 use Rattle.tds_request.specs.declared.request.Request.{Request}
@@ -13,7 +13,7 @@ use Rattle.tds_world.specs.declared.event.Setup.{Setup}
 use Rattle.tds_world.specs.Arrivals.{server_acts, client_acts, reach_server, reach_client, works_on}
 use Rattle.tds_world.specs.Caller.{cancels_in, cancels_by, sends_by, sends_last, next_packet, drop_packet}
 use Rattle.tds_world.specs.Connection.{Connection, phase, is_idle, Standing, In, Cut, up_underway, down_underway}
-use Rattle.tds_world.specs.Entries.{Asking, Packet, Up, Part, End, Drop, Attention, Down, Step, Acknowledgement, up_bytes, down_bytes}
+use Rattle.tds_world.specs.Entries.{Up, Part, End, Drop, Attention, Down, Step, Acknowledgement, up_bytes, down_bytes}
 use Rattle.tds_world.specs.Events.{acts, asks_by, sends_in, world_after}
 use Rattle.tds_world.specs.Lane.{passed, with_waiting}
 use Rattle.tds_world.specs.Lawful.{Lawful}

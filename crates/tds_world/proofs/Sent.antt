@@ -1,6 +1,6 @@
 -- What is said of all that a server sent and of the answer that is due, and is kept where that
 -- changes, is kept by each act.
-use Rattle.std.proofs.Common.{◌≡◌, ◌-◌, ◌+◌, ℕ, List, [], ◌∷◌, ◌++◌, inl, inr, Bool, true, false, cond, length, ltb, refl, sym, ap, subst, ◌∙◌, Option, Some, None, min}
+use Rattle.std.proofs.Common.{◌≡◌, ◌-◌, ◌+◌, ℕ, List, [], ◌∷◌, ◌++◌, inl, inr, Bool, true, false, cond, length, ltb, refl, sym, subst, Option, Some, None, min}
 use Rattle.std.proofs.lemmas.List.{append_assoc}
 use Rattle.std.specs.Prelude.{◌==◌, ◌||◌}
 use Rattle.tds_packet.specs.declared.status.Reset.{Reset}

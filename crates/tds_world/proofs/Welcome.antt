@@ -1,10 +1,9 @@
 -- Each entry is welcome where it arrives.
-use Rattle.std.proofs.Common.{◌≡◌, ℕ, List, [], ◌∷◌, ◌++◌, inl, inr, Bool, true, false, refl, sym, ap, subst, ◌∙◌, Option, Some, None}
+use Rattle.std.proofs.Common.{◌≡◌, ℕ, List, [], ◌∷◌, ◌++◌, inl, inr, refl, sym, subst, ◌∙◌, Option, Some, None}
 use Rattle.std.specs.List.{AllByRecursion}
 use Rattle.std.specs.Prelude.{unwrap_or}
 use Rattle.tds_packet.specs.declared.status.Reset.{Reset}
 use Rattle.tds_packet.specs.declared.status.Reset.TheVariants.{Full, KeepTransaction}
-use Rattle.tds_request.specs.declared.request.Request.{Request}
 use Rattle.tds_session.specs.Answer as answer
 use Rattle.tds_session.specs.Answer.{Answers, reset_step}
 use Rattle.tds_session.specs.Session.{SessionState, after_reset}
@@ -12,7 +11,7 @@ use Rattle.tds_token.specs.declared.env_change.EnvChange.{EnvChange}
 use Rattle.tds_token.specs.declared.env_change.EnvChange.TheVariants as change
 use Rattle.tds_token.specs.Told.{applied, applied_on, changes_of, no_reset}
 use Rattle.tds_world.specs.declared.event.Setup.{Setup}
-use Rattle.tds_world.specs.Arrivals.{server_acts, client_acts, reset_effect, heard_after, mark_after}
+use Rattle.tds_world.specs.Arrivals.{server_acts, client_acts, reset_effect, mark_after}
 use Rattle.tds_world.specs.Connection.{Connection, phase}
 use Rattle.tds_world.specs.Entries.{Up, Down, Step, Acknowledgement}
 use Rattle.tds_world.specs.Events.{world_after}
@@ -22,7 +21,7 @@ use Rattle.tds_world.specs.Laws.{Always}
 use Rattle.tds_world.specs.Phase.{Phase, Settled, Asked, Sending, Reading, Cancelling, phase_in, state_of}
 use Rattle.tds_world.specs.Record.{Record}
 use Rattle.tds_world.specs.Steps.{OfSteps}
-use Rattle.tds_world.specs.Welcome.{ServerExpects, ClientExpects, Apply, ChangesApply, WelcomeToServer, WelcomeToClient, AllWelcome}
+use Rattle.tds_world.specs.Welcome.{ClientExpects, Apply, ChangesApply, WelcomeToServer, WelcomeToClient, AllWelcome}
 use Rattle.tds_world.specs.World.{World, new_world}
 use Rattle.tds_world.proofs.Asking.{Meets, ByRan, Newest, NewestWith}
 use Rattle.tds_world.proofs.Flow.{FlowIn, number_in, SoundWith, Sound}

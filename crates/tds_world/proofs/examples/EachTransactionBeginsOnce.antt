@@ -1,5 +1,5 @@
 -- A transaction begins, ends, and another one begins: each with a descriptor of its own.
-use Rattle.std.specs.Prelude.{ℕ, ◌≡◌, refl, List, [], ◌∷◌, map, Some, None}
+use Rattle.std.specs.Prelude.{◌≡◌, refl, List, [], ◌∷◌, map, Some, None}
 use Rattle.tds_request.specs.declared.request.Request.TheVariants.{Begin, Commit}
 use Rattle.tds_session.specs.Answer.{script_answers}
 use Rattle.tds_world.specs.declared.event.Event.{Event}
