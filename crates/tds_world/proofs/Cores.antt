@@ -43,15 +43,15 @@ core_when : (b : Bool) (f : Record → Record) (q : Record) → core_of (f q) �
 core_when true f q e = e
 core_when false f q e = refl
 
-map_cores : (f : Record → Record) (qs : List Record) → ((q : Record) → core_of (f q) ≡ core_of q) → map core_of (map f qs) ≡ map core_of qs
+pub map_cores : (f : Record → Record) (qs : List Record) → ((q : Record) → core_of (f q) ≡ core_of q) → map core_of (map f qs) ≡ map core_of qs
 map_cores f [] k = refl
 map_cores f (q ∷ qs) k = ap (λ x. x ∷ map core_of (map f qs)) (k q) ∙ ap (λ xs. core_of q ∷ xs) (map_cores f qs k)
 
-option_cores : (f : Record → Record) (o : Option Record) → ((q : Record) → core_of (f q) ≡ core_of q) → option_map core_of (option_map f o) ≡ option_map core_of o
+pub option_cores : (f : Record → Record) (o : Option Record) → ((q : Record) → core_of (f q) ≡ core_of q) → option_map core_of (option_map f o) ≡ option_map core_of o
 option_cores f None k = refl
 option_cores f (Some q) k = ap (λ x. Some x) (k q)
 
-gives_core : (r : ℕ) (s : answer.Step) (q : Record) → core_of (if_numbered r (gives s) q) ≡ core_of q
+pub gives_core : (r : ℕ) (s : answer.Step) (q : Record) → core_of (if_numbered r (gives s) q) ≡ core_of q
 gives_core r s q = core_when _ (gives s) q refl
 
 acknowledges_core : (r : ℕ) (q : Record) → core_of (if_numbered r acknowledges q) ≡ core_of q

@@ -17,6 +17,9 @@ pub mod Asking
 pub mod Runs
 pub mod Marks
 pub mod OwnTransactions
+pub mod Ready
+pub mod ReadySteps
+pub mod FreshStarts
 pub mod Standings
 pub mod Agreement
 pub mod Grows

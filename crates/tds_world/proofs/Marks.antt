@@ -82,7 +82,7 @@ ack_whole : (fin can : Bool) (out : Out) → is_sending (phase_by fin true can o
 ack_whole true can out = refl
 ack_whole false can out = refl
 
-ack_settles : (fin can : Bool) (out : Out) → is_settled (phase_by fin true can out) ≡ true
+pub ack_settles : (fin can : Bool) (out : Out) → is_settled (phase_by fin true can out) ≡ true
 ack_settles true can out = refl
 ack_settles false can out = refl
 
@@ -135,7 +135,7 @@ reach_client_marked answers c (e ∷ es) k f h =
 
 -- ---- The server works
 
-not_none : {A : Type 0} (x : A) (xs : List A) → x ∷ xs ≡ [] → ⊥
+pub not_none : {A : Type 0} (x : A) (xs : List A) → x ∷ xs ≡ [] → ⊥
 not_none x xs e = absurd (cc)
 
 -- By the record whose answer is due: before and after this step.
@@ -236,7 +236,7 @@ sends_newest answers c r body p p1 p2 a None s o h = (
 )
 sends_newest answers c r body p p1 p2 a (Some x) s o h = let z : true ≡ false = sym s ∙ h.whole in absurd (cc)
 
-is_open : (p : Phase) → is_sending p ≡ true → is_settled p ≡ false
+pub is_open : (p : Phase) → is_sending p ≡ true → is_settled p ≡ false
 is_open Settled e = absurd (cc)
 is_open Asked e = refl
 is_open Sending e = refl

@@ -112,10 +112,10 @@ sent answers Reading room o c e i h = tt
 sent answers Cancelling room o c e i h = tt
 
 -- A free connection, and a kept one, is idle.
-lend_idle : (c : Connection) → c.standing ≡ In place.Free → Rests c.standing (is_idle c) → is_idle c ≡ true
+pub lend_idle : (c : Connection) → c.standing ≡ In place.Free → Rests c.standing (is_idle c) → is_idle c ≡ true
 lend_idle c e h = subst (λ s. Rests s (is_idle c)) e h
 
-resume_idle : (t : ℕ) (c : Connection) → c.standing ≡ In (place.Kept t) → Rests c.standing (is_idle c) → is_idle c ≡ true
+pub resume_idle : (t : ℕ) (c : Connection) → c.standing ≡ In (place.Kept t) → Rests c.standing (is_idle c) → is_idle c ≡ true
 resume_idle t c e h = subst (λ s. Rests s (is_idle c)) e h
 
 acted : (setup : Setup) (answers : Answers) (w : World) (e : Event) (n : ℕ) (c : Connection) → Lawful answers → StandsFor e c.standing → InOrder w c → Marked answers c → OfActed (Marked answers) (acts setup answers w e n c)

@@ -57,7 +57,7 @@ down_is_busy : (c : Connection) (e : Down) (es : List Down) → SoundWith c c.to
 down_is_busy c e es f h b =
     rests_any c.standing b (subst (Rests c.standing) (busy_down (phase c) (number_in c.current) c.answering c.to_server.waiting e es c.parts c.due f.0) h)
 
-client_rests : (c : Connection) (e : Down) (es : List Down) → SoundWith c c.to_server.waiting (e ∷ es) → RestsIdle c → RestsIdle (client_acts (record c { to_client = passed e c.to_client }) e)
+pub client_rests : (c : Connection) (e : Down) (es : List Down) → SoundWith c c.to_server.waiting (e ∷ es) → RestsIdle c → RestsIdle (client_acts (record c { to_client = passed e c.to_client }) e)
 client_rests c (Step r place s) es f h = down_is_busy c (Step r place s) es f h _
 client_rests c (Acknowledgement r place) es f h = down_is_busy c (Acknowledgement r place) es f h _
 

@@ -14,7 +14,11 @@ pub mod BeginCancelledAfterItsStep
 pub mod ResetCancelledBeforeItsStep
 pub mod ResetCancelledAfterItsStep
 pub mod NothingLeaksToTheNextLease
+pub mod FreshAfterAnEarlyCancel
+pub mod FreshAfterALateCancel
 pub mod KeepAndResume
+pub mod KeptThreeTimes
+pub mod AbandonedTicket
 pub mod NoKeepUnderAFullReset
 pub mod CancelledThreeTimes
 pub mod CutAndRestart

@@ -5,7 +5,7 @@ ghost use Rattle.tds_world.specs.Begins.{HandsOutNext};
 ghost use Rattle.tds_world.specs.Bounds.{BeginsOnce, FewUnderway, IsEvent, IsSetup, OneAttention, OwnTransaction};
 ghost use Rattle.tds_world.specs.Deliveries.{DeliversExactly};
 ghost use Rattle.tds_world.specs.Lawful.{Lawful};
-ghost use Rattle.tds_world.specs.Laws.{Always, AlwaysOf, IdleIsQuiet, NothingAfterCancel, OwnAnswers};
+ghost use Rattle.tds_world.specs.Laws.{Always, AlwaysOf, FreshStart, IdleIsQuiet, NothingAfterCancel, OwnAnswers};
 ghost use Rattle.tds_world.specs.Requests.{RequestsAreSpelled};
 ghost use Rattle.tds_world.specs.Steps.{MessagesEndOnce, StepsAreOfAnswers};
 ghost use Rattle.tds_world.specs.Welcome.{AllWelcome};
@@ -55,6 +55,12 @@ pub fn few_underway()
 /// A request that ran did so in the transaction that its header names.
 pub fn own_transaction()
     ensures { (setup : Setup) (answers : Answers) → Lawful answers → Always setup answers OwnTransaction }
+{}
+
+/// The first request of a lease that runs finds a session without settings and outside a
+/// transaction; for a lease that came from a ticket, without settings and in the kept transaction.
+pub fn fresh_start()
+    ensures { (setup : Setup) (answers : Answers) → Lawful answers → Always setup answers FreshStart }
 {}
 
 /// No two steps of a connection tell that the same transaction began, where the answers hand out

@@ -1,0 +1,5 @@
+use Rattle.tds_world.proofs.FreshStarts as fresh
+use Rattle.tds_world.proofs.laws.fresh_start.Goals as goal
+
+pub returns : goal.returns
+returns c = fresh.fresh_start
