@@ -19,7 +19,7 @@ either : (P : Connection → Type 0) (b : Bool) (x y : Connection) → P x → P
 either P true x y p q = p
 either P false x y p q = q
 
-up_act : (ans : Answers) (c : Connection) (e : Up) (es : List Up) → Lawful ans → SoundWith c (e ∷ es) c.to_client.waiting → SoundWith (server_acts ans (record c { to_server = passed e c.to_server }) e) es (server_acts ans (record c { to_server = passed e c.to_server }) e).to_client.waiting
+pub up_act : (ans : Answers) (c : Connection) (e : Up) (es : List Up) → Lawful ans → SoundWith c (e ∷ es) c.to_client.waiting → SoundWith (server_acts ans (record c { to_server = passed e c.to_server }) e) es (server_acts ans (record c { to_server = passed e c.to_server }) e).to_client.waiting
 up_act ans c (Part q p) es w f = (up_arrives ans c (phase c) (number_in c.current) (Part q p) es w f.0, server_heard ans c (Part q p) w f.1)
 up_act ans c (End q a p) es w f = (up_arrives ans c (phase c) (number_in c.current) (End q a p) es w f.0, server_heard ans c (End q a p) w f.1)
 up_act ans c (Drop q p) es w f = (up_arrives ans c (phase c) (number_in c.current) (Drop q p) es w f.0, server_heard ans c (Drop q p) w f.1)

@@ -31,3 +31,12 @@ pub mod Sizes
 pub mod Lawful
 pub mod Script
 pub mod Deliveries
+pub mod Own
+pub mod OwnActs
+pub mod OwnAnswers
+pub mod Begins
+pub mod HandsOut
+pub mod Sent
+pub mod Steps
+pub mod Welcome
+pub mod Requests

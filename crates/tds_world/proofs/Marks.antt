@@ -218,7 +218,7 @@ cancels_marked_by answers Cancelling q c e i h = subst (Newest answers c c.to_se
 cancels_marked_by answers Asked q c e i h =
     append_none answers c (phase_by q.finished q.acknowledged true q.out) q.asking q.ran
     (cancel_newest answers c [] Asked (phase_by q.finished q.acknowledged true q.out) q.asking q.ran refl (cancelled_whole q.finished q.acknowledged q.out) tt tt h)
-cancels_marked_by answers Sending q c e i h = 
+cancels_marked_by answers Sending q c e i h =
     subst (λ ups. ByRan answers c ups c.to_client.waiting (phase_by q.finished q.acknowledged true q.out) q.asking q.ran) (sym (append_assoc c.to_server.waiting (Drop q.number _ ∷ []) (Attention q.number ∷ [])))
     (cancel_newest answers c (Drop q.number _ ∷ Attention q.number ∷ []) Sending (phase_by q.finished q.acknowledged true q.out) q.asking q.ran refl (cancelled_whole q.finished q.acknowledged q.out) tt tt h)
 cancels_marked_by answers Reading q c e i h =

@@ -26,3 +26,4 @@ pub mod GivenBackWhileAnswering
 pub mod TheLowestNumberIsLentFirst
 pub mod ARestartedClientHasNoTickets
 pub mod ARestartedServerHasNoTransactions
+pub mod EachTransactionBeginsOnce

@@ -14,3 +14,7 @@ pub mod Lawful
 pub mod Laws
 pub mod Bounds
 pub mod Deliveries
+pub mod Begins
+pub mod Steps
+pub mod Welcome
+pub mod Requests

@@ -1,10 +1,14 @@
 //! The session laws. Each is the contract of a function without a body: what holds of the model
 //! after any events, whatever their order, and whatever the sizes of the deliveries.
 ghost use Rattle.tds_session.specs.Answer.{Answers, answer_of, script_answers};
-ghost use Rattle.tds_world.specs.Bounds.{FewUnderway, IsEvent, IsSetup, OneAttention, OwnTransaction};
+ghost use Rattle.tds_world.specs.Begins.{HandsOutNext};
+ghost use Rattle.tds_world.specs.Bounds.{BeginsOnce, FewUnderway, IsEvent, IsSetup, OneAttention, OwnTransaction};
 ghost use Rattle.tds_world.specs.Deliveries.{DeliversExactly};
 ghost use Rattle.tds_world.specs.Lawful.{Lawful};
-ghost use Rattle.tds_world.specs.Laws.{Always, AlwaysOf, FreshStart, IdleIsQuiet, NothingAfterCancel};
+ghost use Rattle.tds_world.specs.Laws.{Always, AlwaysOf, FreshStart, IdleIsQuiet, NothingAfterCancel, OwnAnswers};
+ghost use Rattle.tds_world.specs.Requests.{RequestsAreSpelled};
+ghost use Rattle.tds_world.specs.Steps.{MessagesEndOnce, StepsAreOfAnswers};
+ghost use Rattle.tds_world.specs.Welcome.{AllWelcome};
 ghost use Rattle.tds_world.specs.declared.event.Setup.{Setup};
 
 use tds_session::Engine;
@@ -57,4 +61,45 @@ pub fn own_transaction()
 /// transaction; for a lease that came from a ticket, without settings and in the kept transaction.
 pub fn fresh_start()
     ensures { (setup : Setup) (answers : Answers) → Lawful answers → Always setup answers FreshStart }
+{}
+
+/// No two steps of a connection tell that the same transaction began, where the answers hand out
+/// what the session's next descriptor says.
+pub fn begins_once()
+    ensures { (setup : Setup) (answers : Answers) → HandsOutNext answers → Always setup answers BeginsOnce }
+{}
+
+/// A server with the batch language hands out what the session's next descriptor says.
+pub fn script_hands_out_next()
+    ensures { HandsOutNext script_answers }
+{}
+
+/// Each caller has a beginning of its own request's answer, in the session that the request ran in,
+/// and all of it where the request is finished; where it did not run, nothing.
+pub fn own_answers()
+    ensures { (setup : Setup) (answers : Answers) → Lawful answers → Always setup answers (OwnAnswers answers) }
+{}
+
+/// Each entry that waits is welcome where it arrives: no packet of a request comes to a server while
+/// an answer is due, no answer comes to a client that waits for none, each change applies to the
+/// descriptor heard, and the end of a reset meets the mark.
+pub fn all_welcome()
+    ensures { (setup : Setup) (answers : Answers) → Lawful answers → Always setup answers (AllWelcome answers) }
+{}
+
+/// Each message towards a client ends once, with the last step of an answer or an acknowledgement,
+/// and each of its packets stands at its place.
+pub fn messages_end_once()
+    ensures { (setup : Setup) (answers : Answers) → Lawful answers → Always setup answers MessagesEndOnce }
+{}
+
+/// Each step that was sent or is due is a step of an answer.
+pub fn steps_are_of_answers()
+    ensures { (setup : Setup) (answers : Answers) → Lawful answers → Always setup answers (StepsAreOfAnswers answers) }
+{}
+
+/// What is sent to a server is messages, each a request's spelling cut into packets of one type, or a
+/// beginning of one that is dropped; and attentions between them.
+pub fn requests_are_spelled()
+    ensures { (setup : Setup) (answers : Answers) → Lawful answers → Always setup answers RequestsAreSpelled }
 {}

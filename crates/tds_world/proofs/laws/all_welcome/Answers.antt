@@ -1,0 +1,5 @@
+use Rattle.tds_world.proofs.Welcome as welcome
+use Rattle.tds_world.proofs.laws.all_welcome.Goals as goal
+
+pub returns : goal.returns
+returns c = welcome.all_welcome

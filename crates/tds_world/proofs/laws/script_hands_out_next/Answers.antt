@@ -1,0 +1,5 @@
+use Rattle.tds_world.proofs.HandsOut as hands
+use Rattle.tds_world.proofs.laws.script_hands_out_next.Goals as goal
+
+pub returns : goal.returns
+returns c = hands.script_hands_out_next
