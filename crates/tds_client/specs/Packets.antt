@@ -5,14 +5,14 @@ use Rattle.tds_packet.specs.declared.kind.Kind.TheVariants as kinds
 use Rattle.tds_packet.specs.declared.header.Header.{Header}
 use Rattle.tds_packet.specs.declared.status.Reset.{Reset}
 use Rattle.tds_packet.specs.declared.status.Reset.TheVariants.{Full, KeepTransaction}
-use Rattle.tds_packet.specs.Layout.{header_bytes}
+use Rattle.tds_packet.specs.Layout.{header_bytes, status_of}
 use Rattle.tds_request.specs.declared.request.RequestKind.{RequestKind}
 use Rattle.tds_request.specs.declared.request.RequestKind.TheVariants as requests
 
 -- A header: SPID 0, window 0, and PacketID one more than the packets before it in its message, modulo 256.
 abbrev pub header_of : Kind → ℕ → ℕ → List ℕ → Header
 header_of kind status before content =
-    record { kind = kind; status = record { 0 = status }; length = 8 + length content; spid = 0; packet_id = (before + 1) % 256; window = 0 }
+    record { kind = kind; status = status_of status; length = 8 + length content; spid = 0; packet_id = (before + 1) % 256; window = 0 }
 
 -- A packet with this status, behind this many others of its message.
 abbrev pub packet_bytes : Kind → ℕ → ℕ → List ℕ → List ℕ

@@ -14,6 +14,10 @@ use Rattle.tds_packet.specs.declared.header.Header.{Header}
 abbrev pub bits_of : Status → ℕ
 bits_of s = s.0
 
+-- the status of these bits
+abbrev pub status_of : ℕ → Status
+status_of bits = record { 0 = bits }
+
 -- the byte of each type (MS-TDS 2.2.3.1.1)
 abbrev pub kind_byte : Kind → ℕ
 kind_byte Batch = 1

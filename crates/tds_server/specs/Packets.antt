@@ -3,8 +3,7 @@ use Rattle.std.specs.Prelude.{ℕ, ◌+◌, ◌%◌, ◌≤◌, List, [], ◌∷
 use Rattle.std.specs.List.{All, flat_map}
 use Rattle.tds_packet.specs.declared.header.Header.{Header}
 use Rattle.tds_packet.specs.declared.kind.Kind.TheVariants as kind
-use Rattle.tds_packet.specs.declared.status.Status.{Status}
-use Rattle.tds_packet.specs.Layout.{header_bytes}
+use Rattle.tds_packet.specs.Layout.{header_bytes, status_of}
 use Rattle.tds_token.specs.declared.token.Token.{Token}
 use Rattle.tds_token.specs.declared.token.Token.TheVariants as token
 use Rattle.tds_token.specs.Layout.{Fits, spelling}
@@ -24,12 +23,12 @@ abbrev pub final : Bool → Token
 final failed = token.Done (if failed then 2 else 0) 0 0
 
 -- end of message, or nothing
-abbrev pub status_of : Bool → Status
-status_of last = record { 0 = if last then 1 else 0 }
+abbrev pub end_bit : Bool → ℕ
+end_bit last = if last then 1 else 0
 
 -- SPID and window are 0
 abbrev pub answer_header : ℕ → Bool → ℕ → Header
-answer_header id last count = record { kind = kind.Answer; status = status_of last; length = 8 + count; spid = 0; packet_id = id; window = 0 }
+answer_header id last count = record { kind = kind.Answer; status = status_of (end_bit last); length = 8 + count; spid = 0; packet_id = id; window = 0 }
 
 -- the packet of these tokens, with this PacketID; end of message is set on the last one alone
 abbrev pub answer_packet : ℕ → Bool → List Token → List ℕ

@@ -1,12 +1,12 @@
 //! What is left of an answer, and how its next step is done.
-ghost use Rattle.std.specs.Prelude.{◌≡◌, ℕ, ◌++◌, ◌∷◌, ◌+◌, [], ◌<◌, ◌^◌, drop, IfOk, OnOk, IfNone, IfSome, None, Some, if◌then◌else◌};
+ghost use Rattle.std.specs.Prelude.{◌≡◌, ℕ, ◌++◌, ◌∷◌, ◌+◌, [], drop, IfOk, OnOk, IfNone, IfSome, None, Some, if◌then◌else◌};
 ghost use Rattle.std.specs.List.{list_any};
 ghost use Rattle.tds_server.specs.declared.answer.Answer.{Answer};
 ghost use Rattle.tds_server.specs.declared.answer.Due.TheVariants as due;
 ghost use Rattle.tds_server.specs.Due.{IsNext, compared, refused, statements_in, steps_of, reset_in, first_of};
 ghost use Rattle.tds_server.specs.Packets.{FitsOnePacket, LeavesRoom, final};
 ghost use Rattle.tds_session.specs.Answer.{answer_of, answer_to, batch_steps};
-ghost use Rattle.tds_session.specs.Effects.{Effect, error, is_error};
+ghost use Rattle.tds_session.specs.Effects.{Effect, is_error};
 ghost use Rattle.tds_session.specs.Session.{SessionState, after_reset};
 ghost use Rattle.tds_token.specs.declared.env_change.EnvChange.TheVariants as change;
 ghost use Rattle.tds_token.specs.declared.token.Token.TheVariants as token;
@@ -15,8 +15,10 @@ use crate::NoMemory;
 use std::alloc::Global;
 use tds_packet::Reset;
 use tds_request::Request;
-use tds_session::{Engine, Session, begin_transaction, commit_transaction, roll_back_transaction};
-use tds_token::{EnvChange, Message, Text, Token};
+use tds_session::{
+    Engine, Session, begin_transaction, commit_transaction, error_token, roll_back_transaction,
+};
+use tds_token::{EnvChange, Token};
 
 /// What a request asks for, its statements parsed.
 #[derive(Drop)]
@@ -181,7 +183,7 @@ fn begin_task<E: Engine>(
     }
     match &answer.task {
         Task::Batch(Some(_)) => run_statement(alloc, engine, answer, 0, session),
-        Task::Batch(None) => end_batch(alloc, error(alloc, 50001, b"syntax")?),
+        Task::Batch(None) => end_batch(alloc, error_token(alloc, 50001, b"syntax")?),
         Task::Begin => end_request(alloc, begin_transaction(alloc, session)?),
         Task::Commit => end_request(alloc, commit_transaction(alloc, session)?),
         Task::Rollback => end_request(alloc, roll_back_transaction(alloc, session)?),
@@ -195,7 +197,7 @@ fn refuse<S: Drop>(alloc: Global, task: &Task<S>) -> Result<Done, NoMemory>
         → IsNext step (refused session task.now) a None done.tokens.items session done.next) }
     ensures fits { IfOk result (λ done. FitsOnePacket done.tokens.items) }
 {
-    let error = error(alloc, 50010, b"descriptor")?;
+    let error = error_token(alloc, 50010, b"descriptor")?;
     match task {
         Task::Batch(_) => end_batch(alloc, error),
         Task::Begin => end_request(alloc, error),
@@ -217,7 +219,6 @@ fn end_batch(alloc: Global, error: Token) -> Result<Done, NoMemory>
 }
 
 /// The one step of a transaction manager request: what it gave, and the final DONE.
-
 fn end_request(alloc: Global, given: Token) -> Result<Done, NoMemory>
     requires { LeavesRoom given }
     ensures tokens { IfOk result (λ done. done.tokens.items ≡ given ∷ final (list_any is_error (given ∷ [])) ∷ []) }
@@ -230,7 +231,6 @@ fn end_request(alloc: Global, given: Token) -> Result<Done, NoMemory>
 }
 
 /// The final DONE of a batch, alone.
-
 fn final_done(alloc: Global, failed: bool) -> Result<Done, NoMemory>
     ensures tokens { IfOk result (λ done. done.tokens.items ≡ final failed ∷ []) }
     ensures next { IfOk result (λ done. done.next ≡ None) }
@@ -290,21 +290,4 @@ fn final_token(failed: bool) -> Token
         cur_cmd: 0,
         rows: 0,
     }
-}
-
-/// An ERROR of this number, with an ASCII text (MS-TDS 2.2.7.10).
-fn error(alloc: Global, number: u32, text: &[u8]) -> Result<Token, NoMemory>
-    requires { number < 2 ^ 31 }
-    ensures { IfOk result (λ token. token ≡ error number text.now) }
-{
-    let units = text.iter().map(|byte| u16::from(*byte)).collect(alloc)?;
-    Ok(Token::Error(Message {
-        number: number as i32,
-        state: 1,
-        class: 16,
-        text: Text::new(units),
-        server: Text::new(Vec::new(alloc)),
-        procedure: Text::new(Vec::new(alloc)),
-        line: 0,
-    }))
 }

@@ -1,7 +1,8 @@
 //! The packets that a server sends.
 ghost use Rattle.std.specs.Prelude.{◌≡◌, ◌≤◌, ◌++◌, length, OnOk, OnErr, IfOk};
 ghost use Rattle.std.specs.List.{All, flat_map};
-ghost use Rattle.tds_server.specs.Packets.{answer_packet, acknowledgement, status_of, FitsOnePacket};
+ghost use Rattle.tds_packet.specs.Layout.{status_of};
+ghost use Rattle.tds_server.specs.Packets.{answer_packet, acknowledgement, end_bit, FitsOnePacket};
 ghost use Rattle.tds_token.specs.Layout.{Fits, spelling};
 
 use crate::NoMemory;
@@ -12,7 +13,7 @@ use tds_token::{Token, put_token};
 /// Of the packet that ends a message, or of another one.
 #[tactic(auto, unfolding(tds_packet::specs::Layout::is_status))]
 fn status(last: bool) -> Status
-    ensures { result ≡ status_of last }
+    ensures { result ≡ status_of (end_bit last) }
 {
     let byte = if last { 0x01 } else { 0x00 };
     match Status::read(byte, Direction::ToClient) {

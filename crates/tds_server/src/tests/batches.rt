@@ -1,0 +1,78 @@
+//! A batch whose answer has more packets than there are PacketIDs.
+
+use super::*;
+
+const ALL_HEADERS: [u8; 22] = [
+    0x16, 0x00, 0x00, 0x00, 0x12, 0x00, 0x00, 0x00, 0x02, 0x00, 0x00, 0x00, 0x00, 0x00, 0x00, 0x00,
+    0x00, 0x00, 0x01, 0x00, 0x00, 0x00,
+];
+
+/// The text `get a;`.
+const GET: [u8; 12] = [
+    0x67, 0x00, 0x65, 0x00, 0x74, 0x00, 0x20, 0x00, 0x61, 0x00, 0x3B, 0x00,
+];
+
+/// The data of a batch of 333 times `get a`, with a semicolon between each two.
+fn gets(alloc: Global) -> Result<Vec<u8>, Fail> {
+    let mut message = Vec::new(alloc);
+    message.extend_from_slice(&ALL_HEADERS)?;
+    for _ in 0..333 {
+        message.extend_from_slice(&GET)?;
+    }
+    message.truncate(4016);
+    Ok(message)
+}
+
+/// Hands the next packet of a batch to a server, full unless it is the last, and gives the data
+/// that are left.
+fn send<'a>(
+    alloc: Global,
+    server: &mut Server<ScriptEngine>,
+    message: &'a [u8],
+) -> Result<&'a [u8], Fail> {
+    let (part, rest) = message.split_at(message.len().min(504));
+    let length = (part.len() + 8) as u16;
+    let mut packet = Vec::new(alloc);
+    packet.extend_from_slice(&[0x01, u8::from(rest.is_empty())])?;
+    packet.extend_from_slice(&length.to_be_bytes())?;
+    packet.extend_from_slice(&[0x00, 0x00, 0x01, 0x00])?;
+    packet.extend_from_slice(part)?;
+    let _ = taken(alloc, server, packet.as_slice())?;
+    Ok(rest)
+}
+
+/// The status and PacketID of each packet of an answer, up to its end.
+fn heads(alloc: Global, server: &mut Server<ScriptEngine>) -> Result<Vec<(u8, u8)>, Fail> {
+    let mut heads = Vec::new(alloc);
+    for _ in 0..400 {
+        let (worked, packet) = work(alloc, server)?;
+        if worked == Worked::Idle {
+            return Ok(heads);
+        }
+        let [_, status, _, _, _, _, id, ..] = packet.as_slice() else {
+            return Err("a short packet".into());
+        };
+        heads.push((*status, *id))?;
+    }
+    Ok(heads)
+}
+
+/// 334 packets: PacketID 255 is followed by 0 and 1, and the last one alone ends the message.
+#[test]
+fn packet_ids_begin_again(rt: HostRuntime) -> Result<(), Fail> {
+    let mut server = server(rt.alloc())?;
+    let message = gets(rt.alloc())?;
+    let mut rest = message.as_slice();
+    for _ in 0..8 {
+        rest = send(rt.alloc(), &mut server, rest)?;
+    }
+    let heads = heads(rt.alloc(), &mut server)?;
+    assert_eq!(rt; heads.len(), 334);
+    assert_eq!(rt; heads.first().copied(), Some((0, 1)));
+    assert_eq!(rt; heads.get(254).copied(), Some((0, 255)));
+    assert_eq!(rt; heads.get(255).copied(), Some((0, 0)));
+    assert_eq!(rt; heads.get(256).copied(), Some((0, 1)));
+    assert_eq!(rt; heads.iter().filter(|head| head.0 != 0).count(), 1);
+    assert_eq!(rt; heads.last().copied(), Some((1, 78)));
+    Ok(())
+}
