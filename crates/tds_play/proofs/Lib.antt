@@ -11,3 +11,6 @@ mod ScheduleExamples
 pub mod Queues
 pub mod Listed
 pub mod Running
+pub mod Fronts
+pub mod Serving
+pub mod Listening

@@ -12,4 +12,5 @@ pub mod Pipe
 pub mod Memory
 pub mod Ties
 pub mod Refused
+pub mod Feeding
 pub mod Runs
