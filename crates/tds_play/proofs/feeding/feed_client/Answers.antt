@@ -2,7 +2,7 @@ use Rattle.std.proofs.Common.{◌≡◌, ◌∙◌, ◌++◌, ℕ, List, length,
 use Rattle.tds_client.specs.declared.state.Taken.TheVariants.{NoMemory}
 use Rattle.tds_packet.specs.Reading.{with_taken, IsWhole}
 use Rattle.tds_play.proofs.Fronts.{no_fault, offered, slice_rest}
-use Rattle.tds_play.proofs.Listening.{all_listened, none_refused, goes_on, does_take}
+use Rattle.tds_play.proofs.FedClient.{all_listened, none_refused, goes_on, does_take}
 use Rattle.tds_play.proofs.feeding.feed_client.Goals as goal
 
 pub packets-preserved : goal.packets-preserved

@@ -1,7 +1,7 @@
 use Rattle.std.proofs.Common.{◌≡◌, ◌+◌, ◌++◌, ℕ, List, length}
 use Rattle.tds_packet.specs.declared.kind.Direction.TheVariants.{ToClient}
 use Rattle.tds_packet.specs.Reading.{with_taken}
-use Rattle.tds_play.proofs.Listening.{Listens}
+use Rattle.tds_play.proofs.FedClient.{Listens}
 use Rattle.tds_play.proofs.feeding.feed_client.Given as goal
 
 abbrev pub invariant-packets : goal.invariant-packets

@@ -3,7 +3,7 @@ use Rattle.tds_packet.specs.Reading.{with_taken, IsWhole}
 use Rattle.tds_server.specs.declared.outcome.ServerTook.TheVariants.{NoMemory}
 use Rattle.tds_session.specs.Answer.{answer_of}
 use Rattle.tds_play.proofs.Fronts.{no_fault, offered, slice_rest}
-use Rattle.tds_play.proofs.Serving.{all_served, none_refused, goes_on, same_took}
+use Rattle.tds_play.proofs.FedServer.{all_served, none_refused, goes_on, same_took}
 use Rattle.tds_play.proofs.feeding.feed_server.Goals as goal
 
 pub returns-in-Err-clause-served : goal.returns-in-Err-clause-served

@@ -2,7 +2,7 @@ use Rattle.std.proofs.Common.{◌≡◌, ◌+◌, ◌++◌, ℕ, List, length}
 use Rattle.tds_packet.specs.declared.kind.Direction.TheVariants.{ToServer}
 use Rattle.tds_packet.specs.Reading.{with_taken}
 use Rattle.tds_session.specs.Answer.{answer_of}
-use Rattle.tds_play.proofs.Serving.{Serves}
+use Rattle.tds_play.proofs.FedServer.{Serves}
 use Rattle.tds_play.proofs.feeding.feed_server.Given as goal
 
 abbrev pub invariant-packets : goal.invariant-packets
