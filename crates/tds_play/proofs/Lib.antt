@@ -11,3 +11,14 @@ mod ScheduleExamples
 pub mod Queues
 pub mod Listed
 pub mod Running
+pub mod Lent
+pub mod Picks
+pub mod Phases
+pub mod Lanes
+pub mod Asking
+pub mod Sending
+pub mod Working
+pub mod Arriving
+pub mod Contents
+pub mod Heard
+pub mod Hearing

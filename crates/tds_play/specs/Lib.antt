@@ -11,5 +11,11 @@ pub mod Schedule
 pub mod Pipe
 pub mod Memory
 pub mod Ties
+pub mod Holdings
+pub mod Lending
 pub mod Refused
 pub mod Runs
+pub mod Stands
+pub mod Messages
+pub mod Alike
+pub mod Hearing

@@ -4,6 +4,7 @@
 
 mod carrier;
 mod feeding;
+pub mod laws;
 mod link;
 mod memory;
 mod player;

@@ -2,8 +2,10 @@
 ghost use Rattle.std.specs.Prelude.{◌≡◌, ◌≤◌, ◌+◌, ℕ, length, true, false, Some, IfOk, OnOk};
 ghost use Rattle.tds_packet.specs.declared.kind.Direction.{Direction};
 ghost use Rattle.tds_packet.specs.declared.kind.Direction.TheVariants.{ToServer, ToClient};
+ghost use Rattle.tds_play.specs.Lending.{is_in_pool, standing_of};
 ghost use Rattle.tds_play.specs.Pipe.{AreSame, IsUncut, new_pipe};
 ghost use Rattle.tds_play.specs.Ties.{IsTied, counted};
+ghost use Rattle.tds_world.specs.Pool.{is_free};
 
 pub(crate) mod acts;
 
@@ -161,6 +163,20 @@ impl<E: Engine + Drop> Link<E> {
             }
             Err(CarrierError::Memory) => Err(AllocError),
         }
+    }
+
+    /// Whether it can be lent.
+    pub(crate) fn is_free(&self) -> bool
+        ensures { result ≡ is_free (standing_of self.now) }
+    {
+        !self.is_cut && matches!(self.place, Place::Free)
+    }
+
+    /// Whether it is in the pool: it isn't cut.
+    pub(crate) fn is_in_pool(&self) -> bool
+        ensures { result ≡ is_in_pool (standing_of self.now) }
+    {
+        !self.is_cut
     }
 
     /// Whether nobody waits for an answer.
