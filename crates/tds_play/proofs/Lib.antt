@@ -22,3 +22,5 @@ pub mod Arriving
 pub mod Contents
 pub mod Heard
 pub mod Hearing
+pub mod Kept
+pub mod Pieces
