@@ -1,10 +1,8 @@
 -- An entry that arrives at the server, at the server and in the model.
-use Rattle.std.proofs.Common.{◌≡◌, ◌≢◌, ◌≤◌, ◌∙◌, ℕ, ◌+◌, ◌%◌, Bool, true, false, cond, refl, sym, ap, subst, Option, Some, None, List, [], ◌∷◌, ◌++◌, length, ltb, arith}
+use Rattle.std.proofs.Common.{◌≡◌, ◌≢◌, ◌≤◌, ◌∙◌, ℕ, ◌+◌, ◌%◌, Bool, true, false, refl, sym, ap, subst, Option, Some, None, List, [], ◌∷◌, ◌++◌, length, ltb, arith}
 use Rattle.std.proofs.lemmas.Bool.Decides.{nat_tests}
-use Rattle.std.specs.Prelude.{Result, Ok, Err}
-use Rattle.tds_packet.specs.declared.header.Header.{Header}
+use Rattle.std.specs.Prelude.{Ok}
 use Rattle.tds_packet.specs.declared.kind.Kind.{Kind}
-use Rattle.tds_packet.specs.declared.kind.Kind.TheVariants as kinds
 use Rattle.tds_packet.specs.declared.status.Reset.{Reset}
 use Rattle.tds_packet.specs.declared.status.Reset.TheVariants.{Full, KeepTransaction}
 use Rattle.tds_packet.specs.Layout.{bits_of, has_bit}
@@ -13,7 +11,6 @@ use Rattle.tds_request.specs.declared.request.RequestKind.TheVariants as message
 use Rattle.tds_request.specs.Layout.{kind_of_request}
 use Rattle.tds_request.specs.Reading.{read_request}
 use Rattle.tds_request.proofs.Messages.{spelled_is_read}
-use Rattle.tds_server.specs.declared.fault.ServerFault.{ServerFault}
 use Rattle.tds_server.specs.declared.outcome.ServerTook.TheVariants as took
 use Rattle.tds_server.specs.Packets.{acknowledgement}
 use Rattle.tds_server.specs.State as server
@@ -29,7 +26,7 @@ use Rattle.tds_world.specs.Entries.{Packet, Asking, Up, Part, End, Drop, Attenti
 use Rattle.tds_world.specs.Lawful.{EndsOnce, Lawful}
 use Rattle.tds_world.specs.Record.{Record}
 use Rattle.tds_play.specs.Alike.{ArriveAlike, IsUndisturbed}
-use Rattle.tds_play.specs.Messages.{IsSpelled, message_of, bits_behind, IsPiece, IsDrop, IsNext}
+use Rattle.tds_play.specs.Messages.{IsSpelled, message_of, bits_behind, IsNext}
 use Rattle.tds_play.specs.Stands.{MatchesServer, MatchesPhase, IsOf, Sends, kind_asked}
 use Rattle.tds_play.proofs.Lanes.{appended, unsent}
 use Rattle.tds_play.proofs.Picks.{pick_true, pick_false}
@@ -91,7 +88,7 @@ went_on k m e = pick_true _ _ (ap (λ (x : RequestKind). is_same_kind x k) e ∙
 
 same_message : (m : Message) (k : RequestKind) (mark : Option Reset) (content : List ℕ) → m.kind ≡ k → m.reset ≡ mark → m.content ≡ content → m ≡ record { kind = k; reset = mark; content = content }
 same_message m k mark content ek er ec =
-    ap (λ (x : RequestKind). record {kind = x; reset = m.reset; content = m.content}) ek
+    ap (λ (x : RequestKind). record { kind = x; reset = m.reset; content = m.content }) ek
     ∙ (ap (λ (x : Option Reset). record { kind = k; reset = x; content = m.content }) er
     ∙ ap (λ (x : List ℕ). record { kind = k; reset = mark; content = x }) ec)
 
@@ -123,7 +120,7 @@ part_goes_on answers session q before body most =
     let short : ltb 4022 (length (before ++ body)) ≡ false = grind (arith, nat_tests, most) in
     pick_false _ _ bits.kept (pick_false _ _ short (pick_false _ _ bits.ends refl))
 
-end_answers : (answers : Answers) (session : SessionState) (q : Record) (before body : List ℕ) → length (before ++ body) ≤ 4022 → before ++ body ≡ message_of q → IsSpelled q → continued answers session (1 + bits_behind before q.asking.mark) body (so_far q before) ≡ Ok (goes_on (server.Answering (answers session q.asking.descriptor q.asking.mark q.asking.request) 1) took.Request)
+end_answers : (answers : Answers) (session : SessionState) (q : Record) (before body : List ℕ) → length (before ++ body) ≤ 4022 → before ++ body ≡ message_of q.asking → IsSpelled q.asking → continued answers session (1 + bits_behind before q.asking.mark) body (so_far q before) ≡ Ok (goes_on (server.Answering (answers session q.asking.descriptor q.asking.mark q.asking.request) 1) took.Request)
 unfolding continued joined
 end_answers answers session q before body most whole spelled =
     let bits : AreBits true (1 + bits_behind before q.asking.mark) = piece_bits true before q.asking.mark in
@@ -131,7 +128,7 @@ end_answers answers session q before body most whole spelled =
     pick_false _ _ bits.kept (pick_false _ _ short (pick_true _ _ bits.ends
     (ap (λ r. answered answers session q.asking.mark r)
     (ap (λ (x : List ℕ). read_request (kind_of_request q.asking.request) x) whole
-    ∙ spelled_is_read (kind_of_request q.asking.request) q.asking.descriptor q.asking.request (message_of q) spelled))))
+    ∙ spelled_is_read (kind_of_request q.asking.request) q.asking.descriptor q.asking.request (message_of q.asking) spelled))))
 
 drop_forgets : (answers : Answers) (session : SessionState) (content : List ℕ) (m : Message) → continued answers session 3 content m ≡ Ok (goes_on server.Waiting took.Dropped)
 unfolding continued ignored
@@ -144,7 +141,7 @@ unbroken (server.Answering due id) c p = refl
 unbroken (server.Broken fault) c p = absurd p
 
 -- The move of a packet of the newest request.
-move_is : (answers : Answers) (session : SessionState) (phase : server.Phase) (c : Connection) (q : Record) (p : Packet) (status : ℕ) (m : Message) → MatchesPhase phase c → p.header.kind ≡ kind_asked q → bits_of p.header.status ≡ status → message_before phase (kind_of_request q.asking.request) status ≡ Ok m → moved answers session phase p.header p.body ≡ continued answers session status p.body m
+move_is : (answers : Answers) (session : SessionState) (phase : server.Phase) (c : Connection) (q : Record) (p : Packet) (status : ℕ) (m : Message) → MatchesPhase phase c → p.header.kind ≡ kind_asked q.asking → bits_of p.header.status ≡ status → message_before phase (kind_of_request q.asking.request) status ≡ Ok m → moved answers session phase p.header p.body ≡ continued answers session status p.body m
 move_is answers session phase c q p status m at kind bits before =
     let k : RequestKind = kind_of_request q.asking.request in
     ap (λ f. unless_broken f (moved_by p.header.kind answers session phase (bits_of p.header.status) p.body)) (unbroken phase c at)
@@ -190,7 +187,7 @@ some_due : (due : List answer.Step) → EndsOnce due → due ≢ []
 some_due [] ends = absurd ends
 some_due (s ∷ ss) ends = λ e. absurd (cc)
 
-pub arrive_alike : {E : Type 0} (answers : Answers) (s : ServerState E) (c : Connection) (q : Record) (e : Up) → Lawful answers → MatchesServer s c → c.current ≡ Some q → IsSpelled q → IsNext q c.parts e → IsUndisturbed e c.due → ArriveAlike answers c e (taken answers s (up_packet e).header (up_packet e).body)
+pub arrive_alike : {E : Type 0} (answers : Answers) (s : ServerState E) (c : Connection) (q : Record) (e : Up) → Lawful answers → MatchesServer s c → c.current ≡ Some q → IsSpelled q.asking → IsNext q.asking c.parts e → IsUndisturbed e c.due → ArriveAlike answers c e (taken answers s (up_packet e).header (up_packet e).body)
 arrive_alike answers s c q (Part r p) w m is spelled next none =
     by_move answers s c (Part r p) (goes_on (server.Receiving (so_far q (c.parts ++ p.body))) took.More)
     (move_is answers s.session s.phase c q p (0 + bits_behind c.parts q.asking.mark) (so_far q c.parts) m.phase next.0.kind next.0.status (message_is false s.phase c q m.phase none is)
@@ -202,11 +199,10 @@ arrive_alike answers s c q (End r a p) w m is spelled next none =
     by_move answers s c (End r a p) (goes_on (server.Answering (answers s.session q.asking.descriptor q.asking.mark q.asking.request) 1) took.Request)
     (move_is answers s.session s.phase c q p (1 + bits_behind c.parts q.asking.mark) (so_far q c.parts) m.phase next.0.kind next.0.status (message_is true s.phase c q m.phase none is)
     ∙ end_answers answers s.session q c.parts p.body next.0.most next.2 spelled)
-    m.session refl
-    (
+    m.session refl (
       refl,
       ap (λ (x : SessionState). answers x q.asking.descriptor q.asking.mark q.asking.request) m.session
-      ∙ ap (λ (x : Asking). answers c.session x.descriptor x.mark x.request) (sym next.1),
+          ∙ ap (λ (x : Asking). answers c.session x.descriptor x.mark x.request) (sym next.1),
       some_due (answers c.session a.descriptor a.mark a.request) (w.ends c.session a.descriptor a.mark a.request),
       refl,
     )

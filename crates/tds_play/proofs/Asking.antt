@@ -1,5 +1,5 @@
 -- A request that is asked, at the client and in the model.
-use Rattle.std.proofs.Common.{◌≡◌, ◌∙◌, ℕ, Bool, true, false, refl, sym, ap, subst, Option, Some, None, inl, inr, List}
+use Rattle.std.proofs.Common.{◌≡◌, ◌∙◌, ℕ, Bool, refl, sym, ap, subst, Option, Some, None, inl, inr}
 use Rattle.tds_client.specs.declared.fault.ClientRefusal.TheVariants as refused
 use Rattle.tds_client.specs.Packets.{packet_kind}
 use Rattle.tds_client.specs.Sending.{started, descriptor_under}
@@ -48,10 +48,10 @@ pub ask_alike : (s : ClientSession) (c : Connection) (number lease n : ℕ) (q :
 ask_alike s c number lease n q m =
     let at : unless_idle s.stage ≡ unless_idle (stage_in c.current) = ap unless_idle m.stage in
     elim (idle_in c.current) [
-  | inl h ↦
-      subst (λ o. AskAlike number (started s q) o (asks_by (is_idle c) number lease n q c)) (sym (at ∙ h.0))
-      (subst (λ (b : Bool). AskAlike number (started s q) None (asks_by b number lease n q c)) (sym h.1) (refl, asked_matches s c number lease n q m))
-  | inr h ↦
-      subst (λ o. AskAlike number (started s q) o (asks_by (is_idle c) number lease n q c)) (sym (at ∙ h.0))
-      (subst (λ (b : Bool). AskAlike number (started s q) (Some refused.NotIdle) (asks_by b number lease n q c)) (sym h.1) (refl, refl))
-]
+      | inl h ↦
+          subst (λ o. AskAlike number (started s q) o (asks_by (is_idle c) number lease n q c)) (sym (at ∙ h.0))
+          (subst (λ (b : Bool). AskAlike number (started s q) None (asks_by b number lease n q c)) (sym h.1) (refl, asked_matches s c number lease n q m))
+      | inr h ↦
+          subst (λ o. AskAlike number (started s q) o (asks_by (is_idle c) number lease n q c)) (sym (at ∙ h.0))
+          (subst (λ (b : Bool). AskAlike number (started s q) (Some refused.NotIdle) (asks_by b number lease n q c)) (sym h.1) (refl, refl))
+    ]

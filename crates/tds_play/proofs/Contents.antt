@@ -1,7 +1,7 @@
 -- A step's tokens are read again, whatever columns are known before them.
-use Rattle.std.proofs.Common.{◌≡◌, ◌∙◌, ◌≤◌, ◌+◌, ℕ, zero, suc, Bool, true, false, cond, eqb, refl, sym, ap, subst, Option, Some, None, inl, inr, List, [], ◌∷◌, ◌++◌, length, flat_map, arith, length-append}
+use Rattle.std.proofs.Common.{◌≡◌, ◌∙◌, ◌≤◌, ℕ, zero, suc, Bool, false, cond, eqb, refl, sym, ap, subst, Option, Some, None, inl, inr, List, [], ◌∷◌, length, flat_map, arith, length-append}
 use Rattle.std.proofs.lemmas.Bool.Decides.{nat_tests}
-use Rattle.std.specs.Prelude.{◌⊎◌, Result, Ok, Err}
+use Rattle.std.specs.Prelude.{◌⊎◌, Result}
 use Rattle.tds_token.specs.declared.fault.TokenFault.{TokenFault}
 use Rattle.tds_token.specs.declared.token.Token.{Token}
 use Rattle.tds_token.specs.declared.token.Token.TheVariants as tokens
@@ -51,11 +51,10 @@ pub are_good : (a b : Option ℕ) (ts : List Token) (bytes : List ℕ) (after : 
 unfolding IsTokens
 are_good a b [] bytes after l h = tt
 are_good a b (t ∷ ts) bytes after l h =
-    let its : IsToken a t h.0 h.2 = h.4 in
-    (
+    let its : IsToken a t h.0 h.2 = h.4 in (
       record { fits = its.fits; ranged = its.ranged; under = under_more a b t l its.under },
       are_good h.2 (columns_after b t) ts h.1 after
-      (subst (λ (x : Option ℕ). IsLess x (columns_after b t)) (sym its.after_is) (less_after a b t l)) h.5,
+          (subst (λ (x : Option ℕ). IsLess x (columns_after b t)) (sym its.after_is) (less_after a b t l)) h.5,
     )
 
 pub known_behind : (columns : Option ℕ) (ts : List Token) → AreColumns columns → AreGood columns ts → AreColumns (columns_behind columns ts)

@@ -1,16 +1,13 @@
 -- What a client hears of a step's tokens.
-use Rattle.std.proofs.Common.{◌≡◌, ◌∙◌, ℕ, Bool, true, false, cond, refl, sym, ap, subst, Option, Some, None, List, [], ◌∷◌, ◌++◌, append-nil, eqb}
+use Rattle.std.proofs.Common.{◌≡◌, ◌∙◌, ℕ, Bool, true, false, refl, sym, ap, Option, Some, None, List, [], ◌∷◌, ◌++◌, append-nil, eqb}
 use Rattle.std.specs.List.{AllByRecursion}
-use Rattle.std.specs.Prelude.{Result, Ok, Err, bit_and}
-use Rattle.tds_client.specs.declared.fault.ClientFault.{ClientFault}
+use Rattle.std.specs.Prelude.{Ok, bit_and}
 use Rattle.tds_client.specs.declared.heard.Heard.{Heard}
 use Rattle.tds_client.specs.declared.heard.FinalDone.{FinalDone}
-use Rattle.tds_client.specs.declared.heard.FinalDone.TheVariants.{Awaited, Answered, Acknowledged}
-use Rattle.tds_client.specs.Hearing.{◌>>=◌, at_end_of_data, hear, hear_all, hear_change, changed, hear_done, hear_contents, hear_packet, at_end_of_message, reset_effect}
+use Rattle.tds_client.specs.declared.heard.FinalDone.TheVariants.{Awaited, Answered}
+use Rattle.tds_client.specs.Hearing.{◌>>=◌, at_end_of_data, hear, hear_all, hear_change, changed, hear_done, hear_packet, at_end_of_message}
 use Rattle.tds_packet.specs.declared.status.Reset.{Reset}
 use Rattle.tds_packet.specs.declared.status.Reset.TheVariants.{Full, KeepTransaction}
-use Rattle.tds_packet.specs.Layout.{has_bit}
-use Rattle.tds_session.specs.Answer as answer
 use Rattle.tds_session.specs.Lawful.{IsStatementDone}
 use Rattle.tds_token.specs.declared.env_change.EnvChange.{EnvChange}
 use Rattle.tds_token.specs.declared.env_change.EnvChange.TheVariants.{Begin, Commit, Rollback, ResetDone}

@@ -1,16 +1,14 @@
 -- An entry that arrives at the client, at the client and in the model.
 use Rattle.std.proofs.Common.{◌≡◌, ◌∙◌, ℕ, Bool, true, false, cond, eqb, refl, sym, ap, subst, Option, Some, None, option_map, unwrap_or, inl, inr, List, [], ◌∷◌, ◌++◌, append-nil, flat_map, arith}
 use Rattle.std.proofs.lemmas.Bool.Decides.{nat_tests}
-use Rattle.std.specs.Prelude.{◌⊎◌, Result, Ok, Err}
-use Rattle.tds_client.specs.declared.fault.ClientFault.{ClientFault}
+use Rattle.std.specs.Prelude.{◌⊎◌, Ok}
 use Rattle.tds_client.specs.declared.heard.Heard.{Heard}
 use Rattle.tds_client.specs.declared.heard.FinalDone.{FinalDone}
-use Rattle.tds_client.specs.declared.heard.FinalDone.TheVariants.{Awaited, Answered, Acknowledged}
-use Rattle.tds_client.specs.declared.state.Taken.TheVariants as takes
+use Rattle.tds_client.specs.declared.heard.FinalDone.TheVariants.{Awaited, Acknowledged}
 use Rattle.tds_client.specs.Hearing.{◌>>=◌, hear, hear_all, hear_before, hear_done, hear_packet, at_end_of_message, with_done}
 use Rattle.tds_client.specs.Session as client
 use Rattle.tds_client.specs.Session.{ClientSession}
-use Rattle.tds_client.specs.Taking.{Took, goes_on, ended, read, skipped, taken_in, taken_reading, taken_cancelling, taken}
+use Rattle.tds_client.specs.Taking.{read, skipped, taken_in, taken_reading, taken_cancelling, taken}
 use Rattle.tds_packet.specs.declared.status.Reset.{Reset}
 use Rattle.tds_packet.specs.declared.status.Reset.TheVariants.{Full, KeepTransaction}
 use Rattle.tds_packet.specs.Layout.{bits_of, has_bit}
@@ -26,12 +24,12 @@ use Rattle.tds_world.specs.declared.report.RequestStatus.TheVariants as shown
 use Rattle.tds_world.specs.Arrivals.{client_acts, heard_after, mark_after, reset_effect}
 use Rattle.tds_world.specs.Connection.{Connection}
 use Rattle.tds_world.specs.Entries.{Down, Step, Acknowledgement, down_packet}
-use Rattle.tds_world.specs.Phase.{Phase, Settled, Asked, Sending, Reading, Cancelling, phase_by, phase_of, status_by, status_of}
+use Rattle.tds_world.specs.Phase.{Phase, Settled, Reading, Cancelling, phase_by, phase_of, status_by, status_of}
 use Rattle.tds_world.specs.Record.{Record, Out, NotBegun, Begun, Whole, gives, acknowledges, when, if_numbered}
-use Rattle.tds_play.specs.Hearing.{HasSpelling, IsHeardBy, IsAwaited, IsTold, HearAlike, status_after}
+use Rattle.tds_play.specs.Hearing.{HasSpelling, IsHeardBy, IsAwaited, HearAlike}
 use Rattle.tds_play.specs.Stands.{MatchesClient, BeginsBy, BeginsIn, stage_by, stage_in}
-use Rattle.tds_play.proofs.Contents.{AreGood, columns_behind, are_good, known_behind, contents_are}
-use Rattle.tds_play.proofs.Heard.{at, behind, done_by, descriptor_behind, tokens_heard, reset_heard, packet_heard}
+use Rattle.tds_play.proofs.Contents.{AreGood, are_good, known_behind, contents_are}
+use Rattle.tds_play.proofs.Heard.{at, behind, descriptor_behind, tokens_heard, reset_heard, packet_heard}
 
 -- ---- What the client hears
 
@@ -50,22 +48,22 @@ by_reset cancelling None c s is h = record {
   descriptor = h.0;
   applies = h.1;
   hears = λ contents same none.
-  packet_heard cancelling s.last (at c.heard c.mark) h.0 (mark_after s.reset c.mark) contents none
-  (ap (λ (ts : List Token). hear_all cancelling (at c.heard c.mark) ts) same
-  ∙ (tokens_heard cancelling s.last c.heard h.0 c.mark s.tokens
-  (ap (λ (o : Option Reset). applied (reset_effect o) c.heard (changes_of s.tokens)) (sym is) ∙ h.1) h.2
-  ∙ ap (λ (o : Option Reset). Ok (behind h.0 (mark_after o c.mark) s.last)) (sym is)));
+      packet_heard cancelling s.last (at c.heard c.mark) h.0 (mark_after s.reset c.mark) contents none
+      (ap (λ (ts : List Token). hear_all cancelling (at c.heard c.mark) ts) same
+      ∙ (tokens_heard cancelling s.last c.heard h.0 c.mark s.tokens
+      (ap (λ (o : Option Reset). applied (reset_effect o) c.heard (changes_of s.tokens)) (sym is) ∙ h.1) h.2
+      ∙ ap (λ (o : Option Reset). Ok (behind h.0 (mark_after o c.mark) s.last)) (sym is)));
 }
 by_reset cancelling (Some r) c s is h = record {
   descriptor = descriptor_behind r c.heard;
   applies = ap (λ (o : Option Reset). applied (reset_effect o) c.heard (changes_of s.tokens)) is ∙ (ap (λ (ts : List Token). applied (reset_effect (Some r)) c.heard (changes_of ts)) h.0 ∙ reset_applied r c.heard);
   hears = λ contents same none.
-  packet_heard cancelling s.last (at c.heard c.mark) (descriptor_behind r c.heard) (mark_after s.reset c.mark) contents none
-  (ap (λ (ts : List Token). hear_all cancelling (at c.heard c.mark) ts) (same ∙ h.0)
-  ∙ (ap (λ (m : Option Reset). hear_all cancelling (at c.heard m) (tokens.Env ResetDone ∷ [])) h.2
-  ∙ (reset_heard cancelling c.heard r
-  ∙ (ap (λ (b : Bool). Ok (behind (descriptor_behind r c.heard) None b)) (sym h.1)
-  ∙ ap (λ (o : Option Reset). Ok (behind (descriptor_behind r c.heard) (mark_after o c.mark) s.last)) (sym is)))));
+      packet_heard cancelling s.last (at c.heard c.mark) (descriptor_behind r c.heard) (mark_after s.reset c.mark) contents none
+      (ap (λ (ts : List Token). hear_all cancelling (at c.heard c.mark) ts) (same ∙ h.0)
+      ∙ (ap (λ (m : Option Reset). hear_all cancelling (at c.heard m) (tokens.Env ResetDone ∷ [])) h.2
+      ∙ (reset_heard cancelling c.heard r
+      ∙ (ap (λ (b : Bool). Ok (behind (descriptor_behind r c.heard) None b)) (sym h.1)
+      ∙ ap (λ (o : Option Reset). Ok (behind (descriptor_behind r c.heard) (mark_after o c.mark) s.last)) (sym is)))));
 }
 
 -- The client's own words are these.
@@ -91,13 +89,13 @@ step_read cancelling s c step m spelled h =
     let heard : IsHeard cancelling c step = by_reset cancelling step.reset c step refl h in
     let good : AreGood s.columns step.tokens = are_good None s.columns step.tokens (flat_map spelling step.tokens) spelled.0 (inl refl) spelled.1 in
     let all = contents_are s.columns step.tokens good in record {
-  heard = heard;
-  known = subst AreColumns (sym (ap (λ (x : Contents). x.columns) all)) (known_behind s.columns step.tokens m.columns good);
-  tokens = ap (λ (x : Contents). x.tokens) all;
-  hears =
-      ap (λ (x : Heard). hear_packet cancelling x step.last (contents_of s.columns (flat_map spelling step.tokens))) (same_heard s.heard c.heard c.mark m.descriptor m.mark m.done)
-      ∙ heard.hears (contents_of s.columns (flat_map spelling step.tokens)) (ap (λ (x : Contents). x.tokens) all) (ap (λ (x : Contents). x.fault) all);
-}
+      heard = heard;
+      known = subst AreColumns (sym (ap (λ (x : Contents). x.columns) all)) (known_behind s.columns step.tokens m.columns good);
+      tokens = ap (λ (x : Contents). x.tokens) all;
+      hears =
+          ap (λ (x : Heard). hear_packet cancelling x step.last (contents_of s.columns (flat_map spelling step.tokens))) (same_heard s.heard c.heard c.mark m.descriptor m.mark m.done)
+          ∙ heard.hears (contents_of s.columns (flat_map spelling step.tokens)) (ap (λ (x : Contents). x.tokens) all) (ap (λ (x : Contents). x.fault) all);
+    }
 
 -- ---- What becomes of the request
 
@@ -149,67 +147,83 @@ skipped_step false false false (Whole n) last e = absurd (cc)
 client_is : (after : ClientSession) (c : Connection) (q : Record) (r place : ℕ) (step : answer.Step) (d : ℕ) (p : Phase) → c.current ≡ Some q → r ≡ q.number → heard_after c.heard step ≡ Some d → phase_of (gives step q) ≡ p → BeginsBy p (gives step q) (mark_after step.reset c.mark) → after.stage ≡ stage_by p (gives step q) → after.heard ≡ at d (mark_after step.reset c.mark) → AreColumns after.columns → MatchesClient after (client_acts c (Step r place step))
 client_is after c q r place step d p is same applies phase begins stage heard known =
     let now : option_map (if_numbered r (gives step)) c.current ≡ Some (gives step q) = changed r (gives step) c.current q is same in record {
-  stage = stage ∙ sym (ap stage_in now ∙ ap (λ (x : Phase). stage_by x (gives step q)) phase);
-  descriptor = ap (λ (h : Heard). h.descriptor) heard ∙ sym (ap (λ (o : Option ℕ). unwrap_or o c.heard) applies);
-  mark = ap (λ (h : Heard). h.mark) heard;
-  done = ap (λ (h : Heard). h.done) heard;
-  columns = known;
-  begins =
-      subst (λ (o : Option Record). BeginsIn o (mark_after step.reset c.mark)) (sym now)
-      (subst (λ (x : Phase). BeginsBy x (gives step q) (mark_after step.reset c.mark)) (sym phase) begins);
-}
+      stage = stage ∙ sym (ap stage_in now ∙ ap (λ (x : Phase). stage_by x (gives step q)) phase);
+      descriptor = ap (λ (h : Heard). h.descriptor) heard ∙ sym (ap (λ (o : Option ℕ). unwrap_or o c.heard) applies);
+      mark = ap (λ (h : Heard). h.mark) heard;
+      done = ap (λ (h : Heard). h.done) heard;
+      columns = known;
+      begins =
+          subst (λ (o : Option Record). BeginsIn o (mark_after step.reset c.mark)) (sym now)
+          (subst (λ (x : Phase). BeginsBy x (gives step q) (mark_after step.reset c.mark)) (sym phase) begins);
+    }
 
 reads_alike : (last : Bool) (s : ClientSession) (c : Connection) (q : Record) (r place : ℕ) (step : answer.Step) → step.last ≡ last → MatchesClient s c → c.current ≡ Some q → r ≡ q.number → s.stage ≡ client.Reading → phase_of q ≡ Reading → (k : IsRead false s c step) → HearAlike c q (Step r place step) (Ok (read s last (behind k.heard.descriptor (mark_after step.reset c.mark) last) (contents_of s.columns (flat_map spelling step.tokens))))
 reads_alike true s c q r place step ends m is same stage phase k =
     let one : ReadStep q.finished q.acknowledged q.cancelled q.out step.last = read_step q.finished q.acknowledged q.cancelled q.out step.last phase in record {
-  took = read s true (behind k.heard.descriptor (mark_after step.reset c.mark) true) (contents_of s.columns (flat_map spelling step.tokens));
-  lawful = refl;
-  matches =
-      client_is _ c q r place step k.heard.descriptor Settled is same k.heard.applies
-      (one.phase ∙ ap (λ (b : Bool). cond b Settled Reading) ends) tt refl refl tt;
-  told = (gives step q, changed r (gives step) c.current q is same, record {
-    given =
-        ap (λ (b : Bool). cond b q.given (q.given ++ told step.tokens)) one.uncancelled
-        ∙ ap (λ (ts : List Token). q.given ++ told ts) (sym k.tokens);
-    status = one.status ∙ ap (λ (b : Bool). cond b shown.Finished (status_of false q)) ends;
-  });
-}
+      took = read s true (behind k.heard.descriptor (mark_after step.reset c.mark) true) (contents_of s.columns (flat_map spelling step.tokens));
+      lawful = refl;
+      matches =
+          client_is _ c q r place step k.heard.descriptor Settled is same k.heard.applies
+          (one.phase ∙ ap (λ (b : Bool). cond b Settled Reading) ends) tt refl refl tt;
+      told = (
+        gives step q,
+        changed r (gives step) c.current q is same,
+        record {
+          given =
+              ap (λ (b : Bool). cond b q.given (q.given ++ told step.tokens)) one.uncancelled
+              ∙ ap (λ (ts : List Token). q.given ++ told ts) (sym k.tokens);
+          status = one.status ∙ ap (λ (b : Bool). cond b shown.Finished (status_of false q)) ends;
+        },
+      );
+    }
 reads_alike false s c q r place step ends m is same stage phase k =
     let one : ReadStep q.finished q.acknowledged q.cancelled q.out step.last = read_step q.finished q.acknowledged q.cancelled q.out step.last phase in record {
-  took = read s false (behind k.heard.descriptor (mark_after step.reset c.mark) false) (contents_of s.columns (flat_map spelling step.tokens));
-  lawful = refl;
-  matches =
-      client_is _ c q r place step k.heard.descriptor Reading is same k.heard.applies
-      (one.phase ∙ ap (λ (b : Bool). cond b Settled Reading) ends) tt stage refl k.known;
-  told = (gives step q, changed r (gives step) c.current q is same, record {
-    given =
-        ap (λ (b : Bool). cond b q.given (q.given ++ told step.tokens)) one.uncancelled
-        ∙ ap (λ (ts : List Token). q.given ++ told ts) (sym k.tokens);
-    status = one.status ∙ ap (λ (b : Bool). cond b shown.Finished (status_of false q)) ends;
-  });
-}
+      took = read s false (behind k.heard.descriptor (mark_after step.reset c.mark) false) (contents_of s.columns (flat_map spelling step.tokens));
+      lawful = refl;
+      matches =
+          client_is _ c q r place step k.heard.descriptor Reading is same k.heard.applies
+          (one.phase ∙ ap (λ (b : Bool). cond b Settled Reading) ends) tt stage refl k.known;
+      told = (
+        gives step q,
+        changed r (gives step) c.current q is same,
+        record {
+          given =
+              ap (λ (b : Bool). cond b q.given (q.given ++ told step.tokens)) one.uncancelled
+              ∙ ap (λ (ts : List Token). q.given ++ told ts) (sym k.tokens);
+          status = one.status ∙ ap (λ (b : Bool). cond b shown.Finished (status_of false q)) ends;
+        },
+      );
+    }
 
 skips_alike : (last : Bool) (s : ClientSession) (c : Connection) (q : Record) (r place : ℕ) (step : answer.Step) → step.last ≡ last → MatchesClient s c → c.current ≡ Some q → r ≡ q.number → s.stage ≡ client.Cancelling → phase_of q ≡ Cancelling → (k : IsRead true s c step) → HearAlike c q (Step r place step) (Ok (skipped s last (behind k.heard.descriptor (mark_after step.reset c.mark) last) (contents_of s.columns (flat_map spelling step.tokens))))
 skips_alike true s c q r place step ends m is same stage phase k =
     let one : SkippedStep q.finished q.acknowledged q.cancelled q.out step.last = skipped_step q.finished q.acknowledged q.cancelled q.out step.last phase in record {
-  took = skipped s true (behind k.heard.descriptor (mark_after step.reset c.mark) true) (contents_of s.columns (flat_map spelling step.tokens));
-  lawful = refl;
-  matches = client_is _ c q r place step k.heard.descriptor Cancelling is same k.heard.applies one.phase tt refl refl tt;
-  told = (gives step q, changed r (gives step) c.current q is same, record {
-    given = ap (λ (b : Bool). cond b q.given (q.given ++ told step.tokens)) one.is_cancelled ∙ sym (append-nil q.given);
-    status = one.status;
-  });
-}
+      took = skipped s true (behind k.heard.descriptor (mark_after step.reset c.mark) true) (contents_of s.columns (flat_map spelling step.tokens));
+      lawful = refl;
+      matches = client_is _ c q r place step k.heard.descriptor Cancelling is same k.heard.applies one.phase tt refl refl tt;
+      told = (
+        gives step q,
+        changed r (gives step) c.current q is same,
+        record {
+          given = ap (λ (b : Bool). cond b q.given (q.given ++ told step.tokens)) one.is_cancelled ∙ sym (append-nil q.given);
+          status = one.status;
+        },
+      );
+    }
 skips_alike false s c q r place step ends m is same stage phase k =
     let one : SkippedStep q.finished q.acknowledged q.cancelled q.out step.last = skipped_step q.finished q.acknowledged q.cancelled q.out step.last phase in record {
-  took = skipped s false (behind k.heard.descriptor (mark_after step.reset c.mark) false) (contents_of s.columns (flat_map spelling step.tokens));
-  lawful = refl;
-  matches = client_is _ c q r place step k.heard.descriptor Cancelling is same k.heard.applies one.phase tt stage refl k.known;
-  told = (gives step q, changed r (gives step) c.current q is same, record {
-    given = ap (λ (b : Bool). cond b q.given (q.given ++ told step.tokens)) one.is_cancelled ∙ sym (append-nil q.given);
-    status = one.status;
-  });
-}
+      took = skipped s false (behind k.heard.descriptor (mark_after step.reset c.mark) false) (contents_of s.columns (flat_map spelling step.tokens));
+      lawful = refl;
+      matches = client_is _ c q r place step k.heard.descriptor Cancelling is same k.heard.applies one.phase tt stage refl k.known;
+      told = (
+        gives step q,
+        changed r (gives step) c.current q is same,
+        record {
+          given = ap (λ (b : Bool). cond b q.given (q.given ++ told step.tokens)) one.is_cancelled ∙ sym (append-nil q.given);
+          status = one.status;
+        },
+      );
+    }
 
 -- The packet of a step, in reading and in cancelling.
 reading_is : (s : ClientSession) (c : Connection) (step : answer.Step) (k : IsRead false s c step) → taken_reading s step.last (flat_map spelling step.tokens) ≡ Ok (read s step.last (behind k.heard.descriptor (mark_after step.reset c.mark) step.last) (contents_of s.columns (flat_map spelling step.tokens)))

@@ -22,6 +22,8 @@ pub mod Arriving
 pub mod Contents
 pub mod Heard
 pub mod Hearing
+pub mod Kept
+pub mod Pieces
 pub mod Fronts
 pub mod FedServer
 pub mod FedClient

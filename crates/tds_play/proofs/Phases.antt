@@ -5,7 +5,7 @@ use Rattle.tds_client.specs.declared.fault.ClientRefusal.TheVariants as refused
 use Rattle.tds_client.specs.Session.{unless_idle}
 use Rattle.tds_world.specs.Phase.{Phase, Settled, Asked, Sending, Reading, Cancelling, phase_by, phase_in, phase_of, is_settled}
 use Rattle.tds_world.specs.Record.{Record, Out, NotBegun, Begun, Whole}
-use Rattle.tds_play.specs.Stands.{stage_by, stage_in}
+use Rattle.tds_play.specs.Stands.{is_sending, stage_by, stage_in}
 
 -- A client is idle exactly where its newest request is settled.
 idle_by : (p : Phase) (q : Record) → ((unless_idle (stage_by p q) ≡ None) × (is_settled p ≡ true)) ⊎ ((unless_idle (stage_by p q) ≡ Some refused.NotIdle) × (is_settled p ≡ false))
@@ -20,13 +20,6 @@ idle_in None = inl (refl, refl)
 idle_in (Some q) = idle_by (phase_of q) q
 
 -- One that is sending has not ended, and so goes on with its next packet.
-abbrev pub is_sending : Phase → Bool
-is_sending Settled = false
-is_sending Asked = true
-is_sending Sending = true
-is_sending Reading = false
-is_sending Cancelling = false
-
 pub record GoesOn (fin ack can : Bool) : Type 0 where
   pub more : (n : ℕ) → phase_by fin ack can (Begun n) ≡ Sending
   pub last : (n : ℕ) → phase_by fin ack can (Whole n) ≡ Reading

@@ -1,29 +1,27 @@
 -- A request's next packet, at the client and in the model.
-use Rattle.std.proofs.Common.{◌≡◌, ◌∙◌, ◌≤◌, ◌<◌, ℕ, zero, suc, ◌+◌, ◌-◌, Bool, true, false, cond, refl, sym, ap, subst, Option, Some, None, List, [], length, take, drop, eqb, arith}
+use Rattle.std.proofs.Common.{◌≡◌, ◌∙◌, ◌≤◌, ℕ, zero, suc, ◌+◌, Bool, true, false, cond, refl, sym, ap, subst, Option, Some, None, [], take, drop, eqb, arith}
 use Rattle.std.proofs.lemmas.Bool.Decides.{nat_tests}
-use Rattle.std.specs.Prelude.{nat_le, Result, Ok, Err}
-use Rattle.tds_client.specs.declared.fault.ClientRefusal.{ClientRefusal}
+use Rattle.std.specs.Prelude.{Ok}
 use Rattle.tds_client.specs.declared.state.Sent.{Sent}
 use Rattle.tds_client.specs.declared.state.Sent.TheVariants as sents
 use Rattle.tds_client.specs.Packets as packets
 use Rattle.tds_client.specs.Sending.{Effect, sent, sent_in, sent_of, room}
 use Rattle.tds_client.specs.Session as client
 use Rattle.tds_client.specs.Session.{ClientSession, with_stage}
-use Rattle.tds_packet.specs.declared.kind.Kind.{Kind}
 use Rattle.tds_packet.specs.declared.status.Reset.{Reset}
 use Rattle.tds_packet.specs.declared.status.Reset.TheVariants.{Full, KeepTransaction}
 use Rattle.tds_world.specs.Caller.{mark_bit, first_bit, next_packet, sends_by, sends_last}
 use Rattle.tds_world.specs.Connection.{Connection, phase}
 use Rattle.tds_world.specs.Entries.{End, Part, up_bytes}
 use Rattle.tds_world.specs.Events.{sends_in, sent_as}
-use Rattle.tds_world.specs.Phase.{Phase, Settled, Asked, Sending, Reading, Cancelling, phase_in, phase_of, phase_by}
+use Rattle.tds_world.specs.Phase.{Phase, Settled, Asked, Sending, Reading, Cancelling, phase_in, phase_of}
 use Rattle.tds_world.specs.Pool.{Does}
 use Rattle.tds_world.specs.Record.{Record, Out, NotBegun, Begun, Whole, packets_of}
 use Rattle.tds_world.specs.declared.outcome.Outcome.TheVariants as outcome
 use Rattle.tds_play.specs.Alike.{SendAlike}
-use Rattle.tds_play.specs.Stands.{MatchesClient, BeginsBy, BeginsIn, stage_by, stage_in, kind_asked}
+use Rattle.tds_play.specs.Stands.{is_sending, MatchesClient, BeginsBy, BeginsIn, stage_by, stage_in, kind_asked}
 use Rattle.tds_play.proofs.Lanes.{appended}
-use Rattle.tds_play.proofs.Phases.{is_sending, GoesOn, goes_on, not_begun, begun}
+use Rattle.tds_play.proofs.Phases.{GoesOn, goes_on, not_begun, begun}
 
 -- ---- The mark's bit
 
@@ -58,9 +56,9 @@ going_asked q mark e b = record {
 going_begun : (q : Record) (mark : Option Reset) → phase_of q ≡ Sending → 1 ≤ packets_of q.out → IsGoing q mark
 going_begun q mark e b =
     let o : (n : ℕ) × (q.out ≡ Begun n) = begun q.finished q.acknowledged q.cancelled q.out e in record {
-  goes = goes_on q.finished q.acknowledged q.cancelled q.out (ap is_sending e);
-  first = first_begun q.out o.0 q.asking.mark mark o.1 b;
-}
+      goes = goes_on q.finished q.acknowledged q.cancelled q.out (ap is_sending e);
+      first = first_begun q.out o.0 q.asking.mark mark o.1 b;
+    }
 
 -- ---- One packet
 
@@ -69,14 +67,14 @@ abbrev last_effect : ClientSession → Record → Effect Sent
 last_effect s q = record {
   answer = sents.Last;
   session = with_stage s client.Reading;
-  bytes = packets.packet_bytes (kind_asked q) (1 + packets.mark_bit (packets_of q.out) s.heard.mark) (packets_of q.out) q.left;
+  bytes = packets.packet_bytes (kind_asked q.asking) (1 + packets.mark_bit (packets_of q.out) s.heard.mark) (packets_of q.out) q.left;
 }
 
 abbrev more_effect : ClientSession → Record → Effect Sent
 more_effect s q = record {
   answer = sents.More;
-  session = with_stage s (client.Sending (kind_asked q) (drop (room s) q.left) (packets_of q.out + 1));
-  bytes = packets.packet_bytes (kind_asked q) (0 + packets.mark_bit (packets_of q.out) s.heard.mark) (packets_of q.out) (take (room s) q.left);
+  session = with_stage s (client.Sending (kind_asked q.asking) (drop (room s) q.left) (packets_of q.out + 1));
+  bytes = packets.packet_bytes (kind_asked q.asking) (0 + packets.mark_bit (packets_of q.out) s.heard.mark) (packets_of q.out) (take (room s) q.left);
 }
 
 last_alike : (s : ClientSession) (c : Connection) (q : Record) → MatchesClient s c → IsGoing q c.mark → SendAlike c (Ok (last_effect s q)) (Does (outcome.Sent (sent_as true)) (sends_by true (room s) q c))
@@ -93,8 +91,8 @@ last_alike s c q m g =
         begins = subst (λ (p : Phase). BeginsBy p q' c.mark) (sym reads) tt;
       },
       appended up_bytes (last_effect s q).bytes (End q.number q.asking (next_packet q 1 q.left)) c.to_server
-      (ap (λ (b : ℕ). packets.packet_bytes (kind_asked q) (1 + b) (packets_of q.out) q.left)
-      (g.first ∙ ap (λ (mark : Option Reset). packets.mark_bit (packets_of q.out) mark) (sym m.mark))),
+          (ap (λ (b : ℕ). packets.packet_bytes (kind_asked q.asking) (1 + b) (packets_of q.out) q.left)
+          (g.first ∙ ap (λ (mark : Option Reset). packets.mark_bit (packets_of q.out) mark) (sym m.mark))),
     )
 
 more_alike : (s : ClientSession) (c : Connection) (q : Record) → MatchesClient s c → IsGoing q c.mark → SendAlike c (Ok (more_effect s q)) (Does (outcome.Sent (sent_as false)) (sends_by false (room s) q c))
@@ -111,15 +109,15 @@ more_alike s c q m g =
         begins = subst (λ (p : Phase). BeginsBy p q' c.mark) (sym sends) (let some : 1 ≤ packets_of q.out + 1 = omega arith in some);
       },
       appended up_bytes (more_effect s q).bytes (Part q.number (next_packet q 0 (take (room s) q.left))) c.to_server
-      (ap (λ (b : ℕ). packets.packet_bytes (kind_asked q) (0 + b) (packets_of q.out) (take (room s) q.left))
-      (g.first ∙ ap (λ (mark : Option Reset). packets.mark_bit (packets_of q.out) mark) (sym m.mark))),
+          (ap (λ (b : ℕ). packets.packet_bytes (kind_asked q.asking) (0 + b) (packets_of q.out) (take (room s) q.left))
+          (g.first ∙ ap (λ (mark : Option Reset). packets.mark_bit (packets_of q.out) mark) (sym m.mark))),
     )
 
 by_last : (b : Bool) (s : ClientSession) (c : Connection) (q : Record) → MatchesClient s c → IsGoing q c.mark → SendAlike c (Ok (cond b (last_effect s q) (more_effect s q))) (Does (outcome.Sent (sent_as b)) (sends_by b (room s) q c))
 by_last true s c q m g = last_alike s c q m g
 by_last false s c q m g = more_alike s c q m g
 
-going_alike : (s : ClientSession) (c : Connection) (q : Record) → MatchesClient s c → IsGoing q c.mark → SendAlike c (Ok (sent_of s (kind_asked q) q.left (packets_of q.out))) (Does (outcome.Sent (sent_as (sends_last (room s) q))) (sends_by (sends_last (room s) q) (room s) q c))
+going_alike : (s : ClientSession) (c : Connection) (q : Record) → MatchesClient s c → IsGoing q c.mark → SendAlike c (Ok (sent_of s (kind_asked q.asking) q.left (packets_of q.out))) (Does (outcome.Sent (sent_as (sends_last (room s) q))) (sends_by (sends_last (room s) q) (room s) q c))
 unfolding sent_of
 going_alike s c q m g = by_last (sends_last (room s) q) s c q m g
 

@@ -1,14 +1,12 @@
 -- A server's next step, at the server and in the model.
-use Rattle.std.proofs.Common.{◌≡◌, ◌≢◌, ◌∙◌, ℕ, ◌+◌, ◌%◌, Bool, true, false, refl, sym, ap, subst, Option, Some, None, option_map, List, [], ◌∷◌, arith}
-use Rattle.tds_server.specs.Packets.{answer_packet, next_id}
+use Rattle.std.proofs.Common.{◌≡◌, ◌≢◌, ◌∙◌, ℕ, ◌+◌, ◌%◌, Bool, true, false, refl, sym, ap, subst, List, [], ◌∷◌, arith}
+use Rattle.tds_server.specs.Packets.{answer_packet}
 use Rattle.tds_server.specs.State as server
 use Rattle.tds_server.specs.State.{ServerState, Message}
-use Rattle.tds_server.specs.Working.{worked, works_in, does, phase_behind, worked_by}
+use Rattle.tds_server.specs.Working.{worked, works_in, phase_behind, worked_by}
 use Rattle.tds_session.specs.Answer as answer
-use Rattle.tds_session.specs.Session.{SessionState}
-use Rattle.tds_world.specs.declared.outcome.WorkOutcome.{WorkOutcome}
 use Rattle.tds_world.specs.declared.outcome.WorkOutcome.TheVariants as outcome
-use Rattle.tds_world.specs.Arrivals.{works, works_on}
+use Rattle.tds_world.specs.Arrivals.{works_on}
 use Rattle.tds_world.specs.Connection.{Connection}
 use Rattle.tds_world.specs.Entries.{Step, down_bytes}
 use Rattle.tds_world.specs.Events.{work_outcome}

@@ -1,5 +1,5 @@
 -- What the state of each end stands for in the model: the connection that it is an end of.
-use Rattle.std.specs.Prelude.{ℕ, ◌+◌, ◌%◌, ◌≡◌, ◌≢◌, ◌≤◌, List, [], ◌++◌, flat_map, Option, Some, None}
+use Rattle.std.specs.Prelude.{ℕ, ◌+◌, ◌%◌, ◌≡◌, ◌≢◌, ◌≤◌, List, [], ◌++◌, flat_map, Bool, true, false, Option, Some, None}
 use Rattle.tds_client.specs.declared.heard.FinalDone.TheVariants.{Awaited}
 use Rattle.tds_client.specs.Session as client
 use Rattle.tds_client.specs.Session.{ClientSession}
@@ -11,6 +11,7 @@ use Rattle.tds_server.specs.State.{ServerState, Message}
 use Rattle.tds_token.specs.Texts.{AreColumns}
 use Rattle.tds_world.specs.Caller.{kind_of_message}
 use Rattle.tds_world.specs.Connection.{Connection}
+use Rattle.tds_world.specs.Entries.{Asking}
 use Rattle.tds_world.specs.Lane.{Lane}
 use Rattle.tds_world.specs.Phase.{Phase, Settled, Asked, Sending, Reading, Cancelling, phase_of}
 use Rattle.tds_world.specs.Record.{Record, packets_of}
@@ -18,20 +19,28 @@ use Rattle.tds_world.specs.Record.{Record, packets_of}
 -- ---- The client
 
 -- The type of a request's packets.
-abbrev pub kind_asked : Record → Kind
-kind_asked q = kind_of_message (kind_of_request q.asking.request)
+abbrev pub kind_asked : Asking → Kind
+kind_asked a = kind_of_message (kind_of_request a.request)
 
 -- Where a client is whose newest request is in this phase.
 abbrev pub stage_by : Phase → Record → client.Stage
 stage_by Settled q = client.Idle
-stage_by Asked q = client.Sending (kind_asked q) q.left (packets_of q.out)
-stage_by Sending q = client.Sending (kind_asked q) q.left (packets_of q.out)
+stage_by Asked q = client.Sending (kind_asked q.asking) q.left (packets_of q.out)
+stage_by Sending q = client.Sending (kind_asked q.asking) q.left (packets_of q.out)
 stage_by Reading q = client.Reading
 stage_by Cancelling q = client.Cancelling
 
 abbrev pub stage_in : Option Record → client.Stage
 stage_in None = client.Idle
 stage_in (Some q) = stage_by (phase_of q) q
+
+-- Whether a request has a packet to send.
+abbrev pub is_sending : Phase → Bool
+is_sending Settled = false
+is_sending Asked = true
+is_sending Sending = true
+is_sending Reading = false
+is_sending Cancelling = false
 
 -- A request that is asked goes out under the mark of its ask, since no other one is set before it is
 -- settled. One that has begun has a packet out.

@@ -1,6 +1,6 @@
 -- What a play keeps of its connections, whatever comes: what it counts as underway is underway at
 -- the carrier.
-use Rattle.std.specs.Prelude.{ℕ, suc, ◌+◌, ◌≡◌, ◌≤◌, ◌<◌, List, length, Option, Bool, true, false, min, slice_index_or}
+use Rattle.std.specs.Prelude.{ℕ, suc, ◌+◌, ◌≡◌, ◌≤◌, ◌<◌, List, length, Option, false, min, slice_index_or}
 use Rattle.tds_packet.specs.declared.kind.Direction.{Direction}
 use Rattle.tds_packet.specs.declared.kind.Direction.TheVariants.{ToServer, ToClient}
 use Rattle.tds_play.specs.Pipe.{Pipe, traffic, IsOpen}

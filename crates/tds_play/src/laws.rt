@@ -1,6 +1,6 @@
 //! The ends and the model: what each end's core does, the model's connection does. Each is the
 //! contract of a function without a body.
-ghost use Rattle.std.specs.Prelude.{◌≡◌, ℕ, List, Option, map, flat_map, take, Some};
+ghost use Rattle.std.specs.Prelude.{◌≡◌, ◌≤◌, ◌<◌, ◌^◌, ℕ, List, [], ◌∷◌, Option, map, flat_map, take, Some, true};
 ghost use Rattle.tds_client.specs.Sending.{started, sent, room};
 ghost use Rattle.tds_client.specs.Session.{ClientSession, unless_idle};
 ghost use Rattle.tds_request.specs.declared.request.Request.{Request};
@@ -21,15 +21,19 @@ ghost use Rattle.tds_play.specs.Lending.{FoundAlike, lent};
 ghost use Rattle.tds_world.specs.Pool.{to_lend};
 ghost use Rattle.tds_world.specs.World.{World};
 ghost use Rattle.tds_world.specs.declared.event.Setup.{Setup};
-ghost use Rattle.tds_play.specs.Messages.{IsSpelled, IsNext};
-ghost use Rattle.tds_play.specs.Stands.{MatchesClient, MatchesServer};
-
 ghost use Rattle.tds_packet.specs.Reading.{Reading};
 ghost use Rattle.tds_play.specs.Deliveries.{AllArrive, ServesAlike, AllHeard, ListensAlike};
 ghost use Rattle.tds_token.specs.declared.token.Token.{Token};
 ghost use Rattle.tds_world.specs.declared.report.RequestStatus.{RequestStatus};
 ghost use Rattle.tds_world.specs.Arrivals.{reach_server, reach_client};
 ghost use Rattle.tds_world.specs.Entries.{up_bytes, down_bytes};
+ghost use Rattle.tds_play.specs.Messages.{IsSpelled, IsNext, AreWhole, AreNextIn};
+ghost use Rattle.tds_world.specs.Arrivals.{server_acts, client_acts, works};
+ghost use Rattle.tds_world.specs.Caller.{asks, sends, cancels};
+ghost use Rattle.tds_world.specs.Phase.{phase_of};
+ghost use Rattle.tds_request.specs.Layout.{Fits};
+ghost use Rattle.tds_play.specs.Stands.{is_sending};
+ghost use Rattle.tds_play.specs.Stands.{MatchesClient, MatchesServer};
 
 use tds_session::Engine;
 
@@ -55,7 +59,7 @@ pub fn works_alike<E: Engine>()
 /// the same then, and acknowledges where the model does.
 pub fn arrives_alike<E: Engine>()
     ensures { (answers : Answers) (s : ServerState E) (c : Connection) (q : Record) (e : Up) → Lawful answers
-        → MatchesServer s c → c.current ≡ Some q → IsSpelled q → IsNext q c.parts e → IsUndisturbed e c.due
+        → MatchesServer s c → c.current ≡ Some q → IsSpelled q.asking → IsNext q.asking c.parts e → IsUndisturbed e c.due
         → ArriveAlike answers c e (taken answers s (up_packet e).header (up_packet e).body) }
 {}
 
@@ -72,6 +76,30 @@ pub fn hears_alike()
 pub fn lends_alike()
     ensures { (setup : Setup) (w : World)
         → FoundAlike w (lent (map (λ c. c.standing) w.connections) setup.max) (to_lend setup w) }
+{}
+
+/// What an end does leaves the other end as it is, and standing for the connection: a client that
+/// sends or hears its server, a server that works or takes an entry its client.
+pub fn the_other_stays<E: Engine>()
+    ensures sends { (room : ℕ) (s : ServerState E) (c : Connection) (q : Record) → c.current ≡ Some q
+        → MatchesServer s c → MatchesServer s (sends room q c) }
+    ensures hears { (s : ServerState E) (c : Connection) (e : Down) → MatchesServer s c → MatchesServer s (client_acts c e) }
+    ensures works { (s : ClientSession) (c : Connection) → MatchesClient s c → MatchesClient s (works c) }
+    ensures arrives { (answers : Answers) (s : ClientSession) (c : Connection) (e : Up) → MatchesClient s c → MatchesClient s (server_acts answers c e) }
+{}
+
+/// What came of the newest request's message, what waits and what is left of it are the message,
+/// whatever happens: so each packet is the next piece where it arrives.
+pub fn messages_stay_whole()
+    ensures asks { (number lease n : ℕ) (q : Request) (c : Connection) → Fits q → c.heard < 2 ^ 64
+        → c.parts ≡ [] → c.to_server.waiting ≡ [] → AreWhole (asks number lease n q c) }
+    ensures sends { (room : ℕ) (q : Record) (c : Connection) → 1 ≤ room → c.current ≡ Some q
+        → is_sending (phase_of q) ≡ true → AreWhole c → AreWhole (sends room q c) }
+    ensures cancels { (c : Connection) → AreWhole c → AreWhole (cancels c) }
+    ensures works { (c : Connection) → AreWhole c → AreWhole (works c) }
+    ensures arrives { (answers : Answers) (c : Connection) (e : Up) (es : List Up) → AreNextIn c.current c.parts (e ∷ es)
+        → AreNextIn (server_acts answers c e).current (server_acts answers c e).parts es }
+    ensures hears { (c : Connection) (e : Down) → AreWhole c → AreWhole (client_acts c e) }
 {}
 
 /// A server that is fed the bytes of entries takes those that come whole as the model does, in order,

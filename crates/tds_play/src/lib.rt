@@ -23,6 +23,13 @@ pub use run::run_play;
 pub use schedule::{ScheduleFault, read_schedule, right_or_wrong_somewhere};
 pub use words::{Command, LineFault, read_words};
 
+/// What a play is given, and what it answers.
+pub use tds_world::{
+    AbandonOutcome, CancelOutcome, ClientView, End, Event, EventReport, GiveBackOutcome, Layer,
+    Opened, Outcome, Place, Refusal, Report, RequestReport, RequestStatus, SendOutcome, Sequence,
+    Setup, Snapshot, WorkOutcome,
+};
+
 /// The answer of a growth that was refused.
 pub type NoMemory = std::alloc::AllocError;
 

@@ -1,6 +1,4 @@
-use Rattle.std.proofs.Common.{◌≡◌, ◌∙◌, ℕ, Bool, true, false, cond, sym, ap, ltb, length, filter, Option, Some, None, arith}
-use Rattle.std.specs.List.{position}
-use Rattle.tds_world.specs.Pool.{is_free}
+use Rattle.std.proofs.Common.{◌∙◌, ℕ, sym, ap, length, filter, Option, None, arith}
 use Rattle.tds_play.specs.Lending.{is_in_pool, lent_by, standing_of}
 use Rattle.tds_play.proofs.Lent.{lent_is, opens_where, none_where}
 use Rattle.tds_play.proofs.pool.to_lend.Goals as goal

@@ -1,4 +1,4 @@
-use Rattle.std.proofs.Common.{◌≡◌, ◌∙◌, ◌++◌, ◌∷◌, [], ℕ, suc, List, length, ap, arith, subst, sym}
+use Rattle.std.proofs.Common.{◌≡◌, ◌∙◌, ℕ, suc, length, ap, arith, subst}
 use Rattle.tds_play.specs.Pipe.{AreSame}
 use Rattle.tds_play.specs.Ties.{IsTied}
 use Rattle.tds_play.proofs.Listed.{opened}
