@@ -2,7 +2,7 @@
 use Rattle.std.proofs.Common.{◌≡◌, ap, arith, inl, List, ℕ, [], Option, Some, None, refl, sym, append-nil}
 use Rattle.std.specs.Io.KnownBytes.{Appends, Keeps}
 use Rattle.tds_play.specs.Written.{WritesBeginning}
-use Rattle.tds_play.specs.Runs.{AreLeft, IsUnread, IsBeforeOutput, LeavesOutput, EndsBy}
+use Rattle.tds_play.specs.Runs.{AreLeft, IsUnread, IsBeforeOutput, LeavesOutput}
 use Rattle.tds_play.specs.declared.run.RunFault.{RunFault}
 use Rattle.tds_play.specs.declared.run.RunFault.TheVariants as run
 

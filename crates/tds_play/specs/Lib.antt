@@ -11,5 +11,13 @@ pub mod Schedule
 pub mod Pipe
 pub mod Memory
 pub mod Ties
+pub mod Holdings
+pub mod Lending
 pub mod Refused
 pub mod Runs
+pub mod Stands
+pub mod Messages
+pub mod Alike
+pub mod Hearing
+pub mod Feeding
+pub mod Deliveries

@@ -1,5 +1,5 @@
 -- What a carrier in memory holds.
-use Rattle.std.specs.Prelude.{ℕ, ◌≤◌, List, length, take, Option, option_map}
+use Rattle.std.specs.Prelude.{ℕ, ◌≤◌, length, take, Option, option_map}
 use Rattle.std.specs.Ordering.{nat_cmp}
 use Rattle.std.specs.BTreeMap.{BTreeMap, get}
 use Rattle.tds_play.specs.Pipe.{Pipe, Traffic}

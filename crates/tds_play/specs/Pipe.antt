@@ -1,5 +1,5 @@
 -- What a carrier was handed on a connection, what came of it, and what failed.
-use Rattle.std.specs.Prelude.{ℕ, ◌+◌, ◌≡◌, ◌≢◌, ◌≤◌, List, [], ◌++◌, length, Option, Some, None, Bool, true, false}
+use Rattle.std.specs.Prelude.{ℕ, ◌+◌, ◌≡◌, ◌≢◌, List, [], ◌++◌, length, take, drop, Option, Some, None, Bool, true, false}
 use Rattle.tds_packet.specs.declared.kind.Direction.{Direction}
 use Rattle.tds_packet.specs.declared.kind.Direction.TheVariants.{ToServer, ToClient}
 
@@ -91,3 +91,18 @@ AreSame old new conn = (other : ℕ) → other ≢ conn → new other ≡ old ot
 pub record Changes (old new : ℕ → Option Pipe) (conn : ℕ) (pipe : Option Pipe) : Type 0 where
   pub here : new conn ≡ pipe
   pub others : AreSame old new conn
+
+-- The next so many of the bytes that were handed over.
+abbrev pub next_of : Traffic → ℕ → List ℕ
+next_of t n = take n (drop (length t.came) t.handed)
+
+-- These came out, and nothing else changed; where it failed then, that is one more failure.
+abbrev pub brought_on : Option Pipe → Direction → List ℕ → Bool → Option Pipe
+brought_on p d bytes false = carried_on p d bytes
+brought_on p d bytes true = stuck_on (carried_on p d bytes) d
+
+-- The next so many bytes came out, and were appended.
+pub record Brings (old : Option Pipe) (d : Direction) (n : ℕ) (before after : List ℕ) (new : Option Pipe)
+    (failed : Bool) : Type 0 where
+  pub bytes : after ≡ before ++ next_of (traffic old d) n
+  pub pipe : new ≡ brought_on old d (next_of (traffic old d) n) failed

@@ -70,11 +70,12 @@ wrong_event place (item value values) = if is_some (event_of value) then wrong_e
 abbrev pub IsSchedule : Data → Setup → List Event → Type 0
 IsSchedule value setup events = (values : Items) × (outer_of value ≡ Some (setup, values)) × (events_of values ≡ Some events)
 
--- The first wrong place of a value that spells no schedule: 0 outside the events, which are looked
--- at after it, from 1.
+-- By the outer object, if there is one.
 abbrev pub wrong_in : Option (Setup × Items) → Option ℕ
 wrong_in None = Some 0
 wrong_in (Some outer) = wrong_event 1 outer.1
 
+-- The first wrong place of a value that spells no schedule: 0 outside the events, which are looked
+-- at after it, from 1.
 abbrev pub wrong_place : Data → Option ℕ
 wrong_place value = wrong_in (outer_of value)

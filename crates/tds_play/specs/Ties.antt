@@ -1,6 +1,6 @@
 -- What a play keeps of its connections, whatever comes: what it counts as underway is underway at
 -- the carrier.
-use Rattle.std.specs.Prelude.{ℕ, suc, ◌+◌, ◌≡◌, ◌≤◌, ◌<◌, List, length, Option, Bool, true, false, slice_index_or}
+use Rattle.std.specs.Prelude.{ℕ, suc, ◌+◌, ◌≡◌, ◌≤◌, ◌<◌, List, length, Option, false, min, slice_index_or}
 use Rattle.tds_packet.specs.declared.kind.Direction.{Direction}
 use Rattle.tds_packet.specs.declared.kind.Direction.TheVariants.{ToServer, ToClient}
 use Rattle.tds_play.specs.Pipe.{Pipe, traffic, IsOpen}
@@ -27,3 +27,12 @@ counted link ToClient = link.to_client
 pub record AreTied {E S : Type 0} (links : List (Link E S)) (pipes : ℕ → Option Pipe) : Type 0 where
   pub numbered : (i : ℕ) (d : Link E S) → i < length links → (slice_index_or links i d).number ≡ suc i
   pub tied : (i : ℕ) (d : Link E S) → i < length links → IsTied (slice_index_or links i d) (pipes (suc i))
+
+-- The connection with so many bytes underway one way.
+abbrev pub with_counted : {E S : Type 0} → Link E S → Direction → ℕ → Link E S
+with_counted link ToServer n = record link { to_server = n }
+with_counted link ToClient n = record link { to_client = n }
+
+-- A count of 64 bits stops at its largest number.
+abbrev pub saturated : ℕ → ℕ
+saturated n = min n 18446744073709551615

@@ -4,6 +4,7 @@
 
 mod carrier;
 mod feeding;
+pub mod laws;
 mod link;
 mod memory;
 mod player;
@@ -21,6 +22,13 @@ pub use rendering::{RenderFault, render};
 pub use run::run_play;
 pub use schedule::{ScheduleFault, read_schedule, right_or_wrong_somewhere};
 pub use words::{Command, LineFault, read_words};
+
+/// What a play is given, and what it answers.
+pub use tds_world::{
+    AbandonOutcome, CancelOutcome, ClientView, End, Event, EventReport, GiveBackOutcome, Layer,
+    Opened, Outcome, Place, Refusal, Report, RequestReport, RequestStatus, SendOutcome, Sequence,
+    Setup, Snapshot, WorkOutcome,
+};
 
 /// The answer of a growth that was refused.
 pub type NoMemory = std::alloc::AllocError;

@@ -1,9 +1,11 @@
 //! One connection: both its ends, what is underway between them, and the requests asked on it.
-ghost use Rattle.std.specs.Prelude.{◌≡◌, ◌≤◌, ◌+◌, ℕ, length, true, false, Some, IfOk, OnOk};
+ghost use Rattle.std.specs.Prelude.{◌≡◌, ◌≤◌, ◌+◌, ◌-◌, ℕ, length, true, false, Some, IfOk, OnOk};
 ghost use Rattle.tds_packet.specs.declared.kind.Direction.{Direction};
 ghost use Rattle.tds_packet.specs.declared.kind.Direction.TheVariants.{ToServer, ToClient};
-ghost use Rattle.tds_play.specs.Pipe.{AreSame, IsUncut, new_pipe};
-ghost use Rattle.tds_play.specs.Ties.{IsTied, counted};
+ghost use Rattle.tds_play.specs.Lending.{is_in_pool, standing_of};
+ghost use Rattle.tds_play.specs.Pipe.{AreSame, Brings, IsUncut, new_pipe, sent_on};
+ghost use Rattle.tds_play.specs.Ties.{IsTied, counted, with_counted, saturated};
+ghost use Rattle.tds_world.specs.Pool.{is_free};
 
 pub(crate) mod acts;
 
@@ -163,6 +165,20 @@ impl<E: Engine + Drop> Link<E> {
         }
     }
 
+    /// Whether it can be lent.
+    pub(crate) fn is_free(&self) -> bool
+        ensures { result ≡ is_free (standing_of self.now) }
+    {
+        !self.is_cut && matches!(self.place, Place::Free)
+    }
+
+    /// Whether it is in the pool: it isn't cut.
+    pub(crate) fn is_in_pool(&self) -> bool
+        ensures { result ≡ is_in_pool (standing_of self.now) }
+    {
+        !self.is_cut
+    }
+
     /// Whether nobody waits for an answer.
     pub(crate) fn is_idle(&self) -> bool {
         matches!(self.client.state(), ClientState::Idle)
@@ -182,14 +198,18 @@ impl<E: Engine + Drop> Link<E> {
         ensures live { self.new.is_cut ≡ false }
         ensures tied { OnOk result (IsTied self.new (C.pipes carrier.new self.old.number)) }
         ensures others { OnOk result (AreSame (C.pipes carrier.old) (C.pipes carrier.new) self.old.number) }
+        ensures counted { OnOk result (self.new ≡ with_counted self.old direction (saturated (counted self.old direction + length bytes.now))) }
+        ensures handed { IfOk result (λ lost. lost ≡ false → C.pipes carrier.new self.old.number ≡ sent_on (C.pipes carrier.old self.old.number) direction bytes.now 0) }
+        ensures tells { OnOk result (C.tells carrier.old → C.tells carrier.new) }
     {
-        if bytes.is_empty() {
-            return Ok(false);
-        }
-        let lost = match carrier.send(self.number, direction, bytes) {
-            Ok(()) => false,
-            Err(CarrierError::Lost) => true,
-            Err(CarrierError::Memory) => return Err(AllocError),
+        let lost = if bytes.is_empty() {
+            false
+        } else {
+            match carrier.send(self.number, direction, bytes) {
+                Ok(()) => false,
+                Err(CarrierError::Lost) => true,
+                Err(CarrierError::Memory) => return Err(AllocError),
+            }
         };
         let count = bytes.len() as u64;
         match direction {
@@ -197,6 +217,17 @@ impl<E: Engine + Drop> Link<E> {
             Direction::ToClient => self.to_client = self.to_client.saturating_add(count),
         }
         Ok(lost)
+    }
+
+    /// So many of the bytes underway have come.
+    fn came(&mut self, direction: Direction, count: u64)
+        requires { count ≤ counted self.old direction }
+        ensures { self.new ≡ with_counted self.old direction (counted self.old direction - count) }
+    {
+        match direction {
+            Direction::ToServer => self.to_server -= count,
+            Direction::ToClient => self.to_client -= count,
+        }
     }
 
     /// Lets the carrier bring so many of the bytes underway, by as many calls as that takes, or
@@ -215,16 +246,17 @@ impl<E: Engine + Drop> Link<E> {
         ensures live { self.new.is_cut ≡ false }
         ensures tied { OnOk result (IsTied self.new (C.pipes carrier.new self.old.number)) }
         ensures others { OnOk result (AreSame (C.pipes carrier.old) (C.pipes carrier.new) self.old.number) }
+        ensures counted { IfOk result (λ carried. self.new ≡ with_counted self.old direction (counted self.old direction - carried.count)) }
+        ensures all { IfOk result (λ carried. carried.lost ≡ false → carried.count ≡ count) }
+        ensures tells { IfOk result (λ carried. C.tells carrier.old → C.tells carrier.new) }
+        ensures brought { IfOk result (λ carried. C.tells carrier.old → Brings (C.pipes carrier.old self.old.number) direction carried.count out.old.items out.new.items (C.pipes carrier.new self.old.number) carried.lost) }
     {
         let mut left = count;
         'pieces: while left > 0 {
             match carrier.carry(self.number, direction, left as usize, out) {
                 Ok(piece) => {
                     left -= piece as u32;
-                    match direction {
-                        Direction::ToServer => self.to_server -= piece as u64,
-                        Direction::ToClient => self.to_client -= piece as u64,
-                    }
+                    self.came(direction, piece as u64);
                 }
                 Err(CarrierError::Lost) => {
                     return Ok(Carried {

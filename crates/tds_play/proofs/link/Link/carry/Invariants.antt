@@ -1,6 +1,6 @@
-use Rattle.std.proofs.Common.{◌≡◌, ◌≤◌, false}
-use Rattle.tds_play.specs.Pipe.{AreSame}
-use Rattle.tds_play.specs.Ties.{IsTied, counted}
+use Rattle.std.proofs.Common.{◌≡◌, ◌≤◌, ◌-◌, false}
+use Rattle.tds_play.specs.Pipe.{AreSame, Brings}
+use Rattle.tds_play.specs.Ties.{IsTied, counted, with_counted}
 use Rattle.tds_play.proofs.link.Link.carry.Given as goal
 
 abbrev pub invariant-pieces : goal.invariant-pieces
@@ -13,6 +13,10 @@ invariant-pieces g l =
       others : AreSame (pipes l.fn.carrier) (pipes l.carrier) l.fn.self.number;
       within : l.left ≤ l.count;
       underway : l.left ≤ counted l.self l.direction;
+      counted : l.self ≡ with_counted l.fn.self l.direction (counted l.fn.self l.direction - (l.count - l.left));
+      tells : g.C.Carrier.tells l.fn.carrier → g.C.Carrier.tells l.carrier;
+      brought : g.C.Carrier.tells l.fn.carrier
+          → Brings (pipes l.fn.carrier l.fn.self.number) l.direction (l.count - l.left) l.fn.out.items l.out.items (pipes l.carrier l.fn.self.number) false;
     }
 
 abbrev pub decreases-pieces : goal.decreases-pieces

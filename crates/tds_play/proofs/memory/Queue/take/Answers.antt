@@ -1,5 +1,4 @@
-use Rattle.std.proofs.Common.{◌≡◌, ◌∙◌, ◌++◌, List, ℕ, length, take, drop, ap, rules}
-use Rattle.tds_play.specs.Pipe.{Traffic, carried}
+use Rattle.std.proofs.Common.{◌≡◌, ◌++◌, take, drop, rules}
 use Rattle.tds_play.proofs.Queues.{taken_next}
 use Rattle.tds_play.proofs.memory.Queue.take.Goals as goal
 

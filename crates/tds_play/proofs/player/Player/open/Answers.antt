@@ -1,4 +1,4 @@
-use Rattle.std.proofs.Common.{◌≡◌, ◌∙◌, ◌++◌, ◌∷◌, [], ℕ, suc, List, length, ap, arith, subst, sym}
+use Rattle.std.proofs.Common.{◌≡◌, ◌∙◌, ℕ, suc, length, ap, arith, subst}
 use Rattle.tds_play.specs.Pipe.{AreSame}
 use Rattle.tds_play.specs.Ties.{IsTied}
 use Rattle.tds_play.proofs.Listed.{opened}
@@ -10,7 +10,7 @@ returns-clause-tied g c =
     let links = c.args.self.now.links.items in
     let count : c.len.result ≡ length links = omega (arith, c.len.ensures, c.args.self.now.links.ok.0) in
     let conn : c.next_number-conn.result ≡ suc (length links) =
-    c.next_number-conn.ensures (omega (arith, count, c.requires.few)) ∙ ap suc count in
+    c.next_number-conn.ensures.few (omega (arith, count, c.requires.few)) ∙ ap suc count in
     let said = c.in_ok-link.ensures in
     opened links c.push.new.self.items c.in_ok-link.link (pipes c.args.carrier.now) (pipes c.open.new.carrier)
     c.in_ok-push.ensures.items c.requires.tied (said.number ∙ conn)

@@ -1,0 +1,41 @@
+use Rattle.std.proofs.Common.{◌≡◌, ◌∙◌, ◌+◌, ◌-◌, ◌≤◌, ◌++◌, ℕ, List, Option, false, sym, ap, refl, arith, subst, length, take, drop}
+use Rattle.tds_play.specs.Pipe.{Pipe, Brings, Changes, carried_on, traffic}
+use Rattle.tds_play.specs.declared.carrier.CarrierError.TheVariants.{Memory}
+use Rattle.tds_play.specs.Ties.{IsTied, counted, with_counted}
+use Rattle.tds_play.proofs.Carrying.{count_is, count_twice, number_same, cut_same, tied_after, brought_more, long_tail, no_error}
+use Rattle.tds_play.proofs.link.Link.carry.Goals as goal
+
+pub pieces-preserved : goal.pieces-preserved
+pieces-preserved g c =
+    let i = c.pieces.invariant in
+    let d = c.args.direction in
+    let conn : ℕ = c.args.self.now.number in
+    let old : ℕ → Option Pipe = g.C.Carrier.pipes c.pieces.carrier in
+    let new : ℕ → Option Pipe = g.C.Carrier.pipes c.carry.new.self in
+    let piece : ℕ = c.in-Ok.piece in
+    let before : List ℕ = c.pieces.out.items in
+    let after : List ℕ = c.carry.new.out.items in
+    let done = c.came.ensures in
+    let brings = c.in-Ok.ensures in
+    let ok : Changes old new conn (carried_on (old conn) d (drop (length before) after)) = subst (λ (k : ℕ). Changes old new k (carried_on (old k) d (drop (length before) after))) i.number brings.ok in
+    let bytes : g.C.Carrier.tells c.pieces.carrier → after ≡ before ++ take piece (drop (length (traffic (old conn) d).came) (traffic (old conn) d).handed) = subst (λ (k : ℕ). g.C.Carrier.tells c.pieces.carrier → after ≡ before ++ take piece (drop (length (traffic (old k) d).came) (traffic (old k) d).handed)) i.number brings.bytes in
+    let most : piece ≤ c.pieces.left = brings.most in
+    let under : piece ≤ counted c.pieces.self d = omega (arith, most, i.underway) in
+    let left : c.args.count - (c.pieces.left - piece) ≡ (c.args.count - c.pieces.left) + piece = omega (arith, most, i.within) in
+    let now : counted c.pieces.self d ≡ counted c.args.self.now d - (c.args.count - c.pieces.left) = ap (λ l. counted l d) i.counted ∙ count_is c.args.self.now d _ in
+    let less : counted c.pieces.self d - piece ≡ counted c.args.self.now d - (c.args.count - (c.pieces.left - piece)) = omega (arith, now, left, most, i.within, i.underway) in
+    record {
+  number = ap (λ l. l.number) done ∙ number_same c.pieces.self d _ ∙ i.number;
+  live = ap (λ l. l.is_cut) done ∙ cut_same c.pieces.self d _ ∙ i.live;
+  tied = rw done (tied_after c.pieces.self d piece _ _ _ i.tied i.live under (long_tail before after piece brings.count) ok.here);
+  others = λ other differs. ok.others other differs ∙ i.others other differs;
+  within = omega (arith, most, i.within);
+  underway = rw (done, count_is c.pieces.self d (counted c.pieces.self d - piece)) (omega (arith, most, i.underway));
+  counted =
+      done ∙ ap (λ (n : ℕ). with_counted c.pieces.self d n) less
+      ∙ ap (λ l. with_counted l d (counted c.args.self.now d - (c.args.count - (c.pieces.left - piece)))) i.counted
+      ∙ count_twice c.args.self.now d _ _;
+  tells = λ told. brings.tells (λ e. no_error piece Memory c.carry.result c.in-Ok.is (c.in-Ok.is ∙ e)) (i.tells told);
+  brought = λ told. subst (λ (n : ℕ). Brings (g.C.Carrier.pipes c.args.carrier.now conn) d n c.args.out.now.items after (new conn) false) (sym left)
+      (brought_more c.args.self.now _ (old conn) (new conn) d (c.args.count - c.pieces.left) piece c.args.out.now.items before after (c.requires.tied.holds c.requires.live) (omega (arith, c.requires.underway)) (i.brought told) (bytes (i.tells told)) ok.here);
+}

@@ -1,0 +1,52 @@
+-- Which connection an event is about, by its number or as the next one that is lent.
+use Rattle.std.specs.Prelude.{ℕ, ◌≡◌, zero, suc, nat_lt, Bool, true, false, List, length, filter, position, if◌then◌else◌, Option, Some, None}
+use Rattle.tds_world.specs.declared.outcome.Refusal.{Refusal}
+use Rattle.tds_world.specs.declared.outcome.Refusal.TheVariants.{AllInUse}
+use Rattle.tds_world.specs.declared.report.Place.{Place}
+use Rattle.tds_world.specs.Connection.{Standing, In, Cut}
+use Rattle.tds_world.specs.Pool.{is_free}
+use Rattle.tds_world.specs.World as world
+use Rattle.tds_world.specs.World.{World, numbered, next_number}
+use Rattle.tds_play.specs.declared.link.Link.{Link}
+use Rattle.tds_play.specs.declared.pool.Found.{Found}
+use Rattle.tds_play.specs.declared.pool.Found.TheVariants.{Missing, Here, Opens}
+
+-- Where a connection stands: one that is cut is out of the pool.
+abbrev pub standing_by : Bool → Place → Standing
+standing_by true place = Cut
+standing_by false place = In place
+
+abbrev pub standing_of : {E S : Type 0} → Link E S → Standing
+standing_of link = standing_by link.is_cut link.place
+
+abbrev pub is_in_pool : Standing → Bool
+is_in_pool (In place) = true
+is_in_pool Cut = false
+
+-- The first free connection; else a new one, where fewer than so many are in the pool.
+abbrev pub lent_by : Option ℕ → ℕ → ℕ → Found
+lent_by (Some place) count max = Here place
+lent_by None count max = if nat_lt count max then Opens else Missing AllInUse
+
+-- What the next lease gets: the free connection with the lowest number, or else a new one, if the
+-- pool has room.
+abbrev pub lent : List Standing → ℕ → Found
+lent standings max = lent_by (position is_free standings) (length (filter is_in_pool standings)) max
+
+-- The connection of this number, counted from 1, of so many.
+abbrev pub numbered_of : ℕ → ℕ → Refusal → Found
+numbered_of count zero why = Missing why
+numbered_of count (suc place) why = if nat_lt place count then Here place else Missing why
+
+-- What a lease of the play finds and what one of the model finds, in this world, are the same.
+abbrev pub FoundAlike : World → Found → world.Found → Type 0
+FoundAlike w (Missing why) (world.Missing because) = why ≡ because
+FoundAlike w (Missing why) (world.Here n c) = ⊥
+FoundAlike w (Missing why) (world.Opens n) = ⊥
+FoundAlike w (Here place) (world.Missing because) = ⊥
+FoundAlike w (Here place) (world.Here n c) =
+    (n ≡ suc place) × (numbered w.connections n ≡ Some c)
+FoundAlike w (Here place) (world.Opens n) = ⊥
+FoundAlike w Opens (world.Missing because) = ⊥
+FoundAlike w Opens (world.Here n c) = ⊥
+FoundAlike w Opens (world.Opens n) = n ≡ next_number w.connections

@@ -1,0 +1,119 @@
+//! The ends and the model: what each end's core does, the model's connection does. Each is the
+//! contract of a function without a body.
+ghost use Rattle.std.specs.Prelude.{◌≡◌, ◌≤◌, ◌<◌, ◌^◌, ℕ, List, [], ◌∷◌, Option, map, flat_map, take, Some, true};
+ghost use Rattle.tds_client.specs.Sending.{started, sent, room};
+ghost use Rattle.tds_client.specs.Session.{ClientSession, unless_idle};
+ghost use Rattle.tds_request.specs.declared.request.Request.{Request};
+ghost use Rattle.tds_server.specs.State.{ServerState};
+ghost use Rattle.tds_server.specs.Working.{worked};
+ghost use Rattle.tds_world.specs.Connection.{Connection, phase, is_idle};
+ghost use Rattle.tds_world.specs.Events.{asks_by, sends_in};
+ghost use Rattle.tds_play.specs.Alike.{AskAlike, SendAlike, WorkAlike, EndsIfDue, ArriveAlike, IsUndisturbed};
+ghost use Rattle.tds_session.specs.Answer.{Answers};
+ghost use Rattle.tds_server.specs.Taking.{taken};
+ghost use Rattle.tds_client.specs.Taking.{taken as client_taken};
+ghost use Rattle.tds_packet.specs.Layout.{bits_of, has_bit};
+ghost use Rattle.tds_play.specs.Hearing.{HearAlike, IsAwaited};
+ghost use Rattle.tds_world.specs.Entries.{Up, up_packet, Down, down_packet};
+ghost use Rattle.tds_world.specs.Lawful.{Lawful};
+ghost use Rattle.tds_world.specs.Record.{Record};
+ghost use Rattle.tds_play.specs.Lending.{FoundAlike, lent};
+ghost use Rattle.tds_world.specs.Pool.{to_lend};
+ghost use Rattle.tds_world.specs.World.{World};
+ghost use Rattle.tds_world.specs.declared.event.Setup.{Setup};
+ghost use Rattle.tds_packet.specs.Reading.{Reading};
+ghost use Rattle.tds_play.specs.Deliveries.{AllArrive, ServesAlike, AllHeard, ListensAlike};
+ghost use Rattle.tds_token.specs.declared.token.Token.{Token};
+ghost use Rattle.tds_world.specs.declared.report.RequestStatus.{RequestStatus};
+ghost use Rattle.tds_world.specs.Arrivals.{reach_server, reach_client};
+ghost use Rattle.tds_world.specs.Entries.{up_bytes, down_bytes};
+ghost use Rattle.tds_play.specs.Messages.{IsSpelled, IsNext, AreWhole, AreNextIn};
+ghost use Rattle.tds_world.specs.Arrivals.{server_acts, client_acts, works};
+ghost use Rattle.tds_world.specs.Caller.{asks, sends, cancels};
+ghost use Rattle.tds_world.specs.Phase.{phase_of};
+ghost use Rattle.tds_request.specs.Layout.{Fits};
+ghost use Rattle.tds_play.specs.Stands.{is_sending};
+ghost use Rattle.tds_play.specs.Stands.{MatchesClient, MatchesServer};
+
+use tds_session::Engine;
+
+/// A client takes a request exactly where the model does, and then stands for its connection.
+pub fn asks_alike()
+    ensures { (s : ClientSession) (c : Connection) (number lease n : ℕ) (q : Request) → MatchesClient s c
+        → AskAlike number (started s q) (unless_idle s.stage) (asks_by (is_idle c) number lease n q c) }
+{}
+
+/// A client sends exactly where the model does: the bytes of the same entry.
+pub fn sends_alike()
+    ensures { (s : ClientSession) (c : Connection) → MatchesClient s c
+        → SendAlike c (sent s) (sends_in (phase c) (room s) c.current c) }
+{}
+
+/// A server works exactly where the model does: it does the same step, and sends the bytes of the
+/// same entry.
+pub fn works_alike<E: Engine>()
+    ensures { (s : ServerState E) (c : Connection) → MatchesServer s c → EndsIfDue c.due → WorkAlike c (worked s) }
+{}
+
+/// A server takes the packet of each entry that arrives as the model does, without a fault: it holds
+/// the same then, and acknowledges where the model does.
+pub fn arrives_alike<E: Engine>()
+    ensures { (answers : Answers) (s : ServerState E) (c : Connection) (q : Record) (e : Up) → Lawful answers
+        → MatchesServer s c → c.current ≡ Some q → IsSpelled q.asking → IsNext q.asking c.parts e → IsUndisturbed e c.due
+        → ArriveAlike answers c e (taken answers s (up_packet e).header (up_packet e).body) }
+{}
+
+/// A client takes the packet of each entry that arrives as the model does, without a fault: it tells
+/// the caller the same tokens, ends the request where the model does, and hears the same.
+pub fn hears_alike()
+    ensures { (s : ClientSession) (c : Connection) (q : Record) (e : Down) → MatchesClient s c → c.current ≡ Some q
+        → IsAwaited c q e
+        → HearAlike c q e (client_taken s (has_bit (bits_of (down_packet e).header.status) 1) (down_packet e).body) }
+{}
+
+/// The next lease gets the same connection as in the model: the free one with the lowest number, or
+/// else a new one, or none, by where each connection stands.
+pub fn lends_alike()
+    ensures { (setup : Setup) (w : World)
+        → FoundAlike w (lent (map (λ c. c.standing) w.connections) setup.max) (to_lend setup w) }
+{}
+
+/// What an end does leaves the other end as it is, and standing for the connection: a client that
+/// sends or hears its server, a server that works or takes an entry its client.
+pub fn the_other_stays<E: Engine>()
+    ensures sends { (room : ℕ) (s : ServerState E) (c : Connection) (q : Record) → c.current ≡ Some q
+        → MatchesServer s c → MatchesServer s (sends room q c) }
+    ensures hears { (s : ServerState E) (c : Connection) (e : Down) → MatchesServer s c → MatchesServer s (client_acts c e) }
+    ensures works { (s : ClientSession) (c : Connection) → MatchesClient s c → MatchesClient s (works c) }
+    ensures arrives { (answers : Answers) (s : ClientSession) (c : Connection) (e : Up) → MatchesClient s c → MatchesClient s (server_acts answers c e) }
+{}
+
+/// What came of the newest request's message, what waits and what is left of it are the message,
+/// whatever happens: so each packet is the next piece where it arrives.
+pub fn messages_stay_whole()
+    ensures asks { (number lease n : ℕ) (q : Request) (c : Connection) → Fits q → c.heard < 2 ^ 64
+        → c.parts ≡ [] → c.to_server.waiting ≡ [] → AreWhole (asks number lease n q c) }
+    ensures sends { (room : ℕ) (q : Record) (c : Connection) → 1 ≤ room → c.current ≡ Some q
+        → is_sending (phase_of q) ≡ true → AreWhole c → AreWhole (sends room q c) }
+    ensures cancels { (c : Connection) → AreWhole c → AreWhole (cancels c) }
+    ensures works { (c : Connection) → AreWhole c → AreWhole (works c) }
+    ensures arrives { (answers : Answers) (c : Connection) (e : Up) (es : List Up) → AreNextIn c.current c.parts (e ∷ es)
+        → AreNextIn (server_acts answers c e).current (server_acts answers c e).parts es }
+    ensures hears { (c : Connection) (e : Down) → AreWhole c → AreWhole (client_acts c e) }
+{}
+
+/// A server that is fed the bytes of entries takes those that come whole as the model does, in order,
+/// and is left with what has come of the next one.
+pub fn serves_alike<E: Engine>()
+    ensures { (answers : Answers) (r : Reading) (c : Connection) (es : List Up) (k : ℕ) (s : ServerState E) (reply : List ℕ)
+        → AllArrive E answers r c es → MatchesServer s c
+        → ServesAlike E answers r (take k (flat_map up_bytes es)) c (reach_server answers c es k) s reply }
+{}
+
+/// A client that is fed the bytes of entries hears those that come whole as the model does, in order,
+/// and is left with what has come of the next one.
+pub fn listens_alike()
+    ensures { (r : Reading) (c : Connection) (es : List Down) (k : ℕ) (s : ClientSession) (settled : Option RequestStatus) (told : List Token)
+        → AllHeard r c es → MatchesClient s c
+        → ListensAlike r (take k (flat_map down_bytes es)) c (reach_client c es k) s settled told }
+{}
