@@ -35,6 +35,10 @@ impl LineFault {
 }
 
 impl From<AllocError> for LineFault {
+    ghost use Rattle.tds_play.specs.declared.words.LineFault.TheVariants.{Memory};
+
+    ghost from_gives = { λ _ fault. fault ≡ Memory };
+
     fn from(_: AllocError) -> Self {
         LineFault::Memory
     }

@@ -25,6 +25,10 @@ impl RenderFault {
 }
 
 impl From<AllocError> for RenderFault {
+    ghost use Rattle.tds_play.specs.declared.rendering.fault.RenderFault.TheVariants.{Memory};
+
+    ghost from_gives = { λ _ fault. fault ≡ Memory };
+
     fn from(_: AllocError) -> Self {
         RenderFault::Memory
     }
