@@ -1,12 +1,11 @@
 -- The final DONE of an answer stands at the end of its last step, whatever the engine.
-use Rattle.std.proofs.Common.{◌≡◌, ℕ, List, [], ◌∷◌, ◌++◌, Bool, true, false, cond, refl, Option, Some, None, eqb}
+use Rattle.std.proofs.Common.{ℕ, List, [], ◌∷◌, Bool, true, false, cond, refl, Option, Some, None, eqb}
 use Rattle.std.proofs.lemmas.List.Elements.{All-nil, All-cons}
 use Rattle.std.specs.List.{All, AllByRecursion}
 use Rattle.std.specs.Prelude.{codes, ◌==◌}
-use Rattle.tds_packet.specs.declared.status.Reset.{Reset}
 use Rattle.tds_request.specs.declared.request.Request.{Request}
 use Rattle.tds_request.specs.declared.request.Request.TheVariants as request
-use Rattle.tds_session.specs.Answer.{Answers, Step, step_then, last_step, final_step, and_then, batch_steps, steps_in, steps_of, wrong_descriptor, answer_to, answer_of}
+use Rattle.tds_session.specs.Answer.{Answers, Step, last_step, final_step, and_then, batch_steps, steps_in, steps_of, wrong_descriptor, answer_to, answer_of}
 use Rattle.tds_session.specs.Effects.{Effect, has_error, fails, begin_by, begins, end_by, ends}
 use Rattle.tds_session.specs.Lawful.{IsStatementDone}
 use Rattle.tds_session.specs.Session.{SessionState, after_reset, last_descriptor}
