@@ -40,3 +40,4 @@ pub mod Sent
 pub mod Steps
 pub mod Welcome
 pub mod Requests
+pub mod Dones

@@ -18,3 +18,4 @@ pub mod Begins
 pub mod Steps
 pub mod Welcome
 pub mod Requests
+pub mod Dones

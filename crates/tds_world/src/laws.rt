@@ -4,6 +4,7 @@ ghost use Rattle.tds_session.specs.Answer.{Answers, answer_of, script_answers};
 ghost use Rattle.tds_world.specs.Begins.{HandsOutNext};
 ghost use Rattle.tds_world.specs.Bounds.{BeginsOnce, FewUnderway, IsEvent, IsSetup, OneAttention, OwnTransaction};
 ghost use Rattle.tds_world.specs.Deliveries.{DeliversExactly};
+ghost use Rattle.tds_world.specs.Dones.{FinalDoneAtEnd, HaveDones};
 ghost use Rattle.tds_world.specs.Lawful.{Lawful};
 ghost use Rattle.tds_world.specs.Laws.{Always, AlwaysOf, FreshStart, IdleIsQuiet, NothingAfterCancel, OwnAnswers};
 ghost use Rattle.tds_world.specs.Requests.{RequestsAreSpelled};
@@ -102,4 +103,16 @@ pub fn steps_are_of_answers()
 /// beginning of one that is dropped; and attentions between them.
 pub fn requests_are_spelled()
     ensures { (setup : Setup) (answers : Answers) → Lawful answers → Always setup answers RequestsAreSpelled }
+{}
+
+/// Whatever the engine, a server's answer has its final DONE at the end of its last step, and there
+/// alone.
+pub fn engine_has_dones<E: Engine>(engine: &E)
+    ensures { HaveDones (answer_of (E.statements_of engine.now) (E.step_of engine.now)) }
+{}
+
+/// So it is with each step that was sent: in a message of an answer the final DONE stands at the end
+/// of the packet that ends the message, and there alone.
+pub fn final_done_at_end()
+    ensures { (setup : Setup) (answers : Answers) → Lawful answers → HaveDones answers → Always setup answers FinalDoneAtEnd }
 {}
