@@ -1,6 +1,7 @@
 //! Bytes that came are fed to an end: its reader, and then its core.
 ghost use Rattle.std.specs.Prelude.{◌≡◌};
 ghost use Rattle.tds_packet.specs.declared.kind.Direction.TheVariants.{ToServer, ToClient};
+ghost use Rattle.tds_play.specs.Links.{outcome_of};
 
 use crate::NoMemory;
 use std::alloc::AllocError;
@@ -37,7 +38,9 @@ impl Fault {
     }
 
     /// What an event comes to that delivers such bytes.
-    pub(crate) fn outcome(self) -> Outcome {
+    pub(crate) fn outcome(self) -> Outcome
+        ensures { result ≡ outcome_of self }
+    {
         Outcome::Fault {
             end: self.end,
             layer: self.layer,
