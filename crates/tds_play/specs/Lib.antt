@@ -11,6 +11,7 @@ pub mod Schedule
 pub mod Pipe
 pub mod Memory
 pub mod Ties
+pub mod Links
 pub mod Holdings
 pub mod Lending
 pub mod Refused

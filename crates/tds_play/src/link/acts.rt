@@ -1,5 +1,11 @@
 //! What each event does on its connection.
-ghost use Rattle.std.specs.Prelude.{◌≡◌, ◌≤◌, false, min, Option, OnOk};
+ghost use Rattle.std.specs.Prelude.{◌≡◌, ◌≤◌, true, false, is_none, min, Option, None, Some, Ok, IfOk, OnOk};
+ghost use Rattle.tds_client.specs.Session.{unless_idle};
+ghost use Rattle.tds_play.specs.Links.{IsAskedOn, IsPutBy, done_as, lent_as, placed_at, unless_kept};
+ghost use Rattle.tds_world.specs.declared.outcome.AbandonOutcome.TheVariants as abandoned;
+ghost use Rattle.tds_world.specs.declared.outcome.Outcome.TheVariants.{Abandoned, Asked, Kept, Leased, Refused};
+ghost use Rattle.tds_world.specs.declared.outcome.Refusal.TheVariants.{NotIdle};
+ghost use Rattle.tds_world.specs.declared.report.Place.TheVariants as place;
 ghost use Rattle.tds_packet.specs.declared.kind.Direction.TheVariants.{ToClient};
 ghost use Rattle.tds_play.specs.Pipe.{Pipe, AreSame};
 ghost use Rattle.tds_play.specs.Ties.{IsTied};
@@ -28,14 +34,18 @@ pub(crate) struct Next {
 }
 
 /// An event that doesn't apply.
-pub(crate) fn refused(refusal: Refusal) -> Done {
+pub(crate) fn refused(refusal: Refusal) -> Done
+    ensures { result ≡ done_as (Refused refusal) }
+{
     Done {
         outcome: Outcome::Refused(refusal),
         lost: false,
     }
 }
 
-fn done(outcome: Outcome) -> Done {
+fn done(outcome: Outcome) -> Done
+    ensures { result ≡ done_as outcome }
+{
     Done {
         outcome,
         lost: false,
@@ -103,6 +113,8 @@ impl<E: Engine + Drop> Link<E> {
 
     /// The connection is lent, and its next request is to ask for this reset.
     fn lend(&mut self, next: Next, mark: Reset, opened: Opened) -> Done
+        ensures lent { unless_idle self.old.client.stage ≡ None → self.new ≡ lent_as next.lease mark self.old }
+        ensures done { result ≡ done_as (Leased next.lease self.old.number opened) }
         ensures number { self.new.number ≡ self.old.number }
         ensures tied { (pipe : Option Pipe) → IsTied self.old pipe → IsTied self.new pipe }
     {
@@ -139,6 +151,8 @@ impl<E: Engine + Drop> Link<E> {
 
     /// The lease becomes a ticket, which keeps the transaction that the client heard of.
     fn keep(&mut self, next: Next) -> Done
+        ensures refused { (why : Refusal) → unless_kept self.old.client ≡ Some why → (result ≡ done_as (Refused why)) × (self.new ≡ self.old) }
+        ensures kept { unless_kept self.old.client ≡ None → (result ≡ done_as (Kept next.ticket)) × (self.new ≡ placed_at (place.Kept next.ticket) self.old) }
         ensures number { self.new.number ≡ self.old.number }
         ensures tied { (pipe : Option Pipe) → IsTied self.old pipe → IsTied self.new pipe }
     {
@@ -154,6 +168,8 @@ impl<E: Engine + Drop> Link<E> {
 
     /// The ticket ends. The connection that it kept is idle, so it is free then.
     fn abandon(&mut self) -> Done
+        ensures value { self.new ≡ placed_at place.Free self.old }
+        ensures done { result ≡ done_as (Abandoned abandoned.Free) }
         ensures number { self.new.number ≡ self.old.number }
         ensures tied { (pipe : Option Pipe) → IsTied self.old pipe → IsTied self.new pipe }
     {
@@ -169,20 +185,34 @@ impl<E: Engine + Drop> Link<E> {
         lease: u32,
         request: &Request,
     ) -> Result<Done, NoMemory>
+        ensures refused { is_none (unless_idle self.old.client.stage) ≡ false → (result ≡ Ok (done_as (Refused NotIdle))) × (self.new ≡ self.old) }
+        ensures asked { is_none (unless_idle self.old.client.stage) ≡ true → IfOk result (λ done. (done ≡ done_as (Asked next.request)) × IsAskedOn lease request.now self.old self.new) }
         ensures number { self.new.number ≡ self.old.number }
         ensures tied { (pipe : Option Pipe) → IsTied self.old pipe → IsTied self.new pipe }
     {
-        let mark = self.client.reset_mark();
-        match self.client.start(request) {
-            Ok(()) => {}
-            Err(ClientRefusal::Memory) => return Err(AllocError),
-            Err(_) => return Ok(refused(Refusal::NotIdle)),
+        if !self.is_idle() {
+            return Ok(refused(Refusal::NotIdle));
         }
+        let mark = self.client.reset_mark();
+        // An idle client refuses only where a growth was.
+        if self.client.start(request).is_err() {
+            return Err(AllocError);
+        }
+        self.put_by()?;
+        self.current = Some(Record::new(alloc, lease, mark));
+        Ok(done(Outcome::Asked(next.request)))
+    }
+
+    /// The newest request is put by those before it.
+    fn put_by(&mut self) -> Result<(), NoMemory>
+        ensures value { OnOk result (IsPutBy self.old self.new) }
+        ensures number { self.new.number ≡ self.old.number }
+        ensures tied { (pipe : Option Pipe) → IsTied self.old pipe → IsTied self.new pipe }
+    {
         if let Some(settled) = self.current.take() {
             self.past.push(settled)?;
         }
-        self.current = Some(Record::new(alloc, lease, mark));
-        Ok(done(Outcome::Asked(next.request)))
+        Ok(())
     }
 
     /// The request's next packet goes out.
