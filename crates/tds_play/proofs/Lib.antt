@@ -31,3 +31,4 @@ pub mod Cuts
 pub mod ServerDelivery
 pub mod ClientDelivery
 pub mod Carrying
+pub mod Between

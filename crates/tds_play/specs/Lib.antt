@@ -22,3 +22,4 @@ pub mod Alike
 pub mod Hearing
 pub mod Feeding
 pub mod Deliveries
+pub mod Between
