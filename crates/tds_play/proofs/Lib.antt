@@ -32,3 +32,4 @@ pub mod ServerDelivery
 pub mod ClientDelivery
 pub mod Carrying
 pub mod Between
+pub mod ServerEvent

@@ -1,14 +1,21 @@
 //! What each event does on its connection.
-ghost use Rattle.std.specs.Prelude.{◌≡◌, ◌≤◌, true, false, is_none, min, Option, None, Some, Ok, IfOk, OnOk};
+ghost use Rattle.std.specs.Prelude.{◌≡◌, ◌≤◌, ◌||◌, true, false, is_none, min, Option, None, Some, Ok, IfOk, OnOk};
 ghost use Rattle.tds_client.specs.Session.{unless_idle};
 ghost use Rattle.tds_play.specs.Links.{IsAskedOn, IsPutBy, done_as, lent_as, placed_at, unless_kept};
 ghost use Rattle.tds_world.specs.declared.outcome.AbandonOutcome.TheVariants as abandoned;
 ghost use Rattle.tds_world.specs.declared.outcome.Outcome.TheVariants.{Abandoned, Asked, Kept, Leased, Refused};
+ghost use Rattle.tds_world.specs.declared.outcome.Outcome.TheVariants as outcome;
 ghost use Rattle.tds_world.specs.declared.outcome.Refusal.TheVariants.{NotIdle};
 ghost use Rattle.tds_world.specs.declared.report.Place.TheVariants as place;
 ghost use Rattle.tds_packet.specs.declared.kind.Direction.TheVariants.{ToClient};
 ghost use Rattle.tds_play.specs.Pipe.{Pipe, AreSame};
+ghost use Rattle.tds_play.specs.Between.{Stands};
+ghost use Rattle.tds_play.specs.Deliveries.{AllArrive};
 ghost use Rattle.tds_play.specs.Ties.{IsTied};
+ghost use Rattle.tds_session.specs.Answer.{answer_of};
+ghost use Rattle.tds_world.specs.Arrivals.{to_server};
+ghost use Rattle.tds_world.specs.Connection.{Connection, down_underway, up_underway};
+ghost use Rattle.tds_world.specs.Deliveries.{DeliversOn};
 
 use super::{Done, Link, Record};
 use crate::NoMemory;
@@ -73,6 +80,13 @@ fn at_most(underway: u64, most: u32) -> u32
         Ok(count) => count.min(most),
         Err(_) => most,
     }
+}
+
+/// Whether one of two calls of the carrier failed.
+fn either(first: bool, second: bool) -> bool
+    ensures { result ≡ (first || second) }
+{
+    first || second
 }
 
 impl<E: Engine + Drop> Link<E> {
@@ -304,6 +318,14 @@ impl<E: Engine + Drop> Link<E> {
         ensures number { self.new.number ≡ self.old.number }
         ensures tied { OnOk result (IsTied self.new (C.pipes carrier.new self.old.number)) }
         ensures others { OnOk result (AreSame (C.pipes carrier.old) (C.pipes carrier.new) self.old.number) }
+        // A connection that stands for one of the model stands for what the same delivery makes of it.
+        ensures stands { (c : Connection) → C.tells carrier.old → Stands self.old (C.pipes carrier.old self.old.number) c
+            → DeliversOn (answer_of (E.statements_of self.old.server.engine) (E.step_of self.old.server.engine)) c
+            → down_underway (to_server (answer_of (E.statements_of self.old.server.engine) (E.step_of self.old.server.engine)) most c) ≤ 18446744073709551615
+            → AllArrive E (answer_of (E.statements_of self.old.server.engine) (E.step_of self.old.server.engine)) self.old.server_reader c c.to_server.waiting
+            → IfOk result (λ done. done.lost ≡ false
+                → (done.outcome ≡ outcome.ToServer (min most (up_underway c)))
+                × Stands self.new (C.pipes carrier.new self.old.number) (to_server (answer_of (E.statements_of self.old.server.engine) (E.step_of self.old.server.engine)) most c)) }
     {
         let count = at_most(self.to_server, most);
         let mut piece = Vec::new(alloc);
@@ -314,7 +336,7 @@ impl<E: Engine + Drop> Link<E> {
             None => {
                 let lost = self.hand_over(carrier, Direction::ToClient, reply.as_slice())?;
                 let outcome = Outcome::ToServer(carried.count);
-                Ok(self.end(carrier, outcome, carried.lost || lost))
+                Ok(self.end(carrier, outcome, either(carried.lost, lost)))
             }
             Some(fault) => Ok(self.end_by_fault(carrier, fault, carried.lost)),
         }

@@ -1,4 +1,4 @@
-use Rattle.tds_play.proofs.Between.{lane_delivered, lane_sent, offered_front}
+use Rattle.tds_play.proofs.ServerEvent.{delivered_alike}
 use Rattle.tds_play.proofs.ServerDelivery.{serve_alike}
 use Rattle.tds_play.proofs.laws.serves_alike.Goals as goal
 
