@@ -12,6 +12,8 @@ pub mod Pipe
 pub mod Memory
 pub mod Ties
 pub mod Links
+pub mod Seen
+pub mod Acts
 pub mod Holdings
 pub mod Lending
 pub mod Refused

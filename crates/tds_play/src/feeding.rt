@@ -1,7 +1,7 @@
 //! Bytes that came are fed to an end: its reader, and then its core.
 ghost use Rattle.std.specs.Prelude.{◌≡◌};
 ghost use Rattle.tds_packet.specs.declared.kind.Direction.TheVariants.{ToServer, ToClient};
-ghost use Rattle.tds_play.specs.Links.{outcome_of};
+ghost use Rattle.tds_play.specs.Seen.{outcome_of};
 
 use crate::NoMemory;
 use std::alloc::AllocError;

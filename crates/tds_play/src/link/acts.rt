@@ -1,10 +1,16 @@
 //! What each event does on its connection.
-ghost use Rattle.std.specs.Prelude.{◌≡◌, ◌≤◌, true, false, is_none, min, Option, None, Some, Ok, IfOk, OnOk};
+ghost use Rattle.std.specs.Prelude.{◌≡◌, ◌≤◌, true, false, is_none, min, Option, None, Some, Ok, IfOk, OnOk, ◌++◌, is_ok};
 ghost use Rattle.tds_client.specs.Session.{unless_idle};
-ghost use Rattle.tds_play.specs.Links.{IsAskedOn, IsPutBy, done_as, lent_as, placed_at, unless_kept};
+ghost use Rattle.tds_play.specs.Links.{IsAskedOn, IsPutBy, lent_as, placed_at, recounted, unless_kept};
+ghost use Rattle.tds_play.specs.Acts.{cancel_outcome, cancelled_as, unless_lost, with_client, worked_as};
+ghost use Rattle.tds_play.specs.Alike.{send_outcome, worked_outcome};
+ghost use Rattle.tds_play.specs.Seen.{done_as};
+ghost use Rattle.tds_client.specs.Sending.{cancelled, sent};
+ghost use Rattle.tds_server.specs.Working.{worked};
 ghost use Rattle.tds_world.specs.declared.outcome.AbandonOutcome.TheVariants as abandoned;
 ghost use Rattle.tds_world.specs.declared.outcome.Outcome.TheVariants.{Abandoned, Asked, Kept, Leased, Refused};
-ghost use Rattle.tds_world.specs.declared.outcome.Refusal.TheVariants.{NotIdle};
+ghost use Rattle.tds_world.specs.declared.outcome.Outcome.TheVariants as outcome;
+ghost use Rattle.tds_world.specs.declared.outcome.Refusal.TheVariants.{NotIdle, NotSending};
 ghost use Rattle.tds_world.specs.declared.report.Place.TheVariants as place;
 ghost use Rattle.tds_packet.specs.declared.kind.Direction.TheVariants.{ToClient};
 ghost use Rattle.tds_play.specs.Pipe.{Pipe, AreSame};
@@ -215,6 +221,23 @@ impl<E: Engine + Drop> Link<E> {
         Ok(())
     }
 
+    /// The client appends the request's next packet, if one is left.
+    fn put_next(&mut self, out: &mut Vec<u8>) -> Result<Option<SendOutcome>, NoMemory>
+        ensures refused { is_ok (sent self.old.client) ≡ false → (result ≡ Ok None) × (self.new ≡ self.old) × (out.new.items ≡ out.old.items) }
+        ensures sent { IfOk (sent self.old.client) (λ e. IfOk result (λ o. (o ≡ Some (send_outcome e.answer))
+            × (self.new ≡ with_client e.session self.old) × (out.new.items ≡ out.old.items ++ e.bytes))) }
+        ensures number { self.new.number ≡ self.old.number }
+        ensures live { self.new.is_cut ≡ self.old.is_cut }
+        ensures tied { (pipe : Option Pipe) → IsTied self.old pipe → IsTied self.new pipe }
+    {
+        match self.client.send(out) {
+            Ok(Sent::More) => Ok(Some(SendOutcome::More)),
+            Ok(Sent::Last) => Ok(Some(SendOutcome::Last)),
+            Err(ClientRefusal::Memory) => Err(AllocError),
+            Err(_) => Ok(None),
+        }
+    }
+
     /// The request's next packet goes out.
     fn send<C: Carrier>(&mut self, alloc: Global, carrier: &mut C) -> Result<Done, NoMemory>
         requires live { self.old.is_cut ≡ false }
@@ -222,13 +245,13 @@ impl<E: Engine + Drop> Link<E> {
         ensures number { self.new.number ≡ self.old.number }
         ensures tied { OnOk result (IsTied self.new (C.pipes carrier.new self.old.number)) }
         ensures others { OnOk result (AreSame (C.pipes carrier.old) (C.pipes carrier.new) self.old.number) }
+        ensures refused { is_ok (sent self.old.client) ≡ false → (result ≡ Ok (done_as (Refused NotSending))) × (self.new ≡ self.old) × (carrier.new ≡ carrier.old) }
+        ensures sent { IfOk (sent self.old.client) (λ e. IfOk result (λ done. (done.outcome ≡ outcome.Sent (send_outcome e.answer))
+            × (self.new ≡ unless_lost done.lost (recounted self.new.to_server self.new.to_client (with_client e.session self.old))))) }
     {
         let mut out = Vec::new(alloc);
-        let sent = match self.client.send(&mut out) {
-            Ok(Sent::More) => SendOutcome::More,
-            Ok(Sent::Last) => SendOutcome::Last,
-            Err(ClientRefusal::Memory) => return Err(AllocError),
-            Err(_) => return Ok(refused(Refusal::NotSending)),
+        let Some(sent) = self.put_next(&mut out)? else {
+            return Ok(refused(Refusal::NotSending));
         };
         let lost = self.hand_over(carrier, Direction::ToServer, out.as_slice())?;
         Ok(self.end(carrier, Outcome::Sent(sent), lost))
@@ -239,6 +262,8 @@ impl<E: Engine + Drop> Link<E> {
         ensures number { self.new.number ≡ self.old.number }
         ensures tied { (pipe : Option Pipe) → IsTied self.old pipe → IsTied self.new pipe }
         ensures live { self.new.is_cut ≡ self.old.is_cut }
+        ensures cancelled { IfOk (cancelled self.old.client) (λ e. IfOk result (λ outcome. (outcome ≡ cancel_outcome e.answer)
+            × (self.new ≡ cancelled_as e.answer e.session self.old) × (out.new.items ≡ out.old.items ++ e.bytes))) }
     {
         let (outcome, status) = match self.client.cancel(out) {
             Ok(Cancelled::Nothing) => return Ok(CancelOutcome::Nothing),
@@ -269,18 +294,18 @@ impl<E: Engine + Drop> Link<E> {
         Ok(self.end(carrier, Outcome::Cancel(cancelled), lost))
     }
 
-    /// The server does the next step of the answer that is due.
-    fn work<C: Carrier>(&mut self, alloc: Global, carrier: &mut C) -> Result<Done, NoMemory>
-        requires live { self.old.is_cut ≡ false }
-        requires tied { IsTied self.old (C.pipes carrier.old self.old.number) }
+    /// The server appends the next step of the answer that is due, if one is.
+    fn put_step(&mut self, out: &mut Vec<u8>) -> Result<WorkOutcome, NoMemory>
+        ensures outcome { IfOk result (λ o. o ≡ worked_outcome (worked self.old.server).answer) }
+        ensures value { OnOk result (self.new ≡ worked_as (worked self.old.server) self.old) }
+        ensures bytes { OnOk result (out.new.items ≡ out.old.items ++ (worked self.old.server).packet) }
         ensures number { self.new.number ≡ self.old.number }
-        ensures tied { OnOk result (IsTied self.new (C.pipes carrier.new self.old.number)) }
-        ensures others { OnOk result (AreSame (C.pipes carrier.old) (C.pipes carrier.new) self.old.number) }
+        ensures live { self.new.is_cut ≡ self.old.is_cut }
+        ensures tied { (pipe : Option Pipe) → IsTied self.old pipe → IsTied self.new pipe }
     {
         let before = *self.server.session();
-        let mut out = Vec::new(alloc);
-        let outcome = match self.server.work(&mut out)? {
-            Worked::Idle => return Ok(done(Outcome::Work(WorkOutcome::Idle))),
+        let outcome = match self.server.work(out)? {
+            Worked::Idle => return Ok(WorkOutcome::Idle),
             Worked::Step => WorkOutcome::Step,
             Worked::Finished => WorkOutcome::Finished,
         };
@@ -288,6 +313,21 @@ impl<E: Engine + Drop> Link<E> {
         if let Some(record) = &mut self.current {
             record.note_step(before, after);
         }
+        Ok(outcome)
+    }
+
+    /// The server does the next step of the answer that is due.
+    fn work<C: Carrier>(&mut self, alloc: Global, carrier: &mut C) -> Result<Done, NoMemory>
+        requires live { self.old.is_cut ≡ false }
+        requires tied { IsTied self.old (C.pipes carrier.old self.old.number) }
+        ensures number { self.new.number ≡ self.old.number }
+        ensures tied { OnOk result (IsTied self.new (C.pipes carrier.new self.old.number)) }
+        ensures others { OnOk result (AreSame (C.pipes carrier.old) (C.pipes carrier.new) self.old.number) }
+        ensures worked { IfOk result (λ done. (done.outcome ≡ outcome.Work (worked_outcome (worked self.old.server).answer))
+            × (self.new ≡ unless_lost done.lost (recounted self.new.to_server self.new.to_client (worked_as (worked self.old.server) self.old)))) }
+    {
+        let mut out = Vec::new(alloc);
+        let outcome = self.put_step(&mut out)?;
         let lost = self.hand_over(carrier, Direction::ToClient, out.as_slice())?;
         Ok(self.end(carrier, Outcome::Work(outcome), lost))
     }
