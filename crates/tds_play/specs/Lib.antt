@@ -16,6 +16,7 @@ pub mod Seen
 pub mod Acts
 pub mod Holdings
 pub mod Lending
+pub mod Noted
 pub mod Refused
 pub mod Runs
 pub mod Stands

@@ -11,6 +11,7 @@ ghost use Rattle.tds_play.specs.Ties.{IsTied, counted};
 ghost use Rattle.tds_world.specs.Pool.{is_free};
 
 pub(crate) mod acts;
+mod deliveries;
 
 use crate::NoMemory;
 use crate::carrier::{Carrier, CarrierError};

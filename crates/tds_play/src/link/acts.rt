@@ -5,6 +5,7 @@ ghost use Rattle.tds_play.specs.Links.{IsAskedOn, IsPutBy, lent_as, placed_at, r
 ghost use Rattle.tds_play.specs.Acts.{cancel_outcome, cancelled_as, unless_lost, with_client, worked_as};
 ghost use Rattle.tds_play.specs.Alike.{send_outcome, worked_outcome};
 ghost use Rattle.tds_play.specs.Seen.{done_as};
+ghost use Rattle.tds_world.specs.Pool.{place_back, returned_as};
 ghost use Rattle.tds_client.specs.Sending.{cancelled, sent};
 ghost use Rattle.tds_server.specs.Working.{worked};
 ghost use Rattle.tds_world.specs.declared.outcome.AbandonOutcome.TheVariants as abandoned;
@@ -19,7 +20,6 @@ ghost use Rattle.tds_play.specs.Ties.{IsTied};
 use super::{Done, Link, Record};
 use crate::NoMemory;
 use crate::carrier::Carrier;
-use crate::feeding::{Heard, feed_client, feed_server};
 use std::alloc::{AllocError, Global};
 use tds_client::{Cancelled, ClientRefusal, Sent};
 use tds_packet::{Direction, Reset};
@@ -67,17 +67,6 @@ fn on_cut(event: &Event) -> Done {
             refused(Refusal::UnknownConnection)
         }
         _ => refused(Refusal::ConnectionCut),
-    }
-}
-
-/// So many of the bytes underway, or all where there are fewer.
-fn at_most(underway: u64, most: u32) -> u32
-    ensures value { result ≡ min most underway }
-    ensures within { result ≤ underway }
-{
-    match u32::try_from(underway) {
-        Ok(count) => count.min(most),
-        Err(_) => most,
     }
 }
 
@@ -141,6 +130,9 @@ impl<E: Engine + Drop> Link<E> {
         ensures number { self.new.number ≡ self.old.number }
         ensures tied { OnOk result (IsTied self.new (C.pipes carrier.new self.old.number)) }
         ensures others { OnOk result (AreSame (C.pipes carrier.old) (C.pipes carrier.new) self.old.number) }
+        ensures back { IfOk (cancelled self.old.client) (λ e. IfOk result (λ done. (done.outcome ≡ outcome.GivenBack (returned_as (is_none (unless_idle e.session.stage))))
+            × (self.new ≡ unless_lost done.lost (recounted self.new.to_server self.new.to_client
+            (placed_at (place_back (is_none (unless_idle e.session.stage))) (cancelled_as e.answer e.session self.old)))))) }
     {
         let mut out = Vec::new(alloc);
         let _ = self.cancel_request(&mut out)?;
@@ -287,6 +279,8 @@ impl<E: Engine + Drop> Link<E> {
         ensures number { self.new.number ≡ self.old.number }
         ensures tied { OnOk result (IsTied self.new (C.pipes carrier.new self.old.number)) }
         ensures others { OnOk result (AreSame (C.pipes carrier.old) (C.pipes carrier.new) self.old.number) }
+        ensures cancelled { IfOk (cancelled self.old.client) (λ e. IfOk result (λ done. (done.outcome ≡ outcome.Cancel (cancel_outcome e.answer))
+            × (self.new ≡ unless_lost done.lost (recounted self.new.to_server self.new.to_client (cancelled_as e.answer e.session self.old))))) }
     {
         let mut out = Vec::new(alloc);
         let cancelled = self.cancel_request(&mut out)?;
@@ -330,87 +324,5 @@ impl<E: Engine + Drop> Link<E> {
         let outcome = self.put_step(&mut out)?;
         let lost = self.hand_over(carrier, Direction::ToClient, out.as_slice())?;
         Ok(self.end(carrier, Outcome::Work(outcome), lost))
-    }
-
-    /// Bytes come to the server, and what they cause goes out.
-    fn deliver_to_server<C: Carrier>(
-        &mut self,
-        alloc: Global,
-        carrier: &mut C,
-        most: u32,
-    ) -> Result<Done, NoMemory>
-        requires live { self.old.is_cut ≡ false }
-        requires tied { IsTied self.old (C.pipes carrier.old self.old.number) }
-        ensures number { self.new.number ≡ self.old.number }
-        ensures tied { OnOk result (IsTied self.new (C.pipes carrier.new self.old.number)) }
-        ensures others { OnOk result (AreSame (C.pipes carrier.old) (C.pipes carrier.new) self.old.number) }
-    {
-        let count = at_most(self.to_server, most);
-        let mut piece = Vec::new(alloc);
-        let carried = self.carry(carrier, Direction::ToServer, count, &mut piece)?;
-        let mut reply = Vec::new(alloc);
-        let piece = piece.as_slice();
-        match feed_server(&mut self.server, &mut self.server_reader, piece, &mut reply)? {
-            None => {
-                let lost = self.hand_over(carrier, Direction::ToClient, reply.as_slice())?;
-                let outcome = Outcome::ToServer(carried.count);
-                Ok(self.end(carrier, outcome, carried.lost || lost))
-            }
-            Some(fault) => Ok(self.end_by_fault(carrier, fault, carried.lost)),
-        }
-    }
-
-    /// Bytes come to the client, which tells their tokens to the newest request's caller.
-    fn deliver_to_client<C: Carrier>(
-        &mut self,
-        alloc: Global,
-        carrier: &mut C,
-        most: u32,
-    ) -> Result<Done, NoMemory>
-        requires live { self.old.is_cut ≡ false }
-        requires tied { IsTied self.old (C.pipes carrier.old self.old.number) }
-        ensures number { self.new.number ≡ self.old.number }
-        ensures tied { OnOk result (IsTied self.new (C.pipes carrier.new self.old.number)) }
-        ensures others { OnOk result (AreSame (C.pipes carrier.old) (C.pipes carrier.new) self.old.number) }
-    {
-        let count = at_most(self.to_client, most);
-        let mut piece = Vec::new(alloc);
-        let carried = self.carry(carrier, Direction::ToClient, count, &mut piece)?;
-        let heard = self.hear(alloc, piece.as_slice())?;
-        if let Some(fault) = heard.fault {
-            return Ok(self.end_by_fault(carrier, fault, carried.lost));
-        }
-        if self.place == Place::Draining && self.is_idle() {
-            self.place = Place::Free;
-        }
-        Ok(self.end(carrier, Outcome::ToClient(carried.count), carried.lost))
-    }
-
-    /// The client takes what came, for the newest request.
-    fn hear(&mut self, alloc: Global, piece: &[u8]) -> Result<Heard, NoMemory>
-        requires { self.old.client_reader.direction ≡ ToClient }
-        ensures number { self.new.number ≡ self.old.number }
-        ensures live { self.new.is_cut ≡ self.old.is_cut }
-        ensures tied { (pipe : Option Pipe) → IsTied self.old pipe → OnOk result (IsTied self.new pipe) }
-    {
-        match &mut self.current {
-            None => {
-                let mut nobody = Vec::new(alloc);
-                feed_client(
-                    &mut self.client,
-                    &mut self.client_reader,
-                    piece,
-                    &mut nobody,
-                )
-            }
-            Some(record) => {
-                let told = &mut record.tokens;
-                let heard = feed_client(&mut self.client, &mut self.client_reader, piece, told)?;
-                if let Some(status) = heard.settled {
-                    record.status = status;
-                }
-                Ok(heard)
-            }
-        }
     }
 }
