@@ -22,5 +22,7 @@ pub mod Arriving
 pub mod Contents
 pub mod Heard
 pub mod Hearing
+pub mod Cancelling
+pub mod Begun
 pub mod Kept
 pub mod Pieces
