@@ -25,4 +25,5 @@ pub mod Hearing
 pub mod Cancelling
 pub mod Begun
 pub mod Kept
+pub mod Said
 pub mod Pieces

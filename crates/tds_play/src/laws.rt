@@ -1,6 +1,7 @@
 //! The ends and the model: what each end's core does, the model's connection does. Each is the
 //! contract of a function without a body.
-ghost use Rattle.std.specs.Prelude.{◌≡◌, ◌≤◌, ◌<◌, ◌^◌, ℕ, List, [], ◌∷◌, map, Some, true};
+ghost use Rattle.std.specs.Prelude.{◌≡◌, ◌≤◌, ◌<◌, ◌^◌, ℕ, List, [], ◌∷◌, map, Some, true, Option};
+ghost use Rattle.std.specs.List.{AllByRecursion};
 ghost use Rattle.tds_client.specs.Sending.{started, sent, room};
 ghost use Rattle.tds_client.specs.Session.{ClientSession, marked, new_session, unless_idle};
 ghost use Rattle.tds_request.specs.declared.request.Request.{Request};
@@ -9,11 +10,11 @@ ghost use Rattle.tds_server.specs.Working.{worked};
 ghost use Rattle.tds_world.specs.Connection.{Connection, Standing, new_connection, phase, is_idle};
 ghost use Rattle.tds_world.specs.Events.{asks_by, sends_in};
 ghost use Rattle.tds_play.specs.Alike.{AskAlike, CancelAlike, SendAlike, WorkAlike, EndsIfDue, ArriveAlike, IsUndisturbed};
-ghost use Rattle.tds_session.specs.Answer.{Answers};
+ghost use Rattle.tds_session.specs.Answer.{Answers, answer_of};
 ghost use Rattle.tds_server.specs.Taking.{taken};
 ghost use Rattle.tds_client.specs.Taking.{taken as client_taken};
 ghost use Rattle.tds_packet.specs.Layout.{bits_of, has_bit};
-ghost use Rattle.tds_play.specs.Hearing.{HearAlike, IsAwaited};
+ghost use Rattle.tds_play.specs.Hearing.{HearAlike, IsAwaited, IsSaid};
 ghost use Rattle.tds_world.specs.Entries.{Up, up_packet, Down, down_packet};
 ghost use Rattle.tds_world.specs.Lawful.{Lawful};
 ghost use Rattle.tds_world.specs.Record.{Record};
@@ -26,7 +27,7 @@ ghost use Rattle.tds_world.specs.Arrivals.{server_acts, client_acts, works};
 ghost use Rattle.tds_world.specs.Caller.{asks, sends, cancels};
 ghost use Rattle.tds_world.specs.Phase.{Settled, phase_of};
 ghost use Rattle.tds_packet.specs.declared.status.Reset.{Reset};
-ghost use Rattle.tds_session.specs.Session.{strongest};
+ghost use Rattle.tds_session.specs.Session.{SessionState, strongest};
 ghost use Rattle.tds_world.specs.declared.report.Place.{Place};
 ghost use Rattle.tds_request.specs.Layout.{Fits};
 ghost use Rattle.tds_play.specs.Stands.{is_sending};
@@ -111,4 +112,11 @@ pub fn lends_matching<E: Engine>()
     ensures server { (engine : E) (p : Place) → MatchesServer (new_server engine) (new_connection p) }
     ensures marked { (s : ClientSession) (c : Connection) (r : Reset) (standing : Standing) → MatchesClient s c → phase c ≡ Settled
         → MatchesClient (marked s r) (record c { mark = strongest (Some r) c.mark; standing = standing }) }
+{}
+
+/// Whatever the engine, a client can hear the DONEs of each step of its answers: more follows a
+/// statement, and the last one ends the answer. A step that takes a reset tells its end alone.
+pub fn answers_are_said<E: Engine>(engine: &E)
+    ensures { (s : SessionState) (descriptor : ℕ) (reset : Option Reset) (q : Request)
+        → AllByRecursion IsSaid (answer_of (E.statements_of engine.now) (E.step_of engine.now) s descriptor reset q) }
 {}
