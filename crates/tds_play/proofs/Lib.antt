@@ -22,7 +22,10 @@ pub mod Arriving
 pub mod Contents
 pub mod Heard
 pub mod Hearing
+pub mod Cancelling
+pub mod Begun
 pub mod Kept
+pub mod Said
 pub mod Pieces
 pub mod Fronts
 pub mod FedServer

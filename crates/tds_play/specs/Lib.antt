@@ -12,8 +12,11 @@ pub mod Pipe
 pub mod Memory
 pub mod Ties
 pub mod Links
+pub mod Seen
+pub mod Acts
 pub mod Holdings
 pub mod Lending
+pub mod Noted
 pub mod Refused
 pub mod Runs
 pub mod Stands

@@ -5,7 +5,7 @@ ghost use Rattle.tds_packet.specs.Reading.{Reading, with_taken, fault_of, up_to_
 ghost use Rattle.tds_packet.specs.declared.header.Header.{Header};
 ghost use Rattle.tds_packet.specs.declared.kind.Direction.TheVariants.{ToServer, ToClient};
 ghost use Rattle.tds_play.specs.Feeding.{Coming, Comes, IsServed, Served, served, IsListened, Listened, listened, settled_by};
-ghost use Rattle.tds_play.specs.Links.{outcome_of};
+ghost use Rattle.tds_play.specs.Seen.{outcome_of};
 ghost use Rattle.tds_session.specs.Answer.{answer_of};
 
 use crate::NoMemory;

@@ -4,12 +4,14 @@ ghost use Rattle.tds_client.specs.Session.{unless_idle};
 ghost use Rattle.tds_packet.specs.declared.kind.Direction.{Direction};
 ghost use Rattle.tds_packet.specs.declared.kind.Direction.TheVariants.{ToServer, ToClient};
 ghost use Rattle.tds_play.specs.Lending.{is_in_pool, standing_of};
-ghost use Rattle.tds_play.specs.Links.{IsAsked, IsNewLink, cut_of, outcome_of, recounted, report_of, seen_of, stepped};
+ghost use Rattle.tds_play.specs.Links.{IsAsked, IsNewLink, cut_of, recounted, report_of, stepped};
+ghost use Rattle.tds_play.specs.Seen.{outcome_of, seen_of};
 ghost use Rattle.tds_play.specs.Pipe.{AreSame, Brings, IsUncut, cut_pipe, new_pipe, sent_on};
 ghost use Rattle.tds_play.specs.Ties.{IsTied, counted, with_counted, saturated};
 ghost use Rattle.tds_world.specs.Pool.{is_free};
 
 pub(crate) mod acts;
+mod deliveries;
 
 use crate::NoMemory;
 use crate::carrier::{Carrier, CarrierError};
