@@ -22,7 +22,10 @@ pub mod Arriving
 pub mod Contents
 pub mod Heard
 pub mod Hearing
+pub mod Cancelling
+pub mod Begun
 pub mod Kept
+pub mod Said
 pub mod Pieces
 pub mod Fronts
 pub mod FedServer
@@ -31,3 +34,5 @@ pub mod Cuts
 pub mod ServerDelivery
 pub mod ClientDelivery
 pub mod Carrying
+pub mod Between
+pub mod ServerEvent

@@ -4,7 +4,8 @@ use Rattle.tds_client.specs.declared.fault.ClientRefusal.{ClientRefusal}
 use Rattle.tds_client.specs.declared.fault.ClientRefusal.TheVariants as refused
 use Rattle.tds_client.specs.declared.state.Sent.{Sent}
 use Rattle.tds_client.specs.declared.state.Sent.TheVariants as client
-use Rattle.tds_client.specs.Sending.{Effect}
+use Rattle.tds_client.specs.declared.state.Cancelled.{Cancelled}
+use Rattle.tds_client.specs.Sending.{Effect, cancelled}
 use Rattle.tds_client.specs.Session.{ClientSession}
 use Rattle.tds_server.specs.declared.outcome.Worked.{Worked}
 use Rattle.tds_server.specs.declared.outcome.Worked.TheVariants as server
@@ -12,6 +13,7 @@ use Rattle.tds_server.specs.declared.outcome.ServerTook.{ServerTook}
 use Rattle.tds_server.specs.Taking.{Taken}
 use Rattle.tds_server.specs.Working.{Work}
 use Rattle.tds_session.specs.Answer.{Answers, Step}
+use Rattle.tds_world.specs.declared.outcome.CancelOutcome.{CancelOutcome}
 use Rattle.tds_world.specs.declared.outcome.Outcome.TheVariants as outcome
 use Rattle.tds_world.specs.declared.outcome.Refusal.TheVariants as refusal
 use Rattle.tds_world.specs.declared.outcome.SendOutcome.{SendOutcome}
@@ -19,11 +21,14 @@ use Rattle.tds_world.specs.declared.outcome.SendOutcome.TheVariants as sent
 use Rattle.tds_world.specs.declared.outcome.WorkOutcome.{WorkOutcome}
 use Rattle.tds_world.specs.declared.outcome.WorkOutcome.TheVariants as work
 use Rattle.tds_world.specs.Arrivals.{works, server_acts}
-use Rattle.tds_world.specs.Connection.{Connection}
+use Rattle.tds_world.specs.Caller as model
+use Rattle.tds_world.specs.Caller.{cancels}
+use Rattle.tds_world.specs.Connection.{Connection, phase}
 use Rattle.tds_world.specs.Entries.{Up, Part, End, Drop, Attention, up_bytes, down_bytes}
 use Rattle.tds_world.specs.Events.{work_outcome}
 use Rattle.tds_world.specs.Lawful.{EndsOnce}
 use Rattle.tds_world.specs.Pool.{Acted, Refuses, Does}
+use Rattle.tds_play.specs.Acts.{cancel_outcome}
 use Rattle.tds_play.specs.Stands.{MatchesClient, MatchesServer, Sends}
 
 -- ---- Sending
@@ -91,3 +96,18 @@ pub record ArriveAlike {E : Type 0} (answers : Answers) (c : Connection) (e : Up
   pub lawful : t.answer ≡ Ok took
   pub matches : MatchesServer t.state (server_acts answers c e)
   pub sends : Sends down_bytes t.reply c.to_client (server_acts answers c e).to_client
+
+-- ---- Cancelling
+
+-- A client's cancel and the model's: the answer is the same, the client appends the bytes of the
+-- entries that the connection appends, and matches the connection then.
+abbrev pub DoesCancel : Connection → Result (Effect Cancelled) ClientRefusal → CancelOutcome → Connection → Type 0
+DoesCancel c result what d =
+    (e : Effect Cancelled)
+    × (result ≡ Ok e)
+    × (what ≡ cancel_outcome e.answer)
+    × MatchesClient e.session d
+    × Sends up_bytes e.bytes c.to_server d.to_server
+
+abbrev pub CancelAlike : ClientSession → Connection → Type 0
+CancelAlike s c = DoesCancel c (cancelled s) (model.cancel_outcome (phase c)) (cancels c)

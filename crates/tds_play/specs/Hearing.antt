@@ -39,6 +39,14 @@ HasDones true tokens =
     (front : List Token) × (final : Token) × (tokens ≡ front ++ final ∷ [])
     × AllByRecursion IsStatementDone front × IsFinal final
 
+-- What a step says by its DONEs; and one that takes a reset tells its end alone.
+abbrev pub IsSaidBy : Option Reset → answer.Step → Type 0
+IsSaidBy None s = HasDones s.last s.tokens
+IsSaidBy (Some r) s = (s.tokens ≡ token.Env ResetDone ∷ []) × (s.last ≡ false)
+
+abbrev pub IsSaid : answer.Step → Type 0
+IsSaid s = IsSaidBy s.reset s
+
 -- A step without a reset can be heard where all its changes apply. One that tells the end of a reset
 -- tells nothing else, and is heard where that reset was asked for.
 abbrev pub IsHeardBy : Option Reset → Connection → answer.Step → Type 0

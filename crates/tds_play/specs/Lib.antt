@@ -11,8 +11,12 @@ pub mod Schedule
 pub mod Pipe
 pub mod Memory
 pub mod Ties
+pub mod Links
+pub mod Seen
+pub mod Acts
 pub mod Holdings
 pub mod Lending
+pub mod Noted
 pub mod Refused
 pub mod Runs
 pub mod Stands
@@ -21,3 +25,4 @@ pub mod Alike
 pub mod Hearing
 pub mod Feeding
 pub mod Deliveries
+pub mod Between

@@ -5,6 +5,7 @@ ghost use Rattle.tds_packet.specs.Reading.{Reading, with_taken, fault_of, up_to_
 ghost use Rattle.tds_packet.specs.declared.header.Header.{Header};
 ghost use Rattle.tds_packet.specs.declared.kind.Direction.TheVariants.{ToServer, ToClient};
 ghost use Rattle.tds_play.specs.Feeding.{Coming, Comes, IsServed, Served, served, IsListened, Listened, listened, settled_by};
+ghost use Rattle.tds_play.specs.Seen.{outcome_of};
 ghost use Rattle.tds_session.specs.Answer.{answer_of};
 
 use crate::NoMemory;
@@ -43,7 +44,9 @@ impl Fault {
     }
 
     /// What an event comes to that delivers such bytes.
-    pub(crate) fn outcome(self) -> Outcome {
+    pub(crate) fn outcome(self) -> Outcome
+        ensures { result ≡ outcome_of self }
+    {
         Outcome::Fault {
             end: self.end,
             layer: self.layer,

@@ -1,19 +1,20 @@
 //! The ends and the model: what each end's core does, the model's connection does. Each is the
 //! contract of a function without a body.
 ghost use Rattle.std.specs.Prelude.{◌≡◌, ◌≤◌, ◌<◌, ◌^◌, ℕ, List, [], ◌∷◌, Option, map, flat_map, take, Some, true};
+ghost use Rattle.std.specs.List.{AllByRecursion};
 ghost use Rattle.tds_client.specs.Sending.{started, sent, room};
-ghost use Rattle.tds_client.specs.Session.{ClientSession, unless_idle};
+ghost use Rattle.tds_client.specs.Session.{ClientSession, marked, new_session, unless_idle};
 ghost use Rattle.tds_request.specs.declared.request.Request.{Request};
-ghost use Rattle.tds_server.specs.State.{ServerState};
+ghost use Rattle.tds_server.specs.State.{ServerState, new_server};
 ghost use Rattle.tds_server.specs.Working.{worked};
-ghost use Rattle.tds_world.specs.Connection.{Connection, phase, is_idle};
+ghost use Rattle.tds_world.specs.Connection.{Connection, Standing, new_connection, phase, is_idle};
 ghost use Rattle.tds_world.specs.Events.{asks_by, sends_in};
-ghost use Rattle.tds_play.specs.Alike.{AskAlike, SendAlike, WorkAlike, EndsIfDue, ArriveAlike, IsUndisturbed};
-ghost use Rattle.tds_session.specs.Answer.{Answers};
+ghost use Rattle.tds_play.specs.Alike.{AskAlike, CancelAlike, SendAlike, WorkAlike, EndsIfDue, ArriveAlike, IsUndisturbed};
+ghost use Rattle.tds_session.specs.Answer.{Answers, answer_of};
 ghost use Rattle.tds_server.specs.Taking.{taken};
 ghost use Rattle.tds_client.specs.Taking.{taken as client_taken};
 ghost use Rattle.tds_packet.specs.Layout.{bits_of, has_bit};
-ghost use Rattle.tds_play.specs.Hearing.{HearAlike, IsAwaited};
+ghost use Rattle.tds_play.specs.Hearing.{HearAlike, IsAwaited, IsSaid};
 ghost use Rattle.tds_world.specs.Entries.{Up, up_packet, Down, down_packet};
 ghost use Rattle.tds_world.specs.Lawful.{Lawful};
 ghost use Rattle.tds_world.specs.Record.{Record};
@@ -30,7 +31,10 @@ ghost use Rattle.tds_world.specs.Entries.{up_bytes, down_bytes};
 ghost use Rattle.tds_play.specs.Messages.{IsSpelled, IsNext, AreWhole, AreNextIn};
 ghost use Rattle.tds_world.specs.Arrivals.{server_acts, client_acts, works};
 ghost use Rattle.tds_world.specs.Caller.{asks, sends, cancels};
-ghost use Rattle.tds_world.specs.Phase.{phase_of};
+ghost use Rattle.tds_world.specs.Phase.{Settled, phase_of};
+ghost use Rattle.tds_packet.specs.declared.status.Reset.{Reset};
+ghost use Rattle.tds_session.specs.Session.{SessionState, strongest};
+ghost use Rattle.tds_world.specs.declared.report.Place.{Place};
 ghost use Rattle.tds_request.specs.Layout.{Fits};
 ghost use Rattle.tds_play.specs.Stands.{is_sending};
 ghost use Rattle.tds_play.specs.Stands.{MatchesClient, MatchesServer};
@@ -100,6 +104,27 @@ pub fn messages_stay_whole()
     ensures arrives { (answers : Answers) (c : Connection) (e : Up) (es : List Up) → AreNextIn c.current c.parts (e ∷ es)
         → AreNextIn (server_acts answers c e).current (server_acts answers c e).parts es }
     ensures hears { (c : Connection) (e : Down) → AreWhole c → AreWhole (client_acts c e) }
+{}
+
+/// A client cancels as the model does, in each phase: it sends the bytes of the same entries.
+pub fn cancels_alike()
+    ensures { (s : ClientSession) (c : Connection) → MatchesClient s c → CancelAlike s c }
+{}
+
+/// The ends of a new connection stand for a new connection of the model. A client that is marked for
+/// a reset stands for a connection that is lent again.
+pub fn lends_matching<E: Engine>()
+    ensures client { (size : ℕ) (p : Place) → MatchesClient (new_session size) (new_connection p) }
+    ensures server { (engine : E) (p : Place) → MatchesServer (new_server engine) (new_connection p) }
+    ensures marked { (s : ClientSession) (c : Connection) (r : Reset) (standing : Standing) → MatchesClient s c → phase c ≡ Settled
+        → MatchesClient (marked s r) (record c { mark = strongest (Some r) c.mark; standing = standing }) }
+{}
+
+/// Whatever the engine, a client can hear the DONEs of each step of its answers: more follows a
+/// statement, and the last one ends the answer. A step that takes a reset tells its end alone.
+pub fn answers_are_said<E: Engine>(engine: &E)
+    ensures { (s : SessionState) (descriptor : ℕ) (reset : Option Reset) (q : Request)
+        → AllByRecursion IsSaid (answer_of (E.statements_of engine.now) (E.step_of engine.now) s descriptor reset q) }
 {}
 
 /// A server that is fed the bytes of entries takes those that come whole as the model does, in order,

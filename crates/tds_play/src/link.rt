@@ -1,13 +1,17 @@
 //! One connection: both its ends, what is underway between them, and the requests asked on it.
-ghost use Rattle.std.specs.Prelude.{◌≡◌, ◌≤◌, ◌+◌, ◌-◌, ℕ, length, true, false, Some, IfOk, OnOk};
+ghost use Rattle.std.specs.Prelude.{◌≡◌, ◌≢◌, ◌≤◌, ◌+◌, ◌-◌, ℕ, [], length, true, false, if◌then◌else◌, is_none, Some, Ok, IfOk, OnOk};
+ghost use Rattle.tds_client.specs.Session.{unless_idle};
 ghost use Rattle.tds_packet.specs.declared.kind.Direction.{Direction};
 ghost use Rattle.tds_packet.specs.declared.kind.Direction.TheVariants.{ToServer, ToClient};
 ghost use Rattle.tds_play.specs.Lending.{is_in_pool, standing_of};
-ghost use Rattle.tds_play.specs.Pipe.{AreSame, Brings, IsUncut, new_pipe, sent_on};
+ghost use Rattle.tds_play.specs.Links.{IsAsked, IsNewLink, cut_of, recounted, report_of, stepped};
+ghost use Rattle.tds_play.specs.Seen.{outcome_of, seen_of};
+ghost use Rattle.tds_play.specs.Pipe.{AreSame, Brings, IsUncut, cut_pipe, new_pipe, sent_on};
 ghost use Rattle.tds_play.specs.Ties.{IsTied, counted, with_counted, saturated};
 ghost use Rattle.tds_world.specs.Pool.{is_free};
 
 pub(crate) mod acts;
+mod deliveries;
 
 use crate::NoMemory;
 use crate::carrier::{Carrier, CarrierError};
@@ -35,7 +39,9 @@ pub(crate) struct Record {
 
 impl Record {
     /// A request that is asked now.
-    fn new(alloc: Global, lease: u32, mark: Option<Reset>) -> Record {
+    fn new(alloc: Global, lease: u32, mark: Option<Reset>) -> Record
+        ensures { IsAsked lease mark result }
+    {
         Record {
             lease,
             mark,
@@ -47,7 +53,9 @@ impl Record {
 
     /// A step of its answer was done, from the one session to the other. The first one says in
     /// which session it runs: with a reset the one after that step, else the one before it.
-    fn note_step(&mut self, before: Session, after: Session) {
+    fn note_step(&mut self, before: Session, after: Session)
+        ensures { self.new ≡ stepped before after self.old }
+    {
         if self.ran.is_none() {
             self.ran = match self.mark {
                 None => Some(before),
@@ -57,7 +65,9 @@ impl Record {
     }
 
     /// What is told of it in the end, where this is its connection.
-    pub(crate) fn report(self, conn: u32) -> RequestReport {
+    pub(crate) fn report(self, conn: u32) -> RequestReport
+        ensures { result ≡ report_of conn self }
+    {
         let Record {
             lease,
             mark: _,
@@ -124,6 +134,7 @@ impl<E: Engine + Drop> Link<E> {
         ensures number { IfOk result (λ link. link.number ≡ number) }
         ensures tied { IfOk result (λ link. IsTied link (Some (new_pipe 0))) }
         ensures live { IfOk result (λ link. link.is_cut ≡ false) }
+        ensures value { IfOk result (IsNewLink number lease size engine) }
     {
         Ok(Link {
             number,
@@ -180,7 +191,9 @@ impl<E: Engine + Drop> Link<E> {
     }
 
     /// Whether nobody waits for an answer.
-    pub(crate) fn is_idle(&self) -> bool {
+    pub(crate) fn is_idle(&self) -> bool
+        ensures { result ≡ is_none (unless_idle self.now.client.stage) }
+    {
         matches!(self.client.state(), ClientState::Idle)
     }
 
@@ -198,18 +211,20 @@ impl<E: Engine + Drop> Link<E> {
         ensures live { self.new.is_cut ≡ false }
         ensures tied { OnOk result (IsTied self.new (C.pipes carrier.new self.old.number)) }
         ensures others { OnOk result (AreSame (C.pipes carrier.old) (C.pipes carrier.new) self.old.number) }
-        ensures counted { OnOk result (self.new ≡ with_counted self.old direction (saturated (counted self.old direction + length bytes.now))) }
-        ensures handed { IfOk result (λ lost. lost ≡ false → C.pipes carrier.new self.old.number ≡ sent_on (C.pipes carrier.old self.old.number) direction bytes.now 0) }
+        ensures rest { self.new ≡ recounted self.new.to_server self.new.to_client self.old }
+        ensures nothing { bytes.now ≡ [] → (result ≡ Ok false) × (self.new ≡ self.old) × (carrier.new ≡ carrier.old) }
+        ensures handed { bytes.now ≢ [] → IfOk result (λ lost. C.pipes carrier.new self.old.number
+            ≡ sent_on (C.pipes carrier.old self.old.number) direction bytes.now (if lost then 1 else 0)) }
+        ensures counted { bytes.now ≢ [] → OnOk result (self.new ≡ with_counted self.old direction (saturated (counted self.old direction + length bytes.now))) }
         ensures tells { OnOk result (C.tells carrier.old → C.tells carrier.new) }
     {
-        let lost = if bytes.is_empty() {
-            false
-        } else {
-            match carrier.send(self.number, direction, bytes) {
-                Ok(()) => false,
-                Err(CarrierError::Lost) => true,
-                Err(CarrierError::Memory) => return Err(AllocError),
-            }
+        if bytes.is_empty() {
+            return Ok(false);
+        }
+        let lost = match carrier.send(self.number, direction, bytes) {
+            Ok(()) => false,
+            Err(CarrierError::Lost) => true,
+            Err(CarrierError::Memory) => return Err(AllocError),
         };
         let count = bytes.len() as u64;
         match direction {
@@ -278,6 +293,9 @@ impl<E: Engine + Drop> Link<E> {
         ensures number { self.new.number ≡ self.old.number }
         ensures tied { IsTied self.new (C.pipes carrier.new self.old.number) }
         ensures others { AreSame (C.pipes carrier.old) (C.pipes carrier.new) self.old.number }
+        ensures value { self.new ≡ cut_of self.old }
+        ensures pipe { C.pipes carrier.new self.old.number ≡ cut_pipe (C.pipes carrier.old self.old.number) }
+        ensures tells { C.tells carrier.old → C.tells carrier.new }
     {
         carrier.cut(self.number);
         self.is_cut = true;
@@ -303,6 +321,9 @@ impl<E: Engine + Drop> Link<E> {
         ensures number { self.new.number ≡ self.old.number }
         ensures tied { IsTied self.new (C.pipes carrier.new self.old.number) }
         ensures others { AreSame (C.pipes carrier.old) (C.pipes carrier.new) self.old.number }
+        ensures value { self.new ≡ (if lost then cut_of self.old else self.old) }
+        ensures done { result ≡ record { outcome = outcome; lost = lost } }
+        ensures kept { lost ≡ false → carrier.new ≡ carrier.old }
     {
         if lost {
             self.cut(carrier);
@@ -317,6 +338,8 @@ impl<E: Engine + Drop> Link<E> {
         ensures number { self.new.number ≡ self.old.number }
         ensures tied { IsTied self.new (C.pipes carrier.new self.old.number) }
         ensures others { AreSame (C.pipes carrier.old) (C.pipes carrier.new) self.old.number }
+        ensures value { self.new ≡ cut_of self.old }
+        ensures done { result ≡ record { outcome = outcome_of fault; lost = lost } }
     {
         self.cut(carrier);
         Done {
@@ -326,7 +349,9 @@ impl<E: Engine + Drop> Link<E> {
     }
 
     /// What is seen of it, unless it is cut.
-    pub(crate) fn snapshot(&self) -> Option<Snapshot> {
+    pub(crate) fn snapshot(&self) -> Option<Snapshot>
+        ensures { result ≡ seen_of self.now }
+    {
         if self.is_cut {
             return None;
         }

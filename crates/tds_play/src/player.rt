@@ -1,5 +1,6 @@
 //! All connections of a play, and what each event does to them.
 ghost use Rattle.std.specs.Prelude.{◌≡◌, ◌≤◌, ◌<◌, ℕ, suc, [], length, OnOk};
+ghost use Rattle.tds_play.specs.Noted.{asked_after, held_of, leases_after, tickets_after};
 ghost use Rattle.tds_play.specs.Ties.{AreTied};
 ghost use Rattle.tds_play.specs.declared.pool.Found.TheVariants.{Here};
 
@@ -31,7 +32,10 @@ pub(crate) struct Player<E: Engine + Copy> {
 impl<E: Engine + Copy> Player<E> {
     /// A play before any event.
     pub(crate) fn new(alloc: Global, engine: E, size: PacketSize, max: u8) -> Player<E>
-        ensures { result.links.items ≡ [] }
+        ensures links { result.links.items ≡ [] }
+        ensures leases { result.leases ≡ [] }
+        ensures tickets { result.tickets ≡ [] }
+        ensures asked { result.asked_on.items ≡ [] }
     {
         Player {
             alloc,
@@ -107,7 +111,8 @@ impl<E: Engine + Copy> Player<E> {
 
     /// The connection that a lease or ticket holds, if that is known.
     fn held(&self, conn: Option<u32>, why: Refusal) -> Found
-        ensures { (place : ℕ) → result ≡ Here place → place < length self.now.links.items }
+        ensures value { result ≡ held_of (length self.now.links.items) conn why }
+        ensures there { (place : ℕ) → result ≡ Here place → place < length self.now.links.items }
     {
         match conn {
             None => Found::Missing(why),
@@ -141,7 +146,10 @@ impl<E: Engine + Copy> Player<E> {
 
     /// Notes an event that applied, on this connection.
     fn note(&mut self, event: &Event, conn: u32) -> Result<(), NoMemory>
-        ensures { self.new.links ≡ self.old.links }
+        ensures links { self.new.links ≡ self.old.links }
+        ensures leases { OnOk result (self.new.leases ≡ leases_after event.now conn self.old.leases) }
+        ensures tickets { OnOk result (self.new.tickets ≡ tickets_after event.now conn self.old.tickets) }
+        ensures asked { OnOk result (self.new.asked_on.items ≡ asked_after event.now conn self.old.asked_on.items) }
     {
         match event {
             Event::Lease => self.leases.give(conn),

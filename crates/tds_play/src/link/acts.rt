@@ -1,5 +1,18 @@
 //! What each event does on its connection.
-ghost use Rattle.std.specs.Prelude.{◌≡◌, ◌≤◌, false, min, Option, OnOk};
+ghost use Rattle.std.specs.Prelude.{◌≡◌, ◌≤◌, true, false, is_none, min, Option, None, Some, Ok, IfOk, OnOk, ◌++◌, is_ok};
+ghost use Rattle.tds_client.specs.Session.{unless_idle};
+ghost use Rattle.tds_play.specs.Links.{IsAskedOn, IsPutBy, lent_as, placed_at, recounted, unless_kept};
+ghost use Rattle.tds_play.specs.Acts.{cancel_outcome, cancelled_as, unless_lost, with_client, worked_as};
+ghost use Rattle.tds_play.specs.Alike.{send_outcome, worked_outcome};
+ghost use Rattle.tds_play.specs.Seen.{done_as};
+ghost use Rattle.tds_world.specs.Pool.{place_back, returned_as};
+ghost use Rattle.tds_client.specs.Sending.{cancelled, sent};
+ghost use Rattle.tds_server.specs.Working.{worked};
+ghost use Rattle.tds_world.specs.declared.outcome.AbandonOutcome.TheVariants as abandoned;
+ghost use Rattle.tds_world.specs.declared.outcome.Outcome.TheVariants.{Abandoned, Asked, Kept, Leased, Refused};
+ghost use Rattle.tds_world.specs.declared.outcome.Outcome.TheVariants as outcome;
+ghost use Rattle.tds_world.specs.declared.outcome.Refusal.TheVariants.{NotIdle, NotSending};
+ghost use Rattle.tds_world.specs.declared.report.Place.TheVariants as place;
 ghost use Rattle.tds_packet.specs.declared.kind.Direction.TheVariants.{ToClient};
 ghost use Rattle.tds_play.specs.Pipe.{Pipe, AreSame};
 ghost use Rattle.tds_play.specs.Ties.{IsTied};
@@ -7,7 +20,6 @@ ghost use Rattle.tds_play.specs.Ties.{IsTied};
 use super::{Done, Link, Record};
 use crate::NoMemory;
 use crate::carrier::Carrier;
-use crate::feeding::{Heard, feed_client, feed_server};
 use std::alloc::{AllocError, Global};
 use tds_client::{Cancelled, ClientRefusal, Sent};
 use tds_packet::{Direction, Reset};
@@ -28,14 +40,18 @@ pub(crate) struct Next {
 }
 
 /// An event that doesn't apply.
-pub(crate) fn refused(refusal: Refusal) -> Done {
+pub(crate) fn refused(refusal: Refusal) -> Done
+    ensures { result ≡ done_as (Refused refusal) }
+{
     Done {
         outcome: Outcome::Refused(refusal),
         lost: false,
     }
 }
 
-fn done(outcome: Outcome) -> Done {
+fn done(outcome: Outcome) -> Done
+    ensures { result ≡ done_as outcome }
+{
     Done {
         outcome,
         lost: false,
@@ -51,17 +67,6 @@ fn on_cut(event: &Event) -> Done {
             refused(Refusal::UnknownConnection)
         }
         _ => refused(Refusal::ConnectionCut),
-    }
-}
-
-/// So many of the bytes underway, or all where there are fewer.
-fn at_most(underway: u64, most: u32) -> u32
-    ensures value { result ≡ min most underway }
-    ensures within { result ≤ underway }
-{
-    match u32::try_from(underway) {
-        Ok(count) => count.min(most),
-        Err(_) => most,
     }
 }
 
@@ -103,6 +108,8 @@ impl<E: Engine + Drop> Link<E> {
 
     /// The connection is lent, and its next request is to ask for this reset.
     fn lend(&mut self, next: Next, mark: Reset, opened: Opened) -> Done
+        ensures lent { unless_idle self.old.client.stage ≡ None → self.new ≡ lent_as next.lease mark self.old }
+        ensures done { result ≡ done_as (Leased next.lease self.old.number opened) }
         ensures number { self.new.number ≡ self.old.number }
         ensures tied { (pipe : Option Pipe) → IsTied self.old pipe → IsTied self.new pipe }
     {
@@ -123,6 +130,9 @@ impl<E: Engine + Drop> Link<E> {
         ensures number { self.new.number ≡ self.old.number }
         ensures tied { OnOk result (IsTied self.new (C.pipes carrier.new self.old.number)) }
         ensures others { OnOk result (AreSame (C.pipes carrier.old) (C.pipes carrier.new) self.old.number) }
+        ensures back { IfOk (cancelled self.old.client) (λ e. IfOk result (λ done. (done.outcome ≡ outcome.GivenBack (returned_as (is_none (unless_idle e.session.stage))))
+            × (self.new ≡ unless_lost done.lost (recounted self.new.to_server self.new.to_client
+            (placed_at (place_back (is_none (unless_idle e.session.stage))) (cancelled_as e.answer e.session self.old)))))) }
     {
         let mut out = Vec::new(alloc);
         let _ = self.cancel_request(&mut out)?;
@@ -139,6 +149,8 @@ impl<E: Engine + Drop> Link<E> {
 
     /// The lease becomes a ticket, which keeps the transaction that the client heard of.
     fn keep(&mut self, next: Next) -> Done
+        ensures refused { (why : Refusal) → unless_kept self.old.client ≡ Some why → (result ≡ done_as (Refused why)) × (self.new ≡ self.old) }
+        ensures kept { unless_kept self.old.client ≡ None → (result ≡ done_as (Kept next.ticket)) × (self.new ≡ placed_at (place.Kept next.ticket) self.old) }
         ensures number { self.new.number ≡ self.old.number }
         ensures tied { (pipe : Option Pipe) → IsTied self.old pipe → IsTied self.new pipe }
     {
@@ -154,6 +166,8 @@ impl<E: Engine + Drop> Link<E> {
 
     /// The ticket ends. The connection that it kept is idle, so it is free then.
     fn abandon(&mut self) -> Done
+        ensures value { self.new ≡ placed_at place.Free self.old }
+        ensures done { result ≡ done_as (Abandoned abandoned.Free) }
         ensures number { self.new.number ≡ self.old.number }
         ensures tied { (pipe : Option Pipe) → IsTied self.old pipe → IsTied self.new pipe }
     {
@@ -169,20 +183,51 @@ impl<E: Engine + Drop> Link<E> {
         lease: u32,
         request: &Request,
     ) -> Result<Done, NoMemory>
+        ensures refused { is_none (unless_idle self.old.client.stage) ≡ false → (result ≡ Ok (done_as (Refused NotIdle))) × (self.new ≡ self.old) }
+        ensures asked { is_none (unless_idle self.old.client.stage) ≡ true → IfOk result (λ done. (done ≡ done_as (Asked next.request)) × IsAskedOn lease request.now self.old self.new) }
         ensures number { self.new.number ≡ self.old.number }
         ensures tied { (pipe : Option Pipe) → IsTied self.old pipe → IsTied self.new pipe }
     {
-        let mark = self.client.reset_mark();
-        match self.client.start(request) {
-            Ok(()) => {}
-            Err(ClientRefusal::Memory) => return Err(AllocError),
-            Err(_) => return Ok(refused(Refusal::NotIdle)),
+        if !self.is_idle() {
+            return Ok(refused(Refusal::NotIdle));
         }
+        let mark = self.client.reset_mark();
+        // An idle client refuses only where a growth was.
+        if self.client.start(request).is_err() {
+            return Err(AllocError);
+        }
+        self.put_by()?;
+        self.current = Some(Record::new(alloc, lease, mark));
+        Ok(done(Outcome::Asked(next.request)))
+    }
+
+    /// The newest request is put by those before it.
+    fn put_by(&mut self) -> Result<(), NoMemory>
+        ensures value { OnOk result (IsPutBy self.old self.new) }
+        ensures number { self.new.number ≡ self.old.number }
+        ensures tied { (pipe : Option Pipe) → IsTied self.old pipe → IsTied self.new pipe }
+    {
         if let Some(settled) = self.current.take() {
             self.past.push(settled)?;
         }
-        self.current = Some(Record::new(alloc, lease, mark));
-        Ok(done(Outcome::Asked(next.request)))
+        Ok(())
+    }
+
+    /// The client appends the request's next packet, if one is left.
+    fn put_next(&mut self, out: &mut Vec<u8>) -> Result<Option<SendOutcome>, NoMemory>
+        ensures refused { is_ok (sent self.old.client) ≡ false → (result ≡ Ok None) × (self.new ≡ self.old) × (out.new.items ≡ out.old.items) }
+        ensures sent { IfOk (sent self.old.client) (λ e. IfOk result (λ o. (o ≡ Some (send_outcome e.answer))
+            × (self.new ≡ with_client e.session self.old) × (out.new.items ≡ out.old.items ++ e.bytes))) }
+        ensures number { self.new.number ≡ self.old.number }
+        ensures live { self.new.is_cut ≡ self.old.is_cut }
+        ensures tied { (pipe : Option Pipe) → IsTied self.old pipe → IsTied self.new pipe }
+    {
+        match self.client.send(out) {
+            Ok(Sent::More) => Ok(Some(SendOutcome::More)),
+            Ok(Sent::Last) => Ok(Some(SendOutcome::Last)),
+            Err(ClientRefusal::Memory) => Err(AllocError),
+            Err(_) => Ok(None),
+        }
     }
 
     /// The request's next packet goes out.
@@ -192,13 +237,13 @@ impl<E: Engine + Drop> Link<E> {
         ensures number { self.new.number ≡ self.old.number }
         ensures tied { OnOk result (IsTied self.new (C.pipes carrier.new self.old.number)) }
         ensures others { OnOk result (AreSame (C.pipes carrier.old) (C.pipes carrier.new) self.old.number) }
+        ensures refused { is_ok (sent self.old.client) ≡ false → (result ≡ Ok (done_as (Refused NotSending))) × (self.new ≡ self.old) × (carrier.new ≡ carrier.old) }
+        ensures sent { IfOk (sent self.old.client) (λ e. IfOk result (λ done. (done.outcome ≡ outcome.Sent (send_outcome e.answer))
+            × (self.new ≡ unless_lost done.lost (recounted self.new.to_server self.new.to_client (with_client e.session self.old))))) }
     {
         let mut out = Vec::new(alloc);
-        let sent = match self.client.send(&mut out) {
-            Ok(Sent::More) => SendOutcome::More,
-            Ok(Sent::Last) => SendOutcome::Last,
-            Err(ClientRefusal::Memory) => return Err(AllocError),
-            Err(_) => return Ok(refused(Refusal::NotSending)),
+        let Some(sent) = self.put_next(&mut out)? else {
+            return Ok(refused(Refusal::NotSending));
         };
         let lost = self.hand_over(carrier, Direction::ToServer, out.as_slice())?;
         Ok(self.end(carrier, Outcome::Sent(sent), lost))
@@ -209,6 +254,8 @@ impl<E: Engine + Drop> Link<E> {
         ensures number { self.new.number ≡ self.old.number }
         ensures tied { (pipe : Option Pipe) → IsTied self.old pipe → IsTied self.new pipe }
         ensures live { self.new.is_cut ≡ self.old.is_cut }
+        ensures cancelled { IfOk (cancelled self.old.client) (λ e. IfOk result (λ outcome. (outcome ≡ cancel_outcome e.answer)
+            × (self.new ≡ cancelled_as e.answer e.session self.old) × (out.new.items ≡ out.old.items ++ e.bytes))) }
     {
         let (outcome, status) = match self.client.cancel(out) {
             Ok(Cancelled::Nothing) => return Ok(CancelOutcome::Nothing),
@@ -232,11 +279,35 @@ impl<E: Engine + Drop> Link<E> {
         ensures number { self.new.number ≡ self.old.number }
         ensures tied { OnOk result (IsTied self.new (C.pipes carrier.new self.old.number)) }
         ensures others { OnOk result (AreSame (C.pipes carrier.old) (C.pipes carrier.new) self.old.number) }
+        ensures cancelled { IfOk (cancelled self.old.client) (λ e. IfOk result (λ done. (done.outcome ≡ outcome.Cancel (cancel_outcome e.answer))
+            × (self.new ≡ unless_lost done.lost (recounted self.new.to_server self.new.to_client (cancelled_as e.answer e.session self.old))))) }
     {
         let mut out = Vec::new(alloc);
         let cancelled = self.cancel_request(&mut out)?;
         let lost = self.hand_over(carrier, Direction::ToServer, out.as_slice())?;
         Ok(self.end(carrier, Outcome::Cancel(cancelled), lost))
+    }
+
+    /// The server appends the next step of the answer that is due, if one is.
+    fn put_step(&mut self, out: &mut Vec<u8>) -> Result<WorkOutcome, NoMemory>
+        ensures outcome { IfOk result (λ o. o ≡ worked_outcome (worked self.old.server).answer) }
+        ensures value { OnOk result (self.new ≡ worked_as (worked self.old.server) self.old) }
+        ensures bytes { OnOk result (out.new.items ≡ out.old.items ++ (worked self.old.server).packet) }
+        ensures number { self.new.number ≡ self.old.number }
+        ensures live { self.new.is_cut ≡ self.old.is_cut }
+        ensures tied { (pipe : Option Pipe) → IsTied self.old pipe → IsTied self.new pipe }
+    {
+        let before = *self.server.session();
+        let outcome = match self.server.work(out)? {
+            Worked::Idle => return Ok(WorkOutcome::Idle),
+            Worked::Step => WorkOutcome::Step,
+            Worked::Finished => WorkOutcome::Finished,
+        };
+        let after = *self.server.session();
+        if let Some(record) = &mut self.current {
+            record.note_step(before, after);
+        }
+        Ok(outcome)
     }
 
     /// The server does the next step of the answer that is due.
@@ -246,101 +317,12 @@ impl<E: Engine + Drop> Link<E> {
         ensures number { self.new.number ≡ self.old.number }
         ensures tied { OnOk result (IsTied self.new (C.pipes carrier.new self.old.number)) }
         ensures others { OnOk result (AreSame (C.pipes carrier.old) (C.pipes carrier.new) self.old.number) }
+        ensures worked { IfOk result (λ done. (done.outcome ≡ outcome.Work (worked_outcome (worked self.old.server).answer))
+            × (self.new ≡ unless_lost done.lost (recounted self.new.to_server self.new.to_client (worked_as (worked self.old.server) self.old)))) }
     {
-        let before = *self.server.session();
         let mut out = Vec::new(alloc);
-        let outcome = match self.server.work(&mut out)? {
-            Worked::Idle => return Ok(done(Outcome::Work(WorkOutcome::Idle))),
-            Worked::Step => WorkOutcome::Step,
-            Worked::Finished => WorkOutcome::Finished,
-        };
-        let after = *self.server.session();
-        if let Some(record) = &mut self.current {
-            record.note_step(before, after);
-        }
+        let outcome = self.put_step(&mut out)?;
         let lost = self.hand_over(carrier, Direction::ToClient, out.as_slice())?;
         Ok(self.end(carrier, Outcome::Work(outcome), lost))
-    }
-
-    /// Bytes come to the server, and what they cause goes out.
-    fn deliver_to_server<C: Carrier>(
-        &mut self,
-        alloc: Global,
-        carrier: &mut C,
-        most: u32,
-    ) -> Result<Done, NoMemory>
-        requires live { self.old.is_cut ≡ false }
-        requires tied { IsTied self.old (C.pipes carrier.old self.old.number) }
-        ensures number { self.new.number ≡ self.old.number }
-        ensures tied { OnOk result (IsTied self.new (C.pipes carrier.new self.old.number)) }
-        ensures others { OnOk result (AreSame (C.pipes carrier.old) (C.pipes carrier.new) self.old.number) }
-    {
-        let count = at_most(self.to_server, most);
-        let mut piece = Vec::new(alloc);
-        let carried = self.carry(carrier, Direction::ToServer, count, &mut piece)?;
-        let mut reply = Vec::new(alloc);
-        let piece = piece.as_slice();
-        match feed_server(&mut self.server, &mut self.server_reader, piece, &mut reply)? {
-            None => {
-                let lost = self.hand_over(carrier, Direction::ToClient, reply.as_slice())?;
-                let outcome = Outcome::ToServer(carried.count);
-                Ok(self.end(carrier, outcome, carried.lost || lost))
-            }
-            Some(fault) => Ok(self.end_by_fault(carrier, fault, carried.lost)),
-        }
-    }
-
-    /// Bytes come to the client, which tells their tokens to the newest request's caller.
-    fn deliver_to_client<C: Carrier>(
-        &mut self,
-        alloc: Global,
-        carrier: &mut C,
-        most: u32,
-    ) -> Result<Done, NoMemory>
-        requires live { self.old.is_cut ≡ false }
-        requires tied { IsTied self.old (C.pipes carrier.old self.old.number) }
-        ensures number { self.new.number ≡ self.old.number }
-        ensures tied { OnOk result (IsTied self.new (C.pipes carrier.new self.old.number)) }
-        ensures others { OnOk result (AreSame (C.pipes carrier.old) (C.pipes carrier.new) self.old.number) }
-    {
-        let count = at_most(self.to_client, most);
-        let mut piece = Vec::new(alloc);
-        let carried = self.carry(carrier, Direction::ToClient, count, &mut piece)?;
-        let heard = self.hear(alloc, piece.as_slice())?;
-        if let Some(fault) = heard.fault {
-            return Ok(self.end_by_fault(carrier, fault, carried.lost));
-        }
-        if self.place == Place::Draining && self.is_idle() {
-            self.place = Place::Free;
-        }
-        Ok(self.end(carrier, Outcome::ToClient(carried.count), carried.lost))
-    }
-
-    /// The client takes what came, for the newest request.
-    fn hear(&mut self, alloc: Global, piece: &[u8]) -> Result<Heard, NoMemory>
-        requires { self.old.client_reader.direction ≡ ToClient }
-        ensures number { self.new.number ≡ self.old.number }
-        ensures live { self.new.is_cut ≡ self.old.is_cut }
-        ensures tied { (pipe : Option Pipe) → IsTied self.old pipe → OnOk result (IsTied self.new pipe) }
-    {
-        match &mut self.current {
-            None => {
-                let mut nobody = Vec::new(alloc);
-                feed_client(
-                    &mut self.client,
-                    &mut self.client_reader,
-                    piece,
-                    &mut nobody,
-                )
-            }
-            Some(record) => {
-                let told = &mut record.tokens;
-                let heard = feed_client(&mut self.client, &mut self.client_reader, piece, told)?;
-                if let Some(status) = heard.settled {
-                    record.status = status;
-                }
-                Ok(heard)
-            }
-        }
     }
 }

@@ -1,0 +1,62 @@
+-- What an end of a connection of a play does there, before its bytes are handed over.
+use Rattle.std.specs.Prelude.{Bool, true, false, option_map}
+use Rattle.tds_client.specs.declared.state.Cancelled.{Cancelled}
+use Rattle.tds_client.specs.declared.state.Cancelled.TheVariants as client
+use Rattle.tds_client.specs.Session.{ClientSession}
+use Rattle.tds_server.specs.declared.outcome.Worked.{Worked}
+use Rattle.tds_server.specs.declared.outcome.Worked.TheVariants as server
+use Rattle.tds_server.specs.State.{ServerState}
+use Rattle.tds_server.specs.Working.{Work}
+use Rattle.tds_world.specs.declared.outcome.CancelOutcome.{CancelOutcome}
+use Rattle.tds_world.specs.declared.outcome.CancelOutcome.TheVariants as cancel
+use Rattle.tds_world.specs.declared.report.RequestStatus.{RequestStatus}
+use Rattle.tds_world.specs.declared.report.RequestStatus.TheVariants as status
+use Rattle.tds_play.specs.declared.link.Link.{Link}
+use Rattle.tds_play.specs.declared.link.Record.{Record}
+use Rattle.tds_play.specs.Links.{cut_of, stepped}
+
+-- The connection, cut where the carrier failed.
+abbrev pub unless_lost : {E S : Type 0} → Bool → Link E S → Link E S
+unless_lost true link = cut_of link
+unless_lost false link = link
+
+abbrev pub with_client : {E S : Type 0} → ClientSession → Link E S → Link E S
+with_client s link = record link { client = s }
+
+abbrev pub with_status : RequestStatus → Record → Record
+with_status s r = record r { status = s }
+
+-- ---- Cancelling
+
+-- What a report says of a client's answer.
+abbrev pub cancel_outcome : Cancelled → CancelOutcome
+cancel_outcome client.Nothing = cancel.Nothing
+cancel_outcome client.Already = cancel.Already
+cancel_outcome client.Unsent = cancel.Unsent
+cancel_outcome client.Asked = cancel.Asked
+
+-- The newest request is never sent, or its attention is out.
+abbrev pub cancelled_as : {E S : Type 0} → Cancelled → ClientSession → Link E S → Link E S
+cancelled_as client.Nothing s link = with_client s link
+cancelled_as client.Already s link = with_client s link
+cancelled_as client.Unsent s link =
+    record link { client = s; current = option_map (with_status status.Unsent) link.current }
+cancelled_as client.Asked s link =
+    record link { client = s; current = option_map (with_status status.Cancelling) link.current }
+
+-- ---- Working
+
+-- A step was done, or none was due.
+abbrev pub worked_by : {E S : Type 0} → Worked → ServerState E → Link E S → Link E S
+worked_by server.Idle state link = link
+worked_by server.Step state link = record link {
+  server = state;
+  current = option_map (stepped link.server.session state.session) link.current;
+}
+worked_by server.Finished state link = record link {
+  server = state;
+  current = option_map (stepped link.server.session state.session) link.current;
+}
+
+abbrev pub worked_as : {E S : Type 0} → Work E → Link E S → Link E S
+worked_as w link = worked_by w.answer w.state link

@@ -1,0 +1,34 @@
+-- What a play notes of an event that applied, on this connection.
+use Rattle.std.specs.Prelude.{ℕ, List, [], ◌∷◌, ◌++◌, Option, Some, None}
+use Rattle.tds_world.specs.declared.event.Event.{Event}
+use Rattle.tds_world.specs.declared.event.Event.TheVariants as event
+use Rattle.tds_world.specs.declared.outcome.Refusal.{Refusal}
+use Rattle.tds_play.specs.declared.pool.Found.{Found}
+use Rattle.tds_play.specs.declared.pool.Found.TheVariants.{Missing}
+use Rattle.tds_play.specs.Holdings.{ended_of}
+use Rattle.tds_play.specs.Lending.{numbered_of}
+
+-- The leases after it.
+abbrev pub leases_after : Event → ℕ → List (Option ℕ) → List (Option ℕ)
+leases_after event.Lease conn leases = leases ++ Some conn ∷ []
+leases_after (event.Resume ticket) conn leases = leases ++ Some conn ∷ []
+leases_after (event.GiveBack lease) conn leases = ended_of leases lease
+leases_after (event.Keep lease) conn leases = ended_of leases lease
+leases_after e conn leases = leases
+
+-- The tickets.
+abbrev pub tickets_after : Event → ℕ → List (Option ℕ) → List (Option ℕ)
+tickets_after (event.Resume ticket) conn tickets = ended_of tickets ticket
+tickets_after (event.Keep lease) conn tickets = tickets ++ Some conn ∷ []
+tickets_after (event.Abandon ticket) conn tickets = ended_of tickets ticket
+tickets_after e conn tickets = tickets
+
+-- The connections of the requests.
+abbrev pub asked_after : Event → ℕ → List ℕ → List ℕ
+asked_after (event.Ask lease request) conn asked = asked ++ conn ∷ []
+asked_after e conn asked = asked
+
+-- The connection that a lease or ticket holds, of so many.
+abbrev pub held_of : ℕ → Option ℕ → Refusal → Found
+held_of count None why = Missing why
+held_of count (Some conn) why = numbered_of count conn why

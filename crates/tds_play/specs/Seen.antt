@@ -1,0 +1,50 @@
+-- What is seen of a connection of a play, and what an event came to there.
+use Rattle.std.specs.Prelude.{Bool, true, false, Option, Some, None, option_map}
+use Rattle.tds_client.specs.Session as client
+use Rattle.tds_world.specs.declared.outcome.Outcome.{Outcome}
+use Rattle.tds_world.specs.declared.outcome.Outcome.TheVariants as outcome
+use Rattle.tds_world.specs.declared.report.ClientView.{ClientView}
+use Rattle.tds_world.specs.declared.report.ClientView.TheVariants as view
+use Rattle.tds_world.specs.declared.report.Snapshot.{Snapshot}
+use Rattle.tds_play.specs.declared.feeding.Fault.{Fault}
+use Rattle.tds_play.specs.declared.link.Done.{Done}
+use Rattle.tds_play.specs.declared.link.Link.{Link}
+
+-- ---- What is seen
+
+-- A broken client isn't seen.
+abbrev pub view_of : client.Stage → Option ClientView
+view_of client.Idle = Some view.Idle
+view_of (client.Sending kind left packets) = Some view.Sending
+view_of client.Reading = Some view.Reading
+view_of client.Cancelling = Some view.Cancelling
+view_of (client.Broken fault) = None
+
+abbrev pub snapshot_as : {E S : Type 0} → Link E S → ClientView → Snapshot
+snapshot_as link v = record {
+  conn = link.number;
+  client = v;
+  place = link.place;
+  descriptor = link.client.heard.descriptor;
+  mark = link.client.heard.mark;
+  server = link.server.session;
+  to_server = link.to_server;
+  to_client = link.to_client;
+}
+
+-- Nor is a connection that is cut.
+abbrev pub seen_by : {E S : Type 0} → Bool → Link E S → Option Snapshot
+seen_by true link = None
+seen_by false link = option_map (snapshot_as link) (view_of link.client.stage)
+
+abbrev pub seen_of : {E S : Type 0} → Link E S → Option Snapshot
+seen_of link = seen_by link.is_cut link
+
+-- ---- What an event came to
+
+-- This outcome, and the carrier did not fail.
+abbrev pub done_as : Outcome → Done
+done_as what = record { outcome = what; lost = false }
+
+abbrev pub outcome_of : Fault → Outcome
+outcome_of f = outcome.Fault f.end f.layer f.number

@@ -1,0 +1,131 @@
+//! What a delivery does on its connection.
+ghost use Rattle.std.specs.Prelude.{◌≡◌, ◌≤◌, ◌||◌, false, min, Option, IfOk, OnOk};
+ghost use Rattle.tds_packet.specs.declared.kind.Direction.TheVariants.{ToClient};
+ghost use Rattle.tds_play.specs.Between.{Stands};
+ghost use Rattle.tds_play.specs.Deliveries.{AllArrive};
+ghost use Rattle.tds_play.specs.Pipe.{Pipe, AreSame};
+ghost use Rattle.tds_play.specs.Ties.{IsTied};
+ghost use Rattle.tds_session.specs.Answer.{answer_of};
+ghost use Rattle.tds_world.specs.Arrivals.{to_server};
+ghost use Rattle.tds_world.specs.Connection.{Connection, down_underway, up_underway};
+ghost use Rattle.tds_world.specs.Deliveries.{DeliversOn};
+ghost use Rattle.tds_world.specs.declared.outcome.Outcome.TheVariants as outcome;
+
+use super::{Done, Link};
+use crate::NoMemory;
+use crate::carrier::Carrier;
+use crate::feeding::{Heard, feed_client, feed_server};
+use std::alloc::Global;
+use tds_packet::Direction;
+use tds_session::Engine;
+use tds_world::{Outcome, Place};
+
+/// So many of the bytes underway, or all where there are fewer.
+fn at_most(underway: u64, most: u32) -> u32
+    ensures value { result ≡ min most underway }
+    ensures within { result ≤ underway }
+{
+    match u32::try_from(underway) {
+        Ok(count) => count.min(most),
+        Err(_) => most,
+    }
+}
+
+/// Whether one of two calls of the carrier failed.
+fn either(first: bool, second: bool) -> bool
+    ensures { result ≡ (first || second) }
+{
+    first || second
+}
+
+impl<E: Engine + Drop> Link<E> {
+    /// Bytes come to the server, and what they cause goes out.
+    pub(crate) fn deliver_to_server<C: Carrier>(
+        &mut self,
+        alloc: Global,
+        carrier: &mut C,
+        most: u32,
+    ) -> Result<Done, NoMemory>
+        requires live { self.old.is_cut ≡ false }
+        requires tied { IsTied self.old (C.pipes carrier.old self.old.number) }
+        ensures number { self.new.number ≡ self.old.number }
+        ensures tied { OnOk result (IsTied self.new (C.pipes carrier.new self.old.number)) }
+        ensures others { OnOk result (AreSame (C.pipes carrier.old) (C.pipes carrier.new) self.old.number) }
+        // A connection that stands for one of the model stands for what the same delivery makes of it.
+        ensures stands { (c : Connection) → C.tells carrier.old → Stands self.old (C.pipes carrier.old self.old.number) c
+            → DeliversOn (answer_of (E.statements_of self.old.server.engine) (E.step_of self.old.server.engine)) c
+            → down_underway (to_server (answer_of (E.statements_of self.old.server.engine) (E.step_of self.old.server.engine)) most c) ≤ 18446744073709551615
+            → AllArrive E (answer_of (E.statements_of self.old.server.engine) (E.step_of self.old.server.engine)) self.old.server_reader c c.to_server.waiting
+            → IfOk result (λ done. done.lost ≡ false
+                → (done.outcome ≡ outcome.ToServer (min most (up_underway c)))
+                × Stands self.new (C.pipes carrier.new self.old.number) (to_server (answer_of (E.statements_of self.old.server.engine) (E.step_of self.old.server.engine)) most c)) }
+    {
+        let count = at_most(self.to_server, most);
+        let mut piece = Vec::new(alloc);
+        let carried = self.carry(carrier, Direction::ToServer, count, &mut piece)?;
+        let mut reply = Vec::new(alloc);
+        let piece = piece.as_slice();
+        match feed_server(&mut self.server, &mut self.server_reader, piece, &mut reply)? {
+            None => {
+                let lost = self.hand_over(carrier, Direction::ToClient, reply.as_slice())?;
+                let outcome = Outcome::ToServer(carried.count);
+                Ok(self.end(carrier, outcome, either(carried.lost, lost)))
+            }
+            Some(fault) => Ok(self.end_by_fault(carrier, fault, carried.lost)),
+        }
+    }
+
+    /// Bytes come to the client, which tells their tokens to the newest request's caller.
+    pub(crate) fn deliver_to_client<C: Carrier>(
+        &mut self,
+        alloc: Global,
+        carrier: &mut C,
+        most: u32,
+    ) -> Result<Done, NoMemory>
+        requires live { self.old.is_cut ≡ false }
+        requires tied { IsTied self.old (C.pipes carrier.old self.old.number) }
+        ensures number { self.new.number ≡ self.old.number }
+        ensures tied { OnOk result (IsTied self.new (C.pipes carrier.new self.old.number)) }
+        ensures others { OnOk result (AreSame (C.pipes carrier.old) (C.pipes carrier.new) self.old.number) }
+    {
+        let count = at_most(self.to_client, most);
+        let mut piece = Vec::new(alloc);
+        let carried = self.carry(carrier, Direction::ToClient, count, &mut piece)?;
+        let heard = self.hear(alloc, piece.as_slice())?;
+        if let Some(fault) = heard.fault {
+            return Ok(self.end_by_fault(carrier, fault, carried.lost));
+        }
+        if self.place == Place::Draining && self.is_idle() {
+            self.place = Place::Free;
+        }
+        Ok(self.end(carrier, Outcome::ToClient(carried.count), carried.lost))
+    }
+
+    /// The client takes what came, for the newest request.
+    fn hear(&mut self, alloc: Global, piece: &[u8]) -> Result<Heard, NoMemory>
+        requires { self.old.client_reader.direction ≡ ToClient }
+        ensures number { self.new.number ≡ self.old.number }
+        ensures live { self.new.is_cut ≡ self.old.is_cut }
+        ensures tied { (pipe : Option Pipe) → IsTied self.old pipe → OnOk result (IsTied self.new pipe) }
+    {
+        match &mut self.current {
+            None => {
+                let mut nobody = Vec::new(alloc);
+                feed_client(
+                    &mut self.client,
+                    &mut self.client_reader,
+                    piece,
+                    &mut nobody,
+                )
+            }
+            Some(record) => {
+                let told = &mut record.tokens;
+                let heard = feed_client(&mut self.client, &mut self.client_reader, piece, told)?;
+                if let Some(status) = heard.settled {
+                    record.status = status;
+                }
+                Ok(heard)
+            }
+        }
+    }
+}
