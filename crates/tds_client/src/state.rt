@@ -1,5 +1,3 @@
-ghost use Rattle.std.specs.Prelude.{◌≡◌};
-
 use crate::fault::ClientFault;
 
 /// What a client is doing.

@@ -4,7 +4,6 @@ use Rattle.std.proofs.lemmas.Bool.{cases_lt}
 use Rattle.std.proofs.lemmas.Bool.Decides.{nat_tests}
 use Rattle.std.proofs.lemmas.List.{length-take-le, take-append-drop, get_or-take, get_or_past}
 use Rattle.tds_packet.specs.declared.kind.Kind.{Kind}
-use Rattle.tds_packet.specs.declared.kind.Direction.{Direction}
 use Rattle.tds_packet.specs.declared.header.Header.{Header}
 use Rattle.tds_packet.specs.Layout.{kind_byte, kinds, kind_of, bits_of, header_bytes, IsPacket}
 use Rattle.tds_packet.specs.Faults.{length_field, fault_at, header_fault}

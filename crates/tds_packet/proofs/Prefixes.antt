@@ -1,5 +1,5 @@
 -- Packets that begin other bytes.
-use Rattle.std.proofs.Common.{◌≡◌, ℕ, ◌+◌, ◌/◌, ◌%◌, ◌*◌, ◌<◌, ◌≤◌, inl, inr, Option, Some, None, List, [], ◌∷◌, ◌++◌, length, refl, sym, ap, subst, ◌∙◌, arith, length-append, append-nil}
+use Rattle.std.proofs.Common.{◌≡◌, ℕ, ◌+◌, ◌/◌, ◌%◌, inl, inr, Some, None, List, [], ◌++◌, length, sym, ap, ◌∙◌, arith, append-nil}
 use Rattle.std.proofs.lemmas.Bool.{cases_lt}
 use Rattle.std.proofs.lemmas.List.{append_cancel_left}
 use Rattle.std.proofs.Math.Nat.{div-add-mod}
@@ -7,8 +7,8 @@ use Rattle.tds_packet.specs.declared.kind.Kind.{Kind}
 use Rattle.tds_packet.specs.declared.kind.Direction.{Direction}
 use Rattle.tds_packet.specs.declared.status.Status.{Status}
 use Rattle.tds_packet.specs.declared.header.Header.{Header}
-use Rattle.tds_packet.specs.Layout.{kind_byte, bits_of, two_bytes, header_bytes, IsPacket}
-use Rattle.tds_packet.specs.Reading.{Reading, with_taken, fault_of, up_to_end, after_pieces, joined}
+use Rattle.tds_packet.specs.Layout.{kind_byte, bits_of, header_bytes, IsPacket}
+use Rattle.tds_packet.specs.Reading.{Reading, fault_of, up_to_end, after_pieces, joined}
 use Rattle.tds_packet.specs.Stream.{IsOnePacket}
 use Rattle.tds_packet.proofs.Faulty.{kind_of-byte, header_fault-append, spelled_packet}
 use Rattle.tds_packet.proofs.Readings.{fault_of-short, fault_of-long}

@@ -1,5 +1,5 @@
 -- Packets one behind another.
-use Rattle.std.proofs.Common.{◌≡◌, ℕ, ◌<◌, ◌≤◌, ◌==◌, ◌&&◌, nat_le, Bool, true, false, if◌then◌else◌, is_none, inl, inr, ◌+◌, Option, Some, None, List, [], ◌∷◌, ◌++◌, length, slice_index, refl, sym, ap, subst, ◌∙◌, arith, append_assoc, append-nil}
+use Rattle.std.proofs.Common.{◌≡◌, ℕ, ◌≤◌, Bool, true, false, if◌then◌else◌, is_none, inl, inr, ◌+◌, Option, Some, None, List, [], ◌∷◌, ◌++◌, length, refl, sym, ap, subst, ◌∙◌, arith, append_assoc, append-nil}
 use Rattle.std.specs.List.{AllByRecursion}
 use Rattle.std.proofs.lemmas.Bool.Decides.{nat_tests}
 use Rattle.std.proofs.lemmas.Bool.{cases_lt}
@@ -8,8 +8,8 @@ use Rattle.tds_packet.specs.declared.fault.PacketFault.{PacketFault}
 use Rattle.tds_packet.specs.declared.header.Header.{Header}
 use Rattle.tds_packet.specs.Layout.{IsPacket}
 use Rattle.tds_packet.specs.Faults.{length_field, header_fault}
-use Rattle.tds_packet.specs.Reading.{Reading, with_taken, up_to_end, IsWhole, joined}
-use Rattle.tds_packet.specs.Stream.{AreBytes, IsOnePacket, IsLess, is_whole, lent_of, kept_of, AreRuns, packets_in, left_by}
+use Rattle.tds_packet.specs.Reading.{Reading, with_taken, up_to_end, joined}
+use Rattle.tds_packet.specs.Stream.{AreBytes, IsOnePacket, IsLess, is_whole, AreRuns, packets_in, left_by}
 use Rattle.tds_packet.proofs.Faulty.{spelled_packet}
 use Rattle.tds_packet.proofs.Readings.{up_to_end-all}
 use Rattle.tds_packet.proofs.Cutting.{ends_at_packet}

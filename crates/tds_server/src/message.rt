@@ -7,7 +7,7 @@ ghost use Rattle.tds_server.specs.declared.fault.ServerFault.TheVariants.{WrongR
 ghost use Rattle.tds_server.specs.declared.outcome.ServerTook.TheVariants as took;
 ghost use Rattle.tds_server.specs.Due.{steps_of};
 ghost use Rattle.tds_server.specs.State.{Answering};
-ghost use Rattle.tds_server.specs.Taking.{is_same_kind, has_both_resets, answered, goes_on, message_limit};
+ghost use Rattle.tds_server.specs.Taking.{is_same_kind, has_both_resets, answered, goes_on};
 ghost use Rattle.tds_session.specs.Answer.{answer_of};
 ghost use Rattle.tds_session.specs.Session.{SessionState};
 

@@ -41,7 +41,8 @@ fn server(alloc: Global) -> Result<Server<ScriptEngine>, Fail> {
     Ok(Server::new(alloc, ScriptEngine, size()?))
 }
 
-/// Hands the packet that these bytes spell to a server, with the reply in a vector of its own.
+/// Hands the packet that these bytes spell to a server, with the reply in a vector of its own. Want
+/// of memory fails the test.
 fn take<E: Engine + Drop>(
     alloc: Global,
     server: &mut Server<E>,
@@ -52,6 +53,9 @@ fn take<E: Engine + Drop>(
     let packet = reader.packet().ok_or("no packet")?;
     let mut reply = Vec::new(alloc);
     let took = server.take(packet, &mut reply);
+    if matches!(&took, Ok(ServerTook::NoMemory)) {
+        return Err("no memory".into());
+    }
     Ok((took, reply))
 }
 

@@ -1,5 +1,5 @@
 //! Messages as this server writes them (MS-TDS 2.2.7.10, 2.2.7.13).
-ghost use Rattle.std.specs.Prelude.{◌≡◌, ◌<◌, ◌^◌, ℕ, IfOk};
+ghost use Rattle.std.specs.Prelude.{◌≡◌, ◌<◌, ◌^◌, IfOk};
 ghost use Rattle.tds_session.specs.Effects.{message, error};
 
 use crate::NoMemory;

@@ -1,5 +1,5 @@
 //! The words of the batch language: names, keys and numbers, as units spell them.
-ghost use Rattle.std.specs.Prelude.{◌≡◌, ◌<◌, ◌^◌, nat_le};
+ghost use Rattle.std.specs.Prelude.{◌≡◌, ◌<◌, nat_le};
 ghost use Rattle.std.specs.List.{list_all};
 ghost use Rattle.tds_session.specs.Language.{is_name};
 ghost use Rattle.tds_session.specs.Words.{such, is_digit, is_numeral, number_of, number_within, signed_of, fits_i32, key_of};
