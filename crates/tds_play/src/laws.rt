@@ -1,6 +1,6 @@
 //! The ends and the model: what each end's core does, the model's connection does. Each is the
 //! contract of a function without a body.
-ghost use Rattle.std.specs.Prelude.{◌≡◌, ◌≤◌, ◌<◌, ◌^◌, ℕ, List, [], ◌∷◌, map, Some, true, Option};
+ghost use Rattle.std.specs.Prelude.{◌≡◌, ◌≤◌, ◌<◌, ◌^◌, ℕ, List, [], ◌∷◌, map, Some, true, Option, ◌++◌};
 ghost use Rattle.std.specs.List.{AllByRecursion};
 ghost use Rattle.tds_client.specs.Sending.{started, sent, room};
 ghost use Rattle.tds_client.specs.Session.{ClientSession, marked, new_session, unless_idle};
@@ -15,7 +15,8 @@ ghost use Rattle.tds_server.specs.Taking.{taken};
 ghost use Rattle.tds_client.specs.Taking.{taken as client_taken};
 ghost use Rattle.tds_packet.specs.Layout.{bits_of, has_bit};
 ghost use Rattle.tds_play.specs.Hearing.{HearAlike, IsAwaited, IsSaid};
-ghost use Rattle.tds_world.specs.Entries.{Up, up_packet, Down, down_packet};
+ghost use Rattle.tds_world.specs.Entries.{Up, up_bytes, up_packet, Down, down_bytes, down_packet};
+ghost use Rattle.tds_world.specs.Lane.{Lane, sent_bytes};
 ghost use Rattle.tds_world.specs.Lawful.{Lawful};
 ghost use Rattle.tds_world.specs.Record.{Record};
 ghost use Rattle.tds_play.specs.Lending.{FoundAlike, lent};
@@ -31,7 +32,7 @@ ghost use Rattle.tds_session.specs.Session.{SessionState, strongest};
 ghost use Rattle.tds_world.specs.declared.report.Place.{Place};
 ghost use Rattle.tds_request.specs.Layout.{Fits};
 ghost use Rattle.tds_play.specs.Stands.{is_sending};
-ghost use Rattle.tds_play.specs.Stands.{MatchesClient, MatchesServer};
+ghost use Rattle.tds_play.specs.Stands.{MatchesClient, MatchesServer, Sends};
 
 use tds_session::Engine;
 
@@ -119,4 +120,12 @@ pub fn lends_matching<E: Engine>()
 pub fn answers_are_said<E: Engine>(engine: &E)
     ensures { (s : SessionState) (descriptor : ℕ) (reset : Option Reset) (q : Request)
         → AllByRecursion IsSaid (answer_of (E.statements_of engine.now) (E.step_of engine.now) s descriptor reset q) }
+{}
+
+/// What an end sends is appended to all that was sent on its lane.
+pub fn sends_append()
+    ensures to_server { (more : List ℕ) (old new : Lane Up) → Sends up_bytes more old new
+        → sent_bytes up_bytes new ≡ sent_bytes up_bytes old ++ more }
+    ensures to_client { (more : List ℕ) (old new : Lane Down) → Sends down_bytes more old new
+        → sent_bytes down_bytes new ≡ sent_bytes down_bytes old ++ more }
 {}
