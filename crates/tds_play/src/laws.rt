@@ -1,43 +1,45 @@
 //! The ends and the model: what each end's core does, the model's connection does. Each is the
 //! contract of a function without a body.
 ghost use Rattle.std.specs.Prelude.{◌≡◌, ◌≤◌, ◌<◌, ◌^◌, ℕ, List, [], ◌∷◌, Option, map, flat_map, take, Some, true};
+ghost use Rattle.std.specs.Prelude.{◌≡◌, ◌≤◌, ◌<◌, ◌^◌, ℕ, List, [], ◌∷◌, map, Some, true, Option, ◌++◌};
 ghost use Rattle.std.specs.List.{AllByRecursion};
 ghost use Rattle.tds_client.specs.Sending.{started, sent, room};
 ghost use Rattle.tds_client.specs.Session.{ClientSession, marked, new_session, unless_idle};
-ghost use Rattle.tds_request.specs.declared.request.Request.{Request};
-ghost use Rattle.tds_server.specs.State.{ServerState, new_server};
-ghost use Rattle.tds_server.specs.Working.{worked};
-ghost use Rattle.tds_world.specs.Connection.{Connection, Standing, new_connection, phase, is_idle};
-ghost use Rattle.tds_world.specs.Events.{asks_by, sends_in};
-ghost use Rattle.tds_play.specs.Alike.{AskAlike, CancelAlike, SendAlike, WorkAlike, EndsIfDue, ArriveAlike, IsUndisturbed};
-ghost use Rattle.tds_session.specs.Answer.{Answers, answer_of};
-ghost use Rattle.tds_server.specs.Taking.{taken};
 ghost use Rattle.tds_client.specs.Taking.{taken as client_taken};
 ghost use Rattle.tds_packet.specs.Layout.{bits_of, has_bit};
-ghost use Rattle.tds_play.specs.Hearing.{HearAlike, IsAwaited, IsSaid};
-ghost use Rattle.tds_world.specs.Entries.{Up, up_packet, Down, down_packet};
-ghost use Rattle.tds_world.specs.Lawful.{Lawful};
-ghost use Rattle.tds_world.specs.Record.{Record};
-ghost use Rattle.tds_play.specs.Lending.{FoundAlike, lent};
-ghost use Rattle.tds_world.specs.Pool.{to_lend};
-ghost use Rattle.tds_world.specs.World.{World};
-ghost use Rattle.tds_world.specs.declared.event.Setup.{Setup};
 ghost use Rattle.tds_packet.specs.Reading.{Reading};
+ghost use Rattle.tds_packet.specs.declared.status.Reset.{Reset};
+ghost use Rattle.tds_play.specs.Alike.{AskAlike, CancelAlike, SendAlike, WorkAlike, EndsIfDue, ArriveAlike, IsUndisturbed};
 ghost use Rattle.tds_play.specs.Deliveries.{AllArrive, ServesAlike, AllHeard, ListensAlike};
-ghost use Rattle.tds_token.specs.declared.token.Token.{Token};
-ghost use Rattle.tds_world.specs.declared.report.RequestStatus.{RequestStatus};
-ghost use Rattle.tds_world.specs.Arrivals.{reach_server, reach_client};
-ghost use Rattle.tds_world.specs.Entries.{up_bytes, down_bytes};
+ghost use Rattle.tds_play.specs.Hearing.{HearAlike, IsAwaited, IsSaid};
+ghost use Rattle.tds_play.specs.Lending.{FoundAlike, lent};
 ghost use Rattle.tds_play.specs.Messages.{IsSpelled, IsNext, AreWhole, AreNextIn};
+ghost use Rattle.tds_play.specs.Stands.{MatchesClient, MatchesServer, Sends};
+ghost use Rattle.tds_play.specs.Stands.{is_sending};
+ghost use Rattle.tds_request.specs.Layout.{Fits};
+ghost use Rattle.tds_request.specs.declared.request.Request.{Request};
+ghost use Rattle.tds_server.specs.State.{ServerState, new_server};
+ghost use Rattle.tds_server.specs.Taking.{taken};
+ghost use Rattle.tds_server.specs.Working.{worked};
+ghost use Rattle.tds_session.specs.Answer.{Answers, answer_of};
+ghost use Rattle.tds_session.specs.Session.{SessionState, strongest};
+ghost use Rattle.tds_token.specs.declared.token.Token.{Token};
+ghost use Rattle.tds_world.specs.Arrivals.{reach_server, reach_client};
 ghost use Rattle.tds_world.specs.Arrivals.{server_acts, client_acts, works};
 ghost use Rattle.tds_world.specs.Caller.{asks, sends, cancels};
+ghost use Rattle.tds_world.specs.Connection.{Connection, Standing, new_connection, phase, is_idle};
+ghost use Rattle.tds_world.specs.Entries.{Up, up_bytes, up_packet, Down, down_bytes, down_packet};
+ghost use Rattle.tds_world.specs.Entries.{up_bytes, down_bytes};
+ghost use Rattle.tds_world.specs.Events.{asks_by, sends_in};
+ghost use Rattle.tds_world.specs.Lane.{Lane, sent_bytes};
+ghost use Rattle.tds_world.specs.Lawful.{Lawful};
 ghost use Rattle.tds_world.specs.Phase.{Settled, phase_of};
-ghost use Rattle.tds_packet.specs.declared.status.Reset.{Reset};
-ghost use Rattle.tds_session.specs.Session.{SessionState, strongest};
+ghost use Rattle.tds_world.specs.Pool.{to_lend};
+ghost use Rattle.tds_world.specs.Record.{Record};
+ghost use Rattle.tds_world.specs.World.{World};
+ghost use Rattle.tds_world.specs.declared.event.Setup.{Setup};
 ghost use Rattle.tds_world.specs.declared.report.Place.{Place};
-ghost use Rattle.tds_request.specs.Layout.{Fits};
-ghost use Rattle.tds_play.specs.Stands.{is_sending};
-ghost use Rattle.tds_play.specs.Stands.{MatchesClient, MatchesServer};
+ghost use Rattle.tds_world.specs.declared.report.RequestStatus.{RequestStatus};
 
 use tds_session::Engine;
 
@@ -127,6 +129,7 @@ pub fn answers_are_said<E: Engine>(engine: &E)
         → AllByRecursion IsSaid (answer_of (E.statements_of engine.now) (E.step_of engine.now) s descriptor reset q) }
 {}
 
+<<<<<<< HEAD
 /// A server that is fed the bytes of entries takes those that come whole as the model does, in order,
 /// and is left with what has come of the next one.
 pub fn serves_alike<E: Engine>()
@@ -141,4 +144,12 @@ pub fn listens_alike()
     ensures { (r : Reading) (c : Connection) (es : List Down) (k : ℕ) (s : ClientSession) (settled : Option RequestStatus) (told : List Token)
         → AllHeard r c es → MatchesClient s c
         → ListensAlike r (take k (flat_map down_bytes es)) c (reach_client c es k) s settled told }
+=======
+/// What an end sends is appended to all that was sent on its lane.
+pub fn sends_append()
+    ensures to_server { (more : List ℕ) (old new : Lane Up) → Sends up_bytes more old new
+        → sent_bytes up_bytes new ≡ sent_bytes up_bytes old ++ more }
+    ensures to_client { (more : List ℕ) (old new : Lane Down) → Sends down_bytes more old new
+        → sent_bytes down_bytes new ≡ sent_bytes down_bytes old ++ more }
+>>>>>>> 7b9faa8a6489ec72a633bc0acbcdcf398515906c
 {}
