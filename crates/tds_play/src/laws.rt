@@ -1,7 +1,6 @@
 //! The ends and the model: what each end's core does, the model's connection does. Each is the
 //! contract of a function without a body.
-ghost use Rattle.std.specs.Prelude.{◌≡◌, ◌≤◌, ◌<◌, ◌^◌, ℕ, List, [], ◌∷◌, Option, map, flat_map, take, Some, true};
-ghost use Rattle.std.specs.Prelude.{◌≡◌, ◌≤◌, ◌<◌, ◌^◌, ℕ, List, [], ◌∷◌, map, Some, true, Option, ◌++◌};
+ghost use Rattle.std.specs.Prelude.{◌≡◌, ◌≤◌, ◌<◌, ◌^◌, ℕ, List, [], ◌∷◌, ◌++◌, map, flat_map, take, Option, Some, true};
 ghost use Rattle.std.specs.List.{AllByRecursion};
 ghost use Rattle.tds_client.specs.Sending.{started, sent, room};
 ghost use Rattle.tds_client.specs.Session.{ClientSession, marked, new_session, unless_idle};
@@ -14,8 +13,7 @@ ghost use Rattle.tds_play.specs.Deliveries.{AllArrive, ServesAlike, AllHeard, Li
 ghost use Rattle.tds_play.specs.Hearing.{HearAlike, IsAwaited, IsSaid};
 ghost use Rattle.tds_play.specs.Lending.{FoundAlike, lent};
 ghost use Rattle.tds_play.specs.Messages.{IsSpelled, IsNext, AreWhole, AreNextIn};
-ghost use Rattle.tds_play.specs.Stands.{MatchesClient, MatchesServer, Sends};
-ghost use Rattle.tds_play.specs.Stands.{is_sending};
+ghost use Rattle.tds_play.specs.Stands.{MatchesClient, MatchesServer, Sends, is_sending};
 ghost use Rattle.tds_request.specs.Layout.{Fits};
 ghost use Rattle.tds_request.specs.declared.request.Request.{Request};
 ghost use Rattle.tds_server.specs.State.{ServerState, new_server};
@@ -24,12 +22,10 @@ ghost use Rattle.tds_server.specs.Working.{worked};
 ghost use Rattle.tds_session.specs.Answer.{Answers, answer_of};
 ghost use Rattle.tds_session.specs.Session.{SessionState, strongest};
 ghost use Rattle.tds_token.specs.declared.token.Token.{Token};
-ghost use Rattle.tds_world.specs.Arrivals.{reach_server, reach_client};
-ghost use Rattle.tds_world.specs.Arrivals.{server_acts, client_acts, works};
+ghost use Rattle.tds_world.specs.Arrivals.{server_acts, client_acts, works, reach_server, reach_client};
 ghost use Rattle.tds_world.specs.Caller.{asks, sends, cancels};
 ghost use Rattle.tds_world.specs.Connection.{Connection, Standing, new_connection, phase, is_idle};
 ghost use Rattle.tds_world.specs.Entries.{Up, up_bytes, up_packet, Down, down_bytes, down_packet};
-ghost use Rattle.tds_world.specs.Entries.{up_bytes, down_bytes};
 ghost use Rattle.tds_world.specs.Events.{asks_by, sends_in};
 ghost use Rattle.tds_world.specs.Lane.{Lane, sent_bytes};
 ghost use Rattle.tds_world.specs.Lawful.{Lawful};

@@ -5,8 +5,7 @@ use Rattle.tds_packet.specs.declared.header.Header.{Header}
 use Rattle.tds_packet.specs.declared.kind.Kind.{Kind}
 use Rattle.tds_packet.specs.declared.kind.Kind.TheVariants as kind
 use Rattle.tds_packet.specs.declared.status.Reset.{Reset}
-use Rattle.tds_packet.specs.declared.status.Status.{Status}
-use Rattle.tds_packet.specs.Layout.{header_bytes}
+use Rattle.tds_packet.specs.Layout.{header_bytes, status_of}
 use Rattle.tds_request.specs.declared.request.Request.{Request}
 use Rattle.tds_session.specs.Answer as answer
 use Rattle.tds_token.specs.declared.token.Token.TheVariants as token
@@ -16,11 +15,6 @@ use Rattle.tds_token.specs.Layout.{spelling}
 pub record Packet : Type 0 where
   pub header : Header
   pub body : List ℕ
-
--- The status of these bits (MS-TDS 2.2.3.1.2): 01 end of message, 02 ignore this message, 08 reset
--- the connection, 10 reset it and keep its transaction.
-abbrev pub status_of : ℕ → Status
-status_of bits = record { 0 = bits }
 
 -- A packet as both ends write it, at this place of its message, counted from 1. SPID and Window
 -- are 0, and the PacketID is the place modulo 256 (MS-TDS 2.2.3.1.4 to 2.2.3.1.6).
