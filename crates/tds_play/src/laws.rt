@@ -125,7 +125,6 @@ pub fn answers_are_said<E: Engine>(engine: &E)
         → AllByRecursion IsSaid (answer_of (E.statements_of engine.now) (E.step_of engine.now) s descriptor reset q) }
 {}
 
-<<<<<<< HEAD
 /// A server that is fed the bytes of entries takes those that come whole as the model does, in order,
 /// and is left with what has come of the next one.
 pub fn serves_alike<E: Engine>()
@@ -140,12 +139,12 @@ pub fn listens_alike()
     ensures { (r : Reading) (c : Connection) (es : List Down) (k : ℕ) (s : ClientSession) (settled : Option RequestStatus) (told : List Token)
         → AllHeard r c es → MatchesClient s c
         → ListensAlike r (take k (flat_map down_bytes es)) c (reach_client c es k) s settled told }
-=======
+{}
+
 /// What an end sends is appended to all that was sent on its lane.
 pub fn sends_append()
     ensures to_server { (more : List ℕ) (old new : Lane Up) → Sends up_bytes more old new
         → sent_bytes up_bytes new ≡ sent_bytes up_bytes old ++ more }
     ensures to_client { (more : List ℕ) (old new : Lane Down) → Sends down_bytes more old new
         → sent_bytes down_bytes new ≡ sent_bytes down_bytes old ++ more }
->>>>>>> 7b9faa8a6489ec72a633bc0acbcdcf398515906c
 {}
