@@ -50,19 +50,19 @@ lane_delivered bytes n t old new taken rest count is d left =
     let less : some ≤ count = omega (arith) in
     let now : length (flat_map bytes new.arrived) ≡ length (flat_map bytes old.arrived) + length front = ap length arrived ∙ length-append (flat_map bytes old.arrived) front in
     record {
-  handed =
-      is.handed ∙ flat_map-append bytes old.arrived old.waiting
-      ∙ ap (λ (xs : List ℕ). flat_map bytes old.arrived ++ xs) split
-      ∙ sym (append_assoc (flat_map bytes old.arrived) front waiting)
-      ∙ ap (λ (xs : List ℕ). xs ++ waiting) (sym arrived)
-      ∙ sym (flat_map-append bytes new.arrived new.waiting);
-  came =
-      length-append t.came (next_of t some)
-      ∙ omega (arith, is.came, long_next bytes t old taken count some is less, part, now);
-  within = omega (arith, part, long, is.counts, is.within, less);
-  left = left;
-  counts = omega (arith, part, long, is.counts, is.within, less);
-}
+      handed =
+          is.handed ∙ flat_map-append bytes old.arrived old.waiting
+          ∙ ap (λ (xs : List ℕ). flat_map bytes old.arrived ++ xs) split
+          ∙ sym (append_assoc (flat_map bytes old.arrived) front waiting)
+          ∙ ap (λ (xs : List ℕ). xs ++ waiting) (sym arrived)
+          ∙ sym (flat_map-append bytes new.arrived new.waiting);
+      came =
+          length-append t.came (next_of t some)
+          ∙ omega (arith, is.came, long_next bytes t old taken count some is less, part, now);
+      within = omega (arith, part, long, is.counts, is.within, less);
+      left = left;
+      counts = omega (arith, part, long, is.counts, is.within, less);
+    }
 
 -- ---- What is sent
 
@@ -75,15 +75,15 @@ lane_sent {Entry} bytes more t old new taken count now is s e =
     let waiting : List ℕ = flat_map bytes old.waiting in
     let long : length (flat_map bytes new.waiting) ≡ length waiting + length more = ap length s.waiting ∙ length-append waiting more in
     let all : sent_bytes bytes new ≡ sent_bytes bytes old ++ more =
-        flat_map-append bytes new.arrived new.waiting
-        ∙ ap (λ (xs : List ℕ). flat_map bytes new.arrived ++ xs) s.waiting
-        ∙ ap (λ (es : List Entry). flat_map bytes es ++ (waiting ++ more)) s.arrived
-        ∙ sym (append_assoc (flat_map bytes old.arrived) waiting more)
-        ∙ ap (λ (xs : List ℕ). xs ++ more) (sym (flat_map-append bytes old.arrived old.waiting)) in
+    flat_map-append bytes new.arrived new.waiting
+    ∙ ap (λ (xs : List ℕ). flat_map bytes new.arrived ++ xs) s.waiting
+    ∙ ap (λ (es : List Entry). flat_map bytes es ++ (waiting ++ more)) s.arrived
+    ∙ sym (append_assoc (flat_map bytes old.arrived) waiting more)
+    ∙ ap (λ (xs : List ℕ). xs ++ more) (sym (flat_map-append bytes old.arrived old.waiting)) in
     record {
-  handed = ap (λ (xs : List ℕ). xs ++ more) is.handed ∙ sym all;
-  came = is.came ∙ omega (arith, ap (λ (es : List Entry). length (flat_map bytes es)) s.arrived, s.part);
-  within = omega (arith, long, s.part, is.within);
-  left = is.left ∙ take_same old.part new.part waiting more (flat_map bytes new.waiting) is.within s.waiting s.part;
-  counts = e ∙ omega (arith, is.counts, long, s.part, is.within);
-}
+      handed = ap (λ (xs : List ℕ). xs ++ more) is.handed ∙ sym all;
+      came = is.came ∙ omega (arith, ap (λ (es : List Entry). length (flat_map bytes es)) s.arrived, s.part);
+      within = omega (arith, long, s.part, is.within);
+      left = is.left ∙ take_same old.part new.part waiting more (flat_map bytes new.waiting) is.within s.waiting s.part;
+      counts = e ∙ omega (arith, is.counts, long, s.part, is.within);
+    }

@@ -55,10 +55,10 @@ pub tied_after : {E S : Type 0} (link : Link E S) (d : Direction) (n : ℕ) (pip
 tied_after link d n pipe new bytes t live less long is =
     let after = with_counted link d (counted link d - n) in
     record {
-  server_reads = ap (λ r. r.direction) (reads_same link d (counted link d - n)).0 ∙ t.server_reads;
-  client_reads = ap (λ r. r.direction) (reads_same link d (counted link d - n)).1 ∙ t.client_reads;
-  holds = λ uncut. subst (λ (p : Option Pipe). Holds after.to_server after.to_client p) (sym is) (holds_after link d n pipe bytes (t.holds live) less long);
-}
+      server_reads = ap (λ r. r.direction) (reads_same link d (counted link d - n)).0 ∙ t.server_reads;
+      client_reads = ap (λ r. r.direction) (reads_same link d (counted link d - n)).1 ∙ t.client_reads;
+      holds = λ uncut. subst (λ (p : Option Pipe). Holds after.to_server after.to_client p) (sym is) (holds_after link d n pipe bytes (t.holds live) less long);
+    }
 
 -- ---- What came is what was handed over
 
@@ -104,13 +104,13 @@ brought_more link old pipe new d n m before mid after h less b more is =
     let added : after ≡ mid ++ next = more ∙ ap (λ (x : Traffic). mid ++ next_of x m) now in
     let tail : drop (length mid) after ≡ next = ap (drop (length mid)) added ∙ drop-append_seam mid next in
     record {
-  bytes = added ∙ ap (λ (xs : List ℕ). xs ++ next) b.bytes ∙ append_assoc before (next_of t n) next ∙ ap (λ (xs : List ℕ). before ++ xs) (sym all);
-  pipe =
-      is ∙ ap (λ (xs : List ℕ). carried_on pipe d xs) tail
-      ∙ ap (λ (p : Option Pipe). carried_on p d next) b.pipe
-      ∙ carried_twice link old d (next_of t n) next h
-      ∙ ap (λ (xs : List ℕ). carried_on old d xs) (sym all);
-}
+      bytes = added ∙ ap (λ (xs : List ℕ). xs ++ next) b.bytes ∙ append_assoc before (next_of t n) next ∙ ap (λ (xs : List ℕ). before ++ xs) (sym all);
+      pipe =
+          is ∙ ap (λ (xs : List ℕ). carried_on pipe d xs) tail
+          ∙ ap (λ (p : Option Pipe). carried_on p d next) b.pipe
+          ∙ carried_twice link old d (next_of t n) next h
+          ∙ ap (λ (xs : List ℕ). carried_on old d xs) (sym all);
+    }
 
 -- The bytes that were appended are as many as were counted.
 pub long_tail : (before after : List ℕ) (n : ℕ) → length after ≡ length before + n → length (drop (length before) after) ≡ n

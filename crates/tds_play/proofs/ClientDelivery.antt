@@ -61,8 +61,7 @@ tells_both : (c m d : Connection) (q after : Record) (t : Took) (settled : Optio
 tells_both c m d q after t settled told then is now first later p other =
     let same : q ≡ p = cc (is, other) in
     let end = later after now in
-    let more : List Token = end.2.0 in
-    (
+    let more : List Token = end.2.0 in (
       end.0,
       end.1,
       (
@@ -118,8 +117,8 @@ listen_alike r c (e ∷ es) k s settled told all m =
     let h : HearAlike came heard.0 e (heard_of s e) = heard.2 in
     by_size (ltb k (length (down_bytes e))) r (take k (flat_map down_bytes (e ∷ es))) c (record c { to_client = with_waiting (e ∷ es) k c.to_client }) (reach_client (client_acts came e) es (k - length (down_bytes e))) s settled told
     (λ less.
-        let cut : take k (flat_map down_bytes (e ∷ es)) ≡ take k (down_bytes e) = cut_inside k (down_bytes e) (flat_map down_bytes es) less in
-        none_told r c (record c { to_client = with_waiting (e ∷ es) k c.to_client }) (take k (flat_map down_bytes (e ∷ es))) s settled told
-        (rw cut (begun_by r (down_coming e) k all.0 less)) refl (matches_on s c (with_waiting (e ∷ es) k c.to_client) m) refl)
+    let cut : take k (flat_map down_bytes (e ∷ es)) ≡ take k (down_bytes e) = cut_inside k (down_bytes e) (flat_map down_bytes es) less in
+    none_told r c (record c { to_client = with_waiting (e ∷ es) k c.to_client }) (take k (flat_map down_bytes (e ∷ es))) s settled told
+    (rw cut (begun_by r (down_coming e) k all.0 less)) refl (matches_on s c (with_waiting (e ∷ es) k c.to_client) m) refl)
     (λ more. first_whole r c (reach_client (client_acts came e) es (k - length (down_bytes e))) e es k s settled told heard.0 all.0 heard.1 h more
-        (listen_alike r (client_acts came e) es (k - length (down_bytes e)) h.took.session (settled_by h.took.answer settled) (told ++ h.took.tokens) all.2 h.matches))
+    (listen_alike r (client_acts came e) es (k - length (down_bytes e)) h.took.session (settled_by h.took.answer settled) (told ++ h.took.tokens) all.2 h.matches))

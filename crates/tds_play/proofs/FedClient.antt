@@ -70,11 +70,12 @@ goes_on first all behind one r new gone bytes rest content after header s sessio
     let split : bytes ≡ p.bytes ++ after = cut ∙ ap (λ (n : Reading). n.taken ++ after) next.0 in
     let others : Comes r after ps rest = behind r p ps bytes rest after comes split in
     let gone_is : gone ≡ with_taken r [] = done ∙ ap (λ (n : Reading). with_taken n []) next.0 in
-    let heard_on = taken_by (record { answer = took; session = session; tokens = more }) _ _ then (sym alike ∙ ok) is in
-    (ps,
-     subst (λ (n : Reading). Comes n (n.taken ++ after) ps rest) (sym gone_is)
-         (record { each = others.each; begun = others.begun; joined = others.joined }),
-     rw (out_is, now_is) heard_on)
+    let heard_on = taken_by (record { answer = took; session = session; tokens = more }) _ _ then (sym alike ∙ ok) is in (
+      ps,
+      subst (λ (n : Reading). Comes n (n.taken ++ after) ps rest) (sym gone_is)
+          (record { each = others.each; begun = others.begun; joined = others.joined }),
+      rw (out_is, now_is) heard_on,
+    )
 
 -- What an answer says that isn't want of memory.
 pub does_take : (wanted : Result Took ClientFault) (answer : Taken) (old new : ClientSession) (before after : List Token) → ¬ (answer ≡ NoMemory) → Takes wanted answer old new before after → DoesTake wanted answer new before after

@@ -67,11 +67,12 @@ goes_on first all behind one answers r new gone bytes rest reply content after o
     let gone_is : gone ≡ with_taken r [] = done ∙ ap (λ (n : Reading). with_taken n []) next.0 in
     let served_on = taken_by took _ _ then (ok ∙ ap (λ t. t.answer) alike) is in
     let state_as = state_is ∙ ap (λ t. t.state) alike in
-    let out_as : out ≡ reply ++ (taken answers s p.header p.content).reply = out_is ∙ ap (λ t. reply ++ t.reply) alike in
-    (ps,
-     subst (λ (n : Reading). Comes n (n.taken ++ after) ps rest) (sym gone_is)
-         (record { each = others.each; begun = others.begun; joined = others.joined }),
-     rw (state_as, out_as) served_on)
+    let out_as : out ≡ reply ++ (taken answers s p.header p.content).reply = out_is ∙ ap (λ t. reply ++ t.reply) alike in (
+      ps,
+      subst (λ (n : Reading). Comes n (n.taken ++ after) ps rest) (sym gone_is)
+          (record { each = others.each; begun = others.begun; joined = others.joined }),
+      rw (state_as, out_as) served_on,
+    )
 
 pub same_took : (a b : ServerTook) (r : Result ServerTook ServerFault) → r ≡ Ok a → r ≡ Ok b → a ≡ b
 same_took a b r e f = cc

@@ -46,9 +46,10 @@ HasOneReading =
 pub first : WhateverFollows → Fronts → TakesFirst
 first follows fronts r p ps bytes rest c =
     let is : IsComing r p = c.each.0 in
-    let on : joined (bytes ∷ []) ≡ p.bytes ++ (bytes_of ps ++ rest) = append-nil bytes ∙ c.joined ∙ append_assoc p.bytes (bytes_of ps) rest in
-    (follows r p.bytes (bytes_of ps ++ rest) p.content p.header (bytes ∷ []) is on,
-     (fronts r p.bytes [] p.content p.header (rw (append-nil p.bytes) is)).0)
+    let on : joined (bytes ∷ []) ≡ p.bytes ++ (bytes_of ps ++ rest) = append-nil bytes ∙ c.joined ∙ append_assoc p.bytes (bytes_of ps) rest in (
+      follows r p.bytes (bytes_of ps ++ rest) p.content p.header (bytes ∷ []) is on,
+      (fronts r p.bytes [] p.content p.header (rw (append-nil p.bytes) is)).0,
+    )
 
 -- A list that is taken whole up to so many has no more of them.
 taken_whole : (k : ℕ) (xs ys zs : List ℕ) (n : ℕ) → take n (take k xs ++ ys) ≡ xs ++ ys → take k xs ≡ xs

@@ -59,15 +59,15 @@ none_whole : {E : Type 0} (answers : Answers) (r : Reading) (c : Connection) (e 
 none_whole answers r c e es k s reply is m less =
     let cut : take k (flat_map up_bytes (e ∷ es)) ≡ take k (up_bytes e) = cut_inside k (up_bytes e) (flat_map up_bytes es) less in
     record {
-  packets = [];
-  rest = take k (up_bytes e);
-  then = record { state = s; reply = reply };
-  comes = record { each = tt; begun = begun_by r (up_coming e) k is less; joined = cut };
-  serves = refl;
-  matches = matches_on s c (with_waiting (e ∷ es) k c.to_server) m;
-  sends = ([], sym (append-nil reply), nothing_sent down_bytes c.to_client c.to_client refl);
-  left = sym cut;
-}
+      packets = [];
+      rest = take k (up_bytes e);
+      then = record { state = s; reply = reply };
+      comes = record { each = tt; begun = begun_by r (up_coming e) k is less; joined = cut };
+      serves = refl;
+      matches = matches_on s c (with_waiting (e ∷ es) k c.to_server) m;
+      sends = ([], sym (append-nil reply), nothing_sent down_bytes c.to_client c.to_client refl);
+      left = sym cut;
+    }
 
 -- The first entry is whole: it is taken, and then those behind it.
 first_whole : {E : Type 0} (answers : Answers) (r : Reading) (c d : Connection) (e : Up) (es : List Up) (k : ℕ) (s : ServerState E) (reply : List ℕ)
@@ -79,26 +79,26 @@ first_whole : {E : Type 0} (answers : Answers) (r : Reading) (c d : Connection) 
 first_whole {E} answers r c d e es k s reply is a more later =
     let t : Taken E = taken answers s (up_packet e).header (up_packet e).body in
     record {
-  packets = up_coming e ∷ later.packets;
-  rest = later.rest;
-  then = later.then;
-  comes = record {
-    each = (is, later.comes.each);
-    begun = later.comes.begun;
-    joined =
-        cut_behind k (up_bytes e) (flat_map up_bytes es) more
-        ∙ ap (λ (bs : List ℕ). up_bytes e ++ bs) later.comes.joined
-        ∙ sym (append_assoc (up_bytes e) (bytes_of later.packets) later.rest);
-  };
-  serves = taken_by a.took t.answer (served answers t.state (reply ++ t.reply) later.packets) a.lawful ∙ later.serves;
-  matches = later.matches;
-  sends = (
-    t.reply ++ later.sends.0,
-    later.sends.1 ∙ append_assoc reply t.reply later.sends.0,
-    both_sent down_bytes t.reply later.sends.0 c.to_client (server_acts answers (record c { to_server = passed e c.to_server }) e).to_client d.to_client a.sends later.sends.2,
-  );
-  left = later.left;
-}
+      packets = up_coming e ∷ later.packets;
+      rest = later.rest;
+      then = later.then;
+      comes = record {
+        each = (is, later.comes.each);
+        begun = later.comes.begun;
+        joined =
+            cut_behind k (up_bytes e) (flat_map up_bytes es) more
+            ∙ ap (λ (bs : List ℕ). up_bytes e ++ bs) later.comes.joined
+            ∙ sym (append_assoc (up_bytes e) (bytes_of later.packets) later.rest);
+      };
+      serves = taken_by a.took t.answer (served answers t.state (reply ++ t.reply) later.packets) a.lawful ∙ later.serves;
+      matches = later.matches;
+      sends = (
+        t.reply ++ later.sends.0,
+        later.sends.1 ∙ append_assoc reply t.reply later.sends.0,
+        both_sent down_bytes t.reply later.sends.0 c.to_client (server_acts answers (record c { to_server = passed e c.to_server }) e).to_client d.to_client a.sends later.sends.2,
+      );
+      left = later.left;
+    }
 
 -- ---- A delivery
 
@@ -125,4 +125,4 @@ serve_alike {E} answers r c (e ∷ es) k s reply all m =
     by_size (ltb k (length (up_bytes e))) answers r (take k (flat_map up_bytes (e ∷ es))) c (record c { to_server = with_waiting (e ∷ es) k c.to_server }) (reach_server answers (server_acts answers came e) es (k - length (up_bytes e))) s reply
     (λ less. none_whole answers r c e es k s reply all.0 m less)
     (λ more. first_whole answers r c (reach_server answers (server_acts answers came e) es (k - length (up_bytes e))) e es k s reply all.0 a more
-        (serve_alike answers r (server_acts answers came e) es (k - length (up_bytes e)) (taken answers s (up_packet e).header (up_packet e).body).state (reply ++ (taken answers s (up_packet e).header (up_packet e).body).reply) all.2 a.matches))
+    (serve_alike answers r (server_acts answers came e) es (k - length (up_bytes e)) (taken answers s (up_packet e).header (up_packet e).body).state (reply ++ (taken answers s (up_packet e).header (up_packet e).body).reply) all.2 a.matches))

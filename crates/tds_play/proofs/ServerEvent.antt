@@ -27,8 +27,8 @@ come_served {E} answers link pipe c most n s count all =
     let k : ℕ = c.to_server.part + min most (up_underway c) in
     let same : c.to_server.part + n ≡ k = ap (λ (x : ℕ). c.to_server.part + x) (count ∙ ap (min most) s.up.counts) in
     let bytes : link.server_reader.taken ++ next_of (traffic pipe ToServer) n ≡ take k (flat_map up_bytes c.to_server.waiting) =
-        offered_front up_bytes (traffic pipe ToServer) c.to_server link.server_reader.taken link.to_server n s.up
-        ∙ ap (λ (x : ℕ). take x (flat_map up_bytes c.to_server.waiting)) same in
+    offered_front up_bytes (traffic pipe ToServer) c.to_server link.server_reader.taken link.to_server n s.up
+    ∙ ap (λ (x : ℕ). take x (flat_map up_bytes c.to_server.waiting)) same in
     subst (λ (bs : List ℕ). ServesAlike E answers link.server_reader bs c (to_server answers most c) link.server []) (sym bytes)
     (serve_alike answers link.server_reader c c.to_server.waiting k link.server [] all s.server)
 
@@ -103,11 +103,11 @@ delivered_alike {E} answers old new pipe after c most n bytes reply s count lane
     let counts : new.to_client ≡ old.to_client + length more = count_by old.to_client new.to_client reply d.to_client.0 d.to_client.1 (omega (arith, few, now, long)) ∙ ap (λ (k : ℕ). old.to_client + k) long in
     let below : traffic after ToClient ≡ sent (traffic pipe ToClient) more 0 = by_reply (traffic pipe ToClient) (traffic after ToClient) reply d.down.0 d.down.1 ∙ ap (λ (bs : List ℕ). sent (traffic pipe ToClient) bs 0) same in
     record {
-  client = rw d.client (client_stays answers old.client c c.to_server.waiting (c.to_server.part + min most (up_underway c)) s.client);
-  server = rw d.server_is a.matches;
-  up = rw (d.up, d.server_reader, d.to_server, count) up;
-  down = rw (below, d.client_reader, counts) down;
-}
+      client = rw d.client (client_stays answers old.client c c.to_server.waiting (c.to_server.part + min most (up_underway c)) s.client);
+      server = rw d.server_is a.matches;
+      up = rw (d.up, d.server_reader, d.to_server, count) up;
+      down = rw (below, d.client_reader, counts) down;
+    }
 
 -- No fault was told where none was found.
 pub none_told : {A B : Type 0} (fault : A) (found : Option A) (r : Result (Option A) B) → found ≡ Some fault → r ≡ Ok found → r ≡ Ok None → ⊥
@@ -134,18 +134,18 @@ moved None mid after came reply open_ is none some = absurd open_
 moved (Some p) mid after came [] open_ is none some =
     let e : after ≡ carried_on (Some p) ToServer came = none refl ∙ is in
     record {
-  up = ap (λ (o : Option Pipe). traffic o ToServer) e;
-  none = λ empty. ap (λ (o : Option Pipe). traffic o ToClient) e;
-  some = λ full. absurd (full refl);
-}
+      up = ap (λ (o : Option Pipe). traffic o ToServer) e;
+      none = λ empty. ap (λ (o : Option Pipe). traffic o ToClient) e;
+      some = λ full. absurd (full refl);
+    }
 moved (Some p) mid after came (b ∷ bs) open_ is none some =
     let full : b ∷ bs ≢ [] = λ e. absurd (cc) in
     let e : after ≡ sent_on (carried_on (Some p) ToServer came) ToClient (b ∷ bs) 0 = some full ∙ ap (λ (o : Option Pipe). sent_on o ToClient (b ∷ bs) 0) is in
     record {
-  up = ap (λ (o : Option Pipe). traffic o ToServer) e;
-  none = λ empty. absurd (full empty);
-  some = λ f. ap (λ (o : Option Pipe). traffic o ToClient) e;
-}
+      up = ap (λ (o : Option Pipe). traffic o ToServer) e;
+      none = λ empty. absurd (full empty);
+      some = λ f. ap (λ (o : Option Pipe). traffic o ToClient) e;
+    }
 
 -- The connection behind the carrier's first call, behind the server's turn, and behind the second call.
 pub delivered_by : {E S : Type 0} (old one two new : Link E S) (pipe mid after : Option Pipe) (n : ℕ) (rest reply : List ℕ)
@@ -161,27 +161,27 @@ delivered_by old one two new pipe mid after n rest [] open_ first second taken c
     let e : new ≡ two = (none refl).0 in
     let m = moved pipe mid after (next_of (traffic pipe ToServer) n) [] open_ came (λ x. (none x).1) (λ x. (some x).1) in
     record {
-  client = ap (λ l. l.client) (e ∙ second) ∙ ap (λ l. l.client) first;
-  server_is = ap (λ l. l.server) e;
-  client_reader = ap (λ l. l.client_reader) (e ∙ second) ∙ ap (λ l. l.client_reader) first;
-  server_reader = ap (λ l. l.server_reader.taken) e ∙ taken;
-  to_server = ap (λ l. l.to_server) (e ∙ second) ∙ ap (λ l. l.to_server) first;
-  to_client = (λ x. ap (λ l. l.to_client) (e ∙ second) ∙ ap (λ l. l.to_client) first, λ x. absurd (x refl));
-  up = m.up;
-  down = (m.none, m.some);
-}
+      client = ap (λ l. l.client) (e ∙ second) ∙ ap (λ l. l.client) first;
+      server_is = ap (λ l. l.server) e;
+      client_reader = ap (λ l. l.client_reader) (e ∙ second) ∙ ap (λ l. l.client_reader) first;
+      server_reader = ap (λ l. l.server_reader.taken) e ∙ taken;
+      to_server = ap (λ l. l.to_server) (e ∙ second) ∙ ap (λ l. l.to_server) first;
+      to_client = (λ x. ap (λ l. l.to_client) (e ∙ second) ∙ ap (λ l. l.to_client) first, λ x. absurd (x refl));
+      up = m.up;
+      down = (m.none, m.some);
+    }
 delivered_by old one two new pipe mid after n rest (b ∷ bs) open_ first second taken came none some =
     let full : b ∷ bs ≢ [] = λ e. absurd (cc) in
     let e = (some full).0 in
     let m = moved pipe mid after (next_of (traffic pipe ToServer) n) (b ∷ bs) open_ came (λ x. (none x).1) (λ x. (some x).1) in
     let count : two.to_client ≡ old.to_client = ap (λ l. l.to_client) second ∙ ap (λ l. l.to_client) first in
     record {
-  client = ap (λ l. l.client) e ∙ ap (λ l. l.client) second ∙ ap (λ l. l.client) first;
-  server_is = ap (λ l. l.server) e;
-  client_reader = ap (λ l. l.client_reader) e ∙ ap (λ l. l.client_reader) second ∙ ap (λ l. l.client_reader) first;
-  server_reader = ap (λ l. l.server_reader.taken) e ∙ taken;
-  to_server = ap (λ l. l.to_server) e ∙ ap (λ l. l.to_server) second ∙ ap (λ l. l.to_server) first;
-  to_client = (λ x. absurd (full x), λ x. ap (λ l. l.to_client) e ∙ ap (λ (k : ℕ). saturated (k + length (b ∷ bs))) count);
-  up = m.up;
-  down = (m.none, m.some);
-}
+      client = ap (λ l. l.client) e ∙ ap (λ l. l.client) second ∙ ap (λ l. l.client) first;
+      server_is = ap (λ l. l.server) e;
+      client_reader = ap (λ l. l.client_reader) e ∙ ap (λ l. l.client_reader) second ∙ ap (λ l. l.client_reader) first;
+      server_reader = ap (λ l. l.server_reader.taken) e ∙ taken;
+      to_server = ap (λ l. l.to_server) e ∙ ap (λ l. l.to_server) second ∙ ap (λ l. l.to_server) first;
+      to_client = (λ x. absurd (full x), λ x. ap (λ l. l.to_client) e ∙ ap (λ (k : ℕ). saturated (k + length (b ∷ bs))) count);
+      up = m.up;
+      down = (m.none, m.some);
+    }

@@ -33,7 +33,7 @@ AllArrive E answers r c [] = Unit {0}
 AllArrive E answers r c (e ∷ es) =
     IsComing r (up_coming e)
     × ((s : ServerState E) → MatchesServer s (record c { to_server = passed e c.to_server })
-        → ArriveAlike answers (record c { to_server = passed e c.to_server }) e (taken answers s (up_packet e).header (up_packet e).body))
+    → ArriveAlike answers (record c { to_server = passed e c.to_server }) e (taken answers s (up_packet e).header (up_packet e).body))
     × AllArrive E answers r (server_acts answers (record c { to_server = passed e c.to_server }) e) es
 
 -- More was appended, and more was sent.
@@ -71,7 +71,7 @@ AllHeard r c [] = Unit {0}
 AllHeard r c (e ∷ es) =
     IsComing r (down_coming e)
     × ((s : ClientSession) → MatchesClient s (record c { to_client = passed e c.to_client })
-        → (q : Record) × (c.current ≡ Some q) × HearAlike (record c { to_client = passed e c.to_client }) q e (heard_of s e))
+    → (q : Record) × (c.current ≡ Some q) × HearAlike (record c { to_client = passed e c.to_client }) q e (heard_of s e))
     × AllHeard r (client_acts (record c { to_client = passed e c.to_client }) e) es
 
 -- A status, unless it was settled since.
@@ -87,7 +87,7 @@ TellsMore c d settled told then =
     → (after : Record) × (d.current ≡ Some after)
     × ((more : List Token) × (then.told ≡ told ++ more) × (after.given ≡ q.given ++ more))
     × ((before : RequestStatus) → status_of false q ≡ status_under settled before
-        → status_of false after ≡ status_under then.settled before)
+    → status_of false after ≡ status_under then.settled before)
 
 -- Bytes that come to a client, and the connection then: they are packets and the beginning of one; the
 -- client takes them all, stands for the connection then, and told the newest request's caller what the

@@ -148,8 +148,7 @@ kept w n lease true false c e i f h =
     let quiet : Quiet c.to_server.waiting c.to_client.waiting c.parts c.due =
     ask_fits (phase c) (number_in c.current) c.answering c.to_server.waiting c.to_client.waiting c.parts c.due e f.0 in
     let heard : c.heard ≡ c.session.descriptor = subst (λ ds. Hears c.heard ds c.session.descriptor) quiet.1 f.1.0 in
-    let grown : IsReady v c = is_ready_grows w v c (notes_add (event.Keep lease) n c.heard w (put_numbered n d w.connections)) h in
-    (
+    let grown : IsReady v c = is_ready_grows w v c (notes_add (event.Keep lease) n c.heard w (put_numbered n d w.connections)) h in (
       grown.0,
       subst (OfTicket (KeptWell c.mark c.session)) (sym (last_numbered w.tickets (holding n c.heard None))) (or_false (c.heard == 0) (is_full c.mark) i, sym heard),
       grown.2,

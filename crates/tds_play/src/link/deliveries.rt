@@ -57,8 +57,8 @@ impl<E: Engine + Drop> Link<E> {
             → down_underway (to_server (answer_of (E.statements_of self.old.server.engine) (E.step_of self.old.server.engine)) most c) ≤ 18446744073709551615
             → AllArrive E (answer_of (E.statements_of self.old.server.engine) (E.step_of self.old.server.engine)) self.old.server_reader c c.to_server.waiting
             → IfOk result (λ done. done.lost ≡ false
-                → (done.outcome ≡ outcome.ToServer (min most (up_underway c)))
-                × Stands self.new (C.pipes carrier.new self.old.number) (to_server (answer_of (E.statements_of self.old.server.engine) (E.step_of self.old.server.engine)) most c)) }
+            → (done.outcome ≡ outcome.ToServer (min most (up_underway c)))
+            × Stands self.new (C.pipes carrier.new self.old.number) (to_server (answer_of (E.statements_of self.old.server.engine) (E.step_of self.old.server.engine)) most c)) }
     {
         let count = at_most(self.to_server, most);
         let mut piece = Vec::new(alloc);

@@ -13,14 +13,14 @@ packets-preserved c =
     let differs : ¬ (c.in-Ok-take.took ≡ NoMemory) = λ e. let z : false ≡ true = rw e at c.if-eq.ensures in absurd (cc) in
     let does = does_take _ c.in-Ok-take.took _ _ _ _ differs c.in-Ok-take.ensures.taken in
     record {
-  reads = ap (λ r. r.direction) gone ∙ ap (λ r. r.direction) fed ∙ c.packets.invariant.reads;
-  same = λ taken. ap (λ r. with_taken r taken) gone ∙ ap (λ r. with_taken r taken) fed ∙ c.packets.invariant.same taken;
-  listens = λ packets rest then comes is.
-      let left = c.packets.invariant.listens packets rest then comes is in
-      let cut = offered c.in-Ok.count _ c.packets.rest.now _ c.in-Ok.ensures.count in
-      rw (slice_rest c.in-Ok.count c.packets.rest.now)
-      (goes_on c.first_or_all.ensures.first c.first_or_all.ensures.all c.first_or_all.ensures.one c.first_or_all.ensures.same _ _ _ _ rest _ _ _ _ _ _ _ _ _ _ then c.in-Ok-take.took left fed lent cut gone does.1 does.2 c.settled_by-settled.ensures);
-}
+      reads = ap (λ r. r.direction) gone ∙ ap (λ r. r.direction) fed ∙ c.packets.invariant.reads;
+      same = λ taken. ap (λ r. with_taken r taken) gone ∙ ap (λ r. with_taken r taken) fed ∙ c.packets.invariant.same taken;
+      listens = λ packets rest then comes is.
+          let left = c.packets.invariant.listens packets rest then comes is in
+          let cut = offered c.in-Ok.count _ c.packets.rest.now _ c.in-Ok.ensures.count in
+          rw (slice_rest c.in-Ok.count c.packets.rest.now)
+          (goes_on c.first_or_all.ensures.first c.first_or_all.ensures.all c.first_or_all.ensures.one c.first_or_all.ensures.same _ _ _ _ rest _ _ _ _ _ _ _ _ _ _ then c.in-Ok-take.took left fed lent cut gone does.1 does.2 c.settled_by-settled.ensures);
+    }
 
 pub returns-in-Err-clause-listened : goal.returns-in-Err-clause-listened
 returns-in-Err-clause-listened c = λ packets rest then comes is.

@@ -38,13 +38,13 @@ packets-preserved g c =
     let state = c.take.ensures.state (λ e. differs (same_took _ _ c.take.result c.in-Ok-take.is e)) in
     let reply = c.take.ensures.reply (λ e. differs (same_took _ _ c.take.result c.in-Ok-take.is e)) in
     record {
-  reads = ap (λ r. r.direction) gone ∙ ap (λ r. r.direction) fed ∙ c.packets.invariant.reads;
-  engine = c.take.ensures.engine ∙ c.packets.invariant.engine;
-  session = c.take.ensures.session ∙ c.packets.invariant.session;
-  same = λ taken. ap (λ r. with_taken r taken) gone ∙ ap (λ r. with_taken r taken) fed ∙ c.packets.invariant.same taken;
-  serves = λ packets rest then comes is.
-      let left = c.packets.invariant.serves packets rest then comes is in
-      let cut = offered c.in-Ok.count _ c.packets.rest.now _ c.in-Ok.ensures.count in
-      rw (slice_rest c.in-Ok.count c.packets.rest.now)
-      (goes_on c.first_or_all.ensures.first c.first_or_all.ensures.all c.first_or_all.ensures.one c.first_or_all.ensures.same _ _ _ _ _ rest _ _ _ _ _ _ _ then c.in-Ok-take.took left fed lent cut gone (sym c.in-Ok-take.is ∙ rw answers at took) (rw answers at state) (rw answers at reply));
-}
+      reads = ap (λ r. r.direction) gone ∙ ap (λ r. r.direction) fed ∙ c.packets.invariant.reads;
+      engine = c.take.ensures.engine ∙ c.packets.invariant.engine;
+      session = c.take.ensures.session ∙ c.packets.invariant.session;
+      same = λ taken. ap (λ r. with_taken r taken) gone ∙ ap (λ r. with_taken r taken) fed ∙ c.packets.invariant.same taken;
+      serves = λ packets rest then comes is.
+          let left = c.packets.invariant.serves packets rest then comes is in
+          let cut = offered c.in-Ok.count _ c.packets.rest.now _ c.in-Ok.ensures.count in
+          rw (slice_rest c.in-Ok.count c.packets.rest.now)
+          (goes_on c.first_or_all.ensures.first c.first_or_all.ensures.all c.first_or_all.ensures.one c.first_or_all.ensures.same _ _ _ _ _ rest _ _ _ _ _ _ _ then c.in-Ok-take.took left fed lent cut gone (sym c.in-Ok-take.is ∙ rw answers at took) (rw answers at state) (rw answers at reply));
+    }

@@ -25,17 +25,17 @@ pieces-preserved g c =
     let now : counted c.pieces.self d ≡ counted c.args.self.now d - (c.args.count - c.pieces.left) = ap (λ l. counted l d) i.counted ∙ count_is c.args.self.now d _ in
     let less : counted c.pieces.self d - piece ≡ counted c.args.self.now d - (c.args.count - (c.pieces.left - piece)) = omega (arith, now, left, most, i.within, i.underway) in
     record {
-  number = ap (λ l. l.number) done ∙ number_same c.pieces.self d _ ∙ i.number;
-  live = ap (λ l. l.is_cut) done ∙ cut_same c.pieces.self d _ ∙ i.live;
-  tied = rw done (tied_after c.pieces.self d piece _ _ _ i.tied i.live under (long_tail before after piece brings.count) ok.here);
-  others = λ other differs. ok.others other differs ∙ i.others other differs;
-  within = omega (arith, most, i.within);
-  underway = rw (done, count_is c.pieces.self d (counted c.pieces.self d - piece)) (omega (arith, most, i.underway));
-  counted =
-      done ∙ ap (λ (n : ℕ). with_counted c.pieces.self d n) less
-      ∙ ap (λ l. with_counted l d (counted c.args.self.now d - (c.args.count - (c.pieces.left - piece)))) i.counted
-      ∙ count_twice c.args.self.now d _ _;
-  tells = λ told. brings.tells (λ e. no_error piece Memory c.carry.result c.in-Ok.is (c.in-Ok.is ∙ e)) (i.tells told);
-  brought = λ told. subst (λ (n : ℕ). Brings (g.C.Carrier.pipes c.args.carrier.now conn) d n c.args.out.now.items after (new conn) false) (sym left)
-      (brought_more c.args.self.now _ (old conn) (new conn) d (c.args.count - c.pieces.left) piece c.args.out.now.items before after (c.requires.tied.holds c.requires.live) (omega (arith, c.requires.underway)) (i.brought told) (bytes (i.tells told)) ok.here);
-}
+      number = ap (λ l. l.number) done ∙ number_same c.pieces.self d _ ∙ i.number;
+      live = ap (λ l. l.is_cut) done ∙ cut_same c.pieces.self d _ ∙ i.live;
+      tied = rw done (tied_after c.pieces.self d piece _ _ _ i.tied i.live under (long_tail before after piece brings.count) ok.here);
+      others = λ other differs. ok.others other differs ∙ i.others other differs;
+      within = omega (arith, most, i.within);
+      underway = rw (done, count_is c.pieces.self d (counted c.pieces.self d - piece)) (omega (arith, most, i.underway));
+      counted =
+          done ∙ ap (λ (n : ℕ). with_counted c.pieces.self d n) less
+          ∙ ap (λ l. with_counted l d (counted c.args.self.now d - (c.args.count - (c.pieces.left - piece)))) i.counted
+          ∙ count_twice c.args.self.now d _ _;
+      tells = λ told. brings.tells (λ e. no_error piece Memory c.carry.result c.in-Ok.is (c.in-Ok.is ∙ e)) (i.tells told);
+      brought = λ told. subst (λ (n : ℕ). Brings (g.C.Carrier.pipes c.args.carrier.now conn) d n c.args.out.now.items after (new conn) false) (sym left)
+          (brought_more c.args.self.now _ (old conn) (new conn) d (c.args.count - c.pieces.left) piece c.args.out.now.items before after (c.requires.tied.holds c.requires.live) (omega (arith, c.requires.underway)) (i.brought told) (bytes (i.tells told)) ok.here);
+    }

@@ -50,17 +50,19 @@ returns-in-None-clause-stands g c = λ m tells stands lanes few all uncut.
     let turned = record c.carry.new.self { server = c.feed_server.new.server; server_reader = c.feed_server.new.reader } in
     let first = counted ∙ ap (λ (k : ℕ). with_counted c.args.self.now ToServer (c.args.self.now.to_server - k)) as_many in
     let came : mid ≡ carried_on pipe ToServer (next_of (traffic pipe ToServer) n) =
-        brought.pipe
-        ∙ ap (brought_on pipe ToServer (next_of (traffic pipe ToServer) c.in_ok-carried.carried.count)) whole
-        ∙ ap (λ (k : ℕ). carried_on pipe ToServer (next_of (traffic pipe ToServer) k)) as_many in
+    brought.pipe
+    ∙ ap (brought_on pipe ToServer (next_of (traffic pipe ToServer) c.in_ok-carried.carried.count)) whole
+    ∙ ap (λ (k : ℕ). carried_on pipe ToServer (next_of (traffic pipe ToServer) k)) as_many in
     let same = ap (λ k. g.C.Carrier.pipes k conn) (c.end.ensures.kept kept) in
     let by = delivered_by c.args.self.now c.carry.new.self turned c.hand_over.new.self pipe mid after n a.rest c.as_slice.result.now
-        (c.requires.tied.holds c.requires.live).is_open first refl (ap (λ r. r.taken) fed.2) came
-        (λ empty. let h = c.hand_over.ensures.nothing empty in (h.1, same ∙ ap (λ k. g.C.Carrier.pipes k conn) h.2))
-        (λ full.
-            let handed = c.in_ok-lost-in-None.ensures.handed full in
-            (c.in_ok-lost-in-None.ensures.counted full,
-             same ∙ subst (λ (k : ℕ). g.C.Carrier.pipes c.hand_over.new.carrier k ≡ sent_on (g.C.Carrier.pipes c.carry.new.carrier k) ToClient c.as_slice.result.now (cond c.in_ok-lost-in-None.lost 1 0)) c.in_ok-carried.ensures.number handed
-             ∙ ap (λ b. sent_on mid ToClient c.as_slice.result.now (cond b 1 0)) none.1)) in
-    (end ∙ ap outcome.ToServer (as_many ∙ whole_count ∙ ap (min c.args.most) here),
-     rw new (delivered_alike answers c.args.self.now c.hand_over.new.self pipe after m c.args.most n _ c.as_slice.result.now stands whole_count (lanes c.args.most).0 few a (reply ∙ fed.1.1) (rw fed.1.0 at by)))
+    (c.requires.tied.holds c.requires.live).is_open first refl (ap (λ r. r.taken) fed.2) came
+    (λ empty. let h = c.hand_over.ensures.nothing empty in (h.1, same ∙ ap (λ k. g.C.Carrier.pipes k conn) h.2))
+    (λ full.
+    let handed = c.in_ok-lost-in-None.ensures.handed full in (
+      c.in_ok-lost-in-None.ensures.counted full,
+      same ∙ subst (λ (k : ℕ). g.C.Carrier.pipes c.hand_over.new.carrier k ≡ sent_on (g.C.Carrier.pipes c.carry.new.carrier k) ToClient c.as_slice.result.now (cond c.in_ok-lost-in-None.lost 1 0)) c.in_ok-carried.ensures.number handed
+          ∙ ap (λ b. sent_on mid ToClient c.as_slice.result.now (cond b 1 0)) none.1,
+    )) in (
+      end ∙ ap outcome.ToServer (as_many ∙ whole_count ∙ ap (min c.args.most) here),
+      rw new (delivered_alike answers c.args.self.now c.hand_over.new.self pipe after m c.args.most n _ c.as_slice.result.now stands whole_count (lanes c.args.most).0 few a (reply ∙ fed.1.1) (rw fed.1.0 at by)),
+    )
