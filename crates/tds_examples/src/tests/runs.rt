@@ -15,7 +15,7 @@ pub struct Ended {
 }
 
 /// Runs a schedule file of these bytes.
-pub fn run(alloc: Global, schedule: &[u8]) -> Ended {
+pub(super) fn run(alloc: Global, schedule: &[u8]) -> Ended {
     let mut reader = schedule;
     let mut carrier = MemoryCarrier::new(alloc);
     let mut output = Vec::new(alloc);
@@ -29,17 +29,17 @@ pub fn run(alloc: Global, schedule: &[u8]) -> Ended {
 }
 
 /// The schedule prints this text and nothing else, and ends with status 0.
-pub fn printed(rt: HostRuntime, schedule: &str, text: &str) -> Result<(), Fail> {
+pub(super) fn printed(rt: HostRuntime, schedule: &str, text: &str) -> Result<(), Fail> {
     expect(&run(rt.alloc(), schedule.as_bytes()), 0, text, "")
 }
 
 /// The schedule prints no report, this error line, and ends with status 1.
-pub fn refused(rt: HostRuntime, schedule: &str, line: &str) -> Result<(), Fail> {
+pub(super) fn refused(rt: HostRuntime, schedule: &str, line: &str) -> Result<(), Fail> {
     expect(&run(rt.alloc(), schedule.as_bytes()), 1, "", line)
 }
 
 /// A run's exit status and the two texts.
-pub fn expect(run: &Ended, status: u8, output: &str, errors: &str) -> Result<(), Fail> {
+pub(super) fn expect(run: &Ended, status: u8, output: &str, errors: &str) -> Result<(), Fail> {
     if run.errors.as_slice() != errors.as_bytes() {
         return Err("another error line".into());
     }
