@@ -26,3 +26,6 @@ pub mod Hearing
 pub mod Feeding
 pub mod Deliveries
 pub mod Between
+pub mod Requests
+pub mod Promises
+pub mod Plays

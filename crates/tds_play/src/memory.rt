@@ -104,6 +104,8 @@ impl Carrier for MemoryCarrier {
 
     ghost tells = { λ _. Unit {0} };
 
+    ghost steady = { Unit {0} };
+
     fn open(&mut self, conn: u32) -> Result<(), CarrierError> {
         let pipe = MemoryPipe {
             to_server: Queue::new(self.alloc),

@@ -1,0 +1,109 @@
+-- What a play stands for in the model: each connection, the leases and tickets, and the connections of
+-- the requests.
+use Rattle.std.specs.Prelude.{ℕ, suc, ◌≡◌, List, [], ◌∷◌, map, Bool, true, false, Option, Some, None, if◌then◌else◌}
+use Rattle.tds_packet.specs.declared.kind.Direction.TheVariants.{ToServer, ToClient}
+use Rattle.tds_session.specs.Answer.{Answers}
+use Rattle.tds_play.specs.declared.link.Link.{Link}
+use Rattle.tds_play.specs.declared.link.acts.Next.{Next}
+use Rattle.tds_play.specs.Between.{Stands}
+use Rattle.tds_play.specs.Lending.{standing_of}
+use Rattle.tds_play.specs.Pipe.{Pipe, traffic}
+use Rattle.tds_play.specs.Requests.{AreOlder, IsNewest}
+use Rattle.tds_world.specs.declared.event.Event.{Event}
+use Rattle.tds_world.specs.declared.event.Event.TheVariants as event
+use Rattle.tds_world.specs.declared.event.Setup.{Setup}
+use Rattle.tds_world.specs.declared.outcome.AbandonOutcome.TheVariants as abandoned
+use Rattle.tds_world.specs.declared.outcome.GiveBackOutcome.TheVariants as given_back
+use Rattle.tds_world.specs.declared.outcome.Outcome.{Outcome}
+use Rattle.tds_world.specs.declared.outcome.Outcome.TheVariants as outcome
+use Rattle.tds_world.specs.declared.outcome.Refusal.TheVariants.{UnknownConnection, ConnectionCut}
+use Rattle.tds_world.specs.Connection.{Connection, Standing, In, Cut, is_idle}
+use Rattle.tds_world.specs.Entries.{up_bytes, down_bytes}
+use Rattle.tds_world.specs.Events.{acts}
+use Rattle.tds_world.specs.Lane.{sent_bytes}
+use Rattle.tds_world.specs.Pool.{Acted, Refuses, Does}
+use Rattle.tds_world.specs.World.{World, Holding, next_number}
+
+-- ---- A connection
+
+-- A connection that isn't cut: both ends, with this engine and this greatest size of packets.
+pub record Lives {E S : Type 0} (size : ℕ) (engine : E) (link : Link E S) (pipe : Option Pipe) (c : Connection)
+    : Type 0 where
+  pub stands : Stands link pipe c
+  pub engine : link.server.engine ≡ engine
+  pub size : link.client.size ≡ size
+  pub server_reads : link.server_reader.direction ≡ ToServer
+  pub server_size : link.server_reader.size ≡ size
+  pub client_reads : link.client_reader.direction ≡ ToClient
+  pub client_size : link.client_reader.size ≡ size
+
+-- The connection of this number, and the model's.
+pub record IsPlayed {E S : Type 0} (number size : ℕ) (engine : E) (link : Link E S) (pipe : Option Pipe)
+    (c : Connection) : Type 0 where
+  pub numbered : link.number ≡ number
+  pub standing : standing_of link ≡ c.standing
+  pub older : AreOlder number link.is_cut link.past.items c.past
+  pub newest : IsNewest number link.is_cut link.current c.current
+  pub to_server : (traffic pipe ToServer).handed ≡ sent_bytes up_bytes c.to_server
+  pub to_client : (traffic pipe ToClient).handed ≡ sent_bytes down_bytes c.to_client
+  pub lives : link.is_cut ≡ false → Lives size engine link pipe c
+
+-- ---- An event on it
+
+-- What an event comes to whose connection is cut.
+abbrev pub on_cut : Event → Connection → Acted
+on_cut (event.GiveBack lease) c = Does (outcome.GivenBack given_back.Closed) c
+on_cut (event.Abandon ticket) c = Does (outcome.Abandoned abandoned.Closed) c
+on_cut (event.Work n) c = Refuses UnknownConnection
+on_cut (event.ToServer n count) c = Refuses UnknownConnection
+on_cut (event.ToClient n count) c = Refuses UnknownConnection
+on_cut (event.Cut n) c = Refuses UnknownConnection
+on_cut e c = Refuses ConnectionCut
+
+-- What an event does to a connection, of this number, that may be cut.
+abbrev pub acts_at : Standing → Setup → Answers → World → Event → ℕ → Connection → Acted
+acts_at (In place) setup answers w e n c = acts setup answers w e n c
+acts_at Cut setup answers w e n c = on_cut e c
+
+abbrev pub acts_on : Setup → Answers → World → Event → ℕ → Connection → Acted
+acts_on setup answers w e n c = acts_at c.standing setup answers w e n c
+
+-- The outcome of it, and the connection then.
+abbrev pub outcome_of : Acted → Outcome
+outcome_of (Refuses why) = outcome.Refused why
+outcome_of (Does what d) = what
+
+abbrev pub after : Acted → Connection → Connection
+after (Refuses why) c = c
+after (Does what d) c = d
+
+-- A connection that is lent is idle. A restart is about all connections, and about none alone.
+abbrev pub IsReady : Event → Connection → Type 0
+IsReady event.Lease c = is_idle c ≡ true
+IsReady (event.Resume ticket) c = is_idle c ≡ true
+IsReady event.RestartServer c = ⊥
+IsReady event.RestartClient c = ⊥
+IsReady e c = Unit {0}
+
+-- The numbers that the next ones get.
+pub record AreNext (w : World) (next : Next) : Type 0 where
+  pub lease : next.lease ≡ next_number w.leases
+  pub ticket : next.ticket ≡ next_number w.tickets
+  pub request : next.request ≡ next_number w.asked_on
+
+-- ---- All of them
+
+-- The connections, of which the first has this number.
+abbrev pub ArePlayed : {E S : Type 0} → ℕ → ℕ → E → List (Link E S) → (ℕ → Option Pipe) → List Connection → Type 0
+ArePlayed number size engine [] pipes [] = Unit {0}
+ArePlayed number size engine [] pipes (c ∷ cs) = ⊥
+ArePlayed number size engine (l ∷ ls) pipes [] = ⊥
+ArePlayed number size engine (l ∷ ls) pipes (c ∷ cs) =
+    IsPlayed number size engine l (pipes number) c × ArePlayed (suc number) size engine ls pipes cs
+
+-- Leases or tickets: the connection of each that has not ended.
+abbrev pub held_by : Holding → Option ℕ
+held_by h = if h.over then None else Some h.conn
+
+abbrev pub holdings_of : List Holding → List (Option ℕ)
+holdings_of hs = map held_by hs
