@@ -30,8 +30,8 @@ use Rattle.tds_world.specs.World.{World, Holding, next_number}
 pub record Lives {E S : Type 0} (size : ℕ) (engine : E) (link : Link E S) (pipe : Option Pipe) (c : Connection)
     : Type 0 where
   pub stands : Stands link pipe c
-  pub engine : link.server.engine ≡ engine
-  pub size : link.client.size ≡ size
+  pub engine_is : link.server.engine ≡ engine
+  pub size_is : link.client.size ≡ size
   pub server_reads : link.server_reader.direction ≡ ToServer
   pub server_size : link.server_reader.size ≡ size
   pub client_reads : link.client_reader.direction ≡ ToClient
