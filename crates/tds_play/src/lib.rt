@@ -32,6 +32,3 @@ pub use tds_world::{
 
 /// The answer of a growth that was refused.
 pub type NoMemory = std::alloc::AllocError;
-
-#[cfg(test)]
-mod tests;
