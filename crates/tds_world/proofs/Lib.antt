@@ -41,3 +41,5 @@ pub mod Steps
 pub mod Welcome
 pub mod Requests
 pub mod Dones
+pub mod Fitting
+pub mod Sessions

@@ -18,4 +18,5 @@ pub mod Begins
 pub mod Steps
 pub mod Welcome
 pub mod Requests
+pub mod Sessions
 pub mod Dones

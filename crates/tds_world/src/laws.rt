@@ -8,6 +8,7 @@ ghost use Rattle.tds_world.specs.Dones.{FinalDoneAtEnd, HaveDones};
 ghost use Rattle.tds_world.specs.Lawful.{Lawful};
 ghost use Rattle.tds_world.specs.Laws.{Always, AlwaysOf, FreshStart, IdleIsQuiet, NothingAfterCancel, OwnAnswers};
 ghost use Rattle.tds_world.specs.Requests.{RequestsAreSpelled};
+ghost use Rattle.tds_world.specs.Sessions.{AllInRange, StayInRange};
 ghost use Rattle.tds_world.specs.Steps.{MessagesEndOnce, StepsAreOfAnswers};
 ghost use Rattle.tds_world.specs.Welcome.{AllWelcome};
 ghost use Rattle.tds_world.specs.declared.event.Setup.{Setup};
@@ -115,4 +116,16 @@ pub fn engine_has_dones<E: Engine>(engine: &E)
 /// of the packet that ends the message, and there alone.
 pub fn final_done_at_end()
     ensures { (setup : Setup) (answers : Answers) → Lawful answers → HaveDones answers → Always setup answers FinalDoneAtEnd }
+{}
+
+/// Whatever the engine, from a session of the program on, each step of an answer fits one packet of
+/// the smallest size, and leaves a session of the program.
+pub fn engine_stays_in_range<E: Engine>(engine: &E)
+    ensures { StayInRange (answer_of (E.statements_of engine.now) (E.step_of engine.now)) }
+{}
+
+/// So it is with each step that was sent or is due, and the session of each connection's server is
+/// one of the program.
+pub fn all_in_range()
+    ensures { (setup : Setup) (answers : Answers) → Lawful answers → StayInRange answers → Always setup answers AllInRange }
 {}
