@@ -41,3 +41,4 @@ pub mod Steps
 pub mod Welcome
 pub mod Requests
 pub mod Dones
+pub mod Newest

@@ -19,3 +19,5 @@ pub mod Steps
 pub mod Welcome
 pub mod Requests
 pub mod Dones
+pub mod Newest
+pub mod Order

@@ -7,6 +7,7 @@ ghost use Rattle.tds_world.specs.Deliveries.{DeliversExactly};
 ghost use Rattle.tds_world.specs.Dones.{FinalDoneAtEnd, HaveDones};
 ghost use Rattle.tds_world.specs.Lawful.{Lawful};
 ghost use Rattle.tds_world.specs.Laws.{Always, AlwaysOf, FreshStart, IdleIsQuiet, NothingAfterCancel, OwnAnswers};
+ghost use Rattle.tds_world.specs.Newest.{ActOnNewest};
 ghost use Rattle.tds_world.specs.Requests.{RequestsAreSpelled};
 ghost use Rattle.tds_world.specs.Steps.{MessagesEndOnce, StepsAreOfAnswers};
 ghost use Rattle.tds_world.specs.Welcome.{AllWelcome};
@@ -115,4 +116,10 @@ pub fn engine_has_dones<E: Engine>(engine: &E)
 /// of the packet that ends the message, and there alone.
 pub fn final_done_at_end()
     ensures { (setup : Setup) (answers : Answers) → Lawful answers → HaveDones answers → Always setup answers FinalDoneAtEnd }
+{}
+
+/// What waits for a client and what is due is the newest request's, and no older request changes by
+/// it.
+pub fn act_on_newest()
+    ensures { (setup : Setup) (answers : Answers) → Lawful answers → Always setup answers ActOnNewest }
 {}
