@@ -1,8 +1,9 @@
 -- What waits for a client, and what is due, is the newest request's, and no older one changes by it.
-use Rattle.std.proofs.Common.{◌≡◌, ◌<◌, ℕ, List, [], ◌∷◌, ◌-◌, ◌+◌, inl, inr, map, Bool, true, false, cond, length, ltb, min, refl, sym, subst, ◌∙◌, Option, Some, None, option_map}
+use Rattle.std.proofs.Common.{◌≡◌, ◌<◌, ℕ, List, [], ◌∷◌, ◌-◌, ◌+◌, inl, inr, map, Bool, true, false, cond, length, ltb, min, refl, sym, ap, subst, ◌∙◌, Option, Some, None, option_map}
 use Rattle.std.specs.List.{AllByRecursion}
 use Rattle.tds_session.specs.Answer as answer
 use Rattle.tds_session.specs.Answer.{Answers}
+use Rattle.tds_session.specs.Session.{SessionState}
 use Rattle.tds_world.specs.declared.event.Setup.{Setup}
 use Rattle.tds_world.specs.Arrivals.{client_acts, reach_client, works_on}
 use Rattle.tds_world.specs.Connection.{Connection, phase, down_underway}
@@ -11,16 +12,20 @@ use Rattle.tds_world.specs.Events.{world_after}
 use Rattle.tds_world.specs.Lane.{passed, with_waiting}
 use Rattle.tds_world.specs.Lawful.{Lawful}
 use Rattle.tds_world.specs.Laws.{Always}
-use Rattle.tds_world.specs.Newest.{request_of, IsOfNewest, HearsOfNewest, AnswersNewest, AreBefore, ActsOnNewest, ActOnNewest}
-use Rattle.tds_world.specs.Phase.{Phase, Settled, Asked, Sending, Reading, Cancelling, phase_in, is_settled}
-use Rattle.tds_world.specs.Record.{Record, gives, acknowledges, runs, if_numbered}
+use Rattle.tds_world.specs.Newest.{request_of, IsOfNewest, HearsOfNewest, AnswersNewest, AreBefore, ActsOnNewest, ActOnNewest, WorksOnNewest, WorkOnNewest}
+use Rattle.tds_world.specs.Phase.{Phase, Settled, Asked, Sending, Reading, Cancelling, phase_in, phase_of, is_settled}
+use Rattle.tds_world.specs.Record.{Record, gives, acknowledges, runs, when, if_numbered}
 use Rattle.tds_world.specs.World.{World, new_world}
+use Rattle.tds_world.proofs.Arrivals.{same_number}
+use Rattle.tds_world.proofs.Asking.{ByRan, Newest}
 use Rattle.tds_world.proofs.Busy.{Answering, busy_down, busy_due}
 use Rattle.tds_world.proofs.Cores.{core_of, past_of, newest_of, client_same}
 use Rattle.tds_world.proofs.Flow.{FlowIn, StepsAndDue, OnlySteps, EndsInAcknowledgement, number_in, Sound, SoundWith}
 use Rattle.tds_world.proofs.Keeps.{down_act_at}
 use Rattle.tds_world.proofs.Noted.{always_in}
 use Rattle.tds_world.proofs.Numbers.{NumbersOf, InOrder, in_order_kept, same_numbers, past_stays}
+use Rattle.tds_world.proofs.OwnTransactions.{WellMarked, marked_kept}
+use Rattle.tds_world.proofs.Runs.{first_step}
 use Rattle.tds_world.proofs.Worlds.{each_follows}
 
 -- ---- The first entry that waits is the newest request's
@@ -139,3 +144,33 @@ act_on_newest setup answers l events =
     let w : World = world_after setup answers events new_world in
     each_follows (InOrder w) ActsOnNewest w.connections (acts_on_newest w)
     (always_in setup answers InOrder events (in_order_kept setup answers l))
+
+-- ---- The server's work
+
+runs_newest : (c : Connection) (s : answer.Step) (ss : List answer.Step) (q : Record) → c.current ≡ Some q → c.answering ≡ q.number → (works_on c (s ∷ ss)).current ≡ Some (runs c.session s q)
+runs_newest c s ss q e n =
+    ap (option_map (if_numbered c.answering (runs c.session s))) e ∙ ap (λ b. Some (when b (runs c.session s) q)) (same_number c.answering q.number n)
+
+takes_mark : (answers : Answers) → Lawful answers → (c : Connection) (q : Record) (s : answer.Step) (ss : List answer.Step) (ran : Option SessionState) → ran ≡ None → c.due ≡ s ∷ ss → ByRan answers c c.to_server.waiting c.to_client.waiting (phase_of q) q.asking ran → s.reset ≡ q.asking.mark
+takes_mark answers l c q s ss (Some x) n e h = absurd (cc)
+takes_mark answers l c q s ss None n e h = elim h.due [
+  | inl z ↦ absurd (not_none s ss (sym e ∙ z))
+  | inr z ↦ (first_step answers l c.session q.asking.descriptor q.asking.mark q.asking.request s ss (sym e ∙ z.1)).reset
+]
+
+works_newest : (answers : Answers) → Lawful answers → (w : World) (c : Connection) (due : List answer.Step) → c.due ≡ due → WellMarked answers w c → WorksOnNewest c due
+works_newest answers l w c [] e h = tt
+works_newest answers l w c (s ∷ ss) e h =
+    let a : IsOfNewest c c.answering = subst (AnswersNewest c) e (answers_newest c c.due refl h.0.0.0) in
+    record {
+      request = a.request;
+      newest = a.newest;
+      then = ap (λ d. (works_on c d).current) e ∙ runs_newest c s ss a.request a.newest a.same;
+      first = λ n. takes_mark answers l c a.request s ss a.request.ran n e (subst (Newest answers c c.to_server.waiting c.to_client.waiting) a.newest h.1.1);
+    }
+
+pub work_on_newest : (setup : Setup) (answers : Answers) → Lawful answers → Always setup answers WorkOnNewest
+work_on_newest setup answers l events =
+    let w : World = world_after setup answers events new_world in
+    each_follows (WellMarked answers w) (λ c. WorksOnNewest c c.due) w.connections (λ c h. works_newest answers l w c c.due refl h)
+    (always_in setup answers (WellMarked answers) events (marked_kept setup answers l))
