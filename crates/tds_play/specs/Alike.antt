@@ -1,5 +1,5 @@
 -- What it is that an end does the same as the model's connection.
-use Rattle.std.specs.Prelude.{ℕ, ◌≡◌, List, [], ◌∷◌, Option, Some, None, Result, Ok, Err}
+use Rattle.std.specs.Prelude.{ℕ, ◌≡◌, List, [], Option, Some, None, Result, Ok, Err}
 use Rattle.tds_client.specs.declared.fault.ClientRefusal.{ClientRefusal}
 use Rattle.tds_client.specs.declared.fault.ClientRefusal.TheVariants as refused
 use Rattle.tds_client.specs.declared.state.Sent.{Sent}
@@ -26,7 +26,6 @@ use Rattle.tds_world.specs.Caller.{cancels}
 use Rattle.tds_world.specs.Connection.{Connection, phase}
 use Rattle.tds_world.specs.Entries.{Up, Part, End, Drop, Attention, up_bytes, down_bytes}
 use Rattle.tds_world.specs.Events.{work_outcome}
-use Rattle.tds_world.specs.Lawful.{EndsOnce}
 use Rattle.tds_world.specs.Pool.{Acted, Refuses, Does}
 use Rattle.tds_play.specs.Acts.{cancel_outcome}
 use Rattle.tds_play.specs.Stands.{MatchesClient, MatchesServer, Sends}
@@ -56,11 +55,6 @@ abbrev pub worked_outcome : Worked → WorkOutcome
 worked_outcome server.Idle = work.Idle
 worked_outcome server.Step = work.Step
 worked_outcome server.Finished = work.Finished
-
--- What is due, if anything is, ends once.
-abbrev pub EndsIfDue : List Step → Type 0
-EndsIfDue [] = Unit {0}
-EndsIfDue (s ∷ ss) = EndsOnce (s ∷ ss)
 
 -- A server that works and its connection: the server appends the bytes of the step that the
 -- connection appends, or neither does anything, and it matches the connection then.

@@ -43,3 +43,4 @@ pub mod Requests
 pub mod Dones
 pub mod Fitting
 pub mod Sessions
+pub mod Newest

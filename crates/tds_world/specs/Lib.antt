@@ -20,3 +20,5 @@ pub mod Welcome
 pub mod Requests
 pub mod Sessions
 pub mod Dones
+pub mod Newest
+pub mod Order

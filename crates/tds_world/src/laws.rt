@@ -7,9 +7,10 @@ ghost use Rattle.tds_world.specs.Deliveries.{DeliversExactly};
 ghost use Rattle.tds_world.specs.Dones.{FinalDoneAtEnd, HaveDones};
 ghost use Rattle.tds_world.specs.Lawful.{Lawful};
 ghost use Rattle.tds_world.specs.Laws.{Always, AlwaysOf, FreshStart, IdleIsQuiet, NothingAfterCancel, OwnAnswers};
+ghost use Rattle.tds_world.specs.Newest.{ActOnNewest, WorkOnNewest};
 ghost use Rattle.tds_world.specs.Requests.{RequestsAreSpelled};
 ghost use Rattle.tds_world.specs.Sessions.{AllInRange, StayInRange};
-ghost use Rattle.tds_world.specs.Steps.{MessagesEndOnce, StepsAreOfAnswers};
+ghost use Rattle.tds_world.specs.Steps.{AnswersEndOnce, MessagesEndOnce, StepsAreOfAnswers};
 ghost use Rattle.tds_world.specs.Welcome.{AllWelcome};
 ghost use Rattle.tds_world.specs.declared.event.Setup.{Setup};
 
@@ -128,4 +129,21 @@ pub fn engine_stays_in_range<E: Engine>(engine: &E)
 /// one of the program.
 pub fn all_in_range()
     ensures { (setup : Setup) (answers : Answers) → Lawful answers → StayInRange answers → Always setup answers AllInRange }
+{}
+
+/// What waits for a client and what is due is the newest request's, and no older request changes by
+/// it.
+pub fn act_on_newest()
+    ensures { (setup : Setup) (answers : Answers) → Lawful answers → Always setup answers ActOnNewest }
+{}
+
+/// A step that is due is one of the newest request's answer: the server's work says of this request
+/// that it ran, and where it is the first step, it takes the reset that the request asks for.
+pub fn work_on_newest()
+    ensures { (setup : Setup) (answers : Answers) → Lawful answers → Always setup answers WorkOnNewest }
+{}
+
+/// What is due, if anything is, has a last step, which alone is marked so.
+pub fn answers_end_once()
+    ensures { (setup : Setup) (answers : Answers) → Lawful answers → Always setup answers AnswersEndOnce }
 {}
