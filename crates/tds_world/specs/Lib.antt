@@ -16,6 +16,7 @@ pub mod Bounds
 pub mod Deliveries
 pub mod Begins
 pub mod Steps
+pub mod Heard
 pub mod Welcome
 pub mod Requests
 pub mod Sessions
