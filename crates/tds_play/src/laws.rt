@@ -1,5 +1,6 @@
 //! The ends and the model: what each end's core does, the model's connection does. Each is the
-//! contract of a function without a body.
+//! contract of a function without a body, or of one whose body does nothing but name the laws that
+//! it rests on.
 ghost use Rattle.std.specs.Prelude.{◌≡◌, ◌≤◌, ◌<◌, ◌^◌, ℕ, List, [], ◌∷◌, ◌++◌, map, flat_map, take, Option, Some, true};
 ghost use Rattle.std.specs.List.{AllByRecursion};
 ghost use Rattle.tds_client.specs.Sending.{started, sent, room};
@@ -7,6 +8,7 @@ ghost use Rattle.tds_client.specs.Session.{ClientSession, marked, new_session, u
 ghost use Rattle.tds_client.specs.Taking.{taken as client_taken};
 ghost use Rattle.tds_packet.specs.Layout.{bits_of, has_bit};
 ghost use Rattle.tds_packet.specs.Reading.{Reading};
+ghost use Rattle.tds_packet.specs.declared.kind.Direction.TheVariants.{ToClient};
 ghost use Rattle.tds_packet.specs.declared.status.Reset.{Reset};
 ghost use Rattle.tds_play.specs.Alike.{AskAlike, CancelAlike, SendAlike, WorkAlike, ArriveAlike, IsUndisturbed};
 ghost use Rattle.tds_play.specs.Deliveries.{AllArrive, ServesAlike, AllHeard, ListensAlike};
@@ -23,12 +25,14 @@ ghost use Rattle.tds_session.specs.Answer.{Answers, answer_of};
 ghost use Rattle.tds_session.specs.Session.{SessionState, strongest};
 ghost use Rattle.tds_token.specs.declared.token.Token.{Token};
 ghost use Rattle.tds_world.specs.Arrivals.{server_acts, client_acts, works, reach_server, reach_client};
+ghost use Rattle.tds_world.specs.Bounds.{IsSetup};
 ghost use Rattle.tds_world.specs.Caller.{asks, sends, cancels};
 ghost use Rattle.tds_world.specs.Connection.{Connection, Standing, new_connection, phase, is_idle};
 ghost use Rattle.tds_world.specs.Entries.{Up, up_bytes, up_packet, Down, down_bytes, down_packet};
 ghost use Rattle.tds_world.specs.Events.{asks_by, sends_in};
 ghost use Rattle.tds_world.specs.Lane.{Lane, sent_bytes};
 ghost use Rattle.tds_world.specs.Lawful.{Lawful};
+ghost use Rattle.tds_world.specs.Laws.{Always, OfEachConnection};
 ghost use Rattle.tds_world.specs.Phase.{Settled, phase_of};
 ghost use Rattle.tds_world.specs.Pool.{to_lend};
 ghost use Rattle.tds_world.specs.Record.{Record};
@@ -39,6 +43,10 @@ ghost use Rattle.tds_world.specs.declared.report.Place.{Place};
 ghost use Rattle.tds_world.specs.declared.report.RequestStatus.{RequestStatus};
 
 use tds_session::Engine;
+use tds_world::laws::{
+    act_on_newest, all_in_range, all_welcome, changes_are_heard, engine_is_lawful,
+    engine_stays_in_range, steps_are_of_answers,
+};
 
 /// A client takes a request exactly where the model does, and then stands for its connection.
 pub fn asks_alike()
@@ -149,3 +157,19 @@ pub fn sends_append()
     ensures to_client { (more : List ℕ) (old new : Lane Down) → Sends down_bytes more old new
         → sent_bytes down_bytes new ≡ sent_bytes down_bytes old ++ more }
 {}
+
+/// In every world, each entry that waits for a client is a packet to its reader, and a client that
+/// stands for the connection hears it as the model does, one after the other.
+pub fn all_heard<E: Engine>(engine: &E)
+    ensures { (setup : Setup) → IsSetup setup → Always setup (answer_of (E.statements_of engine.now) (E.step_of engine.now))
+        (λ w. OfEachConnection (λ c. (r : Reading) → r.direction ≡ ToClient → r.size ≡ setup.packet_size → AllHeard r c c.to_client.waiting) w) }
+{
+    engine_is_lawful(engine);
+    engine_stays_in_range(engine);
+    answers_are_said(engine);
+    all_welcome();
+    act_on_newest();
+    changes_are_heard();
+    all_in_range();
+    steps_are_of_answers();
+}
