@@ -42,3 +42,4 @@ pub mod Welcome
 pub mod Requests
 pub mod Dones
 pub mod Newest
+pub mod Order

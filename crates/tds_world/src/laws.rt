@@ -8,6 +8,7 @@ ghost use Rattle.tds_world.specs.Dones.{FinalDoneAtEnd, HaveDones};
 ghost use Rattle.tds_world.specs.Lawful.{Lawful};
 ghost use Rattle.tds_world.specs.Laws.{Always, AlwaysOf, FreshStart, IdleIsQuiet, NothingAfterCancel, OwnAnswers};
 ghost use Rattle.tds_world.specs.Newest.{ActOnNewest, WorkOnNewest};
+ghost use Rattle.tds_world.specs.Order.{RequestsInOrder};
 ghost use Rattle.tds_world.specs.Requests.{RequestsAreSpelled};
 ghost use Rattle.tds_world.specs.Steps.{AnswersEndOnce, MessagesEndOnce, StepsAreOfAnswers};
 ghost use Rattle.tds_world.specs.Welcome.{AllWelcome};
@@ -133,4 +134,10 @@ pub fn work_on_newest()
 /// What is due, if anything is, has a last step, which alone is marked so.
 pub fn answers_end_once()
     ensures { (setup : Setup) (answers : Answers) → Lawful answers → Always setup answers AnswersEndOnce }
+{}
+
+/// The requests of each connection are just those that were asked on it, in the order in which they
+/// were asked. It holds for any answers.
+pub fn requests_in_order()
+    ensures { (setup : Setup) (answers : Answers) → Always setup answers RequestsInOrder }
 {}
