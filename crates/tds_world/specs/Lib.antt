@@ -13,6 +13,7 @@ pub mod Observed
 pub mod Lawful
 pub mod Laws
 pub mod Bounds
+pub mod Packets
 pub mod Deliveries
 pub mod Begins
 pub mod Steps

@@ -8,6 +8,7 @@ ghost use Rattle.tds_world.specs.Dones.{FinalDoneAtEnd, HaveDones};
 ghost use Rattle.tds_world.specs.Lawful.{Lawful};
 ghost use Rattle.tds_world.specs.Laws.{Always, AlwaysOf, FreshStart, IdleIsQuiet, NothingAfterCancel, OwnAnswers};
 ghost use Rattle.tds_world.specs.Newest.{ActOnNewest, WorkOnNewest};
+ghost use Rattle.tds_world.specs.Packets.{PacketsFit};
 ghost use Rattle.tds_world.specs.Requests.{RequestsAreSpelled};
 ghost use Rattle.tds_world.specs.Sessions.{AllInRange, StayInRange};
 ghost use Rattle.tds_world.specs.Steps.{AnswersEndOnce, MessagesEndOnce, StepsAreOfAnswers};
@@ -53,6 +54,12 @@ pub fn one_attention()
 /// requests that have a spelling.
 pub fn few_underway()
     ensures { (setup : Setup) (answers : Answers) → IsSetup setup → Lawful answers → AlwaysOf IsEvent setup answers FewUnderway }
+{}
+
+/// Each packet that waits for a server is as long as its header says, and fits the packet size. It
+/// holds for any answers.
+pub fn packets_fit()
+    ensures { (setup : Setup) (answers : Answers) → IsSetup setup → Always setup answers (PacketsFit setup) }
 {}
 
 /// A request that ran did so in the transaction that its header names.
