@@ -28,6 +28,7 @@ pub mod Sound
 pub mod Quiet
 pub mod Counts
 pub mod Sizes
+pub mod Messages
 pub mod Packets
 pub mod Lawful
 pub mod Script

@@ -20,6 +20,7 @@ pub mod Steps
 pub mod Welcome
 pub mod Requests
 pub mod Sessions
+pub mod Messages
 pub mod Dones
 pub mod Newest
 pub mod Order

@@ -8,6 +8,7 @@ ghost use Rattle.tds_world.specs.Dones.{FinalDoneAtEnd, HaveDones};
 ghost use Rattle.tds_world.specs.Lawful.{Lawful};
 ghost use Rattle.tds_world.specs.Laws.{Always, AlwaysOf, FreshStart, IdleIsQuiet, NothingAfterCancel, OwnAnswers};
 ghost use Rattle.tds_world.specs.Newest.{ActOnNewest, WorkOnNewest};
+ghost use Rattle.tds_world.specs.Messages.{MessagesAreWhole};
 ghost use Rattle.tds_world.specs.Packets.{PacketsFit};
 ghost use Rattle.tds_world.specs.Requests.{RequestsAreSpelled};
 ghost use Rattle.tds_world.specs.Sessions.{AllInRange, StayInRange};
@@ -112,6 +113,12 @@ pub fn steps_are_of_answers()
 /// beginning of one that is dropped; and attentions between them.
 pub fn requests_are_spelled()
     ensures { (setup : Setup) (answers : Answers) → Lawful answers → Always setup answers RequestsAreSpelled }
+{}
+
+/// What came of the newest request's message, what waits and what is left of it are the message: so
+/// each packet is the next piece of it where it arrives.
+pub fn messages_are_whole()
+    ensures { (setup : Setup) (answers : Answers) → IsSetup setup → Lawful answers → StayInRange answers → AlwaysOf IsEvent setup answers MessagesAreWhole }
 {}
 
 /// Whatever the engine, a server's answer has its final DONE at the end of its last step, and there
