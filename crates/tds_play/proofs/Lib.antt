@@ -26,7 +26,6 @@ pub mod Cancelling
 pub mod Begun
 pub mod Kept
 pub mod Said
-pub mod Pieces
 pub mod Fronts
 pub mod FedServer
 pub mod FedClient

@@ -28,6 +28,8 @@ pub mod Sound
 pub mod Quiet
 pub mod Counts
 pub mod Sizes
+pub mod Messages
+pub mod Packets
 pub mod Lawful
 pub mod Script
 pub mod Deliveries
@@ -41,5 +43,7 @@ pub mod Steps
 pub mod Welcome
 pub mod Requests
 pub mod Dones
+pub mod Fitting
+pub mod Sessions
 pub mod Newest
 pub mod Order

@@ -22,12 +22,12 @@ use Rattle.tds_world.proofs.Worlds.{always, each_follows}
 
 -- ---- Each step is one of an answer
 
-with_step : (P : answer.Step → Type 0) (sent : List Down) (r place : ℕ) (s : answer.Step) → P s → OfSteps P sent → OfSteps P (sent ++ Step r place s ∷ [])
+pub with_step : (P : answer.Step → Type 0) (sent : List Down) (r place : ℕ) (s : answer.Step) → P s → OfSteps P sent → OfSteps P (sent ++ Step r place s ∷ [])
 with_step P [] r place s p h = (p, tt)
 with_step P (Step q i t ∷ es) r place s p h = (h.0, with_step P es r place s p h.1)
 with_step P (Acknowledgement q i ∷ es) r place s p h = with_step P es r place s p h
 
-with_acknowledgement : (P : answer.Step → Type 0) (sent : List Down) (r place : ℕ) → OfSteps P sent → OfSteps P (sent ++ Acknowledgement r place ∷ [])
+pub with_acknowledgement : (P : answer.Step → Type 0) (sent : List Down) (r place : ℕ) → OfSteps P sent → OfSteps P (sent ++ Acknowledgement r place ∷ [])
 with_acknowledgement P [] r place h = tt
 with_acknowledgement P (Step q i t ∷ es) r place h = (h.0, with_acknowledgement P es r place h.1)
 with_acknowledgement P (Acknowledgement q i ∷ es) r place h = with_acknowledgement P es r place h

@@ -9,7 +9,10 @@ ghost use Rattle.tds_world.specs.Lawful.{Lawful};
 ghost use Rattle.tds_world.specs.Laws.{Always, AlwaysOf, FreshStart, IdleIsQuiet, NothingAfterCancel, OwnAnswers};
 ghost use Rattle.tds_world.specs.Newest.{ActOnNewest, WorkOnNewest};
 ghost use Rattle.tds_world.specs.Order.{RequestsInOrder};
+ghost use Rattle.tds_world.specs.Messages.{MessagesAreWhole};
+ghost use Rattle.tds_world.specs.Packets.{PacketsFit};
 ghost use Rattle.tds_world.specs.Requests.{RequestsAreSpelled};
+ghost use Rattle.tds_world.specs.Sessions.{AllInRange, StayInRange};
 ghost use Rattle.tds_world.specs.Steps.{AnswersEndOnce, MessagesEndOnce, StepsAreOfAnswers};
 ghost use Rattle.tds_world.specs.Welcome.{AllWelcome};
 ghost use Rattle.tds_world.specs.declared.event.Setup.{Setup};
@@ -53,6 +56,12 @@ pub fn one_attention()
 /// requests that have a spelling.
 pub fn few_underway()
     ensures { (setup : Setup) (answers : Answers) → IsSetup setup → Lawful answers → AlwaysOf IsEvent setup answers FewUnderway }
+{}
+
+/// Each packet that waits for a server is as long as its header says, and fits the packet size. It
+/// holds for any answers.
+pub fn packets_fit()
+    ensures { (setup : Setup) (answers : Answers) → IsSetup setup → Always setup answers (PacketsFit setup) }
 {}
 
 /// A request that ran did so in the transaction that its header names.
@@ -107,6 +116,12 @@ pub fn requests_are_spelled()
     ensures { (setup : Setup) (answers : Answers) → Lawful answers → Always setup answers RequestsAreSpelled }
 {}
 
+/// What came of the newest request's message, what waits and what is left of it are the message: so
+/// each packet is the next piece of it where it arrives.
+pub fn messages_are_whole()
+    ensures { (setup : Setup) (answers : Answers) → IsSetup setup → Lawful answers → StayInRange answers → AlwaysOf IsEvent setup answers MessagesAreWhole }
+{}
+
 /// Whatever the engine, a server's answer has its final DONE at the end of its last step, and there
 /// alone.
 pub fn engine_has_dones<E: Engine>(engine: &E)
@@ -117,6 +132,18 @@ pub fn engine_has_dones<E: Engine>(engine: &E)
 /// of the packet that ends the message, and there alone.
 pub fn final_done_at_end()
     ensures { (setup : Setup) (answers : Answers) → Lawful answers → HaveDones answers → Always setup answers FinalDoneAtEnd }
+{}
+
+/// Whatever the engine, from a session of the program on, each step of an answer fits one packet of
+/// the smallest size, and leaves a session of the program.
+pub fn engine_stays_in_range<E: Engine>(engine: &E)
+    ensures { StayInRange (answer_of (E.statements_of engine.now) (E.step_of engine.now)) }
+{}
+
+/// So it is with each step that was sent or is due, and the session of each connection's server is
+/// one of the program.
+pub fn all_in_range()
+    ensures { (setup : Setup) (answers : Answers) → Lawful answers → StayInRange answers → Always setup answers AllInRange }
 {}
 
 /// What waits for a client and what is due is the newest request's, and no older request changes by
