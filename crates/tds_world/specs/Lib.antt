@@ -17,6 +17,7 @@ pub mod Packets
 pub mod Deliveries
 pub mod Begins
 pub mod Steps
+pub mod Heard
 pub mod Welcome
 pub mod Requests
 pub mod Sessions

@@ -5,6 +5,7 @@ ghost use Rattle.tds_world.specs.Begins.{HandsOutNext};
 ghost use Rattle.tds_world.specs.Bounds.{BeginsOnce, FewUnderway, IsEvent, IsSetup, OneAttention, OwnTransaction};
 ghost use Rattle.tds_world.specs.Deliveries.{DeliversExactly};
 ghost use Rattle.tds_world.specs.Dones.{FinalDoneAtEnd, HaveDones};
+ghost use Rattle.tds_world.specs.Heard.{ChangesAreHeard};
 ghost use Rattle.tds_world.specs.Lawful.{Lawful};
 ghost use Rattle.tds_world.specs.Laws.{Always, AlwaysOf, FreshStart, IdleIsQuiet, NothingAfterCancel, OwnAnswers};
 ghost use Rattle.tds_world.specs.Newest.{ActOnNewest, WorkOnNewest};
@@ -167,4 +168,8 @@ pub fn answers_end_once()
 /// were asked. It holds for any answers.
 pub fn requests_in_order()
     ensures { (setup : Setup) (answers : Answers) → Always setup answers RequestsInOrder }
+/// Where a step arrives, its changes all apply to the descriptor that the client heard last, and a
+/// reset that it took is the one that the client's mark asks for.
+pub fn changes_are_heard()
+    ensures { (setup : Setup) (answers : Answers) → Lawful answers → Always setup answers ChangesAreHeard }
 {}
