@@ -35,3 +35,4 @@ pub mod ClientDelivery
 pub mod Carrying
 pub mod Between
 pub mod ServerEvent
+pub mod Played
