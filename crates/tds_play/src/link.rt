@@ -234,6 +234,7 @@ impl<E: Engine + Drop> Link<E> {
             ≡ sent_on (C.pipes carrier.old self.old.number) direction bytes.now (if lost then 1 else 0)) }
         ensures counted { bytes.now ≢ [] → OnOk result (self.new ≡ with_counted self.old direction (saturated (counted self.old direction + length bytes.now))) }
         ensures tells { OnOk result (C.tells carrier.old → C.tells carrier.new) }
+        ensures steady { C.steady → IfOk result (λ lost. lost ≡ false) }
     {
         if bytes.is_empty() {
             return Ok(false);
@@ -282,6 +283,7 @@ impl<E: Engine + Drop> Link<E> {
         ensures all { IfOk result (λ carried. carried.lost ≡ false → carried.count ≡ count) }
         ensures tells { IfOk result (λ carried. C.tells carrier.old → C.tells carrier.new) }
         ensures brought { IfOk result (λ carried. C.tells carrier.old → Brings (C.pipes carrier.old self.old.number) direction carried.count out.old.items out.new.items (C.pipes carrier.new self.old.number) carried.lost) }
+        ensures steady { C.steady → IfOk result (λ carried. carried.lost ≡ false) }
     {
         let mut left = count;
         'pieces: while left > 0 {
@@ -336,6 +338,7 @@ impl<E: Engine + Drop> Link<E> {
         ensures value { self.new ≡ (if lost then cut_of self.old else self.old) }
         ensures done { result ≡ record { outcome = outcome; lost = lost } }
         ensures kept { lost ≡ false → carrier.new ≡ carrier.old }
+        ensures tells { C.tells carrier.old → C.tells carrier.new }
     {
         if lost {
             self.cut(carrier);
@@ -352,6 +355,7 @@ impl<E: Engine + Drop> Link<E> {
         ensures others { AreSame (C.pipes carrier.old) (C.pipes carrier.new) self.old.number }
         ensures value { self.new ≡ cut_of self.old }
         ensures done { result ≡ record { outcome = outcome_of fault; lost = lost } }
+        ensures tells { C.tells carrier.old → C.tells carrier.new }
     {
         self.cut(carrier);
         Done {
