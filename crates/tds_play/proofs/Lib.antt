@@ -30,6 +30,7 @@ pub mod Fronts
 pub mod FedServer
 pub mod FedClient
 pub mod Cuts
+pub mod CutOff
 pub mod ServerDelivery
 pub mod ClientDelivery
 pub mod Carrying

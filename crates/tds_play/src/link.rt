@@ -4,10 +4,12 @@ ghost use Rattle.tds_client.specs.Session.{unless_idle};
 ghost use Rattle.tds_packet.specs.declared.kind.Direction.{Direction};
 ghost use Rattle.tds_packet.specs.declared.kind.Direction.TheVariants.{ToServer, ToClient};
 ghost use Rattle.tds_play.specs.Lending.{is_in_pool, standing_of};
-ghost use Rattle.tds_play.specs.Links.{IsAsked, IsNewLink, cut_of, recounted, report_of, stepped};
+ghost use Rattle.tds_play.specs.Links.{IsAsked, IsNewLink, cut_of, lost_record, recounted, report_of, stepped};
 ghost use Rattle.tds_play.specs.Seen.{outcome_of, seen_of};
+ghost use Rattle.tds_play.specs.Plays.{IsPlayed};
 ghost use Rattle.tds_play.specs.Pipe.{AreSame, Brings, IsUncut, cut_pipe, new_pipe, sent_on};
 ghost use Rattle.tds_play.specs.Ties.{IsTied, counted, with_counted, saturated};
+ghost use Rattle.tds_world.specs.Connection.{Connection, cut};
 ghost use Rattle.tds_world.specs.Pool.{is_free};
 
 pub(crate) mod acts;
@@ -61,6 +63,21 @@ impl Record {
                 None => Some(before),
                 Some(_) => Some(after),
             };
+        }
+    }
+
+    /// Its connection is cut. One that is not settled is lost.
+    fn lose(&mut self)
+        ensures { self.new ≡ lost_record self.old }
+    {
+        match self.status {
+            RequestStatus::Open | RequestStatus::Cancelling => {
+                self.status = RequestStatus::Lost;
+            }
+            RequestStatus::Finished
+            | RequestStatus::Acknowledged
+            | RequestStatus::Unsent
+            | RequestStatus::Lost => {}
         }
     }
 
@@ -298,21 +315,16 @@ impl<E: Engine + Drop> Link<E> {
         ensures value { self.new ≡ cut_of self.old }
         ensures pipe { C.pipes carrier.new self.old.number ≡ cut_pipe (C.pipes carrier.old self.old.number) }
         ensures tells { C.tells carrier.old → C.tells carrier.new }
+        // A connection that stands for one of the model stands for that one, cut.
+        ensures alike { (size : ℕ) (engine : E) (c : Connection) → IsPlayed self.old.number size engine self.old (C.pipes carrier.old self.old.number) c
+            → self.old.is_cut ≡ false → IsPlayed self.old.number size engine self.new (C.pipes carrier.new self.old.number) (cut c) }
     {
         carrier.cut(self.number);
         self.is_cut = true;
         self.client.lost();
         self.server.lost();
         if let Some(record) = &mut self.current {
-            match record.status {
-                RequestStatus::Open | RequestStatus::Cancelling => {
-                    record.status = RequestStatus::Lost;
-                }
-                RequestStatus::Finished
-                | RequestStatus::Acknowledged
-                | RequestStatus::Unsent
-                | RequestStatus::Lost => {}
-            }
+            record.lose();
         }
     }
 

@@ -20,8 +20,8 @@ ghost use Rattle.tds_world.specs.declared.event.Setup.{Setup};
 
 use tds_session::Engine;
 
-/// Where nobody waits for an answer, nothing is underway, and both ends hold one transaction
-/// descriptor.
+/// Where nobody waits for an answer, nothing is underway, the server holds no part of a request and
+/// owes no answer, and both ends hold one transaction descriptor.
 pub fn idle_is_quiet()
     ensures { (setup : Setup) (answers : Answers) → Lawful answers → Always setup answers IdleIsQuiet }
 {}
