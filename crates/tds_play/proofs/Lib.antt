@@ -36,3 +36,5 @@ pub mod ClientDelivery
 pub mod Carrying
 pub mod Between
 pub mod ServerEvent
+pub mod Played
+pub mod Held
