@@ -37,3 +37,4 @@ pub mod Carrying
 pub mod Between
 pub mod ServerEvent
 pub mod Played
+pub mod Held

@@ -28,3 +28,4 @@ pub mod Between
 pub mod Requests
 pub mod Promises
 pub mod Plays
+pub mod Player
