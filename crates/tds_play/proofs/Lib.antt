@@ -36,3 +36,4 @@ pub mod ClientDelivery
 pub mod Carrying
 pub mod Between
 pub mod ServerEvent
+pub mod Snapshots
