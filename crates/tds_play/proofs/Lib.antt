@@ -38,3 +38,4 @@ pub mod Between
 pub mod ServerEvent
 pub mod Played
 pub mod Held
+pub mod Snapshots
