@@ -37,5 +37,6 @@ pub mod Carrying
 pub mod Between
 pub mod ServerEvent
 pub mod Played
+pub mod AllPlayed
 pub mod Held
 pub mod Snapshots

@@ -168,6 +168,8 @@ pub fn answers_end_once()
 /// were asked. It holds for any answers.
 pub fn requests_in_order()
     ensures { (setup : Setup) (answers : Answers) → Always setup answers RequestsInOrder }
+{}
+
 /// Where a step arrives, its changes all apply to the descriptor that the client heard last, and a
 /// reset that it took is the one that the client's mark asks for.
 pub fn changes_are_heard()
