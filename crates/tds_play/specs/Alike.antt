@@ -24,7 +24,7 @@ use Rattle.tds_world.specs.Arrivals.{works, server_acts}
 use Rattle.tds_world.specs.Caller as model
 use Rattle.tds_world.specs.Caller.{cancels}
 use Rattle.tds_world.specs.Connection.{Connection, phase}
-use Rattle.tds_world.specs.Entries.{Up, Part, End, Drop, Attention, up_bytes, down_bytes}
+use Rattle.tds_world.specs.Entries.{Up, up_bytes, down_bytes}
 use Rattle.tds_world.specs.Events.{work_outcome}
 use Rattle.tds_world.specs.Pool.{Acted, Refuses, Does}
 use Rattle.tds_play.specs.Acts.{cancel_outcome}
@@ -74,13 +74,6 @@ AskAlike number s None (Refuses because) = ⊥
 AskAlike number s None (Does what d) = (what ≡ outcome.Asked number) × MatchesClient s d
 
 -- ---- Arriving at the server
-
--- Where a packet of a request comes, no answer is due.
-abbrev pub IsUndisturbed : Up → List Step → Type 0
-IsUndisturbed (Part r p) due = due ≡ []
-IsUndisturbed (End r a p) due = due ≡ []
-IsUndisturbed (Drop r p) due = due ≡ []
-IsUndisturbed (Attention r) due = Unit {0}
 
 -- A server that takes the packet of an entry and the connection where it arrives: there is no fault,
 -- the server appends the bytes of what the connection appends, and matches it then.

@@ -20,7 +20,6 @@ pub mod Noted
 pub mod Refused
 pub mod Runs
 pub mod Stands
-pub mod Messages
 pub mod Alike
 pub mod Hearing
 pub mod Feeding
@@ -29,3 +28,4 @@ pub mod Between
 pub mod Requests
 pub mod Promises
 pub mod Plays
+pub mod Player

@@ -1,7 +1,7 @@
 //! The ends and the model: what each end's core does, the model's connection does. Each is the
 //! contract of a function without a body, or of one whose body does nothing but name the laws that
 //! it rests on.
-ghost use Rattle.std.specs.Prelude.{◌≡◌, ◌≤◌, ◌<◌, ◌^◌, ℕ, List, [], ◌∷◌, ◌++◌, map, flat_map, take, Option, Some, true};
+ghost use Rattle.std.specs.Prelude.{◌≡◌, ℕ, List, ◌++◌, map, flat_map, take, Option, Some};
 ghost use Rattle.std.specs.List.{AllByRecursion};
 ghost use Rattle.tds_client.specs.Sending.{started, sent, room};
 ghost use Rattle.tds_client.specs.Session.{ClientSession, marked, new_session, unless_idle};
@@ -10,13 +10,11 @@ ghost use Rattle.tds_packet.specs.Layout.{bits_of, has_bit};
 ghost use Rattle.tds_packet.specs.Reading.{Reading};
 ghost use Rattle.tds_packet.specs.declared.kind.Direction.TheVariants.{ToClient};
 ghost use Rattle.tds_packet.specs.declared.status.Reset.{Reset};
-ghost use Rattle.tds_play.specs.Alike.{AskAlike, CancelAlike, SendAlike, WorkAlike, ArriveAlike, IsUndisturbed};
+ghost use Rattle.tds_play.specs.Alike.{AskAlike, CancelAlike, SendAlike, WorkAlike, ArriveAlike};
 ghost use Rattle.tds_play.specs.Deliveries.{AllArrive, ServesAlike, AllHeard, ListensAlike};
 ghost use Rattle.tds_play.specs.Hearing.{HearAlike, IsAwaited, IsSaid};
 ghost use Rattle.tds_play.specs.Lending.{FoundAlike, lent};
-ghost use Rattle.tds_play.specs.Messages.{IsSpelled, IsNext, AreWhole, AreNextIn};
-ghost use Rattle.tds_play.specs.Stands.{MatchesClient, MatchesServer, Sends, is_sending};
-ghost use Rattle.tds_request.specs.Layout.{Fits};
+ghost use Rattle.tds_play.specs.Stands.{MatchesClient, MatchesServer, Sends};
 ghost use Rattle.tds_request.specs.declared.request.Request.{Request};
 ghost use Rattle.tds_server.specs.State.{ServerState, new_server};
 ghost use Rattle.tds_server.specs.Taking.{taken};
@@ -26,17 +24,19 @@ ghost use Rattle.tds_session.specs.Session.{SessionState, strongest};
 ghost use Rattle.tds_token.specs.declared.token.Token.{Token};
 ghost use Rattle.tds_world.specs.Arrivals.{server_acts, client_acts, works, reach_server, reach_client};
 ghost use Rattle.tds_world.specs.Bounds.{IsSetup};
-ghost use Rattle.tds_world.specs.Caller.{asks, sends, cancels};
+ghost use Rattle.tds_world.specs.Caller.{sends};
 ghost use Rattle.tds_world.specs.Connection.{Connection, Standing, new_connection, phase, is_idle};
 ghost use Rattle.tds_world.specs.Entries.{Up, up_bytes, up_packet, Down, down_bytes, down_packet};
 ghost use Rattle.tds_world.specs.Events.{asks_by, sends_in};
 ghost use Rattle.tds_world.specs.Lane.{Lane, sent_bytes};
 ghost use Rattle.tds_world.specs.Lawful.{Lawful};
 ghost use Rattle.tds_world.specs.Laws.{Always, OfEachConnection};
-ghost use Rattle.tds_world.specs.Phase.{Settled, phase_of};
+ghost use Rattle.tds_world.specs.Messages.{IsSpelled, IsNext};
+ghost use Rattle.tds_world.specs.Phase.{Settled};
 ghost use Rattle.tds_world.specs.Pool.{to_lend};
 ghost use Rattle.tds_world.specs.Record.{Record};
 ghost use Rattle.tds_world.specs.Steps.{EndsIfDue};
+ghost use Rattle.tds_world.specs.Welcome.{ServerExpects};
 ghost use Rattle.tds_world.specs.World.{World};
 ghost use Rattle.tds_world.specs.declared.event.Setup.{Setup};
 ghost use Rattle.tds_world.specs.declared.report.Place.{Place};
@@ -70,7 +70,7 @@ pub fn works_alike<E: Engine>()
 /// the same then, and acknowledges where the model does.
 pub fn arrives_alike<E: Engine>()
     ensures { (answers : Answers) (s : ServerState E) (c : Connection) (q : Record) (e : Up) → Lawful answers
-        → MatchesServer s c → c.current ≡ Some q → IsSpelled q.asking → IsNext q.asking c.parts e → IsUndisturbed e c.due
+        → MatchesServer s c → c.current ≡ Some q → IsSpelled q.asking → IsNext q.asking c.parts e → ServerExpects c e
         → ArriveAlike answers c e (taken answers s (up_packet e).header (up_packet e).body) }
 {}
 
@@ -97,20 +97,6 @@ pub fn the_other_stays<E: Engine>()
     ensures hears { (s : ServerState E) (c : Connection) (e : Down) → MatchesServer s c → MatchesServer s (client_acts c e) }
     ensures works { (s : ClientSession) (c : Connection) → MatchesClient s c → MatchesClient s (works c) }
     ensures arrives { (answers : Answers) (s : ClientSession) (c : Connection) (e : Up) → MatchesClient s c → MatchesClient s (server_acts answers c e) }
-{}
-
-/// What came of the newest request's message, what waits and what is left of it are the message,
-/// whatever happens: so each packet is the next piece where it arrives.
-pub fn messages_stay_whole()
-    ensures asks { (number lease n : ℕ) (q : Request) (c : Connection) → Fits q → c.heard < 2 ^ 64
-        → c.parts ≡ [] → c.to_server.waiting ≡ [] → AreWhole (asks number lease n q c) }
-    ensures sends { (room : ℕ) (q : Record) (c : Connection) → 1 ≤ room → c.current ≡ Some q
-        → is_sending (phase_of q) ≡ true → AreWhole c → AreWhole (sends room q c) }
-    ensures cancels { (c : Connection) → AreWhole c → AreWhole (cancels c) }
-    ensures works { (c : Connection) → AreWhole c → AreWhole (works c) }
-    ensures arrives { (answers : Answers) (c : Connection) (e : Up) (es : List Up) → AreNextIn c.current c.parts (e ∷ es)
-        → AreNextIn (server_acts answers c e).current (server_acts answers c e).parts es }
-    ensures hears { (c : Connection) (e : Down) → AreWhole c → AreWhole (client_acts c e) }
 {}
 
 /// A client cancels as the model does, in each phase: it sends the bytes of the same entries.

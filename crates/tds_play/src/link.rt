@@ -4,10 +4,12 @@ ghost use Rattle.tds_client.specs.Session.{unless_idle};
 ghost use Rattle.tds_packet.specs.declared.kind.Direction.{Direction};
 ghost use Rattle.tds_packet.specs.declared.kind.Direction.TheVariants.{ToServer, ToClient};
 ghost use Rattle.tds_play.specs.Lending.{is_in_pool, standing_of};
-ghost use Rattle.tds_play.specs.Links.{IsAsked, IsNewLink, cut_of, recounted, report_of, stepped};
+ghost use Rattle.tds_play.specs.Links.{IsAsked, IsNewLink, cut_of, lost_record, recounted, report_of, stepped};
 ghost use Rattle.tds_play.specs.Seen.{outcome_of, seen_of};
+ghost use Rattle.tds_play.specs.Plays.{IsPlayed};
 ghost use Rattle.tds_play.specs.Pipe.{AreSame, Brings, IsUncut, cut_pipe, new_pipe, sent_on};
 ghost use Rattle.tds_play.specs.Ties.{IsTied, counted, with_counted, saturated};
+ghost use Rattle.tds_world.specs.Connection.{Connection, cut};
 ghost use Rattle.tds_world.specs.Pool.{is_free};
 
 pub(crate) mod acts;
@@ -61,6 +63,21 @@ impl Record {
                 None => Some(before),
                 Some(_) => Some(after),
             };
+        }
+    }
+
+    /// Its connection is cut. One that is not settled is lost.
+    fn lose(&mut self)
+        ensures { self.new ≡ lost_record self.old }
+    {
+        match self.status {
+            RequestStatus::Open | RequestStatus::Cancelling => {
+                self.status = RequestStatus::Lost;
+            }
+            RequestStatus::Finished
+            | RequestStatus::Acknowledged
+            | RequestStatus::Unsent
+            | RequestStatus::Lost => {}
         }
     }
 
@@ -217,6 +234,7 @@ impl<E: Engine + Drop> Link<E> {
             ≡ sent_on (C.pipes carrier.old self.old.number) direction bytes.now (if lost then 1 else 0)) }
         ensures counted { bytes.now ≢ [] → OnOk result (self.new ≡ with_counted self.old direction (saturated (counted self.old direction + length bytes.now))) }
         ensures tells { OnOk result (C.tells carrier.old → C.tells carrier.new) }
+        ensures steady { C.steady → IfOk result (λ lost. lost ≡ false) }
     {
         if bytes.is_empty() {
             return Ok(false);
@@ -265,6 +283,7 @@ impl<E: Engine + Drop> Link<E> {
         ensures all { IfOk result (λ carried. carried.lost ≡ false → carried.count ≡ count) }
         ensures tells { IfOk result (λ carried. C.tells carrier.old → C.tells carrier.new) }
         ensures brought { IfOk result (λ carried. C.tells carrier.old → Brings (C.pipes carrier.old self.old.number) direction carried.count out.old.items out.new.items (C.pipes carrier.new self.old.number) carried.lost) }
+        ensures steady { C.steady → IfOk result (λ carried. carried.lost ≡ false) }
     {
         let mut left = count;
         'pieces: while left > 0 {
@@ -296,21 +315,16 @@ impl<E: Engine + Drop> Link<E> {
         ensures value { self.new ≡ cut_of self.old }
         ensures pipe { C.pipes carrier.new self.old.number ≡ cut_pipe (C.pipes carrier.old self.old.number) }
         ensures tells { C.tells carrier.old → C.tells carrier.new }
+        // A connection that stands for one of the model stands for that one, cut.
+        ensures alike { (size : ℕ) (engine : E) (c : Connection) → IsPlayed self.old.number size engine self.old (C.pipes carrier.old self.old.number) c
+            → self.old.is_cut ≡ false → IsPlayed self.old.number size engine self.new (C.pipes carrier.new self.old.number) (cut c) }
     {
         carrier.cut(self.number);
         self.is_cut = true;
         self.client.lost();
         self.server.lost();
         if let Some(record) = &mut self.current {
-            match record.status {
-                RequestStatus::Open | RequestStatus::Cancelling => {
-                    record.status = RequestStatus::Lost;
-                }
-                RequestStatus::Finished
-                | RequestStatus::Acknowledged
-                | RequestStatus::Unsent
-                | RequestStatus::Lost => {}
-            }
+            record.lose();
         }
     }
 
@@ -324,6 +338,7 @@ impl<E: Engine + Drop> Link<E> {
         ensures value { self.new ≡ (if lost then cut_of self.old else self.old) }
         ensures done { result ≡ record { outcome = outcome; lost = lost } }
         ensures kept { lost ≡ false → carrier.new ≡ carrier.old }
+        ensures tells { C.tells carrier.old → C.tells carrier.new }
     {
         if lost {
             self.cut(carrier);
@@ -340,6 +355,7 @@ impl<E: Engine + Drop> Link<E> {
         ensures others { AreSame (C.pipes carrier.old) (C.pipes carrier.new) self.old.number }
         ensures value { self.new ≡ cut_of self.old }
         ensures done { result ≡ record { outcome = outcome_of fault; lost = lost } }
+        ensures tells { C.tells carrier.old → C.tells carrier.new }
     {
         self.cut(carrier);
         Done {

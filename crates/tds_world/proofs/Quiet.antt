@@ -22,6 +22,8 @@ sound_is_quiet c f e =
     record {
       to_server = nothing up_bytes c.to_server.waiting c.to_server.part q.0;
       to_client = nothing down_bytes c.to_client.waiting c.to_client.part q.1;
+      parts = q.2;
+      due = q.3;
       descriptor = subst (λ ds. Hears c.heard ds c.session.descriptor) q.1 f.1.0;
     }
 

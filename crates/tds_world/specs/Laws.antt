@@ -75,10 +75,13 @@ NothingAfterCancel setup answers =
 
 -- Idle is quiet
 
--- Where nobody waits for an answer, nothing is underway, and both ends hold one descriptor.
+-- Where nobody waits for an answer, nothing is underway, the server holds no part of a request and
+-- owes no answer, and both ends hold one descriptor.
 pub record IsQuiet (c : Connection) : Type 0 where
   pub to_server : up_underway c ≡ 0
   pub to_client : down_underway c ≡ 0
+  pub parts : c.parts ≡ []
+  pub due : c.due ≡ []
   pub descriptor : c.heard ≡ c.session.descriptor
 
 -- Each idle connection is quiet.

@@ -13,6 +13,7 @@ pub mod Observed
 pub mod Lawful
 pub mod Laws
 pub mod Bounds
+pub mod Packets
 pub mod Deliveries
 pub mod Begins
 pub mod Steps
@@ -20,6 +21,7 @@ pub mod Heard
 pub mod Welcome
 pub mod Requests
 pub mod Sessions
+pub mod Messages
 pub mod Dones
 pub mod Newest
 pub mod Order

@@ -9,6 +9,9 @@ ghost use Rattle.tds_world.specs.Heard.{ChangesAreHeard};
 ghost use Rattle.tds_world.specs.Lawful.{Lawful};
 ghost use Rattle.tds_world.specs.Laws.{Always, AlwaysOf, FreshStart, IdleIsQuiet, NothingAfterCancel, OwnAnswers};
 ghost use Rattle.tds_world.specs.Newest.{ActOnNewest, WorkOnNewest};
+ghost use Rattle.tds_world.specs.Order.{RequestsInOrder};
+ghost use Rattle.tds_world.specs.Messages.{MessagesAreWhole};
+ghost use Rattle.tds_world.specs.Packets.{PacketsFit};
 ghost use Rattle.tds_world.specs.Requests.{RequestsAreSpelled};
 ghost use Rattle.tds_world.specs.Sessions.{AllInRange, StayInRange};
 ghost use Rattle.tds_world.specs.Steps.{AnswersEndOnce, MessagesEndOnce, StepsAreOfAnswers};
@@ -17,8 +20,8 @@ ghost use Rattle.tds_world.specs.declared.event.Setup.{Setup};
 
 use tds_session::Engine;
 
-/// Where nobody waits for an answer, nothing is underway, and both ends hold one transaction
-/// descriptor.
+/// Where nobody waits for an answer, nothing is underway, the server holds no part of a request and
+/// owes no answer, and both ends hold one transaction descriptor.
 pub fn idle_is_quiet()
     ensures { (setup : Setup) (answers : Answers) → Lawful answers → Always setup answers IdleIsQuiet }
 {}
@@ -54,6 +57,12 @@ pub fn one_attention()
 /// requests that have a spelling.
 pub fn few_underway()
     ensures { (setup : Setup) (answers : Answers) → IsSetup setup → Lawful answers → AlwaysOf IsEvent setup answers FewUnderway }
+{}
+
+/// Each packet that waits for a server is as long as its header says, and fits the packet size. It
+/// holds for any answers.
+pub fn packets_fit()
+    ensures { (setup : Setup) (answers : Answers) → IsSetup setup → Always setup answers (PacketsFit setup) }
 {}
 
 /// A request that ran did so in the transaction that its header names.
@@ -108,6 +117,12 @@ pub fn requests_are_spelled()
     ensures { (setup : Setup) (answers : Answers) → Lawful answers → Always setup answers RequestsAreSpelled }
 {}
 
+/// What came of the newest request's message, what waits and what is left of it are the message: so
+/// each packet is the next piece of it where it arrives.
+pub fn messages_are_whole()
+    ensures { (setup : Setup) (answers : Answers) → IsSetup setup → Lawful answers → StayInRange answers → AlwaysOf IsEvent setup answers MessagesAreWhole }
+{}
+
 /// Whatever the engine, a server's answer has its final DONE at the end of its last step, and there
 /// alone.
 pub fn engine_has_dones<E: Engine>(engine: &E)
@@ -147,6 +162,12 @@ pub fn work_on_newest()
 /// What is due, if anything is, has a last step, which alone is marked so.
 pub fn answers_end_once()
     ensures { (setup : Setup) (answers : Answers) → Lawful answers → Always setup answers AnswersEndOnce }
+{}
+
+/// The requests of each connection are just those that were asked on it, in the order in which they
+/// were asked. It holds for any answers.
+pub fn requests_in_order()
+    ensures { (setup : Setup) (answers : Answers) → Always setup answers RequestsInOrder }
 {}
 
 /// Where a step arrives, its changes all apply to the descriptor that the client heard last, and a

@@ -1,9 +1,12 @@
 //! What a delivery does on its connection.
-ghost use Rattle.std.specs.Prelude.{◌≡◌, ◌≤◌, ◌||◌, false, min, Option, IfOk, OnOk};
+ghost use Rattle.std.specs.Prelude.{◌≡◌, ◌≤◌, ◌||◌, ℕ, false, min, Option, IfOk, OnOk};
 ghost use Rattle.tds_packet.specs.declared.kind.Direction.TheVariants.{ToClient};
 ghost use Rattle.tds_play.specs.Between.{Stands};
 ghost use Rattle.tds_play.specs.Deliveries.{AllArrive};
 ghost use Rattle.tds_play.specs.Pipe.{Pipe, AreSame};
+ghost use Rattle.tds_play.specs.Plays.{IsPlayed};
+ghost use Rattle.tds_play.specs.Promises.{IsCountable, Promises};
+ghost use Rattle.tds_play.specs.Seen.{done_as};
 ghost use Rattle.tds_play.specs.Ties.{IsTied};
 ghost use Rattle.tds_session.specs.Answer.{answer_of};
 ghost use Rattle.tds_world.specs.Arrivals.{to_server};
@@ -59,6 +62,14 @@ impl<E: Engine + Drop> Link<E> {
             → IfOk result (λ done. done.lost ≡ false
             → (done.outcome ≡ outcome.ToServer (min most (up_underway c)))
             × Stands self.new (C.pipes carrier.new self.old.number) (to_server (answer_of (E.statements_of self.old.server.engine) (E.step_of self.old.server.engine)) most c)) }
+        ensures tells { OnOk result (C.tells carrier.old → C.tells carrier.new) }
+        ensures steady { C.steady → IfOk result (λ done. done.lost ≡ false) }
+        ensures alike { (size : ℕ) (engine : E) (c : Connection) → C.tells carrier.old → C.steady
+            → IsPlayed self.old.number size engine self.old (C.pipes carrier.old self.old.number) c
+            → Promises E (answer_of (E.statements_of engine) (E.step_of engine)) size c
+            → IsCountable (to_server (answer_of (E.statements_of engine) (E.step_of engine)) most c)
+            → IfOk result (λ done. (done ≡ done_as (outcome.ToServer (min most (up_underway c))))
+            × IsPlayed self.old.number size engine self.new (C.pipes carrier.new self.old.number) (to_server (answer_of (E.statements_of engine) (E.step_of engine)) most c)) }
     {
         let count = at_most(self.to_server, most);
         let mut piece = Vec::new(alloc);
@@ -87,6 +98,8 @@ impl<E: Engine + Drop> Link<E> {
         ensures number { self.new.number ≡ self.old.number }
         ensures tied { OnOk result (IsTied self.new (C.pipes carrier.new self.old.number)) }
         ensures others { OnOk result (AreSame (C.pipes carrier.old) (C.pipes carrier.new) self.old.number) }
+        ensures tells { OnOk result (C.tells carrier.old → C.tells carrier.new) }
+        ensures steady { C.steady → IfOk result (λ done. done.lost ≡ false) }
     {
         let count = at_most(self.to_client, most);
         let mut piece = Vec::new(alloc);

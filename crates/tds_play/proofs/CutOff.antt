@@ -1,0 +1,91 @@
+-- A connection that is cut, in a play and in the model.
+use Rattle.std.proofs.Common.{◌≡◌, ◌∙◌, ℕ, Bool, true, false, refl, sym, ap, subst, Option, Some, None, option_map, List, [], ◌∷◌}
+use Rattle.tds_packet.specs.declared.kind.Direction.{Direction}
+use Rattle.tds_packet.specs.declared.kind.Direction.TheVariants.{ToServer, ToClient}
+use Rattle.tds_world.specs.Connection.{Connection, Cut, cut}
+use Rattle.tds_world.specs.Phase.{Phase, Settled, Asked, Sending, Reading, Cancelling, phase_of, status_by, status_of}
+use Rattle.tds_world.specs.Record as world
+use Rattle.tds_play.specs.Lending.{standing_by}
+use Rattle.tds_play.specs.Links.{lost_record, lost_status}
+use Rattle.tds_play.specs.Pipe.{Pipe, traffic, traffic_of, cut_pipe}
+use Rattle.tds_play.specs.Plays.{IsPlayed}
+use Rattle.tds_play.specs.Requests.{IsRequest, AreOlder, IsNewest}
+use Rattle.tds_play.specs.declared.link.Link.{Link}
+use Rattle.tds_play.specs.declared.link.Record.{Record}
+
+-- ---- Requests
+
+-- A settled request stays what it is.
+settled_stays : (finished acknowledged : Bool) (p : Phase) → p ≡ Settled → status_by finished acknowledged false p ≡ status_by finished acknowledged true p
+settled_stays true acknowledged p e = refl
+settled_stays false true p e = refl
+settled_stays false false Settled e = refl
+settled_stays false false Asked e = absurd (cc)
+settled_stays false false Sending e = absurd (cc)
+settled_stays false false Reading e = absurd (cc)
+settled_stays false false Cancelling e = absurd (cc)
+
+-- Any other one is lost.
+lost_is : (finished acknowledged : Bool) (p : Phase) → lost_status (status_by finished acknowledged false p) ≡ status_by finished acknowledged true p
+lost_is true acknowledged p = refl
+lost_is false true p = refl
+lost_is false false Settled = refl
+lost_is false false Asked = refl
+lost_is false false Sending = refl
+lost_is false false Reading = refl
+lost_is false false Cancelling = refl
+
+older_cut : (number : ℕ) (rs : List Record) (qs : List world.Record) → AreOlder number false rs qs → AreOlder number true rs qs
+older_cut number [] [] h = tt
+older_cut number [] (q ∷ qs) h = absurd h
+older_cut number (r ∷ rs) [] h = absurd h
+older_cut number (r ∷ rs) (q ∷ qs) h =
+    let i : IsRequest number false r q = h.0.0 in (
+      (
+        record {
+          lease = i.lease;
+          conn = i.conn;
+          mark = i.mark;
+          status = i.status ∙ settled_stays q.finished q.acknowledged (phase_of q) h.0.1;
+          ran = i.ran;
+          tokens = i.tokens;
+        },
+        h.0.1,
+      ),
+      older_cut number rs qs h.1,
+    )
+
+newest_cut : (number : ℕ) (r : Option Record) (q : Option world.Record) → IsNewest number false r q → IsNewest number true (option_map lost_record r) q
+newest_cut number None None h = tt
+newest_cut number None (Some q) h = absurd h
+newest_cut number (Some r) None h = absurd h
+newest_cut number (Some r) (Some q) h = record {
+  lease = h.lease;
+  conn = h.conn;
+  mark = h.mark;
+  status = ap lost_status h.status ∙ lost_is q.finished q.acknowledged (phase_of q);
+  ran = h.ran;
+  tokens = h.tokens;
+}
+
+-- ---- The connection
+
+handed_stays : (p : Option Pipe) (d : Direction) → (traffic (cut_pipe p) d).handed ≡ (traffic p d).handed
+handed_stays None d = refl
+handed_stays (Some p) ToServer = refl
+handed_stays (Some p) ToClient = refl
+
+pub cut_played : {E S : Type 0} (number size : ℕ) (engine : E) (link new : Link E S) (pipe after : Option Pipe) (c : Connection)
+    → IsPlayed number size engine link pipe c → link.is_cut ≡ false
+    → new.number ≡ link.number → new.is_cut ≡ true → new.past ≡ link.past → new.current ≡ option_map lost_record link.current
+    → after ≡ cut_pipe pipe
+    → IsPlayed number size engine new after (cut c)
+cut_played number size engine link new pipe after c p live same is past current off = record {
+  numbered = same ∙ p.numbered;
+  standing = ap (λ (b : Bool). standing_by b new.place) is;
+  older = rw (is, past) (older_cut number link.past.items c.past (subst (λ (b : Bool). AreOlder number b link.past.items c.past) live p.older));
+  newest = rw (is, current) (newest_cut number link.current c.current (subst (λ (b : Bool). IsNewest number b link.current c.current) live p.newest));
+  to_server = rw off (handed_stays pipe ToServer ∙ p.to_server);
+  to_client = rw off (handed_stays pipe ToClient ∙ p.to_client);
+  lives = λ uncut. let no : true ≡ false = sym is ∙ uncut in absurd (cc);
+}

@@ -1,0 +1,14 @@
+use Rattle.std.proofs.Common.{◌≡◌, ◌∙◌, sym, ap, refl, Some, option_map}
+use Rattle.tds_play.specs.Links.{lost_record}
+use Rattle.tds_play.proofs.CutOff.{cut_played}
+use Rattle.tds_play.proofs.link.Link.cut.Goals as goal
+
+pub returns-in-Some-clause-alike : goal.returns-in-Some-clause-alike
+returns-in-Some-clause-alike g c = λ size engine d p live.
+    cut_played c.args.self.now.number size engine c.args.self.now _ (g.C.Carrier.pipes c.args.carrier.now c.args.self.now.number) _ d p live refl refl refl
+    (ap Some c.lose.ensures ∙ sym (ap (option_map lost_record) c.in-Some.is)) c.cut.ensures.cut.here
+
+pub returns-in_default-clause-alike : goal.returns-in_default-clause-alike
+returns-in_default-clause-alike g c = λ size engine d p live.
+    cut_played c.args.self.now.number size engine c.args.self.now _ (g.C.Carrier.pipes c.args.carrier.now c.args.self.now.number) _ d p live refl refl refl
+    (c.in_default.is ∙ sym (ap (option_map lost_record) c.in_default.is)) c.cut.ensures.cut.here
