@@ -19,6 +19,7 @@ pub mod Asking
 pub mod Sending
 pub mod Working
 pub mod Arriving
+pub mod AllArriving
 pub mod Contents
 pub mod Heard
 pub mod Hearing

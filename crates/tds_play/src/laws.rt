@@ -8,7 +8,7 @@ ghost use Rattle.tds_client.specs.Session.{ClientSession, marked, new_session, u
 ghost use Rattle.tds_client.specs.Taking.{taken as client_taken};
 ghost use Rattle.tds_packet.specs.Layout.{bits_of, has_bit};
 ghost use Rattle.tds_packet.specs.Reading.{Reading};
-ghost use Rattle.tds_packet.specs.declared.kind.Direction.TheVariants.{ToClient};
+ghost use Rattle.tds_packet.specs.declared.kind.Direction.TheVariants.{ToClient, ToServer};
 ghost use Rattle.tds_packet.specs.declared.status.Reset.{Reset};
 ghost use Rattle.tds_play.specs.Alike.{AskAlike, CancelAlike, SendAlike, WorkAlike, ArriveAlike};
 ghost use Rattle.tds_play.specs.Deliveries.{AllArrive, ServesAlike, AllHeard, ListensAlike};
@@ -31,12 +31,13 @@ ghost use Rattle.tds_world.specs.Events.{asks_by, sends_in};
 ghost use Rattle.tds_world.specs.Lane.{Lane, sent_bytes};
 ghost use Rattle.tds_world.specs.Lawful.{Lawful};
 ghost use Rattle.tds_world.specs.Laws.{Always, OfEachConnection};
-ghost use Rattle.tds_world.specs.Messages.{IsSpelled, IsNext};
+ghost use Rattle.tds_world.specs.Messages.{IsSpelled, IsNext, AreWhole};
+ghost use Rattle.tds_world.specs.Packets.{IsSized};
 ghost use Rattle.tds_world.specs.Phase.{Settled};
 ghost use Rattle.tds_world.specs.Pool.{to_lend};
 ghost use Rattle.tds_world.specs.Record.{Record};
 ghost use Rattle.tds_world.specs.Steps.{EndsIfDue};
-ghost use Rattle.tds_world.specs.Welcome.{ServerExpects};
+ghost use Rattle.tds_world.specs.Welcome.{ServerExpects, WelcomeToServer};
 ghost use Rattle.tds_world.specs.World.{World};
 ghost use Rattle.tds_world.specs.declared.event.Setup.{Setup};
 ghost use Rattle.tds_world.specs.declared.report.Place.{Place};
@@ -126,6 +127,15 @@ pub fn serves_alike<E: Engine>()
     ensures { (answers : Answers) (r : Reading) (c : Connection) (es : List Up) (k : ℕ) (s : ServerState E) (reply : List ℕ)
         → AllArrive E answers r c es → MatchesServer s c
         → ServesAlike E answers r (take k (flat_map up_bytes es)) c (reach_server answers c es k) s reply }
+{}
+
+/// All that waits for a server is packets to its reader, and a server that stands for the connection
+/// takes each as the model does, one after the other: where each is the next piece of its message, is
+/// welcome, and fits the packet size.
+pub fn all_arrive<E: Engine>()
+    ensures { (answers : Answers) (r : Reading) (c : Connection) → Lawful answers → r.direction ≡ ToServer → AreWhole c
+        → WelcomeToServer answers c c.to_server.waiting → AllByRecursion (λ e. IsSized r.size (up_packet e)) c.to_server.waiting
+        → AllArrive E answers r c c.to_server.waiting }
 {}
 
 /// A client that is fed the bytes of entries hears those that come whole as the model does, in order,

@@ -14,6 +14,7 @@ mod rendering;
 mod run;
 mod schedule;
 mod words;
+mod worlds;
 
 pub use carrier::{Carrier, CarrierError};
 pub use memory::MemoryCarrier;

@@ -89,7 +89,7 @@ worked_by c (s ∷ ss) h = runs_next c.answering c.session s c.current c.parts c
 -- ---- Arriving
 
 arrived_in : (current : Option Record) (parts : List ℕ) (e : Up) (es : List Up) → AreNextIn current parts (e ∷ es) → AreNextIn current (came_with parts e) es
-arrived_in None parts e es h = tt
+arrived_in None parts e es h = absurd (cc)
 arrived_in (Some q) parts e es h = (h.0, h.1.1)
 
 arrived_whole : (answers : Answers) (c : Connection) (e : Up) (es : List Up) → AreNextIn c.current c.parts (e ∷ es) → AreNextIn (server_acts answers c e).current (server_acts answers c e).parts es
@@ -315,7 +315,7 @@ whole_kept : (setup : Setup) (answers : Answers) → IsSetup setup → Lawful an
 whole_kept setup answers u l r =
     let some : 1 ≤ setup.packet_size - 8 = (let least : 512 ≤ setup.packet_size = u.packet_least in omega arith) in
     let known : Kept setup answers Any Known = sent_kept setup answers InSession l (session_kept answers r) in record {
-      opened = λ lease. (known.opened lease, tt);
+      opened = λ lease. (known.opened lease, refl);
       acted = λ w e n c x s h.
           both_acted Known AreWhole (acts setup answers w e n c) (known.acted w e n c tt s h.0)
           (acted setup answers w e n c some x h.0.0 h.0.1.0 h.1);

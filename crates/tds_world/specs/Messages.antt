@@ -61,9 +61,10 @@ AreNext a cancelled out left before [] = IsLeft a cancelled out left before
 AreNext a cancelled out left before (e ∷ es) =
     IsNext a before e × AreNext a cancelled out left (came_with before e) es
 
--- What came of the newest request, what waits and what is left are its message.
+-- What came of the newest request, what waits and what is left are its message. Without a request
+-- nothing waits.
 abbrev pub AreNextIn : Option Record → List ℕ → List Up → Type 0
-AreNextIn None parts ups = Unit {0}
+AreNextIn None parts ups = ups ≡ []
 AreNextIn (Some q) parts ups =
     IsSpelled q.asking × AreNext q.asking q.cancelled q.out q.left parts ups
 
