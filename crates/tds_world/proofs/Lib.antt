@@ -47,3 +47,4 @@ pub mod Fitting
 pub mod Sessions
 pub mod Newest
 pub mod Order
+pub mod Lending

@@ -25,3 +25,4 @@ pub mod Messages
 pub mod Dones
 pub mod Newest
 pub mod Order
+pub mod Lending

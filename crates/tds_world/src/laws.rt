@@ -8,6 +8,7 @@ ghost use Rattle.tds_world.specs.Dones.{FinalDoneAtEnd, HaveDones};
 ghost use Rattle.tds_world.specs.Heard.{ChangesAreHeard};
 ghost use Rattle.tds_world.specs.Lawful.{Lawful};
 ghost use Rattle.tds_world.specs.Laws.{Always, AlwaysOf, FreshStart, IdleIsQuiet, NothingAfterCancel, OwnAnswers};
+ghost use Rattle.tds_world.specs.Lending.{LendsIdle};
 ghost use Rattle.tds_world.specs.Newest.{ActOnNewest, WorkOnNewest};
 ghost use Rattle.tds_world.specs.Order.{RequestsInOrder};
 ghost use Rattle.tds_world.specs.Messages.{MessagesAreWhole};
@@ -174,4 +175,9 @@ pub fn requests_in_order()
 /// reset that it took is the one that the client's mark asks for.
 pub fn changes_are_heard()
     ensures { (setup : Setup) (answers : Answers) → Lawful answers → Always setup answers ChangesAreHeard }
+{}
+
+/// A connection that is lent again is idle.
+pub fn lends_idle()
+    ensures { (setup : Setup) (answers : Answers) → Lawful answers → Always setup answers (LendsIdle setup) }
 {}
