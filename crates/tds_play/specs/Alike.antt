@@ -1,5 +1,5 @@
 -- What it is that an end does the same as the model's connection.
-use Rattle.std.specs.Prelude.{ℕ, ◌≡◌, List, [], Option, Some, None, Result, Ok, Err}
+use Rattle.std.specs.Prelude.{ℕ, ◌≡◌, Option, Some, None, Result, Ok, Err}
 use Rattle.tds_client.specs.declared.fault.ClientRefusal.{ClientRefusal}
 use Rattle.tds_client.specs.declared.fault.ClientRefusal.TheVariants as refused
 use Rattle.tds_client.specs.declared.state.Sent.{Sent}
@@ -12,7 +12,7 @@ use Rattle.tds_server.specs.declared.outcome.Worked.TheVariants as server
 use Rattle.tds_server.specs.declared.outcome.ServerTook.{ServerTook}
 use Rattle.tds_server.specs.Taking.{Taken}
 use Rattle.tds_server.specs.Working.{Work}
-use Rattle.tds_session.specs.Answer.{Answers, Step}
+use Rattle.tds_session.specs.Answer.{Answers}
 use Rattle.tds_world.specs.declared.outcome.CancelOutcome.{CancelOutcome}
 use Rattle.tds_world.specs.declared.outcome.Outcome.TheVariants as outcome
 use Rattle.tds_world.specs.declared.outcome.Refusal.TheVariants as refusal
