@@ -48,3 +48,4 @@ pub mod Sessions
 pub mod Newest
 pub mod Order
 pub mod Lending
+pub mod Underway

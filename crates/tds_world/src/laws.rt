@@ -1,10 +1,12 @@
 //! The session laws. Each is the contract of a function without a body: what holds of the model
 //! after any events, whatever their order, and whatever the sizes of the deliveries.
+ghost use Rattle.std.specs.Prelude.{List, length};
 ghost use Rattle.tds_session.specs.Answer.{Answers, answer_of, script_answers};
 ghost use Rattle.tds_world.specs.Begins.{HandsOutNext};
 ghost use Rattle.tds_world.specs.Bounds.{BeginsOnce, FewUnderway, IsEvent, IsSetup, OneAttention, OwnTransaction};
 ghost use Rattle.tds_world.specs.Deliveries.{DeliversExactly};
 ghost use Rattle.tds_world.specs.Dones.{FinalDoneAtEnd, HaveDones};
+ghost use Rattle.tds_world.specs.Events.{world_after};
 ghost use Rattle.tds_world.specs.Heard.{ChangesAreHeard};
 ghost use Rattle.tds_world.specs.Lawful.{Lawful};
 ghost use Rattle.tds_world.specs.Laws.{Always, AlwaysOf, FreshStart, IdleIsQuiet, NothingAfterCancel, OwnAnswers};
@@ -16,7 +18,10 @@ ghost use Rattle.tds_world.specs.Packets.{PacketsFit};
 ghost use Rattle.tds_world.specs.Requests.{RequestsAreSpelled};
 ghost use Rattle.tds_world.specs.Sessions.{AllInRange, StayInRange};
 ghost use Rattle.tds_world.specs.Steps.{AnswersEndOnce, MessagesEndOnce, StepsAreOfAnswers};
+ghost use Rattle.tds_world.specs.Underway.{FewToClients};
 ghost use Rattle.tds_world.specs.Welcome.{AllWelcome};
+ghost use Rattle.tds_world.specs.World.{new_world};
+ghost use Rattle.tds_world.specs.declared.event.Event.{Event};
 ghost use Rattle.tds_world.specs.declared.event.Setup.{Setup};
 
 use tds_session::Engine;
@@ -169,6 +174,12 @@ pub fn answers_end_once()
 /// were asked. It holds for any answers.
 pub fn requests_in_order()
     ensures { (setup : Setup) (answers : Answers) → Always setup answers RequestsInOrder }
+{}
+
+/// After so many events few bytes are underway to a client: each sends at most one step.
+pub fn few_to_clients()
+    ensures { (setup : Setup) (answers : Answers) → Lawful answers → StayInRange answers
+        → (events : List Event) → FewToClients (length events) (world_after setup answers events new_world) }
 {}
 
 /// Where a step arrives, its changes all apply to the descriptor that the client heard last, and a
