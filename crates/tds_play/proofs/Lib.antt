@@ -42,3 +42,4 @@ pub mod AllPlayed
 pub mod Held
 pub mod Snapshots
 pub mod Coming
+pub mod Found
