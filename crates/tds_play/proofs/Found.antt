@@ -15,7 +15,8 @@ use Rattle.tds_world.specs.declared.outcome.Outcome.TheVariants as outcome
 use Rattle.tds_world.specs.declared.outcome.Refusal.{Refusal}
 use Rattle.tds_world.specs.declared.outcome.Refusal.TheVariants as refusal
 use Rattle.tds_world.specs.Connection.{Connection, Standing, In, Cut, is_cut}
-use Rattle.tds_world.specs.Events.{about, acts, happens, happens_at, settles}
+use Rattle.tds_world.specs.Lending.{LendsIdle}
+use Rattle.tds_world.specs.Events.{acts, happens, happens_at, settles}
 use Rattle.tds_world.specs.Pool.{Acted, Refuses, Does, is_free, first_of, lowest_free, pool_count, to_lend, to_lend_by, opens, gives_back_at, abandons_at}
 use Rattle.tds_world.specs.World.{World, Holding, numbered, next_number, there, uncut, uncut_in, held, not_cut}
 use Rattle.tds_world.specs.World as world
@@ -24,7 +25,6 @@ use Rattle.tds_play.specs.declared.pool.Found.TheVariants.{Missing, Here, Opens}
 use Rattle.tds_play.specs.Holdings.{conn_in, conn_of}
 use Rattle.tds_play.specs.Lending.{FoundAlike, lent, numbered_of}
 use Rattle.tds_play.specs.Noted.{about_of, held_of}
-use Rattle.tds_play.specs.Player.{AreReady}
 use Rattle.tds_play.specs.Plays.{IsReady, acts_at, acts_on, held_by, holdings_of, on_cut}
 use Rattle.tds_play.proofs.Held.{conn_held}
 
@@ -134,11 +134,11 @@ lease_happens setup answers w e lease refused ready =
     (by_holding w refusal.UnknownLease (λ f g. HappensBy setup answers w e f (happens_at setup answers e w (not_cut g))) (numbered w.leases lease) refl
     (λ h is. uncut_held setup answers w e h.conn refusal.UnknownLease refused (λ m c z. ready c)))
 
-ticket_happens : (setup : Setup) (answers : Answers) (w : World) (ticket : ℕ) → AreReady setup w → HappensBy setup answers w (event.Resume ticket) (held_of (length (map (λ c. c.standing) w.connections)) (conn_of (holdings_of w.tickets) ticket) refusal.UnknownTicket) (happens_at setup answers (event.Resume ticket) w (not_cut (held w refusal.UnknownTicket (numbered w.tickets ticket))))
+ticket_happens : (setup : Setup) (answers : Answers) (w : World) (ticket : ℕ) → LendsIdle setup w → HappensBy setup answers w (event.Resume ticket) (held_of (length (map (λ c. c.standing) w.connections)) (conn_of (holdings_of w.tickets) ticket) refusal.UnknownTicket) (happens_at setup answers (event.Resume ticket) w (not_cut (held w refusal.UnknownTicket (numbered w.tickets ticket))))
 ticket_happens setup answers w ticket ready =
     of_holdings w w.tickets ticket refusal.UnknownTicket (λ f. HappensBy setup answers w (event.Resume ticket) f (happens_at setup answers (event.Resume ticket) w (not_cut (held w refusal.UnknownTicket (numbered w.tickets ticket)))))
     (by_holding w refusal.UnknownTicket (λ f g. HappensBy setup answers w (event.Resume ticket) f (happens_at setup answers (event.Resume ticket) w (not_cut g))) (numbered w.tickets ticket) refl
-    (λ h is. uncut_held setup answers w (event.Resume ticket) h.conn refusal.UnknownTicket (λ c. refl) (λ m c z. ready (event.Resume ticket) m c (ap not_cut is ∙ z))))
+    (λ h is. uncut_held setup answers w (event.Resume ticket) h.conn refusal.UnknownTicket (λ c. refl) (λ m c z. ready.resume ticket m c (ap not_cut is ∙ z))))
 
 back_happens : (setup : Setup) (answers : Answers) (w : World) (e : Event) (hs : List Holding) (n : ℕ) (why : Refusal) → ((m : ℕ) (c : Connection) → acts setup answers w e m c ≡ acts_on setup answers w e m c) → ((c : Connection) → IsReady e c) → HappensBy setup answers w e (held_of (length (map (λ c. c.standing) w.connections)) (conn_of (holdings_of hs) n) why) (happens_at setup answers e w (held w why (numbered hs n)))
 back_happens setup answers w e hs n why same ready =
@@ -205,7 +205,7 @@ lives_acts setup answers w e n c lives = by_standing c.standing lives
     by_standing (In p) e = refl
     by_standing Cut e = absurd (cc)
 
-lent_happens : (setup : Setup) (answers : Answers) (w : World) (f : Found) (g : world.Found) → to_lend setup w ≡ g → FoundAlike w f g → AreReady setup w → HappensBy setup answers w event.Lease f (happens_at setup answers event.Lease w g)
+lent_happens : (setup : Setup) (answers : Answers) (w : World) (f : Found) (g : world.Found) → to_lend setup w ≡ g → FoundAlike w f g → LendsIdle setup w → HappensBy setup answers w event.Lease f (happens_at setup answers event.Lease w g)
 lent_happens setup answers w (Missing why) (world.Missing because) is alike ready = ap (λ (r : Refusal). (outcome.Refused r, w)) (sym alike)
 lent_happens setup answers w (Missing why) (world.Here n c) is alike ready = absurd alike
 lent_happens setup answers w (Missing why) (world.Opens n) is alike ready = absurd alike
@@ -219,7 +219,7 @@ lent_happens setup answers w (Here place) (world.Here n c) is alike ready =
       settles =
           ap (λ (m : ℕ). settles event.Lease m w (acts setup answers w event.Lease m c)) alike.0
           ∙ ap (settles event.Lease (suc place) w) (lives_acts setup answers w event.Lease (suc place) c lives);
-      ready = λ z. ready event.Lease n c is;
+      ready = λ z. ready.lease n c is;
     }
 lent_happens setup answers w (Here place) (world.Opens n) is alike ready = absurd alike
 lent_happens setup answers w Opens (world.Missing because) is alike ready = absurd alike
@@ -240,7 +240,7 @@ numbered_by setup answers w e n refused ready =
     subst (λ (k : ℕ). HappensBy setup answers w e (numbered_of k n refusal.UnknownConnection) (happens_at setup answers e w (uncut_in refusal.UnknownConnection n (numbered w.connections n))))
     (sym (length-map w.connections (λ c. c.standing))) (numbered_happens setup answers w e n refused ready)
 
-pub happens_found : (setup : Setup) (answers : Answers) (w : World) (e : Event) → FoundAlike w (lent (map (λ c. c.standing) w.connections) setup.max) (to_lend setup w) → AreReady setup w → IsAboutOne e → HappensBy setup answers w e (about_of e (map (λ c. c.standing) w.connections) setup.max (holdings_of w.leases) (holdings_of w.tickets)) (happens setup answers e w)
+pub happens_found : (setup : Setup) (answers : Answers) (w : World) (e : Event) → FoundAlike w (lent (map (λ c. c.standing) w.connections) setup.max) (to_lend setup w) → LendsIdle setup w → IsAboutOne e → HappensBy setup answers w e (about_of e (map (λ c. c.standing) w.connections) setup.max (holdings_of w.leases) (holdings_of w.tickets)) (happens setup answers e w)
 happens_found setup answers w event.Lease alike ready one =
     lent_happens setup answers w (lent (map (λ c. c.standing) w.connections) setup.max) (to_lend setup w) refl alike ready
 happens_found setup answers w (event.Resume ticket) alike ready one = ticket_happens setup answers w ticket ready
