@@ -43,3 +43,4 @@ pub mod Held
 pub mod Snapshots
 pub mod Coming
 pub mod Promised
+pub mod Found

@@ -1,17 +1,15 @@
 -- What the whole player stands for in the model, and what the model promises of a world.
-use Rattle.std.specs.Prelude.{ℕ, ◌≡◌, ◌<◌, length, map, Option}
+use Rattle.std.specs.Prelude.{ℕ, ◌≡◌, ◌<◌, length, Option}
 use Rattle.tds_session.specs.Answer.{Answers}
-use Rattle.tds_world.specs.declared.event.Event.{Event}
 use Rattle.tds_world.specs.declared.event.Setup.{Setup}
 use Rattle.tds_world.specs.declared.outcome.Outcome.{Outcome}
-use Rattle.tds_world.specs.Connection.{Connection}
-use Rattle.tds_world.specs.Events.{about}
 use Rattle.tds_world.specs.Laws.{OfEachConnection}
-use Rattle.tds_world.specs.World.{World, Here}
+use Rattle.tds_world.specs.Lending.{LendsIdle}
+use Rattle.tds_world.specs.World.{World}
 use Rattle.tds_play.specs.declared.link.Done.{Done}
 use Rattle.tds_play.specs.declared.player.Player.{Player}
 use Rattle.tds_play.specs.Pipe.{Pipe}
-use Rattle.tds_play.specs.Plays.{ArePlayed, IsReady, holdings_of}
+use Rattle.tds_play.specs.Plays.{ArePlayed, holdings_of}
 use Rattle.tds_play.specs.Promises.{Promises}
 use Rattle.tds_play.specs.Seen.{done_as}
 
@@ -32,10 +30,6 @@ pub record HappensAlike {E S : Type 0} (setup : Setup) (engine : E) (done : Done
   pub outcome : done ≡ done_as next.0
   pub then : IsPlay setup engine player pipes next.1
 
--- A connection that an event is about is ready for it: one that is lent is idle.
-abbrev pub AreReady : Setup → World → Type 0
-AreReady setup w = (e : Event) (n : ℕ) (c : Connection) → about setup w e ≡ Here n c → IsReady e c
-
 -- There are so few of each that their numbers fit.
 pub record IsSmall (w : World) : Type 0 where
   pub connections : length w.connections < 10000
@@ -46,5 +40,5 @@ pub record IsSmall (w : World) : Type 0 where
 -- What the model promises of a world before an event.
 pub record PromisesAll (E : Type 0) (answers : Answers) (setup : Setup) (w : World) : Type 0 where
   pub each : OfEachConnection (Promises E answers setup.packet_size) w
-  pub ready : AreReady setup w
+  pub idle : LendsIdle setup w
   pub small : IsSmall w
