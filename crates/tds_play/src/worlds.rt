@@ -4,13 +4,13 @@ ghost use Rattle.std.specs.List.{AllByRecursion};
 ghost use Rattle.tds_packet.specs.Reading.{Reading};
 ghost use Rattle.tds_packet.specs.declared.kind.Direction.TheVariants.{ToServer};
 ghost use Rattle.tds_play.specs.Deliveries.{AllArrive};
-ghost use Rattle.tds_play.specs.Player.{AreReady};
 ghost use Rattle.tds_play.specs.Promises.{Promises};
 ghost use Rattle.tds_session.specs.Answer.{answer_of};
 ghost use Rattle.tds_world.specs.Bounds.{IsEvent, IsSetup};
 ghost use Rattle.tds_world.specs.Connection.{up_underway};
 ghost use Rattle.tds_world.specs.Events.{world_after};
 ghost use Rattle.tds_world.specs.Laws.{AlwaysOf, OfEachConnection};
+ghost use Rattle.tds_world.specs.Lending.{LendsIdle};
 ghost use Rattle.tds_world.specs.Order.{RequestsInOrder};
 ghost use Rattle.tds_world.specs.World.{new_world};
 ghost use Rattle.tds_world.specs.declared.event.Event.{Event};
@@ -48,7 +48,7 @@ pub(crate) fn worlds_hold<E: Engine>(engine: &E)
         → OfEachConnection (Promises E (answer_of (E.statements_of engine.now) (E.step_of engine.now)) setup.packet_size)
         (world_after setup (answer_of (E.statements_of engine.now) (E.step_of engine.now)) events new_world) }
     ensures ready { (setup : Setup) (events : List Event)
-        → AreReady setup (world_after setup (answer_of (E.statements_of engine.now) (E.step_of engine.now)) events new_world) }
+        → LendsIdle setup (world_after setup (answer_of (E.statements_of engine.now) (E.step_of engine.now)) events new_world) }
     ensures order { (setup : Setup) (events : List Event)
         → RequestsInOrder (world_after setup (answer_of (E.statements_of engine.now) (E.step_of engine.now)) events new_world) }
 {

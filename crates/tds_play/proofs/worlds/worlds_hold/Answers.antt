@@ -2,7 +2,7 @@ use Rattle.tds_session.specs.Answer.{Answers, answer_of}
 use Rattle.tds_world.specs.Events.{world_after}
 use Rattle.tds_world.specs.World.{World, new_world}
 use Rattle.std.specs.Prelude.{length}
-use Rattle.tds_play.proofs.Promised.{each_promised, are_ready}
+use Rattle.tds_play.proofs.Promised.{each_promised}
 use Rattle.tds_play.proofs.worlds.worlds_hold.Goals as goal
 
 pub returns-clause-each : goal.returns-clause-each
@@ -22,8 +22,7 @@ returns-clause-each g c setup events u x few =
 
 pub returns-clause-ready : goal.returns-clause-ready
 returns-clause-ready g c setup events =
-    let answers : Answers = answer_of (g.E.Engine.statements_of c.args.engine.now) (g.E.Engine.step_of c.args.engine.now) in
-    are_ready setup (world_after setup answers events new_world) (c.lends_idle.ensures setup answers c.engine_is_lawful.ensures events)
+    c.lends_idle.ensures setup (answer_of (g.E.Engine.statements_of c.args.engine.now) (g.E.Engine.step_of c.args.engine.now)) c.engine_is_lawful.ensures events
 
 pub returns-clause-order : goal.returns-clause-order
 returns-clause-order g c setup events =
