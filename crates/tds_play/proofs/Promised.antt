@@ -1,5 +1,5 @@
 -- The laws of the model, put together: what it promises of each world.
-use Rattle.std.proofs.Common.{◌≡◌, ◌≤◌, ◌*◌, ℕ, suc, List, [], ◌∷◌, true, refl, arith}
+use Rattle.std.proofs.Common.{◌≡◌, ◌≤◌, ◌<◌, ◌*◌, ℕ, suc, List, [], ◌∷◌, true, refl, arith}
 use Rattle.std.specs.List.{AllByRecursion}
 use Rattle.tds_packet.specs.Reading.{Reading}
 use Rattle.tds_packet.specs.declared.kind.Direction.TheVariants.{ToServer, ToClient}
@@ -7,6 +7,7 @@ use Rattle.tds_session.specs.Answer.{Answers}
 use Rattle.tds_world.specs.declared.event.Event.TheVariants as event
 use Rattle.tds_world.specs.declared.event.Setup.{Setup}
 use Rattle.tds_world.specs.Connection.{Connection, phase, up_underway, down_underway}
+use Rattle.tds_world.specs.Counts.{AreFew}
 use Rattle.tds_world.specs.Deliveries.{DeliversOn}
 use Rattle.tds_world.specs.Laws.{QuietIfIdle}
 use Rattle.tds_world.specs.Lending.{LendsIdle}
@@ -15,7 +16,7 @@ use Rattle.tds_world.specs.Phase.{Phase, Settled, Asked, Sending, Reading as IsR
 use Rattle.tds_world.specs.Steps.{EndsIfDue}
 use Rattle.tds_world.specs.World.{World}
 use Rattle.tds_play.specs.Deliveries.{AllArrive, AllHeard}
-use Rattle.tds_play.specs.Player.{AreReady}
+use Rattle.tds_play.specs.Player.{AreReady, IsSmall}
 use Rattle.tds_play.specs.Promises.{Promises, IsCountable}
 
 -- ---- A connection
@@ -73,3 +74,11 @@ are_ready setup w l (event.Work k) n c e = tt
 are_ready setup w l (event.ToServer k m) n c e = tt
 are_ready setup w l (event.ToClient k m) n c e = tt
 are_ready setup w l (event.Cut k) n c e = tt
+
+pub small : (n : ℕ) (w : World) → n < 10000 → AreFew n w → IsSmall w
+small n w few h = record {
+  connections = omega (arith, few, h.connections);
+  leases = omega (arith, few, h.leases);
+  tickets = omega (arith, few, h.tickets);
+  asked = omega (arith, few, h.asked);
+}
