@@ -49,3 +49,4 @@ pub mod Newest
 pub mod Order
 pub mod Lending
 pub mod Underway
+pub mod Few

@@ -27,3 +27,4 @@ pub mod Newest
 pub mod Order
 pub mod Lending
 pub mod Underway
+pub mod Counts
