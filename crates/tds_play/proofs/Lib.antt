@@ -44,3 +44,6 @@ pub mod Snapshots
 pub mod Coming
 pub mod Promised
 pub mod Found
+pub mod Listening
+pub mod ClientSizes
+pub mod ClientEvent

@@ -24,6 +24,7 @@ pub mod Alike
 pub mod Hearing
 pub mod Feeding
 pub mod Deliveries
+pub mod Listening
 pub mod Between
 pub mod Requests
 pub mod Promises
