@@ -44,3 +44,4 @@ pub mod Snapshots
 pub mod Coming
 pub mod Promised
 pub mod Found
+pub mod Requested
