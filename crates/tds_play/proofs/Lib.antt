@@ -47,3 +47,4 @@ pub mod Found
 pub mod Listening
 pub mod ClientSizes
 pub mod ClientEvent
+pub mod Requested

@@ -4,7 +4,7 @@ ghost use Rattle.tds_client.specs.Session.{unless_idle};
 ghost use Rattle.tds_packet.specs.declared.kind.Direction.{Direction};
 ghost use Rattle.tds_packet.specs.declared.kind.Direction.TheVariants.{ToServer, ToClient};
 ghost use Rattle.tds_play.specs.Lending.{is_in_pool, standing_of};
-ghost use Rattle.tds_play.specs.Links.{IsAsked, IsNewLink, cut_of, lost_record, recounted, report_of, stepped};
+ghost use Rattle.tds_play.specs.Links.{IsAsked, IsNewLink, cut_of, lost_record, recounted, report_of, stepped, newest_first};
 ghost use Rattle.tds_play.specs.Seen.{outcome_of, seen_of};
 ghost use Rattle.tds_play.specs.Plays.{IsPlayed};
 ghost use Rattle.tds_play.specs.Pipe.{AreSame, Brings, IsUncut, cut_pipe, new_pipe, sent_on};
@@ -391,17 +391,17 @@ impl<E: Engine + Drop> Link<E> {
         })
     }
 
-    /// The requests that were asked on it, in their order, with its number.
-    pub(crate) fn into_records(self) -> Result<(u32, Vec<Record>), NoMemory> {
+    /// The requests that were asked on it, the newest first.
+    pub(crate) fn into_records(self) -> Result<Vec<Record>, NoMemory>
+        ensures { IfOk result (λ records. records.items ≡ newest_first self) }
+    {
         let Link {
-            number,
-            current,
-            mut past,
-            ..
+            current, mut past, ..
         } = self;
         if let Some(record) = current {
             past.push(record)?;
         }
-        Ok((number, past))
+        past.reverse();
+        Ok(past)
     }
 }

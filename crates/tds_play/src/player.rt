@@ -1,16 +1,24 @@
 //! All connections of a play, and what each event does to them.
-ghost use Rattle.std.specs.Prelude.{◌≡◌, ◌≤◌, ◌<◌, ℕ, suc, [], length, map, IfOk, OnOk};
+ghost use Rattle.std.specs.Prelude.{◌≡◌, ◌≤◌, ◌<◌, ℕ, suc, [], length, map, IfOk, OnOk, ◌-◌, List, ◌∷◌, ◌++◌, slice_set, Option, Some};
 ghost use Rattle.std.specs.List.{filter_map};
 ghost use Rattle.tds_play.specs.Lending.{standing_of};
 ghost use Rattle.tds_play.specs.Noted.{about_of, asked_after, held_of, leases_after, tickets_after};
+ghost use Rattle.tds_play.specs.Links.{newest_first};
+ghost use Rattle.tds_play.specs.Pipe.{Pipe};
+ghost use Rattle.tds_play.specs.Player.{IsPlay};
 ghost use Rattle.tds_play.specs.Seen.{seen_of};
 ghost use Rattle.tds_play.specs.Ties.{AreTied};
+ghost use Rattle.tds_play.specs.declared.link.Record.{Record};
 ghost use Rattle.tds_play.specs.declared.pool.Found.TheVariants.{Here};
+ghost use Rattle.tds_world.specs.Observed.{request_reports};
+ghost use Rattle.tds_world.specs.Order.{RequestsInOrder};
+ghost use Rattle.tds_world.specs.World.{World, numbered};
+ghost use Rattle.tds_world.specs.declared.event.Setup.{Setup};
 
 use crate::NoMemory;
 use crate::carrier::Carrier;
 use crate::link::acts::{Next, refused};
-use crate::link::{Done, Link};
+use crate::link::{Done, Link, Record};
 use crate::pool::{Found, Holdings, by_number, next_number, to_lend};
 use std::alloc::Global;
 use tds_packet::PacketSize;
@@ -229,29 +237,50 @@ impl<E: Engine + Copy> Player<E> {
     }
 
     /// What is told of each request in the end, in the order in which they were asked.
-    pub(crate) fn into_requests(self) -> Result<Vec<RequestReport>, NoMemory> {
+    pub(crate) fn into_requests(self) -> Result<Vec<RequestReport>, NoMemory>
+        ensures { (setup : Setup) (engine : E) (pipes : ℕ → Option Pipe) (w : World) → IsPlay setup engine self pipes w
+            → RequestsInOrder w
+            → IfOk result (λ reports. reports.items ≡ request_reports w 1 w.asked_on) }
+    {
         let Player {
             alloc,
             links,
             asked_on,
             ..
         } = self;
-        let mut records = Vec::new(alloc);
-        for link in links {
-            let (_, mut asked) = link.into_records()?;
-            // The oldest comes last, where it is taken from.
-            asked.reverse();
-            records.push(asked)?;
-        }
+        let mut records = all_records(alloc, links)?;
         let mut reports = Vec::new(alloc);
-        for conn in asked_on {
-            if conn > 0
-                && let Some(asked) = records.get_mut(conn as usize - 1)
-                && let Some(record) = asked.pop()
-            {
-                reports.push(record.report(conn))?;
+        'asked: for conn in &asked_on {
+            if let Some(record) = next_of(&mut records, *conn) {
+                reports.push(record.report(*conn))?;
             }
         }
         Ok(reports)
     }
+}
+
+/// The requests of each connection, the newest first.
+fn all_records<E: Engine + Copy>(
+    alloc: Global,
+    links: Vec<Link<E>>,
+) -> Result<Vec<Vec<Record>>, NoMemory>
+    ensures { IfOk result (λ records. map (λ v. v.items) records.items ≡ map newest_first links.items) }
+{
+    let mut records = Vec::new(alloc);
+    'links: for link in links {
+        records.push(link.into_records()?)?;
+    }
+    Ok(records)
+}
+
+/// The oldest request of this connection that is left, which is taken away.
+fn next_of(records: &mut [Vec<Record>], conn: u32) -> Option<Record>
+    ensures count { length records.new ≡ length records.old }
+    ensures next { (left : List Record) (r : Record) → numbered (map (λ v. v.items) records.old) conn ≡ Some (left ++ r ∷ [])
+        → (result ≡ Some r) × (map (λ v. v.items) records.new ≡ slice_set (map (λ v. v.items) records.old) (conn - 1) left) }
+{
+    if conn == 0 || conn as usize > records.len() {
+        return None;
+    }
+    records[conn as usize - 1].pop()
 }
