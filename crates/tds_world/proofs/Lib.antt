@@ -48,3 +48,5 @@ pub mod Sessions
 pub mod Newest
 pub mod Order
 pub mod Lending
+pub mod Reports
+pub mod NoFault

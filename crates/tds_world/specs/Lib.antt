@@ -26,3 +26,4 @@ pub mod Dones
 pub mod Newest
 pub mod Order
 pub mod Lending
+pub mod Reports
