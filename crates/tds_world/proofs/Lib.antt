@@ -50,3 +50,5 @@ pub mod Order
 pub mod Lending
 pub mod Underway
 pub mod Few
+pub mod Reports
+pub mod NoFault

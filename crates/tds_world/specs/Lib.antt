@@ -28,3 +28,4 @@ pub mod Order
 pub mod Lending
 pub mod Underway
 pub mod Counts
+pub mod Reports

@@ -1,0 +1,23 @@
+//! What the session laws say of a report. Each is the contract of a function without a body: what
+//! holds of the report of the model, `observed`, whatever the events.
+ghost use Rattle.tds_session.specs.Answer.{Answers};
+ghost use Rattle.tds_world.specs.Bounds.{IsEvent, IsSetup};
+ghost use Rattle.tds_world.specs.Lawful.{Lawful};
+ghost use Rattle.tds_world.specs.Reports.{AlwaysShown, AlwaysShownOf, ShowsFewUnderway, ShowsIdleQuiet, ShowsNoFault};
+ghost use Rattle.tds_world.specs.declared.event.Setup.{Setup};
+
+/// In each snapshot whose client is idle both byte counts are 0, and the two descriptors are one.
+pub fn idle_is_quiet()
+    ensures { (setup : Setup) (answers : Answers) → Lawful answers → AlwaysShown setup answers ShowsIdleQuiet }
+{}
+
+/// In each snapshot at most 4,094 bytes are underway to the server, for a setup that a play takes and
+/// requests that have a spelling.
+pub fn few_underway()
+    ensures { (setup : Setup) (answers : Answers) → IsSetup setup → Lawful answers → AlwaysShownOf IsEvent setup answers ShowsFewUnderway }
+{}
+
+/// In no event an end refuses what comes to it, and none is lost. It holds for any answers.
+pub fn no_fault()
+    ensures { (setup : Setup) (answers : Answers) → AlwaysShown setup answers ShowsNoFault }
+{}
