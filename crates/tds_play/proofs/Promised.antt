@@ -4,16 +4,22 @@ use Rattle.std.specs.List.{AllByRecursion}
 use Rattle.tds_packet.specs.Reading.{Reading}
 use Rattle.tds_packet.specs.declared.kind.Direction.TheVariants.{ToServer, ToClient}
 use Rattle.tds_session.specs.Answer.{Answers}
+use Rattle.tds_world.specs.declared.event.Event.TheVariants as event
+use Rattle.tds_world.specs.declared.event.Setup.{Setup}
 use Rattle.tds_world.specs.Connection.{Connection, phase, up_underway, down_underway}
 use Rattle.tds_world.specs.Counts.{AreFew}
 use Rattle.tds_world.specs.Deliveries.{DeliversOn}
 use Rattle.tds_world.specs.Laws.{QuietIfIdle}
+use Rattle.tds_world.specs.Lending.{LendsIdle}
 use Rattle.tds_world.specs.Newest.{ActsOnNewest, WorksOnNewest}
 use Rattle.tds_world.specs.Phase.{Phase, Settled, Asked, Sending, Reading as IsReading, Cancelling, is_settled}
 use Rattle.tds_world.specs.Steps.{EndsIfDue}
+use Rattle.tds_world.specs.World.{World}
 use Rattle.tds_play.specs.Deliveries.{AllArrive, AllHeard}
 use Rattle.tds_play.specs.Player.{AreReady, IsSmall}
 use Rattle.tds_play.specs.Promises.{Promises, IsCountable}
+
+-- ---- A connection
 
 abbrev Arrives : Type 0 → Answers → ℕ → Connection → Type 0
 Arrives E answers size c =

@@ -11,7 +11,6 @@ ghost use Rattle.tds_world.specs.Bounds.{IsEvent, IsSetup};
 ghost use Rattle.tds_world.specs.Connection.{up_underway};
 ghost use Rattle.tds_world.specs.Events.{world_after};
 ghost use Rattle.tds_world.specs.Laws.{AlwaysOf, OfEachConnection};
-ghost use Rattle.tds_world.specs.Lending.{LendsIdle};
 ghost use Rattle.tds_world.specs.Order.{RequestsInOrder};
 ghost use Rattle.tds_world.specs.World.{new_world};
 ghost use Rattle.tds_world.specs.declared.event.Event.{Event};
@@ -48,8 +47,6 @@ pub(crate) fn worlds_hold<E: Engine>(engine: &E)
     ensures each { (setup : Setup) (events : List Event) → IsSetup setup → AllByRecursion IsEvent events → length events ≤ 10000
         → OfEachConnection (Promises E (answer_of (E.statements_of engine.now) (E.step_of engine.now)) setup.packet_size)
         (world_after setup (answer_of (E.statements_of engine.now) (E.step_of engine.now)) events new_world) }
-    ensures ready { (setup : Setup) (events : List Event)
-        → LendsIdle setup (world_after setup (answer_of (E.statements_of engine.now) (E.step_of engine.now)) events new_world) }
     ensures before { (setup : Setup) (events : List Event) → IsSetup setup → AllByRecursion IsEvent events → length events < 10000
         → PromisesAll E (answer_of (E.statements_of engine.now) (E.step_of engine.now)) setup
         (world_after setup (answer_of (E.statements_of engine.now) (E.step_of engine.now)) events new_world) }
