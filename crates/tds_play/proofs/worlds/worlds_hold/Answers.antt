@@ -2,8 +2,7 @@ use Rattle.std.proofs.Common.{ℕ, ◌≤◌, ◌<◌, length, arith}
 use Rattle.tds_session.specs.Answer.{Answers, answer_of}
 use Rattle.tds_world.specs.Events.{world_after}
 use Rattle.tds_world.specs.World.{World, new_world}
-use Rattle.std.specs.Prelude.{length}
-use Rattle.tds_play.proofs.Promised.{each_promised, are_ready, small}
+use Rattle.tds_play.proofs.Promised.{each_promised, small}
 use Rattle.tds_play.proofs.worlds.worlds_hold.Goals as goal
 
 pub returns-clause-each : goal.returns-clause-each
@@ -20,9 +19,6 @@ returns-clause-each g c setup events u x few =
     (c.act_on_newest.ensures setup answers lawful events)
     (c.few_to_clients.ensures setup answers lawful c.engine_stays_in_range.ensures events)
 
-pub returns-clause-ready : goal.returns-clause-ready
-returns-clause-ready g c setup events =
-    c.lends_idle.ensures setup (answer_of (g.E.Engine.statements_of c.args.engine.now) (g.E.Engine.step_of c.args.engine.now)) c.engine_is_lawful.ensures events
 no_more : (n : ℕ) → n < 10000 → n ≤ 10000
 no_more n h = omega (arith, h)
 
@@ -32,7 +28,7 @@ returns-clause-before g c setup events u x few =
     let w : World = world_after setup answers events new_world in
     record {
       each = returns-clause-each g c setup events u x (no_more (length events) few);
-      ready = are_ready setup w (c.lends_idle.ensures setup answers c.engine_is_lawful.ensures events);
+      idle = c.lends_idle.ensures setup answers c.engine_is_lawful.ensures events;
       small = small (length events) w few (c.few_of_each.ensures setup answers events);
     }
 
