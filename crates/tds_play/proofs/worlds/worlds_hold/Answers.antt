@@ -2,7 +2,7 @@ use Rattle.std.proofs.Common.{ℕ, ◌≤◌, ◌<◌, length, arith}
 use Rattle.tds_session.specs.Answer.{Answers, answer_of}
 use Rattle.tds_world.specs.Events.{world_after}
 use Rattle.tds_world.specs.World.{World, new_world}
-use Rattle.tds_play.proofs.Promised.{each_promised, are_ready, small}
+use Rattle.tds_play.proofs.Promised.{each_promised, small}
 use Rattle.tds_play.proofs.worlds.worlds_hold.Goals as goal
 
 pub returns-clause-each : goal.returns-clause-each
@@ -28,7 +28,7 @@ returns-clause-before g c setup events u x few =
     let w : World = world_after setup answers events new_world in
     record {
       each = returns-clause-each g c setup events u x (no_more (length events) few);
-      ready = are_ready setup w (c.lends_idle.ensures setup answers c.engine_is_lawful.ensures events);
+      idle = c.lends_idle.ensures setup answers c.engine_is_lawful.ensures events;
       small = small (length events) w few (c.few_of_each.ensures setup answers events);
     }
 
