@@ -57,8 +57,7 @@ each_promised E answers size n [] few a h d e q w s u = tt
 each_promised E answers size n (c ∷ cs) few a h d e q w s u =
     (promised E answers size n c few a.0 h.0 d.0 e.0 q.0 w.0 s.0 u.0, each_promised E answers size n cs few a.1 h.1 d.1 e.1 q.1 w.1 s.1 u.1)
 
--- ---- A world
-
+-- Before an event there are few of each.
 pub small : (n : ℕ) (w : World) → n < 10000 → AreFew n w → IsSmall w
 small n w few h = record {
   connections = omega (arith, few, h.connections);
