@@ -10,7 +10,6 @@ use Rattle.tds_world.specs.Connection.{Connection, phase, up_underway, down_unde
 use Rattle.tds_world.specs.Counts.{AreFew}
 use Rattle.tds_world.specs.Deliveries.{DeliversOn}
 use Rattle.tds_world.specs.Laws.{QuietIfIdle}
-use Rattle.tds_world.specs.Lending.{LendsIdle}
 use Rattle.tds_world.specs.Newest.{ActsOnNewest, WorksOnNewest}
 use Rattle.tds_world.specs.Phase.{Phase, Settled, Asked, Sending, Reading as IsReading, Cancelling, is_settled}
 use Rattle.tds_world.specs.Steps.{EndsIfDue}
