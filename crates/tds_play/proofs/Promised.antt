@@ -4,8 +4,6 @@ use Rattle.std.specs.List.{AllByRecursion}
 use Rattle.tds_packet.specs.Reading.{Reading}
 use Rattle.tds_packet.specs.declared.kind.Direction.TheVariants.{ToServer, ToClient}
 use Rattle.tds_session.specs.Answer.{Answers}
-use Rattle.tds_world.specs.declared.event.Event.TheVariants as event
-use Rattle.tds_world.specs.declared.event.Setup.{Setup}
 use Rattle.tds_world.specs.Connection.{Connection, phase, up_underway, down_underway}
 use Rattle.tds_world.specs.Counts.{AreFew}
 use Rattle.tds_world.specs.Deliveries.{DeliversOn}
