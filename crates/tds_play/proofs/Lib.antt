@@ -32,6 +32,13 @@ pub mod FedServer
 pub mod FedClient
 pub mod Cuts
 pub mod CutOff
+pub mod Matching
+pub mod Placed
+pub mod Outward
+pub mod Worked
+pub mod Sent
+pub mod Cancelled
+pub mod Doing
 pub mod ServerDelivery
 pub mod ClientDelivery
 pub mod Carrying

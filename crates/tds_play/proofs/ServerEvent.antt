@@ -69,16 +69,16 @@ pub record Delivered {E S : Type 0} (old new : Link E S) (pipe after : Option Pi
   down : (reply ≡ [] → traffic after ToClient ≡ traffic pipe ToClient) × (reply ≢ [] → traffic after ToClient ≡ sent (traffic pipe ToClient) reply 0)
 
 -- Nothing that is sent is no change.
-sent_none : (t : Traffic) → t ≡ sent t [] 0
+pub sent_none : (t : Traffic) → t ≡ sent t [] 0
 sent_none t =
     ap (λ (bs : List ℕ). record { handed = bs; came = t.came; send_failures = t.send_failures; carry_failures = t.carry_failures }) (sym (append-nil t.handed))
     ∙ ap (λ (n : ℕ). record { handed = t.handed ++ []; came = t.came; send_failures = n; carry_failures = t.carry_failures }) (omega (arith))
 
-by_reply : (t u : Traffic) (reply : List ℕ) → (reply ≡ [] → u ≡ t) → (reply ≢ [] → u ≡ sent t reply 0) → u ≡ sent t reply 0
+pub by_reply : (t u : Traffic) (reply : List ℕ) → (reply ≡ [] → u ≡ t) → (reply ≢ [] → u ≡ sent t reply 0) → u ≡ sent t reply 0
 by_reply t u [] none some = none refl ∙ sent_none t
 by_reply t u (b ∷ bs) none some = some (λ e. absurd (cc))
 
-count_by : (old new : ℕ) (reply : List ℕ) → (reply ≡ [] → new ≡ old) → (reply ≢ [] → new ≡ saturated (old + length reply)) → old + length reply ≤ 18446744073709551615 → new ≡ old + length reply
+pub count_by : (old new : ℕ) (reply : List ℕ) → (reply ≡ [] → new ≡ old) → (reply ≢ [] → new ≡ saturated (old + length reply)) → old + length reply ≤ 18446744073709551615 → new ≡ old + length reply
 count_by old new [] none some few = none refl ∙ omega (arith)
 count_by old new (b ∷ bs) none some few =
     let e : new ≡ saturated (old + length (b ∷ bs)) = some (λ e. absurd (cc)) in

@@ -1,11 +1,18 @@
 //! What each event does on its connection.
-ghost use Rattle.std.specs.Prelude.{◌≡◌, ◌≤◌, true, false, is_none, min, Option, None, Some, Ok, IfOk, OnOk, ◌++◌, is_ok};
+ghost use Rattle.std.specs.Prelude.{◌≡◌, ◌≤◌, ◌-◌, ℕ, true, false, is_none, min, Option, None, Some, Ok, IfOk, OnOk, ◌++◌, is_ok};
 ghost use Rattle.tds_client.specs.Session.{unless_idle};
 ghost use Rattle.tds_play.specs.Links.{IsAskedOn, IsPutBy, lent_as, placed_at, recounted, unless_kept};
 ghost use Rattle.tds_play.specs.Acts.{cancel_outcome, cancelled_as, unless_lost, with_client, worked_as};
-ghost use Rattle.tds_play.specs.Alike.{send_outcome, worked_outcome};
+ghost use Rattle.tds_play.specs.Alike.{EndsIfDue, send_outcome, worked_outcome};
+ghost use Rattle.tds_play.specs.Plays.{IsPlayed, after, outcome_of};
+ghost use Rattle.tds_play.specs.Promises.{WorksOnNewest};
 ghost use Rattle.tds_play.specs.Seen.{done_as};
-ghost use Rattle.tds_world.specs.Pool.{place_back, returned_as};
+ghost use Rattle.tds_world.specs.Arrivals.{works};
+ghost use Rattle.tds_world.specs.Caller.{cancels};
+ghost use Rattle.tds_world.specs.Caller as model;
+ghost use Rattle.tds_world.specs.Connection.{Connection, down_underway, phase, up_underway};
+ghost use Rattle.tds_world.specs.Events.{sends_in, work_outcome};
+ghost use Rattle.tds_world.specs.Pool.{comes_back, place_back, returned_as};
 ghost use Rattle.tds_client.specs.Sending.{cancelled, sent};
 ghost use Rattle.tds_server.specs.Working.{worked};
 ghost use Rattle.tds_world.specs.declared.outcome.AbandonOutcome.TheVariants as abandoned;
@@ -133,6 +140,13 @@ impl<E: Engine + Drop> Link<E> {
         ensures back { IfOk (cancelled self.old.client) (λ e. IfOk result (λ done. (done.outcome ≡ outcome.GivenBack (returned_as (is_none (unless_idle e.session.stage))))
             × (self.new ≡ unless_lost done.lost (recounted self.new.to_server self.new.to_client
             (placed_at (place_back (is_none (unless_idle e.session.stage))) (cancelled_as e.answer e.session self.old)))))) }
+        ensures tells { OnOk result (C.tells carrier.old → C.tells carrier.new) }
+        // A connection that stands for one of the model stands for what comes back there.
+        ensures alike { (size : ℕ) (engine : E) (c : Connection) → C.steady
+            → IsPlayed self.old.number size engine self.old (C.pipes carrier.old self.old.number) c
+            → up_underway (cancels c) ≤ 18446744073709551615
+            → IfOk result (λ done. (done ≡ done_as (outcome_of (comes_back (cancels c))))
+            × IsPlayed self.old.number size engine self.new (C.pipes carrier.new self.old.number) (after (comes_back (cancels c)) c)) }
     {
         let mut out = Vec::new(alloc);
         let _ = self.cancel_request(&mut out)?;
@@ -240,6 +254,13 @@ impl<E: Engine + Drop> Link<E> {
         ensures refused { is_ok (sent self.old.client) ≡ false → (result ≡ Ok (done_as (Refused NotSending))) × (self.new ≡ self.old) × (carrier.new ≡ carrier.old) }
         ensures sent { IfOk (sent self.old.client) (λ e. IfOk result (λ done. (done.outcome ≡ outcome.Sent (send_outcome e.answer))
             × (self.new ≡ unless_lost done.lost (recounted self.new.to_server self.new.to_client (with_client e.session self.old))))) }
+        ensures tells { OnOk result (C.tells carrier.old → C.tells carrier.new) }
+        // A connection that stands for one of the model stands for what the same send makes of it.
+        ensures alike { (size : ℕ) (engine : E) (c : Connection) → C.steady
+            → IsPlayed self.old.number size engine self.old (C.pipes carrier.old self.old.number) c
+            → up_underway (after (sends_in (phase c) (size - 8) c.current c) c) ≤ 18446744073709551615
+            → IfOk result (λ done. (done ≡ done_as (outcome_of (sends_in (phase c) (size - 8) c.current c)))
+            × IsPlayed self.old.number size engine self.new (C.pipes carrier.new self.old.number) (after (sends_in (phase c) (size - 8) c.current c) c)) }
     {
         let mut out = Vec::new(alloc);
         let Some(sent) = self.put_next(&mut out)? else {
@@ -281,6 +302,13 @@ impl<E: Engine + Drop> Link<E> {
         ensures others { OnOk result (AreSame (C.pipes carrier.old) (C.pipes carrier.new) self.old.number) }
         ensures cancelled { IfOk (cancelled self.old.client) (λ e. IfOk result (λ done. (done.outcome ≡ outcome.Cancel (cancel_outcome e.answer))
             × (self.new ≡ unless_lost done.lost (recounted self.new.to_server self.new.to_client (cancelled_as e.answer e.session self.old))))) }
+        ensures tells { OnOk result (C.tells carrier.old → C.tells carrier.new) }
+        // A connection that stands for one of the model stands for what the same cancel makes of it.
+        ensures alike { (size : ℕ) (engine : E) (c : Connection) → C.steady
+            → IsPlayed self.old.number size engine self.old (C.pipes carrier.old self.old.number) c
+            → up_underway (cancels c) ≤ 18446744073709551615
+            → IfOk result (λ done. (done ≡ done_as (outcome.Cancel (model.cancel_outcome (phase c))))
+            × IsPlayed self.old.number size engine self.new (C.pipes carrier.new self.old.number) (cancels c)) }
     {
         let mut out = Vec::new(alloc);
         let cancelled = self.cancel_request(&mut out)?;
@@ -319,6 +347,13 @@ impl<E: Engine + Drop> Link<E> {
         ensures others { OnOk result (AreSame (C.pipes carrier.old) (C.pipes carrier.new) self.old.number) }
         ensures worked { IfOk result (λ done. (done.outcome ≡ outcome.Work (worked_outcome (worked self.old.server).answer))
             × (self.new ≡ unless_lost done.lost (recounted self.new.to_server self.new.to_client (worked_as (worked self.old.server) self.old)))) }
+        ensures tells { OnOk result (C.tells carrier.old → C.tells carrier.new) }
+        // A connection that stands for one of the model stands for what the same work makes of it.
+        ensures alike { (size : ℕ) (engine : E) (c : Connection) → C.steady
+            → IsPlayed self.old.number size engine self.old (C.pipes carrier.old self.old.number) c
+            → EndsIfDue c.due → WorksOnNewest c c.due → (works c).past ≡ c.past → down_underway (works c) ≤ 18446744073709551615
+            → IfOk result (λ done. (done ≡ done_as (outcome.Work (work_outcome c.due)))
+            × IsPlayed self.old.number size engine self.new (C.pipes carrier.new self.old.number) (works c)) }
     {
         let mut out = Vec::new(alloc);
         let outcome = self.put_step(&mut out)?;

@@ -1,0 +1,221 @@
+-- A connection whose newest request is cancelled, in a play and in the model.
+use Rattle.std.specs.Prelude.{IfOk, is_none}
+use Rattle.std.proofs.Common.{◌≡◌, ◌≢◌, ◌≤◌, ◌∙◌, ℕ, Bool, true, false, cond, refl, sym, ap, subst, Option, Some, None, option_map, Result, Ok, Err, List, []}
+use Rattle.tds_client.specs.declared.fault.ClientRefusal.{ClientRefusal}
+use Rattle.tds_client.specs.declared.state.Cancelled.{Cancelled}
+use Rattle.tds_client.specs.declared.state.Cancelled.TheVariants as client
+use Rattle.tds_client.specs.Sending.{Effect, cancelled, cancelled_in, cancelled_sending}
+use Rattle.tds_client.specs.Session as session
+use Rattle.tds_client.specs.Session.{ClientSession, Stage, unless_idle}
+use Rattle.tds_packet.specs.declared.kind.Kind.{Kind}
+use Rattle.tds_server.specs.State.{ServerState, Message}
+use Rattle.tds_world.specs.declared.outcome.CancelOutcome.TheVariants as cancel
+use Rattle.tds_world.specs.declared.outcome.Outcome.TheVariants as outcome
+use Rattle.tds_world.specs.declared.report.Place.{Place}
+use Rattle.tds_world.specs.declared.report.RequestStatus.TheVariants as status
+use Rattle.tds_world.specs.Caller.{cancels, cancels_by, cancels_in}
+use Rattle.tds_world.specs.Caller as model
+use Rattle.tds_world.specs.Connection.{Connection, In, is_idle, phase, up_underway}
+use Rattle.tds_world.specs.Entries.{up_bytes}
+use Rattle.tds_world.specs.Phase.{Phase, Settled, Asked, Sending, Reading, Cancelling, phase_by, phase_in, phase_of, status_by}
+use Rattle.tds_world.specs.Pool.{Acted, comes_back, place_back, returned_as}
+use Rattle.tds_world.specs.Record.{Out, NotBegun, Begun, Whole}
+use Rattle.tds_world.specs.Record as world
+use Rattle.tds_play.specs.Acts.{cancel_outcome, cancelled_as, with_status}
+use Rattle.tds_play.specs.Alike.{CancelAlike, DoesCancel}
+use Rattle.tds_play.specs.Lending.{standing_by}
+use Rattle.tds_play.specs.Links.{placed_at}
+use Rattle.tds_play.specs.Pipe.{Pipe}
+use Rattle.tds_play.specs.Plays.{IsPlayed, after, outcome_of}
+use Rattle.tds_play.specs.Requests.{IsRequest, IsNewest}
+use Rattle.tds_play.specs.Stands.{IsOf, MatchesClient, MatchesServer, Sends}
+use Rattle.tds_play.specs.declared.link.Link.{Link}
+use Rattle.tds_play.specs.declared.link.Record.{Record}
+use Rattle.tds_play.proofs.Cancelling.{cancel_alike}
+use Rattle.tds_play.proofs.Matching.{client_same, server_same}
+use Rattle.tds_play.proofs.Outward.{HandedUp, sent_played}
+use Rattle.tds_play.proofs.Placed.{idle_alike}
+
+-- ---- The client
+
+either_size : (b : Bool) (x y : Effect Cancelled) (n : ℕ) → x.session.size ≡ n → y.session.size ≡ n → (cond b x y).session.size ≡ n
+either_size true x y n e f = e
+either_size false x y n e f = f
+
+begun_size : (s : ClientSession) (kind : Kind) (packets : ℕ) → (cancelled_sending s kind packets).session.size ≡ s.size
+unfolding cancelled_sending
+begun_size s kind packets = either_size _ _ _ s.size refl refl
+
+size_is : (r : Result (Effect Cancelled) ClientRefusal) (x e : Effect Cancelled) (n : ℕ) → r ≡ Ok x → r ≡ Ok e → x.session.size ≡ n → e.session.size ≡ n
+size_is r x e n is also h = let same : Ok x ≡ Ok e = sym is ∙ also in let eq : x ≡ e = cc in subst (λ (y : Effect Cancelled). y.session.size ≡ n) eq h
+
+size_in : (stage : Stage) (s : ClientSession) (e : Effect Cancelled) → cancelled_in s stage ≡ Ok e → e.session.size ≡ s.size
+size_in session.Idle s e is = size_is _ _ e s.size refl is refl
+size_in (session.Sending kind left packets) s e is = size_is _ _ e s.size refl is (begun_size s kind packets)
+size_in session.Reading s e is = size_is _ _ e s.size refl is refl
+size_in session.Cancelling s e is = size_is _ _ e s.size refl is refl
+size_in (session.Broken fault) s e is = absurd (cc)
+
+-- ---- What the model's cancelling leaves
+
+-- All that isn't the newest request's and isn't sent.
+record Leaves (c d : Connection) : Type 0 where
+  standing : d.standing ≡ c.standing
+  below : d.to_client ≡ c.to_client
+  past : d.past ≡ c.past
+  session : d.session ≡ c.session
+  parts : d.parts ≡ c.parts
+  due : d.due ≡ c.due
+  taken : d.taken ≡ c.taken
+  of : (m : Message) → IsOf m c.current → IsOf m d.current
+
+leaves_by : (p : Phase) (q : world.Record) (c : Connection) → c.current ≡ Some q → Leaves c (cancels_by p q c)
+leaves_by Settled q c is = record { standing = refl; below = refl; past = refl; session = refl; parts = refl; due = refl; taken = refl; of = λ m h. h }
+leaves_by Cancelling q c is = record { standing = refl; below = refl; past = refl; session = refl; parts = refl; due = refl; taken = refl; of = λ m h. h }
+leaves_by Asked q c is = record { standing = refl; below = refl; past = refl; session = refl; parts = refl; due = refl; taken = refl; of = λ m h. subst (IsOf m) is h }
+leaves_by Sending q c is = record { standing = refl; below = refl; past = refl; session = refl; parts = refl; due = refl; taken = refl; of = λ m h. subst (IsOf m) is h }
+leaves_by Reading q c is = record { standing = refl; below = refl; past = refl; session = refl; parts = refl; due = refl; taken = refl; of = λ m h. subst (IsOf m) is h }
+
+leaves_in : (current : Option world.Record) (c : Connection) → c.current ≡ current → Leaves c (cancels_in current c)
+leaves_in None c is = record { standing = refl; below = refl; past = refl; session = refl; parts = refl; due = refl; taken = refl; of = λ m h. h }
+leaves_in (Some q) c is = leaves_by (phase_of q) q c is
+
+-- ---- The newest request
+
+-- The newest request behind the client's answer.
+abbrev current_behind : Cancelled → Option Record → Option Record
+current_behind client.Nothing r = r
+current_behind client.Already r = r
+current_behind client.Unsent r = option_map (with_status status.Unsent) r
+current_behind client.Asked r = option_map (with_status status.Cancelling) r
+
+pub client_behind : {E S : Type 0} (a : Cancelled) (s : ClientSession) (link : Link E S) → (cancelled_as a s link).client ≡ s
+client_behind client.Nothing s link = refl
+client_behind client.Already s link = refl
+client_behind client.Unsent s link = refl
+client_behind client.Asked s link = refl
+
+link_by : {E S : Type 0} (a : Cancelled) (s : ClientSession) (link : Link E S) → cancelled_as a s link ≡ record link { client = s; current = current_behind a link.current }
+link_by client.Nothing s link = refl
+link_by client.Already s link = refl
+link_by client.Unsent s link = refl
+link_by client.Asked s link = refl
+
+-- One of which nothing was out is never sent.
+unsent_is : (fin ack can : Bool) (out : Out) → phase_by fin ack can out ≡ Asked → status.Unsent ≡ status_by fin ack false (phase_by fin ack true out)
+unsent_is true ack can out e = absurd (cc)
+unsent_is false true can out e = absurd (cc)
+unsent_is false false true NotBegun e = absurd (cc)
+unsent_is false false true (Begun n) e = absurd (cc)
+unsent_is false false true (Whole n) e = absurd (cc)
+unsent_is false false false NotBegun e = refl
+unsent_is false false false (Begun n) e = absurd (cc)
+unsent_is false false false (Whole n) e = absurd (cc)
+
+sending_is : (fin ack can : Bool) (out : Out) → phase_by fin ack can out ≡ Sending → status.Cancelling ≡ status_by fin ack false (phase_by fin ack true out)
+sending_is true ack can out e = absurd (cc)
+sending_is false true can out e = absurd (cc)
+sending_is false false true NotBegun e = absurd (cc)
+sending_is false false true (Begun n) e = absurd (cc)
+sending_is false false true (Whole n) e = absurd (cc)
+sending_is false false false NotBegun e = absurd (cc)
+sending_is false false false (Begun n) e = refl
+sending_is false false false (Whole n) e = absurd (cc)
+
+reading_is : (fin ack can : Bool) (out : Out) → phase_by fin ack can out ≡ Reading → status.Cancelling ≡ status_by fin ack false (phase_by fin ack true out)
+reading_is true ack can out e = absurd (cc)
+reading_is false true can out e = absurd (cc)
+reading_is false false true NotBegun e = absurd (cc)
+reading_is false false true (Begun n) e = absurd (cc)
+reading_is false false true (Whole n) e = absurd (cc)
+reading_is false false false NotBegun e = absurd (cc)
+reading_is false false false (Begun n) e = absurd (cc)
+reading_is false false false (Whole n) e = refl
+
+with_status_of : (number : ℕ) (r : Option Record) (q : world.Record) (s : _) → s ≡ status_by q.finished q.acknowledged false (phase_by q.finished q.acknowledged true q.out) → IsNewest number false r (Some q) → IsNewest number false (option_map (with_status s) r) (Some (world.cancelled q))
+with_status_of number None q s e h = absurd h
+with_status_of number (Some r) q s e h = record { lease = h.lease; conn = h.conn; mark = h.mark; status = e; ran = h.ran; tokens = h.tokens }
+
+newest_by : (p : Phase) (a : Cancelled) (number : ℕ) (r : Option Record) (q : world.Record) (c : Connection) → c.current ≡ Some q → phase_of q ≡ p → model.cancel_outcome p ≡ cancel_outcome a → IsNewest number false r (Some q) → IsNewest number false (current_behind a r) (cancels_by p q c).current
+newest_by Settled client.Nothing number r q c is at told h = subst (IsNewest number false r) (sym is) h
+newest_by Settled client.Already number r q c is at told h = absurd (cc)
+newest_by Settled client.Unsent number r q c is at told h = absurd (cc)
+newest_by Settled client.Asked number r q c is at told h = absurd (cc)
+newest_by Cancelling client.Nothing number r q c is at told h = absurd (cc)
+newest_by Cancelling client.Already number r q c is at told h = subst (IsNewest number false r) (sym is) h
+newest_by Cancelling client.Unsent number r q c is at told h = absurd (cc)
+newest_by Cancelling client.Asked number r q c is at told h = absurd (cc)
+newest_by Asked client.Nothing number r q c is at told h = absurd (cc)
+newest_by Asked client.Already number r q c is at told h = absurd (cc)
+newest_by Asked client.Unsent number r q c is at told h = with_status_of number r q status.Unsent (unsent_is q.finished q.acknowledged q.cancelled q.out at) h
+newest_by Asked client.Asked number r q c is at told h = absurd (cc)
+newest_by Sending client.Nothing number r q c is at told h = absurd (cc)
+newest_by Sending client.Already number r q c is at told h = absurd (cc)
+newest_by Sending client.Unsent number r q c is at told h = absurd (cc)
+newest_by Sending client.Asked number r q c is at told h = with_status_of number r q status.Cancelling (sending_is q.finished q.acknowledged q.cancelled q.out at) h
+newest_by Reading client.Nothing number r q c is at told h = absurd (cc)
+newest_by Reading client.Already number r q c is at told h = absurd (cc)
+newest_by Reading client.Unsent number r q c is at told h = absurd (cc)
+newest_by Reading client.Asked number r q c is at told h = with_status_of number r q status.Cancelling (reading_is q.finished q.acknowledged q.cancelled q.out at) h
+
+newest_in : (current : Option world.Record) (a : Cancelled) (number : ℕ) (r : Option Record) (c : Connection) → c.current ≡ current → model.cancel_outcome (phase_in current) ≡ cancel_outcome a → IsNewest number false r current → IsNewest number false (current_behind a r) (cancels_in current c).current
+newest_in None client.Nothing number r c is told h = subst (IsNewest number false r) (sym is) h
+newest_in None client.Already number r c is told h = absurd (cc)
+newest_in None client.Unsent number r c is told h = absurd (cc)
+newest_in None client.Asked number r c is told h = absurd (cc)
+newest_in (Some q) a number r c is told h = newest_by (phase_of q) a number r q c is refl told h
+
+-- ---- The connection then
+
+-- It was cancelled, and the connection may stand elsewhere then.
+cancelled_at : {E S : Type 0} (number size : ℕ) (engine : E) (link new : Link E S) (p : Place) (pipe then : Option Pipe) (c d : Connection) (bytes : List ℕ)
+    → IsPlayed number size engine link pipe c → link.is_cut ≡ false
+    → (a : CancelAlike link.client c) → bytes ≡ a.0.bytes
+    → d ≡ record (cancels c) { standing = In p }
+    → up_underway (cancels c) ≤ 18446744073709551615
+    → HandedUp (record link { client = a.0.session; current = current_behind a.0.answer link.current; place = p }) new pipe then bytes
+    → IsPlayed number size engine new then d
+cancelled_at {E} {S} number size engine link new p pipe then c d bytes i live a out at few h =
+    let e = a.0 in
+    let v = (i.lives live).stands in
+    let l = leaves_in c.current c refl in
+    let x : Connection = record (cancels c) { standing = In p } in
+    subst (λ (y : Connection). IsPlayed number size engine new then y) (sym at)
+    (sent_played number size engine link new e.session (current_behind e.answer link.current) p pipe then c x bytes i live h refl
+    (size_in link.client.stage link.client e a.1)
+    (client_same e.session (cancels c) x refl refl refl a.3)
+    (server_same link.server c x l.session l.parts l.due l.taken (λ m some of. l.of m of) v.server)
+    (subst (λ (bs : List ℕ). Sends up_bytes bs c.to_server (cancels c).to_server) (sym out) a.4)
+    l.below l.past
+    (newest_in c.current e.answer number link.current c refl a.2 (subst (λ (b : Bool). IsNewest number b link.current c.current) live i.newest))
+    few)
+
+pub cancelled_played : {E S : Type 0} (number size : ℕ) (engine : E) (link mid new : Link E S) (pipe then : Option Pipe) (c : Connection) (bytes : List ℕ)
+    → IsPlayed number size engine link pipe c → link.is_cut ≡ false
+    → (a : CancelAlike link.client c) → mid ≡ cancelled_as a.0.answer a.0.session link → bytes ≡ a.0.bytes
+    → up_underway (cancels c) ≤ 18446744073709551615
+    → HandedUp mid new pipe then bytes
+    → IsPlayed number size engine new then (cancels c)
+cancelled_played {E} {S} number size engine link mid new pipe then c bytes i live a is out few h =
+    let l = leaves_in c.current c refl in
+    cancelled_at number size engine link new link.place pipe then c (cancels c) bytes i live a out
+    (ap (λ s. record (cancels c) { standing = s }) (l.standing ∙ sym i.standing ∙ ap (λ (b : Bool). standing_by b link.place) live))
+    few
+    (subst (λ (x : Link E S). HandedUp x new pipe then bytes) (is ∙ link_by a.0.answer a.0.session link) h)
+
+-- The lease ends then.
+pub back_played : {E S : Type 0} (number size : ℕ) (engine : E) (link mid new : Link E S) (idle : Bool) (pipe then : Option Pipe) (c : Connection) (bytes : List ℕ)
+    → IsPlayed number size engine link pipe c → link.is_cut ≡ false
+    → (a : CancelAlike link.client c) → mid ≡ placed_at (place_back idle) (cancelled_as a.0.answer a.0.session link) → bytes ≡ a.0.bytes
+    → idle ≡ is_none (unless_idle a.0.session.stage)
+    → up_underway (cancels c) ≤ 18446744073709551615
+    → HandedUp mid new pipe then bytes
+    → (outcome.GivenBack (returned_as idle) ≡ outcome_of (comes_back (cancels c))) × IsPlayed number size engine new then (after (comes_back (cancels c)) c)
+back_played {E} {S} number size engine link mid new idle pipe then c bytes i live a is out waits few h =
+    let same : idle ≡ is_idle (cancels c) = waits ∙ idle_alike a.0.session (cancels c) a.3 in (
+      ap (λ (b : Bool). outcome.GivenBack (returned_as b)) same,
+      cancelled_at number size engine link new (place_back idle) pipe then c (after (comes_back (cancels c)) c) bytes i live a out
+          (ap (λ (b : Bool). record (cancels c) { standing = In (place_back b) }) (sym same))
+          few
+          (subst (λ (x : Link E S). HandedUp x new pipe then bytes) (is ∙ ap (placed_at (place_back idle)) (link_by a.0.answer a.0.session link)) h),
+    )

@@ -1,0 +1,214 @@
+-- What an event sends, from either end: the connection then, in a play and in the model.
+use Rattle.std.proofs.Common.{◌≡◌, ◌≢◌, ◌≤◌, ◌∙◌, ◌+◌, ℕ, Bool, true, false, cond, refl, sym, ap, subst, Option, Some, None, List, [], ◌∷◌, ◌++◌, length, arith}
+use Rattle.tds_client.specs.Session.{ClientSession}
+use Rattle.tds_packet.specs.declared.kind.Direction.TheVariants.{ToServer, ToClient}
+use Rattle.tds_packet.specs.Reading.{Reading}
+use Rattle.tds_server.specs.State.{ServerState}
+use Rattle.tds_world.specs.declared.report.Place.{Place}
+use Rattle.tds_world.specs.Connection.{Connection, In, up_underway, down_underway}
+use Rattle.tds_world.specs.Entries.{Up, Down, up_bytes, down_bytes}
+use Rattle.tds_world.specs.Lane.{Lane, sent_bytes, underway}
+use Rattle.tds_world.specs.Record as world
+use Rattle.tds_play.specs.Between.{IsLane, Stands}
+use Rattle.tds_play.specs.Lending.{standing_by, standing_of}
+use Rattle.tds_play.specs.Pipe.{Pipe, Traffic, traffic, sent, sent_on, IsOpen}
+use Rattle.tds_play.specs.Plays.{IsPlayed, Lives}
+use Rattle.tds_play.specs.Requests.{AreOlder, IsNewest}
+use Rattle.tds_play.specs.Stands.{MatchesClient, MatchesServer, Sends}
+use Rattle.tds_play.specs.Ties.{saturated, with_counted}
+use Rattle.tds_play.specs.declared.link.Link.{Link}
+use Rattle.tds_play.specs.declared.link.Record.{Record}
+use Rattle.tds_play.proofs.Between.{lane_sent}
+use Rattle.tds_play.proofs.Lanes.{sent_more}
+use Rattle.tds_play.proofs.ServerEvent.{sent_none, count_by}
+
+-- ---- Handing over
+
+-- These bytes were handed over towards the server, and counted, and nothing failed.
+pub record HandedUp {E S : Type 0} (mid new : Link E S) (pipe after : Option Pipe) (bytes : List ℕ) : Type 0 where
+  pub link : new ≡ record mid { to_server = new.to_server }
+  pub counts : mid.to_server + length bytes ≤ 18446744073709551615 → new.to_server ≡ mid.to_server + length bytes
+  pub up : traffic after ToServer ≡ sent (traffic pipe ToServer) bytes 0
+  pub down : traffic after ToClient ≡ traffic pipe ToClient
+
+-- The same towards the client.
+pub record HandedDown {E S : Type 0} (mid new : Link E S) (pipe after : Option Pipe) (bytes : List ℕ) : Type 0 where
+  pub link : new ≡ record mid { to_client = new.to_client }
+  pub counts : mid.to_client + length bytes ≤ 18446744073709551615 → new.to_client ≡ mid.to_client + length bytes
+  pub up : traffic after ToServer ≡ traffic pipe ToServer
+  pub down : traffic after ToClient ≡ sent (traffic pipe ToClient) bytes 0
+
+handed_up : {E S : Type 0} (mid new : Link E S) (pipe after : Option Pipe) (bytes : List ℕ) → IsOpen pipe
+    → (bytes ≡ [] → (new ≡ mid) × (after ≡ pipe))
+    → (bytes ≢ [] → (new ≡ with_counted mid ToServer (saturated (mid.to_server + length bytes))) × (after ≡ sent_on pipe ToServer bytes 0))
+    → HandedUp mid new pipe after bytes
+handed_up mid new None after bytes open_ none some = absurd open_
+handed_up mid new (Some p) after [] open_ none some =
+    let h = none refl in
+    record {
+      link = h.0 ∙ ap (λ (n : ℕ). record mid { to_server = n }) (ap (λ l. l.to_server) (sym h.0));
+      counts = count_by mid.to_server new.to_server [] (λ e. ap (λ l. l.to_server) h.0) (λ full. absurd (full refl));
+      up = ap (λ o. traffic o ToServer) h.1 ∙ sent_none p.to_server;
+      down = ap (λ o. traffic o ToClient) h.1;
+    }
+handed_up mid new (Some p) after (b ∷ bs) open_ none some =
+    let h = some (λ e. absurd (cc)) in
+    record {
+      link = h.0 ∙ ap (λ (n : ℕ). record mid { to_server = n }) (ap (λ l. l.to_server) (sym h.0));
+      counts = count_by mid.to_server new.to_server (b ∷ bs) (λ e. absurd (cc)) (λ full. ap (λ l. l.to_server) h.0);
+      up = ap (λ o. traffic o ToServer) h.1;
+      down = ap (λ o. traffic o ToClient) h.1;
+    }
+
+handed_down : {E S : Type 0} (mid new : Link E S) (pipe after : Option Pipe) (bytes : List ℕ) → IsOpen pipe
+    → (bytes ≡ [] → (new ≡ mid) × (after ≡ pipe))
+    → (bytes ≢ [] → (new ≡ with_counted mid ToClient (saturated (mid.to_client + length bytes))) × (after ≡ sent_on pipe ToClient bytes 0))
+    → HandedDown mid new pipe after bytes
+handed_down mid new None after bytes open_ none some = absurd open_
+handed_down mid new (Some p) after [] open_ none some =
+    let h = none refl in
+    record {
+      link = h.0 ∙ ap (λ (n : ℕ). record mid { to_client = n }) (ap (λ l. l.to_client) (sym h.0));
+      counts = count_by mid.to_client new.to_client [] (λ e. ap (λ l. l.to_client) h.0) (λ full. absurd (full refl));
+      up = ap (λ o. traffic o ToServer) h.1;
+      down = ap (λ o. traffic o ToClient) h.1 ∙ sent_none p.to_client;
+    }
+handed_down mid new (Some p) after (b ∷ bs) open_ none some =
+    let h = some (λ e. absurd (cc)) in
+    record {
+      link = h.0 ∙ ap (λ (n : ℕ). record mid { to_client = n }) (ap (λ l. l.to_client) (sym h.0));
+      counts = count_by mid.to_client new.to_client (b ∷ bs) (λ e. absurd (cc)) (λ full. ap (λ l. l.to_client) h.0);
+      up = ap (λ o. traffic o ToServer) h.1;
+      down = ap (λ o. traffic o ToClient) h.1;
+    }
+
+-- What was handed over on the connection of this number, and what the end of the event left.
+pub ended_up : {E S : Type 0} (n : ℕ) (mid out new : Link E S) (before after last : ℕ → Option Pipe) (bytes : List ℕ) (lost : Bool) (lose : Link E S)
+    → mid.number ≡ n → lost ≡ false → IsOpen (before n)
+    → new ≡ cond lost lose out → last ≡ after
+    → (bytes ≡ [] → (out ≡ mid) × (after ≡ before))
+    → (bytes ≢ [] → after mid.number ≡ sent_on (before mid.number) ToServer bytes (cond lost 1 0))
+    → (bytes ≢ [] → out ≡ with_counted mid ToServer (saturated (mid.to_server + length bytes)))
+    → HandedUp mid new (before n) (last n) bytes
+ended_up n mid out new before after last bytes lost lose at whole open_ is kept none handed counted =
+    let same : new ≡ out = is ∙ ap (λ (b : Bool). cond b lose out) whole in
+    handed_up mid new (before n) (last n) bytes open_
+    (λ e. (same ∙ (none e).0, ap (λ f. f n) kept ∙ ap (λ f. f n) (none e).1))
+    (λ full. (
+      same ∙ counted full,
+      ap (λ f. f n) kept
+          ∙ subst (λ (k : ℕ). after k ≡ sent_on (before k) ToServer bytes (cond lost 1 0)) at (handed full)
+          ∙ ap (λ (b : Bool). sent_on (before n) ToServer bytes (cond b 1 0)) whole,
+    ))
+
+pub ended_down : {E S : Type 0} (n : ℕ) (mid out new : Link E S) (before after last : ℕ → Option Pipe) (bytes : List ℕ) (lost : Bool) (lose : Link E S)
+    → mid.number ≡ n → lost ≡ false → IsOpen (before n)
+    → new ≡ cond lost lose out → last ≡ after
+    → (bytes ≡ [] → (out ≡ mid) × (after ≡ before))
+    → (bytes ≢ [] → after mid.number ≡ sent_on (before mid.number) ToClient bytes (cond lost 1 0))
+    → (bytes ≢ [] → out ≡ with_counted mid ToClient (saturated (mid.to_client + length bytes)))
+    → HandedDown mid new (before n) (last n) bytes
+ended_down n mid out new before after last bytes lost lose at whole open_ is kept none handed counted =
+    let same : new ≡ out = is ∙ ap (λ (b : Bool). cond b lose out) whole in
+    handed_down mid new (before n) (last n) bytes open_
+    (λ e. (same ∙ (none e).0, ap (λ f. f n) kept ∙ ap (λ f. f n) (none e).1))
+    (λ full. (
+      same ∙ counted full,
+      ap (λ f. f n) kept
+          ∙ subst (λ (k : ℕ). after k ≡ sent_on (before k) ToClient bytes (cond lost 1 0)) at (handed full)
+          ∙ ap (λ (b : Bool). sent_on (before n) ToClient bytes (cond b 1 0)) whole,
+    ))
+
+-- ---- The connection then
+
+-- The client did it: it sent these bytes, and the connection's newest request and place may have changed.
+pub sent_played : {E S : Type 0} (number size : ℕ) (engine : E) (link new : Link E S) (s : ClientSession) (q : Option Record) (p : Place) (pipe after : Option Pipe) (c d : Connection) (bytes : List ℕ)
+    → IsPlayed number size engine link pipe c → link.is_cut ≡ false
+    → HandedUp (record link { client = s; current = q; place = p }) new pipe after bytes
+    → d.standing ≡ In p → s.size ≡ link.client.size
+    → MatchesClient s d → MatchesServer link.server d
+    → Sends up_bytes bytes c.to_server d.to_server → d.to_client ≡ c.to_client
+    → d.past ≡ c.past → IsNewest number false q d.current
+    → up_underway d ≤ 18446744073709551615
+    → IsPlayed number size engine new after d
+sent_played {E} {S} number size engine link new s q p pipe after c d bytes i live h standing sized client server sends below past newest few = record {
+  numbered = ap (λ l. l.number) h.link ∙ i.numbered;
+  standing = ap standing_of h.link ∙ ap (λ (b : Bool). standing_by b p) live ∙ sym standing;
+  older =
+      subst (λ (l : Link E S). AreOlder number l.is_cut l.past.items d.past) (sym h.link)
+      (subst (λ (qs : List world.Record). AreOlder number link.is_cut link.past.items qs) (sym past) i.older);
+  newest =
+      subst (λ (l : Link E S). IsNewest number l.is_cut l.current d.current) (sym h.link)
+      (subst (λ (b : Bool). IsNewest number b q d.current) (sym live) newest);
+  to_server = ap (λ t. t.handed) h.up ∙ ap (λ (xs : List ℕ). xs ++ bytes) i.to_server ∙ sym (sent_more up_bytes bytes c.to_server d.to_server sends);
+  to_client = ap (λ t. t.handed) h.down ∙ i.to_client ∙ ap (sent_bytes down_bytes) (sym below);
+  lives = λ uncut.
+      let v = i.lives live in
+      let lane : (now : ℕ) → now ≡ link.to_server + length bytes → IsLane up_bytes (sent (traffic pipe ToServer) bytes 0) d.to_server link.server_reader.taken now = λ now e. lane_sent up_bytes bytes (traffic pipe ToServer) c.to_server d.to_server link.server_reader.taken link.to_server now v.stands.up sends e in
+      let counts : new.to_server ≡ link.to_server + length bytes = h.counts (omega (arith, (lane (link.to_server + length bytes) refl).counts, few)) in
+      record {
+        stands = record {
+          client = subst (λ (l : Link E S). MatchesClient l.client d) (sym h.link) client;
+          server = subst (λ (l : Link E S). MatchesServer l.server d) (sym h.link) server;
+          up =
+              subst (λ (t : Traffic). IsLane up_bytes t d.to_server new.server_reader.taken new.to_server) (sym h.up)
+              (subst (λ (r : Reading). IsLane up_bytes (sent (traffic pipe ToServer) bytes 0) d.to_server r.taken new.to_server) (sym (ap (λ l. l.server_reader) h.link)) (lane new.to_server counts));
+          down =
+              subst (λ (t : Traffic). IsLane down_bytes t d.to_client new.client_reader.taken new.to_client) (sym h.down)
+              (subst (λ (lane : Lane Down). IsLane down_bytes (traffic pipe ToClient) lane new.client_reader.taken new.to_client) (sym below)
+              (subst (λ (l : Link E S). IsLane down_bytes (traffic pipe ToClient) c.to_client l.client_reader.taken l.to_client) (sym h.link) v.stands.down));
+        };
+        engine_is = ap (λ l. l.server.engine) h.link ∙ v.engine_is;
+        size_is = ap (λ l. l.client.size) h.link ∙ sized ∙ v.size_is;
+        server_reads = ap (λ l. l.server_reader.direction) h.link ∙ v.server_reads;
+        server_size = ap (λ l. l.server_reader.size) h.link ∙ v.server_size;
+        client_reads = ap (λ l. l.client_reader.direction) h.link ∙ v.client_reads;
+        client_size = ap (λ l. l.client_reader.size) h.link ∙ v.client_size;
+      };
+}
+
+-- The server did it: it sent these bytes, and the newest request may have changed.
+pub replied_played : {E S : Type 0} (number size : ℕ) (engine : E) (link new : Link E S) (s : ServerState E) (q : Option Record) (pipe after : Option Pipe) (c d : Connection) (bytes : List ℕ)
+    → IsPlayed number size engine link pipe c → link.is_cut ≡ false
+    → HandedDown (record link { server = s; current = q }) new pipe after bytes
+    → d.standing ≡ c.standing → s.engine ≡ link.server.engine
+    → MatchesClient link.client d → MatchesServer s d
+    → Sends down_bytes bytes c.to_client d.to_client → d.to_server ≡ c.to_server
+    → d.past ≡ c.past → IsNewest number false q d.current
+    → down_underway d ≤ 18446744073709551615
+    → IsPlayed number size engine new after d
+replied_played {E} {S} number size engine link new s q pipe after c d bytes i live h standing same client server sends above past newest few = record {
+  numbered = ap (λ l. l.number) h.link ∙ i.numbered;
+  standing = ap standing_of h.link ∙ i.standing ∙ sym standing;
+  older =
+      subst (λ (l : Link E S). AreOlder number l.is_cut l.past.items d.past) (sym h.link)
+      (subst (λ (qs : List world.Record). AreOlder number link.is_cut link.past.items qs) (sym past) i.older);
+  newest =
+      subst (λ (l : Link E S). IsNewest number l.is_cut l.current d.current) (sym h.link)
+      (subst (λ (b : Bool). IsNewest number b q d.current) (sym live) newest);
+  to_server = ap (λ t. t.handed) h.up ∙ i.to_server ∙ ap (sent_bytes up_bytes) (sym above);
+  to_client = ap (λ t. t.handed) h.down ∙ ap (λ (xs : List ℕ). xs ++ bytes) i.to_client ∙ sym (sent_more down_bytes bytes c.to_client d.to_client sends);
+  lives = λ uncut.
+      let v = i.lives live in
+      let lane : (now : ℕ) → now ≡ link.to_client + length bytes → IsLane down_bytes (sent (traffic pipe ToClient) bytes 0) d.to_client link.client_reader.taken now = λ now e. lane_sent down_bytes bytes (traffic pipe ToClient) c.to_client d.to_client link.client_reader.taken link.to_client now v.stands.down sends e in
+      let counts : new.to_client ≡ link.to_client + length bytes = h.counts (omega (arith, (lane (link.to_client + length bytes) refl).counts, few)) in
+      record {
+        stands = record {
+          client = subst (λ (l : Link E S). MatchesClient l.client d) (sym h.link) client;
+          server = subst (λ (l : Link E S). MatchesServer l.server d) (sym h.link) server;
+          up =
+              subst (λ (t : Traffic). IsLane up_bytes t d.to_server new.server_reader.taken new.to_server) (sym h.up)
+              (subst (λ (lane : Lane Up). IsLane up_bytes (traffic pipe ToServer) lane new.server_reader.taken new.to_server) (sym above)
+              (subst (λ (l : Link E S). IsLane up_bytes (traffic pipe ToServer) c.to_server l.server_reader.taken l.to_server) (sym h.link) v.stands.up));
+          down =
+              subst (λ (t : Traffic). IsLane down_bytes t d.to_client new.client_reader.taken new.to_client) (sym h.down)
+              (subst (λ (r : Reading). IsLane down_bytes (sent (traffic pipe ToClient) bytes 0) d.to_client r.taken new.to_client) (sym (ap (λ l. l.client_reader) h.link)) (lane new.to_client counts));
+        };
+        engine_is = ap (λ l. l.server.engine) h.link ∙ same ∙ v.engine_is;
+        size_is = ap (λ l. l.client.size) h.link ∙ v.size_is;
+        server_reads = ap (λ l. l.server_reader.direction) h.link ∙ v.server_reads;
+        server_size = ap (λ l. l.server_reader.size) h.link ∙ v.server_size;
+        client_reads = ap (λ l. l.client_reader.direction) h.link ∙ v.client_reads;
+        client_size = ap (λ l. l.client_reader.size) h.link ∙ v.client_size;
+      };
+}

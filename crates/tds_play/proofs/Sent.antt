@@ -1,0 +1,195 @@
+-- A connection on which a request's next packet goes out, in a play and in the model.
+use Rattle.std.specs.Prelude.{is_ok, IfOk}
+use Rattle.std.proofs.Common.{◌≡◌, ◌≤◌, ◌∙◌, ◌-◌, ◌+◌, ℕ, Bool, true, false, cond, refl, sym, ap, subst, Option, Some, None, Result, Ok, Err, List, ◌++◌}
+use Rattle.tds_client.specs.declared.fault.ClientRefusal.{ClientRefusal}
+use Rattle.tds_client.specs.declared.state.Sent.{Sent}
+use Rattle.tds_client.specs.Sending.{Effect, sent, sent_in, sent_of, room}
+use Rattle.tds_client.specs.Session as client
+use Rattle.tds_client.specs.Session.{ClientSession, Stage}
+use Rattle.tds_packet.specs.declared.kind.Kind.{Kind}
+use Rattle.tds_world.specs.declared.outcome.Outcome.{Outcome}
+use Rattle.tds_world.specs.declared.outcome.Outcome.TheVariants as outcome
+use Rattle.tds_world.specs.declared.outcome.Refusal.{Refusal}
+use Rattle.tds_world.specs.declared.outcome.Refusal.TheVariants.{NotSending}
+use Rattle.tds_world.specs.declared.outcome.SendOutcome.{SendOutcome}
+use Rattle.tds_world.specs.Caller.{sends, sends_by, sends_last}
+use Rattle.tds_world.specs.Connection.{Connection, Standing, In, phase, up_underway}
+use Rattle.tds_world.specs.Events.{sends_in}
+use Rattle.tds_world.specs.Phase.{Phase, Settled, Asked, Sending, Reading, Cancelling, phase_by, phase_in, phase_of, status_by}
+use Rattle.tds_world.specs.Pool.{Acted, Refuses, Does}
+use Rattle.tds_world.specs.Record.{Out, NotBegun, Begun, Whole, packets_of}
+use Rattle.tds_world.specs.Record as world
+use Rattle.tds_play.specs.Acts.{with_client}
+use Rattle.tds_play.specs.Alike.{SendAlike, send_outcome}
+use Rattle.tds_play.specs.Lending.{standing_by}
+use Rattle.tds_play.specs.Pipe.{Pipe}
+use Rattle.tds_play.specs.Plays.{IsPlayed, after, outcome_of}
+use Rattle.tds_play.specs.Requests.{IsRequest, IsNewest}
+use Rattle.tds_play.specs.Stands.{is_sending, MatchesServer}
+use Rattle.tds_play.specs.declared.link.Link.{Link}
+use Rattle.tds_play.specs.declared.link.Record.{Record}
+use Rattle.tds_play.proofs.Kept.{sends_kept}
+use Rattle.tds_play.proofs.Outward.{HandedUp, sent_played}
+use Rattle.tds_play.proofs.Sending.{send_alike}
+
+-- ---- The client
+
+either_size : (b : Bool) (x y : Effect Sent) (n : ℕ) → x.session.size ≡ n → y.session.size ≡ n → (cond b x y).session.size ≡ n
+either_size true x y n e f = e
+either_size false x y n e f = f
+
+packet_size : (s : ClientSession) (kind : Kind) (left : List ℕ) (packets : ℕ) → (sent_of s kind left packets).session.size ≡ s.size
+unfolding sent_of
+packet_size s kind left packets = either_size _ _ _ s.size refl refl
+
+ok_is : {A B : Type 0} (x y : A) (r : Result A B) → r ≡ Ok x → r ≡ Ok y → x ≡ y
+ok_is x y r e f = let same : Ok x ≡ Ok y = sym e ∙ f in cc
+
+size_in : (stage : Stage) (s : ClientSession) (e : Effect Sent) → sent_in s stage ≡ Ok e → e.session.size ≡ s.size
+size_in client.Idle s e is = absurd (cc)
+size_in (client.Sending kind left packets) s e is =
+    ap (λ (x : Effect Sent). x.session.size) (sym (ok_is (sent_of s kind left packets) e (Ok (sent_of s kind left packets)) refl is)) ∙ packet_size s kind left packets
+size_in client.Reading s e is = absurd (cc)
+size_in client.Cancelling s e is = absurd (cc)
+size_in (client.Broken fault) s e is = absurd (cc)
+
+-- ---- What the model's sending leaves
+
+-- It is a request's that is sending.
+record IsSent (room : ℕ) (c : Connection) (current : Option world.Record) (p : Phase) (d : Connection) : Type 0 where
+  request : world.Record
+  newest : current ≡ Some request
+  sending : is_sending p ≡ true
+  then : d ≡ sends room request c
+
+does_is : (x y : Outcome) (c d : Connection) → Does x c ≡ Does y d → c ≡ d
+does_is x y c d e = cc
+
+sent_where : (p : Phase) (room : ℕ) (current : Option world.Record) (c d : Connection) (what : Outcome) → sends_in p room current c ≡ Does what d → IsSent room c current p d
+sent_where Settled room None c d what e = absurd (cc)
+sent_where Settled room (Some q) c d what e = absurd (cc)
+sent_where Asked room None c d what e = absurd (cc)
+sent_where Asked room (Some q) c d what e = record { request = q; newest = refl; sending = refl; then = sym (does_is _ what _ d e) }
+sent_where Sending room None c d what e = absurd (cc)
+sent_where Sending room (Some q) c d what e = record { request = q; newest = refl; sending = refl; then = sym (does_is _ what _ d e) }
+sent_where Reading room None c d what e = absurd (cc)
+sent_where Reading room (Some q) c d what e = absurd (cc)
+sent_where Cancelling room None c d what e = absurd (cc)
+sent_where Cancelling room (Some q) c d what e = absurd (cc)
+
+standing_by_last : (b : Bool) (room : ℕ) (q : world.Record) (c : Connection) → (sends_by b room q c).standing ≡ c.standing
+standing_by_last true room q c = refl
+standing_by_last false room q c = refl
+
+below_by_last : (b : Bool) (room : ℕ) (q : world.Record) (c : Connection) → (sends_by b room q c).to_client ≡ c.to_client
+below_by_last true room q c = refl
+below_by_last false room q c = refl
+
+past_by_last : (b : Bool) (room : ℕ) (q : world.Record) (c : Connection) → (sends_by b room q c).past ≡ c.past
+past_by_last true room q c = refl
+past_by_last false room q c = refl
+
+-- ---- The newest request
+
+-- It is open before and after.
+begun_open : (fin ack can : Bool) (out : Out) (n : ℕ) → is_sending (phase_by fin ack can out) ≡ true → status_by fin ack false (phase_by fin ack can out) ≡ status_by fin ack false (phase_by fin ack can (Begun n))
+begun_open true ack can out n e = absurd (cc)
+begun_open false true can out n e = absurd (cc)
+begun_open false false true NotBegun n e = absurd (cc)
+begun_open false false true (Begun k) n e = absurd (cc)
+begun_open false false true (Whole k) n e = absurd (cc)
+begun_open false false false NotBegun n e = refl
+begun_open false false false (Begun k) n e = refl
+begun_open false false false (Whole k) n e = absurd (cc)
+
+whole_open : (fin ack can : Bool) (out : Out) (n : ℕ) → is_sending (phase_by fin ack can out) ≡ true → status_by fin ack false (phase_by fin ack can out) ≡ status_by fin ack false (phase_by fin ack can (Whole n))
+whole_open true ack can out n e = absurd (cc)
+whole_open false true can out n e = absurd (cc)
+whole_open false false true NotBegun n e = absurd (cc)
+whole_open false false true (Begun k) n e = absurd (cc)
+whole_open false false true (Whole k) n e = absurd (cc)
+whole_open false false false NotBegun n e = refl
+whole_open false false false (Begun k) n e = refl
+whole_open false false false (Whole k) n e = absurd (cc)
+
+newest_sent : (b : Bool) (room number : ℕ) (r : Option Record) (q : world.Record) (c : Connection) → is_sending (phase_of q) ≡ true → IsNewest number false r (Some q) → IsNewest number false r (sends_by b room q c).current
+newest_sent b room number None q c e h = absurd h
+newest_sent true room number (Some r) q c e h = record { lease = h.lease; conn = h.conn; mark = h.mark; status = h.status ∙ whole_open q.finished q.acknowledged q.cancelled q.out (packets_of q.out + 1) e; ran = h.ran; tokens = h.tokens }
+newest_sent false room number (Some r) q c e h = record { lease = h.lease; conn = h.conn; mark = h.mark; status = h.status ∙ begun_open q.finished q.acknowledged q.cancelled q.out (packets_of q.out + 1) e; ran = h.ran; tokens = h.tokens }
+
+-- ---- The connection then
+
+-- What the model's sending came to: the newest request sent this.
+next_sent : {E S : Type 0} (number size room : ℕ) (engine : E) (link new : Link E S) (pipe then : Option Pipe) (c : Connection) (e : Effect Sent) (a : Acted)
+    → IsPlayed number size engine link pipe c → link.is_cut ≡ false
+    → sends_in (phase c) room c.current c ≡ a → SendAlike c (Ok e) a → e.session.size ≡ link.client.size
+    → up_underway (after a c) ≤ 18446744073709551615
+    → HandedUp (with_client e.session link) new pipe then e.bytes
+    → (outcome.Sent (send_outcome e.answer) ≡ outcome_of a) × IsPlayed number size engine new then (after a c)
+next_sent number size room engine link new pipe then c e (Refuses why) i live is alike sized few h = absurd alike
+next_sent number size room engine link new pipe then c e (Does what d) i live is alike sized few h =
+    let w = sent_where (phase c) room c.current c d what is in
+    let v = (i.lives live).stands in
+    let last : Bool = sends_last room w.request in
+    let sending : is_sending (phase_of w.request) ≡ true = ap (λ o. is_sending (phase_in o)) (sym w.newest) ∙ w.sending in (
+      sym alike.0,
+      sent_played number size engine link new e.session link.current link.place pipe then c d e.bytes i live h
+          (ap (λ x. x.standing) w.then ∙ standing_by_last last room w.request c ∙ sym i.standing ∙ ap (λ (b : Bool). standing_by b link.place) live)
+          sized alike.1
+          (subst (λ (x : Connection). MatchesServer link.server x) (sym w.then) (sends_kept room link.server c w.request w.newest v.server))
+          alike.2
+          (ap (λ x. x.to_client) w.then ∙ below_by_last last room w.request c)
+          (ap (λ x. x.past) w.then ∙ past_by_last last room w.request c)
+          (subst (λ (x : Connection). IsNewest number false link.current x.current) (sym w.then)
+          (newest_sent last room number link.current w.request c sending
+          (subst (λ (o : Option world.Record). IsNewest number false link.current o) w.newest (subst (λ (b : Bool). IsNewest number b link.current c.current) live i.newest))))
+          few,
+    )
+
+pub packet_played : {E S : Type 0} (number size : ℕ) (engine : E) (link mid new : Link E S) (pipe then : Option Pipe) (c : Connection) (bytes : List ℕ) (e : Effect Sent)
+    → IsPlayed number size engine link pipe c → link.is_cut ≡ false
+    → sent link.client ≡ Ok e
+    → up_underway (after (sends_in (phase c) (size - 8) c.current c) c) ≤ 18446744073709551615
+    → mid ≡ with_client e.session link → bytes ≡ e.bytes
+    → HandedUp mid new pipe then bytes
+    → (outcome.Sent (send_outcome e.answer) ≡ outcome_of (sends_in (phase c) (size - 8) c.current c))
+    × IsPlayed number size engine new then (after (sends_in (phase c) (size - 8) c.current c) c)
+packet_played {E} {S} number size engine link mid new pipe then c bytes e i live is few at out h =
+    let v = i.lives live in
+    let alike : SendAlike c (Ok e) (sends_in (phase c) (size - 8) c.current c) =
+    subst (λ (n : ℕ). SendAlike c (Ok e) (sends_in (phase c) (n - 8) c.current c)) v.size_is
+    (subst (λ r. SendAlike c r (sends_in (phase c) (room link.client) c.current c)) is (send_alike link.client c v.stands.client)) in
+    next_sent number size (size - 8) engine link new pipe then c e (sends_in (phase c) (size - 8) c.current c) i live refl alike (size_in link.client.stage link.client e is) few
+    (subst (λ (l : Link E S). HandedUp l new pipe then e.bytes) at (subst (λ (bs : List ℕ). HandedUp mid new pipe then bs) out h))
+
+-- ---- Refusing
+
+refuses_alike : (c : Connection) (r : Result (Effect Sent) ClientRefusal) (a : Acted) → is_ok r ≡ false → SendAlike c r a → a ≡ Refuses NotSending
+refuses_alike c (Ok e) a err h = absurd (cc)
+refuses_alike c (Err why) (Refuses because) err h = ap Refuses h.1
+refuses_alike c (Err why) (Does what d) err h = absurd h
+
+pub packet_refused : {E S : Type 0} (number size : ℕ) (engine : E) (link new : Link E S) (pipe : Option Pipe) (c : Connection)
+    → IsPlayed number size engine link pipe c → link.is_cut ≡ false
+    → is_ok (sent link.client) ≡ false → new ≡ link
+    → (outcome.Refused NotSending ≡ outcome_of (sends_in (phase c) (size - 8) c.current c))
+    × IsPlayed number size engine new pipe (after (sends_in (phase c) (size - 8) c.current c) c)
+packet_refused {E} {S} number size engine link new pipe c i live err same =
+    let v = i.lives live in
+    let is : sends_in (phase c) (size - 8) c.current c ≡ Refuses NotSending =
+    subst (λ (n : ℕ). sends_in (phase c) (n - 8) c.current c ≡ Refuses NotSending) v.size_is
+    (refuses_alike c (sent link.client) (sends_in (phase c) (room link.client) c.current c) err (send_alike link.client c v.stands.client)) in (
+      ap outcome_of (sym is),
+      subst (λ (a : Acted). IsPlayed number size engine new pipe (after a c)) (sym is)
+          (subst (λ (l : Link E S). IsPlayed number size engine l pipe c) (sym same) i),
+    )
+
+-- ---- What the client answered
+
+pub none_sent : (r : Result (Effect Sent) ClientRefusal) (o : Option SendOutcome) (Q : Effect Sent → Type 0) → o ≡ None → IfOk r (λ e. (o ≡ Some (send_outcome e.answer)) × Q e) → is_ok r ≡ false
+none_sent (Ok e) o Q none h = let differ : None ≡ Some (send_outcome e.answer) = sym none ∙ h.0 in absurd (cc)
+none_sent (Err why) o Q none h = refl
+
+pub some_sent : (r : Result (Effect Sent) ClientRefusal) → ¬ (is_ok r ≡ false) → (e : Effect Sent) × (r ≡ Ok e)
+some_sent (Ok e) h = (e, refl)
+some_sent (Err why) h = absurd (h refl)

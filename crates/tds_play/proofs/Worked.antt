@@ -1,0 +1,140 @@
+-- A connection on which the server works, in a play and in the model.
+use Rattle.std.proofs.Common.{◌≡◌, ◌≤◌, ◌∙◌, ℕ, Bool, true, false, refl, sym, ap, subst, Option, Some, None, option_map, List, [], ◌∷◌, arith}
+use Rattle.tds_packet.specs.declared.status.Reset.{Reset}
+use Rattle.tds_server.specs.declared.outcome.Worked.{Worked}
+use Rattle.tds_server.specs.declared.outcome.Worked.TheVariants as server
+use Rattle.tds_server.specs.State as phase
+use Rattle.tds_server.specs.State.{ServerState, Phase}
+use Rattle.tds_server.specs.Working.{worked, works_in}
+use Rattle.tds_server.specs.Working as serving
+use Rattle.tds_session.specs.Answer.{Step}
+use Rattle.tds_session.specs.Session.{SessionState}
+use Rattle.tds_world.specs.declared.outcome.WorkOutcome.TheVariants as work
+use Rattle.tds_world.specs.Arrivals.{works, works_on}
+use Rattle.tds_world.specs.Connection.{Connection, Standing, down_underway}
+use Rattle.tds_world.specs.Entries.{Up}
+use Rattle.tds_world.specs.Events.{work_outcome}
+use Rattle.tds_world.specs.Lane.{Lane}
+use Rattle.tds_world.specs.Record.{ran_in, runs}
+use Rattle.tds_world.specs.Record as world
+use Rattle.tds_play.specs.Acts.{worked_as, worked_by}
+use Rattle.tds_play.specs.Alike.{EndsIfDue, WorkAlike, worked_outcome}
+use Rattle.tds_play.specs.Links.{stepped}
+use Rattle.tds_play.specs.Pipe.{Pipe}
+use Rattle.tds_play.specs.Plays.{IsPlayed}
+use Rattle.tds_play.specs.Promises.{WorksOn, WorksOnNewest}
+use Rattle.tds_play.specs.Requests.{IsRequest, IsNewest}
+use Rattle.tds_play.specs.declared.link.Link.{Link}
+use Rattle.tds_play.specs.declared.link.Record.{Record}
+use Rattle.tds_play.proofs.Kept.{works_kept}
+use Rattle.tds_play.proofs.Outward.{HandedDown, replied_played}
+use Rattle.tds_play.proofs.Working.{work_alike}
+
+-- ---- What the server's work changes
+
+-- The newest request behind it.
+abbrev current_behind : Worked → SessionState → SessionState → Option Record → Option Record
+current_behind server.Idle before after r = r
+current_behind server.Step before after r = option_map (stepped before after) r
+current_behind server.Finished before after r = option_map (stepped before after) r
+
+worked_is : {E S : Type 0} (b : Bool) (state : ServerState E) (link : Link E S) → worked_by (serving.worked_by b) state link ≡ record link { server = state; current = current_behind (serving.worked_by b) link.server.session state.session link.current }
+worked_is true state link = refl
+worked_is false state link = refl
+
+link_by : {E S : Type 0} (p : Phase) (link : Link E S) → worked_as (works_in link.server p) link ≡ record link { server = (works_in link.server p).state; current = current_behind (works_in link.server p).answer link.server.session (works_in link.server p).state.session link.current }
+link_by phase.Waiting link = refl
+link_by (phase.Receiving m) link = refl
+link_by (phase.Answering [] id) link = refl
+link_by (phase.Answering (s ∷ ss) id) link = worked_is s.last (works_in link.server (phase.Answering (s ∷ ss) id)).state link
+link_by (phase.Broken fault) link = refl
+
+engine_by : {E : Type 0} (p : Phase) (s : ServerState E) → (works_in s p).state.engine ≡ s.engine
+engine_by phase.Waiting s = refl
+engine_by (phase.Receiving m) s = refl
+engine_by (phase.Answering [] id) s = refl
+engine_by (phase.Answering (t ∷ ts) id) s = refl
+engine_by (phase.Broken fault) s = refl
+
+-- ---- What the model's work leaves
+
+standing_kept : (c : Connection) (due : List Step) → (works_on c due).standing ≡ c.standing
+standing_kept c [] = refl
+standing_kept c (s ∷ ss) = refl
+
+above_kept : (c : Connection) (due : List Step) → (works_on c due).to_server ≡ c.to_server
+above_kept c [] = refl
+above_kept c (s ∷ ss) = refl
+
+-- ---- The newest request
+
+-- The first step runs in the session that its reset says, and the other ones change nothing.
+ran_alike : (ran : Option SessionState) (mark reset : Option Reset) (before after : SessionState) → (ran ≡ None → reset ≡ mark) → ran_in ran mark before after ≡ ran_in ran reset before after
+ran_alike (Some x) mark reset before after h = refl
+ran_alike None mark reset before after h = ap (λ (m : Option Reset). ran_in None m before after) (sym (h refl))
+
+stepped_alike : (number : ℕ) (r : Record) (q : world.Record) (s : Step) (before after session : SessionState) → IsRequest number false r q → (q.ran ≡ None → s.reset ≡ q.asking.mark) → before ≡ session → after ≡ s.after → IsRequest number false (stepped before after r) (runs session s q)
+stepped_alike number r q s before after session i first from to = record {
+  lease = i.lease;
+  conn = i.conn;
+  mark = i.mark;
+  status = i.status;
+  ran = ap Some (
+      ap (λ (x : Option SessionState). ran_in x r.mark before after) i.ran
+      ∙ ap (λ (m : Option Reset). ran_in q.ran m before after) i.mark
+      ∙ ran_alike q.ran q.asking.mark s.reset before after first
+      ∙ ap (λ (x : SessionState). ran_in q.ran s.reset x after) from
+      ∙ ap (λ (x : SessionState). ran_in q.ran s.reset session x) to
+      );
+  tokens = i.tokens;
+}
+
+stepped_newest : (number : ℕ) (r : Option Record) (current then : Option world.Record) (q : world.Record) (s : Step) (before after session : SessionState) → current ≡ Some q → then ≡ Some (runs session s q) → (q.ran ≡ None → s.reset ≡ q.asking.mark) → before ≡ session → after ≡ s.after → IsNewest number false r current → IsNewest number false (option_map (stepped before after) r) then
+stepped_newest number None current then q s before after session is will first from to h =
+    absurd (subst (λ (o : Option world.Record). IsNewest number false None o) is h)
+stepped_newest number (Some r) current then q s before after session is will first from to h =
+    subst (λ (o : Option world.Record). IsNewest number false (Some (stepped before after r)) o) (sym will)
+    (stepped_alike number r q s before after session (subst (λ (o : Option world.Record). IsNewest number false (Some r) o) is h) first from to)
+
+some_done : (s : Step) (ss : List Step) → work_outcome (s ∷ ss) ≡ work.Idle → ⊥
+some_done s [] e = absurd (cc)
+some_done s (t ∷ ts) e = absurd (cc)
+
+newest_by : (number : ℕ) (due : List Step) (a : Worked) (before after : SessionState) (c : Connection) (r : Option Record)
+    → due ≡ c.due → work_outcome due ≡ worked_outcome a → WorksOnNewest c due → before ≡ c.session → after ≡ (works c).session
+    → IsNewest number false r c.current → IsNewest number false (current_behind a before after r) (works c).current
+newest_by number [] server.Idle before after c r e told w from to h =
+    subst (λ (d : List Step). IsNewest number false r (works_on c d).current) e h
+newest_by number [] server.Step before after c r e told w from to h = absurd (cc)
+newest_by number [] server.Finished before after c r e told w from to h = absurd (cc)
+newest_by number (s ∷ ss) server.Idle before after c r e told w from to h = absurd (some_done s ss told)
+newest_by number (s ∷ ss) server.Step before after c r e told w from to h =
+    stepped_newest number r c.current (works c).current w.request s before after c.session w.newest w.then w.first from
+    (to ∙ ap (λ (d : List Step). (works_on c d).session) (sym e)) h
+newest_by number (s ∷ ss) server.Finished before after c r e told w from to h =
+    stepped_newest number r c.current (works c).current w.request s before after c.session w.newest w.then w.first from
+    (to ∙ ap (λ (d : List Step). (works_on c d).session) (sym e)) h
+
+-- ---- The connection then
+
+pub worked_played : {E S : Type 0} (number size : ℕ) (engine : E) (link mid new : Link E S) (pipe after : Option Pipe) (c : Connection) (bytes : List ℕ)
+    → IsPlayed number size engine link pipe c → link.is_cut ≡ false
+    → EndsIfDue c.due → WorksOnNewest c c.due → (works c).past ≡ c.past → down_underway (works c) ≤ 18446744073709551615
+    → mid ≡ worked_as (worked link.server) link → bytes ≡ (worked link.server).packet
+    → HandedDown mid new pipe after bytes
+    → (worked_outcome (worked link.server).answer ≡ work_outcome c.due) × IsPlayed number size engine new after (works c)
+worked_played {E} {S} number size engine link mid new pipe after c bytes i live ends newest past few is sent h =
+    let w = worked link.server in
+    let v = (i.lives live).stands in
+    let a = work_alike link.server c v.server ends in
+    let behind : Option Record = current_behind w.answer link.server.session w.state.session link.current in
+    let at : mid ≡ record link { server = w.state; current = behind } = is ∙ link_by link.server.phase link in (
+      sym a.outcome,
+      replied_played number size engine link new w.state behind pipe after c (works c) w.packet i live
+          (subst (λ (l : Link E S). HandedDown l new pipe after w.packet) at (subst (λ (bs : List ℕ). HandedDown mid new pipe after bs) sent h))
+          (standing_kept c c.due) (engine_by link.server.phase link.server)
+          (works_kept link.client c v.client) a.matches a.sends (above_kept c c.due) past
+          (newest_by number c.due w.answer link.server.session w.state.session c link.current refl a.outcome newest v.server.session a.matches.session
+          (subst (λ (b : Bool). IsNewest number b link.current c.current) live i.newest))
+          few,
+    )

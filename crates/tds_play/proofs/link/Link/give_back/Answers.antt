@@ -1,0 +1,43 @@
+use Rattle.std.specs.Prelude.{is_none}
+use Rattle.std.proofs.Common.{◌≡◌, ◌≢◌, ◌≤◌, ◌∙◌, ◌++◌, ℕ, List, Bool, Option, Some, None, Ok, false, sym, ap, refl}
+use Rattle.tds_client.specs.Sending as client
+use Rattle.tds_client.specs.Session.{unless_idle}
+use Rattle.tds_world.specs.declared.outcome.Outcome.TheVariants as outcome
+use Rattle.tds_world.specs.Pool.{place_back, returned_as}
+use Rattle.tds_play.specs.Links.{cut_of, placed_at}
+use Rattle.tds_play.specs.Pipe.{Pipe}
+use Rattle.tds_play.proofs.Cancelled.{back_played, client_behind}
+use Rattle.tds_play.proofs.Cancelling.{cancel_alike}
+use Rattle.tds_play.proofs.Doing.{done_so, ok_so}
+use Rattle.tds_play.proofs.Outward.{ended_up}
+use Rattle.tds_play.proofs.link.Link.give_back.Goals.{then-is_idle, else-is_idle}
+use Rattle.tds_play.proofs.link.Link.give_back.Goals as goal
+
+pub returns-clause-alike : goal.returns-clause-alike
+returns-clause-alike g c = λ size engine d steady played few.
+    let conn : ℕ = c.args.self.now.number in
+    let old : ℕ → Option Pipe = g.C.Carrier.pipes c.args.carrier.now in
+    let put = c.in_ok-cancel_request.ensures in
+    let out = c.in_ok-lost.ensures in
+    let whole = out.steady steady in
+    let idle : Bool = c.is_idle.result in
+    let a = cancel_alike c.args.self.now.client d (played.lives c.requires.live).stands.client in
+    let does = ok_so (client.cancelled c.args.self.now.client) a.0 _ a.1 put.cancelled in
+    let bytes = c.as_slice.ensures.value ∙ does.2 ∙ ap (λ (xs : List ℕ). xs ++ a.0.bytes) c.new-out.ensures.items in
+    let mid : c.if-is_idle.self ≡ placed_at (place_back idle) c.cancel_request.new.self =
+    elim c.if-is_idle.branch [
+      | then-is_idle w ↦ w.self-is ∙ ap (λ (b : Bool). placed_at (place_back b) c.cancel_request.new.self) (sym w.if-is_idle.true)
+      | else-is_idle w ↦ w.self-is ∙ ap (λ (b : Bool). placed_at (place_back b) c.cancel_request.new.self) (sym w.if-is_idle.false)
+    ] in
+    let told : c.if-is_idle.returned ≡ returned_as idle =
+    elim c.if-is_idle.branch [
+      | then-is_idle w ↦ w.returned-is ∙ ap returned_as (sym w.if-is_idle.true)
+      | else-is_idle w ↦ w.returned-is ∙ ap returned_as (sym w.if-is_idle.false)
+    ] in
+    let waits : idle ≡ is_none (unless_idle a.0.session.stage) = c.is_idle.ensures ∙ ap (λ l. is_none (unless_idle l.client.stage)) does.1 ∙ ap (λ s. is_none (unless_idle s.stage)) (client_behind a.0.answer a.0.session c.args.self.now) in
+    let handed = ended_up conn c.if-is_idle.self c.hand_over.new.self c.end.new.self old (g.C.Carrier.pipes c.hand_over.new.carrier) (g.C.Carrier.pipes c.end.new.carrier) c.as_slice.result.now c.in_ok-lost.lost (cut_of c.hand_over.new.self)
+    (ap (λ l. l.number) mid ∙ put.number) whole (c.requires.tied.holds c.requires.live).is_open c.end.ensures.value (ap g.C.Carrier.pipes (c.end.ensures.kept whole))
+    (λ e. let h = out.nothing e in (h.1, ap g.C.Carrier.pipes h.2)) out.handed out.counted in
+    let then = back_played conn size engine c.args.self.now c.if-is_idle.self c.end.new.self idle (old conn) (g.C.Carrier.pipes c.end.new.carrier conn) d c.as_slice.result.now
+    played c.requires.live a (mid ∙ ap (placed_at (place_back idle)) does.1) bytes waits few handed in
+    (done_so c.end.result _ _ c.in_ok-lost.lost c.end.ensures.done whole (ap outcome.GivenBack told ∙ then.0), then.1)
