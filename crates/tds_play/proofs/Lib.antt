@@ -48,3 +48,4 @@ pub mod Listening
 pub mod ClientSizes
 pub mod ClientEvent
 pub mod Requested
+pub mod AllCut
