@@ -49,3 +49,4 @@ pub mod ClientSizes
 pub mod ClientEvent
 pub mod Requested
 pub mod AllCut
+pub mod PlayerOpens

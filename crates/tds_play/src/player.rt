@@ -5,7 +5,7 @@ ghost use Rattle.tds_play.specs.Lending.{standing_of};
 ghost use Rattle.tds_play.specs.Links.{newest_first};
 ghost use Rattle.tds_play.specs.Noted.{about_of, asked_after, held_of, leases_after, tickets_after};
 ghost use Rattle.tds_play.specs.Pipe.{Pipe};
-ghost use Rattle.tds_play.specs.Player.{HappensAlike, IsPlay, PromisesAll};
+ghost use Rattle.tds_play.specs.Player.{HappensAlike, IsPlay, IsSmall, PromisesAll};
 ghost use Rattle.tds_play.specs.Plays.{ArePlayed, IsReady, acts_on};
 ghost use Rattle.tds_play.specs.Promises.{IsCountable};
 ghost use Rattle.tds_play.specs.Seen.{seen_of};
@@ -166,6 +166,7 @@ impl<E: Engine + Copy> Player<E> {
 
     /// Notes an event that applied, on this connection.
     fn note(&mut self, event: &Event, conn: u32) -> Result<(), NoMemory>
+        ensures rest { OnOk result (self.new ≡ record self.old { leases = self.new.leases; tickets = self.new.tickets; asked_on = self.new.asked_on }) }
         ensures links { self.new.links ≡ self.old.links }
         ensures leases { OnOk result (self.new.leases ≡ leases_after event.now conn self.old.leases) }
         ensures tickets { OnOk result (self.new.tickets ≡ tickets_after event.now conn self.old.tickets) }
@@ -203,6 +204,11 @@ impl<E: Engine + Copy> Player<E> {
         requires few { length self.old.links.items < 10000 }
         ensures tied { OnOk result (AreTied self.new.links.items (C.pipes carrier.new)) }
         ensures count { OnOk result (length self.new.links.items ≡ suc (length self.old.links.items)) }
+        ensures tells { OnOk result (C.tells carrier.old → C.tells carrier.new) }
+        ensures alike { (setup : Setup) (engine : E) (w : World) → C.steady
+            → IsPlay setup engine self.old (C.pipes carrier.old) w → IsSmall w
+            → IfOk result (λ done. HappensAlike setup engine done self.new (C.pipes carrier.new)
+            (settles event.Lease (next_number w.connections) w (opens (next_number w.leases) (next_number w.connections)))) }
     {
         let conn = next_number(self.links.len());
         let lease = self.leases.next();
