@@ -55,3 +55,5 @@ pub mod Listening
 pub mod ClientSizes
 pub mod ClientEvent
 pub mod Requested
+pub mod AllCut
+pub mod PlayerOpens

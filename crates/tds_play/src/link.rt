@@ -9,8 +9,9 @@ ghost use Rattle.tds_play.specs.Seen.{outcome_of, seen_of};
 ghost use Rattle.tds_play.specs.Plays.{IsPlayed};
 ghost use Rattle.tds_play.specs.Pipe.{AreSame, Brings, IsUncut, cut_pipe, new_pipe, sent_on};
 ghost use Rattle.tds_play.specs.Ties.{IsTied, counted, with_counted, saturated};
-ghost use Rattle.tds_world.specs.Connection.{Connection, cut};
+ghost use Rattle.tds_world.specs.Connection.{Connection, cut, new_connection};
 ghost use Rattle.tds_world.specs.Pool.{is_free};
+ghost use Rattle.tds_world.specs.declared.report.Place.TheVariants.{Leased};
 
 pub(crate) mod acts;
 mod deliveries;
@@ -181,6 +182,9 @@ impl<E: Engine + Drop> Link<E> {
         ensures number { IfOk result (λ opened. opened.0.number ≡ number) }
         ensures tied { IfOk result (λ opened. IsTied opened.0 (C.pipes carrier.new number)) }
         ensures others { OnOk result (AreSame (C.pipes carrier.old) (C.pipes carrier.new) number) }
+        ensures tells { OnOk result (C.tells carrier.old → C.tells carrier.new) }
+        ensures alike { C.steady → IfOk result (λ opened. (opened.1 ≡ false)
+            × IsPlayed number size engine opened.0 (C.pipes carrier.new number) (new_connection (Leased lease))) }
     {
         let mut link = Link::new(alloc, number, lease, engine, size)?;
         match carrier.open(number) {
@@ -396,7 +400,9 @@ impl<E: Engine + Drop> Link<E> {
         ensures { IfOk result (λ records. records.items ≡ newest_first self) }
     {
         let Link {
-            current, mut past, ..
+            current,
+            mut past,
+            ..
         } = self;
         if let Some(record) = current {
             past.push(record)?;
