@@ -50,3 +50,4 @@ pub mod Order
 pub mod Lending
 pub mod Reports
 pub mod NoFault
+pub mod Asks
