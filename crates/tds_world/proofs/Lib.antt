@@ -52,3 +52,4 @@ pub mod Underway
 pub mod Few
 pub mod Reports
 pub mod NoFault
+pub mod Asks

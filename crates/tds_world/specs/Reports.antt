@@ -1,20 +1,31 @@
 -- What the session laws say of a play's report.
-use Rattle.std.specs.Prelude.{◌≡◌, ◌≤◌, List, false}
+use Rattle.std.specs.Prelude.{ℕ, suc, ◌≡◌, ◌≢◌, ◌≤◌, List, [], ◌∷◌, ◌++◌, false, Option, Some, None}
 use Rattle.std.specs.List.{AllByRecursion}
+use Rattle.tds_request.specs.declared.request.Request.{Request}
 use Rattle.tds_session.specs.Answer.{Answers}
+use Rattle.tds_session.specs.Session.{SessionState}
+use Rattle.tds_token.specs.declared.token.Token.{Token}
 use Rattle.tds_world.specs.declared.event.Event.{Event}
+use Rattle.tds_world.specs.declared.event.Event.TheVariants as event
 use Rattle.tds_world.specs.declared.event.Setup.{Setup}
 use Rattle.tds_world.specs.declared.outcome.Outcome.{Outcome}
 use Rattle.tds_world.specs.declared.outcome.Outcome.TheVariants as outcome
 use Rattle.tds_world.specs.declared.report.ClientView.TheVariants as view
 use Rattle.tds_world.specs.declared.report.EventReport.{EventReport}
 use Rattle.tds_world.specs.declared.report.Report.{Report}
+use Rattle.tds_world.specs.declared.report.RequestReport.{RequestReport}
+use Rattle.tds_world.specs.declared.report.RequestStatus.TheVariants as status
 use Rattle.tds_world.specs.declared.report.Snapshot.{Snapshot}
+use Rattle.tds_world.specs.Laws.{whole_answer}
 use Rattle.tds_world.specs.Observed.{observed}
 
 -- P holds of the report, whatever the events.
 abbrev pub AlwaysShown : Setup → Answers → (Report → Type 0) → Type 0
 AlwaysShown setup answers P = (events : List Event) → P (observed setup answers events)
+
+-- P holds of the events and their report.
+abbrev pub AlwaysTold : Setup → Answers → (List Event → Report → Type 0) → Type 0
+AlwaysTold setup answers P = (events : List Event) → P events (observed setup answers events)
 
 -- P holds of the report of any events of a kind.
 abbrev pub AlwaysShownOf : (Event → Type 0) → Setup → Answers → (Report → Type 0) → Type 0
@@ -54,3 +65,53 @@ pub record IsWithoutFault (e : EventReport) : Type 0 where
 
 abbrev pub ShowsNoFault : Report → Type 0
 ShowsNoFault r = AllByRecursion IsWithoutFault r.events
+
+-- A request that was asked, as the report shows it: its number, the lease under which it was asked,
+-- and the snapshots after its event.
+pub record Ask : Type 0 where
+  pub number : ℕ
+  pub lease : ℕ
+  pub request : Request
+  pub snapshots : List Snapshot
+
+abbrev pub asked_by : Event → EventReport → Outcome → List Ask
+asked_by (event.Ask lease q) r (outcome.Asked number) =
+    record { number = number; lease = lease; request = q; snapshots = r.snapshots } ∷ []
+asked_by e r o = []
+
+-- The requests that were asked, in their order: those of the events that the report says so of.
+abbrev pub asked_in : List Event → List EventReport → List Ask
+asked_in [] rs = []
+asked_in (e ∷ es) [] = []
+asked_in (e ∷ es) (r ∷ rs) = asked_by e r r.outcome ++ asked_in es rs
+
+-- There is a request report for each request that was asked, in their order, P holds of the two, and
+-- the numbers of the requests are those from this one on.
+abbrev pub OfEachAskFrom : ℕ → (Ask → RequestReport → Type 0) → List Ask → List RequestReport → Type 0
+OfEachAskFrom number P [] [] = Unit {0}
+OfEachAskFrom number P [] (r ∷ rs) = ⊥
+OfEachAskFrom number P (a ∷ asks) [] = ⊥
+OfEachAskFrom number P (a ∷ asks) (r ∷ rs) =
+    (a.number ≡ number) × P a r × OfEachAskFrom (suc number) P asks rs
+
+abbrev pub OfEachAsk : (Ask → RequestReport → Type 0) → List Event → Report → Type 0
+OfEachAsk P events r = OfEachAskFrom 1 P (asked_in events r.events) r.requests
+
+-- The tokens of a report are a beginning of those, and all of them where it is finished.
+pub record ShowsAnswer (r : RequestReport) (whole : List Token) : Type 0 where
+  pub begins : (rest : List Token) × (r.tokens ++ rest ≡ whole)
+  pub ends : r.status ≡ status.Finished → r.tokens ≡ whole
+
+-- In the session that the report shows, the tokens are of the request's whole answer. Without one
+-- there are none, and the request isn't finished.
+abbrev pub ShowsAnswerIn : Answers → Request → RequestReport → Option SessionState → Type 0
+ShowsAnswerIn answers q r None = (r.tokens ≡ []) × (r.status ≢ status.Finished)
+ShowsAnswerIn answers q r (Some s) = ShowsAnswer r (whole_answer answers s q)
+
+-- Each lease has a beginning of the answer to its own request.
+pub record ShowsOwnAnswer (answers : Answers) (a : Ask) (r : RequestReport) : Type 0 where
+  pub lease : r.lease ≡ a.lease
+  pub answer : ShowsAnswerIn answers a.request r r.ran
+
+abbrev pub ShowsOwnAnswers : Answers → List Event → Report → Type 0
+ShowsOwnAnswers answers events r = OfEachAsk (ShowsOwnAnswer answers) events r

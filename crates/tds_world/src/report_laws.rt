@@ -3,7 +3,7 @@
 ghost use Rattle.tds_session.specs.Answer.{Answers};
 ghost use Rattle.tds_world.specs.Bounds.{IsEvent, IsSetup};
 ghost use Rattle.tds_world.specs.Lawful.{Lawful};
-ghost use Rattle.tds_world.specs.Reports.{AlwaysShown, AlwaysShownOf, ShowsFewUnderway, ShowsIdleQuiet, ShowsNoFault};
+ghost use Rattle.tds_world.specs.Reports.{AlwaysShown, AlwaysShownOf, AlwaysTold, ShowsFewUnderway, ShowsIdleQuiet, ShowsNoFault, ShowsOwnAnswers};
 ghost use Rattle.tds_world.specs.declared.event.Setup.{Setup};
 
 /// In each snapshot whose client is idle both byte counts are 0, and the two descriptors are one.
@@ -20,4 +20,11 @@ pub fn few_underway()
 /// In no event an end refuses what comes to it, and none is lost. It holds for any answers.
 pub fn no_fault()
     ensures { (setup : Setup) (answers : Answers) → AlwaysShown setup answers ShowsNoFault }
+{}
+
+/// There is one report for each request that was asked, in their order. It is of the lease that asked,
+/// and its tokens are a beginning of the request's own answer, in the session that it shows, and all
+/// of it where it is finished; where it shows no session, there are none.
+pub fn own_answers()
+    ensures { (setup : Setup) (answers : Answers) → Lawful answers → AlwaysTold setup answers (ShowsOwnAnswers answers) }
 {}
