@@ -51,3 +51,5 @@ pub mod Lending
 pub mod Reports
 pub mod NoFault
 pub mod Asks
+pub mod FirstRuns
+pub mod Leased
