@@ -17,7 +17,7 @@ use Rattle.tds_world.specs.Connection.{Connection, records, is_idle, is_cut}
 use Rattle.tds_world.specs.Events.{about, acts, asks_by, settles, happens_at, happens, world_after}
 use Rattle.tds_world.specs.Lawful.{Lawful}
 use Rattle.tds_world.specs.Laws.{OfEachRequest, IsOwnAnswer, request_in, request_on}
-use Rattle.tds_world.specs.Observed.{event_report, event_reports, request_report, report_if, report_on, request_reports}
+use Rattle.tds_world.specs.Observed.{record_on, event_report, event_reports, request_report, report_if, report_on, request_reports}
 use Rattle.tds_world.specs.Order.{number_if, numbers_on, RequestsInOrder}
 use Rattle.tds_world.specs.Phase.{Phase, Settled, Asked, Sending, Reading, Cancelling, phase_of, status_by}
 use Rattle.tds_world.specs.Pool.{Acted, Refuses, Does}
@@ -88,21 +88,21 @@ all_less n k m (i ∷ is) l =
     let more : suc k + length is ≤ m = omega arith in
     less_if (eqb i n) k m (numbers_on n (suc k) is) (omega arith) (all_less n (suc k) m is more)
 
-by_numbers : (P : ℕ → Type 0) (qs : List Record) → AllByRecursion P (map (λ (q : Record). q.number) qs) → AllByRecursion (λ (q : Record). P q.number) qs
+pub by_numbers : (P : ℕ → Type 0) (qs : List Record) → AllByRecursion P (map (λ (q : Record). q.number) qs) → AllByRecursion (λ (q : Record). P q.number) qs
 by_numbers P [] h = tt
 by_numbers P (q ∷ qs) h = (h.0, by_numbers P qs h.1)
 
-other_number : (a b : ℕ) → a < b → eqb a b ≡ false
+pub other_number : (a b : ℕ) → a < b → eqb a b ≡ false
 other_number a b l = grind (arith, nat_tests)
 
-same_number : (a : ℕ) → eqb a a ≡ true
+pub same_number : (a : ℕ) → eqb a a ≡ true
 same_number a = grind (arith, nat_tests)
 
-else_is : {A : Type 0} (b : Bool) (x y : A) → b ≡ false → cond b x y ≡ y
+pub else_is : {A : Type 0} (b : Bool) (x y : A) → b ≡ false → cond b x y ≡ y
 else_is true x y e = absurd (cc)
 else_is false x y e = refl
 
-then_is : {A : Type 0} (b : Bool) (x y : A) → b ≡ true → cond b x y ≡ x
+pub then_is : {A : Type 0} (b : Bool) (x y : A) → b ≡ true → cond b x y ≡ x
 then_is true x y e = refl
 then_is false x y e = absurd (cc)
 
@@ -125,7 +125,7 @@ nothing_more : {A : Type 0} (xs : List A) → xs ≡ xs ++ []
 nothing_more [] = refl
 nothing_more (x ∷ xs) = ap (λ ys. x ∷ ys) (nothing_more xs)
 
-one_behind : {A : Type 0} (xs ys zs : List A) → (xs ++ ys) ++ zs ≡ xs ++ (ys ++ zs)
+pub one_behind : {A : Type 0} (xs ys zs : List A) → (xs ++ ys) ++ zs ≡ xs ++ (ys ++ zs)
 one_behind [] ys zs = refl
 one_behind (x ∷ xs) ys zs = ap (λ ws. x ∷ ws) (one_behind xs ys zs)
 
@@ -230,13 +230,17 @@ found_has P f (p ∷ ps) q h e = by_test (f p) e (found_has P f ps q h.1)
 -- A request of a world, of which P holds, is reported alone under its number.
 pub record IsReported (P : Connection → Record → Type 0) (number : ℕ) (o : Option Connection) (q : Record) : Type 0 where
   pub on : Connection
+  pub is : o ≡ Some on
+  pub found : record_on number on ≡ Some q
   pub holds : P on q
   pub alone : report_on number o ≡ request_report (is_cut on.standing) q ∷ []
 
-on_some : (P : Connection → Record → Type 0) (number : ℕ) (o : Option Connection) (q : Record) → OfSome (λ c. AllByRecursion (P c) (records c)) o → request_in number o ≡ Some q → IsReported P number o q
+pub on_some : (P : Connection → Record → Type 0) (number : ℕ) (o : Option Connection) (q : Record) → OfSome (λ c. AllByRecursion (P c) (records c)) o → request_in number o ≡ Some q → IsReported P number o q
 on_some P number None q h e = absurd (cc)
 on_some P number (Some c) q h e = record {
   on = c;
+  is = refl;
+  found = e;
   holds = found_has (P c) (λ (x : Record). x.number == number) (records c) q h e;
   alone = ap (report_if (is_cut c.standing)) e;
 }

@@ -53,3 +53,5 @@ pub mod Few
 pub mod Reports
 pub mod NoFault
 pub mod Asks
+pub mod FirstRuns
+pub mod Leased

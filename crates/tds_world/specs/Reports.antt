@@ -1,13 +1,15 @@
 -- What the session laws say of a play's report.
-use Rattle.std.specs.Prelude.{ℕ, suc, ◌≡◌, ◌≢◌, ◌≤◌, List, [], ◌∷◌, ◌++◌, false, Option, Some, None}
+use Rattle.std.specs.Prelude.{ℕ, suc, ◌≡◌, ◌≢◌, ◌≤◌, List, [], ◌∷◌, ◌++◌, Bool, true, false, ◌==◌, Option, Some, None}
 use Rattle.std.specs.List.{AllByRecursion}
 use Rattle.tds_request.specs.declared.request.Request.{Request}
 use Rattle.tds_session.specs.Answer.{Answers}
-use Rattle.tds_session.specs.Session.{SessionState}
+use Rattle.tds_session.specs.Session.{SessionState, IsFresh, no_settings}
 use Rattle.tds_token.specs.declared.token.Token.{Token}
 use Rattle.tds_world.specs.declared.event.Event.{Event}
 use Rattle.tds_world.specs.declared.event.Event.TheVariants as event
 use Rattle.tds_world.specs.declared.event.Setup.{Setup}
+use Rattle.tds_world.specs.declared.outcome.Opened.{Opened}
+use Rattle.tds_world.specs.declared.outcome.Opened.TheVariants as opened
 use Rattle.tds_world.specs.declared.outcome.Outcome.{Outcome}
 use Rattle.tds_world.specs.declared.outcome.Outcome.TheVariants as outcome
 use Rattle.tds_world.specs.declared.report.ClientView.TheVariants as view
@@ -115,3 +117,28 @@ pub record ShowsOwnAnswer (answers : Answers) (a : Ask) (r : RequestReport) : Ty
 
 abbrev pub ShowsOwnAnswers : Answers → List Event → Report → Type 0
 ShowsOwnAnswers answers events r = OfEachAsk (ShowsOwnAnswer answers) events r
+
+-- The session in which the first request of a lease ran, if one did.
+abbrev pub first_by : Bool → Option SessionState → Option SessionState → Option SessionState
+first_by true (Some s) later = Some s
+first_by true None later = later
+first_by false ran later = later
+
+abbrev pub first_run : ℕ → List RequestReport → Option SessionState
+first_run lease [] = None
+first_run lease (r ∷ rs) = first_by (r.lease == lease) r.ran (first_run lease rs)
+
+-- The session that a lease finds, by how it came by its connection: a fresh one, or for a lease that
+-- came from a ticket one without settings.
+abbrev pub StartsBy : Opened → SessionState → Type 0
+StartsBy opened.New s = IsFresh s
+StartsBy opened.Reused s = IsFresh s
+StartsBy opened.Resumed s = s.settings ≡ no_settings
+
+abbrev pub StartsIfLeased : List RequestReport → Outcome → Type 0
+StartsIfLeased rs (outcome.Leased lease conn opened) =
+    (s : SessionState) → first_run lease rs ≡ Some s → StartsBy opened s
+StartsIfLeased rs o = Unit {0}
+
+abbrev pub ShowsFreshStart : Report → Type 0
+ShowsFreshStart r = AllByRecursion (λ (e : EventReport). StartsIfLeased r.requests e.outcome) r.events

@@ -3,7 +3,7 @@
 ghost use Rattle.tds_session.specs.Answer.{Answers};
 ghost use Rattle.tds_world.specs.Bounds.{IsEvent, IsSetup};
 ghost use Rattle.tds_world.specs.Lawful.{Lawful};
-ghost use Rattle.tds_world.specs.Reports.{AlwaysShown, AlwaysShownOf, AlwaysTold, ShowsFewUnderway, ShowsIdleQuiet, ShowsNoFault, ShowsOwnAnswers};
+ghost use Rattle.tds_world.specs.Reports.{AlwaysShown, AlwaysShownOf, AlwaysTold, ShowsFewUnderway, ShowsFreshStart, ShowsIdleQuiet, ShowsNoFault, ShowsOwnAnswers};
 ghost use Rattle.tds_world.specs.declared.event.Setup.{Setup};
 
 /// In each snapshot whose client is idle both byte counts are 0, and the two descriptors are one.
@@ -27,4 +27,10 @@ pub fn no_fault()
 /// of it where it is finished; where it shows no session, there are none.
 pub fn own_answers()
     ensures { (setup : Setup) (answers : Answers) → Lawful answers → AlwaysTold setup answers (ShowsOwnAnswers answers) }
+{}
+
+/// The first request of a lease that ran, of those reported, ran in a fresh session; for a lease that
+/// came from a ticket, in one without settings.
+pub fn fresh_start()
+    ensures { (setup : Setup) (answers : Answers) → Lawful answers → AlwaysShown setup answers ShowsFreshStart }
 {}
