@@ -1,5 +1,7 @@
 mod batches;
 mod cores;
 mod faults;
+mod files;
 mod runs;
 mod schedules;
+mod texts;

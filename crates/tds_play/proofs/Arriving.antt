@@ -25,8 +25,9 @@ use Rattle.tds_world.specs.Connection.{Connection}
 use Rattle.tds_world.specs.Entries.{Packet, Asking, Up, Part, End, Drop, Attention, up_packet, Acknowledgement, down_bytes}
 use Rattle.tds_world.specs.Lawful.{EndsOnce, Lawful}
 use Rattle.tds_world.specs.Record.{Record}
-use Rattle.tds_play.specs.Alike.{ArriveAlike, IsUndisturbed}
-use Rattle.tds_play.specs.Messages.{IsSpelled, message_of, bits_behind, IsNext}
+use Rattle.tds_world.specs.Welcome.{ServerExpects}
+use Rattle.tds_play.specs.Alike.{ArriveAlike}
+use Rattle.tds_world.specs.Messages.{IsSpelled, message_of, bits_behind, IsNext}
 use Rattle.tds_play.specs.Stands.{MatchesServer, MatchesPhase, IsOf, Sends, kind_asked}
 use Rattle.tds_play.proofs.Lanes.{appended, unsent}
 use Rattle.tds_play.proofs.Picks.{pick_true, pick_false}
@@ -187,7 +188,7 @@ some_due : (due : List answer.Step) → EndsOnce due → due ≢ []
 some_due [] ends = absurd ends
 some_due (s ∷ ss) ends = λ e. absurd (cc)
 
-pub arrive_alike : {E : Type 0} (answers : Answers) (s : ServerState E) (c : Connection) (q : Record) (e : Up) → Lawful answers → MatchesServer s c → c.current ≡ Some q → IsSpelled q.asking → IsNext q.asking c.parts e → IsUndisturbed e c.due → ArriveAlike answers c e (taken answers s (up_packet e).header (up_packet e).body)
+pub arrive_alike : {E : Type 0} (answers : Answers) (s : ServerState E) (c : Connection) (q : Record) (e : Up) → Lawful answers → MatchesServer s c → c.current ≡ Some q → IsSpelled q.asking → IsNext q.asking c.parts e → ServerExpects c e → ArriveAlike answers c e (taken answers s (up_packet e).header (up_packet e).body)
 arrive_alike answers s c q (Part r p) w m is spelled next none =
     by_move answers s c (Part r p) (goes_on (server.Receiving (so_far q (c.parts ++ p.body))) took.More)
     (move_is answers s.session s.phase c q p (0 + bits_behind c.parts q.asking.mark) (so_far q c.parts) m.phase next.0.kind next.0.status (message_is false s.phase c q m.phase none is)

@@ -19,6 +19,7 @@ pub mod Asking
 pub mod Sending
 pub mod Working
 pub mod Arriving
+pub mod AllArriving
 pub mod Contents
 pub mod Heard
 pub mod Hearing
@@ -26,7 +27,6 @@ pub mod Cancelling
 pub mod Begun
 pub mod Kept
 pub mod Said
-pub mod Pieces
 pub mod Fronts
 pub mod FedServer
 pub mod FedClient
@@ -46,3 +46,13 @@ pub mod ClientDelivery
 pub mod Carrying
 pub mod Between
 pub mod ServerEvent
+pub mod Played
+pub mod AllPlayed
+pub mod Held
+pub mod Snapshots
+pub mod Coming
+pub mod Promised
+pub mod Found
+pub mod Listening
+pub mod ClientSizes
+pub mod ClientEvent

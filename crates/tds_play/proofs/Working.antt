@@ -11,7 +11,8 @@ use Rattle.tds_world.specs.Connection.{Connection}
 use Rattle.tds_world.specs.Entries.{Step, down_bytes}
 use Rattle.tds_world.specs.Events.{work_outcome}
 use Rattle.tds_world.specs.Lawful.{EndsOnce}
-use Rattle.tds_play.specs.Alike.{EndsIfDue, WorkAlike, worked_outcome}
+use Rattle.tds_world.specs.Steps.{EndsIfDue}
+use Rattle.tds_play.specs.Alike.{WorkAlike, worked_outcome}
 use Rattle.tds_play.specs.Stands.{MatchesServer, MatchesPhase, Sends}
 use Rattle.tds_play.proofs.Lanes.{appended, unsent}
 

@@ -1,5 +1,5 @@
 -- What it is that an end does the same as the model's connection.
-use Rattle.std.specs.Prelude.{ℕ, ◌≡◌, List, [], ◌∷◌, Option, Some, None, Result, Ok, Err}
+use Rattle.std.specs.Prelude.{ℕ, ◌≡◌, Option, Some, None, Result, Ok, Err}
 use Rattle.tds_client.specs.declared.fault.ClientRefusal.{ClientRefusal}
 use Rattle.tds_client.specs.declared.fault.ClientRefusal.TheVariants as refused
 use Rattle.tds_client.specs.declared.state.Sent.{Sent}
@@ -12,7 +12,7 @@ use Rattle.tds_server.specs.declared.outcome.Worked.TheVariants as server
 use Rattle.tds_server.specs.declared.outcome.ServerTook.{ServerTook}
 use Rattle.tds_server.specs.Taking.{Taken}
 use Rattle.tds_server.specs.Working.{Work}
-use Rattle.tds_session.specs.Answer.{Answers, Step}
+use Rattle.tds_session.specs.Answer.{Answers}
 use Rattle.tds_world.specs.declared.outcome.CancelOutcome.{CancelOutcome}
 use Rattle.tds_world.specs.declared.outcome.Outcome.TheVariants as outcome
 use Rattle.tds_world.specs.declared.outcome.Refusal.TheVariants as refusal
@@ -24,9 +24,8 @@ use Rattle.tds_world.specs.Arrivals.{works, server_acts}
 use Rattle.tds_world.specs.Caller as model
 use Rattle.tds_world.specs.Caller.{cancels}
 use Rattle.tds_world.specs.Connection.{Connection, phase}
-use Rattle.tds_world.specs.Entries.{Up, Part, End, Drop, Attention, up_bytes, down_bytes}
+use Rattle.tds_world.specs.Entries.{Up, up_bytes, down_bytes}
 use Rattle.tds_world.specs.Events.{work_outcome}
-use Rattle.tds_world.specs.Lawful.{EndsOnce}
 use Rattle.tds_world.specs.Pool.{Acted, Refuses, Does}
 use Rattle.tds_play.specs.Acts.{cancel_outcome}
 use Rattle.tds_play.specs.Stands.{MatchesClient, MatchesServer, Sends}
@@ -57,11 +56,6 @@ worked_outcome server.Idle = work.Idle
 worked_outcome server.Step = work.Step
 worked_outcome server.Finished = work.Finished
 
--- What is due, if anything is, ends once.
-abbrev pub EndsIfDue : List Step → Type 0
-EndsIfDue [] = Unit {0}
-EndsIfDue (s ∷ ss) = EndsOnce (s ∷ ss)
-
 -- A server that works and its connection: the server appends the bytes of the step that the
 -- connection appends, or neither does anything, and it matches the connection then.
 pub record WorkAlike {E : Type 0} (c : Connection) (w : Work E) : Type 0 where
@@ -80,13 +74,6 @@ AskAlike number s None (Refuses because) = ⊥
 AskAlike number s None (Does what d) = (what ≡ outcome.Asked number) × MatchesClient s d
 
 -- ---- Arriving at the server
-
--- Where a packet of a request comes, no answer is due.
-abbrev pub IsUndisturbed : Up → List Step → Type 0
-IsUndisturbed (Part r p) due = due ≡ []
-IsUndisturbed (End r a p) due = due ≡ []
-IsUndisturbed (Drop r p) due = due ≡ []
-IsUndisturbed (Attention r) due = Unit {0}
 
 -- A server that takes the packet of an entry and the connection where it arrives: there is no fault,
 -- the server appends the bytes of what the connection appends, and matches it then.

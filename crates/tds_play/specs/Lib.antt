@@ -20,12 +20,13 @@ pub mod Noted
 pub mod Refused
 pub mod Runs
 pub mod Stands
-pub mod Messages
 pub mod Alike
 pub mod Hearing
 pub mod Feeding
 pub mod Deliveries
+pub mod Listening
 pub mod Between
 pub mod Requests
 pub mod Promises
 pub mod Plays
+pub mod Player

@@ -10,7 +10,7 @@ use Rattle.tds_session.specs.Session.{SessionState}
 use Rattle.tds_world.specs.declared.outcome.Refusal.{Refusal}
 use Rattle.tds_world.specs.declared.outcome.Refusal.TheVariants.{NotIdle, NothingToKeep}
 use Rattle.tds_world.specs.declared.report.Place.{Place}
-use Rattle.tds_world.specs.declared.report.Place.TheVariants.{Leased}
+use Rattle.tds_world.specs.declared.report.Place.TheVariants.{Draining, Free, Leased}
 use Rattle.tds_world.specs.declared.report.RequestReport.{RequestReport}
 use Rattle.tds_world.specs.declared.report.RequestStatus.{RequestStatus}
 use Rattle.tds_world.specs.declared.report.RequestStatus.TheVariants as status
@@ -91,6 +91,11 @@ lent_as lease mark link = record link { client = marked link.client mark; place 
 -- It stands elsewhere in the pool.
 abbrev pub placed_at : {E S : Type 0} → Place → Link E S → Link E S
 placed_at p link = record link { place = p }
+
+-- A draining connection is free once its client is idle.
+abbrev pub drained_at : Bool → Place → Place
+drained_at true Draining = Free
+drained_at idle place = place
 
 -- Why a client's connection isn't kept: it isn't idle, or it has no transaction, or one that a full
 -- reset is to end.

@@ -3,29 +3,17 @@ use Rattle.std.specs.Prelude.{ℕ, ◌≡◌, ◌≤◌, true, List, [], ◌∷�
 use Rattle.std.specs.List.{AllByRecursion}
 use Rattle.tds_packet.specs.Reading.{Reading}
 use Rattle.tds_packet.specs.declared.kind.Direction.TheVariants.{ToServer, ToClient}
-use Rattle.tds_session.specs.Answer.{Answers, Step}
+use Rattle.tds_session.specs.Answer.{Answers}
 use Rattle.tds_world.specs.Arrivals.{works, to_client}
 use Rattle.tds_world.specs.Connection.{Connection, is_idle, up_underway, down_underway}
 use Rattle.tds_world.specs.Deliveries.{DeliversOn}
-use Rattle.tds_world.specs.Record.{Record, runs}
-use Rattle.tds_play.specs.Alike.{EndsIfDue}
+use Rattle.tds_world.specs.Newest.{WorksOnNewest}
+use Rattle.tds_world.specs.Steps.{EndsIfDue}
 use Rattle.tds_play.specs.Deliveries.{AllArrive, AllHeard}
 
 -- So many bytes can be counted.
 abbrev pub IsCountable : Connection → Type 0
 IsCountable c = (up_underway c ≤ 18446744073709551615) × (down_underway c ≤ 18446744073709551615)
-
--- The step is one of the newest request's answer: the server's work says of this request that it ran,
--- and where it is the first step, it takes the reset that the request asks for.
-pub record WorksOn (c : Connection) (s : Step) : Type 0 where
-  pub request : Record
-  pub newest : c.current ≡ Some request
-  pub then : (works c).current ≡ Some (runs c.session s request)
-  pub first : request.ran ≡ None → s.reset ≡ request.asking.mark
-
-abbrev pub WorksOnNewest : Connection → List Step → Type 0
-WorksOnNewest c [] = Unit {0}
-WorksOnNewest c (s ∷ ss) = WorksOn c s
 
 -- Packets have this greatest size.
 pub record Promises (E : Type 0) (answers : Answers) (size : ℕ) (c : Connection) : Type 0 where

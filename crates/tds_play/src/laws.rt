@@ -1,20 +1,20 @@
 //! The ends and the model: what each end's core does, the model's connection does. Each is the
-//! contract of a function without a body.
-ghost use Rattle.std.specs.Prelude.{◌≡◌, ◌≤◌, ◌<◌, ◌^◌, ℕ, List, [], ◌∷◌, ◌++◌, map, flat_map, take, Option, Some, true};
+//! contract of a function without a body, or of one whose body does nothing but name the laws that
+//! it rests on.
+ghost use Rattle.std.specs.Prelude.{◌≡◌, ℕ, List, ◌++◌, map, flat_map, take, Option, Some};
 ghost use Rattle.std.specs.List.{AllByRecursion};
 ghost use Rattle.tds_client.specs.Sending.{started, sent, room};
 ghost use Rattle.tds_client.specs.Session.{ClientSession, marked, new_session, unless_idle};
 ghost use Rattle.tds_client.specs.Taking.{taken as client_taken};
 ghost use Rattle.tds_packet.specs.Layout.{bits_of, has_bit};
 ghost use Rattle.tds_packet.specs.Reading.{Reading};
+ghost use Rattle.tds_packet.specs.declared.kind.Direction.TheVariants.{ToClient, ToServer};
 ghost use Rattle.tds_packet.specs.declared.status.Reset.{Reset};
-ghost use Rattle.tds_play.specs.Alike.{AskAlike, CancelAlike, SendAlike, WorkAlike, EndsIfDue, ArriveAlike, IsUndisturbed};
+ghost use Rattle.tds_play.specs.Alike.{AskAlike, CancelAlike, SendAlike, WorkAlike, ArriveAlike};
 ghost use Rattle.tds_play.specs.Deliveries.{AllArrive, ServesAlike, AllHeard, ListensAlike};
 ghost use Rattle.tds_play.specs.Hearing.{HearAlike, IsAwaited, IsSaid};
 ghost use Rattle.tds_play.specs.Lending.{FoundAlike, lent};
-ghost use Rattle.tds_play.specs.Messages.{IsSpelled, IsNext, AreWhole, AreNextIn};
-ghost use Rattle.tds_play.specs.Stands.{MatchesClient, MatchesServer, Sends, is_sending};
-ghost use Rattle.tds_request.specs.Layout.{Fits};
+ghost use Rattle.tds_play.specs.Stands.{MatchesClient, MatchesServer, Sends};
 ghost use Rattle.tds_request.specs.declared.request.Request.{Request};
 ghost use Rattle.tds_server.specs.State.{ServerState, new_server};
 ghost use Rattle.tds_server.specs.Taking.{taken};
@@ -23,21 +23,31 @@ ghost use Rattle.tds_session.specs.Answer.{Answers, answer_of};
 ghost use Rattle.tds_session.specs.Session.{SessionState, strongest};
 ghost use Rattle.tds_token.specs.declared.token.Token.{Token};
 ghost use Rattle.tds_world.specs.Arrivals.{server_acts, client_acts, works, reach_server, reach_client};
-ghost use Rattle.tds_world.specs.Caller.{asks, sends, cancels};
+ghost use Rattle.tds_world.specs.Bounds.{IsSetup};
+ghost use Rattle.tds_world.specs.Caller.{sends};
 ghost use Rattle.tds_world.specs.Connection.{Connection, Standing, new_connection, phase, is_idle};
 ghost use Rattle.tds_world.specs.Entries.{Up, up_bytes, up_packet, Down, down_bytes, down_packet};
 ghost use Rattle.tds_world.specs.Events.{asks_by, sends_in};
 ghost use Rattle.tds_world.specs.Lane.{Lane, sent_bytes};
 ghost use Rattle.tds_world.specs.Lawful.{Lawful};
-ghost use Rattle.tds_world.specs.Phase.{Settled, phase_of};
+ghost use Rattle.tds_world.specs.Laws.{Always, OfEachConnection};
+ghost use Rattle.tds_world.specs.Messages.{IsSpelled, IsNext, AreWhole};
+ghost use Rattle.tds_world.specs.Packets.{IsSized};
+ghost use Rattle.tds_world.specs.Phase.{Settled};
 ghost use Rattle.tds_world.specs.Pool.{to_lend};
 ghost use Rattle.tds_world.specs.Record.{Record};
+ghost use Rattle.tds_world.specs.Steps.{EndsIfDue};
+ghost use Rattle.tds_world.specs.Welcome.{ServerExpects, WelcomeToServer};
 ghost use Rattle.tds_world.specs.World.{World};
 ghost use Rattle.tds_world.specs.declared.event.Setup.{Setup};
 ghost use Rattle.tds_world.specs.declared.report.Place.{Place};
 ghost use Rattle.tds_world.specs.declared.report.RequestStatus.{RequestStatus};
 
 use tds_session::Engine;
+use tds_world::laws::{
+    act_on_newest, all_in_range, all_welcome, changes_are_heard, engine_is_lawful,
+    engine_stays_in_range, steps_are_of_answers,
+};
 
 /// A client takes a request exactly where the model does, and then stands for its connection.
 pub fn asks_alike()
@@ -61,7 +71,7 @@ pub fn works_alike<E: Engine>()
 /// the same then, and acknowledges where the model does.
 pub fn arrives_alike<E: Engine>()
     ensures { (answers : Answers) (s : ServerState E) (c : Connection) (q : Record) (e : Up) → Lawful answers
-        → MatchesServer s c → c.current ≡ Some q → IsSpelled q.asking → IsNext q.asking c.parts e → IsUndisturbed e c.due
+        → MatchesServer s c → c.current ≡ Some q → IsSpelled q.asking → IsNext q.asking c.parts e → ServerExpects c e
         → ArriveAlike answers c e (taken answers s (up_packet e).header (up_packet e).body) }
 {}
 
@@ -88,20 +98,6 @@ pub fn the_other_stays<E: Engine>()
     ensures hears { (s : ServerState E) (c : Connection) (e : Down) → MatchesServer s c → MatchesServer s (client_acts c e) }
     ensures works { (s : ClientSession) (c : Connection) → MatchesClient s c → MatchesClient s (works c) }
     ensures arrives { (answers : Answers) (s : ClientSession) (c : Connection) (e : Up) → MatchesClient s c → MatchesClient s (server_acts answers c e) }
-{}
-
-/// What came of the newest request's message, what waits and what is left of it are the message,
-/// whatever happens: so each packet is the next piece where it arrives.
-pub fn messages_stay_whole()
-    ensures asks { (number lease n : ℕ) (q : Request) (c : Connection) → Fits q → c.heard < 2 ^ 64
-        → c.parts ≡ [] → c.to_server.waiting ≡ [] → AreWhole (asks number lease n q c) }
-    ensures sends { (room : ℕ) (q : Record) (c : Connection) → 1 ≤ room → c.current ≡ Some q
-        → is_sending (phase_of q) ≡ true → AreWhole c → AreWhole (sends room q c) }
-    ensures cancels { (c : Connection) → AreWhole c → AreWhole (cancels c) }
-    ensures works { (c : Connection) → AreWhole c → AreWhole (works c) }
-    ensures arrives { (answers : Answers) (c : Connection) (e : Up) (es : List Up) → AreNextIn c.current c.parts (e ∷ es)
-        → AreNextIn (server_acts answers c e).current (server_acts answers c e).parts es }
-    ensures hears { (c : Connection) (e : Down) → AreWhole c → AreWhole (client_acts c e) }
 {}
 
 /// A client cancels as the model does, in each phase: it sends the bytes of the same entries.
@@ -133,6 +129,15 @@ pub fn serves_alike<E: Engine>()
         → ServesAlike E answers r (take k (flat_map up_bytes es)) c (reach_server answers c es k) s reply }
 {}
 
+/// All that waits for a server is packets to its reader, and a server that stands for the connection
+/// takes each as the model does, one after the other: where each is the next piece of its message, is
+/// welcome, and fits the packet size.
+pub fn all_arrive<E: Engine>()
+    ensures { (answers : Answers) (r : Reading) (c : Connection) → Lawful answers → r.direction ≡ ToServer → AreWhole c
+        → WelcomeToServer answers c c.to_server.waiting → AllByRecursion (λ e. IsSized r.size (up_packet e)) c.to_server.waiting
+        → AllArrive E answers r c c.to_server.waiting }
+{}
+
 /// A client that is fed the bytes of entries hears those that come whole as the model does, in order,
 /// and is left with what has come of the next one.
 pub fn listens_alike()
@@ -148,3 +153,19 @@ pub fn sends_append()
     ensures to_client { (more : List ℕ) (old new : Lane Down) → Sends down_bytes more old new
         → sent_bytes down_bytes new ≡ sent_bytes down_bytes old ++ more }
 {}
+
+/// In every world, each entry that waits for a client is a packet to its reader, and a client that
+/// stands for the connection hears it as the model does, one after the other.
+pub fn all_heard<E: Engine>(engine: &E)
+    ensures { (setup : Setup) → IsSetup setup → Always setup (answer_of (E.statements_of engine.now) (E.step_of engine.now))
+        (λ w. OfEachConnection (λ c. (r : Reading) → r.direction ≡ ToClient → r.size ≡ setup.packet_size → AllHeard r c c.to_client.waiting) w) }
+{
+    engine_is_lawful(engine);
+    engine_stays_in_range(engine);
+    answers_are_said(engine);
+    all_welcome();
+    act_on_newest();
+    changes_are_heard();
+    all_in_range();
+    steps_are_of_answers();
+}

@@ -14,6 +14,7 @@ mod rendering;
 mod run;
 mod schedule;
 mod words;
+mod worlds;
 
 pub use carrier::{Carrier, CarrierError};
 pub use memory::MemoryCarrier;
@@ -32,6 +33,3 @@ pub use tds_world::{
 
 /// The answer of a growth that was refused.
 pub type NoMemory = std::alloc::AllocError;
-
-#[cfg(test)]
-mod tests;

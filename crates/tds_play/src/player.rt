@@ -1,6 +1,9 @@
 //! All connections of a play, and what each event does to them.
-ghost use Rattle.std.specs.Prelude.{◌≡◌, ◌≤◌, ◌<◌, ℕ, suc, [], length, OnOk};
-ghost use Rattle.tds_play.specs.Noted.{asked_after, held_of, leases_after, tickets_after};
+ghost use Rattle.std.specs.Prelude.{◌≡◌, ◌≤◌, ◌<◌, ℕ, suc, [], length, map, IfOk, OnOk};
+ghost use Rattle.std.specs.List.{filter_map};
+ghost use Rattle.tds_play.specs.Lending.{standing_of};
+ghost use Rattle.tds_play.specs.Noted.{about_of, asked_after, held_of, leases_after, tickets_after};
+ghost use Rattle.tds_play.specs.Seen.{seen_of};
 ghost use Rattle.tds_play.specs.Ties.{AreTied};
 ghost use Rattle.tds_play.specs.declared.pool.Found.TheVariants.{Here};
 
@@ -87,7 +90,8 @@ impl<E: Engine + Copy> Player<E> {
 
     /// The connection that an event is about.
     fn about(&self, event: &Event) -> Found
-        ensures { (place : ℕ) → result ≡ Here place → place < length self.now.links.items }
+        ensures value { result ≡ about_of event.now (map standing_of self.now.links.items) self.now.max self.now.leases self.now.tickets }
+        ensures there { (place : ℕ) → result ≡ Here place → place < length self.now.links.items }
     {
         match event {
             Event::Lease => to_lend(self.links.as_slice(), self.max),
@@ -212,9 +216,11 @@ impl<E: Engine + Copy> Player<E> {
     }
 
     /// What is seen of each connection that isn't cut.
-    pub(crate) fn snapshots(&self) -> Result<Vec<Snapshot>, NoMemory> {
+    pub(crate) fn snapshots(&self) -> Result<Vec<Snapshot>, NoMemory>
+        ensures { IfOk result (λ snapshots. snapshots.items ≡ filter_map seen_of self.now.links.items) }
+    {
         let mut snapshots = Vec::new(self.alloc);
-        for link in &self.links {
+        'links: for link in &self.links {
             if let Some(snapshot) = link.snapshot() {
                 snapshots.push(snapshot)?;
             }

@@ -3,12 +3,14 @@ ghost use Rattle.std.specs.Prelude.{◌≡◌, ◌≢◌, ◌<◌, ◌≤◌, �
 ghost use Rattle.tds_play.specs.declared.playing.PlayRefusal.{PlayRefusal};
 ghost use Rattle.tds_play.specs.declared.playing.PlayRefusal.TheVariants.{Memory};
 ghost use Rattle.tds_play.specs.Refused.{first_refusal, play_refusal_number};
+ghost use Rattle.tds_world.specs.Bounds.{IsEvent};
 
 use crate::carrier::Carrier;
 use crate::memory::MemoryCarrier;
 use crate::player::Player;
 use std::alloc::{AllocError, AllocFailed, Global};
 use tds_packet::PacketSize;
+use tds_request::Request;
 use tds_session::{Engine, ScriptEngine};
 use tds_world::{Event, EventReport, Report, Sequence, Setup};
 
@@ -117,6 +119,23 @@ fn packet_size(setup: &Setup, events: usize) -> Result<PacketSize, PlayRefusal>
     }
 }
 
+/// What an event asks for has a spelling: its types see to it.
+fn known(event: &Event)
+    ensures { IsEvent event.now }
+{
+    if let Event::Ask(_, request) = event {
+        match request {
+            Request::Batch(text) => {
+                let _units = text.units();
+            }
+            Request::Begin(level) => {
+                let _number = level.get();
+            }
+            Request::Commit | Request::Rollback => {}
+        }
+    }
+}
+
 /// Plays the events, one after the other, and tells of them and of the requests.
 fn play_events<E: Engine + Copy, C: Carrier>(
     alloc: Global,
@@ -130,6 +149,7 @@ fn play_events<E: Engine + Copy, C: Carrier>(
 {
     let mut reports = Vec::new(alloc);
     'events: for event in events {
+        known(event);
         let done = player.happen(carrier, event)?;
         reports.push(EventReport {
             outcome: done.outcome,

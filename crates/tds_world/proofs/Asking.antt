@@ -9,6 +9,7 @@ use Rattle.tds_session.specs.Answer.{Answers}
 use Rattle.tds_session.specs.Session.{SessionState}
 use Rattle.tds_world.specs.Connection.{Connection}
 use Rattle.tds_world.specs.Entries.{Asking, Up, Part, End, Drop, Attention, Down, Step, Acknowledgement}
+use Rattle.tds_world.specs.Heard.{Meets}
 use Rattle.tds_world.specs.Lawful.{TakesNoReset}
 use Rattle.tds_world.specs.Phase.{Phase, phase_of, is_settled}
 use Rattle.tds_world.specs.Record.{Record, header_descriptor}
@@ -44,11 +45,6 @@ abbrev pub NoResets : List Down → Type 0
 NoResets [] = Unit {0}
 NoResets (Step r place s ∷ es) = (s.reset ≡ None) × NoResets es
 NoResets (Acknowledgement r place ∷ es) = NoResets es
-
--- A reset that is taken meets the mark.
-abbrev pub Meets : Option Reset → Option Reset → Type 0
-Meets mark None = Unit {0}
-Meets mark (Some r) = mark ≡ Some r
 
 -- Only the first step among these can take a reset, and it meets the mark.
 abbrev pub MeetsMark : Option Reset → List Down → Type 0

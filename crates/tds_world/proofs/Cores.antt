@@ -1,5 +1,5 @@
--- What of a request changes only when it is asked and when it first runs: its number, its lease, what
--- it asks and the session that it ran in.
+-- What of a request changes only when it is asked and when it first runs: its number, its lease, its
+-- connection, what it asks and the session that it ran in.
 use Rattle.std.proofs.Common.{◌≡◌, ℕ, List, [], ◌∷◌, ◌++◌, ◌-◌, map, Bool, true, false, cond, length, ltb, refl, sym, ap, ◌∙◌, Option, Some, None, option_map}
 use Rattle.tds_session.specs.Answer as answer
 use Rattle.tds_session.specs.Answer.{Answers}
@@ -15,11 +15,12 @@ use Rattle.tds_world.specs.Record.{Record, gives, acknowledges, when, if_numbere
 pub record Core : Type 0 where
   pub number : ℕ
   pub lease : ℕ
+  pub conn : ℕ
   pub asking : Asking
   pub ran : Option SessionState
 
 abbrev pub core_of : Record → Core
-core_of q = record { number = q.number; lease = q.lease; asking = q.asking; ran = q.ran }
+core_of q = record { number = q.number; lease = q.lease; conn = q.conn; asking = q.asking; ran = q.ran }
 
 abbrev pub past_of : Connection → List Core
 past_of c = map core_of c.past

@@ -62,7 +62,7 @@ cut_grown setup answers R (c ∷ cs) g (suc k) b e = cut_grown setup answers R c
 
 -- ---- One event
 
-notes_leave : (e : Event) (n heard : ℕ) (w : World) → (notes e n heard w).connections ≡ w.connections
+pub notes_leave : (e : Event) (n heard : ℕ) (w : World) → (notes e n heard w).connections ≡ w.connections
 notes_leave event.Lease n heard w = refl
 notes_leave (event.Resume t) n heard w = refl
 notes_leave (event.GiveBack l) n heard w = refl

@@ -28,6 +28,8 @@ pub mod Sound
 pub mod Quiet
 pub mod Counts
 pub mod Sizes
+pub mod Messages
+pub mod Packets
 pub mod Lawful
 pub mod Script
 pub mod Deliveries
@@ -41,3 +43,9 @@ pub mod Steps
 pub mod Welcome
 pub mod Requests
 pub mod Dones
+pub mod Fitting
+pub mod Sessions
+pub mod Newest
+pub mod Order
+pub mod Lending
+pub mod Underway

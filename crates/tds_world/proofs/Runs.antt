@@ -7,9 +7,10 @@ use Rattle.tds_session.specs.Answer as answer
 use Rattle.tds_session.specs.Answer.{Answers, reset_step}
 use Rattle.tds_session.specs.Session.{SessionState, after_reset}
 use Rattle.tds_world.specs.Entries.{Down, Step, Acknowledgement}
+use Rattle.tds_world.specs.Heard.{Meets}
 use Rattle.tds_world.specs.Lawful.{Lawful, TakesNoReset}
 use Rattle.tds_world.specs.Record.{header_descriptor, ran_in}
-use Rattle.tds_world.proofs.Asking.{NoSteps, NoResets, Meets, MeetsMark}
+use Rattle.tds_world.proofs.Asking.{NoSteps, NoResets, MeetsMark}
 use Rattle.tds_world.proofs.Flow.{Hears}
 
 -- The session that a request with this mark runs in, of the one before it.

@@ -43,7 +43,7 @@ body_size (request.Begin level) h = omega arith
 body_size request.Commit h = omega arith
 body_size request.Rollback h = omega arith
 
-message_size : (descriptor : ℕ) (q : Request) → Fits q → length (spelling descriptor q) ≤ 4022
+pub message_size : (descriptor : ℕ) (q : Request) → Fits q → length (spelling descriptor q) ≤ 4022
 message_size descriptor q h =
     let parts : length (spelling descriptor q) ≡ 22 + length (body_of q) = length-append (all_headers descriptor) (body_of q) in
     let body : length (body_of q) ≤ 4000 = body_size q h in

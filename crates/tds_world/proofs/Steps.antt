@@ -14,7 +14,7 @@ use Rattle.tds_world.specs.Entries.{Down, Step, Acknowledgement}
 use Rattle.tds_world.specs.Events.{world_after}
 use Rattle.tds_world.specs.Lawful.{Lawful, EndsOnce}
 use Rattle.tds_world.specs.Laws.{Always}
-use Rattle.tds_world.specs.Steps.{sent_down, IsStepOf, OfSteps, StepsAreOfAnswers, AreMessages, out_of, MessagesEndOnce}
+use Rattle.tds_world.specs.Steps.{sent_down, IsStepOf, OfSteps, StepsAreOfAnswers, AreMessages, out_of, MessagesEndOnce, EndsIfDue, AnswersEndOnce}
 use Rattle.tds_world.specs.World.{new_world}
 use Rattle.tds_world.proofs.Flow.{Sound}
 use Rattle.tds_world.proofs.Sent.{Saying, Sent, Keeps, sent_kept}
@@ -22,12 +22,12 @@ use Rattle.tds_world.proofs.Worlds.{always, each_follows}
 
 -- ---- Each step is one of an answer
 
-with_step : (P : answer.Step → Type 0) (sent : List Down) (r place : ℕ) (s : answer.Step) → P s → OfSteps P sent → OfSteps P (sent ++ Step r place s ∷ [])
+pub with_step : (P : answer.Step → Type 0) (sent : List Down) (r place : ℕ) (s : answer.Step) → P s → OfSteps P sent → OfSteps P (sent ++ Step r place s ∷ [])
 with_step P [] r place s p h = (p, tt)
 with_step P (Step q i t ∷ es) r place s p h = (h.0, with_step P es r place s p h.1)
 with_step P (Acknowledgement q i ∷ es) r place s p h = with_step P es r place s p h
 
-with_acknowledgement : (P : answer.Step → Type 0) (sent : List Down) (r place : ℕ) → OfSteps P sent → OfSteps P (sent ++ Acknowledgement r place ∷ [])
+pub with_acknowledgement : (P : answer.Step → Type 0) (sent : List Down) (r place : ℕ) → OfSteps P sent → OfSteps P (sent ++ Acknowledgement r place ∷ [])
 with_acknowledgement P [] r place h = tt
 with_acknowledgement P (Step q i t ∷ es) r place h = (h.0, with_acknowledgement P es r place h.1)
 with_acknowledgement P (Acknowledgement q i ∷ es) r place h = with_acknowledgement P es r place h
@@ -66,12 +66,7 @@ steps_are_of_answers setup answers l events =
 
 -- ---- Messages
 
--- The rest of an answer ends once.
-abbrev EndsRest : List answer.Step → Type 0
-EndsRest [] = Unit {0}
-EndsRest (s ∷ ss) = EndsOnce (s ∷ ss)
-
-ends_rest : (ss : List answer.Step) → EndsOnce ss → EndsRest ss
+ends_rest : (ss : List answer.Step) → EndsOnce ss → EndsIfDue ss
 ends_rest [] h = tt
 ends_rest (s ∷ ss) h = h
 
@@ -98,12 +93,12 @@ goes_on : (s : answer.Step) (ss : List answer.Step) (taken : ℕ) → EndsOnce (
 goes_on s [] taken h = ap (λ (b : Bool). cond b 0 (taken + 1)) h
 goes_on s (t ∷ ts) taken h = ap (λ (b : Bool). cond b 0 (taken + 1)) h.0
 
-rest_ends : (s : answer.Step) (ss : List answer.Step) → EndsOnce (s ∷ ss) → EndsRest ss
+rest_ends : (s : answer.Step) (ss : List answer.Step) → EndsOnce (s ∷ ss) → EndsIfDue ss
 rest_ends s [] h = tt
 rest_ends s (t ∷ ts) h = h.1
 
 abbrev Messages : Saying
-Messages s sent due taken = AreMessages 0 sent (out_of due taken) × EndsRest due
+Messages s sent due taken = AreMessages 0 sent (out_of due taken) × EndsIfDue due
 
 messages_kept : (answers : Answers) → Lawful answers → Keeps answers Messages
 messages_kept answers l = record {
@@ -116,4 +111,9 @@ messages_kept answers l = record {
 pub messages_end_once : (setup : Setup) (answers : Answers) → Lawful answers → Always setup answers MessagesEndOnce
 messages_end_once setup answers l events =
     each_follows (λ c. Sound c × Sent Messages c) (λ c. AreMessages 0 (sent_down c) (out_of c.due c.taken)) (world_after setup answers events new_world).connections (λ c h. h.1.0)
+    (always (λ c. Sound c × Sent Messages c) setup answers events (sent_kept setup answers Messages l (messages_kept answers l)))
+
+pub answers_end_once : (setup : Setup) (answers : Answers) → Lawful answers → Always setup answers AnswersEndOnce
+answers_end_once setup answers l events =
+    each_follows (λ c. Sound c × Sent Messages c) (λ c. EndsIfDue c.due) (world_after setup answers events new_world).connections (λ c h. h.1.1)
     (always (λ c. Sound c × Sent Messages c) setup answers events (sent_kept setup answers Messages l (messages_kept answers l)))

@@ -15,6 +15,7 @@ use Rattle.tds_world.specs.Arrivals.{server_acts, client_acts, reset_effect, mar
 use Rattle.tds_world.specs.Connection.{Connection, phase}
 use Rattle.tds_world.specs.Entries.{Up, Down, Step, Acknowledgement}
 use Rattle.tds_world.specs.Events.{world_after}
+use Rattle.tds_world.specs.Heard.{Meets, AreHeardOn, IsHeardOn, ChangesAreHeard}
 use Rattle.tds_world.specs.Lane.{passed}
 use Rattle.tds_world.specs.Lawful.{Lawful, TakesNoReset}
 use Rattle.tds_world.specs.Laws.{Always}
@@ -23,13 +24,14 @@ use Rattle.tds_world.specs.Record.{Record}
 use Rattle.tds_world.specs.Steps.{OfSteps}
 use Rattle.tds_world.specs.Welcome.{ClientExpects, Apply, ChangesApply, WelcomeToServer, WelcomeToClient, AllWelcome}
 use Rattle.tds_world.specs.World.{World, new_world}
-use Rattle.tds_world.proofs.Asking.{Meets, ByRan, Newest, NewestWith}
+use Rattle.tds_world.proofs.Asking.{ByRan, Newest, NewestWith}
 use Rattle.tds_world.proofs.Flow.{FlowIn, number_in, SoundWith, Sound}
 use Rattle.tds_world.proofs.Keeps.{up_act, down_act_at}
 use Rattle.tds_world.proofs.Marks.{down_marked_at}
 use Rattle.tds_world.proofs.Noted.{always_in}
 use Rattle.tds_world.proofs.OwnTransactions.{WellMarked, marked_kept}
 use Rattle.tds_world.proofs.Sent.{Sent, sent_kept, server_expects}
+use Rattle.tds_world.proofs.Sound.{sound_kept}
 use Rattle.tds_world.proofs.Steps.{OfAnswers, StepsSaid, steps_said}
 use Rattle.tds_world.proofs.Worlds.{always, each_both, each_follows}
 
@@ -141,3 +143,23 @@ all_welcome setup answers l events =
     (each_both (WellMarked answers w) (λ c. Sound c × Sent (StepsSaid ResetAlone) c) w.connections
     (always_in setup answers (WellMarked answers) events (marked_kept setup answers l))
     (always (λ c. Sound c × Sent (StepsSaid ResetAlone) c) setup answers events (sent_kept setup answers (StepsSaid ResetAlone) l (steps_said answers ResetAlone (resets_alone answers l)))))
+
+-- ---- What each step tells
+
+is_heard : (answers : Answers) (c : Connection) (e : Down) (es : List Down) → SoundWith c c.to_server.waiting (e ∷ es) → NewestWith answers c c.to_server.waiting (e ∷ es) → IsHeardOn c e
+is_heard answers c (Step r i s) es f h =
+    ((f.1.0.0, f.1.0.1), newest_meets answers c c.to_server.waiting r i c.answering s es c.parts c.due c.current f.0 h)
+is_heard answers c (Acknowledgement r i) es f h = tt
+
+are_heard : (answers : Answers) (c : Connection) (es : List Down) → SoundWith c c.to_server.waiting es → NewestWith answers c c.to_server.waiting es → AreHeardOn c es
+are_heard answers c [] f h = tt
+are_heard answers c (e ∷ es) f h =
+    (is_heard answers c e es f h, are_heard answers (client_acts (record c { to_client = passed e c.to_client }) e) es (down_act_at c e es f) (down_marked_at answers c e es f h))
+
+pub changes_are_heard : (setup : Setup) (answers : Answers) → Lawful answers → Always setup answers ChangesAreHeard
+changes_are_heard setup answers l events =
+    let w : World = world_after setup answers events new_world in
+    each_follows (λ c. WellMarked answers w c × Sound c) (λ c. AreHeardOn c c.to_client.waiting) w.connections (λ c h. are_heard answers c c.to_client.waiting h.1 h.0.1.1)
+    (each_both (WellMarked answers w) Sound w.connections
+    (always_in setup answers (WellMarked answers) events (marked_kept setup answers l))
+    (always Sound setup answers events (sound_kept setup answers l)))

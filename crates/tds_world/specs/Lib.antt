@@ -13,9 +13,17 @@ pub mod Observed
 pub mod Lawful
 pub mod Laws
 pub mod Bounds
+pub mod Packets
 pub mod Deliveries
 pub mod Begins
 pub mod Steps
+pub mod Heard
 pub mod Welcome
 pub mod Requests
+pub mod Sessions
+pub mod Messages
 pub mod Dones
+pub mod Newest
+pub mod Order
+pub mod Lending
+pub mod Underway

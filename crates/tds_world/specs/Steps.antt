@@ -8,6 +8,7 @@ use Rattle.tds_session.specs.Answer.{Answers}
 use Rattle.tds_session.specs.Session.{SessionState}
 use Rattle.tds_world.specs.Connection.{Connection}
 use Rattle.tds_world.specs.Entries.{Down, Step, Acknowledgement}
+use Rattle.tds_world.specs.Lawful.{EndsOnce}
 use Rattle.tds_world.specs.Laws.{OfEachConnection}
 use Rattle.tds_world.specs.World.{World}
 
@@ -60,3 +61,11 @@ out_of (s ∷ ss) taken = taken
 
 abbrev pub MessagesEndOnce : World → Type 0
 MessagesEndOnce w = OfEachConnection (λ c. AreMessages 0 (sent_down c) (out_of c.due c.taken)) w
+
+-- What is due, if anything is, ends once.
+abbrev pub EndsIfDue : List answer.Step → Type 0
+EndsIfDue [] = Unit {0}
+EndsIfDue (s ∷ ss) = EndsOnce (s ∷ ss)
+
+abbrev pub AnswersEndOnce : World → Type 0
+AnswersEndOnce w = OfEachConnection (λ c. EndsIfDue c.due) w

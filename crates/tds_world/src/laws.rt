@@ -1,15 +1,27 @@
 //! The session laws. Each is the contract of a function without a body: what holds of the model
 //! after any events, whatever their order, and whatever the sizes of the deliveries.
+ghost use Rattle.std.specs.Prelude.{List, length};
 ghost use Rattle.tds_session.specs.Answer.{Answers, answer_of, script_answers};
 ghost use Rattle.tds_world.specs.Begins.{HandsOutNext};
 ghost use Rattle.tds_world.specs.Bounds.{BeginsOnce, FewUnderway, IsEvent, IsSetup, OneAttention, OwnTransaction};
 ghost use Rattle.tds_world.specs.Deliveries.{DeliversExactly};
 ghost use Rattle.tds_world.specs.Dones.{FinalDoneAtEnd, HaveDones};
+ghost use Rattle.tds_world.specs.Events.{world_after};
+ghost use Rattle.tds_world.specs.Heard.{ChangesAreHeard};
 ghost use Rattle.tds_world.specs.Lawful.{Lawful};
 ghost use Rattle.tds_world.specs.Laws.{Always, AlwaysOf, FreshStart, IdleIsQuiet, NothingAfterCancel, OwnAnswers};
+ghost use Rattle.tds_world.specs.Lending.{LendsIdle};
+ghost use Rattle.tds_world.specs.Newest.{ActOnNewest, WorkOnNewest};
+ghost use Rattle.tds_world.specs.Order.{RequestsInOrder};
+ghost use Rattle.tds_world.specs.Messages.{MessagesAreWhole};
+ghost use Rattle.tds_world.specs.Packets.{PacketsFit};
 ghost use Rattle.tds_world.specs.Requests.{RequestsAreSpelled};
-ghost use Rattle.tds_world.specs.Steps.{MessagesEndOnce, StepsAreOfAnswers};
+ghost use Rattle.tds_world.specs.Sessions.{AllInRange, StayInRange};
+ghost use Rattle.tds_world.specs.Steps.{AnswersEndOnce, MessagesEndOnce, StepsAreOfAnswers};
+ghost use Rattle.tds_world.specs.Underway.{FewToClients};
 ghost use Rattle.tds_world.specs.Welcome.{AllWelcome};
+ghost use Rattle.tds_world.specs.World.{new_world};
+ghost use Rattle.tds_world.specs.declared.event.Event.{Event};
 ghost use Rattle.tds_world.specs.declared.event.Setup.{Setup};
 
 use tds_session::Engine;
@@ -51,6 +63,12 @@ pub fn one_attention()
 /// requests that have a spelling.
 pub fn few_underway()
     ensures { (setup : Setup) (answers : Answers) → IsSetup setup → Lawful answers → AlwaysOf IsEvent setup answers FewUnderway }
+{}
+
+/// Each packet that waits for a server is as long as its header says, and fits the packet size. It
+/// holds for any answers.
+pub fn packets_fit()
+    ensures { (setup : Setup) (answers : Answers) → IsSetup setup → Always setup answers (PacketsFit setup) }
 {}
 
 /// A request that ran did so in the transaction that its header names.
@@ -105,6 +123,12 @@ pub fn requests_are_spelled()
     ensures { (setup : Setup) (answers : Answers) → Lawful answers → Always setup answers RequestsAreSpelled }
 {}
 
+/// What came of the newest request's message, what waits and what is left of it are the message: so
+/// each packet is the next piece of it where it arrives.
+pub fn messages_are_whole()
+    ensures { (setup : Setup) (answers : Answers) → IsSetup setup → Lawful answers → StayInRange answers → AlwaysOf IsEvent setup answers MessagesAreWhole }
+{}
+
 /// Whatever the engine, a server's answer has its final DONE at the end of its last step, and there
 /// alone.
 pub fn engine_has_dones<E: Engine>(engine: &E)
@@ -115,4 +139,56 @@ pub fn engine_has_dones<E: Engine>(engine: &E)
 /// of the packet that ends the message, and there alone.
 pub fn final_done_at_end()
     ensures { (setup : Setup) (answers : Answers) → Lawful answers → HaveDones answers → Always setup answers FinalDoneAtEnd }
+{}
+
+/// Whatever the engine, from a session of the program on, each step of an answer fits one packet of
+/// the smallest size, and leaves a session of the program.
+pub fn engine_stays_in_range<E: Engine>(engine: &E)
+    ensures { StayInRange (answer_of (E.statements_of engine.now) (E.step_of engine.now)) }
+{}
+
+/// So it is with each step that was sent or is due, and the session of each connection's server is
+/// one of the program.
+pub fn all_in_range()
+    ensures { (setup : Setup) (answers : Answers) → Lawful answers → StayInRange answers → Always setup answers AllInRange }
+{}
+
+/// What waits for a client and what is due is the newest request's, and no older request changes by
+/// it.
+pub fn act_on_newest()
+    ensures { (setup : Setup) (answers : Answers) → Lawful answers → Always setup answers ActOnNewest }
+{}
+
+/// A step that is due is one of the newest request's answer: the server's work says of this request
+/// that it ran, and where it is the first step, it takes the reset that the request asks for.
+pub fn work_on_newest()
+    ensures { (setup : Setup) (answers : Answers) → Lawful answers → Always setup answers WorkOnNewest }
+{}
+
+/// What is due, if anything is, has a last step, which alone is marked so.
+pub fn answers_end_once()
+    ensures { (setup : Setup) (answers : Answers) → Lawful answers → Always setup answers AnswersEndOnce }
+{}
+
+/// The requests of each connection are just those that were asked on it, in the order in which they
+/// were asked. It holds for any answers.
+pub fn requests_in_order()
+    ensures { (setup : Setup) (answers : Answers) → Always setup answers RequestsInOrder }
+{}
+
+/// After so many events few bytes are underway to a client: each sends at most one step.
+pub fn few_to_clients()
+    ensures { (setup : Setup) (answers : Answers) → Lawful answers → StayInRange answers
+        → (events : List Event) → FewToClients (length events) (world_after setup answers events new_world) }
+{}
+
+/// Where a step arrives, its changes all apply to the descriptor that the client heard last, and a
+/// reset that it took is the one that the client's mark asks for.
+pub fn changes_are_heard()
+    ensures { (setup : Setup) (answers : Answers) → Lawful answers → Always setup answers ChangesAreHeard }
+{}
+
+/// A connection that is lent again is idle.
+pub fn lends_idle()
+    ensures { (setup : Setup) (answers : Answers) → Lawful answers → Always setup answers (LendsIdle setup) }
 {}

@@ -1,12 +1,19 @@
 //! What a delivery does on its connection.
-ghost use Rattle.std.specs.Prelude.{◌≡◌, ◌≤◌, ◌||◌, false, min, Option, IfOk, OnOk};
+ghost use Rattle.std.specs.Prelude.{◌≡◌, ◌≤◌, ◌||◌, ◌++◌, ℕ, List, false, is_none, min, None, Option, Some, IfOk, OnOk};
+ghost use Rattle.tds_client.specs.Session.{unless_idle};
 ghost use Rattle.tds_packet.specs.declared.kind.Direction.TheVariants.{ToClient};
 ghost use Rattle.tds_play.specs.Between.{Stands};
 ghost use Rattle.tds_play.specs.Deliveries.{AllArrive};
+ghost use Rattle.tds_play.specs.Feeding.{Comes, Coming, Listened, listened};
+ghost use Rattle.tds_play.specs.Links.{drained_at, placed_at};
+ghost use Rattle.tds_play.specs.Listening.{HasListened, told_in};
 ghost use Rattle.tds_play.specs.Pipe.{Pipe, AreSame};
+ghost use Rattle.tds_play.specs.Plays.{IsPlayed};
+ghost use Rattle.tds_play.specs.Promises.{IsCountable, Promises};
+ghost use Rattle.tds_play.specs.Seen.{done_as};
 ghost use Rattle.tds_play.specs.Ties.{IsTied};
-ghost use Rattle.tds_session.specs.Answer.{answer_of};
-ghost use Rattle.tds_world.specs.Arrivals.{to_server};
+ghost use Rattle.tds_session.specs.Answer.{Answers, answer_of};
+ghost use Rattle.tds_world.specs.Arrivals.{to_client, to_server};
 ghost use Rattle.tds_world.specs.Connection.{Connection, down_underway, up_underway};
 ghost use Rattle.tds_world.specs.Deliveries.{DeliversOn};
 ghost use Rattle.tds_world.specs.declared.outcome.Outcome.TheVariants as outcome;
@@ -59,6 +66,14 @@ impl<E: Engine + Drop> Link<E> {
             → IfOk result (λ done. done.lost ≡ false
             → (done.outcome ≡ outcome.ToServer (min most (up_underway c)))
             × Stands self.new (C.pipes carrier.new self.old.number) (to_server (answer_of (E.statements_of self.old.server.engine) (E.step_of self.old.server.engine)) most c)) }
+        ensures tells { OnOk result (C.tells carrier.old → C.tells carrier.new) }
+        ensures steady { C.steady → IfOk result (λ done. done.lost ≡ false) }
+        ensures alike { (size : ℕ) (engine : E) (c : Connection) → C.tells carrier.old → C.steady
+            → IsPlayed self.old.number size engine self.old (C.pipes carrier.old self.old.number) c
+            → Promises E (answer_of (E.statements_of engine) (E.step_of engine)) size c
+            → IsCountable (to_server (answer_of (E.statements_of engine) (E.step_of engine)) most c)
+            → IfOk result (λ done. (done ≡ done_as (outcome.ToServer (min most (up_underway c))))
+            × IsPlayed self.old.number size engine self.new (C.pipes carrier.new self.old.number) (to_server (answer_of (E.statements_of engine) (E.step_of engine)) most c)) }
     {
         let count = at_most(self.to_server, most);
         let mut piece = Vec::new(alloc);
@@ -87,6 +102,13 @@ impl<E: Engine + Drop> Link<E> {
         ensures number { self.new.number ≡ self.old.number }
         ensures tied { OnOk result (IsTied self.new (C.pipes carrier.new self.old.number)) }
         ensures others { OnOk result (AreSame (C.pipes carrier.old) (C.pipes carrier.new) self.old.number) }
+        ensures tells { OnOk result (C.tells carrier.old → C.tells carrier.new) }
+        ensures steady { C.steady → IfOk result (λ done. done.lost ≡ false) }
+        ensures alike { (answers : Answers) (size : ℕ) (engine : E) (c : Connection) → C.tells carrier.old → C.steady
+            → IsPlayed self.old.number size engine self.old (C.pipes carrier.old self.old.number) c
+            → Promises E answers size c
+            → IfOk result (λ done. (done ≡ done_as (outcome.ToClient (min most (down_underway c))))
+            × IsPlayed self.old.number size engine self.new (C.pipes carrier.new self.old.number) (to_client most c)) }
     {
         let count = at_most(self.to_client, most);
         let mut piece = Vec::new(alloc);
@@ -95,10 +117,17 @@ impl<E: Engine + Drop> Link<E> {
         if let Some(fault) = heard.fault {
             return Ok(self.end_by_fault(carrier, fault, carried.lost));
         }
+        self.drain();
+        Ok(self.end(carrier, Outcome::ToClient(carried.count), carried.lost))
+    }
+
+    /// A draining connection is free once its client is idle.
+    fn drain(&mut self)
+        ensures { self.new ≡ placed_at (drained_at (is_none (unless_idle self.old.client.stage)) self.old.place) self.old }
+    {
         if self.place == Place::Draining && self.is_idle() {
             self.place = Place::Free;
         }
-        Ok(self.end(carrier, Outcome::ToClient(carried.count), carried.lost))
     }
 
     /// The client takes what came, for the newest request.
@@ -107,6 +136,12 @@ impl<E: Engine + Drop> Link<E> {
         ensures number { self.new.number ≡ self.old.number }
         ensures live { self.new.is_cut ≡ self.old.is_cut }
         ensures tied { (pipe : Option Pipe) → IsTied self.old pipe → OnOk result (IsTied self.new pipe) }
+        // Where packets come that the client takes, it takes them in order, and tells what they say to
+        // the newest request's caller.
+        ensures heard { (packets : List Coming) (left : List ℕ) (then : Listened)
+            → Comes self.old.client_reader (self.old.client_reader.taken ++ piece.now) packets left
+            → listened self.old.client None (told_in self.old.current) packets ≡ Some then
+            → IfOk result (λ heard. (heard.fault ≡ None) × HasListened then left self.old self.new) }
     {
         match &mut self.current {
             None => {

@@ -1,9 +1,11 @@
-use crate::{RenderFault, render};
+//! The text of a report, by its parts.
+
 use std::alloc::{AllocError, Global};
 use std::io;
 use std::io::Write;
 use std::test::Fail;
 use tds_packet::Reset;
+use tds_play::{RenderFault, render};
 use tds_session::Session;
 use tds_token::{Column, ColumnList, EnvChange, Message, Row, Text, Token};
 use tds_world::{

@@ -3,11 +3,12 @@ use Rattle.std.specs.Prelude.{ℕ, ◌+◌, ◌≡◌, ◌≢◌, ◌≤◌, Lis
 use Rattle.tds_packet.specs.declared.status.Reset.{Reset}
 use Rattle.tds_packet.specs.Layout.{bits_of}
 use Rattle.tds_request.specs.Layout.{IsRequest, kind_of_request, spelling}
-use Rattle.tds_world.specs.Caller.{mark_bit}
+use Rattle.tds_world.specs.Caller.{kind_of_message, mark_bit}
 use Rattle.tds_world.specs.Connection.{Connection}
 use Rattle.tds_world.specs.Entries.{Packet, Asking, Up, Part, End, Drop, Attention}
+use Rattle.tds_world.specs.Laws.{OfEachConnection}
 use Rattle.tds_world.specs.Record.{Record, Out, NotBegun, Begun, Whole}
-use Rattle.tds_play.specs.Stands.{kind_asked}
+use Rattle.tds_world.specs.World.{World}
 
 -- A request's message.
 abbrev pub message_of : Asking → List ℕ
@@ -24,13 +25,13 @@ bits_behind (b ∷ bs) mark = 0
 
 -- A packet with the next bytes of a request's message, and with these bits beside the mark's.
 pub record IsPiece (a : Asking) (before : List ℕ) (bits : ℕ) (p : Packet) : Type 0 where
-  pub kind : p.header.kind ≡ kind_asked a
+  pub kind : p.header.kind ≡ kind_of_message (kind_of_request a.request)
   pub status : bits_of p.header.status ≡ bits + bits_behind before a.mark
   pub most : length (before ++ p.body) ≤ 4022
 
 -- The word to drop what came.
 pub record IsDrop (a : Asking) (p : Packet) : Type 0 where
-  pub kind : p.header.kind ≡ kind_asked a
+  pub kind : p.header.kind ≡ kind_of_message (kind_of_request a.request)
   pub status : bits_of p.header.status ≡ 3
 
 -- An entry of a request is next, behind these bytes of its message.
@@ -60,11 +61,15 @@ AreNext a cancelled out left before [] = IsLeft a cancelled out left before
 AreNext a cancelled out left before (e ∷ es) =
     IsNext a before e × AreNext a cancelled out left (came_with before e) es
 
--- What came of the newest request, what waits and what is left are its message.
+-- What came of the newest request, what waits and what is left are its message. Without a request
+-- nothing waits.
 abbrev pub AreNextIn : Option Record → List ℕ → List Up → Type 0
-AreNextIn None parts ups = Unit {0}
+AreNextIn None parts ups = ups ≡ []
 AreNextIn (Some q) parts ups =
     IsSpelled q.asking × AreNext q.asking q.cancelled q.out q.left parts ups
 
 abbrev pub AreWhole : Connection → Type 0
 AreWhole c = AreNextIn c.current c.parts c.to_server.waiting
+
+abbrev pub MessagesAreWhole : World → Type 0
+MessagesAreWhole w = OfEachConnection AreWhole w

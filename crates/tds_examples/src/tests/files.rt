@@ -1,6 +1,8 @@
-use crate::{ScheduleFault, read_schedule};
+//! Schedules as they are read from a file's bytes.
+
 use std::alloc::Global;
 use std::test::Fail;
+use tds_play::{ScheduleFault, read_schedule};
 use tds_request::Request;
 use tds_world::Event;
 

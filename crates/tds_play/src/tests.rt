@@ -1,2 +1,0 @@
-mod rendering;
-mod schedule;

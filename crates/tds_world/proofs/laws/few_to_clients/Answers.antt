@@ -1,0 +1,5 @@
+use Rattle.tds_world.proofs.Underway as underway
+use Rattle.tds_world.proofs.laws.few_to_clients.Goals as goal
+
+pub returns : goal.returns
+returns c = underway.few_to_clients

@@ -1,0 +1,5 @@
+use Rattle.tds_world.proofs.Order as order
+use Rattle.tds_world.proofs.laws.requests_in_order.Goals as goal
+
+pub returns : goal.returns
+returns c = order.requests_in_order

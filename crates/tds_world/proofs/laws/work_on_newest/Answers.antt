@@ -1,0 +1,5 @@
+use Rattle.tds_world.proofs.Newest as newest
+use Rattle.tds_world.proofs.laws.work_on_newest.Goals as goal
+
+pub returns : goal.returns
+returns c = newest.work_on_newest

@@ -1,0 +1,38 @@
+-- The sessions of the servers stay those of the program, and each step of an answer fits one packet.
+use Rattle.std.specs.Prelude.{ℕ, ◌≤◌, length, flat_map, Option, None}
+use Rattle.std.specs.List.{AllByRecursion}
+use Rattle.tds_packet.specs.declared.status.Reset.{Reset}
+use Rattle.tds_request.specs.declared.request.Request.{Request}
+use Rattle.tds_session.specs.Answer as answer
+use Rattle.tds_session.specs.Answer.{Answers}
+use Rattle.tds_session.specs.Session.{SessionState, IsSession}
+use Rattle.tds_token.specs.Layout.{IsTokens, spelling}
+use Rattle.tds_world.specs.Connection.{Connection}
+use Rattle.tds_world.specs.Laws.{OfEachConnection}
+use Rattle.tds_world.specs.Steps.{OfSteps, sent_down}
+use Rattle.tds_world.specs.World.{World}
+
+-- One packet of the smallest size, 512 bytes, holds the step's tokens: they have a spelling, which
+-- has a byte at least and has room behind the header. The session behind the step is one of the
+-- program.
+pub record FitsStep (s : answer.Step) : Type 0 where
+  pub columns : Option ℕ
+  pub spelled : IsTokens None s.tokens (flat_map spelling s.tokens) columns
+  pub some : 1 ≤ length (flat_map spelling s.tokens)
+  pub most : length (flat_map spelling s.tokens) ≤ 504
+  pub after : IsSession s.after
+
+-- Answers of which it holds, from each session of the program on.
+abbrev pub StayInRange : Answers → Type 0
+StayInRange answers =
+    (s : SessionState) (descriptor : ℕ) (reset : Option Reset) (q : Request) → IsSession s
+    → AllByRecursion FitsStep (answers s descriptor reset q)
+
+-- The server's session is one of the program, and each step that was sent or is due fits.
+pub record IsInRange (c : Connection) : Type 0 where
+  pub session : IsSession c.session
+  pub sent : OfSteps FitsStep (sent_down c)
+  pub due : AllByRecursion FitsStep c.due
+
+abbrev pub AllInRange : World → Type 0
+AllInRange w = OfEachConnection IsInRange w
