@@ -117,3 +117,14 @@ asked_alike {E} {S} number size id lease engine q link new pipe c done r i live 
     asked_by number size id lease engine q link new pipe c done (is_idle c) i live refl rests
     (λ e. let h = refused (same ∙ e) in (ok_one done _ r is h.0, h.1))
     (λ e. subst (λ x. IfOk x (λ done. (done ≡ done_as (outcome.Asked id)) × IsAskedOn lease q link new)) is (asked (same ∙ e)))
+
+-- So it is where the call had memory.
+pub asked_ok : {E S B : Type 0} (number size told id lease : ℕ) (engine : E) (q : Request) (link new : Link E S) (pipe : Option Pipe) (c : Connection) (r : Result Done B)
+    → IsPlayed number size engine link pipe c → link.is_cut ≡ false → (is_idle c ≡ true → c.parts ≡ []) → told ≡ id
+    → (is_none (unless_idle link.client.stage) ≡ false → (r ≡ Ok (done_as (outcome.Refused NotIdle))) × (new ≡ link))
+    → (is_none (unless_idle link.client.stage) ≡ true → IfOk r (λ done. (done ≡ done_as (outcome.Asked told)) × IsAskedOn lease q link new))
+    → IfOk r (λ done. DoesAlike number size engine done new pipe (asks_by (is_idle c) id lease number q c) c)
+asked_ok {E} {S} number size told id lease engine q link new pipe c (Ok done) i live rests same refused asked =
+    subst (λ (n : ℕ). DoesAlike number size engine done new pipe (asks_by (is_idle c) n lease number q c) c) same
+    (asked_alike number size told lease engine q link new pipe c done (Ok done) i live rests refl refused asked)
+asked_ok number size told id lease engine q link new pipe c (Err why) i live rests same refused asked = tt

@@ -3,9 +3,11 @@ ghost use Rattle.std.specs.Prelude.{◌≡◌, ◌≤◌, ◌-◌, ℕ, true, fa
 ghost use Rattle.tds_client.specs.Session.{unless_idle};
 ghost use Rattle.tds_play.specs.Links.{IsAskedOn, IsPutBy, lent_as, placed_at, recounted, unless_kept};
 ghost use Rattle.tds_play.specs.Acts.{cancel_outcome, cancelled_as, unless_lost, with_client, worked_as};
-ghost use Rattle.tds_play.specs.Alike.{EndsIfDue, send_outcome, worked_outcome};
+ghost use Rattle.tds_play.specs.Alike.{send_outcome, worked_outcome};
 ghost use Rattle.tds_play.specs.Plays.{AreNext, IsPlayed, IsReady, acts_on, after, on_cut, outcome_of};
-ghost use Rattle.tds_play.specs.Promises.{IsCountable, Promises, WorksOnNewest};
+ghost use Rattle.tds_play.specs.Promises.{IsCountable, Promises};
+ghost use Rattle.tds_world.specs.Newest.{WorksOnNewest};
+ghost use Rattle.tds_world.specs.Steps.{EndsIfDue};
 ghost use Rattle.tds_play.specs.Seen.{done_as};
 ghost use Rattle.tds_world.specs.Arrivals.{works};
 ghost use Rattle.tds_world.specs.Caller.{cancels};
