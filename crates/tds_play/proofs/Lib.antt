@@ -38,6 +38,8 @@ pub mod Outward
 pub mod Worked
 pub mod Sent
 pub mod Cancelled
+pub mod Asked
+pub mod Acting
 pub mod Doing
 pub mod ServerDelivery
 pub mod ClientDelivery

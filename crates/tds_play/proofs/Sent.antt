@@ -186,9 +186,9 @@ packet_refused {E} {S} number size engine link new pipe c i live err same =
 
 -- ---- What the client answered
 
-pub none_sent : (r : Result (Effect Sent) ClientRefusal) (o : Option SendOutcome) (Q : Effect Sent → Type 0) → o ≡ None → IfOk r (λ e. (o ≡ Some (send_outcome e.answer)) × Q e) → is_ok r ≡ false
-none_sent (Ok e) o Q none h = let differ : None ≡ Some (send_outcome e.answer) = sym none ∙ h.0 in absurd (cc)
-none_sent (Err why) o Q none h = refl
+pub none_sent : (r : Result (Effect Sent) ClientRefusal) (o : Option SendOutcome) (P : Effect Sent → Type 0) → ((e : Effect Sent) → P e → o ≡ Some (send_outcome e.answer)) → o ≡ None → IfOk r P → is_ok r ≡ false
+none_sent (Ok e) o P tells none h = let differ : None ≡ Some (send_outcome e.answer) = sym none ∙ tells e h in absurd (cc)
+none_sent (Err why) o P tells none h = refl
 
 pub some_sent : (r : Result (Effect Sent) ClientRefusal) → ¬ (is_ok r ≡ false) → (e : Effect Sent) × (r ≡ Ok e)
 some_sent (Ok e) h = (e, refl)

@@ -18,11 +18,12 @@ use Rattle.tds_world.specs.Lane.{Lane}
 use Rattle.tds_world.specs.Record.{ran_in, runs}
 use Rattle.tds_world.specs.Record as world
 use Rattle.tds_play.specs.Acts.{worked_as, worked_by}
-use Rattle.tds_play.specs.Alike.{EndsIfDue, WorkAlike, worked_outcome}
+use Rattle.tds_play.specs.Alike.{WorkAlike, worked_outcome}
 use Rattle.tds_play.specs.Links.{stepped}
 use Rattle.tds_play.specs.Pipe.{Pipe}
 use Rattle.tds_play.specs.Plays.{IsPlayed}
-use Rattle.tds_play.specs.Promises.{WorksOn, WorksOnNewest}
+use Rattle.tds_world.specs.Newest.{WorksOn, WorksOnNewest}
+use Rattle.tds_world.specs.Steps.{EndsIfDue}
 use Rattle.tds_play.specs.Requests.{IsRequest, IsNewest}
 use Rattle.tds_play.specs.declared.link.Link.{Link}
 use Rattle.tds_play.specs.declared.link.Record.{Record}

@@ -3,9 +3,11 @@ ghost use Rattle.std.specs.Prelude.{◌≡◌, ◌≤◌, ◌-◌, ℕ, true, fa
 ghost use Rattle.tds_client.specs.Session.{unless_idle};
 ghost use Rattle.tds_play.specs.Links.{IsAskedOn, IsPutBy, lent_as, placed_at, recounted, unless_kept};
 ghost use Rattle.tds_play.specs.Acts.{cancel_outcome, cancelled_as, unless_lost, with_client, worked_as};
-ghost use Rattle.tds_play.specs.Alike.{EndsIfDue, send_outcome, worked_outcome};
-ghost use Rattle.tds_play.specs.Plays.{IsPlayed, after, outcome_of};
-ghost use Rattle.tds_play.specs.Promises.{WorksOnNewest};
+ghost use Rattle.tds_play.specs.Alike.{send_outcome, worked_outcome};
+ghost use Rattle.tds_play.specs.Plays.{AreNext, IsPlayed, IsReady, acts_on, after, on_cut, outcome_of};
+ghost use Rattle.tds_play.specs.Promises.{IsCountable, Promises};
+ghost use Rattle.tds_world.specs.Newest.{WorksOnNewest};
+ghost use Rattle.tds_world.specs.Steps.{EndsIfDue};
 ghost use Rattle.tds_play.specs.Seen.{done_as};
 ghost use Rattle.tds_world.specs.Arrivals.{works};
 ghost use Rattle.tds_world.specs.Caller.{cancels};
@@ -19,7 +21,10 @@ ghost use Rattle.tds_world.specs.declared.outcome.AbandonOutcome.TheVariants as 
 ghost use Rattle.tds_world.specs.declared.outcome.Outcome.TheVariants.{Abandoned, Asked, Kept, Leased, Refused};
 ghost use Rattle.tds_world.specs.declared.outcome.Outcome.TheVariants as outcome;
 ghost use Rattle.tds_world.specs.declared.outcome.Refusal.TheVariants.{NotIdle, NotSending};
+ghost use Rattle.tds_world.specs.declared.event.Setup.{Setup};
 ghost use Rattle.tds_world.specs.declared.report.Place.TheVariants as place;
+ghost use Rattle.tds_world.specs.World.{World};
+ghost use Rattle.tds_session.specs.Answer.{answer_of};
 ghost use Rattle.tds_packet.specs.declared.kind.Direction.TheVariants.{ToClient};
 ghost use Rattle.tds_play.specs.Pipe.{Pipe, AreSame};
 ghost use Rattle.tds_play.specs.Ties.{IsTied};
@@ -66,14 +71,23 @@ fn done(outcome: Outcome) -> Done
 }
 
 /// What an event comes to whose connection is cut.
-fn on_cut(event: &Event) -> Done {
+fn on_cut(event: &Event) -> Done
+    ensures { (c : Connection) → result ≡ done_as (outcome_of (on_cut event.now c)) }
+{
     match event {
         Event::GiveBack(_) => done(Outcome::GivenBack(GiveBackOutcome::Closed)),
         Event::Abandon(_) => done(Outcome::Abandoned(AbandonOutcome::Closed)),
         Event::Work(_) | Event::ToServer(..) | Event::ToClient(..) | Event::Cut(_) => {
             refused(Refusal::UnknownConnection)
         }
-        _ => refused(Refusal::ConnectionCut),
+        Event::Lease
+        | Event::Resume(_)
+        | Event::Keep(_)
+        | Event::Ask(..)
+        | Event::Send(_)
+        | Event::Cancel(_)
+        | Event::RestartServer
+        | Event::RestartClient => refused(Refusal::ConnectionCut),
     }
 }
 
@@ -90,6 +104,16 @@ impl<E: Engine + Drop> Link<E> {
         ensures number { self.new.number ≡ self.old.number }
         ensures tied { OnOk result (IsTied self.new (C.pipes carrier.new self.old.number)) }
         ensures others { OnOk result (AreSame (C.pipes carrier.old) (C.pipes carrier.new) self.old.number) }
+        ensures tells { OnOk result (C.tells carrier.old → C.tells carrier.new) }
+        // A connection that stands for one of the model stands for what the same event makes of it.
+        ensures alike { (setup : Setup) (w : World) (c : Connection) (engine : E) → C.tells carrier.old → C.steady
+            → IsPlayed self.old.number setup.packet_size engine self.old (C.pipes carrier.old self.old.number) c
+            → Promises E (answer_of (E.statements_of engine) (E.step_of engine)) setup.packet_size c
+            → IsCountable (after (acts_on setup (answer_of (E.statements_of engine) (E.step_of engine)) w event.now self.old.number c) c)
+            → AreNext w next → IsReady event.now c
+            → IfOk result (λ done. (done ≡ done_as (outcome_of (acts_on setup (answer_of (E.statements_of engine) (E.step_of engine)) w event.now self.old.number c)))
+            × IsPlayed self.old.number setup.packet_size engine self.new (C.pipes carrier.new self.old.number)
+            (after (acts_on setup (answer_of (E.statements_of engine) (E.step_of engine)) w event.now self.old.number c) c)) }
     {
         if self.is_cut {
             return Ok(on_cut(event));

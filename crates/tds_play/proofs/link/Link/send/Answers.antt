@@ -4,6 +4,7 @@ use Rattle.tds_world.specs.declared.outcome.Outcome.TheVariants as outcome
 use Rattle.tds_world.specs.declared.outcome.SendOutcome.{SendOutcome}
 use Rattle.tds_play.specs.Links.{cut_of}
 use Rattle.tds_play.specs.Pipe.{Pipe}
+use Rattle.tds_play.specs.Seen.{done_as}
 use Rattle.tds_play.proofs.Doing.{done_so, ok_so, some_is, some_told}
 use Rattle.tds_play.proofs.Outward.{ended_up}
 use Rattle.tds_play.proofs.Sent.{packet_played, packet_refused, none_sent, some_sent}
@@ -25,3 +26,10 @@ returns-clause-alike g c = λ size engine d steady played few.
     let then = packet_played conn size engine c.args.self.now c.put_next.new.self c.end.new.self (old conn) (g.C.Carrier.pipes c.end.new.carrier conn) d c.as_slice.result.now does.0
     played c.requires.live does.1 few sends.1 bytes handed in
     (done_so c.end.result _ _ c.in_ok-lost.lost c.end.ensures.done whole (ap outcome.Sent (some_is c.in-Some.sent _ c.in_ok-sent.field-0 c.in-Some.is sends.0) ∙ then.0), then.1)
+
+pub returns-in_default-clause-alike : goal.returns-in_default-clause-alike
+returns-in_default-clause-alike g c = λ size engine d steady played few.
+    let put = c.in_ok-sent.ensures in
+    let err = none_sent (sent c.args.self.now.client) c.in_ok-sent.field-0 _ (λ e h. h.0) c.in_default.is put.sent in
+    let then = packet_refused c.args.self.now.number size engine c.args.self.now c.put_next.new.self (g.C.Carrier.pipes c.args.carrier.now c.args.self.now.number) d played c.requires.live err (put.refused err).1 in
+    (c.refused.ensures ∙ ap done_as then.0, then.1)

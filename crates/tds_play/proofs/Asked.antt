@@ -1,0 +1,130 @@
+-- A request that is asked on a connection, in a play and in the model.
+use Rattle.std.specs.Prelude.{is_none, IfOk}
+use Rattle.std.proofs.Common.{◌≡◌, ◌≢◌, ◌∙◌, ℕ, Bool, true, false, refl, sym, ap, subst, Option, Some, None, Result, Ok, Err, List, [], ◌∷◌, ◌++◌}
+use Rattle.tds_client.specs.Sending.{started}
+use Rattle.tds_client.specs.Session.{unless_idle}
+use Rattle.tds_packet.specs.declared.status.Reset.{Reset}
+use Rattle.tds_request.specs.declared.request.Request.{Request}
+use Rattle.tds_world.specs.declared.outcome.Outcome.TheVariants as outcome
+use Rattle.tds_world.specs.declared.outcome.Refusal.TheVariants.{NotIdle}
+use Rattle.tds_world.specs.Caller.{asks}
+use Rattle.tds_world.specs.Connection.{Connection, is_idle, joined, phase}
+use Rattle.tds_world.specs.Events.{asks_by}
+use Rattle.tds_world.specs.Phase.{Settled, phase_in, phase_of}
+use Rattle.tds_world.specs.Record.{new_record}
+use Rattle.tds_world.specs.Record as world
+use Rattle.tds_world.specs.Entries.{up_bytes, down_bytes}
+use Rattle.tds_packet.specs.declared.kind.Direction.TheVariants.{ToServer, ToClient}
+use Rattle.tds_play.specs.Between.{IsLane}
+use Rattle.tds_play.specs.Lending.{standing_of}
+use Rattle.tds_play.specs.Links.{IsAsked, IsAskedOn, behind}
+use Rattle.tds_play.specs.Links as links
+use Rattle.tds_play.specs.Pipe.{Pipe, traffic}
+use Rattle.tds_play.specs.Plays.{IsPlayed, after, outcome_of}
+use Rattle.tds_play.specs.Requests.{IsRequest, AreOlder, IsNewest}
+use Rattle.tds_play.specs.Seen.{done_as}
+use Rattle.tds_play.specs.Stands.{MatchesClient, MatchesServer}
+use Rattle.tds_play.specs.declared.link.Done.{Done}
+use Rattle.tds_play.specs.declared.link.Link.{Link}
+use Rattle.tds_play.specs.declared.link.Record.{Record}
+use Rattle.tds_play.proofs.Asking.{asked_matches}
+use Rattle.tds_play.proofs.Matching.{server_same}
+use Rattle.tds_play.proofs.Placed.{DoesAlike, idle_alike, idle_settled}
+
+-- ---- The requests
+
+-- The newest one, which is settled, stands behind the older ones.
+older_behind : (number : ℕ) (cut : Bool) (rs : List Record) (qs : List world.Record) (r : Option Record) (q : Option world.Record) → phase_in q ≡ Settled → AreOlder number cut rs qs → IsNewest number cut r q → AreOlder number cut (behind rs r) (joined qs q)
+older_behind number cut rs qs None None settled older newest = older
+older_behind number cut rs qs None (Some q) settled older newest = absurd newest
+older_behind number cut rs qs (Some r) None settled older newest = absurd newest
+older_behind number cut [] [] (Some r) (Some q) settled older newest = ((newest, settled), tt)
+older_behind number cut [] (p ∷ qs) (Some r) (Some q) settled older newest = absurd older
+older_behind number cut (x ∷ rs) [] (Some r) (Some q) settled older newest = absurd older
+older_behind number cut (x ∷ rs) (p ∷ qs) (Some r) (Some q) settled older newest =
+    (older.0, older_behind number cut rs qs (Some r) (Some q) settled older.1 newest)
+
+newest_asked : (id number lease heard : ℕ) (q : Request) (mark asked : Option Reset) (r : Option Record) → mark ≡ asked → links.IsNewest lease mark r → IsNewest number false r (Some (new_record id lease number q asked heard))
+newest_asked id number lease heard q mark asked None same h = absurd h
+newest_asked id number lease heard q mark asked (Some r) same h = record {
+  lease = h.under;
+  conn = refl;
+  mark = h.marked ∙ same;
+  status = h.unsettled;
+  ran = h.unran;
+  tokens = h.untold;
+}
+
+-- ---- The connection then
+
+asked_played : {E S : Type 0} (number size id lease : ℕ) (engine : E) (q : Request) (link new : Link E S) (pipe : Option Pipe) (c : Connection)
+    → IsPlayed number size engine link pipe c → link.is_cut ≡ false → is_idle c ≡ true → c.parts ≡ []
+    → IsAskedOn lease q link new
+    → IsPlayed number size engine new pipe (asks id lease number q c)
+asked_played {E} {S} number size id lease engine q link new pipe c i live idle rests h =
+    let d : Connection = asks id lease number q c in
+    let v = i.lives live in
+    let s = v.stands in
+    record {
+      numbered = ap (λ l. l.number) h.rest ∙ i.numbered;
+      standing = ap standing_of h.rest ∙ i.standing;
+      older =
+          subst (λ (b : Bool). AreOlder number b new.past.items d.past) (sym (ap (λ l. l.is_cut) h.rest))
+          (subst (λ (rs : List Record). AreOlder number link.is_cut rs d.past) (sym h.past)
+          (older_behind number link.is_cut link.past.items c.past link.current c.current (idle_settled c idle) i.older i.newest));
+      newest =
+          subst (λ (b : Bool). IsNewest number b new.current d.current) (sym (ap (λ l. l.is_cut) h.rest ∙ live))
+          (newest_asked id number lease c.heard q link.client.heard.mark c.mark new.current s.client.mark h.current);
+      to_server = i.to_server;
+      to_client = i.to_client;
+      lives = λ uncut. record {
+        stands = record {
+          client = subst (λ x. MatchesClient x d) (sym h.client) (asked_matches link.client c id lease number q s.client);
+          server = subst (λ (l : Link E S). MatchesServer l.server d) (sym h.rest) (server_same link.server c d refl refl refl refl (λ m some of. absurd (some rests)) s.server);
+          up = subst (λ (l : Link E S). IsLane up_bytes (traffic pipe ToServer) c.to_server l.server_reader.taken l.to_server) (sym h.rest) s.up;
+          down = subst (λ (l : Link E S). IsLane down_bytes (traffic pipe ToClient) c.to_client l.client_reader.taken l.to_client) (sym h.rest) s.down;
+        };
+        engine_is = ap (λ l. l.server.engine) h.rest ∙ v.engine_is;
+        size_is = ap (λ s. s.size) h.client ∙ v.size_is;
+        server_reads = ap (λ l. l.server_reader.direction) h.rest ∙ v.server_reads;
+        server_size = ap (λ l. l.server_reader.size) h.rest ∙ v.server_size;
+        client_reads = ap (λ l. l.client_reader.direction) h.rest ∙ v.client_reads;
+        client_size = ap (λ l. l.client_reader.size) h.rest ∙ v.client_size;
+      };
+    }
+
+asked_by : {E S : Type 0} (number size id lease : ℕ) (engine : E) (q : Request) (link new : Link E S) (pipe : Option Pipe) (c : Connection) (done : Done) (idle : Bool)
+    → IsPlayed number size engine link pipe c → link.is_cut ≡ false → is_idle c ≡ idle → (idle ≡ true → c.parts ≡ [])
+    → (idle ≡ false → (done ≡ done_as (outcome.Refused NotIdle)) × (new ≡ link))
+    → (idle ≡ true → (done ≡ done_as (outcome.Asked id)) × IsAskedOn lease q link new)
+    → DoesAlike number size engine done new pipe (asks_by idle id lease number q c) c
+asked_by {E} {S} number size id lease engine q link new pipe c done false i live is rests refused asked =
+    let h = refused refl in (h.0, subst (λ (l : Link E S). IsPlayed number size engine l pipe c) (sym h.1) i)
+asked_by number size id lease engine q link new pipe c done true i live is rests refused asked =
+    let h = asked refl in (h.0, asked_played number size id lease engine q link new pipe c i live is (rests refl) h.1)
+
+ok_one : {A B : Type 0} (x y : A) (r : Result A B) → r ≡ Ok x → r ≡ Ok y → x ≡ y
+ok_one x y r e f = let same : Ok x ≡ Ok y = sym e ∙ f in cc
+
+pub asked_alike : {E S B : Type 0} (number size id lease : ℕ) (engine : E) (q : Request) (link new : Link E S) (pipe : Option Pipe) (c : Connection) (done : Done) (r : Result Done B)
+    → IsPlayed number size engine link pipe c → link.is_cut ≡ false → (is_idle c ≡ true → c.parts ≡ [])
+    → r ≡ Ok done
+    → (is_none (unless_idle link.client.stage) ≡ false → (r ≡ Ok (done_as (outcome.Refused NotIdle))) × (new ≡ link))
+    → (is_none (unless_idle link.client.stage) ≡ true → IfOk r (λ done. (done ≡ done_as (outcome.Asked id)) × IsAskedOn lease q link new))
+    → DoesAlike number size engine done new pipe (asks_by (is_idle c) id lease number q c) c
+asked_alike {E} {S} number size id lease engine q link new pipe c done r i live rests is refused asked =
+    let same = idle_alike link.client c (i.lives live).stands.client in
+    asked_by number size id lease engine q link new pipe c done (is_idle c) i live refl rests
+    (λ e. let h = refused (same ∙ e) in (ok_one done _ r is h.0, h.1))
+    (λ e. subst (λ x. IfOk x (λ done. (done ≡ done_as (outcome.Asked id)) × IsAskedOn lease q link new)) is (asked (same ∙ e)))
+
+-- So it is where the call had memory.
+pub asked_ok : {E S B : Type 0} (number size told id lease : ℕ) (engine : E) (q : Request) (link new : Link E S) (pipe : Option Pipe) (c : Connection) (r : Result Done B)
+    → IsPlayed number size engine link pipe c → link.is_cut ≡ false → (is_idle c ≡ true → c.parts ≡ []) → told ≡ id
+    → (is_none (unless_idle link.client.stage) ≡ false → (r ≡ Ok (done_as (outcome.Refused NotIdle))) × (new ≡ link))
+    → (is_none (unless_idle link.client.stage) ≡ true → IfOk r (λ done. (done ≡ done_as (outcome.Asked told)) × IsAskedOn lease q link new))
+    → IfOk r (λ done. DoesAlike number size engine done new pipe (asks_by (is_idle c) id lease number q c) c)
+asked_ok {E} {S} number size told id lease engine q link new pipe c (Ok done) i live rests same refused asked =
+    subst (λ (n : ℕ). DoesAlike number size engine done new pipe (asks_by (is_idle c) n lease number q c) c) same
+    (asked_alike number size told lease engine q link new pipe c done (Ok done) i live rests refl refused asked)
+asked_ok number size told id lease engine q link new pipe c (Err why) i live rests same refused asked = tt

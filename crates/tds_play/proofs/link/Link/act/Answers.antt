@@ -1,0 +1,170 @@
+use Rattle.std.specs.Prelude.{IfOk}
+use Rattle.std.proofs.Common.{◌≡◌, ◌≢◌, ◌≤◌, ◌∙◌, ◌++◌, ℕ, List, Bool, Option, Some, None, Ok, false, sym, ap, refl, subst, inl, inr}
+use Rattle.tds_packet.specs.declared.status.Reset.TheVariants.{Full, KeepTransaction}
+use Rattle.tds_session.specs.Answer.{Answers, answer_of}
+use Rattle.tds_world.specs.declared.event.Event.TheVariants as event
+use Rattle.tds_world.specs.declared.outcome.Opened.TheVariants as opened
+use Rattle.tds_world.specs.World.{next_number}
+use Rattle.tds_play.specs.Pipe.{Pipe}
+use Rattle.tds_play.specs.Plays.{IsReady}
+use Rattle.tds_play.proofs.Acting.{abandoned_alike, by_event, by_event_ok, comes_there, cut_alike, event_at, few_then, kept_at, lent_alike, stands_in}
+use Rattle.tds_play.proofs.Asked.{asked_ok}
+use Rattle.tds_play.proofs.Placed.{kept_alike}
+use Rattle.tds_play.proofs.link.Link.act.Goals as goal
+
+pub returns-in-Lease-clause-alike : goal.returns-in-Lease-clause-alike
+returns-in-Lease-clause-alike g c = λ setup w m engine tells steady played promises few next ready.
+    let conn : ℕ = c.args.self.now.number in
+    let size : ℕ = setup.packet_size in
+    let pipe : Option Pipe = g.C.Carrier.pipes c.args.carrier.now conn in
+    let answers : Answers = answer_of (g.E.Engine.statements_of engine) (g.E.Engine.step_of engine) in
+    let live = c.if-self.false in
+    let in_place = stands_in conn size engine c.args.self.now pipe m played live in
+    let at = event_at setup answers w c.args.event.now _ conn m c.args.self.now.place in_place c.in-Lease.is in
+    let idle = subst (λ e. IsReady e m) c.in-Lease.is ready in
+    by_event conn size engine c.lend.result c.lend.new.self pipe m _ _ at
+    (lent_alike conn size c.args.next.lease (next_number w.leases) Full opened.Reused engine c.args.self.now c.lend.new.self pipe m c.lend.result played live idle next.lease c.lend.ensures.done c.lend.ensures.lent)
+
+pub returns-in-Resume-clause-alike : goal.returns-in-Resume-clause-alike
+returns-in-Resume-clause-alike g c = λ setup w m engine tells steady played promises few next ready.
+    let conn : ℕ = c.args.self.now.number in
+    let size : ℕ = setup.packet_size in
+    let pipe : Option Pipe = g.C.Carrier.pipes c.args.carrier.now conn in
+    let answers : Answers = answer_of (g.E.Engine.statements_of engine) (g.E.Engine.step_of engine) in
+    let live = c.if-self.false in
+    let in_place = stands_in conn size engine c.args.self.now pipe m played live in
+    let at = event_at setup answers w c.args.event.now _ conn m c.args.self.now.place in_place c.in-Resume.is in
+    let idle = subst (λ e. IsReady e m) c.in-Resume.is ready in
+    by_event conn size engine c.lend-in-Resume.result c.lend-in-Resume.new.self pipe m _ _ at
+    (lent_alike conn size c.args.next.lease (next_number w.leases) KeepTransaction opened.Resumed engine c.args.self.now c.lend-in-Resume.new.self pipe m c.lend-in-Resume.result played live idle next.lease c.lend-in-Resume.ensures.done c.lend-in-Resume.ensures.lent)
+
+pub returns-in-GiveBack-clause-alike : goal.returns-in-GiveBack-clause-alike
+returns-in-GiveBack-clause-alike g c = λ setup w m engine tells steady played promises few next ready.
+    let conn : ℕ = c.args.self.now.number in
+    let size : ℕ = setup.packet_size in
+    let pipe : Option Pipe = g.C.Carrier.pipes c.args.carrier.now conn in
+    let answers : Answers = answer_of (g.E.Engine.statements_of engine) (g.E.Engine.step_of engine) in
+    let live = c.if-self.false in
+    let in_place = stands_in conn size engine c.args.self.now pipe m played live in
+    let at = event_at setup answers w c.args.event.now _ conn m c.args.self.now.place in_place c.in-GiveBack.is in
+    let back = at ∙ comes_there m c.args.self.now.place in_place in
+    by_event_ok conn size engine c.give_back.result c.give_back.new.self (g.C.Carrier.pipes c.give_back.new.carrier conn) m _ _ back
+    (c.give_back.ensures.alike size engine m steady played (few_then m _ _ back few).0)
+
+pub returns-in-Keep-clause-alike : goal.returns-in-Keep-clause-alike
+returns-in-Keep-clause-alike g c = λ setup w m engine tells steady played promises few next ready.
+    let conn : ℕ = c.args.self.now.number in
+    let size : ℕ = setup.packet_size in
+    let pipe : Option Pipe = g.C.Carrier.pipes c.args.carrier.now conn in
+    let answers : Answers = answer_of (g.E.Engine.statements_of engine) (g.E.Engine.step_of engine) in
+    let live = c.if-self.false in
+    let in_place = stands_in conn size engine c.args.self.now pipe m played live in
+    let at = event_at setup answers w c.args.event.now _ conn m c.args.self.now.place in_place c.in-Keep.is in
+    by_event conn size engine c.keep.result c.keep.new.self pipe m _ _ at
+    (kept_at conn size c.args.next.ticket (next_number w.tickets) engine c.args.self.now c.keep.new.self pipe m c.keep.result next.ticket
+    (kept_alike conn size c.args.next.ticket engine c.args.self.now c.keep.new.self pipe m c.keep.result played live c.keep.ensures.refused c.keep.ensures.kept))
+
+pub returns-in-Abandon-clause-alike : goal.returns-in-Abandon-clause-alike
+returns-in-Abandon-clause-alike g c = λ setup w m engine tells steady played promises few next ready.
+    let conn : ℕ = c.args.self.now.number in
+    let size : ℕ = setup.packet_size in
+    let pipe : Option Pipe = g.C.Carrier.pipes c.args.carrier.now conn in
+    let answers : Answers = answer_of (g.E.Engine.statements_of engine) (g.E.Engine.step_of engine) in
+    let live = c.if-self.false in
+    let in_place = stands_in conn size engine c.args.self.now pipe m played live in
+    let at = event_at setup answers w c.args.event.now _ conn m c.args.self.now.place in_place c.in-Abandon.is in
+    by_event conn size engine c.abandon.result c.abandon.new.self pipe m _ _ at
+    (abandoned_alike conn size engine c.args.self.now c.abandon.new.self pipe m c.abandon.result played live c.abandon.ensures.done c.abandon.ensures.value)
+
+pub returns-in-Ask-clause-alike : goal.returns-in-Ask-clause-alike
+returns-in-Ask-clause-alike g c = λ setup w m engine tells steady played promises few next ready.
+    let conn : ℕ = c.args.self.now.number in
+    let size : ℕ = setup.packet_size in
+    let pipe : Option Pipe = g.C.Carrier.pipes c.args.carrier.now conn in
+    let answers : Answers = answer_of (g.E.Engine.statements_of engine) (g.E.Engine.step_of engine) in
+    let live = c.if-self.false in
+    let in_place = stands_in conn size engine c.args.self.now pipe m played live in
+    let at = event_at setup answers w c.args.event.now _ conn m c.args.self.now.place in_place c.in-Ask.is in
+    by_event_ok conn size engine c.ask.result c.ask.new.self pipe m _ _ at
+    (asked_ok conn size c.args.next.request (next_number w.asked_on) _ engine _ c.args.self.now c.ask.new.self pipe m c.ask.result played live promises.rests next.request c.ask.ensures.refused c.ask.ensures.asked)
+
+pub returns-in-Send-clause-alike : goal.returns-in-Send-clause-alike
+returns-in-Send-clause-alike g c = λ setup w m engine tells steady played promises few next ready.
+    let conn : ℕ = c.args.self.now.number in
+    let size : ℕ = setup.packet_size in
+    let pipe : Option Pipe = g.C.Carrier.pipes c.args.carrier.now conn in
+    let answers : Answers = answer_of (g.E.Engine.statements_of engine) (g.E.Engine.step_of engine) in
+    let live = c.if-self.false in
+    let in_place = stands_in conn size engine c.args.self.now pipe m played live in
+    let at = event_at setup answers w c.args.event.now _ conn m c.args.self.now.place in_place c.in-Send.is in
+    by_event_ok conn size engine c.send.result c.send.new.self (g.C.Carrier.pipes c.send.new.carrier conn) m _ _ at
+    (c.send.ensures.alike size engine m steady played (few_then m _ _ at few).0)
+
+pub returns-in-Cancel-clause-alike : goal.returns-in-Cancel-clause-alike
+returns-in-Cancel-clause-alike g c = λ setup w m engine tells steady played promises few next ready.
+    let conn : ℕ = c.args.self.now.number in
+    let size : ℕ = setup.packet_size in
+    let pipe : Option Pipe = g.C.Carrier.pipes c.args.carrier.now conn in
+    let answers : Answers = answer_of (g.E.Engine.statements_of engine) (g.E.Engine.step_of engine) in
+    let live = c.if-self.false in
+    let in_place = stands_in conn size engine c.args.self.now pipe m played live in
+    let at = event_at setup answers w c.args.event.now _ conn m c.args.self.now.place in_place c.in-Cancel.is in
+    by_event_ok conn size engine c.cancel.result c.cancel.new.self (g.C.Carrier.pipes c.cancel.new.carrier conn) m _ _ at
+    (c.cancel.ensures.alike size engine m steady played (few_then m _ _ at few).0)
+
+pub returns-in-Work-clause-alike : goal.returns-in-Work-clause-alike
+returns-in-Work-clause-alike g c = λ setup w m engine tells steady played promises few next ready.
+    let conn : ℕ = c.args.self.now.number in
+    let size : ℕ = setup.packet_size in
+    let pipe : Option Pipe = g.C.Carrier.pipes c.args.carrier.now conn in
+    let answers : Answers = answer_of (g.E.Engine.statements_of engine) (g.E.Engine.step_of engine) in
+    let live = c.if-self.false in
+    let in_place = stands_in conn size engine c.args.self.now pipe m played live in
+    let at = event_at setup answers w c.args.event.now _ conn m c.args.self.now.place in_place c.in-Work.is in
+    by_event_ok conn size engine c.work.result c.work.new.self (g.C.Carrier.pipes c.work.new.carrier conn) m _ _ at
+    (c.work.ensures.alike size engine m steady played promises.ends promises.newest promises.works_past (few_then m _ _ at few).1)
+
+pub returns-in-ToServer-clause-alike : goal.returns-in-ToServer-clause-alike
+returns-in-ToServer-clause-alike g c = λ setup w m engine tells steady played promises few next ready.
+    let conn : ℕ = c.args.self.now.number in
+    let size : ℕ = setup.packet_size in
+    let pipe : Option Pipe = g.C.Carrier.pipes c.args.carrier.now conn in
+    let answers : Answers = answer_of (g.E.Engine.statements_of engine) (g.E.Engine.step_of engine) in
+    let live = c.if-self.false in
+    let in_place = stands_in conn size engine c.args.self.now pipe m played live in
+    let at = event_at setup answers w c.args.event.now _ conn m c.args.self.now.place in_place c.in-ToServer.is in
+    by_event_ok conn size engine c.deliver_to_server.result c.deliver_to_server.new.self (g.C.Carrier.pipes c.deliver_to_server.new.carrier conn) m _ _ at
+    (c.deliver_to_server.ensures.alike size engine m tells steady played promises (few_then m _ _ at few))
+
+pub returns-in-ToClient-clause-alike : goal.returns-in-ToClient-clause-alike
+returns-in-ToClient-clause-alike g c = λ setup w m engine tells steady played promises few next ready.
+    let conn : ℕ = c.args.self.now.number in
+    let size : ℕ = setup.packet_size in
+    let pipe : Option Pipe = g.C.Carrier.pipes c.args.carrier.now conn in
+    let answers : Answers = answer_of (g.E.Engine.statements_of engine) (g.E.Engine.step_of engine) in
+    let live = c.if-self.false in
+    let in_place = stands_in conn size engine c.args.self.now pipe m played live in
+    let at = event_at setup answers w c.args.event.now _ conn m c.args.self.now.place in_place c.in-ToClient.is in
+    by_event_ok conn size engine c.deliver_to_client.result c.deliver_to_client.new.self (g.C.Carrier.pipes c.deliver_to_client.new.carrier conn) m _ _ at
+    (c.deliver_to_client.ensures.alike answers size engine m tells steady played promises)
+
+-- A restart is about no connection alone.
+pub returns-in-Cut-clause-alike : goal.returns-in-Cut-clause-alike
+returns-in-Cut-clause-alike g c = λ setup w m engine tells steady played promises few next ready.
+    let conn : ℕ = c.args.self.now.number in
+    let size : ℕ = setup.packet_size in
+    let pipe : Option Pipe = g.C.Carrier.pipes c.args.carrier.now conn in
+    let answers : Answers = answer_of (g.E.Engine.statements_of engine) (g.E.Engine.step_of engine) in
+    let live = c.if-self.false in
+    let in_place = stands_in conn size engine c.args.self.now pipe m played live in
+    elim c.in-Cut.is [
+      | inl h ↦
+          by_event conn size engine c.done.result c.cut.new.self (g.C.Carrier.pipes c.cut.new.carrier conn) m _ _
+          (event_at setup answers w c.args.event.now (event.Cut h.0) conn m c.args.self.now.place in_place h.1)
+          (c.done.ensures, c.cut.ensures.alike size engine m played live)
+      | inr r ↦
+          absurd (elim r [
+            | inl e ↦ subst (λ x. IsReady x m) e ready
+            | inr e ↦ subst (λ x. IsReady x m) e ready
+          ])
+    ]
