@@ -121,7 +121,7 @@ put_there : (cs : List Connection) (n : ℕ) (c d : Connection) → numbered cs 
 put_there cs zero c d e = absurd (cc)
 put_there cs (suc k) c d e = put_at cs k c d e
 
-nothing_more : {A : Type 0} (xs : List A) → xs ≡ xs ++ []
+pub nothing_more : {A : Type 0} (xs : List A) → xs ≡ xs ++ []
 nothing_more [] = refl
 nothing_more (x ∷ xs) = ap (λ ys. x ∷ ys) (nothing_more xs)
 

@@ -16,6 +16,7 @@ use Rattle.tds_world.specs.declared.report.ClientView.TheVariants as view
 use Rattle.tds_world.specs.declared.report.EventReport.{EventReport}
 use Rattle.tds_world.specs.declared.report.Report.{Report}
 use Rattle.tds_world.specs.declared.report.RequestReport.{RequestReport}
+use Rattle.tds_world.specs.declared.report.RequestStatus.{RequestStatus}
 use Rattle.tds_world.specs.declared.report.RequestStatus.TheVariants as status
 use Rattle.tds_world.specs.declared.report.Snapshot.{Snapshot}
 use Rattle.tds_world.specs.Laws.{whole_answer}
@@ -142,3 +143,24 @@ StartsIfLeased rs o = Unit {0}
 
 abbrev pub ShowsFreshStart : Report → Type 0
 ShowsFreshStart r = AllByRecursion (λ (e : EventReport). StartsIfLeased r.requests e.outcome) r.events
+
+-- A request that the report shows as cancelled.
+abbrev pub IsCancelled : RequestStatus → Type 0
+IsCancelled status.Cancelling = Unit {0}
+IsCancelled status.Acknowledged = Unit {0}
+IsCancelled status.Unsent = Unit {0}
+IsCancelled status.Open = ⊥
+IsCancelled status.Finished = ⊥
+IsCancelled status.Lost = ⊥
+
+-- Each request that is reported is reported later too, and where it was cancelled, with the same tokens.
+abbrev pub GivesNoMore : List RequestReport → List RequestReport → Type 0
+GivesNoMore [] later = Unit {0}
+GivesNoMore (r ∷ rs) [] = ⊥
+GivesNoMore (r ∷ rs) (l ∷ later) =
+    (IsCancelled r.status → l.tokens ≡ r.tokens) × GivesNoMore rs later
+
+abbrev pub ShowsNothingAfterCancel : Setup → Answers → Type 0
+ShowsNothingAfterCancel setup answers =
+    (events later : List Event)
+    → GivesNoMore (observed setup answers events).requests (observed setup answers (events ++ later)).requests
