@@ -1,5 +1,5 @@
 -- What the session laws say of a play's report.
-use Rattle.std.specs.Prelude.{ℕ, suc, ◌≡◌, ◌≢◌, ◌≤◌, List, [], ◌∷◌, ◌++◌, Bool, true, false, ◌==◌, Option, Some, None}
+use Rattle.std.specs.Prelude.{ℕ, suc, ◌≡◌, ◌≢◌, ◌≤◌, List, [], ◌∷◌, ◌++◌, Bool, true, false, ◌==◌, Option, Some, None, find}
 use Rattle.std.specs.List.{AllByRecursion}
 use Rattle.tds_request.specs.declared.request.Request.{Request}
 use Rattle.tds_session.specs.Answer.{Answers}
@@ -21,6 +21,7 @@ use Rattle.tds_world.specs.declared.report.RequestStatus.TheVariants as status
 use Rattle.tds_world.specs.declared.report.Snapshot.{Snapshot}
 use Rattle.tds_world.specs.Laws.{whole_answer}
 use Rattle.tds_world.specs.Observed.{observed}
+use Rattle.tds_world.specs.Record.{header_descriptor}
 
 -- P holds of the report, whatever the events.
 abbrev pub AlwaysShown : Setup → Answers → (Report → Type 0) → Type 0
@@ -118,6 +119,24 @@ pub record ShowsOwnAnswer (answers : Answers) (a : Ask) (r : RequestReport) : Ty
 
 abbrev pub ShowsOwnAnswers : Answers → List Event → Report → Type 0
 ShowsOwnAnswers answers events r = OfEachAsk (ShowsOwnAnswer answers) events r
+
+-- What a snapshot shows of a connection, if it shows it.
+abbrev pub snapshot_in : ℕ → List Snapshot → Option Snapshot
+snapshot_in conn shown = find (λ (s : Snapshot). s.conn == conn) shown
+
+-- A session in the transaction that the client was in when the request was asked, as the snapshot
+-- after its event shows it; or outside one, where a full reset was to end it first.
+pub record IsInOwn (a : Ask) (r : RequestReport) (s : SessionState) : Type 0 where
+  pub snapshot : Snapshot
+  pub shown : snapshot_in r.conn a.snapshots ≡ Some snapshot
+  pub descriptor : s.descriptor ≡ header_descriptor snapshot.mark snapshot.descriptor
+
+-- Each request that ran did so in its own transaction.
+abbrev pub ShowsRunInOwn : Ask → RequestReport → Type 0
+ShowsRunInOwn a r = (s : SessionState) → r.ran ≡ Some s → IsInOwn a r s
+
+abbrev pub ShowsOwnTransaction : List Event → Report → Type 0
+ShowsOwnTransaction events r = OfEachAsk ShowsRunInOwn events r
 
 -- The session in which the first request of a lease ran, if one did.
 abbrev pub first_by : Bool → Option SessionState → Option SessionState → Option SessionState
