@@ -59,3 +59,5 @@ pub mod ClientEvent
 pub mod Requested
 pub mod AllCut
 pub mod PlayerOpens
+pub mod PlayerActs
+pub mod PlayerFinds
