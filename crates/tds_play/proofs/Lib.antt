@@ -40,6 +40,7 @@ pub mod Sent
 pub mod Cancelled
 pub mod Asked
 pub mod Acting
+pub mod Opening
 pub mod Doing
 pub mod ServerDelivery
 pub mod ClientDelivery

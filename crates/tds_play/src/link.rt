@@ -9,7 +9,8 @@ ghost use Rattle.tds_play.specs.Seen.{outcome_of, seen_of};
 ghost use Rattle.tds_play.specs.Plays.{IsPlayed};
 ghost use Rattle.tds_play.specs.Pipe.{AreSame, Brings, IsUncut, cut_pipe, new_pipe, sent_on};
 ghost use Rattle.tds_play.specs.Ties.{IsTied, counted, with_counted, saturated};
-ghost use Rattle.tds_world.specs.Connection.{Connection, cut};
+ghost use Rattle.tds_world.specs.Connection.{Connection, cut, new_connection};
+ghost use Rattle.tds_world.specs.declared.report.Place.TheVariants as place;
 ghost use Rattle.tds_world.specs.Pool.{is_free};
 
 pub(crate) mod acts;
@@ -181,6 +182,10 @@ impl<E: Engine + Drop> Link<E> {
         ensures number { IfOk result (λ opened. opened.0.number ≡ number) }
         ensures tied { IfOk result (λ opened. IsTied opened.0 (C.pipes carrier.new number)) }
         ensures others { OnOk result (AreSame (C.pipes carrier.old) (C.pipes carrier.new) number) }
+        ensures tells { OnOk result (C.tells carrier.old → C.tells carrier.new) }
+        // It stands for a new connection of the model.
+        ensures alike { C.steady → IfOk result (λ opened. (opened.1 ≡ false)
+            × IsPlayed number size engine opened.0 (C.pipes carrier.new number) (new_connection (place.Leased lease))) }
     {
         let mut link = Link::new(alloc, number, lease, engine, size)?;
         match carrier.open(number) {

@@ -12,6 +12,12 @@ use Rattle.tds_play.proofs.Asked.{asked_ok}
 use Rattle.tds_play.proofs.Placed.{kept_alike}
 use Rattle.tds_play.proofs.link.Link.act.Goals as goal
 
+pub returns-then-self-clause-alike : goal.returns-then-self-clause-alike
+returns-then-self-clause-alike g c = λ setup w m engine tells steady played promises few next ready.
+    let conn : ℕ = c.args.self.now.number in
+    let answers : Answers = answer_of (g.E.Engine.statements_of engine) (g.E.Engine.step_of engine) in
+    cut_alike conn setup.packet_size engine c.args.self.now (g.C.Carrier.pipes c.args.carrier.now conn) setup answers w c.args.event.now m c.on_cut.result played c.if-self.true (c.on_cut.ensures m)
+
 pub returns-in-Lease-clause-alike : goal.returns-in-Lease-clause-alike
 returns-in-Lease-clause-alike g c = λ setup w m engine tells steady played promises few next ready.
     let conn : ℕ = c.args.self.now.number in
