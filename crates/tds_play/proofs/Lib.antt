@@ -40,7 +40,6 @@ pub mod Sent
 pub mod Cancelled
 pub mod Asked
 pub mod Acting
-pub mod Opening
 pub mod Doing
 pub mod ServerDelivery
 pub mod ClientDelivery
@@ -57,3 +56,6 @@ pub mod Found
 pub mod Listening
 pub mod ClientSizes
 pub mod ClientEvent
+pub mod Requested
+pub mod AllCut
+pub mod PlayerOpens

@@ -1,21 +1,19 @@
 -- The laws of the model, put together: what it promises of each world.
-use Rattle.std.proofs.Common.{◌≡◌, ◌≤◌, ◌*◌, ℕ, suc, List, [], ◌∷◌, true, refl, arith}
+use Rattle.std.proofs.Common.{◌≡◌, ◌≤◌, ◌<◌, ◌*◌, ℕ, suc, List, [], ◌∷◌, true, refl, arith}
 use Rattle.std.specs.List.{AllByRecursion}
 use Rattle.tds_packet.specs.Reading.{Reading}
 use Rattle.tds_packet.specs.declared.kind.Direction.TheVariants.{ToServer, ToClient}
 use Rattle.tds_session.specs.Answer.{Answers}
-use Rattle.tds_world.specs.declared.event.Event.TheVariants as event
-use Rattle.tds_world.specs.declared.event.Setup.{Setup}
 use Rattle.tds_world.specs.Connection.{Connection, phase, up_underway, down_underway}
+use Rattle.tds_world.specs.Counts.{AreFew}
 use Rattle.tds_world.specs.Deliveries.{DeliversOn}
 use Rattle.tds_world.specs.Laws.{QuietIfIdle}
-use Rattle.tds_world.specs.Lending.{LendsIdle}
 use Rattle.tds_world.specs.Newest.{ActsOnNewest, WorksOnNewest}
 use Rattle.tds_world.specs.Phase.{Phase, Settled, Asked, Sending, Reading as IsReading, Cancelling, is_settled}
 use Rattle.tds_world.specs.Steps.{EndsIfDue}
 use Rattle.tds_world.specs.World.{World}
 use Rattle.tds_play.specs.Deliveries.{AllArrive, AllHeard}
-use Rattle.tds_play.specs.Player.{AreReady}
+use Rattle.tds_play.specs.Player.{IsSmall}
 use Rattle.tds_play.specs.Promises.{Promises, IsCountable}
 
 -- ---- A connection
@@ -56,20 +54,11 @@ each_promised E answers size n [] few a h d e q w s u = tt
 each_promised E answers size n (c ∷ cs) few a h d e q w s u =
     (promised E answers size n c few a.0 h.0 d.0 e.0 q.0 w.0 s.0 u.0, each_promised E answers size n cs few a.1 h.1 d.1 e.1 q.1 w.1 s.1 u.1)
 
--- ---- An event
-
-pub are_ready : (setup : Setup) (w : World) → LendsIdle setup w → AreReady setup w
-are_ready setup w l event.Lease n c e = l.lease n c e
-are_ready setup w l (event.Resume t) n c e = l.resume t n c e
-are_ready setup w l event.RestartServer n c e = absurd (cc)
-are_ready setup w l event.RestartClient n c e = absurd (cc)
-are_ready setup w l (event.GiveBack x) n c e = tt
-are_ready setup w l (event.Keep x) n c e = tt
-are_ready setup w l (event.Abandon t) n c e = tt
-are_ready setup w l (event.Ask x q) n c e = tt
-are_ready setup w l (event.Send x) n c e = tt
-are_ready setup w l (event.Cancel x) n c e = tt
-are_ready setup w l (event.Work k) n c e = tt
-are_ready setup w l (event.ToServer k m) n c e = tt
-are_ready setup w l (event.ToClient k m) n c e = tt
-are_ready setup w l (event.Cut k) n c e = tt
+-- Before an event there are few of each.
+pub small : (n : ℕ) (w : World) → n < 10000 → AreFew n w → IsSmall w
+small n w few h = record {
+  connections = omega (arith, few, h.connections);
+  leases = omega (arith, few, h.leases);
+  tickets = omega (arith, few, h.tickets);
+  asked = omega (arith, few, h.asked);
+}

@@ -1,5 +1,5 @@
 -- What the functions on a connection of a play make of it, and what is seen of it.
-use Rattle.std.specs.Prelude.{ℕ, ◌≡◌, ◌==◌, ◌||◌, List, [], ◌∷◌, ◌++◌, Bool, true, false, Option, Some, None, is_none, option_map}
+use Rattle.std.specs.Prelude.{ℕ, ◌≡◌, ◌==◌, ◌||◌, List, [], ◌∷◌, ◌++◌, reverse, Bool, true, false, Option, Some, None, is_none, option_map}
 use Rattle.tds_client.specs.Sending.{started}
 use Rattle.tds_client.specs.Session.{ClientSession, new_session, unless_idle, lost, marked}
 use Rattle.tds_packet.specs.declared.kind.Direction.TheVariants.{ToServer, ToClient}
@@ -112,6 +112,10 @@ unless_kept s =
 abbrev pub behind : List Record → Option Record → List Record
 behind past None = past
 behind past (Some r) = past ++ r ∷ []
+
+-- All requests of a connection, the newest first.
+abbrev pub newest_first : {E S : Type 0} → Link E S → List Record
+newest_first link = reverse (behind link.past.items link.current)
 
 -- The newest request is asked now.
 abbrev pub IsNewest : ℕ → Option Reset → Option Record → Type 0

@@ -4,14 +4,14 @@ ghost use Rattle.tds_client.specs.Session.{unless_idle};
 ghost use Rattle.tds_packet.specs.declared.kind.Direction.{Direction};
 ghost use Rattle.tds_packet.specs.declared.kind.Direction.TheVariants.{ToServer, ToClient};
 ghost use Rattle.tds_play.specs.Lending.{is_in_pool, standing_of};
-ghost use Rattle.tds_play.specs.Links.{IsAsked, IsNewLink, cut_of, lost_record, recounted, report_of, stepped};
+ghost use Rattle.tds_play.specs.Links.{IsAsked, IsNewLink, cut_of, lost_record, recounted, report_of, stepped, newest_first};
 ghost use Rattle.tds_play.specs.Seen.{outcome_of, seen_of};
 ghost use Rattle.tds_play.specs.Plays.{IsPlayed};
 ghost use Rattle.tds_play.specs.Pipe.{AreSame, Brings, IsUncut, cut_pipe, new_pipe, sent_on};
 ghost use Rattle.tds_play.specs.Ties.{IsTied, counted, with_counted, saturated};
 ghost use Rattle.tds_world.specs.Connection.{Connection, cut, new_connection};
-ghost use Rattle.tds_world.specs.declared.report.Place.TheVariants as place;
 ghost use Rattle.tds_world.specs.Pool.{is_free};
+ghost use Rattle.tds_world.specs.declared.report.Place.TheVariants.{Leased};
 
 pub(crate) mod acts;
 mod deliveries;
@@ -185,7 +185,7 @@ impl<E: Engine + Drop> Link<E> {
         ensures tells { OnOk result (C.tells carrier.old → C.tells carrier.new) }
         // It stands for a new connection of the model.
         ensures alike { C.steady → IfOk result (λ opened. (opened.1 ≡ false)
-            × IsPlayed number size engine opened.0 (C.pipes carrier.new number) (new_connection (place.Leased lease))) }
+            × IsPlayed number size engine opened.0 (C.pipes carrier.new number) (new_connection (Leased lease))) }
     {
         let mut link = Link::new(alloc, number, lease, engine, size)?;
         match carrier.open(number) {
@@ -396,10 +396,11 @@ impl<E: Engine + Drop> Link<E> {
         })
     }
 
-    /// The requests that were asked on it, in their order, with its number.
-    pub(crate) fn into_records(self) -> Result<(u32, Vec<Record>), NoMemory> {
+    /// The requests that were asked on it, the newest first.
+    pub(crate) fn into_records(self) -> Result<Vec<Record>, NoMemory>
+        ensures { IfOk result (λ records. records.items ≡ newest_first self) }
+    {
         let Link {
-            number,
             current,
             mut past,
             ..
@@ -407,6 +408,7 @@ impl<E: Engine + Drop> Link<E> {
         if let Some(record) = current {
             past.push(record)?;
         }
-        Ok((number, past))
+        past.reverse();
+        Ok(past)
     }
 }

@@ -1,16 +1,32 @@
 //! All connections of a play, and what each event does to them.
-ghost use Rattle.std.specs.Prelude.{◌≡◌, ◌≤◌, ◌<◌, ℕ, suc, [], length, map, IfOk, OnOk};
+ghost use Rattle.std.specs.Prelude.{◌≡◌, ◌≤◌, ◌<◌, ◌-◌, ℕ, suc, List, [], ◌∷◌, ◌++◌, length, map, slice_get, slice_set, false, Option, Some, IfOk, OnOk};
 ghost use Rattle.std.specs.List.{filter_map};
 ghost use Rattle.tds_play.specs.Lending.{standing_of};
+ghost use Rattle.tds_play.specs.Links.{newest_first};
 ghost use Rattle.tds_play.specs.Noted.{about_of, asked_after, held_of, leases_after, tickets_after};
+ghost use Rattle.tds_play.specs.Pipe.{Pipe};
+ghost use Rattle.tds_play.specs.Player.{HappensAlike, IsPlay, IsSmall, PromisesAll};
+ghost use Rattle.tds_play.specs.Plays.{ArePlayed, IsReady, acts_on};
+ghost use Rattle.tds_play.specs.Promises.{IsCountable};
 ghost use Rattle.tds_play.specs.Seen.{seen_of};
 ghost use Rattle.tds_play.specs.Ties.{AreTied};
+ghost use Rattle.tds_play.specs.declared.link.Record.{Record};
 ghost use Rattle.tds_play.specs.declared.pool.Found.TheVariants.{Here};
+ghost use Rattle.tds_session.specs.Answer.{answer_of};
+ghost use Rattle.tds_world.specs.Connection.{Connection, cut, is_cut};
+ghost use Rattle.tds_world.specs.Events.{happens, settles};
+ghost use Rattle.tds_world.specs.Laws.{OfEachConnection};
+ghost use Rattle.tds_world.specs.Observed.{request_reports};
+ghost use Rattle.tds_world.specs.Order.{RequestsInOrder};
+ghost use Rattle.tds_world.specs.Pool.{opens};
+ghost use Rattle.tds_world.specs.World.{World, next_number, numbered, put};
+ghost use Rattle.tds_world.specs.declared.event.Event.TheVariants as event;
+ghost use Rattle.tds_world.specs.declared.event.Setup.{Setup};
 
 use crate::NoMemory;
 use crate::carrier::Carrier;
 use crate::link::acts::{Next, refused};
-use crate::link::{Done, Link};
+use crate::link::{Done, Link, Record};
 use crate::pool::{Found, Holdings, by_number, next_number, to_lend};
 use std::alloc::Global;
 use tds_packet::PacketSize;
@@ -150,6 +166,7 @@ impl<E: Engine + Copy> Player<E> {
 
     /// Notes an event that applied, on this connection.
     fn note(&mut self, event: &Event, conn: u32) -> Result<(), NoMemory>
+        ensures rest { OnOk result (self.new ≡ record self.old { leases = self.new.leases; tickets = self.new.tickets; asked_on = self.new.asked_on }) }
         ensures links { self.new.links ≡ self.old.links }
         ensures leases { OnOk result (self.new.leases ≡ leases_after event.now conn self.old.leases) }
         ensures tickets { OnOk result (self.new.tickets ≡ tickets_after event.now conn self.old.tickets) }
@@ -187,6 +204,11 @@ impl<E: Engine + Copy> Player<E> {
         requires few { length self.old.links.items < 10000 }
         ensures tied { OnOk result (AreTied self.new.links.items (C.pipes carrier.new)) }
         ensures count { OnOk result (length self.new.links.items ≡ suc (length self.old.links.items)) }
+        ensures tells { OnOk result (C.tells carrier.old → C.tells carrier.new) }
+        ensures alike { (setup : Setup) (engine : E) (w : World) → C.steady
+            → IsPlay setup engine self.old (C.pipes carrier.old) w → IsSmall w
+            → IfOk result (λ done. HappensAlike setup engine done self.new (C.pipes carrier.new)
+            (settles event.Lease (next_number w.connections) w (opens (next_number w.leases) (next_number w.connections)))) }
     {
         let conn = next_number(self.links.len());
         let lease = self.leases.next();
@@ -206,13 +228,34 @@ impl<E: Engine + Copy> Player<E> {
         requires tied { AreTied self.old.links.items (C.pipes carrier.old) }
         ensures tied { AreTied self.new.links.items (C.pipes carrier.new) }
         ensures count { length self.new.links.items ≡ length self.old.links.items }
+        ensures rest { self.new ≡ record self.old { links = self.new.links } }
+        ensures tells { C.tells carrier.old → C.tells carrier.new }
+        // What stands for connections of the model stands for them, all cut.
+        ensures alike { (size : ℕ) (engine : E) (cs : List Connection) → ArePlayed 1 size engine self.old.links.items (C.pipes carrier.old) cs
+            → ArePlayed 1 size engine self.new.links.items (C.pipes carrier.new) (map cut cs) }
     {
         'links: for place in 0..self.links.len() {
-            let link = &mut self.links[place];
-            if !link.is_cut {
-                link.cut(carrier);
-            }
+            self.cut_at(carrier, place);
         }
+    }
+
+    /// The connection at this place is cut, unless it is cut already.
+    fn cut_at<C: Carrier>(&mut self, carrier: &mut C, place: usize)
+        requires tied { AreTied self.old.links.items (C.pipes carrier.old) }
+        requires there { place < length self.old.links.items }
+        ensures tied { AreTied self.new.links.items (C.pipes carrier.new) }
+        ensures count { length self.new.links.items ≡ length self.old.links.items }
+        ensures rest { self.new ≡ record self.old { links = self.new.links } }
+        ensures tells { C.tells carrier.old → C.tells carrier.new }
+        ensures alike { (size : ℕ) (engine : E) (cs : List Connection) (c : Connection) → slice_get cs place ≡ Some c
+            → ArePlayed 1 size engine self.old.links.items (C.pipes carrier.old) cs
+            → ArePlayed 1 size engine self.new.links.items (C.pipes carrier.new) (put place (cut c) cs) }
+    {
+        let link = &mut self.links[place];
+        if link.is_cut {
+            return;
+        }
+        link.cut(carrier);
     }
 
     /// What is seen of each connection that isn't cut.
@@ -229,29 +272,50 @@ impl<E: Engine + Copy> Player<E> {
     }
 
     /// What is told of each request in the end, in the order in which they were asked.
-    pub(crate) fn into_requests(self) -> Result<Vec<RequestReport>, NoMemory> {
+    pub(crate) fn into_requests(self) -> Result<Vec<RequestReport>, NoMemory>
+        ensures { (setup : Setup) (engine : E) (pipes : ℕ → Option Pipe) (w : World) → IsPlay setup engine self pipes w
+            → RequestsInOrder w
+            → IfOk result (λ reports. reports.items ≡ request_reports w 1 w.asked_on) }
+    {
         let Player {
             alloc,
             links,
             asked_on,
             ..
         } = self;
-        let mut records = Vec::new(alloc);
-        for link in links {
-            let (_, mut asked) = link.into_records()?;
-            // The oldest comes last, where it is taken from.
-            asked.reverse();
-            records.push(asked)?;
-        }
+        let mut records = all_records(alloc, links)?;
         let mut reports = Vec::new(alloc);
-        for conn in asked_on {
-            if conn > 0
-                && let Some(asked) = records.get_mut(conn as usize - 1)
-                && let Some(record) = asked.pop()
-            {
-                reports.push(record.report(conn))?;
+        'asked: for conn in &asked_on {
+            if let Some(record) = next_of(&mut records, *conn) {
+                reports.push(record.report(*conn))?;
             }
         }
         Ok(reports)
     }
+}
+
+/// The requests of each connection, the newest first.
+fn all_records<E: Engine + Copy>(
+    alloc: Global,
+    links: Vec<Link<E>>,
+) -> Result<Vec<Vec<Record>>, NoMemory>
+    ensures { IfOk result (λ records. map (λ v. v.items) records.items ≡ map newest_first links.items) }
+{
+    let mut records = Vec::new(alloc);
+    'links: for link in links {
+        records.push(link.into_records()?)?;
+    }
+    Ok(records)
+}
+
+/// The oldest request of this connection that is left, which is taken away.
+fn next_of(records: &mut [Vec<Record>], conn: u32) -> Option<Record>
+    ensures count { length records.new ≡ length records.old }
+    ensures next { (left : List Record) (r : Record) → numbered (map (λ v. v.items) records.old) conn ≡ Some (left ++ r ∷ [])
+        → (result ≡ Some r) × (map (λ v. v.items) records.new ≡ slice_set (map (λ v. v.items) records.old) (conn - 1) left) }
+{
+    if conn == 0 || conn as usize > records.len() {
+        return None;
+    }
+    records[conn as usize - 1].pop()
 }

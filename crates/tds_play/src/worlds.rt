@@ -1,10 +1,10 @@
 //! What holds in every world of the model, with an engine's answers.
-ghost use Rattle.std.specs.Prelude.{◌≡◌, ◌≤◌, List, length};
+ghost use Rattle.std.specs.Prelude.{◌≡◌, ◌≤◌, ◌<◌, List, length};
 ghost use Rattle.std.specs.List.{AllByRecursion};
 ghost use Rattle.tds_packet.specs.Reading.{Reading};
 ghost use Rattle.tds_packet.specs.declared.kind.Direction.TheVariants.{ToServer};
 ghost use Rattle.tds_play.specs.Deliveries.{AllArrive};
-ghost use Rattle.tds_play.specs.Player.{AreReady};
+ghost use Rattle.tds_play.specs.Player.{PromisesAll};
 ghost use Rattle.tds_play.specs.Promises.{Promises};
 ghost use Rattle.tds_session.specs.Answer.{answer_of};
 ghost use Rattle.tds_world.specs.Bounds.{IsEvent, IsSetup};
@@ -20,7 +20,7 @@ use crate::laws::{all_arrive, all_heard};
 use tds_session::Engine;
 use tds_world::laws::{
     act_on_newest, all_welcome, answers_end_once, delivers_exactly, engine_is_lawful,
-    engine_stays_in_range, few_to_clients, few_underway, idle_is_quiet, lends_idle,
+    engine_stays_in_range, few_of_each, few_to_clients, few_underway, idle_is_quiet, lends_idle,
     messages_are_whole, packets_fit, requests_in_order, work_on_newest,
 };
 
@@ -41,14 +41,15 @@ pub(crate) fn arrivals_hold<E: Engine>(engine: &E)
     all_arrive::<E>();
 }
 
-/// What the model promises of each connection, of the next event and of the order of the requests, in
-/// every world.
+/// What the model promises of each connection of every world, of every world before an event, and of
+/// the order of the requests.
 pub(crate) fn worlds_hold<E: Engine>(engine: &E)
     ensures each { (setup : Setup) (events : List Event) → IsSetup setup → AllByRecursion IsEvent events → length events ≤ 10000
         → OfEachConnection (Promises E (answer_of (E.statements_of engine.now) (E.step_of engine.now)) setup.packet_size)
         (world_after setup (answer_of (E.statements_of engine.now) (E.step_of engine.now)) events new_world) }
-    ensures ready { (setup : Setup) (events : List Event)
-        → AreReady setup (world_after setup (answer_of (E.statements_of engine.now) (E.step_of engine.now)) events new_world) }
+    ensures before { (setup : Setup) (events : List Event) → IsSetup setup → AllByRecursion IsEvent events → length events < 10000
+        → PromisesAll E (answer_of (E.statements_of engine.now) (E.step_of engine.now)) setup
+        (world_after setup (answer_of (E.statements_of engine.now) (E.step_of engine.now)) events new_world) }
     ensures order { (setup : Setup) (events : List Event)
         → RequestsInOrder (world_after setup (answer_of (E.statements_of engine.now) (E.step_of engine.now)) events new_world) }
 {
@@ -63,5 +64,6 @@ pub(crate) fn worlds_hold<E: Engine>(engine: &E)
     act_on_newest();
     few_to_clients();
     lends_idle();
+    few_of_each();
     requests_in_order();
 }

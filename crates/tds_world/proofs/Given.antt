@@ -23,19 +23,23 @@ use Rattle.tds_world.proofs.Agreement.{new_agrees}
 use Rattle.tds_world.proofs.Grows.{Growth, Grown, Related, after_grow, after_both, after_agrees}
 use Rattle.tds_world.proofs.Words.{OfActed}
 
--- A request became this one: its number stays, and once it is cancelled, it stays so, and so does
--- what it was given.
+-- A request became this one: its number, its lease and what it asks stay, and once it is cancelled,
+-- it stays so, and so does what it was given.
 pub record Later (q p : Record) : Type 0 where
   pub number : p.number ≡ q.number
+  pub lease : p.lease ≡ q.lease
+  pub asking : p.asking ≡ q.asking
   pub cancelled : q.cancelled ≡ true → p.cancelled ≡ true
   pub given : q.cancelled ≡ true → p.given ≡ q.given
 
 same : (q : Record) → Later q q
-same q = record { number = refl; cancelled = λ e. e; given = λ e. refl }
+same q = record { number = refl; lease = refl; asking = refl; cancelled = λ e. e; given = λ e. refl }
 
 later_then : (q p r : Record) → Later q p → Later p r → Later q r
 later_then q p r f g = record {
   number = g.number ∙ f.number;
+  lease = g.lease ∙ f.lease;
+  asking = g.asking ∙ f.asking;
   cancelled = λ e. g.cancelled (f.cancelled e);
   given = λ e. g.given (f.cancelled e) ∙ f.given e;
 }
@@ -80,7 +84,7 @@ if_cancelled true x y e = refl
 if_cancelled false x y e = absurd (cc)
 
 gives_later : (s : answer.Step) (q : Record) → Later q (gives s q)
-gives_later s q = record { number = refl; cancelled = λ e. e; given = λ e. if_cancelled q.cancelled q.given _ e }
+gives_later s q = record { number = refl; lease = refl; asking = refl; cancelled = λ e. e; given = λ e. if_cancelled q.cancelled q.given _ e }
 
 -- ---- Each act
 
@@ -93,15 +97,15 @@ follows_then b c d f g = longer_then (records b) (records c) (records d) f g
 newest : (c : Connection) (q p : Record) → c.current ≡ Some q → Later q p → Longer (records c) (c.past ++ p ∷ [])
 newest c q p e k = subst (λ o. Longer (joined c.past o) (c.past ++ p ∷ [])) (sym e) (changed_newest c.past q p k)
 
-cancels_later : (q : Record) (p : Record) → p.number ≡ q.number → p.cancelled ≡ true → p.given ≡ q.given → Later q p
-cancels_later q p n c g = record { number = n; cancelled = λ e. c; given = λ e. g }
+cancels_later : (q : Record) (p : Record) → p.number ≡ q.number → p.lease ≡ q.lease → p.asking ≡ q.asking → p.cancelled ≡ true → p.given ≡ q.given → Later q p
+cancels_later q p n l a c g = record { number = n; lease = l; asking = a; cancelled = λ e. c; given = λ e. g }
 
 cancels_follow_by : (p : Phase) (q : Record) (c : Connection) → c.current ≡ Some q → Follows c (cancels_by p q c)
 cancels_follow_by Settled q c e = longer_same (records c)
 cancels_follow_by Cancelling q c e = longer_same (records c)
-cancels_follow_by Asked q c e = newest c q _ e (cancels_later q _ refl refl refl)
-cancels_follow_by Sending q c e = newest c q _ e (cancels_later q _ refl refl refl)
-cancels_follow_by Reading q c e = newest c q _ e (cancels_later q _ refl refl refl)
+cancels_follow_by Asked q c e = newest c q _ e (cancels_later q _ refl refl refl refl refl)
+cancels_follow_by Sending q c e = newest c q _ e (cancels_later q _ refl refl refl refl refl)
+cancels_follow_by Reading q c e = newest c q _ e (cancels_later q _ refl refl refl refl refl)
 
 cancels_follow_in : (current : Option Record) (c : Connection) → c.current ≡ current → Follows c (cancels_in current c)
 cancels_follow_in None c e = longer_same (records c)
@@ -111,7 +115,7 @@ works_follow : (c : Connection) (due : List answer.Step) → Follows c (works_on
 works_follow c [] = longer_same (records c)
 works_follow c (s ∷ ss) =
     changed_joined (if_numbered c.answering (runs c.session s)) c.past c.current
-    (λ q. later_when (q.number == c.answering) (runs c.session s) q (record { number = refl; cancelled = λ e. e; given = λ e. refl }))
+    (λ q. later_when (q.number == c.answering) (runs c.session s) q (record { number = refl; lease = refl; asking = refl; cancelled = λ e. e; given = λ e. refl }))
 
 server_follows : (answers : Answers) (c : Connection) (e : Up) → Follows c (server_acts answers c e)
 server_follows answers c (Part r p) = longer_same (records c)
@@ -124,7 +128,7 @@ client_follows c (Step r place s) =
     changed_joined (if_numbered r (gives s)) c.past c.current (λ q. later_when (q.number == r) (gives s) q (gives_later s q))
 client_follows c (Acknowledgement r place) =
     changed_joined (if_numbered r acknowledges) c.past c.current
-    (λ q. later_when (q.number == r) acknowledges q (record { number = refl; cancelled = λ e. e; given = λ e. refl }))
+    (λ q. later_when (q.number == r) acknowledges q (record { number = refl; lease = refl; asking = refl; cancelled = λ e. e; given = λ e. refl }))
 
 either : (c : Connection) (b : Bool) (x y : Connection) → Follows c x → Follows c y → Follows c (cond b x y)
 either c true x y f g = f
@@ -166,8 +170,8 @@ asked_follows true number lease n q c = longer_more (records c) _
 asked_follows false number lease n q c = tt
 
 sends_follow : (b : Bool) (room : ℕ) (q : Record) (c : Connection) → c.current ≡ Some q → Follows c (sends_by b room q c)
-sends_follow true room q c e = newest c q _ e (record { number = refl; cancelled = λ f. f; given = λ f. refl })
-sends_follow false room q c e = newest c q _ e (record { number = refl; cancelled = λ f. f; given = λ f. refl })
+sends_follow true room q c e = newest c q _ e (record { number = refl; lease = refl; asking = refl; cancelled = λ f. f; given = λ f. refl })
+sends_follow false room q c e = newest c q _ e (record { number = refl; lease = refl; asking = refl; cancelled = λ f. f; given = λ f. refl })
 
 sent_follows : (p : Phase) (room : ℕ) (current : Option Record) (c : Connection) → c.current ≡ current → OfActed (Follows c) (sends_in p room current c)
 sent_follows Asked room (Some q) c e = sends_follow (sends_last room q) room q c e
@@ -194,7 +198,7 @@ acted setup answers w (event.Cut k) n c = longer_same (records c)
 acted setup answers w event.RestartServer n c = tt
 acted setup answers w event.RestartClient n c = tt
 
-growth : (setup : Setup) (answers : Answers) → Growth setup answers Follows
+pub growth : (setup : Setup) (answers : Answers) → Growth setup answers Follows
 growth setup answers = record {
   same = λ c. longer_same (records c);
   then = follows_then;
@@ -221,7 +225,7 @@ on_grown : (number : ℕ) (c : Connection) (o : Option Connection) (q : Record) 
 on_grown number c None q r e = absurd r
 on_grown number c (Some d) q r e = found_later number (records c) (records d) q r e
 
-in_grown : (number n : ℕ) (bs cs : List Connection) (q : Record) → Grown Follows bs cs → request_in number (numbered bs n) ≡ Some q → (p : Record) × (request_in number (numbered cs n) ≡ Some p) × Later q p
+pub in_grown : (number n : ℕ) (bs cs : List Connection) (q : Record) → Grown Follows bs cs → request_in number (numbered bs n) ≡ Some q → (p : Record) × (request_in number (numbered cs n) ≡ Some p) × Later q p
 in_grown number zero bs cs q g e = absurd (cc)
 in_grown number (suc k) bs cs q g e = here (slice_get bs k) refl e
   where

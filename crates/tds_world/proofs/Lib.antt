@@ -49,3 +49,9 @@ pub mod Newest
 pub mod Order
 pub mod Lending
 pub mod Underway
+pub mod Few
+pub mod Reports
+pub mod NoFault
+pub mod Asks
+pub mod FirstRuns
+pub mod Leased

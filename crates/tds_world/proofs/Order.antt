@@ -112,7 +112,7 @@ newest_listed n ns xs x e g h =
 -- ---- Each event
 
 -- The connections of all requests after it, which is about connection n.
-abbrev asked_then : Event → ℕ → List ℕ → List ℕ
+abbrev pub asked_then : Event → ℕ → List ℕ → List ℕ
 asked_then (event.Ask l q) n ns = ns ++ n ∷ []
 asked_then e n ns = ns
 
@@ -178,7 +178,7 @@ elsewhere (event.Cut k) n m ns xs e h = h
 elsewhere event.RestartServer n m ns xs e h = h
 elsewhere event.RestartClient n m ns xs e h = h
 
-notes_asked : (e : Event) (n heard : ℕ) (w : World) → (notes e n heard w).asked_on ≡ asked_then e n w.asked_on
+pub notes_asked : (e : Event) (n heard : ℕ) (w : World) → (notes e n heard w).asked_on ≡ asked_then e n w.asked_on
 notes_asked (event.Ask l q) n heard w = refl
 notes_asked event.Lease n heard w = refl
 notes_asked (event.Resume t) n heard w = refl

@@ -27,3 +27,5 @@ pub mod Newest
 pub mod Order
 pub mod Lending
 pub mod Underway
+pub mod Counts
+pub mod Reports

@@ -4,6 +4,7 @@ ghost use Rattle.std.specs.Prelude.{List, length};
 ghost use Rattle.tds_session.specs.Answer.{Answers, answer_of, script_answers};
 ghost use Rattle.tds_world.specs.Begins.{HandsOutNext};
 ghost use Rattle.tds_world.specs.Bounds.{BeginsOnce, FewUnderway, IsEvent, IsSetup, OneAttention, OwnTransaction};
+ghost use Rattle.tds_world.specs.Counts.{AreFew};
 ghost use Rattle.tds_world.specs.Deliveries.{DeliversExactly};
 ghost use Rattle.tds_world.specs.Dones.{FinalDoneAtEnd, HaveDones};
 ghost use Rattle.tds_world.specs.Events.{world_after};
@@ -180,6 +181,12 @@ pub fn requests_in_order()
 pub fn few_to_clients()
     ensures { (setup : Setup) (answers : Answers) → Lawful answers → StayInRange answers
         → (events : List Event) → FewToClients (length events) (world_after setup answers events new_world) }
+{}
+
+/// After so many events there are at most so many connections, leases, tickets and requests. It holds
+/// for any answers.
+pub fn few_of_each()
+    ensures { (setup : Setup) (answers : Answers) (events : List Event) → AreFew (length events) (world_after setup answers events new_world) }
 {}
 
 /// Where a step arrives, its changes all apply to the descriptor that the client heard last, and a

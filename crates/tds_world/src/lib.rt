@@ -10,6 +10,7 @@ mod event;
 pub mod laws;
 mod outcome;
 mod report;
+pub mod report_laws;
 mod sequence;
 
 pub use event::{Event, Setup};

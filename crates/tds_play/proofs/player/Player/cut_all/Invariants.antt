@@ -1,9 +1,18 @@
-use Rattle.std.proofs.Common.{◌≡◌, length}
+use Rattle.std.proofs.Common.{◌≡◌, ℕ, List, length}
+use Rattle.tds_world.specs.Connection.{Connection}
+use Rattle.tds_play.specs.Plays.{ArePlayed}
 use Rattle.tds_play.specs.Ties.{AreTied}
+use Rattle.tds_play.proofs.AllCut.{cut_front}
 use Rattle.tds_play.proofs.player.Player.cut_all.Given as goal
 
 abbrev pub invariant-links : goal.invariant-links
-invariant-links g l = record {
-  tied : AreTied l.self.links.items (g.C.Carrier.pipes l.carrier);
-  count : length l.self.links.items ≡ length l.fn.self.links.items;
-}
+invariant-links g l =
+    let pipes = g.C.Carrier.pipes in
+    record {
+      tied : AreTied l.self.links.items (pipes l.carrier);
+      count : length l.self.links.items ≡ length l.fn.self.links.items;
+      rest : l.self ≡ record l.fn.self { links = l.self.links };
+      tells : g.C.Carrier.tells l.fn.carrier → g.C.Carrier.tells l.carrier;
+      alike : (size : ℕ) (engine : g.row.E.Denot) (cs : List Connection) → ArePlayed 1 size engine l.fn.self.links.items (pipes l.fn.carrier) cs
+          → ArePlayed 1 size engine l.self.links.items (pipes l.carrier) (cut_front l.place cs);
+    }

@@ -1,0 +1,9 @@
+use Rattle.std.proofs.Common.{◌≡◌}
+use Rattle.tds_play.proofs.Requested.{taken_last}
+use Rattle.tds_play.proofs.player.next_of.Goals as goal
+
+pub returns-clause-next : goal.returns-clause-next
+returns-clause-next c = λ left r there.
+    taken_last (λ v. v.items) c.args.records.now c.args.conn _ c.index-records-conn.result c.pop.new.self c.pop.result left r there
+    (rw c.index-records-conn.is at c.index-records-conn.result.ok.0)
+    (c.pop.ensures.value r) c.pop.ensures.rest

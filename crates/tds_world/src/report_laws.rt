@@ -1,0 +1,36 @@
+//! What the session laws say of a report. Each is the contract of a function without a body: what
+//! holds of the report of the model, `observed`, whatever the events.
+ghost use Rattle.tds_session.specs.Answer.{Answers};
+ghost use Rattle.tds_world.specs.Bounds.{IsEvent, IsSetup};
+ghost use Rattle.tds_world.specs.Lawful.{Lawful};
+ghost use Rattle.tds_world.specs.Reports.{AlwaysShown, AlwaysShownOf, AlwaysTold, ShowsFewUnderway, ShowsFreshStart, ShowsIdleQuiet, ShowsNoFault, ShowsOwnAnswers};
+ghost use Rattle.tds_world.specs.declared.event.Setup.{Setup};
+
+/// In each snapshot whose client is idle both byte counts are 0, and the two descriptors are one.
+pub fn idle_is_quiet()
+    ensures { (setup : Setup) (answers : Answers) → Lawful answers → AlwaysShown setup answers ShowsIdleQuiet }
+{}
+
+/// In each snapshot at most 4,094 bytes are underway to the server, for a setup that a play takes and
+/// requests that have a spelling.
+pub fn few_underway()
+    ensures { (setup : Setup) (answers : Answers) → IsSetup setup → Lawful answers → AlwaysShownOf IsEvent setup answers ShowsFewUnderway }
+{}
+
+/// In no event an end refuses what comes to it, and none is lost. It holds for any answers.
+pub fn no_fault()
+    ensures { (setup : Setup) (answers : Answers) → AlwaysShown setup answers ShowsNoFault }
+{}
+
+/// There is one report for each request that was asked, in their order. It is of the lease that asked,
+/// and its tokens are a beginning of the request's own answer, in the session that it shows, and all
+/// of it where it is finished; where it shows no session, there are none.
+pub fn own_answers()
+    ensures { (setup : Setup) (answers : Answers) → Lawful answers → AlwaysTold setup answers (ShowsOwnAnswers answers) }
+{}
+
+/// The first request of a lease that ran, of those reported, ran in a fresh session; for a lease that
+/// came from a ticket, in one without settings.
+pub fn fresh_start()
+    ensures { (setup : Setup) (answers : Answers) → Lawful answers → AlwaysShown setup answers ShowsFreshStart }
+{}
