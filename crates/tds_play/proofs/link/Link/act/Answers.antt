@@ -1,5 +1,4 @@
-use Rattle.std.specs.Prelude.{IfOk}
-use Rattle.std.proofs.Common.{◌≡◌, ◌≢◌, ◌≤◌, ◌∙◌, ◌++◌, ℕ, List, Bool, Option, Some, None, Ok, false, sym, ap, refl, subst, inl, inr}
+use Rattle.std.proofs.Common.{◌∙◌, ℕ, Option, subst, inl, inr}
 use Rattle.tds_packet.specs.declared.status.Reset.TheVariants.{Full, KeepTransaction}
 use Rattle.tds_session.specs.Answer.{Answers, answer_of}
 use Rattle.tds_world.specs.declared.event.Event.TheVariants as event
