@@ -10,25 +10,30 @@ use Rattle.tds_world.specs.declared.event.Event.{Event}
 use Rattle.tds_world.specs.declared.event.Event.TheVariants as event
 use Rattle.tds_world.specs.declared.event.Setup.{Setup}
 use Rattle.tds_world.specs.declared.outcome.Outcome.{Outcome}
+use Rattle.tds_world.specs.declared.report.Place.{Place}
+use Rattle.tds_world.specs.declared.report.Place.TheVariants as place
 use Rattle.tds_world.specs.declared.report.RequestReport.{RequestReport}
 use Rattle.tds_world.specs.declared.report.RequestStatus.TheVariants as status
+use Rattle.tds_world.specs.declared.report.Snapshot.{Snapshot}
+use Rattle.tds_world.specs.Bounds.{RanInOwn}
 use Rattle.tds_world.specs.Caller.{asks}
-use Rattle.tds_world.specs.Connection.{Connection, records, is_idle, is_cut}
+use Rattle.tds_world.specs.Connection.{Connection, records, is_idle, Standing, In, Cut, is_cut}
 use Rattle.tds_world.specs.Events.{about, acts, asks_by, settles, happens_at, happens, world_after}
 use Rattle.tds_world.specs.Lawful.{Lawful}
 use Rattle.tds_world.specs.Laws.{OfEachRequest, IsOwnAnswer, request_in, request_on}
-use Rattle.tds_world.specs.Observed.{record_on, event_report, event_reports, request_report, report_if, report_on, request_reports}
+use Rattle.tds_world.specs.Observed.{record_on, snapshot_of, seen, snapshots_from, event_report, event_reports, request_report, report_if, report_on, request_reports}
 use Rattle.tds_world.specs.Order.{number_if, numbers_on, RequestsInOrder}
 use Rattle.tds_world.specs.Phase.{Phase, Settled, Asked, Sending, Reading, Cancelling, phase_of, status_by}
 use Rattle.tds_world.specs.Pool.{Acted, Refuses, Does}
-use Rattle.tds_world.specs.Record.{Record, new_record}
-use Rattle.tds_world.specs.Reports.{AlwaysTold, Ask, asked_by, asked_in, OfEachAskFrom, ShowsAnswerIn, ShowsOwnAnswer, ShowsOwnAnswers}
+use Rattle.tds_world.specs.Record.{Record, new_record, header_descriptor}
+use Rattle.tds_world.specs.Reports.{AlwaysTold, Ask, asked_by, asked_in, OfEachAskFrom, ShowsAnswerIn, ShowsOwnAnswer, ShowsOwnAnswers, snapshot_in, ShowsRunInOwn, ShowsOwnTransaction}
 use Rattle.tds_world.specs.World.{World, Found, Missing, Here, Opens, new_world, numbered, next_number, put, put_numbered}
 use Rattle.tds_world.proofs.Agreement.{happens_agrees, new_agrees}
 use Rattle.tds_world.proofs.Given.{Follows, Later, growth, in_grown}
 use Rattle.tds_world.proofs.Grows.{Grown, after_grow}
 use Rattle.tds_world.proofs.Order.{requests_in_order, asked_then, notes_asked}
 use Rattle.tds_world.proofs.OwnAnswers.{own_answers}
+use Rattle.tds_world.proofs.OwnTransactions.{own_transaction}
 use Rattle.tds_world.proofs.Places.{StandsFor, FoundWith, about_stands, Agrees}
 use Rattle.tds_world.proofs.Words.{OfSome}
 use Rattle.tds_world.proofs.Worlds.{at_number}
@@ -40,6 +45,9 @@ pub record IsAsked (w : World) (number n : ℕ) (a : Ask) : Type 0 where
   pub numbered : a.number ≡ number
   pub lease : request.lease ≡ a.lease
   pub asks : request.asking.request ≡ a.request
+  pub snapshot : Snapshot
+  pub shown : snapshot_in n a.snapshots ≡ Some snapshot
+  pub descriptor : request.asking.descriptor ≡ header_descriptor snapshot.mark snapshot.descriptor
 
 -- So it is with the requests that were asked on these connections, of which the first has this number.
 abbrev pub AreAsked : World → ℕ → List ℕ → List Ask → Type 0
@@ -60,6 +68,9 @@ asked_stays w v number n a g h =
       numbered = h.numbered;
       lease = later.2.lease ∙ h.lease;
       asks = ap (λ x. x.request) later.2.asking ∙ h.asks;
+      snapshot = h.snapshot;
+      shown = h.shown;
+      descriptor = ap (λ x. x.descriptor) later.2.asking ∙ h.descriptor;
     }
 
 all_stay : (w v : World) (number : ℕ) (ns : List ℕ) (xs : List Ask) → Grown Follows w.connections v.connections → AreAsked w number ns xs → AreAsked v number ns xs
@@ -121,7 +132,31 @@ put_there : (cs : List Connection) (n : ℕ) (c d : Connection) → numbered cs 
 put_there cs zero c d e = absurd (cc)
 put_there cs (suc k) c d e = put_at cs k c d e
 
-nothing_more : {A : Type 0} (xs : List A) → xs ≡ xs ++ []
+-- What is seen of a connection that isn't cut.
+after_seen : (k m : ℕ) (c : Connection) (s : Standing) (shown : List Snapshot) → k < m → snapshot_in m (seen k c s ++ shown) ≡ snapshot_in m shown
+after_seen k m c (In p) shown l = else_is (eqb k m) (Some (snapshot_of k c p)) (snapshot_in m shown) (other_number k m l)
+after_seen k m c Cut shown l = refl
+
+first_seen : (k : ℕ) (c : Connection) (s : Standing) (p : Place) (shown : List Snapshot) → s ≡ In p → snapshot_in k (seen k c s ++ shown) ≡ Some (snapshot_of k c p)
+first_seen k c s p shown e = subst (λ x. snapshot_in k (seen k c x ++ shown) ≡ Some (snapshot_of k c p)) (sym e) (then_is (eqb k k) (Some (snapshot_of k c p)) (snapshot_in k shown) (same_number k))
+
+seen_at : (k i : ℕ) (cs : List Connection) (d : Connection) (p : Place) → slice_get cs i ≡ Some d → d.standing ≡ In p → snapshot_in (k + i) (snapshots_from k cs) ≡ Some (snapshot_of (k + i) d p)
+seen_at k i [] d p e s = absurd (cc)
+seen_at k zero (c ∷ cs) d p e s =
+    let same : c ≡ d = cc in
+    let here : snapshot_in k (snapshots_from k (c ∷ cs)) ≡ Some (snapshot_of k c p) = first_seen k c c.standing p (snapshots_from (suc k) cs) (ap (λ (x : Connection). x.standing) same ∙ s) in
+    subst (λ m. snapshot_in m (snapshots_from k (c ∷ cs)) ≡ Some (snapshot_of m d p)) (let end : k ≡ k + 0 = omega arith in end)
+    (subst (λ x. snapshot_in k (snapshots_from k (c ∷ cs)) ≡ Some (snapshot_of k x p)) same here)
+seen_at k (suc i) (c ∷ cs) d p e s =
+    after_seen k (k + suc i) c c.standing (snapshots_from (suc k) cs) (omega arith)
+    ∙ subst (λ m. snapshot_in m (snapshots_from (suc k) cs) ≡ Some (snapshot_of m d p)) (let end : suc k + i ≡ k + suc i = omega arith in end) (seen_at (suc k) i cs d p e s)
+
+pub snapshot_there : (cs : List Connection) (n : ℕ) (d : Connection) (p : Place) → numbered cs n ≡ Some d → d.standing ≡ In p → snapshot_in n (snapshots_from 1 cs) ≡ Some (snapshot_of n d p)
+snapshot_there cs zero d p e s = absurd (cc)
+snapshot_there cs (suc i) d p e s =
+    subst (λ m. snapshot_in m (snapshots_from 1 cs) ≡ Some (snapshot_of m d p)) (let end : 1 + i ≡ suc i = omega arith in end) (seen_at 1 i cs d p e s)
+
+pub nothing_more : {A : Type 0} (xs : List A) → xs ≡ xs ++ []
 nothing_more [] = refl
 nothing_more (x ∷ xs) = ap (λ ys. x ∷ ys) (nothing_more xs)
 
@@ -146,9 +181,10 @@ new_there w number lease n q c k i o =
     ap (request_in number) (put_there w.connections n c (asks number lease n q c) i)
     ∙ find_newest (records c) (new_record number lease n q c.mark c.heard) lower
 
-asks_one : (b : Bool) (w : World) (lease n : ℕ) (q : Request) (c : Connection) (xs : List Ask) → numbered w.connections n ≡ Some c → RequestsInOrder w → Grown Follows w.connections (settles (event.Ask lease q) n w (asks_by b (next_number w.asked_on) lease n q c)).1.connections → AreAsked w 1 w.asked_on xs → Asks (event.Ask lease q) xs (settles (event.Ask lease q) n w (asks_by b (next_number w.asked_on) lease n q c))
-asks_one false w lease n q c xs i o g h = no_more w w.asked_on xs h
-asks_one true w lease n q c xs i o g h =
+asks_one : (b : Bool) (w : World) (lease n : ℕ) (q : Request) (c : Connection) (xs : List Ask) → numbered w.connections n ≡ Some c → c.standing ≡ In (place.Leased lease) → RequestsInOrder w → Grown Follows w.connections (settles (event.Ask lease q) n w (asks_by b (next_number w.asked_on) lease n q c)).1.connections → AreAsked w 1 w.asked_on xs → Asks (event.Ask lease q) xs (settles (event.Ask lease q) n w (asks_by b (next_number w.asked_on) lease n q c))
+asks_one false w lease n q c xs i s o g h = no_more w w.asked_on xs h
+asks_one true w lease n q c xs i s o g h =
+    let d : Connection = asks (next_number w.asked_on) lease n q c in
     let p = settles (event.Ask lease q) n w (asks_by true (next_number w.asked_on) lease n q c) in
     let a : Ask = record { number = next_number w.asked_on; lease = lease; request = q; snapshots = (event_report p).snapshots } in
     let next : next_number w.asked_on ≡ 1 + length w.asked_on = omega arith in
@@ -158,11 +194,14 @@ asks_one true w lease n q c xs i o g h =
       numbered = refl;
       lease = refl;
       asks = refl;
+      snapshot = snapshot_of n d (place.Leased lease);
+      shown = snapshot_there (put_numbered n d w.connections) n d (place.Leased lease) (put_there w.connections n c d i) s;
+      descriptor = refl;
     }))
 
 ask_found : (setup : Setup) (answers : Answers) (lease : ℕ) (q : Request) (w : World) (f : Found) (xs : List Ask) → FoundWith w (StandsFor (event.Ask lease q)) f → RequestsInOrder w → Grown Follows w.connections (happens_at setup answers (event.Ask lease q) w f).1.connections → AreAsked w 1 w.asked_on xs → Asks (event.Ask lease q) xs (happens_at setup answers (event.Ask lease q) w f)
 ask_found setup answers lease q w (Missing why) xs s o g h = no_more w w.asked_on xs h
-ask_found setup answers lease q w (Here n c) xs s o g h = asks_one (is_idle c) w lease n q c xs s.0 o g h
+ask_found setup answers lease q w (Here n c) xs s o g h = asks_one (is_idle c) w lease n q c xs s.0 s.1 o g h
 ask_found setup answers lease q w (Opens n) xs s o g h =
     let v : World = (happens_at setup answers (event.Ask lease q) w (Opens n)).1 in
     no_more v w.asked_on xs (all_stay w v 1 w.asked_on xs g h)
@@ -245,7 +284,7 @@ on_some P number (Some c) q h e = record {
   alone = ap (report_if (is_cut c.standing)) e;
 }
 
-pub each_reported : (P : Connection → Record → Type 0) (R : Ask → RequestReport → Type 0) (w : World) (number : ℕ) (ns : List ℕ) (xs : List Ask) → ((c : Connection) (q : Record) (a : Ask) → P c q → q.lease ≡ a.lease → q.asking.request ≡ a.request → R a (request_report (is_cut c.standing) q)) → OfEachRequest P w → AreAsked w number ns xs → OfEachAskFrom number R xs (request_reports w number ns)
+pub each_reported : (P : Connection → Record → Type 0) (R : Ask → RequestReport → Type 0) (w : World) (number : ℕ) (ns : List ℕ) (xs : List Ask) → ((k n : ℕ) (a : Ask) (h : IsAsked w k n a) (r : IsReported P k (numbered w.connections n) h.request) → R a (request_report (is_cut r.on.standing) h.request)) → OfEachRequest P w → AreAsked w number ns xs → OfEachAskFrom number R xs (request_reports w number ns)
 each_reported P R w number [] [] f p h = tt
 each_reported P R w number [] (a ∷ xs) f p h = h
 each_reported P R w number (n ∷ ns) [] f p h = absurd h
@@ -254,7 +293,7 @@ each_reported P R w number (n ∷ ns) (a ∷ xs) f p h =
     let r : IsReported P number (numbered w.connections n) q =
     on_some P number (numbered w.connections n) q (at_number (λ c. AllByRecursion (P c) (records c)) w.connections n p) h.0.there in
     subst (λ rs. OfEachAskFrom number R (a ∷ xs) (rs ++ request_reports w (suc number) ns)) (sym r.alone)
-    (h.0.numbered, f r.on q a r.holds h.0.lease h.0.asks, each_reported P R w (suc number) ns xs f p h.1)
+    (h.0.numbered, f number n a h.0 r, each_reported P R w (suc number) ns xs f p h.1)
 
 -- ---- Own answers
 
@@ -292,4 +331,21 @@ own_shown answers c q a h l e = record {
 pub own_answers_are_shown : (setup : Setup) (answers : Answers) → Lawful answers → AlwaysTold setup answers (ShowsOwnAnswers answers)
 own_answers_are_shown setup answers l events =
     let w : World = world_after setup answers events new_world in
-    each_reported (λ c q. IsOwnAnswer answers q q.ran) (ShowsOwnAnswer answers) w 1 w.asked_on (asked_in events (event_reports setup answers events new_world)) (own_shown answers) (own_answers setup answers l events) (all_asked setup answers events)
+    each_reported (λ c q. IsOwnAnswer answers q q.ran) (ShowsOwnAnswer answers) w 1 w.asked_on (asked_in events (event_reports setup answers events new_world)) (λ k n a h r. own_shown answers r.on h.request a r.holds h.lease h.asks) (own_answers setup answers l events) (all_asked setup answers events)
+
+-- ---- Own transactions
+
+runs_in_own : (w : World) → RequestsInOrder w → (k n : ℕ) (a : Ask) (h : IsAsked w k n a) (r : IsReported RanInOwn k (numbered w.connections n) h.request) → ShowsRunInOwn a (request_report (is_cut r.on.standing) h.request)
+runs_in_own w o k n a h r s e =
+    let on : h.request.conn ≡ n =
+    found_has (λ (q : Record). q.conn ≡ n) (λ (q : Record). q.number == k) (records r.on) h.request (o.each n r.on r.is).conns r.found in
+    record {
+      snapshot = h.snapshot;
+      shown = ap (λ m. snapshot_in m a.snapshots) on ∙ h.shown;
+      descriptor = sym (r.holds s e) ∙ h.descriptor;
+    }
+
+pub own_transactions_are_shown : (setup : Setup) (answers : Answers) → Lawful answers → AlwaysTold setup answers ShowsOwnTransaction
+own_transactions_are_shown setup answers l events =
+    let w : World = world_after setup answers events new_world in
+    each_reported RanInOwn ShowsRunInOwn w 1 w.asked_on (asked_in events (event_reports setup answers events new_world)) (runs_in_own w (requests_in_order setup answers events)) (own_transaction setup answers l events) (all_asked setup answers events)

@@ -55,3 +55,5 @@ pub mod NoFault
 pub mod Asks
 pub mod FirstRuns
 pub mod Leased
+pub mod Acknowledged
+pub mod NoMore

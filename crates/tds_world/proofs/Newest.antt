@@ -101,7 +101,7 @@ stay : (n r : ℕ) (f : Record → Record) (past : List Record) (o : Option Reco
 stay n r f past None b e h = absurd (cc)
 stay n r f past (Some q) b e h = subst (λ x. map (if_numbered x f) past ≡ past) (sym e) (past_stays q.number f past h.1)
 
-client_past : (n : ℕ) (c : Connection) (e : Down) (es : List Down) → SoundWith c c.to_server.waiting (e ∷ es) → NumbersOf n (past_of c) (newest_of c) → (client_acts (record c { to_client = passed e c.to_client }) e).past ≡ c.past
+pub client_past : (n : ℕ) (c : Connection) (e : Down) (es : List Down) → SoundWith c c.to_server.waiting (e ∷ es) → NumbersOf n (past_of c) (newest_of c) → (client_acts (record c { to_client = passed e c.to_client }) e).past ≡ c.past
 client_past n c (Step r i s) es f h =
     stay n r (gives s) c.past c.current
     (busy_down (phase c) (number_in c.current) c.answering c.to_server.waiting (Step r i s) es c.parts c.due f.0)

@@ -1,5 +1,5 @@
 -- What the session laws say of a play's report.
-use Rattle.std.specs.Prelude.{ℕ, suc, ◌≡◌, ◌≢◌, ◌≤◌, List, [], ◌∷◌, ◌++◌, Bool, true, false, ◌==◌, Option, Some, None}
+use Rattle.std.specs.Prelude.{ℕ, suc, ◌≡◌, ◌≢◌, ◌≤◌, List, [], ◌∷◌, ◌++◌, Bool, true, false, ◌==◌, Option, Some, None, find}
 use Rattle.std.specs.List.{AllByRecursion}
 use Rattle.tds_request.specs.declared.request.Request.{Request}
 use Rattle.tds_session.specs.Answer.{Answers}
@@ -16,10 +16,12 @@ use Rattle.tds_world.specs.declared.report.ClientView.TheVariants as view
 use Rattle.tds_world.specs.declared.report.EventReport.{EventReport}
 use Rattle.tds_world.specs.declared.report.Report.{Report}
 use Rattle.tds_world.specs.declared.report.RequestReport.{RequestReport}
+use Rattle.tds_world.specs.declared.report.RequestStatus.{RequestStatus}
 use Rattle.tds_world.specs.declared.report.RequestStatus.TheVariants as status
 use Rattle.tds_world.specs.declared.report.Snapshot.{Snapshot}
 use Rattle.tds_world.specs.Laws.{whole_answer}
 use Rattle.tds_world.specs.Observed.{observed}
+use Rattle.tds_world.specs.Record.{header_descriptor}
 
 -- P holds of the report, whatever the events.
 abbrev pub AlwaysShown : Setup → Answers → (Report → Type 0) → Type 0
@@ -118,6 +120,24 @@ pub record ShowsOwnAnswer (answers : Answers) (a : Ask) (r : RequestReport) : Ty
 abbrev pub ShowsOwnAnswers : Answers → List Event → Report → Type 0
 ShowsOwnAnswers answers events r = OfEachAsk (ShowsOwnAnswer answers) events r
 
+-- What a snapshot shows of a connection, if it shows it.
+abbrev pub snapshot_in : ℕ → List Snapshot → Option Snapshot
+snapshot_in conn shown = find (λ (s : Snapshot). s.conn == conn) shown
+
+-- A session in the transaction that the client was in when the request was asked, as the snapshot
+-- after its event shows it; or outside one, where a full reset was to end it first.
+pub record IsInOwn (a : Ask) (r : RequestReport) (s : SessionState) : Type 0 where
+  pub snapshot : Snapshot
+  pub shown : snapshot_in r.conn a.snapshots ≡ Some snapshot
+  pub descriptor : s.descriptor ≡ header_descriptor snapshot.mark snapshot.descriptor
+
+-- Each request that ran did so in its own transaction.
+abbrev pub ShowsRunInOwn : Ask → RequestReport → Type 0
+ShowsRunInOwn a r = (s : SessionState) → r.ran ≡ Some s → IsInOwn a r s
+
+abbrev pub ShowsOwnTransaction : List Event → Report → Type 0
+ShowsOwnTransaction events r = OfEachAsk ShowsRunInOwn events r
+
 -- The session in which the first request of a lease ran, if one did.
 abbrev pub first_by : Bool → Option SessionState → Option SessionState → Option SessionState
 first_by true (Some s) later = Some s
@@ -142,3 +162,24 @@ StartsIfLeased rs o = Unit {0}
 
 abbrev pub ShowsFreshStart : Report → Type 0
 ShowsFreshStart r = AllByRecursion (λ (e : EventReport). StartsIfLeased r.requests e.outcome) r.events
+
+-- A request that the report shows as cancelled.
+abbrev pub IsCancelled : RequestStatus → Type 0
+IsCancelled status.Cancelling = Unit {0}
+IsCancelled status.Acknowledged = Unit {0}
+IsCancelled status.Unsent = Unit {0}
+IsCancelled status.Open = ⊥
+IsCancelled status.Finished = ⊥
+IsCancelled status.Lost = ⊥
+
+-- Each request that is reported is reported later too, and where it was cancelled, with the same tokens.
+abbrev pub GivesNoMore : List RequestReport → List RequestReport → Type 0
+GivesNoMore [] later = Unit {0}
+GivesNoMore (r ∷ rs) [] = ⊥
+GivesNoMore (r ∷ rs) (l ∷ later) =
+    (IsCancelled r.status → l.tokens ≡ r.tokens) × GivesNoMore rs later
+
+abbrev pub ShowsNothingAfterCancel : Setup → Answers → Type 0
+ShowsNothingAfterCancel setup answers =
+    (events later : List Event)
+    → GivesNoMore (observed setup answers events).requests (observed setup answers (events ++ later)).requests

@@ -3,7 +3,7 @@
 ghost use Rattle.tds_session.specs.Answer.{Answers};
 ghost use Rattle.tds_world.specs.Bounds.{IsEvent, IsSetup};
 ghost use Rattle.tds_world.specs.Lawful.{Lawful};
-ghost use Rattle.tds_world.specs.Reports.{AlwaysShown, AlwaysShownOf, AlwaysTold, ShowsFewUnderway, ShowsFreshStart, ShowsIdleQuiet, ShowsNoFault, ShowsOwnAnswers};
+ghost use Rattle.tds_world.specs.Reports.{AlwaysShown, AlwaysShownOf, AlwaysTold, ShowsFewUnderway, ShowsFreshStart, ShowsIdleQuiet, ShowsNoFault, ShowsNothingAfterCancel, ShowsOwnAnswers, ShowsOwnTransaction};
 ghost use Rattle.tds_world.specs.declared.event.Setup.{Setup};
 
 /// In each snapshot whose client is idle both byte counts are 0, and the two descriptors are one.
@@ -33,4 +33,15 @@ pub fn own_answers()
 /// came from a ticket, in one without settings.
 pub fn fresh_start()
     ensures { (setup : Setup) (answers : Answers) → Lawful answers → AlwaysShown setup answers ShowsFreshStart }
+{}
+
+/// Whatever events follow, a request that is reported as cancelled has the tokens that it had.
+pub fn nothing_after_cancel()
+    ensures { (setup : Setup) (answers : Answers) → Lawful answers → ShowsNothingAfterCancel setup answers }
+{}
+
+/// A request that ran did so in the transaction that its client was in when it was asked, as the
+/// snapshot after its event shows it; and outside one, where its mark asked for a full reset.
+pub fn own_transaction()
+    ensures { (setup : Setup) (answers : Answers) → Lawful answers → AlwaysTold setup answers ShowsOwnTransaction }
 {}

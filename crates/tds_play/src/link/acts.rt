@@ -110,7 +110,7 @@ impl<E: Engine + Drop> Link<E> {
             → IsPlayed self.old.number setup.packet_size engine self.old (C.pipes carrier.old self.old.number) c
             → Promises E (answer_of (E.statements_of engine) (E.step_of engine)) setup.packet_size c
             → IsCountable (after (acts_on setup (answer_of (E.statements_of engine) (E.step_of engine)) w event.now self.old.number c) c)
-            → AreNext w next → IsReady event.now c
+            → AreNext w next → (self.old.is_cut ≡ false → IsReady event.now c)
             → IfOk result (λ done. (done ≡ done_as (outcome_of (acts_on setup (answer_of (E.statements_of engine) (E.step_of engine)) w event.now self.old.number c)))
             × IsPlayed self.old.number setup.packet_size engine self.new (C.pipes carrier.new self.old.number)
             (after (acts_on setup (answer_of (E.statements_of engine) (E.step_of engine)) w event.now self.old.number c) c)) }

@@ -26,7 +26,7 @@ returns-in-Lease-clause-alike g c = λ setup w m engine tells steady played prom
     let live = c.if-self.false in
     let in_place = stands_in conn size engine c.args.self.now pipe m played live in
     let at = event_at setup answers w c.args.event.now _ conn m c.args.self.now.place in_place c.in-Lease.is in
-    let idle = subst (λ e. IsReady e m) c.in-Lease.is ready in
+    let idle = subst (λ e. IsReady e m) c.in-Lease.is (ready live) in
     by_event conn size engine c.lend.result c.lend.new.self pipe m _ _ at
     (lent_alike conn size c.args.next.lease (next_number w.leases) Full opened.Reused engine c.args.self.now c.lend.new.self pipe m c.lend.result played live idle next.lease c.lend.ensures.done c.lend.ensures.lent)
 
@@ -39,7 +39,7 @@ returns-in-Resume-clause-alike g c = λ setup w m engine tells steady played pro
     let live = c.if-self.false in
     let in_place = stands_in conn size engine c.args.self.now pipe m played live in
     let at = event_at setup answers w c.args.event.now _ conn m c.args.self.now.place in_place c.in-Resume.is in
-    let idle = subst (λ e. IsReady e m) c.in-Resume.is ready in
+    let idle = subst (λ e. IsReady e m) c.in-Resume.is (ready live) in
     by_event conn size engine c.lend-in-Resume.result c.lend-in-Resume.new.self pipe m _ _ at
     (lent_alike conn size c.args.next.lease (next_number w.leases) KeepTransaction opened.Resumed engine c.args.self.now c.lend-in-Resume.new.self pipe m c.lend-in-Resume.result played live idle next.lease c.lend-in-Resume.ensures.done c.lend-in-Resume.ensures.lent)
 
@@ -169,7 +169,7 @@ returns-in-Cut-clause-alike g c = λ setup w m engine tells steady played promis
           (c.done.ensures, c.cut.ensures.alike size engine m played live)
       | inr r ↦
           absurd (elim r [
-            | inl e ↦ subst (λ x. IsReady x m) e ready
-            | inr e ↦ subst (λ x. IsReady x m) e ready
+            | inl e ↦ subst (λ x. IsReady x m) e (ready live)
+            | inr e ↦ subst (λ x. IsReady x m) e (ready live)
           ])
     ]
