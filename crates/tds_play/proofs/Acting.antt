@@ -18,7 +18,7 @@ use Rattle.tds_world.specs.Events.{acts}
 use Rattle.tds_world.specs.Pool.{Acted, Does, abandons, abandons_at, gives_back, gives_back_at, comes_back, keeps}
 use Rattle.tds_world.specs.World.{World}
 use Rattle.tds_client.specs.Session.{unless_idle}
-use Rattle.tds_play.specs.Lending.{standing_by, standing_of}
+use Rattle.tds_play.specs.Lending.{standing_by}
 use Rattle.tds_play.specs.Links.{lent_as, placed_at}
 use Rattle.tds_play.specs.Pipe.{Pipe}
 use Rattle.tds_play.specs.Plays.{IsPlayed, acts_at, acts_on, after, on_cut, outcome_of}

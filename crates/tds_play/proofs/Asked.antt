@@ -1,16 +1,15 @@
 -- A request that is asked on a connection, in a play and in the model.
 use Rattle.std.specs.Prelude.{is_none, IfOk}
-use Rattle.std.proofs.Common.{◌≡◌, ◌≢◌, ◌∙◌, ℕ, Bool, true, false, refl, sym, ap, subst, Option, Some, None, Result, Ok, Err, List, [], ◌∷◌, ◌++◌}
-use Rattle.tds_client.specs.Sending.{started}
+use Rattle.std.proofs.Common.{◌≡◌, ◌∙◌, ℕ, Bool, true, false, refl, sym, ap, subst, Option, Some, None, Result, Ok, Err, List, [], ◌∷◌}
 use Rattle.tds_client.specs.Session.{unless_idle}
 use Rattle.tds_packet.specs.declared.status.Reset.{Reset}
 use Rattle.tds_request.specs.declared.request.Request.{Request}
 use Rattle.tds_world.specs.declared.outcome.Outcome.TheVariants as outcome
 use Rattle.tds_world.specs.declared.outcome.Refusal.TheVariants.{NotIdle}
 use Rattle.tds_world.specs.Caller.{asks}
-use Rattle.tds_world.specs.Connection.{Connection, is_idle, joined, phase}
+use Rattle.tds_world.specs.Connection.{Connection, is_idle, joined}
 use Rattle.tds_world.specs.Events.{asks_by}
-use Rattle.tds_world.specs.Phase.{Settled, phase_in, phase_of}
+use Rattle.tds_world.specs.Phase.{Settled, phase_in}
 use Rattle.tds_world.specs.Record.{new_record}
 use Rattle.tds_world.specs.Record as world
 use Rattle.tds_world.specs.Entries.{up_bytes, down_bytes}
@@ -20,8 +19,8 @@ use Rattle.tds_play.specs.Lending.{standing_of}
 use Rattle.tds_play.specs.Links.{IsAsked, IsAskedOn, behind}
 use Rattle.tds_play.specs.Links as links
 use Rattle.tds_play.specs.Pipe.{Pipe, traffic}
-use Rattle.tds_play.specs.Plays.{IsPlayed, after, outcome_of}
-use Rattle.tds_play.specs.Requests.{IsRequest, AreOlder, IsNewest}
+use Rattle.tds_play.specs.Plays.{IsPlayed}
+use Rattle.tds_play.specs.Requests.{AreOlder, IsNewest}
 use Rattle.tds_play.specs.Seen.{done_as}
 use Rattle.tds_play.specs.Stands.{MatchesClient, MatchesServer}
 use Rattle.tds_play.specs.declared.link.Done.{Done}

@@ -1,37 +1,35 @@
 -- A connection whose newest request is cancelled, in a play and in the model.
-use Rattle.std.specs.Prelude.{IfOk, is_none}
-use Rattle.std.proofs.Common.{◌≡◌, ◌≢◌, ◌≤◌, ◌∙◌, ℕ, Bool, true, false, cond, refl, sym, ap, subst, Option, Some, None, option_map, Result, Ok, Err, List, []}
+use Rattle.std.specs.Prelude.{is_none}
+use Rattle.std.proofs.Common.{◌≡◌, ◌≤◌, ◌∙◌, ℕ, Bool, true, false, cond, refl, sym, ap, subst, Option, Some, None, option_map, Result, Ok, List}
 use Rattle.tds_client.specs.declared.fault.ClientRefusal.{ClientRefusal}
 use Rattle.tds_client.specs.declared.state.Cancelled.{Cancelled}
 use Rattle.tds_client.specs.declared.state.Cancelled.TheVariants as client
-use Rattle.tds_client.specs.Sending.{Effect, cancelled, cancelled_in, cancelled_sending}
+use Rattle.tds_client.specs.Sending.{Effect, cancelled_in, cancelled_sending}
 use Rattle.tds_client.specs.Session as session
 use Rattle.tds_client.specs.Session.{ClientSession, Stage, unless_idle}
 use Rattle.tds_packet.specs.declared.kind.Kind.{Kind}
-use Rattle.tds_server.specs.State.{ServerState, Message}
-use Rattle.tds_world.specs.declared.outcome.CancelOutcome.TheVariants as cancel
+use Rattle.tds_server.specs.State.{Message}
 use Rattle.tds_world.specs.declared.outcome.Outcome.TheVariants as outcome
 use Rattle.tds_world.specs.declared.report.Place.{Place}
 use Rattle.tds_world.specs.declared.report.RequestStatus.TheVariants as status
 use Rattle.tds_world.specs.Caller.{cancels, cancels_by, cancels_in}
 use Rattle.tds_world.specs.Caller as model
-use Rattle.tds_world.specs.Connection.{Connection, In, is_idle, phase, up_underway}
+use Rattle.tds_world.specs.Connection.{Connection, In, is_idle, up_underway}
 use Rattle.tds_world.specs.Entries.{up_bytes}
 use Rattle.tds_world.specs.Phase.{Phase, Settled, Asked, Sending, Reading, Cancelling, phase_by, phase_in, phase_of, status_by}
-use Rattle.tds_world.specs.Pool.{Acted, comes_back, place_back, returned_as}
+use Rattle.tds_world.specs.Pool.{comes_back, place_back, returned_as}
 use Rattle.tds_world.specs.Record.{Out, NotBegun, Begun, Whole}
 use Rattle.tds_world.specs.Record as world
 use Rattle.tds_play.specs.Acts.{cancel_outcome, cancelled_as, with_status}
-use Rattle.tds_play.specs.Alike.{CancelAlike, DoesCancel}
+use Rattle.tds_play.specs.Alike.{CancelAlike}
 use Rattle.tds_play.specs.Lending.{standing_by}
 use Rattle.tds_play.specs.Links.{placed_at}
 use Rattle.tds_play.specs.Pipe.{Pipe}
 use Rattle.tds_play.specs.Plays.{IsPlayed, after, outcome_of}
-use Rattle.tds_play.specs.Requests.{IsRequest, IsNewest}
-use Rattle.tds_play.specs.Stands.{IsOf, MatchesClient, MatchesServer, Sends}
+use Rattle.tds_play.specs.Requests.{IsNewest}
+use Rattle.tds_play.specs.Stands.{IsOf, Sends}
 use Rattle.tds_play.specs.declared.link.Link.{Link}
 use Rattle.tds_play.specs.declared.link.Record.{Record}
-use Rattle.tds_play.proofs.Cancelling.{cancel_alike}
 use Rattle.tds_play.proofs.Matching.{client_same, server_same}
 use Rattle.tds_play.proofs.Outward.{HandedUp, sent_played}
 use Rattle.tds_play.proofs.Placed.{idle_alike}

@@ -2,12 +2,12 @@
 use Rattle.std.proofs.Common.{◌≡◌, ◌∙◌, ℕ, Bool, true, false, refl, sym, ap, subst, Option, Some, None, option_map, List, [], ◌∷◌}
 use Rattle.tds_packet.specs.declared.kind.Direction.{Direction}
 use Rattle.tds_packet.specs.declared.kind.Direction.TheVariants.{ToServer, ToClient}
-use Rattle.tds_world.specs.Connection.{Connection, Cut, cut}
-use Rattle.tds_world.specs.Phase.{Phase, Settled, Asked, Sending, Reading, Cancelling, phase_of, status_by, status_of}
+use Rattle.tds_world.specs.Connection.{Connection, cut}
+use Rattle.tds_world.specs.Phase.{Phase, Settled, Asked, Sending, Reading, Cancelling, phase_of, status_by}
 use Rattle.tds_world.specs.Record as world
 use Rattle.tds_play.specs.Lending.{standing_by}
 use Rattle.tds_play.specs.Links.{lost_record, lost_status}
-use Rattle.tds_play.specs.Pipe.{Pipe, traffic, traffic_of, cut_pipe}
+use Rattle.tds_play.specs.Pipe.{Pipe, traffic, cut_pipe}
 use Rattle.tds_play.specs.Plays.{IsPlayed}
 use Rattle.tds_play.specs.Requests.{IsRequest, AreOlder, IsNewest}
 use Rattle.tds_play.specs.declared.link.Link.{Link}

@@ -1,5 +1,5 @@
 -- What an end stands for doesn't rest on the rest of its connection.
-use Rattle.std.proofs.Common.{◌≡◌, ◌≢◌, ◌∙◌, ◌+◌, ◌%◌, ℕ, refl, sym, ap, subst, Option, []}
+use Rattle.std.proofs.Common.{◌≡◌, ◌≢◌, ◌∙◌, ◌+◌, ◌%◌, ℕ, sym, ap, subst, Option, []}
 use Rattle.tds_client.specs.Session.{ClientSession}
 use Rattle.tds_packet.specs.declared.status.Reset.{Reset}
 use Rattle.tds_server.specs.State as server

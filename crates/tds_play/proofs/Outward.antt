@@ -1,5 +1,5 @@
 -- What an event sends, from either end: the connection then, in a play and in the model.
-use Rattle.std.proofs.Common.{◌≡◌, ◌≢◌, ◌≤◌, ◌∙◌, ◌+◌, ℕ, Bool, true, false, cond, refl, sym, ap, subst, Option, Some, None, List, [], ◌∷◌, ◌++◌, length, arith}
+use Rattle.std.proofs.Common.{◌≡◌, ◌≢◌, ◌≤◌, ◌∙◌, ◌+◌, ℕ, Bool, false, cond, refl, sym, ap, subst, Option, Some, None, List, [], ◌∷◌, ◌++◌, length, arith}
 use Rattle.tds_client.specs.Session.{ClientSession}
 use Rattle.tds_packet.specs.declared.kind.Direction.TheVariants.{ToServer, ToClient}
 use Rattle.tds_packet.specs.Reading.{Reading}
@@ -7,12 +7,12 @@ use Rattle.tds_server.specs.State.{ServerState}
 use Rattle.tds_world.specs.declared.report.Place.{Place}
 use Rattle.tds_world.specs.Connection.{Connection, In, up_underway, down_underway}
 use Rattle.tds_world.specs.Entries.{Up, Down, up_bytes, down_bytes}
-use Rattle.tds_world.specs.Lane.{Lane, sent_bytes, underway}
+use Rattle.tds_world.specs.Lane.{Lane, sent_bytes}
 use Rattle.tds_world.specs.Record as world
-use Rattle.tds_play.specs.Between.{IsLane, Stands}
+use Rattle.tds_play.specs.Between.{IsLane}
 use Rattle.tds_play.specs.Lending.{standing_by, standing_of}
 use Rattle.tds_play.specs.Pipe.{Pipe, Traffic, traffic, sent, sent_on, IsOpen}
-use Rattle.tds_play.specs.Plays.{IsPlayed, Lives}
+use Rattle.tds_play.specs.Plays.{IsPlayed}
 use Rattle.tds_play.specs.Requests.{AreOlder, IsNewest}
 use Rattle.tds_play.specs.Stands.{MatchesClient, MatchesServer, Sends}
 use Rattle.tds_play.specs.Ties.{saturated, with_counted}

@@ -1,8 +1,7 @@
 -- A connection that is lent, kept or given up, in a play and in the model.
-use Rattle.std.specs.Prelude.{◌==◌, ◌||◌, is_none, OnOk, IfErr}
-use Rattle.std.proofs.Common.{◌≡◌, ◌≢◌, ◌∙◌, ℕ, Bool, true, false, refl, sym, ap, subst, Option, Some, None, Result, Ok, Err, inl, inr}
-use Rattle.tds_client.specs.declared.fault.ClientRefusal.{ClientRefusal}
-use Rattle.tds_client.specs.Session.{ClientSession, Stage, unless_idle, marked}
+use Rattle.std.specs.Prelude.{◌==◌, ◌||◌, is_none}
+use Rattle.std.proofs.Common.{◌≡◌, ◌∙◌, ℕ, Bool, true, false, refl, sym, ap, Option, Some, None, inl, inr}
+use Rattle.tds_client.specs.Session.{ClientSession, unless_idle}
 use Rattle.tds_packet.specs.declared.status.Reset.{Reset}
 use Rattle.tds_session.specs.Session.{strongest}
 use Rattle.tds_world.specs.declared.outcome.Outcome.TheVariants.{Kept, Refused}
@@ -12,13 +11,13 @@ use Rattle.tds_world.specs.declared.report.Place.{Place}
 use Rattle.tds_world.specs.declared.report.Place.TheVariants as place
 use Rattle.tds_world.specs.Connection.{Connection, In, is_idle, phase}
 use Rattle.tds_world.specs.Phase.{Phase, Settled, Asked, Sending, Reading, Cancelling, is_settled}
-use Rattle.tds_world.specs.Pool.{Acted, Refuses, Does, is_full, keeps, keeps_by}
+use Rattle.tds_world.specs.Pool.{Acted, is_full, keeps, keeps_by}
 use Rattle.tds_play.specs.Lending.{standing_by}
 use Rattle.tds_play.specs.Links.{lent_as, placed_at, unless_kept, unless_kept_by}
 use Rattle.tds_play.specs.Pipe.{Pipe}
 use Rattle.tds_play.specs.Plays.{IsPlayed, after, outcome_of}
 use Rattle.tds_play.specs.Seen.{done_as}
-use Rattle.tds_play.specs.Stands.{MatchesClient, stage_in}
+use Rattle.tds_play.specs.Stands.{MatchesClient}
 use Rattle.tds_play.specs.declared.link.Done.{Done}
 use Rattle.tds_play.specs.declared.link.Link.{Link}
 use Rattle.tds_play.proofs.Begun.{marked_matches}

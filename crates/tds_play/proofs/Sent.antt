@@ -1,6 +1,6 @@
 -- A connection on which a request's next packet goes out, in a play and in the model.
 use Rattle.std.specs.Prelude.{is_ok, IfOk}
-use Rattle.std.proofs.Common.{◌≡◌, ◌≤◌, ◌∙◌, ◌-◌, ◌+◌, ℕ, Bool, true, false, cond, refl, sym, ap, subst, Option, Some, None, Result, Ok, Err, List, ◌++◌}
+use Rattle.std.proofs.Common.{◌≡◌, ◌≤◌, ◌∙◌, ◌-◌, ◌+◌, ℕ, Bool, true, false, cond, refl, sym, ap, subst, Option, Some, None, Result, Ok, Err, List}
 use Rattle.tds_client.specs.declared.fault.ClientRefusal.{ClientRefusal}
 use Rattle.tds_client.specs.declared.state.Sent.{Sent}
 use Rattle.tds_client.specs.Sending.{Effect, sent, sent_in, sent_of, room}
@@ -9,11 +9,10 @@ use Rattle.tds_client.specs.Session.{ClientSession, Stage}
 use Rattle.tds_packet.specs.declared.kind.Kind.{Kind}
 use Rattle.tds_world.specs.declared.outcome.Outcome.{Outcome}
 use Rattle.tds_world.specs.declared.outcome.Outcome.TheVariants as outcome
-use Rattle.tds_world.specs.declared.outcome.Refusal.{Refusal}
 use Rattle.tds_world.specs.declared.outcome.Refusal.TheVariants.{NotSending}
 use Rattle.tds_world.specs.declared.outcome.SendOutcome.{SendOutcome}
 use Rattle.tds_world.specs.Caller.{sends, sends_by, sends_last}
-use Rattle.tds_world.specs.Connection.{Connection, Standing, In, phase, up_underway}
+use Rattle.tds_world.specs.Connection.{Connection, phase, up_underway}
 use Rattle.tds_world.specs.Events.{sends_in}
 use Rattle.tds_world.specs.Phase.{Phase, Settled, Asked, Sending, Reading, Cancelling, phase_by, phase_in, phase_of, status_by}
 use Rattle.tds_world.specs.Pool.{Acted, Refuses, Does}
@@ -24,7 +23,7 @@ use Rattle.tds_play.specs.Alike.{SendAlike, send_outcome}
 use Rattle.tds_play.specs.Lending.{standing_by}
 use Rattle.tds_play.specs.Pipe.{Pipe}
 use Rattle.tds_play.specs.Plays.{IsPlayed, after, outcome_of}
-use Rattle.tds_play.specs.Requests.{IsRequest, IsNewest}
+use Rattle.tds_play.specs.Requests.{IsNewest}
 use Rattle.tds_play.specs.Stands.{is_sending, MatchesServer}
 use Rattle.tds_play.specs.declared.link.Link.{Link}
 use Rattle.tds_play.specs.declared.link.Record.{Record}

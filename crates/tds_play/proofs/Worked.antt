@@ -1,5 +1,5 @@
 -- A connection on which the server works, in a play and in the model.
-use Rattle.std.proofs.Common.{◌≡◌, ◌≤◌, ◌∙◌, ℕ, Bool, true, false, refl, sym, ap, subst, Option, Some, None, option_map, List, [], ◌∷◌, arith}
+use Rattle.std.proofs.Common.{◌≡◌, ◌≤◌, ◌∙◌, ℕ, Bool, true, false, refl, sym, ap, subst, Option, Some, None, option_map, List, [], ◌∷◌}
 use Rattle.tds_packet.specs.declared.status.Reset.{Reset}
 use Rattle.tds_server.specs.declared.outcome.Worked.{Worked}
 use Rattle.tds_server.specs.declared.outcome.Worked.TheVariants as server
@@ -11,18 +11,16 @@ use Rattle.tds_session.specs.Answer.{Step}
 use Rattle.tds_session.specs.Session.{SessionState}
 use Rattle.tds_world.specs.declared.outcome.WorkOutcome.TheVariants as work
 use Rattle.tds_world.specs.Arrivals.{works, works_on}
-use Rattle.tds_world.specs.Connection.{Connection, Standing, down_underway}
-use Rattle.tds_world.specs.Entries.{Up}
+use Rattle.tds_world.specs.Connection.{Connection, down_underway}
 use Rattle.tds_world.specs.Events.{work_outcome}
-use Rattle.tds_world.specs.Lane.{Lane}
 use Rattle.tds_world.specs.Record.{ran_in, runs}
 use Rattle.tds_world.specs.Record as world
 use Rattle.tds_play.specs.Acts.{worked_as, worked_by}
-use Rattle.tds_play.specs.Alike.{WorkAlike, worked_outcome}
+use Rattle.tds_play.specs.Alike.{worked_outcome}
 use Rattle.tds_play.specs.Links.{stepped}
 use Rattle.tds_play.specs.Pipe.{Pipe}
 use Rattle.tds_play.specs.Plays.{IsPlayed}
-use Rattle.tds_world.specs.Newest.{WorksOn, WorksOnNewest}
+use Rattle.tds_world.specs.Newest.{WorksOnNewest}
 use Rattle.tds_world.specs.Steps.{EndsIfDue}
 use Rattle.tds_play.specs.Requests.{IsRequest, IsNewest}
 use Rattle.tds_play.specs.declared.link.Link.{Link}

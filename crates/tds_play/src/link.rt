@@ -183,6 +183,7 @@ impl<E: Engine + Drop> Link<E> {
         ensures tied { IfOk result (λ opened. IsTied opened.0 (C.pipes carrier.new number)) }
         ensures others { OnOk result (AreSame (C.pipes carrier.old) (C.pipes carrier.new) number) }
         ensures tells { OnOk result (C.tells carrier.old → C.tells carrier.new) }
+        // It stands for a new connection of the model.
         ensures alike { C.steady → IfOk result (λ opened. (opened.1 ≡ false)
             × IsPlayed number size engine opened.0 (C.pipes carrier.new number) (new_connection (Leased lease))) }
     {

@@ -1,5 +1,4 @@
-use Rattle.std.specs.Prelude.{IfOk}
-use Rattle.std.proofs.Common.{◌≡◌, ◌≢◌, ◌≤◌, ◌∙◌, ◌++◌, ℕ, List, Bool, Option, Some, None, Ok, false, sym, ap, refl, subst, inl, inr}
+use Rattle.std.proofs.Common.{◌∙◌, ℕ, Option, subst, inl, inr}
 use Rattle.tds_packet.specs.declared.status.Reset.TheVariants.{Full, KeepTransaction}
 use Rattle.tds_session.specs.Answer.{Answers, answer_of}
 use Rattle.tds_world.specs.declared.event.Event.TheVariants as event
@@ -11,6 +10,12 @@ use Rattle.tds_play.proofs.Acting.{abandoned_alike, by_event, by_event_ok, comes
 use Rattle.tds_play.proofs.Asked.{asked_ok}
 use Rattle.tds_play.proofs.Placed.{kept_alike}
 use Rattle.tds_play.proofs.link.Link.act.Goals as goal
+
+pub returns-then-self-clause-alike : goal.returns-then-self-clause-alike
+returns-then-self-clause-alike g c = λ setup w m engine tells steady played promises few next ready.
+    let conn : ℕ = c.args.self.now.number in
+    let answers : Answers = answer_of (g.E.Engine.statements_of engine) (g.E.Engine.step_of engine) in
+    cut_alike conn setup.packet_size engine c.args.self.now (g.C.Carrier.pipes c.args.carrier.now conn) setup answers w c.args.event.now m c.on_cut.result played c.if-self.true (c.on_cut.ensures m)
 
 pub returns-in-Lease-clause-alike : goal.returns-in-Lease-clause-alike
 returns-in-Lease-clause-alike g c = λ setup w m engine tells steady played promises few next ready.

@@ -1,4 +1,4 @@
-use Rattle.std.proofs.Common.{◌≡◌, ◌∙◌, sym, ap, refl, Some, option_map}
+use Rattle.std.proofs.Common.{◌∙◌, sym, ap, refl, Some, option_map}
 use Rattle.tds_play.specs.Links.{lost_record}
 use Rattle.tds_play.proofs.CutOff.{cut_played}
 use Rattle.tds_play.proofs.link.Link.cut.Goals as goal

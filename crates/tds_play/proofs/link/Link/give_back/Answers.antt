@@ -1,5 +1,5 @@
 use Rattle.std.specs.Prelude.{is_none}
-use Rattle.std.proofs.Common.{◌≡◌, ◌≢◌, ◌≤◌, ◌∙◌, ◌++◌, ℕ, List, Bool, Option, Some, None, Ok, false, sym, ap, refl}
+use Rattle.std.proofs.Common.{◌≡◌, ◌∙◌, ◌++◌, ℕ, List, Bool, Option, sym, ap}
 use Rattle.tds_client.specs.Sending as client
 use Rattle.tds_client.specs.Session.{unless_idle}
 use Rattle.tds_world.specs.declared.outcome.Outcome.TheVariants as outcome

@@ -1,7 +1,6 @@
-use Rattle.std.proofs.Common.{◌≡◌, ◌≢◌, ◌≤◌, ◌∙◌, ◌++◌, ℕ, List, Bool, Option, Some, None, Ok, false, sym, ap, refl}
-use Rattle.tds_client.specs.Sending.{Effect, sent}
+use Rattle.std.proofs.Common.{◌∙◌, ◌++◌, ℕ, List, Option, Ok, ap, refl}
+use Rattle.tds_client.specs.Sending.{sent}
 use Rattle.tds_world.specs.declared.outcome.Outcome.TheVariants as outcome
-use Rattle.tds_world.specs.declared.outcome.SendOutcome.{SendOutcome}
 use Rattle.tds_play.specs.Links.{cut_of}
 use Rattle.tds_play.specs.Pipe.{Pipe}
 use Rattle.tds_play.specs.Seen.{done_as}

@@ -1,4 +1,4 @@
-use Rattle.std.proofs.Common.{◌≡◌, ◌≢◌, ◌≤◌, ◌∙◌, ◌++◌, ℕ, List, Bool, Option, false, sym, ap, refl}
+use Rattle.std.proofs.Common.{◌∙◌, ◌++◌, ℕ, List, Option, ap}
 use Rattle.tds_server.specs.Working.{worked}
 use Rattle.tds_world.specs.declared.outcome.Outcome.TheVariants as outcome
 use Rattle.tds_play.specs.Links.{cut_of}
