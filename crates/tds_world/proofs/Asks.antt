@@ -128,7 +128,7 @@ put_at [] k c d e = absurd (cc)
 put_at (x ∷ xs) zero c d e = refl
 put_at (x ∷ xs) (suc k) c d e = put_at xs k c d e
 
-put_there : (cs : List Connection) (n : ℕ) (c d : Connection) → numbered cs n ≡ Some c → numbered (put_numbered n d cs) n ≡ Some d
+pub put_there : (cs : List Connection) (n : ℕ) (c d : Connection) → numbered cs n ≡ Some c → numbered (put_numbered n d cs) n ≡ Some d
 put_there cs zero c d e = absurd (cc)
 put_there cs (suc k) c d e = put_at cs k c d e
 

@@ -42,7 +42,7 @@ found_adds setup answers e w (Missing why) = adds_same w w.connections
 found_adds setup answers e w (Here n c) = settles_adds e n w (acts setup answers w e n c)
 found_adds setup answers e w (Opens n) = settles_adds event.Lease n w (opens (next_number w.leases) n)
 
-happens_adds : (setup : Setup) (answers : Answers) (e : Event) (w : World) → Adds w (happens setup answers e w).1
+pub happens_adds : (setup : Setup) (answers : Answers) (e : Event) (w : World) → Adds w (happens setup answers e w).1
 happens_adds setup answers event.RestartServer w = adds_same w _
 happens_adds setup answers event.RestartClient w = restart_adds w
 happens_adds setup answers event.Lease w = found_adds setup answers event.Lease w (about setup w event.Lease)
@@ -63,7 +63,7 @@ given_then h None r g f = absurd g
 given_then h (Some k) None g f = absurd (f k refl)
 given_then h (Some k) (Some m) g f = ((f k refl).0 ∙ g.0, (f k refl).1 ∙ g.1)
 
-extends_then : (hs ks ms : List Holding) → Extends hs ks → Extends ks ms → Extends hs ms
+pub extends_then : (hs ks ms : List Holding) → Extends hs ks → Extends ks ms → Extends hs ms
 extends_then hs ks ms f g l h e = given_then h (numbered ks l) (numbered ms l) (f l h e) (g l)
 
 -- Each lease and each ticket, over any events.
@@ -139,7 +139,7 @@ found_noted setup answers e w (Missing why) = tt
 found_noted setup answers e w (Here n c) = acted setup answers w e n c
 found_noted setup answers e w (Opens n) = (holding n 0 None, last_numbered w.leases (holding n 0 None), refl)
 
-happens_noted : (setup : Setup) (answers : Answers) (e : Event) (w : World) → IsNoted e (happens setup answers e w)
+pub happens_noted : (setup : Setup) (answers : Answers) (e : Event) (w : World) → IsNoted e (happens setup answers e w)
 happens_noted setup answers event.RestartServer w = tt
 happens_noted setup answers event.RestartClient w = tt
 happens_noted setup answers event.Lease w = found_noted setup answers event.Lease w (about setup w event.Lease)

@@ -57,3 +57,4 @@ pub mod FirstRuns
 pub mod Leased
 pub mod Acknowledged
 pub mod NoMore
+pub mod Tickets

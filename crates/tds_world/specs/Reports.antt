@@ -1,5 +1,5 @@
 -- What the session laws say of a play's report.
-use Rattle.std.specs.Prelude.{ℕ, suc, ◌≡◌, ◌≢◌, ◌≤◌, List, [], ◌∷◌, ◌++◌, Bool, true, false, ◌==◌, Option, Some, None, find}
+use Rattle.std.specs.Prelude.{ℕ, suc, ◌≡◌, ◌≢◌, ◌≤◌, List, [], ◌∷◌, ◌++◌, Bool, true, false, if◌then◌else◌, ◌==◌, Option, Some, None, find}
 use Rattle.std.specs.List.{AllByRecursion}
 use Rattle.tds_request.specs.declared.request.Request.{Request}
 use Rattle.tds_session.specs.Answer.{Answers}
@@ -14,6 +14,7 @@ use Rattle.tds_world.specs.declared.outcome.Outcome.{Outcome}
 use Rattle.tds_world.specs.declared.outcome.Outcome.TheVariants as outcome
 use Rattle.tds_world.specs.declared.report.ClientView.TheVariants as view
 use Rattle.tds_world.specs.declared.report.EventReport.{EventReport}
+use Rattle.tds_world.specs.declared.report.Place.TheVariants as place
 use Rattle.tds_world.specs.declared.report.Report.{Report}
 use Rattle.tds_world.specs.declared.report.RequestReport.{RequestReport}
 use Rattle.tds_world.specs.declared.report.RequestStatus.{RequestStatus}
@@ -162,6 +163,40 @@ StartsIfLeased rs o = Unit {0}
 
 abbrev pub ShowsFreshStart : Report → Type 0
 ShowsFreshStart r = AllByRecursion (λ (e : EventReport). StartsIfLeased r.requests e.outcome) r.events
+
+-- The snapshots after the event that made this ticket.
+abbrev pub makes : ℕ → Outcome → Bool
+makes ticket (outcome.Kept t) = t == ticket
+makes ticket o = false
+
+abbrev pub kept_in : ℕ → List EventReport → List Snapshot
+kept_in ticket [] = []
+kept_in ticket (e ∷ es) = if makes ticket e.outcome then e.snapshots else kept_in ticket es
+
+-- A session without settings, in the transaction that the ticket keeps: the one that the client of the
+-- kept connection was in when the ticket was made.
+pub record IsInKept (ticket : ℕ) (r : Report) (s : SessionState) : Type 0 where
+  pub snapshot : Snapshot
+  pub shown : snapshot_in snapshot.conn (kept_in ticket r.events) ≡ Some snapshot
+  pub place : snapshot.place ≡ place.Kept ticket
+  pub settings : s.settings ≡ no_settings
+  pub descriptor : s.descriptor ≡ snapshot.descriptor
+
+-- The first request of a resumed lease finds it so.
+abbrev pub KeepsIfResumed : Report → Event → Outcome → Type 0
+KeepsIfResumed r (event.Resume ticket) (outcome.Leased lease conn opened.Resumed) =
+    (s : SessionState) → first_run lease r.requests ≡ Some s → IsInKept ticket r s
+KeepsIfResumed r e o = Unit {0}
+
+-- P holds of each event and its outcome.
+abbrev pub OfEachOutcome : (Event → Outcome → Type 0) → List Event → List EventReport → Type 0
+OfEachOutcome P [] [] = Unit {0}
+OfEachOutcome P [] (r ∷ rs) = ⊥
+OfEachOutcome P (e ∷ es) [] = ⊥
+OfEachOutcome P (e ∷ es) (r ∷ rs) = P e r.outcome × OfEachOutcome P es rs
+
+abbrev pub ShowsKeptTransaction : List Event → Report → Type 0
+ShowsKeptTransaction events r = OfEachOutcome (KeepsIfResumed r) events r.events
 
 -- A request that the report shows as cancelled.
 abbrev pub IsCancelled : RequestStatus → Type 0

@@ -3,7 +3,7 @@
 ghost use Rattle.tds_session.specs.Answer.{Answers};
 ghost use Rattle.tds_world.specs.Bounds.{IsEvent, IsSetup};
 ghost use Rattle.tds_world.specs.Lawful.{Lawful};
-ghost use Rattle.tds_world.specs.Reports.{AlwaysShown, AlwaysShownOf, AlwaysTold, ShowsFewUnderway, ShowsFreshStart, ShowsIdleQuiet, ShowsNoFault, ShowsNothingAfterCancel, ShowsOwnAnswers, ShowsOwnTransaction};
+ghost use Rattle.tds_world.specs.Reports.{AlwaysShown, AlwaysShownOf, AlwaysTold, ShowsFewUnderway, ShowsFreshStart, ShowsIdleQuiet, ShowsKeptTransaction, ShowsNoFault, ShowsNothingAfterCancel, ShowsOwnAnswers, ShowsOwnTransaction};
 ghost use Rattle.tds_world.specs.declared.event.Setup.{Setup};
 
 /// In each snapshot whose client is idle both byte counts are 0, and the two descriptors are one.
@@ -44,4 +44,10 @@ pub fn nothing_after_cancel()
 /// snapshot after its event shows it; and outside one, where its mark asked for a full reset.
 pub fn own_transaction()
     ensures { (setup : Setup) (answers : Answers) → Lawful answers → AlwaysTold setup answers ShowsOwnTransaction }
+{}
+
+/// The first request of a resumed lease that ran, of those reported, ran in the transaction that the
+/// ticket kept, as the snapshot after the ticket's event shows it, and without settings.
+pub fn kept_transaction()
+    ensures { (setup : Setup) (answers : Answers) → Lawful answers → AlwaysTold setup answers ShowsKeptTransaction }
 {}
