@@ -59,3 +59,4 @@ pub mod ClientEvent
 pub mod Requested
 pub mod AllCut
 pub mod PlayerOpens
+pub mod Turns

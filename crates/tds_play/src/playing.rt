@@ -1,9 +1,9 @@
 //! A whole play.
-ghost use Rattle.std.specs.Prelude.{◌≡◌, ◌≢◌, ◌<◌, ◌≤◌, ℕ, [], length, None, Some, Err, IfErr, OnOk};
+ghost use Rattle.std.specs.Prelude.{◌≡◌, ◌≢◌, ◌<◌, ◌≤◌, ℕ, [], length, None, Some, Err, IfErr, IfOk, OnOk};
 ghost use Rattle.tds_play.specs.declared.playing.PlayRefusal.{PlayRefusal};
 ghost use Rattle.tds_play.specs.declared.playing.PlayRefusal.TheVariants.{Memory};
 ghost use Rattle.tds_play.specs.Refused.{first_refusal, play_refusal_number};
-ghost use Rattle.tds_world.specs.Bounds.{IsEvent};
+ghost use Rattle.tds_world.specs.Bounds.{IsEvent, IsSetup};
 
 use crate::carrier::Carrier;
 use crate::memory::MemoryCarrier;
@@ -103,6 +103,8 @@ fn play_on<E: Engine + Copy, C: Carrier>(
 fn packet_size(setup: &Setup, events: usize) -> Result<PacketSize, PlayRefusal>
     ensures ok { OnOk result (first_refusal setup.now events ≡ None) }
     ensures few { OnOk result (events ≤ 10000) }
+    ensures setup { OnOk result (IsSetup setup.now) }
+    ensures size { IfOk result (λ size. size ≡ setup.now.packet_size) }
     ensures refused { IfErr result (λ why. first_refusal setup.now events ≡ Some why) }
 {
     if events > EVENT_LIMIT {
