@@ -60,3 +60,5 @@ pub mod Requested
 pub mod AllCut
 pub mod PlayerOpens
 pub mod Turns
+pub mod PlayerActs
+pub mod PlayerFinds

@@ -81,6 +81,11 @@ impl<E: Engine + Copy> Player<E> {
         requires few { length self.old.links.items < 10000 }
         ensures tied { OnOk result (AreTied self.new.links.items (C.pipes carrier.new)) }
         ensures grows { OnOk result (length self.new.links.items ≤ suc (length self.old.links.items)) }
+        ensures tells { OnOk result (C.tells carrier.old → C.tells carrier.new) }
+        ensures alike { (setup : Setup) (engine : E) (w : World) → C.tells carrier.old → C.steady
+            → IsPlay setup engine self.old (C.pipes carrier.old) w → PromisesAll E (answer_of (E.statements_of engine) (E.step_of engine)) setup w
+            → OfEachConnection IsCountable (happens setup (answer_of (E.statements_of engine) (E.step_of engine)) event.now w).1
+            → IfOk result (λ done. HappensAlike setup engine done self.new (C.pipes carrier.new) (happens setup (answer_of (E.statements_of engine) (E.step_of engine)) event.now w)) }
     {
         match event {
             Event::RestartServer => {
@@ -154,6 +159,12 @@ impl<E: Engine + Copy> Player<E> {
         requires there { place < length self.old.links.items }
         ensures tied { OnOk result (AreTied self.new.links.items (C.pipes carrier.new)) }
         ensures count { OnOk result (length self.new.links.items ≡ length self.old.links.items) }
+        ensures tells { OnOk result (C.tells carrier.old → C.tells carrier.new) }
+        ensures alike { (setup : Setup) (engine : E) (w : World) (c : Connection) → C.tells carrier.old → C.steady
+            → IsPlay setup engine self.old (C.pipes carrier.old) w → PromisesAll E (answer_of (E.statements_of engine) (E.step_of engine)) setup w
+            → slice_get w.connections place ≡ Some c → (is_cut c.standing ≡ false → IsReady event.now c)
+            → OfEachConnection IsCountable (settles event.now (suc place) w (acts_on setup (answer_of (E.statements_of engine) (E.step_of engine)) w event.now (suc place) c)).1
+            → IfOk result (λ done. HappensAlike setup engine done self.new (C.pipes carrier.new) (settles event.now (suc place) w (acts_on setup (answer_of (E.statements_of engine) (E.step_of engine)) w event.now (suc place) c))) }
     {
         let next = Next {
             lease: self.leases.next(),
