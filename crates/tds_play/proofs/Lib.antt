@@ -59,5 +59,6 @@ pub mod ClientEvent
 pub mod Requested
 pub mod AllCut
 pub mod PlayerOpens
+pub mod Turns
 pub mod PlayerActs
 pub mod PlayerFinds

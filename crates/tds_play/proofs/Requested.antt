@@ -256,8 +256,8 @@ tells_known w number i ms stacks reports c at t =
     let on = next.on in
     let place : i ≡ suc i - 1 = omega arith in
     let told : report_on number (numbered w.connections (suc i)) ≡ report_of (suc i) on.next ∷ [] =
-        ap (report_on number) at ∙ ap (report_if (is_cut c.standing)) on.found
-        ∙ ap (λ x. x ∷ []) (sym (report_alike (suc i) (is_cut c.standing) on.next on.request on.is)) in
+    ap (report_on number) at ∙ ap (report_if (is_cut c.standing)) on.found
+    ∙ ap (λ x. x ∷ []) (sym (report_alike (suc i) (is_cut c.standing) on.next on.request on.is)) in
     record {
       before = on.left;
       next = on.next;
@@ -282,8 +282,8 @@ pub telling_at_first : {E S : Type 0} (size : ℕ) (engine : E) (links : List (L
 telling_at_first size engine links pipes w p o = record {
   left = all_at_first 1 size engine links pipes w.connections w.asked_on p
       (λ i m c e at.
-          let number : m ≡ suc i = omega (arith, e) in
-          subst (λ (x : ℕ). IsInOrder x w.asked_on c) (sym number) (o.each (suc i) c at));
+      let number : m ≡ suc i = omega (arith, e) in
+      subst (λ (x : ℕ). IsInOrder x w.asked_on c) (sym number) (o.each (suc i) c at));
   known = o.known;
   whole = refl;
 }
@@ -300,7 +300,7 @@ turn : (w : World) (asked : List ℕ) (i d : ℕ) (stacks : List (List Record)) 
     → TellsNext w (i + 1) (slice_index_or asked i d) (drop (i + 1) w.asked_on) stacks reports
 turn w asked i d stacks reports same less t =
     let next : drop i w.asked_on ≡ slice_index_or asked i d ∷ drop (i + 1) w.asked_on =
-        ap (drop i) (sym same) ∙ drop_more asked i d less ∙ ap (λ xs. slice_index_or asked i d ∷ drop (i + 1) xs) same in
+    ap (drop i) (sym same) ∙ drop_more asked i d less ∙ ap (λ xs. slice_index_or asked i d ∷ drop (i + 1) xs) same in
     tells_next w (i + 1) (slice_index_or asked i d) (drop (i + 1) w.asked_on) stacks reports
     (subst (λ (xs : List ℕ). Telling w (i + 1) xs stacks reports) next t)
 
@@ -369,12 +369,11 @@ taken_last items xs (suc i) n d popped result left r there count value rest =
     let place : suc i - 1 ≡ i = omega arith in
     let was : _ = slice_index_or xs (suc i - 1) d in
     let stack : items was ≡ left ++ r ∷ [] =
-        ap (λ (x : ℕ). items (slice_index_or xs x d)) place ∙ at_place items xs i d (left ++ r ∷ []) there in
+    ap (λ (x : ℕ). items (slice_index_or xs x d)) place ∙ at_place items xs i d (left ++ r ∷ []) there in
     let long : n ≡ suc (length left) = count ∙ ap length stack ∙ one_longer left r in
-    let less : n - 1 ≡ length left = omega (arith, long) in
-    (
+    let less : n - 1 ≡ length left = omega (arith, long) in (
       value (omega (arith, long)) ∙ ap (λ (x : ℕ). Some (slice_index_or (items was) x r)) less ∙ ap (λ ys. Some (slice_index_or ys (length left) r)) stack
-      ∙ ap Some (last_of left r r),
+          ∙ ap Some (last_of left r r),
       map-set items xs (suc i - 1) popped
-      ∙ ap (slice_set (map items xs) (suc i - 1)) (rest ∙ ap (λ (x : ℕ). take x (items was)) less ∙ ap (take (length left)) stack ∙ all_but_last left r),
+          ∙ ap (slice_set (map items xs) (suc i - 1)) (rest ∙ ap (λ (x : ℕ). take x (items was)) less ∙ ap (take (length left)) stack ∙ all_but_last left r),
     )

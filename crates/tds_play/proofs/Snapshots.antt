@@ -8,11 +8,11 @@ use Rattle.tds_session.specs.Session.{SessionState}
 use Rattle.tds_world.specs.declared.report.ClientView.{ClientView}
 use Rattle.tds_world.specs.declared.report.Place.{Place}
 use Rattle.tds_world.specs.declared.report.Snapshot.{Snapshot}
-use Rattle.tds_world.specs.Connection.{Connection, Standing, In, Cut, phase, up_underway, down_underway}
+use Rattle.tds_world.specs.Connection.{Connection, phase, up_underway}
 use Rattle.tds_world.specs.Observed.{seen, snapshot_of, snapshots_from}
 use Rattle.tds_world.specs.Phase.{Phase, Settled, Asked, Sending, Reading, Cancelling, phase_of, phase_in, state_of}
 use Rattle.tds_world.specs.Record.{Record}
-use Rattle.tds_play.specs.Lending.{standing_by, standing_of}
+use Rattle.tds_play.specs.Lending.{standing_by}
 use Rattle.tds_play.specs.Pipe.{Pipe}
 use Rattle.tds_play.specs.Plays.{IsPlayed, Lives, ArePlayed}
 use Rattle.tds_play.specs.Seen.{view_of, snapshot_as, seen_by, seen_of}

@@ -30,3 +30,4 @@ pub mod Requests
 pub mod Promises
 pub mod Plays
 pub mod Player
+pub mod WholePlay

@@ -37,7 +37,7 @@ use tds_world::{Event, Opened, Outcome, Refusal, RequestReport, Snapshot};
 #[derive(Drop)]
 pub(crate) struct Player<E: Engine + Copy> {
     alloc: Global,
-    engine: E,
+    pub(crate) engine: E,
     size: PacketSize,
     max: u8,
     /// Numbered from 1.
@@ -55,6 +55,9 @@ impl<E: Engine + Copy> Player<E> {
         ensures leases { result.leases ≡ [] }
         ensures tickets { result.tickets ≡ [] }
         ensures asked { result.asked_on.items ≡ [] }
+        ensures engine { result.engine ≡ engine }
+        ensures size { result.size ≡ size }
+        ensures max { result.max ≡ max }
     {
         Player {
             alloc,

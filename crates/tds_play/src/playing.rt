@@ -1,13 +1,24 @@
 //! A whole play.
-ghost use Rattle.std.specs.Prelude.{◌≡◌, ◌≢◌, ◌<◌, ◌≤◌, ℕ, [], length, None, Some, Err, IfErr, OnOk};
-ghost use Rattle.tds_play.specs.declared.playing.PlayRefusal.{PlayRefusal};
-ghost use Rattle.tds_play.specs.declared.playing.PlayRefusal.TheVariants.{Memory};
+ghost use Rattle.std.specs.Prelude.{◌≡◌, ◌≢◌, ◌<◌, ◌≤◌, ℕ, [], length, None, Some, Err, IfErr, IfOk, OnOk};
+ghost use Rattle.tds_packet.specs.declared.kind.Direction.{Direction};
+ghost use Rattle.tds_play.specs.Memory.{pipe_at};
+ghost use Rattle.tds_play.specs.Pipe.{traffic};
+ghost use Rattle.tds_play.specs.Player.{IsPlay};
 ghost use Rattle.tds_play.specs.Refused.{first_refusal, play_refusal_number};
-ghost use Rattle.tds_world.specs.Bounds.{IsEvent};
+ghost use Rattle.tds_play.specs.WholePlay.{IsPlayOf};
+ghost use Rattle.tds_play.specs.declared.playing.PlayRefusal.TheVariants.{Memory};
+ghost use Rattle.tds_play.specs.declared.playing.PlayRefusal.{PlayRefusal};
+ghost use Rattle.tds_session.specs.Answer.{answer_of, script_answers};
+ghost use Rattle.tds_world.specs.Bounds.{IsEvent, IsSetup};
+ghost use Rattle.tds_world.specs.Events.{world_after};
+ghost use Rattle.tds_world.specs.Observed.{bytes_of, observed};
+ghost use Rattle.tds_world.specs.World.{new_world};
+ghost use Rattle.tds_world.specs.declared.event.Setup.{Setup};
 
 use crate::carrier::Carrier;
 use crate::memory::MemoryCarrier;
 use crate::player::Player;
+use crate::worlds::worlds_hold;
 use std::alloc::{AllocError, AllocFailed, Global};
 use tds_packet::PacketSize;
 use tds_request::Request;
@@ -72,6 +83,9 @@ pub fn play(
     ensures unused { (why : PlayRefusal) → first_refusal setup.now (length events.now) ≡ Some why → carrier.new ≡ carrier.old }
     ensures played { OnOk result (first_refusal setup.now (length events.now) ≡ None) }
     ensures named { IfErr result (λ why. why ≢ Memory → first_refusal setup.now (length events.now) ≡ Some why) }
+    ensures report { IfOk result (λ report. report ≡ observed setup.now script_answers events.now) }
+    ensures bytes { OnOk result ((n : ℕ) (direction : Direction) → 0 < n → n ≤ length (world_after setup.now script_answers events.now new_world).connections
+        → (traffic (pipe_at carrier.new.pipes n) direction).handed ≡ bytes_of (world_after setup.now script_answers events.now new_world) n direction) }
 {
     play_on(alloc, setup, events, ScriptEngine, carrier)
 }
@@ -88,6 +102,8 @@ fn play_on<E: Engine + Copy, C: Carrier>(
     ensures unused { (why : PlayRefusal) → first_refusal setup.now (length events.now) ≡ Some why → carrier.new ≡ carrier.old }
     ensures played { OnOk result (first_refusal setup.now (length events.now) ≡ None) }
     ensures named { IfErr result (λ why. why ≢ Memory → first_refusal setup.now (length events.now) ≡ Some why) }
+    ensures alike { C.tells carrier.old → C.steady
+        → IfOk result (λ report. IsPlayOf setup.now (answer_of (E.statements_of engine) (E.step_of engine)) events.now report (C.pipes carrier.new)) }
 {
     match packet_size(setup, events.len()) {
         Ok(size) => {
@@ -103,6 +119,8 @@ fn play_on<E: Engine + Copy, C: Carrier>(
 fn packet_size(setup: &Setup, events: usize) -> Result<PacketSize, PlayRefusal>
     ensures ok { OnOk result (first_refusal setup.now events ≡ None) }
     ensures few { OnOk result (events ≤ 10000) }
+    ensures setup { OnOk result (IsSetup setup.now) }
+    ensures size { IfOk result (λ size. size ≡ setup.now.packet_size) }
     ensures refused { IfErr result (λ why. first_refusal setup.now events ≡ Some why) }
 {
     if events > EVENT_LIMIT {
@@ -145,8 +163,12 @@ fn play_events<E: Engine + Copy, C: Carrier>(
 ) -> Result<Report, PlayRefusal>
     requires begins { player.links.items ≡ [] }
     requires few { length events.now ≤ 10000 }
-    ensures { IfErr result (λ why. why ≡ Memory) }
+    ensures memory { IfErr result (λ why. why ≡ Memory) }
+    ensures alike { (setup : Setup) → IsSetup setup → C.tells carrier.old → C.steady
+        → IsPlay setup player.engine player (C.pipes carrier.old) new_world
+        → IfOk result (λ report. IsPlayOf setup (answer_of (E.statements_of player.engine) (E.step_of player.engine)) events.now report (C.pipes carrier.new)) }
 {
+    worlds_hold(&player.engine);
     let mut reports = Vec::new(alloc);
     'events: for event in events {
         known(event);

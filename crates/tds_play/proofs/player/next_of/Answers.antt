@@ -1,4 +1,3 @@
-use Rattle.std.proofs.Common.{◌≡◌}
 use Rattle.tds_play.proofs.Requested.{taken_last}
 use Rattle.tds_play.proofs.player.next_of.Goals as goal
 

@@ -1,9 +1,24 @@
-use Rattle.std.proofs.Common.{◌≤◌, length}
+use Rattle.std.proofs.Common.{◌≤◌, length, take}
+use Rattle.std.specs.List.{AllByRecursion}
+use Rattle.tds_session.specs.Answer.{answer_of}
+use Rattle.tds_world.specs.Bounds.{IsEvent, IsSetup}
+use Rattle.tds_world.specs.World.{new_world}
+use Rattle.tds_world.specs.declared.event.Setup.{Setup}
+use Rattle.tds_play.specs.Player.{IsPlay}
 use Rattle.tds_play.specs.Ties.{AreTied}
+use Rattle.tds_play.proofs.Turns.{IsSoFar}
 use Rattle.tds_play.proofs.playing.play_events.Given as goal
 
 abbrev pub invariant-events : goal.invariant-events
-invariant-events g l = record {
-  tied : AreTied l.player.links.items (g.C.Carrier.pipes l.carrier);
-  few : length l.player.links.items ≤ l.event-index;
-}
+invariant-events g l =
+    let pipes = g.C.Carrier.pipes in
+    let engine = l.fn.player.engine in
+    record {
+      tied : AreTied l.player.links.items (pipes l.carrier);
+      few : length l.player.links.items ≤ l.event-index;
+      known : AllByRecursion IsEvent (take l.event-index l.events);
+      tells : g.C.Carrier.tells l.fn.carrier → g.C.Carrier.tells l.carrier;
+      alike : (setup : Setup) → IsSetup setup → g.C.Carrier.tells l.fn.carrier → g.C.Carrier.steady
+          → IsPlay setup engine l.fn.player (pipes l.fn.carrier) new_world
+          → IsSoFar setup (answer_of (g.E.Engine.statements_of engine) (g.E.Engine.step_of engine)) engine (take l.event-index l.events) l.player (pipes l.carrier) l.reports.items;
+    }

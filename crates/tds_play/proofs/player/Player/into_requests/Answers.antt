@@ -1,4 +1,4 @@
-use Rattle.std.proofs.Common.{◌≡◌, ◌∙◌, ◌-◌, ◌+◌, List, [], ◌∷◌, ◌++◌, map, length, slice_set, subst, sym, ap, arith, Vec, Global}
+use Rattle.std.proofs.Common.{◌∙◌, ◌-◌, ◌+◌, List, [], ◌∷◌, ◌++◌, map, length, subst, sym, ap, arith, Vec, Global}
 use Rattle.tds_play.specs.Links.{newest_first}
 use Rattle.tds_play.specs.declared.link.Record.{Record}
 use Rattle.tds_play.proofs.Requested.{Telling, telling_at_first, tells_one_more, one_is_left, all_told, written_back}
@@ -19,7 +19,7 @@ asked-preserved g c =
     let kept = written_back c.asked.records.len c.asked.records.items c.next_of.new.records (c.next_of.ensures.count ∙ ap length whole) c.asked.records.ok.0 in
     let turned = ap (map (λ (v : Vec Record Global). v.items)) kept in
     elim c.match-next_of.branch [
-      in-Some+in_ok-push w ↦ λ setup engine pipes world p o.
+      | in-Some+in_ok-push w ↦ λ setup engine pipes world p o.
           tells_one_more world c.deref-conn-items.result.now c.asked.conn-index _ (map (λ v. v.items) c.asked.records.items) _ c.asked.reports.items c.match-next_of.reports.items c.next_of.result w.in-Some.record
           (all ∙ p.asked) c.asked-test.true (λ before r there. let h = c.next_of.ensures.next before r (rw whole there) in (h.0, turned ∙ rw whole at h.1))
           w.in-Some.is (ap (λ v. v.items) w.reports-is ∙ w.in_ok-push.ensures.items ∙ ap (λ x. c.asked.reports.items ++ x ∷ []) w.report.ensures) (c.asked.invariant setup engine pipes world p o)

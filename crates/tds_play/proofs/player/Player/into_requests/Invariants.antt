@@ -1,4 +1,4 @@
-use Rattle.std.proofs.Common.{◌≡◌, ◌+◌, ℕ, map, drop, Option}
+use Rattle.std.proofs.Common.{◌+◌, ℕ, map, drop, Option}
 use Rattle.tds_world.specs.Order.{RequestsInOrder}
 use Rattle.tds_play.specs.Pipe.{Pipe}
 use Rattle.tds_play.specs.Player.{IsPlay}

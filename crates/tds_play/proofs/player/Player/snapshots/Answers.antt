@@ -1,4 +1,4 @@
-use Rattle.std.proofs.Common.{◌≡◌, ◌∙◌, sym, ap}
+use Rattle.std.proofs.Common.{◌∙◌, sym, ap}
 use Rattle.tds_play.specs.Seen.{seen_of}
 use Rattle.tds_play.proofs.Snapshots.{some_more, none_more}
 use Rattle.tds_play.proofs.player.Player.snapshots.Goals as goal
