@@ -58,3 +58,4 @@ pub mod Leased
 pub mod Acknowledged
 pub mod NoMore
 pub mod Tickets
+pub mod Lends

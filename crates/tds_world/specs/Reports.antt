@@ -125,6 +125,21 @@ ShowsOwnAnswers answers events r = OfEachAsk (ShowsOwnAnswer answers) events r
 abbrev pub snapshot_in : ℕ → List Snapshot → Option Snapshot
 snapshot_in conn shown = find (λ (s : Snapshot). s.conn == conn) shown
 
+-- The connection is shown idle, and lent under this lease.
+pub record IsLent (lease conn : ℕ) (snapshots : List Snapshot) : Type 0 where
+  pub snapshot : Snapshot
+  pub shown : snapshot_in conn snapshots ≡ Some snapshot
+  pub client : snapshot.client ≡ view.Idle
+  pub place : snapshot.place ≡ place.Leased lease
+
+-- Each connection that is lent is idle.
+abbrev pub LentIfLeased : Outcome → List Snapshot → Type 0
+LentIfLeased (outcome.Leased lease conn opened) snapshots = IsLent lease conn snapshots
+LentIfLeased o snapshots = Unit {0}
+
+abbrev pub ShowsLendsIdle : Report → Type 0
+ShowsLendsIdle r = AllByRecursion (λ (e : EventReport). LentIfLeased e.outcome e.snapshots) r.events
+
 -- A session in the transaction that the client was in when the request was asked, as the snapshot
 -- after its event shows it; or outside one, where a full reset was to end it first.
 pub record IsInOwn (a : Ask) (r : RequestReport) (s : SessionState) : Type 0 where

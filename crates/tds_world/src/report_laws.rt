@@ -3,7 +3,7 @@
 ghost use Rattle.tds_session.specs.Answer.{Answers};
 ghost use Rattle.tds_world.specs.Bounds.{IsEvent, IsSetup};
 ghost use Rattle.tds_world.specs.Lawful.{Lawful};
-ghost use Rattle.tds_world.specs.Reports.{AlwaysShown, AlwaysShownOf, AlwaysTold, ShowsFewUnderway, ShowsFreshStart, ShowsIdleQuiet, ShowsKeptTransaction, ShowsNoFault, ShowsNothingAfterCancel, ShowsOwnAnswers, ShowsOwnTransaction};
+ghost use Rattle.tds_world.specs.Reports.{AlwaysShown, AlwaysShownOf, AlwaysTold, ShowsFewUnderway, ShowsFreshStart, ShowsIdleQuiet, ShowsKeptTransaction, ShowsLendsIdle, ShowsNoFault, ShowsNothingAfterCancel, ShowsOwnAnswers, ShowsOwnTransaction};
 ghost use Rattle.tds_world.specs.declared.event.Setup.{Setup};
 
 /// In each snapshot whose client is idle both byte counts are 0, and the two descriptors are one.
@@ -50,4 +50,9 @@ pub fn own_transaction()
 /// ticket kept, as the snapshot after the ticket's event shows it, and without settings.
 pub fn kept_transaction()
     ensures { (setup : Setup) (answers : Answers) → Lawful answers → AlwaysTold setup answers ShowsKeptTransaction }
+{}
+
+/// A connection that is lent is idle after the event that lends it, and stands under the lease.
+pub fn lends_idle()
+    ensures { (setup : Setup) (answers : Answers) → Lawful answers → AlwaysShown setup answers ShowsLendsIdle }
 {}
