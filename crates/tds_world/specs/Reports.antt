@@ -222,7 +222,8 @@ IsCancelled status.Open = ⊥
 IsCancelled status.Finished = ⊥
 IsCancelled status.Lost = ⊥
 
--- Each request that is reported is reported later too, and where it was cancelled, with the same tokens.
+-- Each request that is reported is reported later too, and with the same tokens where it was
+-- cancelled.
 abbrev pub GivesNoMore : List RequestReport → List RequestReport → Type 0
 GivesNoMore [] later = Unit {0}
 GivesNoMore (r ∷ rs) [] = ⊥
