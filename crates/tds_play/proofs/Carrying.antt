@@ -1,12 +1,12 @@
 -- Bytes that a carrier brings, by as many calls as that takes.
-use Rattle.std.proofs.Common.{◌≡◌, ◌≤◌, ◌∙◌, ℕ, ◌+◌, ◌-◌, List, [], ◌++◌, length, take, drop, true, false, Option, Some, None, refl, sym, ap, subst, append_assoc, length-append, length-take, length-drop, arith}
+use Rattle.std.proofs.Common.{◌≡◌, ◌≤◌, ◌∙◌, ℕ, ◌+◌, ◌-◌, List, ◌++◌, length, take, drop, false, Option, Some, None, refl, sym, ap, subst, append_assoc, length-append, length-take, length-drop, arith}
 use Rattle.std.proofs.Math.Seq.{take-add, drop-append_seam}
 use Rattle.std.proofs.lemmas.List.{drop-drop}
 use Rattle.tds_packet.specs.declared.kind.Direction.{Direction}
 use Rattle.tds_packet.specs.declared.kind.Direction.TheVariants.{ToServer, ToClient}
 use Rattle.std.specs.Prelude.{Result, Ok, Err}
 use Rattle.tds_play.specs.declared.carrier.CarrierError.{CarrierError}
-use Rattle.tds_play.specs.Pipe.{Pipe, Traffic, traffic, traffic_of, carried, carried_on, next_of, IsOpen, Brings}
+use Rattle.tds_play.specs.Pipe.{Pipe, Traffic, traffic, carried, carried_on, next_of, Brings}
 use Rattle.tds_play.specs.Ties.{Holds, IsTied, counted, with_counted}
 use Rattle.tds_play.specs.declared.link.Link.{Link}
 

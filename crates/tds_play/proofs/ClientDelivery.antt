@@ -1,7 +1,6 @@
 -- A delivery to the client: what the packets that come do there, and what the model does.
-use Rattle.std.proofs.Common.{◌≡◌, ◌≤◌, ◌<◌, ◌∙◌, ◌+◌, ◌-◌, inl, inr, ℕ, Bool, true, false, cond, ltb, refl, sym, ap, subst, Option, Some, None, Result, Ok, Err, List, [], ◌∷◌, ◌++◌, length, take, drop, flat_map, append-nil, append_assoc, arith}
+use Rattle.std.proofs.Common.{◌≡◌, ◌∙◌, ◌-◌, inl, ℕ, Bool, true, false, cond, ltb, refl, sym, ap, subst, Option, Some, List, [], ◌∷◌, ◌++◌, length, take, flat_map, append-nil, append_assoc, arith}
 use Rattle.std.proofs.lemmas.List.{take_all}
-use Rattle.tds_client.specs.declared.fault.ClientFault.{ClientFault}
 use Rattle.tds_client.specs.declared.state.Taken.{Taken}
 use Rattle.tds_client.specs.declared.state.Taken.TheVariants as takes
 use Rattle.tds_client.specs.Session.{ClientSession}
@@ -11,12 +10,12 @@ use Rattle.tds_token.specs.declared.token.Token.{Token}
 use Rattle.tds_world.specs.declared.report.RequestStatus.{RequestStatus}
 use Rattle.tds_world.specs.Arrivals.{client_acts, reach_client}
 use Rattle.tds_world.specs.Connection.{Connection}
-use Rattle.tds_world.specs.Entries.{Down, down_packet, down_bytes}
+use Rattle.tds_world.specs.Entries.{Down, down_bytes}
 use Rattle.tds_world.specs.Lane.{Lane, passed, with_waiting}
 use Rattle.tds_world.specs.Phase.{status_of}
 use Rattle.tds_world.specs.Record.{Record}
 use Rattle.tds_play.specs.Deliveries.{down_coming, heard_of, AllHeard, ListensAlike, TellsMore, status_under}
-use Rattle.tds_play.specs.Feeding.{Coming, Comes, IsComing, IsBegun, Listened, listened, on_taken, settled_by, bytes_of}
+use Rattle.tds_play.specs.Feeding.{IsComing, IsBegun, Listened, listened, on_taken, settled_by, bytes_of}
 use Rattle.tds_play.specs.Hearing.{HearAlike, IsTold, status_after}
 use Rattle.tds_play.specs.Stands.{MatchesClient}
 use Rattle.tds_play.proofs.Cuts.{cut_inside, cut_behind, begun_by}

@@ -1,5 +1,5 @@
 -- A stream that is cut: inside its first packet, or behind it.
-use Rattle.std.proofs.Common.{◌≡◌, ◌≢◌, ◌≤◌, ◌<◌, ◌∙◌, ◌+◌, ◌-◌, inl, inr, ℕ, true, false, ltb, refl, sym, ap, subst, List, [], ◌∷◌, ◌++◌, length, take, drop, append-nil, append_assoc, length-drop, arith}
+use Rattle.std.proofs.Common.{◌≡◌, ◌≢◌, ◌≤◌, ◌<◌, ◌∙◌, ◌-◌, inr, ℕ, true, false, ltb, sym, ap, List, [], ◌∷◌, ◌++◌, length, take, drop, length-drop, arith}
 use Rattle.std.proofs.lemmas.Bool.Decides.{nat_tests}
 use Rattle.std.proofs.lemmas.List.{take-append-drop, take-append-le}
 use Rattle.std.proofs.Math.Seq.{take-append-add}

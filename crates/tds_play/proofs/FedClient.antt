@@ -1,5 +1,5 @@
 -- A client that takes packets, one after the other.
-use Rattle.std.proofs.Common.{◌≡◌, ◌∙◌, ℕ, List, [], ◌∷◌, ◌++◌, take, drop, length, sym, ap, refl, subst, Option, Some, None, Result, Ok, Err}
+use Rattle.std.proofs.Common.{◌≡◌, ◌∙◌, ℕ, List, [], ◌∷◌, ◌++◌, sym, ap, refl, subst, Option, Some, None, Result, Ok, Err}
 use Rattle.tds_client.specs.declared.fault.ClientFault.{ClientFault}
 use Rattle.tds_client.specs.declared.state.Taken.{Taken}
 use Rattle.tds_client.specs.declared.state.Taken.TheVariants.{More, Finished, Acknowledged, NoMemory}
@@ -11,7 +11,7 @@ use Rattle.tds_packet.specs.Reading.{Reading, with_taken, up_to_end, IsWhole}
 use Rattle.tds_token.specs.declared.token.Token.{Token}
 use Rattle.tds_world.specs.declared.report.RequestStatus.{RequestStatus}
 use Rattle.tds_play.specs.Feeding.{Coming, Comes, IsListened, Listened, listened, on_taken, settled_by}
-use Rattle.tds_play.proofs.Fronts.{TakesFirst, TakesAll, OthersFollow, HasOneReading, lent_first, none_lent, offered, slice_rest}
+use Rattle.tds_play.proofs.Fronts.{TakesFirst, TakesAll, OthersFollow, HasOneReading, lent_first, none_lent}
 
 -- Of the packets that are left the client makes what it was to make of them all.
 abbrev pub StillListens : Reading → List ℕ → ClientSession → Option RequestStatus → List Token → List ℕ → Listened → Type 0

@@ -8,8 +8,6 @@ use Rattle.tds_session.specs.Answer.{Answers}
 use Rattle.tds_world.specs.declared.event.Event.{Event}
 use Rattle.tds_world.specs.declared.event.Event.TheVariants as event
 use Rattle.tds_world.specs.declared.event.Setup.{Setup}
-use Rattle.tds_world.specs.declared.outcome.AbandonOutcome.TheVariants as abandoned
-use Rattle.tds_world.specs.declared.outcome.GiveBackOutcome.TheVariants as given_back
 use Rattle.tds_world.specs.declared.outcome.Outcome.{Outcome}
 use Rattle.tds_world.specs.declared.outcome.Outcome.TheVariants as outcome
 use Rattle.tds_world.specs.declared.outcome.Refusal.{Refusal}
@@ -17,7 +15,7 @@ use Rattle.tds_world.specs.declared.outcome.Refusal.TheVariants as refusal
 use Rattle.tds_world.specs.Connection.{Connection, Standing, In, Cut, is_cut}
 use Rattle.tds_world.specs.Lending.{LendsIdle}
 use Rattle.tds_world.specs.Events.{acts, happens, happens_at, settles}
-use Rattle.tds_world.specs.Pool.{Acted, Refuses, Does, is_free, first_of, lowest_free, pool_count, to_lend, to_lend_by, opens, gives_back_at, abandons_at}
+use Rattle.tds_world.specs.Pool.{Refuses, is_free, first_of, lowest_free, pool_count, to_lend, to_lend_by, opens, gives_back_at, abandons_at}
 use Rattle.tds_world.specs.World.{World, Holding, numbered, next_number, there, uncut, uncut_in, held, not_cut}
 use Rattle.tds_world.specs.World as world
 use Rattle.tds_play.specs.declared.pool.Found.{Found}

@@ -1,5 +1,5 @@
 -- Of bytes that are packets and then less than one: what a reader takes first.
-use Rattle.std.proofs.Common.{◌≡◌, ◌∙◌, ◌≢◌, ◌≤◌, ◌+◌, ◌⊎◌, inl, inr, ℕ, List, [], ◌∷◌, ◌++◌, length, take, min, sym, ap, refl, None, Some, append_assoc, append-nil, arith, length-append, length-take, subst, drop, length-drop, ◌-◌}
+use Rattle.std.proofs.Common.{◌≡◌, ◌∙◌, ◌≢◌, ◌+◌, inl, inr, ℕ, List, [], ◌∷◌, ◌++◌, length, take, min, sym, ap, refl, None, append_assoc, append-nil, arith, length-append, length-take, subst, drop, length-drop, ◌-◌}
 use Rattle.std.proofs.lemmas.List.{take_all, take-append-drop, append_cancel_left}
 use Rattle.tds_packet.specs.declared.header.Header.{Header}
 use Rattle.tds_packet.specs.Layout.{IsPacket, header_bytes}

@@ -1,10 +1,9 @@
 -- The leases and tickets of a play and those of the model.
-use Rattle.std.proofs.Common.{◌≡◌, ◌∙◌, ℕ, zero, suc, List, [], ◌∷◌, ◌++◌, length, map, set, replicate, Option, Some, None, option_map, refl, sym, ap}
+use Rattle.std.proofs.Common.{◌≡◌, ℕ, zero, suc, List, [], ◌∷◌, ◌++◌, map, set, Option, Some, None, option_map, refl, ap}
 use Rattle.std.specs.List.{slice_get}
 use Rattle.tds_play.specs.Holdings.{conn_in, conn_of, ended_of, all_ended}
 use Rattle.tds_play.specs.Noted.{leases_after, tickets_after, asked_after}
 use Rattle.tds_play.specs.Plays.{held_by, holdings_of}
-use Rattle.tds_world.specs.Connection.{Connection}
 use Rattle.tds_world.specs.Events.{notes}
 use Rattle.tds_world.specs.World.{Holding, World, holding, numbered, ended, ended_at, ended_numbered}
 use Rattle.tds_world.specs.declared.event.Event.{Event}

@@ -1,8 +1,6 @@
 -- A delivery to the server: what the packets that come do there, and what the model does.
-use Rattle.std.proofs.Common.{◌≡◌, ◌≢◌, ◌≤◌, ◌<◌, ◌∙◌, ◌+◌, ◌-◌, ◌⊎◌, inl, inr, ℕ, Bool, true, false, cond, ltb, refl, sym, ap, subst, Option, Some, None, Result, Ok, Err, List, [], ◌∷◌, ◌++◌, length, take, drop, flat_map, append-nil, append_assoc, length-drop, arith}
-use Rattle.std.specs.List.{AllByRecursion}
-use Rattle.std.proofs.lemmas.Bool.Decides.{nat_tests}
-use Rattle.std.proofs.lemmas.List.{take_all, take-append-drop}
+use Rattle.std.proofs.Common.{◌≡◌, ◌∙◌, ◌-◌, inl, ℕ, Bool, true, false, cond, ltb, refl, sym, ap, Option, Result, Ok, List, [], ◌∷◌, ◌++◌, length, take, flat_map, append-nil, append_assoc, arith}
+use Rattle.std.proofs.lemmas.List.{take_all}
 use Rattle.tds_packet.specs.Reading.{Reading}
 use Rattle.tds_server.specs.declared.fault.ServerFault.{ServerFault}
 use Rattle.tds_server.specs.declared.outcome.ServerTook.{ServerTook}
@@ -14,8 +12,8 @@ use Rattle.tds_world.specs.Connection.{Connection}
 use Rattle.tds_world.specs.Entries.{Up, up_packet, up_bytes, down_bytes}
 use Rattle.tds_world.specs.Lane.{Lane, passed, with_waiting}
 use Rattle.tds_play.specs.Alike.{ArriveAlike}
-use Rattle.tds_play.specs.Deliveries.{up_coming, AllArrive, ServesAlike, SendsMore}
-use Rattle.tds_play.specs.Feeding.{Coming, Comes, IsComing, IsBegun, Served, served, unless_refused, bytes_of}
+use Rattle.tds_play.specs.Deliveries.{up_coming, AllArrive, ServesAlike}
+use Rattle.tds_play.specs.Feeding.{IsComing, served, unless_refused, bytes_of}
 use Rattle.tds_play.specs.Stands.{MatchesServer, MatchesPhase, Sends}
 use Rattle.tds_play.proofs.Cuts.{cut_inside, cut_behind, begun_by}
 

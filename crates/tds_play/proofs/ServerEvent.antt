@@ -1,9 +1,8 @@
 -- A delivery to the server of a connection that stands for one of the model.
 use Rattle.std.specs.Prelude.{◌||◌}
-use Rattle.std.proofs.Common.{◌≡◌, ◌≢◌, ◌≤◌, ◌<◌, ◌∙◌, ◌+◌, ◌-◌, ℕ, min, Bool, true, false, cond, ltb, refl, sym, ap, subst, Option, Some, None, Result, Ok, Err, List, [], ◌∷◌, ◌++◌, length, take, flat_map, append-nil, arith}
+use Rattle.std.proofs.Common.{◌≡◌, ◌≢◌, ◌≤◌, ◌∙◌, ◌+◌, ◌-◌, ℕ, min, Bool, true, false, cond, ltb, refl, sym, ap, subst, Option, Some, None, Result, Ok, List, [], ◌∷◌, ◌++◌, length, take, flat_map, append-nil, arith}
 use Rattle.tds_client.specs.Session.{ClientSession}
 use Rattle.tds_packet.specs.declared.kind.Direction.TheVariants.{ToServer, ToClient}
-use Rattle.tds_packet.specs.Reading.{Reading}
 use Rattle.tds_server.specs.State.{ServerState}
 use Rattle.tds_session.specs.Answer.{Answers}
 use Rattle.tds_world.specs.Arrivals.{server_acts, reach_server, to_server}

@@ -16,7 +16,7 @@ use Rattle.tds_world.specs.Connection.{Connection}
 use Rattle.tds_world.specs.Events.{happens, world_after}
 use Rattle.tds_world.specs.Laws.{OfEachConnection}
 use Rattle.tds_world.specs.Observed.{event_report, event_reports, snapshots, request_reports, bytes_in, bytes_of}
-use Rattle.tds_world.specs.World.{World, new_world, numbered}
+use Rattle.tds_world.specs.World.{World, new_world}
 use Rattle.tds_play.specs.declared.link.Done.{Done}
 use Rattle.tds_play.specs.declared.link.Link.{Link}
 use Rattle.tds_play.specs.declared.player.Player.{Player}

@@ -14,7 +14,7 @@ use Rattle.tds_world.specs.declared.report.RequestStatus.{RequestStatus}
 use Rattle.tds_world.specs.Arrivals.{server_acts, client_acts}
 use Rattle.tds_world.specs.Connection.{Connection}
 use Rattle.tds_world.specs.Entries.{Up, up_packet, up_bytes, Down, down_packet, down_bytes}
-use Rattle.tds_world.specs.Lane.{Lane, passed}
+use Rattle.tds_world.specs.Lane.{passed}
 use Rattle.tds_world.specs.Phase.{status_of}
 use Rattle.tds_world.specs.Record.{Record}
 use Rattle.tds_play.specs.Alike.{ArriveAlike}

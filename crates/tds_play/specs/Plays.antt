@@ -1,6 +1,6 @@
 -- What a play stands for in the model: each connection, the leases and tickets, and the connections of
 -- the requests.
-use Rattle.std.specs.Prelude.{ℕ, suc, ◌≡◌, List, [], ◌∷◌, map, Bool, true, false, Option, Some, None, if◌then◌else◌}
+use Rattle.std.specs.Prelude.{ℕ, suc, ◌≡◌, List, [], ◌∷◌, map, true, false, Option, Some, None, if◌then◌else◌}
 use Rattle.tds_packet.specs.declared.kind.Direction.TheVariants.{ToServer, ToClient}
 use Rattle.tds_session.specs.Answer.{Answers}
 use Rattle.tds_play.specs.declared.link.Link.{Link}

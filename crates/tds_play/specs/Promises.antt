@@ -1,6 +1,5 @@
 -- What the model says of each connection, in any world, that the ends rest on.
-use Rattle.std.specs.Prelude.{ℕ, ◌≡◌, ◌≤◌, true, List, [], ◌∷◌, Option, Some, None}
-use Rattle.std.specs.List.{AllByRecursion}
+use Rattle.std.specs.Prelude.{ℕ, ◌≡◌, ◌≤◌, true, []}
 use Rattle.tds_packet.specs.Reading.{Reading}
 use Rattle.tds_packet.specs.declared.kind.Direction.TheVariants.{ToServer, ToClient}
 use Rattle.tds_session.specs.Answer.{Answers}

@@ -1,4 +1,4 @@
-use Rattle.std.proofs.Common.{◌≡◌, ◌∙◌, ◌++◌, ℕ, List, length, take, drop, sym, ap, refl, true, false, Ok}
+use Rattle.std.proofs.Common.{◌≡◌, ◌∙◌, ap, refl, true, false}
 use Rattle.tds_client.specs.declared.state.Taken.TheVariants.{NoMemory}
 use Rattle.tds_packet.specs.Reading.{with_taken, IsWhole}
 use Rattle.tds_play.proofs.Fronts.{no_fault, offered, slice_rest}

@@ -1,4 +1,4 @@
-use Rattle.std.proofs.Common.{◌≡◌, ◌∙◌, ◌++◌, ℕ, List, length, take, drop, sym, ap, refl, true, false, Ok}
+use Rattle.std.proofs.Common.{◌≡◌, ◌∙◌, sym, ap, refl, true, false}
 use Rattle.tds_packet.specs.Reading.{with_taken, IsWhole}
 use Rattle.tds_server.specs.declared.outcome.ServerTook.TheVariants.{NoMemory}
 use Rattle.tds_session.specs.Answer.{answer_of}

@@ -1,4 +1,3 @@
-use Rattle.tds_play.proofs.ServerEvent.{delivered_alike}
 use Rattle.tds_play.proofs.ServerDelivery.{serve_alike}
 use Rattle.tds_play.proofs.laws.serves_alike.Goals as goal
 

@@ -1,7 +1,7 @@
-use Rattle.std.proofs.Common.{◌≡◌, ◌∙◌, ◌+◌, ◌-◌, ◌≤◌, ◌++◌, ℕ, List, Option, false, sym, ap, refl, arith, subst, length, take, drop}
+use Rattle.std.proofs.Common.{◌≡◌, ◌∙◌, ◌+◌, ◌-◌, ◌≤◌, ◌++◌, ℕ, List, Option, false, sym, ap, arith, subst, length, take, drop}
 use Rattle.tds_play.specs.Pipe.{Pipe, Brings, Changes, carried_on, traffic}
 use Rattle.tds_play.specs.declared.carrier.CarrierError.TheVariants.{Memory}
-use Rattle.tds_play.specs.Ties.{IsTied, counted, with_counted}
+use Rattle.tds_play.specs.Ties.{counted, with_counted}
 use Rattle.tds_play.proofs.Carrying.{count_is, count_twice, number_same, cut_same, tied_after, brought_more, long_tail, no_error}
 use Rattle.tds_play.proofs.link.Link.carry.Goals as goal
 

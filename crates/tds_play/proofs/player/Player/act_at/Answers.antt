@@ -1,4 +1,4 @@
-use Rattle.std.proofs.Common.{◌≡◌, ◌∙◌, ℕ, suc, length, ap, arith, refl, sym, subst, set, List}
+use Rattle.std.proofs.Common.{◌≡◌, ◌∙◌, suc, length, ap, arith, refl, sym, subst, set, List}
 use Rattle.std.proofs.lemmas.List.{length-map}
 use Rattle.std.specs.Vec.{with_item}
 use Rattle.tds_session.specs.Answer.{Answers, answer_of}
@@ -39,7 +39,7 @@ returns-in_ok-note-clause-alike g c = λ setup engine w c' tells steady is promi
     (ap (λ (p : Player g.row.E.Denot g.row.E-Stmt.Denot). p.size) c.in_ok-note.ensures.rest)
     c.in_ok-note.ensures.leases c.in_ok-note.ensures.tickets c.in_ok-note.ensures.asked
     (elim c.match-matches.branch [
-      in-Refused v ↦ absurd (cc)
+      | in-Refused v ↦ absurd (cc)
       | in_default v ↦ v.in_default.not-Refused
     ])
 
@@ -61,7 +61,7 @@ returns-else-not-matches-clause-alike g c = λ setup engine w c' tells steady is
     is c.index_mut.ensures.value c.requires.there c.in_ok-done.ensures.others there countable ready
     (λ played counts is_ready. c.in_ok-done.ensures.alike setup w c' engine tells steady played promise counts next is_ready) in
     elim c.match-matches.branch [
-      in-Refused v ↦ refused_alike setup engine w c.args.event.now c.args.place c' (acts_on setup answers w c.args.event.now (suc c.args.place) c')
+      | in-Refused v ↦ refused_alike setup engine w c.args.event.now c.args.place c' (acts_on setup answers w c.args.event.now (suc c.args.place) c')
           c.args.self.now (record c.args.self.now { links = with_item c.args.self.now.links c.args.place c.act.new.self }) (pipes c.args.carrier.now) (pipes c.act.new.carrier) c.in_ok-done.done v.in-Refused.field-0 is there
           (never_refused setup answers w c.args.event.now (suc c.args.place) c') acted.same acted.all refl v.in-Refused.is
       | in_default v ↦ absurd (cc)

@@ -1,4 +1,4 @@
-use Rattle.std.proofs.Common.{rules, ◌≡◌, ◌∙◌, ℕ, suc, ◌+◌, ◌<◌, List, length, refl, sym, ap, subst, arith}
+use Rattle.std.proofs.Common.{◌∙◌, ◌+◌, ap, arith}
 use Rattle.tds_play.specs.declared.player.Player.{Player}
 use Rattle.tds_play.proofs.AllCut.{cuts_next, cuts_whole}
 use Rattle.tds_play.proofs.player.Player.cut_all.Goals as goal

@@ -1,7 +1,7 @@
-use Rattle.std.proofs.Common.{◌≡◌, ℕ, suc, refl, sym, subst, IfOk}
+use Rattle.std.proofs.Common.{refl, sym, subst, IfOk}
 use Rattle.tds_session.specs.Answer.{Answers, answer_of}
 use Rattle.tds_world.specs.declared.outcome.Outcome.{Outcome}
-use Rattle.tds_world.specs.Events.{happens, settles}
+use Rattle.tds_world.specs.Events.{happens}
 use Rattle.tds_world.specs.Laws.{OfEachConnection}
 use Rattle.tds_world.specs.World.{World}
 use Rattle.tds_play.specs.declared.link.Done.{Done}

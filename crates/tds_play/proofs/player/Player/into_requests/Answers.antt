@@ -1,4 +1,4 @@
-use Rattle.std.proofs.Common.{◌∙◌, ◌-◌, ◌+◌, List, [], ◌∷◌, ◌++◌, map, length, subst, sym, ap, arith, Vec, Global}
+use Rattle.std.proofs.Common.{◌∙◌, List, [], ◌∷◌, ◌++◌, map, length, subst, sym, ap, arith, Vec, Global}
 use Rattle.tds_play.specs.Links.{newest_first}
 use Rattle.tds_play.specs.declared.link.Record.{Record}
 use Rattle.tds_play.proofs.Requested.{Telling, telling_at_first, tells_one_more, one_is_left, all_told, written_back}
