@@ -1,8 +1,11 @@
 -- What a run leaves and tells.
-use Rattle.std.proofs.Common.{◌≡◌, ap, arith, inl, List, ℕ, [], Option, Some, None, refl, sym, append-nil}
+use Rattle.std.proofs.Common.{◌≡◌, ap, arith, inl, inr, List, ℕ, [], Option, Some, None, refl, sym, append-nil}
+use Rattle.std.specs.Prelude.{◌⊎◌, Result, Ok, Err, IfErr}
 use Rattle.std.specs.Io.KnownBytes.{Appends, Keeps}
+use Rattle.tds_world.specs.declared.report.Report.{Report}
+use Rattle.tds_play.specs.Lines.{text_of}
 use Rattle.tds_play.specs.Written.{WritesBeginning}
-use Rattle.tds_play.specs.Runs.{AreLeft, IsUnread, IsBeforeOutput, LeavesOutput}
+use Rattle.tds_play.specs.Runs.{AreLeft, IsReportOf, IsUnread, IsBeforeOutput, LeavesOutput, EndsBy}
 use Rattle.tds_play.specs.declared.run.RunFault.{RunFault}
 use Rattle.tds_play.specs.declared.run.RunFault.TheVariants as run
 
@@ -36,10 +39,22 @@ pub memory_unread : (left : Option (List ℕ)) → IsUnread run.Memory left
 memory_unread left = let some = some_left left in ((some.0, some.1, tt), λ e. let bad : 0 ≡ 1 = ap is_output e in absurd (omega arith))
 
 -- nothing is printed before a fault that comes first
-pub leaves_all : (fault : RunFault) (a : Option (List ℕ)) → IsBeforeOutput fault → LeavesOutput fault a a
-leaves_all run.File a h = keeps_same a
-leaves_all run.Json a h = keeps_same a
-leaves_all (run.Schedule place) a h = keeps_same a
-leaves_all (run.Play refusal) a h = keeps_same a
-leaves_all run.Output a h = absurd (h refl)
-leaves_all run.Memory a h = inl (keeps_same a)
+pub leaves_all : (fault : RunFault) (bytes : List ℕ) (a : Option (List ℕ)) → IsBeforeOutput fault → LeavesOutput fault bytes a a
+leaves_all run.File bytes a h = keeps_same a
+leaves_all run.Json bytes a h = keeps_same a
+leaves_all (run.Schedule place) bytes a h = keeps_same a
+leaves_all (run.Play refusal) bytes a h = keeps_same a
+leaves_all run.Output bytes a h = absurd (h refl)
+leaves_all run.Memory bytes a h = inl (keeps_same a)
+
+-- printing that fails leaves a beginning of the report's text
+ends_by : (fault : RunFault) (left old new : Option (List ℕ)) (bytes : List ℕ) (report : Report) → AreLeft left bytes → IsReportOf bytes report
+    → WritesBeginning old new (text_of report) → (fault ≡ run.Output) ⊎ (fault ≡ run.Memory) → EndsBy fault left old new
+ends_by fault left old new bytes report all is begun (inl e) = rw e (bytes, all, (is.0, is.1, is.2, is.3), (report, is, begun))
+ends_by fault left old new bytes report all is begun (inr e) = rw e (bytes, all, tt, inr (report, is, begun))
+
+-- so it does, if it fails
+pub ends_printing : {A : Type 0} (r : Result A RunFault) (left old new : Option (List ℕ)) (bytes : List ℕ) (report : Report) → AreLeft left bytes → IsReportOf bytes report
+    → IfErr r (λ fault. WritesBeginning old new (text_of report)) → IfErr r (λ fault. (fault ≡ run.Output) ⊎ (fault ≡ run.Memory)) → IfErr r (λ fault. EndsBy fault left old new)
+ends_printing (Ok x) left old new bytes report all is begun which = tt
+ends_printing (Err fault) left old new bytes report all is begun which = ends_by fault left old new bytes report all is begun which

@@ -5,6 +5,8 @@ use Rattle.serde_json.specs.Data.{Data}
 use Rattle.tds_world.specs.declared.event.Setup.{Setup}
 use Rattle.tds_world.specs.declared.event.Event.{Event}
 use Rattle.tds_world.specs.declared.report.Report.{Report}
+use Rattle.tds_world.specs.Observed.{observed}
+use Rattle.tds_session.specs.Answer.{script_answers}
 use Rattle.tds_play.specs.Texts.{line_feed}
 use Rattle.tds_play.specs.Lines.{text_of}
 use Rattle.tds_play.specs.Written.{WritesBeginning}
@@ -29,6 +31,11 @@ Spells bytes setup events = (value : Data) × IsJson bytes value × IsSchedule v
 abbrev pub IsRefused : List ℕ → Option PlayRefusal → Type 0
 IsRefused bytes why = (setup : Setup) × (events : List Event) × Spells bytes setup events × (first_refusal setup (length events) ≡ why)
 
+-- Bytes are a schedule file that is played, and this is the model's report of its very events.
+abbrev pub IsReportOf : List ℕ → Report → Type 0
+IsReportOf bytes report = (setup : Setup) × (events : List Event) × Spells bytes setup events
+    × (first_refusal setup (length events) ≡ None) × (report ≡ observed setup script_answers events)
+
 -- What a fault says of the bytes that were read. That reading failed, that a write failed and that
 -- memory was refused can't be seen in them; a report is printed only of what is played.
 abbrev pub IsFaultOf : RunFault → List ℕ → Type 0
@@ -47,15 +54,19 @@ IsBeforeOutput fault = ¬ (fault ≡ run.Output)
 abbrev pub IsUnread : RunFault → Option (List ℕ) → Type 0
 IsUnread fault left = ((bytes : List ℕ) × AreLeft left bytes × IsFaultOf fault bytes) × IsBeforeOutput fault
 
--- What went to the output before a fault: a beginning of a report's text where it was printed then,
+-- A beginning of the text of the report of these bytes went out.
+abbrev pub BeginsReport : List ℕ → Option (List ℕ) → Option (List ℕ) → Type 0
+BeginsReport bytes old new = (report : Report) × IsReportOf bytes report × WritesBeginning old new (text_of report)
+
+-- What went to the output before a fault: a beginning of the report's text where it was printed then,
 -- else nothing.
-abbrev pub LeavesOutput : RunFault → Option (List ℕ) → Option (List ℕ) → Type 0
-LeavesOutput run.Output old new = (report : Report) × WritesBeginning old new (text_of report)
-LeavesOutput run.Memory old new = Keeps old new ⊎ ((report : Report) × WritesBeginning old new (text_of report))
-LeavesOutput run.File old new = Keeps old new
-LeavesOutput run.Json old new = Keeps old new
-LeavesOutput (run.Schedule place) old new = Keeps old new
-LeavesOutput (run.Play refusal) old new = Keeps old new
+abbrev pub LeavesOutput : RunFault → List ℕ → Option (List ℕ) → Option (List ℕ) → Type 0
+LeavesOutput run.Output bytes old new = BeginsReport bytes old new
+LeavesOutput run.Memory bytes old new = Keeps old new ⊎ BeginsReport bytes old new
+LeavesOutput run.File bytes old new = Keeps old new
+LeavesOutput run.Json bytes old new = Keeps old new
+LeavesOutput (run.Schedule place) bytes old new = Keeps old new
+LeavesOutput (run.Play refusal) bytes old new = Keeps old new
 
 -- The line of a fault.
 abbrev pub fault_line : RunFault → List ℕ
@@ -71,13 +82,14 @@ fault_line run.Memory = codes "error: memory\n"
 abbrev pub TellsFault : Option (List ℕ) → Option (List ℕ) → RunFault → Type 0
 TellsFault old new fault = WritesBeginning old new (fault_line fault) ⊎ WritesBeginning old new (fault_line run.Memory)
 
--- The bytes that were left are a schedule that is played, and the text of a report went out.
+-- The bytes that were left are a schedule that is played, and the text of its report went out.
 abbrev pub Reports : Option (List ℕ) → Option (List ℕ) → Option (List ℕ) → Type 0
-Reports left old new = (bytes : List ℕ) × AreLeft left bytes × IsRefused bytes None × (report : Report) × Appends old new (text_of report)
+Reports left old new = (bytes : List ℕ) × AreLeft left bytes
+    × (report : Report) × IsReportOf bytes report × Appends old new (text_of report)
 
 -- A run ended by this fault.
 abbrev pub EndsBy : RunFault → Option (List ℕ) → Option (List ℕ) → Option (List ℕ) → Type 0
-EndsBy fault left old new = ((bytes : List ℕ) × AreLeft left bytes × IsFaultOf fault bytes) × LeavesOutput fault old new
+EndsBy fault left old new = (bytes : List ℕ) × AreLeft left bytes × IsFaultOf fault bytes × LeavesOutput fault bytes old new
 
 -- The fault of a run, by the one of the schedule.
 abbrev pub of_schedule : ScheduleFault → RunFault

@@ -1,9 +1,9 @@
 //! A run from a schedule file to the printed report.
-ghost use Rattle.std.specs.Prelude.{◌≡◌, ◌++◌, ◌⊎◌, ℕ, List, None, OnOk, IfOk, IfErr, string_bytes};
+ghost use Rattle.std.specs.Prelude.{◌≡◌, ◌++◌, ◌⊎◌, ℕ, List, OnOk, IfOk, IfErr, string_bytes};
 ghost use Rattle.std.specs.Io.KnownBytes.{Appends, Keeps};
 ghost use Rattle.tds_play.specs.Lines.{text_of};
 ghost use Rattle.tds_play.specs.Written.{WritesBeginning};
-ghost use Rattle.tds_play.specs.Runs.{AreLeft, IsRefused, IsFaultOf, IsBeforeOutput, IsUnread, EndsBy, Reports, TellsFault, fault_line, of_schedule, of_refusal};
+ghost use Rattle.tds_play.specs.Runs.{AreLeft, IsReportOf, IsFaultOf, IsBeforeOutput, IsUnread, EndsBy, Reports, TellsFault, fault_line, of_schedule, of_refusal};
 ghost use Rattle.tds_play.specs.declared.run.RunFault.{RunFault};
 ghost use Rattle.tds_play.specs.declared.run.RunFault.TheVariants.{Output, Memory};
 
@@ -151,7 +151,7 @@ fn read_file<R: Read>(alloc: Global, reader: &mut R) -> Result<Vec<u8>, RunFault
 }
 
 fn play_file(alloc: Global, bytes: &[u8], carrier: &mut MemoryCarrier) -> Result<Report, RunFault>
-    ensures played { OnOk result (IsRefused bytes.now None) }
+    ensures played { IfOk result (λ report. IsReportOf bytes.now report) }
     ensures fault { IfErr result (λ fault. IsFaultOf fault bytes.now × IsBeforeOutput fault) }
 {
     let (setup, events) = read_schedule(alloc, bytes)?;
