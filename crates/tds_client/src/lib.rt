@@ -17,6 +17,3 @@ pub use state::{Cancelled, ClientState, Sent, Taken};
 
 /// The answer of a growth that was refused.
 pub type NoMemory = std::alloc::AllocError;
-
-#[cfg(test)]
-mod tests;

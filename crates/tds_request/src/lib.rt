@@ -21,6 +21,3 @@ pub use text::BatchText;
 
 /// The answer of a growth that was refused.
 pub type NoMemory = std::alloc::AllocError;
-
-#[cfg(test)]
-mod tests;

@@ -24,6 +24,3 @@ pub use tds_session::{
 
 /// The answer of a growth that was refused.
 pub type NoMemory = std::alloc::AllocError;
-
-#[cfg(test)]
-mod tests;

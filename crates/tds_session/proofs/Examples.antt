@@ -1,9 +1,10 @@
 -- Answers that the checker computes.
 use Rattle.std.specs.Prelude.{◌≡◌, refl, pos, negsuc, [], ◌∷◌, ◌++◌, Some, None, replicate, codes, true, false}
-use Rattle.tds_session.specs.Session.{SessionState, new_session, no_settings, with_value, begun}
+use Rattle.tds_session.specs.Session.{SessionState, new_session, no_settings, with_value, begun, last_descriptor}
 use Rattle.tds_session.specs.Effects.{error, done}
 use Rattle.tds_session.specs.Answer.{script_answers}
 use Rattle.tds_session.specs.Language.{statements_of}
+use Rattle.tds_session.specs.Script.{step_of}
 use Rattle.tds_session.specs.declared.statement.Statement.TheVariants as statement
 use Rattle.tds_packet.specs.declared.status.Reset.TheVariants.{Full, KeepTransaction}
 use Rattle.tds_request.specs.declared.request.Request.TheVariants as request
@@ -51,6 +52,11 @@ begun_twice : script_answers new_session 0 None (request.Batch (codes "begin;com
     ∷ record { tokens = done 0 ∷ []; last = true; reset = None; after = record { settings = no_settings; descriptor = 2; next_descriptor = 3 } }
     ∷ []
 begun_twice = refl
+
+-- a begin where the descriptors are used up changes nothing
+used_up : step_of (record { settings = no_settings; descriptor = 0; next_descriptor = last_descriptor }) statement.Begin ≡
+    record { tokens = error 50004 (codes "no descriptor") ∷ []; after = record { settings = no_settings; descriptor = 0; next_descriptor = last_descriptor } }
+used_up = refl
 
 -- each statement once
 each_statement : statements_of (codes "say aZ09;rows 1000000 64;set x -2147483648;get x;begin;commit;rollback;fail 999999") ≡ Some (

@@ -22,6 +22,3 @@ pub use transaction::{begin_transaction, commit_transaction, roll_back_transacti
 
 /// The answer of a growth that was refused.
 pub type NoMemory = std::alloc::AllocError;
-
-#[cfg(test)]
-mod tests;

@@ -123,12 +123,4 @@ impl Session {
             Reset::KeepTransaction => {}
         }
     }
-
-    /// A session whose descriptors are used up.
-    #[cfg(test)]
-    pub(crate) fn last() -> Session {
-        let mut session = Session::new();
-        session.next_descriptor = u64::MAX;
-        session
-    }
 }

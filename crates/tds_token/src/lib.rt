@@ -30,6 +30,3 @@ pub use writing::put_token;
 
 /// The answer of a growth that was refused.
 pub type NoMemory = std::alloc::AllocError;
-
-#[cfg(test)]
-mod tests;

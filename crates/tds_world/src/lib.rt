@@ -9,8 +9,7 @@
 mod event;
 pub mod laws;
 mod outcome;
-mod report;
-pub mod report_laws;
+pub mod report;
 mod sequence;
 
 pub use event::{Event, Setup};
@@ -20,6 +19,3 @@ pub use outcome::{
 };
 pub use report::{ClientView, EventReport, Place, Report, RequestReport, RequestStatus, Snapshot};
 pub use sequence::Sequence;
-
-#[cfg(test)]
-mod tests;

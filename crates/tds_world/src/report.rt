@@ -1,3 +1,7 @@
+//! What is told of a play, and what the session laws say of it.
+
+pub mod laws;
+
 use crate::outcome::Outcome;
 use crate::sequence::Sequence;
 use tds_packet::Reset;

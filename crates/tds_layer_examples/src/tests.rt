@@ -1,0 +1,7 @@
+mod client;
+mod packets;
+mod reports;
+mod requests;
+mod server;
+mod sessions;
+mod tokens;

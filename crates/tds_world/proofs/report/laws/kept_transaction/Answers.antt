@@ -1,0 +1,5 @@
+use Rattle.tds_world.proofs.Tickets as tickets
+use Rattle.tds_world.proofs.report.laws.kept_transaction.Goals as goal
+
+pub returns : goal.returns
+returns c = tickets.kept_transaction_is_shown

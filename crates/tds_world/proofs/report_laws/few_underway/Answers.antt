@@ -1,5 +1,0 @@
-use Rattle.tds_world.proofs.Reports as reports
-use Rattle.tds_world.proofs.report_laws.few_underway.Goals as goal
-
-pub returns : goal.returns
-returns c = reports.few_are_shown_underway

@@ -1,5 +1,0 @@
-use Rattle.tds_world.proofs.Reports as reports
-use Rattle.tds_world.proofs.report_laws.idle_is_quiet.Goals as goal
-
-pub returns : goal.returns
-returns c = reports.idle_is_shown_quiet

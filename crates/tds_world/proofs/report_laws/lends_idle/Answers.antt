@@ -1,5 +1,0 @@
-use Rattle.tds_world.proofs.Lends as lends
-use Rattle.tds_world.proofs.report_laws.lends_idle.Goals as goal
-
-pub returns : goal.returns
-returns c = lends.lends_idle_is_shown

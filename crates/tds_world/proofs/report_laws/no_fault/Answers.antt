@@ -1,5 +1,0 @@
-use Rattle.tds_world.proofs.NoFault as fault
-use Rattle.tds_world.proofs.report_laws.no_fault.Goals as goal
-
-pub returns : goal.returns
-returns c = fault.no_fault

@@ -1,5 +1,0 @@
-use Rattle.tds_world.proofs.NoMore as more
-use Rattle.tds_world.proofs.report_laws.nothing_after_cancel.Goals as goal
-
-pub returns : goal.returns
-returns c = more.nothing_after_cancel_is_shown

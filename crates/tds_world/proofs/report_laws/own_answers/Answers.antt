@@ -1,5 +1,0 @@
-use Rattle.tds_world.proofs.Asks as asks
-use Rattle.tds_world.proofs.report_laws.own_answers.Goals as goal
-
-pub returns : goal.returns
-returns c = asks.own_answers_are_shown
