@@ -3,8 +3,8 @@ use Rattle.std.proofs.Common.{◌≡◌, ap, arith, inl, inr, List, ℕ, [], Opt
 use Rattle.std.specs.Prelude.{◌⊎◌, Result, Ok, Err, IfErr}
 use Rattle.std.specs.Io.KnownBytes.{Appends, Keeps}
 use Rattle.tds_world.specs.declared.report.Report.{Report}
-use Rattle.tds_play.specs.Lines.{text_of}
-use Rattle.tds_play.specs.Written.{WritesBeginning}
+use Rattle.tds_text.specs.Lines.{text_of}
+use Rattle.tds_text.specs.Written.{WritesBeginning}
 use Rattle.tds_play.specs.Runs.{AreLeft, IsReportOf, IsUnread, IsBeforeOutput, LeavesOutput, EndsBy}
 use Rattle.tds_play.specs.declared.run.RunFault.{RunFault}
 use Rattle.tds_play.specs.declared.run.RunFault.TheVariants as run

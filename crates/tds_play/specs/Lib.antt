@@ -1,13 +1,3 @@
-pub mod Texts
-pub mod Outcomes
-pub mod Tokens
-pub mod Sessions
-pub mod Lines
-pub mod Written
-pub mod Faults
-pub mod Fields
-pub mod Events
-pub mod Schedule
 pub mod Pipe
 pub mod Memory
 pub mod Ties

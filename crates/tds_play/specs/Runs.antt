@@ -1,19 +1,18 @@
 -- What a run of a schedule file comes to: the text of a report, or one line about a fault.
 use Rattle.std.specs.Prelude.{◌≡◌, ℕ, List, ◌++◌, length, Option, Some, None, IfSome, ⊤, ◌⊎◌, codes, decimal}
 use Rattle.std.specs.Io.KnownBytes.{Appends, Keeps}
-use Rattle.serde_json.specs.Data.{Data}
 use Rattle.tds_world.specs.declared.event.Setup.{Setup}
 use Rattle.tds_world.specs.declared.event.Event.{Event}
 use Rattle.tds_world.specs.declared.report.Report.{Report}
 use Rattle.tds_world.specs.Observed.{observed}
 use Rattle.tds_session.specs.Answer.{script_answers}
-use Rattle.tds_play.specs.Texts.{line_feed}
-use Rattle.tds_play.specs.Lines.{text_of}
-use Rattle.tds_play.specs.Written.{WritesBeginning}
-use Rattle.tds_play.specs.Schedule.{IsJson, IsSchedule, wrong_place}
+use Rattle.tds_text.specs.Texts.{line_feed}
+use Rattle.tds_text.specs.Lines.{text_of}
+use Rattle.tds_text.specs.Written.{WritesBeginning}
+use Rattle.tds_text.specs.Files.{Spells, IsWrongAt, IsNoJson}
 use Rattle.tds_play.specs.Refused.{first_refusal, play_refusal_number}
-use Rattle.tds_play.specs.declared.schedule.fault.ScheduleFault.{ScheduleFault}
-use Rattle.tds_play.specs.declared.schedule.fault.ScheduleFault.TheVariants as schedule
+use Rattle.tds_text.specs.declared.schedule.fault.ScheduleFault.{ScheduleFault}
+use Rattle.tds_text.specs.declared.schedule.fault.ScheduleFault.TheVariants as schedule
 use Rattle.tds_play.specs.declared.playing.PlayRefusal.{PlayRefusal}
 use Rattle.tds_play.specs.declared.playing.PlayRefusal.TheVariants as play
 use Rattle.tds_play.specs.declared.run.RunFault.{RunFault}
@@ -22,10 +21,6 @@ use Rattle.tds_play.specs.declared.run.RunFault.TheVariants as run
 -- These are the bytes that the reader had left, where it tells them.
 abbrev pub AreLeft : Option (List ℕ) → List ℕ → Type 0
 AreLeft left bytes = IfSome left (λ all. bytes ≡ all)
-
--- Bytes are a schedule file of this setup and these events.
-abbrev pub Spells : List ℕ → Setup → List Event → Type 0
-Spells bytes setup events = (value : Data) × IsJson bytes value × IsSchedule value setup events
 
 -- Bytes are a schedule file, and the events are refused for this or for nothing.
 abbrev pub IsRefused : List ℕ → Option PlayRefusal → Type 0
@@ -40,8 +35,8 @@ IsReportOf bytes report = (setup : Setup) × (events : List Event) × Spells byt
 -- memory was refused can't be seen in them; a report is printed only of what is played.
 abbrev pub IsFaultOf : RunFault → List ℕ → Type 0
 IsFaultOf run.File bytes = ⊤
-IsFaultOf run.Json bytes = (value : Data) → ¬ IsJson bytes value
-IsFaultOf (run.Schedule place) bytes = (value : Data) × IsJson bytes value × (wrong_place value ≡ Some place)
+IsFaultOf run.Json bytes = IsNoJson bytes
+IsFaultOf (run.Schedule place) bytes = IsWrongAt bytes place
 IsFaultOf (run.Play refusal) bytes = IsRefused bytes (Some refusal)
 IsFaultOf run.Output bytes = IsRefused bytes None
 IsFaultOf run.Memory bytes = ⊤

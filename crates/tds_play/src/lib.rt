@@ -1,5 +1,5 @@
-//! Plays of the model over real bytes: the schedules that a play is read from, and the text of what
-//! it reports.
+//! Plays of the model over real bytes: the player, what carries its bytes, and a run from a
+//! schedule's bytes to the printed report.
 #![tactic(auto)]
 
 mod carrier;
@@ -10,19 +10,19 @@ mod memory;
 mod player;
 mod playing;
 mod pool;
-mod rendering;
 mod run;
-mod schedule;
-mod words;
 mod worlds;
 
 pub use carrier::{Carrier, CarrierError};
 pub use memory::MemoryCarrier;
 pub use playing::{PlayRefusal, play};
-pub use rendering::{RenderFault, render};
 pub use run::run_play;
-pub use schedule::{ScheduleFault, read_schedule, right_or_wrong_somewhere};
-pub use words::{Command, LineFault, read_words};
+
+/// The texts of a play.
+pub use tds_text::{
+    Command, LineFault, RenderFault, ScheduleFault, read_schedule, read_words, render,
+    right_or_wrong_somewhere,
+};
 
 /// What a play is given, and what it answers.
 pub use tds_world::{

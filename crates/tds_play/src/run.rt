@@ -1,19 +1,17 @@
 //! A run from a schedule file to the printed report.
 ghost use Rattle.std.specs.Prelude.{◌≡◌, ◌++◌, ◌⊎◌, ℕ, List, OnOk, IfOk, IfErr, string_bytes};
 ghost use Rattle.std.specs.Io.KnownBytes.{Appends, Keeps};
-ghost use Rattle.tds_play.specs.Lines.{text_of};
-ghost use Rattle.tds_play.specs.Written.{WritesBeginning};
+ghost use Rattle.tds_text.specs.Lines.{text_of};
+ghost use Rattle.tds_text.specs.Written.{WritesBeginning};
 ghost use Rattle.tds_play.specs.Runs.{AreLeft, IsReportOf, IsFaultOf, IsBeforeOutput, IsUnread, EndsBy, Reports, TellsFault, fault_line, of_schedule, of_refusal};
 ghost use Rattle.tds_play.specs.declared.run.RunFault.{RunFault};
 ghost use Rattle.tds_play.specs.declared.run.RunFault.TheVariants.{Output, Memory};
 
 use crate::memory::MemoryCarrier;
 use crate::playing::{PlayRefusal, play};
-use crate::rendering::written::write_whole;
-use crate::rendering::{RenderFault, render};
-use crate::schedule::{ScheduleFault, read_schedule};
 use std::alloc::{AllocError, Global};
 use std::io::{ErrorKind, Read, Write};
+use tds_text::{RenderFault, ScheduleFault, read_schedule, render, write_whole};
 use tds_world::Report;
 
 /// What ends a run before the whole report is printed.

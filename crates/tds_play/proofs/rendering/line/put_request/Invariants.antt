@@ -1,7 +1,0 @@
-use Rattle.std.proofs.Common.{◌≡◌, ◌++◌, string_bytes, take}
-use Rattle.std.specs.List.{flat_map}
-use Rattle.tds_play.specs.Tokens.{token_line}
-use Rattle.tds_play.proofs.rendering.line.put_request.Given as goal
-
-abbrev pub invariant-loop-token : goal.invariant-loop-token
-invariant-loop-token l = string_bytes l.text ≡ string_bytes l.initial.text ++ flat_map token_line (take l.token-index l.token-items)

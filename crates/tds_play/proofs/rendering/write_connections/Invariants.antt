@@ -1,8 +1,0 @@
-use Rattle.std.proofs.Common.{drop}
-use Rattle.std.specs.List.{flat_map}
-use Rattle.tds_play.specs.Lines.{connection_line}
-use Rattle.tds_play.specs.Written.{WritesUpTo}
-use Rattle.tds_play.proofs.rendering.write_connections.Given as goal
-
-abbrev pub invariant-loop-snapshot : goal.invariant-loop-snapshot
-invariant-loop-snapshot g l = WritesUpTo (g.W.Write.contents l.fn.writer) (g.W.Write.contents l.writer) (flat_map connection_line l.fn.snapshots) (flat_map connection_line (drop l.snapshot-index l.snapshots))

@@ -1,7 +1,0 @@
-use Rattle.std.proofs.Common.{◌+◌, drop}
-use Rattle.tds_play.specs.Lines.{event_lines}
-use Rattle.tds_play.specs.Written.{WritesUpTo}
-use Rattle.tds_play.proofs.rendering.write_events.Given as goal
-
-abbrev pub invariant-loop-index : goal.invariant-loop-index
-invariant-loop-index g l = WritesUpTo (g.W.Write.contents l.fn.writer) (g.W.Write.contents l.writer) (event_lines 1 l.fn.events) (event_lines (l.index + 1) (drop l.index l.events))

@@ -1,6 +1,0 @@
-use Rattle.std.proofs.Common.{rules}
-use Rattle.tds_play.proofs.Batches.{such_batch}
-use Rattle.tds_play.proofs.schedule.fields.batch_text.Goals as goal
-
-pub returns : goal.returns
-returns c = such_batch c.args.units.items c.new.result (search rules) c.new.ensures

@@ -1,5 +1,0 @@
-use Rattle.tds_play.proofs.FieldCounts.{not_two}
-use Rattle.tds_play.proofs.schedule.fields.pair.Goals as goal
-
-pub returns-then-fields-ne2 : goal.returns-then-fields-ne2
-returns-then-fields-ne2 c = not_two c.args.fields.now c.if-fields-ne2.true

@@ -1,5 +1,0 @@
-use Rattle.tds_play.proofs.Judged.{right_nowhere_wrong, nowhere_wrong_right, same_schedule}
-use Rattle.tds_play.proofs.schedule.laws.right_or_wrong_somewhere.Goals as goal
-
-pub returns : goal.returns
-returns c = record { right = right_nowhere_wrong; wrong = nowhere_wrong_right; one = same_schedule }

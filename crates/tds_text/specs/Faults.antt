@@ -1,0 +1,24 @@
+-- The numbers of the faults.
+use Rattle.std.specs.Prelude.{ℕ}
+use Rattle.tds_text.specs.declared.rendering.fault.RenderFault.{RenderFault}
+use Rattle.tds_text.specs.declared.rendering.fault.RenderFault.TheVariants as render
+use Rattle.tds_text.specs.declared.words.LineFault.{LineFault}
+use Rattle.tds_text.specs.declared.words.LineFault.TheVariants as line
+use Rattle.tds_text.specs.declared.schedule.fault.ScheduleFault.{ScheduleFault}
+use Rattle.tds_text.specs.declared.schedule.fault.ScheduleFault.TheVariants as schedule
+
+-- The number of a fault of `render`.
+abbrev pub render_fault_number : RenderFault → ℕ
+render_fault_number render.Write = 1
+render_fault_number render.Memory = 2
+
+-- The number of a fault of `read_schedule`.
+abbrev pub schedule_fault_number : ScheduleFault → ℕ
+schedule_fault_number schedule.Json = 1
+schedule_fault_number (schedule.Wrong place) = 2
+schedule_fault_number schedule.Memory = 3
+
+-- The number of a fault of `read_words`.
+abbrev pub line_fault_number : LineFault → ℕ
+line_fault_number line.Usage = 1
+line_fault_number line.Memory = 2

@@ -1,0 +1,11 @@
+pub mod Texts
+pub mod Outcomes
+pub mod Tokens
+pub mod Sessions
+pub mod Lines
+pub mod Written
+pub mod Faults
+pub mod Fields
+pub mod Events
+pub mod Schedule
+pub mod Files

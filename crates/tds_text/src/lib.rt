@@ -1,0 +1,14 @@
+//! The texts of a play: the schedule that it is read from, the report that is printed of it, and the
+//! command line that asks for it. Nothing here plays.
+#![tactic(auto)]
+
+mod rendering;
+mod schedule;
+mod words;
+
+pub use rendering::{RenderFault, render, write_whole};
+pub use schedule::{ScheduleFault, read_schedule, right_or_wrong_somewhere};
+pub use words::{Command, LineFault, read_words};
+
+/// The answer of a growth that was refused.
+pub type NoMemory = std::alloc::AllocError;

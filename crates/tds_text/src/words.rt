@@ -1,0 +1,86 @@
+//! The words of a command line.
+ghost use Rattle.std.specs.Prelude.{◌≡◌};
+ghost use Rattle.tds_text.specs.Faults.{line_fault_number};
+
+use clap::error::ErrorKind;
+use clap::{Arg, ArgAction, ArgMatches};
+use std::alloc::{AllocError, Global};
+
+/// What the words of a command line ask for.
+#[derive(Debug, Drop)]
+pub enum Command {
+    /// To play the schedule in this file over memory.
+    Play(String),
+}
+
+/// Why words name no command.
+#[derive(Debug, Drop)]
+pub enum LineFault {
+    /// 1: they are none of the commands with its one word.
+    Usage,
+    /// 2: memory.
+    Memory,
+}
+
+impl LineFault {
+    /// The fault's number.
+    pub fn number(&self) -> u8
+        ensures { result ≡ line_fault_number self.now }
+    {
+        match self {
+            LineFault::Usage => 1,
+            LineFault::Memory => 2,
+        }
+    }
+}
+
+impl From<AllocError> for LineFault {
+    ghost use Rattle.tds_text.specs.declared.words.LineFault.TheVariants.{Memory};
+
+    ghost from_gives = { λ _ fault. fault ≡ Memory };
+
+    fn from(_: AllocError) -> Self {
+        LineFault::Memory
+    }
+}
+
+impl From<clap::Error> for LineFault {
+    fn from(error: clap::Error) -> Self {
+        match error.kind() {
+            ErrorKind::OutOfMemory => LineFault::Memory,
+            _ => LineFault::Usage,
+        }
+    }
+}
+
+/// Reads the words behind the program's name.
+pub fn read_words(alloc: Global, words: &[String]) -> Result<Command, LineFault> {
+    let commands = commands(alloc)?;
+    let matches = commands.try_get_matches_from(words)?;
+    match file_named(&matches) {
+        None => Err(LineFault::Usage),
+        Some(file) => Ok(Command::Play(String::from_str(alloc, file)?)),
+    }
+}
+
+/// The file of the command that was met.
+fn file_named<'a>(matches: &ArgMatches<'a>) -> Option<&'a str> {
+    match matches.subcommand() {
+        Some(("play", used)) => used.get_str("file"),
+        _ => None,
+    }
+}
+
+/// The commands that there are. A call for help names none of them.
+fn commands<'a>(alloc: Global) -> Result<clap::Command<'a>, AllocError> {
+    let file = Arg::new(alloc, "file")
+        .required(true)
+        .action(ArgAction::Set);
+    let play = clap::Command::new(alloc, "play").arg(file)?;
+    clap::Command::new(alloc, "tdsplay")
+        .no_binary_name(true)
+        .disable_help_flag(true)
+        .disable_help_subcommand(true)
+        .subcommand_required(true)
+        .subcommand(play)
+}
