@@ -32,17 +32,13 @@ use Rattle.tds_play.specs.Deliveries.{down_coming, AllHeard}
 use Rattle.tds_play.specs.Feeding.{IsComing}
 use Rattle.tds_play.specs.Hearing.{IsSaid, IsSaidBy, IsHeardBy, IsAwaited}
 use Rattle.tds_play.proofs.Hearing.{hear_alike}
+use Rattle.tds_play.proofs.Said.{AreSaid}
 
 -- ---- What a step says
 
 said_at : (before : List answer.Step) (s : answer.Step) (after : List answer.Step) → AllByRecursion IsSaid (before ++ s ∷ after) → IsSaid s
 said_at [] s after h = h.0
 said_at (t ∷ ts) s after h = said_at ts s after h.1
-
--- Each answer's steps are said.
-abbrev pub AreSaid : Answers → Type 0
-AreSaid answers =
-    (s : SessionState) (descriptor : ℕ) (reset : Option Reset) (q : Request) → AllByRecursion IsSaid (answers s descriptor reset q)
 
 of_answer : (answers : Answers) (s : answer.Step) → AreSaid answers → IsStepOf answers s → IsSaid s
 of_answer answers s a h =
@@ -62,7 +58,7 @@ waiting_of P (Acknowledgement r i ∷ es) waiting h = waiting_of P es waiting h
 -- ---- It is awaited
 
 heard_by : (o : Option Reset) (c : Connection) (s : answer.Step) → (descriptor : ℕ) → heard_after c.heard s ≡ Some descriptor → Meets c.mark o → IsSaidBy o s → IsHeardBy o c s
-heard_by None c s d e m a = (d, e, a)
+heard_by None c s d e m a = (d, e, a.0, a.1, a.2)
 heard_by (Some r) c s d e m a = (a.0, a.1, m)
 
 answered : (p : Phase) (r i : ℕ) (s : answer.Step) → ClientExpects (state_of p) (Step r i s) → (p ≡ phases.Reading) ⊎ (p ≡ Cancelling)

@@ -50,8 +50,8 @@ by_reset cancelling None c s is h = record {
   hears = λ contents same none.
       packet_heard cancelling s.last (at c.heard c.mark) h.0 (mark_after s.reset c.mark) contents none
       (ap (λ (ts : List Token). hear_all cancelling (at c.heard c.mark) ts) same
-      ∙ (tokens_heard cancelling s.last c.heard h.0 c.mark s.tokens
-      (ap (λ (o : Option Reset). applied (reset_effect o) c.heard (changes_of s.tokens)) (sym is) ∙ h.1) h.2
+      ∙ (tokens_heard cancelling s.last c.heard h.0 h.2 h.3 c.mark s.tokens
+      (ap (λ (o : Option Reset). applied (reset_effect o) c.heard (changes_of s.tokens)) (sym is) ∙ h.1) h.4
       ∙ ap (λ (o : Option Reset). Ok (behind h.0 (mark_after o c.mark) s.last)) (sym is)));
 }
 by_reset cancelling (Some r) c s is h = record {
