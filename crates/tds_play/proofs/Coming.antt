@@ -81,7 +81,7 @@ FirstOf P (Step r i s) = P s
 FirstOf P (Acknowledgement r i) = Unit {0}
 
 awaited : (c : Connection) (q : Record) (e : Down) → c.current ≡ Some q → request_of e ≡ q.number → ClientExpects (state_of (phase_of q)) e → IsHeardOn c e → FirstOf FitsStep e → FirstOf IsSaid e → IsAwaited c q e
-awaited c q (Step r i s) e n x h f a = (n, answered (phase_of q) r i s x, (f.columns, f.spelled), heard_by s.reset c s h.0.0 h.0.1 h.1 a)
+awaited c q (Step r i s) e n x h f a = (n, answered (phase_of q) r i s x, f.spelled, heard_by s.reset c s h.0.0 h.0.1 h.1 a)
 awaited c q (Acknowledgement r i) e n x h f a = (n, acknowledged (phase_of q) r i x)
 
 -- ---- It is a packet

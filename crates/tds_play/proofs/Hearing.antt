@@ -26,7 +26,8 @@ use Rattle.tds_world.specs.Connection.{Connection}
 use Rattle.tds_world.specs.Entries.{Down, Step, Acknowledgement, down_packet}
 use Rattle.tds_world.specs.Phase.{Phase, Settled, Reading, Cancelling, phase_by, phase_of, status_by, status_of}
 use Rattle.tds_world.specs.Record.{Record, Out, NotBegun, Begun, Whole, gives, acknowledges, when, if_numbered}
-use Rattle.tds_play.specs.Hearing.{HasSpelling, IsHeardBy, IsAwaited, HearAlike}
+use Rattle.tds_world.specs.Sessions.{HasSpelling}
+use Rattle.tds_play.specs.Hearing.{IsHeardBy, IsAwaited, HearAlike}
 use Rattle.tds_play.specs.Stands.{MatchesClient, BeginsBy, BeginsIn, stage_by, stage_in}
 use Rattle.tds_play.proofs.Contents.{AreGood, are_good, known_behind, contents_are}
 use Rattle.tds_play.proofs.Heard.{at, behind, descriptor_behind, tokens_heard, reset_heard, packet_heard}

@@ -1,5 +1,5 @@
 -- What a client can hear of its connection, and what it is that it does the same as the model.
-use Rattle.std.specs.Prelude.{ℕ, ◌≡◌, ◌⊎◌, [], ◌∷◌, ◌++◌, flat_map, false, Option, Some, None, Result, Ok}
+use Rattle.std.specs.Prelude.{ℕ, ◌≡◌, ◌⊎◌, [], ◌∷◌, ◌++◌, false, Option, Some, None, Result, Ok}
 use Rattle.tds_client.specs.declared.fault.ClientFault.{ClientFault}
 use Rattle.tds_client.specs.declared.state.Taken.{Taken}
 use Rattle.tds_client.specs.declared.state.Taken.TheVariants as taken
@@ -8,7 +8,6 @@ use Rattle.tds_packet.specs.declared.status.Reset.{Reset}
 use Rattle.tds_session.specs.Answer as answer
 use Rattle.tds_token.specs.declared.env_change.EnvChange.TheVariants.{ResetDone}
 use Rattle.tds_token.specs.declared.token.Token.TheVariants as token
-use Rattle.tds_token.specs.Layout.{IsTokens, spelling}
 use Rattle.tds_world.specs.declared.report.RequestStatus.{RequestStatus}
 use Rattle.tds_world.specs.declared.report.RequestStatus.TheVariants as status
 use Rattle.tds_world.specs.Arrivals.{client_acts, heard_after}
@@ -17,6 +16,7 @@ use Rattle.tds_world.specs.Dones.{DonesBy}
 use Rattle.tds_world.specs.Entries.{Down, Step, Acknowledgement}
 use Rattle.tds_world.specs.Phase.{Reading, Cancelling, phase_of, status_of}
 use Rattle.tds_world.specs.Record.{Record}
+use Rattle.tds_world.specs.Sessions.{HasSpelling}
 use Rattle.tds_play.specs.Stands.{MatchesClient}
 
 -- What a step says by its DONEs; and one that takes a reset tells its end alone.
@@ -34,10 +34,6 @@ IsHeardBy None c s =
     (descriptor : ℕ) × (heard_after c.heard s ≡ Some descriptor)
     × (cur_cmd : ℕ) × (rows : ℕ) × DonesBy cur_cmd rows s.last s.tokens
 IsHeardBy (Some r) c s = (s.tokens ≡ token.Env ResetDone ∷ []) × (s.last ≡ false) × (c.mark ≡ Some r)
-
--- Its tokens have a spelling.
-abbrev pub HasSpelling : answer.Step → Type 0
-HasSpelling s = (columns : Option ℕ) × IsTokens None s.tokens (flat_map spelling s.tokens) columns
 
 -- A request's client waits for an entry.
 abbrev pub IsAwaited : Connection → Record → Down → Type 0
