@@ -10,10 +10,11 @@ use Rattle.tds_token.specs.declared.env_change.EnvChange.TheVariants.{ResetDone}
 use Rattle.tds_token.specs.declared.token.Token.TheVariants as token
 use Rattle.tds_world.specs.declared.report.RequestStatus.{RequestStatus}
 use Rattle.tds_world.specs.declared.report.RequestStatus.TheVariants as status
-use Rattle.tds_world.specs.Arrivals.{client_acts, heard_after}
+use Rattle.tds_world.specs.Arrivals.{client_acts}
 use Rattle.tds_world.specs.Connection.{Connection}
 use Rattle.tds_world.specs.Dones.{DonesBy}
 use Rattle.tds_world.specs.Entries.{Down, Step, Acknowledgement}
+use Rattle.tds_world.specs.Heard.{IsHeardOn}
 use Rattle.tds_world.specs.Phase.{Reading, Cancelling, phase_of, status_of}
 use Rattle.tds_world.specs.Record.{Record}
 use Rattle.tds_world.specs.Sessions.{HasSpelling}
@@ -27,19 +28,12 @@ IsSaidBy (Some r) s = (s.tokens ≡ token.Env ResetDone ∷ []) × (s.last ≡ f
 abbrev pub IsSaid : answer.Step → Type 0
 IsSaid s = IsSaidBy s.reset s
 
--- A step without a reset can be heard where all its changes apply. One that tells the end of a reset
--- tells nothing else, and is heard where that reset was asked for.
-abbrev pub IsHeardBy : Option Reset → Connection → answer.Step → Type 0
-IsHeardBy None c s =
-    (descriptor : ℕ) × (heard_after c.heard s ≡ Some descriptor)
-    × (cur_cmd : ℕ) × (rows : ℕ) × DonesBy cur_cmd rows s.last s.tokens
-IsHeardBy (Some r) c s = (s.tokens ≡ token.Env ResetDone ∷ []) × (s.last ≡ false) × (c.mark ≡ Some r)
-
--- A request's client waits for an entry.
+-- A request's client waits for an entry, and can hear it: its changes apply, a reset that it takes was
+-- asked for, and it says what a step says.
 abbrev pub IsAwaited : Connection → Record → Down → Type 0
 IsAwaited c q (Step r place s) =
     (r ≡ q.number) × ((phase_of q ≡ Reading) ⊎ (phase_of q ≡ Cancelling))
-    × HasSpelling s × IsHeardBy s.reset c s
+    × HasSpelling s × IsHeardOn c (Step r place s) × IsSaid s
 IsAwaited c q (Acknowledgement r place) = (r ≡ q.number) × (phase_of q ≡ Cancelling)
 
 -- What becomes of a request's status, by what its client answers.
