@@ -20,7 +20,8 @@ use Rattle.tds_world.specs.Record.{Record}
 use Rattle.tds_world.specs.Sessions.{HasSpelling}
 use Rattle.tds_play.specs.Stands.{MatchesClient}
 
--- What a step says by its DONEs; and one that takes a reset tells its end alone.
+-- What a step says by its DONEs: of a final one a client reads neither the command nor the count of
+-- rows. A step that takes a reset tells its end alone.
 abbrev pub IsSaidBy : Option Reset → answer.Step → Type 0
 IsSaidBy None s = (cur_cmd : ℕ) × (rows : ℕ) × DonesBy cur_cmd rows s.last s.tokens
 IsSaidBy (Some r) s = (s.tokens ≡ token.Env ResetDone ∷ []) × (s.last ≡ false)
