@@ -1,23 +1,20 @@
 -- Whatever waits for a client comes as packets that it hears as the model does.
-use Rattle.std.proofs.Common.{◌≡◌, ◌≤◌, ℕ, List, [], ◌∷◌, ◌++◌, length, inl, inr, Bool, true, false, cond, refl, sym, ap, subst, Option, Some, None, arith, lit≤}
+use Rattle.std.proofs.Common.{◌≡◌, ◌≤◌, ℕ, List, [], ◌∷◌, ◌++◌, length, inl, inr, Bool, true, false, cond, refl, sym, ap, subst, Some, arith, lit≤}
 use Rattle.std.specs.List.{AllByRecursion}
 use Rattle.std.specs.Prelude.{◌⊎◌, flat_map}
 use Rattle.tds_packet.specs.declared.kind.Direction.TheVariants.{ToClient}
 use Rattle.tds_packet.specs.declared.kind.Kind.TheVariants as kind
-use Rattle.tds_packet.specs.declared.status.Reset.{Reset}
 use Rattle.tds_packet.specs.Layout.{IsPacket, is_status}
 use Rattle.tds_packet.specs.Reading.{Reading}
-use Rattle.tds_request.specs.declared.request.Request.{Request}
 use Rattle.tds_session.specs.Answer as answer
 use Rattle.tds_session.specs.Answer.{Answers}
-use Rattle.tds_session.specs.Session.{SessionState}
 use Rattle.tds_token.specs.Layout.{spelling}
 use Rattle.tds_world.specs.declared.event.Setup.{Setup}
-use Rattle.tds_world.specs.Arrivals.{client_acts, heard_after}
+use Rattle.tds_world.specs.Arrivals.{client_acts}
 use Rattle.tds_world.specs.Connection.{Connection, phase}
 use Rattle.tds_world.specs.Entries.{Down, Step, Acknowledgement, packet, packet_bytes}
 use Rattle.tds_world.specs.Bounds.{IsSetup}
-use Rattle.tds_world.specs.Heard.{Meets, IsHeardOn, AreHeardOn, ChangesAreHeard}
+use Rattle.tds_world.specs.Heard.{IsHeardOn, AreHeardOn, ChangesAreHeard}
 use Rattle.tds_world.specs.Lane.{passed}
 use Rattle.tds_world.specs.Laws.{OfEachConnection}
 use Rattle.tds_world.specs.Newest.{HearsOfNewest, ActsOnNewest, ActOnNewest, request_of}
@@ -30,19 +27,15 @@ use Rattle.tds_world.specs.Welcome.{ClientExpects, WelcomeToServer, WelcomeToCli
 use Rattle.tds_world.specs.World.{World}
 use Rattle.tds_play.specs.Deliveries.{down_coming, AllHeard}
 use Rattle.tds_play.specs.Feeding.{IsComing}
-use Rattle.tds_play.specs.Hearing.{IsSaid, IsSaidBy, IsHeardBy, IsAwaited}
+use Rattle.tds_play.specs.Hearing.{IsSaid, IsAwaited}
 use Rattle.tds_play.proofs.Hearing.{hear_alike}
+use Rattle.tds_play.proofs.Said.{AreSaid}
 
 -- ---- What a step says
 
 said_at : (before : List answer.Step) (s : answer.Step) (after : List answer.Step) → AllByRecursion IsSaid (before ++ s ∷ after) → IsSaid s
 said_at [] s after h = h.0
 said_at (t ∷ ts) s after h = said_at ts s after h.1
-
--- Each answer's steps are said.
-abbrev pub AreSaid : Answers → Type 0
-AreSaid answers =
-    (s : SessionState) (descriptor : ℕ) (reset : Option Reset) (q : Request) → AllByRecursion IsSaid (answers s descriptor reset q)
 
 of_answer : (answers : Answers) (s : answer.Step) → AreSaid answers → IsStepOf answers s → IsSaid s
 of_answer answers s a h =
@@ -60,10 +53,6 @@ waiting_of P (Step r i s ∷ es) waiting h = waiting_of P es waiting h.1
 waiting_of P (Acknowledgement r i ∷ es) waiting h = waiting_of P es waiting h
 
 -- ---- It is awaited
-
-heard_by : (o : Option Reset) (c : Connection) (s : answer.Step) → (descriptor : ℕ) → heard_after c.heard s ≡ Some descriptor → Meets c.mark o → IsSaidBy o s → IsHeardBy o c s
-heard_by None c s d e m a = (d, e, a)
-heard_by (Some r) c s d e m a = (a.0, a.1, m)
 
 answered : (p : Phase) (r i : ℕ) (s : answer.Step) → ClientExpects (state_of p) (Step r i s) → (p ≡ phases.Reading) ⊎ (p ≡ Cancelling)
 answered Settled r i s h = absurd h
@@ -85,7 +74,7 @@ FirstOf P (Step r i s) = P s
 FirstOf P (Acknowledgement r i) = Unit {0}
 
 awaited : (c : Connection) (q : Record) (e : Down) → c.current ≡ Some q → request_of e ≡ q.number → ClientExpects (state_of (phase_of q)) e → IsHeardOn c e → FirstOf FitsStep e → FirstOf IsSaid e → IsAwaited c q e
-awaited c q (Step r i s) e n x h f a = (n, answered (phase_of q) r i s x, (f.columns, f.spelled), heard_by s.reset c s h.0.0 h.0.1 h.1 a)
+awaited c q (Step r i s) e n x h f a = (n, answered (phase_of q) r i s x, f.spelled, h, a)
 awaited c q (Acknowledgement r i) e n x h f a = (n, acknowledged (phase_of q) r i x)
 
 -- ---- It is a packet

@@ -24,9 +24,11 @@ use Rattle.tds_world.specs.declared.report.RequestStatus.TheVariants as shown
 use Rattle.tds_world.specs.Arrivals.{client_acts, heard_after, mark_after, reset_effect}
 use Rattle.tds_world.specs.Connection.{Connection}
 use Rattle.tds_world.specs.Entries.{Down, Step, Acknowledgement, down_packet}
+use Rattle.tds_world.specs.Heard.{Meets, IsHeardOn}
 use Rattle.tds_world.specs.Phase.{Phase, Settled, Reading, Cancelling, phase_by, phase_of, status_by, status_of}
 use Rattle.tds_world.specs.Record.{Record, Out, NotBegun, Begun, Whole, gives, acknowledges, when, if_numbered}
-use Rattle.tds_play.specs.Hearing.{HasSpelling, IsHeardBy, IsAwaited, HearAlike}
+use Rattle.tds_world.specs.Sessions.{HasSpelling}
+use Rattle.tds_play.specs.Hearing.{IsSaid, IsSaidBy, IsAwaited, HearAlike}
 use Rattle.tds_play.specs.Stands.{MatchesClient, BeginsBy, BeginsIn, stage_by, stage_in}
 use Rattle.tds_play.proofs.Contents.{AreGood, are_good, known_behind, contents_are}
 use Rattle.tds_play.proofs.Heard.{at, behind, descriptor_behind, tokens_heard, reset_heard, packet_heard}
@@ -43,26 +45,26 @@ reset_applied : (r : Reset) (x : ℕ) → applied (reset_effect (Some r)) x (Res
 reset_applied Full x = refl
 reset_applied KeepTransaction x = refl
 
-by_reset : (cancelling : Bool) (r : Option Reset) (c : Connection) (s : answer.Step) → s.reset ≡ r → IsHeardBy r c s → IsHeard cancelling c s
-by_reset cancelling None c s is h = record {
-  descriptor = h.0;
-  applies = h.1;
+by_reset : (cancelling : Bool) (r : Option Reset) (c : Connection) (s : answer.Step) → s.reset ≡ r → (d : ℕ) → heard_after c.heard s ≡ Some d → Meets c.mark r → IsSaidBy r s → IsHeard cancelling c s
+by_reset cancelling None c s is d e m a = record {
+  descriptor = d;
+  applies = e;
   hears = λ contents same none.
-      packet_heard cancelling s.last (at c.heard c.mark) h.0 (mark_after s.reset c.mark) contents none
+      packet_heard cancelling s.last (at c.heard c.mark) d (mark_after s.reset c.mark) contents none
       (ap (λ (ts : List Token). hear_all cancelling (at c.heard c.mark) ts) same
-      ∙ (tokens_heard cancelling s.last c.heard h.0 c.mark s.tokens
-      (ap (λ (o : Option Reset). applied (reset_effect o) c.heard (changes_of s.tokens)) (sym is) ∙ h.1) h.2
-      ∙ ap (λ (o : Option Reset). Ok (behind h.0 (mark_after o c.mark) s.last)) (sym is)));
+      ∙ (tokens_heard cancelling s.last c.heard d a.0 a.1 c.mark s.tokens
+      (ap (λ (o : Option Reset). applied (reset_effect o) c.heard (changes_of s.tokens)) (sym is) ∙ e) a.2
+      ∙ ap (λ (o : Option Reset). Ok (behind d (mark_after o c.mark) s.last)) (sym is)));
 }
-by_reset cancelling (Some r) c s is h = record {
+by_reset cancelling (Some r) c s is d e m a = record {
   descriptor = descriptor_behind r c.heard;
-  applies = ap (λ (o : Option Reset). applied (reset_effect o) c.heard (changes_of s.tokens)) is ∙ (ap (λ (ts : List Token). applied (reset_effect (Some r)) c.heard (changes_of ts)) h.0 ∙ reset_applied r c.heard);
+  applies = ap (λ (o : Option Reset). applied (reset_effect o) c.heard (changes_of s.tokens)) is ∙ (ap (λ (ts : List Token). applied (reset_effect (Some r)) c.heard (changes_of ts)) a.0 ∙ reset_applied r c.heard);
   hears = λ contents same none.
       packet_heard cancelling s.last (at c.heard c.mark) (descriptor_behind r c.heard) (mark_after s.reset c.mark) contents none
-      (ap (λ (ts : List Token). hear_all cancelling (at c.heard c.mark) ts) (same ∙ h.0)
-      ∙ (ap (λ (m : Option Reset). hear_all cancelling (at c.heard m) (tokens.Env ResetDone ∷ [])) h.2
+      (ap (λ (ts : List Token). hear_all cancelling (at c.heard c.mark) ts) (same ∙ a.0)
+      ∙ (ap (λ (m : Option Reset). hear_all cancelling (at c.heard m) (tokens.Env ResetDone ∷ [])) m
       ∙ (reset_heard cancelling c.heard r
-      ∙ (ap (λ (b : Bool). Ok (behind (descriptor_behind r c.heard) None b)) (sym h.1)
+      ∙ (ap (λ (b : Bool). Ok (behind (descriptor_behind r c.heard) None b)) (sym a.1)
       ∙ ap (λ (o : Option Reset). Ok (behind (descriptor_behind r c.heard) (mark_after o c.mark) s.last)) (sym is)))));
 }
 
@@ -84,9 +86,8 @@ record IsRead (cancelling : Bool) (s : ClientSession) (c : Connection) (step : a
   tokens : (contents_of s.columns (flat_map spelling step.tokens)).tokens ≡ step.tokens
   hears : hear_packet cancelling s.heard step.last (contents_of s.columns (flat_map spelling step.tokens)) ≡ Ok (behind heard.descriptor (mark_after step.reset c.mark) step.last)
 
-step_read : (cancelling : Bool) (s : ClientSession) (c : Connection) (step : answer.Step) → MatchesClient s c → HasSpelling step → IsHeardBy step.reset c step → IsRead cancelling s c step
-step_read cancelling s c step m spelled h =
-    let heard : IsHeard cancelling c step = by_reset cancelling step.reset c step refl h in
+step_read : (cancelling : Bool) (s : ClientSession) (c : Connection) (step : answer.Step) → MatchesClient s c → HasSpelling step → IsHeard cancelling c step → IsRead cancelling s c step
+step_read cancelling s c step m spelled heard =
     let good : AreGood s.columns step.tokens = are_good None s.columns step.tokens (flat_map spelling step.tokens) spelled.0 (inl refl) spelled.1 in
     let all = contents_are s.columns step.tokens good in record {
       heard = heard;
@@ -243,15 +244,15 @@ at_stage s c q e stage last is bit h =
     subst (λ (x : client.Stage). HearAlike c q e (taken_in x s (has_bit (bits_of (down_packet e).header.status) 1) (down_packet e).body)) (sym is)
     (subst (λ (b : Bool). HearAlike c q e (taken_in stage s b (down_packet e).body)) (sym bit) h)
 
-step_alike : (s : ClientSession) (c : Connection) (q : Record) (r place : ℕ) (step : answer.Step) → MatchesClient s c → c.current ≡ Some q → r ≡ q.number → (phase_of q ≡ Reading) ⊎ (phase_of q ≡ Cancelling) → HasSpelling step → IsHeardBy step.reset c step → HearAlike c q (Step r place step) (taken s (has_bit (bits_of (down_packet (Step r place step)).header.status) 1) (down_packet (Step r place step)).body)
-step_alike s c q r place step m is same phase spelled heard = elim phase [
+step_alike : (s : ClientSession) (c : Connection) (q : Record) (r place : ℕ) (step : answer.Step) → MatchesClient s c → c.current ≡ Some q → r ≡ q.number → (phase_of q ≡ Reading) ⊎ (phase_of q ≡ Cancelling) → HasSpelling step → IsHeardOn c (Step r place step) → IsSaid step → HearAlike c q (Step r place step) (taken s (has_bit (bits_of (down_packet (Step r place step)).header.status) 1) (down_packet (Step r place step)).body)
+step_alike s c q r place step m is same phase spelled heard said = elim phase [
   | inl e ↦
-      let k : IsRead false s c step = step_read false s c step m spelled heard in
+      let k : IsRead false s c step = step_read false s c step m spelled (by_reset false step.reset c step refl heard.0.0 heard.0.1 heard.1 said) in
       at_stage s c q (Step r place step) client.Reading step.last (stage_is s c q Reading m is e) (end_bit step.last)
       (subst (λ x. HearAlike c q (Step r place step) x) (sym (reading_is s c step k))
       (reads_alike step.last s c q r place step refl m is same (stage_is s c q Reading m is e) e k))
   | inr e ↦
-      let k : IsRead true s c step = step_read true s c step m spelled heard in
+      let k : IsRead true s c step = step_read true s c step m spelled (by_reset true step.reset c step refl heard.0.0 heard.0.1 heard.1 said) in
       at_stage s c q (Step r place step) client.Cancelling step.last (stage_is s c q Cancelling m is e) (end_bit step.last)
       (subst (λ x. HearAlike c q (Step r place step) x) (sym (skipping_is s c step k))
       (skips_alike step.last s c q r place step refl m is same (stage_is s c q Cancelling m is e) e k))
@@ -303,5 +304,5 @@ acknowledgement_alike s c q r place m is same phase =
     }))
 
 pub hear_alike : (s : ClientSession) (c : Connection) (q : Record) (e : Down) → MatchesClient s c → c.current ≡ Some q → IsAwaited c q e → HearAlike c q e (taken s (has_bit (bits_of (down_packet e).header.status) 1) (down_packet e).body)
-hear_alike s c q (Step r place step) m is a = step_alike s c q r place step m is a.0 a.1 a.2 a.3
+hear_alike s c q (Step r place step) m is a = step_alike s c q r place step m is a.0 a.1 a.2 a.3 a.4
 hear_alike s c q (Acknowledgement r place) m is a = acknowledgement_alike s c q r place m is a.0 a.1

@@ -45,8 +45,8 @@ ghost use Rattle.tds_world.specs.declared.report.RequestStatus.{RequestStatus};
 
 use tds_session::Engine;
 use tds_world::laws::{
-    act_on_newest, all_in_range, all_welcome, changes_are_heard, engine_is_lawful,
-    engine_stays_in_range, steps_are_of_answers,
+    act_on_newest, all_in_range, all_welcome, changes_are_heard, engine_has_dones,
+    engine_is_lawful, engine_stays_in_range, steps_are_of_answers,
 };
 
 /// A client takes a request exactly where the model does, and then stands for its connection.
@@ -119,7 +119,10 @@ pub fn lends_matching<E: Engine>()
 pub fn answers_are_said<E: Engine>(engine: &E)
     ensures { (s : SessionState) (descriptor : ℕ) (reset : Option Reset) (q : Request)
         → AllByRecursion IsSaid (answer_of (E.statements_of engine.now) (E.step_of engine.now) s descriptor reset q) }
-{}
+{
+    engine_is_lawful(engine);
+    engine_has_dones(engine);
+}
 
 /// A server that is fed the bytes of entries takes those that come whole as the model does, in order,
 /// and is left with what has come of the next one.
