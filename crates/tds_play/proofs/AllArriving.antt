@@ -9,6 +9,8 @@ use Rattle.tds_packet.specs.Reading.{Reading}
 use Rattle.tds_request.specs.declared.request.RequestKind.{RequestKind}
 use Rattle.tds_request.specs.declared.request.RequestKind.TheVariants as requests
 use Rattle.tds_request.specs.Layout.{kind_of_request}
+use Rattle.tds_server.specs.State.{ServerState}
+use Rattle.tds_server.specs.Taking.{taken}
 use Rattle.tds_session.specs.Answer.{Answers}
 use Rattle.tds_world.specs.Arrivals.{server_acts}
 use Rattle.tds_world.specs.Caller.{kind_of_message}
@@ -16,13 +18,14 @@ use Rattle.tds_world.specs.Connection.{Connection, up_underway}
 use Rattle.tds_world.specs.Entries.{Asking, Packet, packet_bytes, Up, Part, End, Drop, Attention, up_packet}
 use Rattle.tds_world.specs.Lane.{passed}
 use Rattle.tds_world.specs.Lawful.{Lawful}
-use Rattle.tds_world.specs.Messages.{bits_behind, IsNext, came_with, AreNextIn, AreWhole}
+use Rattle.tds_world.specs.Messages.{bits_behind, IsSpelled, IsNext, came_with, AreNextIn, AreWhole}
 use Rattle.tds_world.specs.Packets.{IsSized}
 use Rattle.tds_world.specs.Record.{Record}
 use Rattle.tds_world.specs.Welcome.{ServerExpects, WelcomeToServer, WelcomeToClient}
+use Rattle.tds_play.specs.Alike.{ArriveAlike}
 use Rattle.tds_play.specs.Deliveries.{up_coming, AllArrive}
 use Rattle.tds_play.specs.Feeding.{IsComing}
-use Rattle.tds_play.proofs.Arriving.{arrive_alike}
+use Rattle.tds_play.specs.Stands.{MatchesServer}
 
 -- ---- Packets to the server's reader
 
@@ -113,20 +116,26 @@ expects c (End r a p) h = h
 expects c (Drop r p) h = h
 expects c (Attention r) h = h
 
-arrive_on : (E : Type 0) (answers : Answers) (r : Reading) (c : Connection) (es : List Up) (current : Option Record) → Lawful answers → r.direction ≡ ToServer → c.current ≡ current → AreNextIn current c.parts es → WelcomeToServer answers c es → AllByRecursion (λ e. IsSized r.size (up_packet e)) es → AllArrive E answers r c es
-arrive_on E answers r c [] current l to is next welcome sized = tt
-arrive_on E answers r c (e ∷ es) None l to is next welcome sized = absurd (cc)
-arrive_on E answers r c (e ∷ es) (Some q) l to is next welcome sized =
+-- What is promised of one entry: it arrives at a server as in the model.
+abbrev pub ArrivesAlike : Type 0 → Type 0
+ArrivesAlike E =
+    (answers : Answers) (s : ServerState E) (c : Connection) (q : Record) (e : Up) → Lawful answers → MatchesServer s c → c.current ≡ Some q → IsSpelled q.asking → IsNext q.asking c.parts e → ServerExpects c e
+    → ArriveAlike answers c e (taken answers s (up_packet e).header (up_packet e).body)
+
+arrive_on : (E : Type 0) → ArrivesAlike E → (answers : Answers) (r : Reading) (c : Connection) (es : List Up) (current : Option Record) → Lawful answers → r.direction ≡ ToServer → c.current ≡ current → AreNextIn current c.parts es → WelcomeToServer answers c es → AllByRecursion (λ e. IsSized r.size (up_packet e)) es → AllArrive E answers r c es
+arrive_on E one answers r c [] current l to is next welcome sized = tt
+arrive_on E one answers r c (e ∷ es) None l to is next welcome sized = absurd (cc)
+arrive_on E one answers r c (e ∷ es) (Some q) l to is next welcome sized =
     let d : Connection = record c { to_server = passed e c.to_server } in (
       is_coming r q.asking c.parts e to sized.0 (one_of q c.parts e es next),
-      λ s matches. arrive_alike answers s d q e l matches is next.0 (one_of q c.parts e es next) (expects c e welcome.0),
-      arrive_on E answers r (server_acts answers d e) es (server_acts answers d e).current l to refl
+      λ s matches. one answers s d q e l matches is next.0 (one_of q c.parts e es next) (expects c e welcome.0),
+      arrive_on E one answers r (server_acts answers d e) es (server_acts answers d e).current l to refl
           (then_next answers d e es (subst (λ (o : Option Record). AreNextIn o c.parts (e ∷ es)) (sym is) next))
           welcome.1 sized.1,
     )
 
-pub all_arrive : (E : Type 0) (answers : Answers) (r : Reading) (c : Connection) → Lawful answers → r.direction ≡ ToServer → AreWhole c → WelcomeToServer answers c c.to_server.waiting → AllByRecursion (λ e. IsSized r.size (up_packet e)) c.to_server.waiting → AllArrive E answers r c c.to_server.waiting
-all_arrive E answers r c l to whole welcome sized = arrive_on E answers r c c.to_server.waiting c.current l to refl whole welcome sized
+pub all_arrive : (E : Type 0) → ArrivesAlike E → (answers : Answers) (r : Reading) (c : Connection) → Lawful answers → r.direction ≡ ToServer → AreWhole c → WelcomeToServer answers c c.to_server.waiting → AllByRecursion (λ e. IsSized r.size (up_packet e)) c.to_server.waiting → AllArrive E answers r c c.to_server.waiting
+all_arrive E one answers r c l to whole welcome sized = arrive_on E one answers r c c.to_server.waiting c.current l to refl whole welcome sized
 
 -- ---- In every world
 

@@ -6,11 +6,11 @@ use Rattle.tds_packet.specs.declared.kind.Kind.{Kind}
 use Rattle.tds_packet.specs.declared.status.Reset.{Reset}
 use Rattle.tds_packet.specs.declared.status.Reset.TheVariants.{Full, KeepTransaction}
 use Rattle.tds_packet.specs.Layout.{bits_of, has_bit}
+use Rattle.tds_request.specs.declared.request.Request.{Request}
 use Rattle.tds_request.specs.declared.request.RequestKind.{RequestKind}
 use Rattle.tds_request.specs.declared.request.RequestKind.TheVariants as message
-use Rattle.tds_request.specs.Layout.{kind_of_request}
+use Rattle.tds_request.specs.Layout.{IsRequest, kind_of_request}
 use Rattle.tds_request.specs.Reading.{read_request}
-use Rattle.tds_request.proofs.Messages.{spelled_is_read}
 use Rattle.tds_server.specs.declared.outcome.ServerTook.TheVariants as took
 use Rattle.tds_server.specs.Packets.{acknowledgement}
 use Rattle.tds_server.specs.State as server
@@ -31,6 +31,11 @@ use Rattle.tds_world.specs.Messages.{IsSpelled, message_of, bits_behind, IsNext}
 use Rattle.tds_play.specs.Stands.{MatchesServer, MatchesPhase, IsOf, Sends, kind_asked}
 use Rattle.tds_play.proofs.Lanes.{appended, unsent}
 use Rattle.tds_play.proofs.Picks.{pick_true, pick_false}
+
+-- What is promised of reading: a request that a message spells is read of it.
+abbrev pub SpelledIsRead : Type 0
+SpelledIsRead =
+    (kind : RequestKind) (descriptor : ℕ) (request : Request) (bytes : List ℕ) → IsRequest kind descriptor request bytes → read_request kind bytes ≡ Ok (descriptor, request)
 
 -- ---- The bits of a packet
 
@@ -121,15 +126,15 @@ part_goes_on answers session q before body most =
     let short : ltb 4022 (length (before ++ body)) ≡ false = grind (arith, nat_tests, most) in
     pick_false _ _ bits.kept (pick_false _ _ short (pick_false _ _ bits.ends refl))
 
-end_answers : (answers : Answers) (session : SessionState) (q : Record) (before body : List ℕ) → length (before ++ body) ≤ 4022 → before ++ body ≡ message_of q.asking → IsSpelled q.asking → continued answers session (1 + bits_behind before q.asking.mark) body (so_far q before) ≡ Ok (goes_on (server.Answering (answers session q.asking.descriptor q.asking.mark q.asking.request) 1) took.Request)
+end_answers : SpelledIsRead → (answers : Answers) (session : SessionState) (q : Record) (before body : List ℕ) → length (before ++ body) ≤ 4022 → before ++ body ≡ message_of q.asking → IsSpelled q.asking → continued answers session (1 + bits_behind before q.asking.mark) body (so_far q before) ≡ Ok (goes_on (server.Answering (answers session q.asking.descriptor q.asking.mark q.asking.request) 1) took.Request)
 unfolding continued joined
-end_answers answers session q before body most whole spelled =
+end_answers is_read answers session q before body most whole spelled =
     let bits : AreBits true (1 + bits_behind before q.asking.mark) = piece_bits true before q.asking.mark in
     let short : ltb 4022 (length (before ++ body)) ≡ false = grind (arith, nat_tests, most) in
     pick_false _ _ bits.kept (pick_false _ _ short (pick_true _ _ bits.ends
     (ap (λ r. answered answers session q.asking.mark r)
     (ap (λ (x : List ℕ). read_request (kind_of_request q.asking.request) x) whole
-    ∙ spelled_is_read (kind_of_request q.asking.request) q.asking.descriptor q.asking.request (message_of q.asking) spelled))))
+    ∙ is_read (kind_of_request q.asking.request) q.asking.descriptor q.asking.request (message_of q.asking) spelled))))
 
 drop_forgets : (answers : Answers) (session : SessionState) (content : List ℕ) (m : Message) → continued answers session 3 content m ≡ Ok (goes_on server.Waiting took.Dropped)
 unfolding continued ignored
@@ -188,18 +193,18 @@ some_due : (due : List answer.Step) → EndsOnce due → due ≢ []
 some_due [] ends = absurd ends
 some_due (s ∷ ss) ends = λ e. absurd (cc)
 
-pub arrive_alike : {E : Type 0} (answers : Answers) (s : ServerState E) (c : Connection) (q : Record) (e : Up) → Lawful answers → MatchesServer s c → c.current ≡ Some q → IsSpelled q.asking → IsNext q.asking c.parts e → ServerExpects c e → ArriveAlike answers c e (taken answers s (up_packet e).header (up_packet e).body)
-arrive_alike answers s c q (Part r p) w m is spelled next none =
+pub arrive_alike : {E : Type 0} → SpelledIsRead → (answers : Answers) (s : ServerState E) (c : Connection) (q : Record) (e : Up) → Lawful answers → MatchesServer s c → c.current ≡ Some q → IsSpelled q.asking → IsNext q.asking c.parts e → ServerExpects c e → ArriveAlike answers c e (taken answers s (up_packet e).header (up_packet e).body)
+arrive_alike is_read answers s c q (Part r p) w m is spelled next none =
     by_move answers s c (Part r p) (goes_on (server.Receiving (so_far q (c.parts ++ p.body))) took.More)
     (move_is answers s.session s.phase c q p (0 + bits_behind c.parts q.asking.mark) (so_far q c.parts) m.phase next.0.kind next.0.status (message_is false s.phase c q m.phase none is)
     ∙ part_goes_on answers s.session q c.parts p.body next.0.most)
     m.session refl
     (refl, some_behind c.parts p.body next.1, none, subst (λ (o : Option Record). IsOf (so_far q (c.parts ++ p.body)) o) (sym is) (refl, refl))
     (unsent down_bytes c.to_client)
-arrive_alike answers s c q (End r a p) w m is spelled next none =
+arrive_alike is_read answers s c q (End r a p) w m is spelled next none =
     by_move answers s c (End r a p) (goes_on (server.Answering (answers s.session q.asking.descriptor q.asking.mark q.asking.request) 1) took.Request)
     (move_is answers s.session s.phase c q p (1 + bits_behind c.parts q.asking.mark) (so_far q c.parts) m.phase next.0.kind next.0.status (message_is true s.phase c q m.phase none is)
-    ∙ end_answers answers s.session q c.parts p.body next.0.most next.2 spelled)
+    ∙ end_answers is_read answers s.session q c.parts p.body next.0.most next.2 spelled)
     m.session refl (
       refl,
       ap (λ (x : SessionState). answers x q.asking.descriptor q.asking.mark q.asking.request) m.session
@@ -208,14 +213,14 @@ arrive_alike answers s c q (End r a p) w m is spelled next none =
       refl,
     )
     (unsent down_bytes c.to_client)
-arrive_alike answers s c q (Drop r p) w m is spelled next none =
+arrive_alike is_read answers s c q (Drop r p) w m is spelled next none =
     let old : (x : Message) × (message_before s.phase (kind_of_request q.asking.request) 3 ≡ Ok x) = dropped s.phase c q m.phase none is in
     by_move answers s c (Drop r p) (goes_on server.Waiting took.Dropped)
     (move_is answers s.session s.phase c q p 3 old.0 m.phase next.kind next.status old.1 ∙ drop_forgets answers s.session p.body old.0)
     m.session refl
     (refl, none)
     (unsent down_bytes c.to_client)
-arrive_alike answers s c q (Attention r) w m is spelled next none =
+arrive_alike is_read answers s c q (Attention r) w m is spelled next none =
     by_move answers s c (Attention r) (record { phase = server.Waiting; took = took.Acknowledged; reply = acknowledgement (acknowledging_id s.phase) })
     (attention_moves answers s.session s.phase c r m.phase)
     m.session refl

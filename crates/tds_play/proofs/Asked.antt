@@ -27,7 +27,7 @@ use Rattle.tds_play.specs.declared.link.Done.{Done}
 use Rattle.tds_play.specs.declared.link.Link.{Link}
 use Rattle.tds_play.specs.declared.link.Record.{Record}
 use Rattle.tds_play.proofs.Asking.{asked_matches}
-use Rattle.tds_play.proofs.Matching.{server_same}
+use Rattle.tds_play.proofs.Matching.{server_still_matches}
 use Rattle.tds_play.proofs.Placed.{DoesAlike, idle_alike, idle_settled}
 
 -- ---- The requests
@@ -79,7 +79,7 @@ asked_played {E} {S} number size id lease engine q link new pipe c i live idle r
       lives = λ uncut. record {
         stands = record {
           client = subst (λ x. MatchesClient x d) (sym h.client) (asked_matches link.client c id lease number q s.client);
-          server = subst (λ (l : Link E S). MatchesServer l.server d) (sym h.rest) (server_same link.server c d refl refl refl refl (λ m some of. absurd (some rests)) s.server);
+          server = subst (λ (l : Link E S). MatchesServer l.server d) (sym h.rest) (server_still_matches link.server c d refl refl refl refl (λ m some of. absurd (some rests)) s.server);
           up = subst (λ (l : Link E S). IsLane up_bytes (traffic pipe ToServer) c.to_server l.server_reader.taken l.to_server) (sym h.rest) s.up;
           down = subst (λ (l : Link E S). IsLane down_bytes (traffic pipe ToClient) c.to_client l.client_reader.taken l.to_client) (sym h.rest) s.down;
         };

@@ -30,7 +30,7 @@ use Rattle.tds_play.specs.Requests.{IsNewest}
 use Rattle.tds_play.specs.Stands.{IsOf, Sends}
 use Rattle.tds_play.specs.declared.link.Link.{Link}
 use Rattle.tds_play.specs.declared.link.Record.{Record}
-use Rattle.tds_play.proofs.Matching.{client_same, server_same}
+use Rattle.tds_play.proofs.Matching.{client_still_matches, server_still_matches}
 use Rattle.tds_play.proofs.Outward.{HandedUp, sent_played}
 use Rattle.tds_play.proofs.Placed.{idle_alike}
 
@@ -181,8 +181,8 @@ cancelled_at {E} {S} number size engine link new p pipe then c d bytes i live a 
     subst (λ (y : Connection). IsPlayed number size engine new then y) (sym at)
     (sent_played number size engine link new e.session (current_behind e.answer link.current) p pipe then c x bytes i live h refl
     (size_in link.client.stage link.client e a.1)
-    (client_same e.session (cancels c) x refl refl refl a.3)
-    (server_same link.server c x l.session l.parts l.due l.taken (λ m some of. l.of m of) v.server)
+    (client_still_matches e.session (cancels c) x refl refl refl a.3)
+    (server_still_matches link.server c x l.session l.parts l.due l.taken (λ m some of. l.of m of) v.server)
     (subst (λ (bs : List ℕ). Sends up_bytes bs c.to_server (cancels c).to_server) (sym out) a.4)
     l.below l.past
     (newest_in c.current e.answer number link.current c refl a.2 (subst (λ (b : Bool). IsNewest number b link.current c.current) live i.newest))

@@ -19,17 +19,11 @@ use Rattle.tds_play.specs.Feeding.{IsComing, IsBegun, Listened, listened, on_tak
 use Rattle.tds_play.specs.Hearing.{HearAlike, IsTold, status_after}
 use Rattle.tds_play.specs.Stands.{MatchesClient}
 use Rattle.tds_play.proofs.Cuts.{cut_inside, cut_behind, begun_by}
+use Rattle.tds_play.proofs.Matching.{client_still_matches}
 
 -- A client sees nothing of what is underway to it.
 matches_on : (s : ClientSession) (c : Connection) (lane : Lane Down) → MatchesClient s c → MatchesClient s (record c { to_client = lane })
-matches_on s c lane m = record {
-  stage = m.stage;
-  descriptor = m.descriptor;
-  mark = m.mark;
-  done = m.done;
-  columns = m.columns;
-  begins = m.begins;
-}
+matches_on s c lane m = client_still_matches s c (record c { to_client = lane }) refl refl refl m
 
 -- Nothing was told.
 untold : (c d : Connection) (s : ClientSession) (settled : Option RequestStatus) (told : List Token) → d.current ≡ c.current → TellsMore c d settled told (record { session = s; settled = settled; told = told })

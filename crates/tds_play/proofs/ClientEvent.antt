@@ -3,7 +3,6 @@ use Rattle.std.proofs.Common.{◌≡◌, ◌∙◌, ◌+◌, ◌-◌, inl, inr, 
 use Rattle.std.specs.Prelude.{is_none}
 use Rattle.tds_client.specs.Session.{ClientSession, unless_idle}
 use Rattle.tds_packet.specs.declared.kind.Direction.TheVariants.{ToServer, ToClient}
-use Rattle.tds_server.specs.State as server
 use Rattle.tds_server.specs.State.{ServerState}
 use Rattle.tds_world.specs.Arrivals.{client_acts, reach_client, to_client, drains, drained}
 use Rattle.tds_world.specs.Connection.{Connection, Standing, In, down_underway, is_idle}
@@ -19,10 +18,11 @@ use Rattle.tds_play.specs.declared.link.Link.{Link}
 use Rattle.tds_play.specs.Links.{drained_at}
 use Rattle.tds_play.specs.Listening.{told_in}
 use Rattle.tds_play.specs.Pipe.{Pipe, traffic, carried, next_of}
-use Rattle.tds_play.specs.Stands.{MatchesClient, MatchesServer, MatchesPhase}
+use Rattle.tds_play.specs.Stands.{MatchesClient, MatchesServer}
 use Rattle.tds_play.proofs.Between.{offered_front, lane_delivered}
 use Rattle.tds_play.proofs.ClientDelivery.{listen_alike}
 use Rattle.tds_play.proofs.Kept.{hears_kept}
+use Rattle.tds_play.proofs.Matching.{client_still_matches, server_still_matches}
 use Rattle.tds_play.proofs.Phases.{idle_in}
 
 -- ---- What comes is heard
@@ -40,14 +40,8 @@ come_heard link pipe c most n s count all =
 -- ---- The server is as it was
 
 -- A server sees nothing of what is underway to the client, nor where the connection stands.
-phase_on : (phase : server.Phase) (c : Connection) (lane : Lane Down) (standing : Standing) → MatchesPhase phase c → MatchesPhase phase (record c { to_client = lane; standing = standing })
-phase_on server.Waiting c lane standing m = m
-phase_on (server.Receiving message) c lane standing m = m
-phase_on (server.Answering due id) c lane standing m = m
-phase_on (server.Broken fault) c lane standing m = m
-
 seen_on : {E : Type 0} (s : ServerState E) (c : Connection) (lane : Lane Down) (standing : Standing) → MatchesServer s c → MatchesServer s (record c { to_client = lane; standing = standing })
-seen_on s c lane standing m = record { session = m.session; phase = phase_on s.phase c lane standing m.phase }
+seen_on s c lane standing m = server_still_matches s c (record c { to_client = lane; standing = standing }) refl refl refl refl (λ message some of. of) m
 
 either : {E : Type 0} (b : Bool) (s : ServerState E) (x y : Connection) → MatchesServer s x → MatchesServer s y → MatchesServer s (cond b x y)
 either true s x y f g = f
@@ -147,7 +141,7 @@ heard_alike old new pipe after c most n session left s count lanes m rest h =
     let d : Connection = reach_client c c.to_client.waiting k in
     let w : Connection = to_client most c in
     let beside = reach_beside c c.to_client.waiting k in
-    let drained_too : MatchesClient session w = record { stage = m.stage; descriptor = m.descriptor; mark = m.mark; done = m.done; columns = m.columns; begins = m.begins } in
+    let drained_too : MatchesClient session w = client_still_matches session d w refl refl refl m in
     let stays : MatchesServer old.server w = seen_on old.server d d.to_client w.standing (server_stays old.server c c.to_client.waiting k s.server) in
     let up : IsLane up_bytes (traffic pipe ToServer) w.to_server old.server_reader.taken old.to_server = subst (λ (l : Lane Up). IsLane up_bytes (traffic pipe ToServer) l old.server_reader.taken old.to_server) (sym beside.to_server) s.up in
     let down : IsLane down_bytes (carried (traffic pipe ToClient) (next_of (traffic pipe ToClient) (min most old.to_client))) w.to_client left (old.to_client - min most old.to_client) = lane_delivered down_bytes most (traffic pipe ToClient) c.to_client w.to_client old.client_reader.taken left old.to_client s.down lanes rest in

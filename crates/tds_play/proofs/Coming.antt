@@ -1,23 +1,23 @@
 -- Whatever waits for a client comes as packets that it hears as the model does.
-use Rattle.std.proofs.Common.{◌≡◌, ◌≤◌, ℕ, List, [], ◌∷◌, ◌++◌, length, inl, inr, Bool, true, false, cond, refl, sym, ap, subst, Option, Some, None, arith, lit≤}
+use Rattle.std.proofs.Common.{◌≡◌, ◌≤◌, ℕ, List, [], ◌∷◌, ◌++◌, length, inl, inr, Bool, true, false, cond, refl, sym, ap, subst, Some, arith, lit≤}
 use Rattle.std.specs.List.{AllByRecursion}
 use Rattle.std.specs.Prelude.{◌⊎◌, flat_map}
+use Rattle.tds_client.specs.Session.{ClientSession}
+use Rattle.tds_client.specs.Taking.{taken}
 use Rattle.tds_packet.specs.declared.kind.Direction.TheVariants.{ToClient}
 use Rattle.tds_packet.specs.declared.kind.Kind.TheVariants as kind
 use Rattle.tds_packet.specs.declared.status.Reset.{Reset}
-use Rattle.tds_packet.specs.Layout.{IsPacket, is_status}
+use Rattle.tds_packet.specs.Layout.{IsPacket, bits_of, has_bit, is_status}
 use Rattle.tds_packet.specs.Reading.{Reading}
-use Rattle.tds_request.specs.declared.request.Request.{Request}
 use Rattle.tds_session.specs.Answer as answer
 use Rattle.tds_session.specs.Answer.{Answers}
-use Rattle.tds_session.specs.Session.{SessionState}
 use Rattle.tds_token.specs.Layout.{spelling}
 use Rattle.tds_world.specs.declared.event.Setup.{Setup}
-use Rattle.tds_world.specs.Arrivals.{client_acts, heard_after}
+use Rattle.tds_world.specs.Arrivals.{client_acts}
 use Rattle.tds_world.specs.Connection.{Connection, phase}
-use Rattle.tds_world.specs.Entries.{Down, Step, Acknowledgement, packet, packet_bytes}
+use Rattle.tds_world.specs.Entries.{Down, Step, Acknowledgement, down_packet, packet, packet_bytes}
 use Rattle.tds_world.specs.Bounds.{IsSetup}
-use Rattle.tds_world.specs.Heard.{Meets, IsHeardOn, AreHeardOn, ChangesAreHeard}
+use Rattle.tds_world.specs.Heard.{IsHeardOn, AreHeardOn, ChangesAreHeard}
 use Rattle.tds_world.specs.Lane.{passed}
 use Rattle.tds_world.specs.Laws.{OfEachConnection}
 use Rattle.tds_world.specs.Newest.{HearsOfNewest, ActsOnNewest, ActOnNewest, request_of}
@@ -30,19 +30,15 @@ use Rattle.tds_world.specs.Welcome.{ClientExpects, WelcomeToServer, WelcomeToCli
 use Rattle.tds_world.specs.World.{World}
 use Rattle.tds_play.specs.Deliveries.{down_coming, AllHeard}
 use Rattle.tds_play.specs.Feeding.{IsComing}
-use Rattle.tds_play.specs.Hearing.{IsSaid, IsSaidBy, IsHeardBy, IsAwaited}
-use Rattle.tds_play.proofs.Hearing.{hear_alike}
+use Rattle.tds_play.specs.Hearing.{IsSaid, IsAwaited, HearAlike}
+use Rattle.tds_play.specs.Stands.{MatchesClient}
+use Rattle.tds_play.proofs.Said.{AreSaid}
 
 -- ---- What a step says
 
 said_at : (before : List answer.Step) (s : answer.Step) (after : List answer.Step) → AllByRecursion IsSaid (before ++ s ∷ after) → IsSaid s
 said_at [] s after h = h.0
 said_at (t ∷ ts) s after h = said_at ts s after h.1
-
--- Each answer's steps are said.
-abbrev pub AreSaid : Answers → Type 0
-AreSaid answers =
-    (s : SessionState) (descriptor : ℕ) (reset : Option Reset) (q : Request) → AllByRecursion IsSaid (answers s descriptor reset q)
 
 of_answer : (answers : Answers) (s : answer.Step) → AreSaid answers → IsStepOf answers s → IsSaid s
 of_answer answers s a h =
@@ -60,10 +56,6 @@ waiting_of P (Step r i s ∷ es) waiting h = waiting_of P es waiting h.1
 waiting_of P (Acknowledgement r i ∷ es) waiting h = waiting_of P es waiting h
 
 -- ---- It is awaited
-
-heard_by : (o : Option Reset) (c : Connection) (s : answer.Step) → (descriptor : ℕ) → heard_after c.heard s ≡ Some descriptor → Meets c.mark o → IsSaidBy o s → IsHeardBy o c s
-heard_by None c s d e m a = (d, e, a)
-heard_by (Some r) c s d e m a = (a.0, a.1, m)
 
 answered : (p : Phase) (r i : ℕ) (s : answer.Step) → ClientExpects (state_of p) (Step r i s) → (p ≡ phases.Reading) ⊎ (p ≡ Cancelling)
 answered Settled r i s h = absurd h
@@ -85,7 +77,7 @@ FirstOf P (Step r i s) = P s
 FirstOf P (Acknowledgement r i) = Unit {0}
 
 awaited : (c : Connection) (q : Record) (e : Down) → c.current ≡ Some q → request_of e ≡ q.number → ClientExpects (state_of (phase_of q)) e → IsHeardOn c e → FirstOf FitsStep e → FirstOf IsSaid e → IsAwaited c q e
-awaited c q (Step r i s) e n x h f a = (n, answered (phase_of q) r i s x, (f.columns, f.spelled), heard_by s.reset c s h.0.0 h.0.1 h.1 a)
+awaited c q (Step r i s) e n x h f a = (n, answered (phase_of q) r i s x, f.spelled, h, a)
 awaited c q (Acknowledgement r i) e n x h f a = (n, acknowledged (phase_of q) r i x)
 
 -- ---- It is a packet
@@ -119,9 +111,15 @@ first_of P (Acknowledgement r i) es h = (tt, h)
 in_phase : (c : Connection) (q : Record) (e : Down) → c.current ≡ Some q → ClientExpects (state_of (phase c)) e → ClientExpects (state_of (phase_of q)) e
 in_phase c q e same x = subst (λ o. ClientExpects (state_of (phase_in o)) e) same x
 
-pub all_heard : (r : Reading) (c : Connection) (es : List Down) → r.direction ≡ ToClient → 512 ≤ r.size → WelcomeToClient c es → HearsOfNewest c es → AreHeardOn c es → OfSteps FitsStep es → OfSteps IsSaid es → AllHeard r c es
-all_heard r c [] d size w n h f a = tt
-all_heard r c (e ∷ es) d size w n h f a =
+-- What is promised of one entry: a client hears it as the model does.
+abbrev pub HearsAlike : Type 0
+HearsAlike =
+    (s : ClientSession) (c : Connection) (q : Record) (e : Down) → MatchesClient s c → c.current ≡ Some q → IsAwaited c q e
+    → HearAlike c q e (taken s (has_bit (bits_of (down_packet e).header.status) 1) (down_packet e).body)
+
+pub all_heard : HearsAlike → (r : Reading) (c : Connection) (es : List Down) → r.direction ≡ ToClient → 512 ≤ r.size → WelcomeToClient c es → HearsOfNewest c es → AreHeardOn c es → OfSteps FitsStep es → OfSteps IsSaid es → AllHeard r c es
+all_heard hears r c [] d size w n h f a = tt
+all_heard hears r c (e ∷ es) d size w n h f a =
     let one : FirstOf FitsStep e × OfSteps FitsStep es = first_of FitsStep e es f in
     let says : FirstOf IsSaid e × OfSteps IsSaid es = first_of IsSaid e es a in
     let b : Connection = record c { to_client = passed e c.to_client } in (
@@ -129,10 +127,10 @@ all_heard r c (e ∷ es) d size w n h f a =
       λ s m. (
         n.0.request,
         n.0.newest,
-        hear_alike s b n.0.request e m n.0.newest
+        hears s b n.0.request e m n.0.newest
             (awaited b n.0.request e n.0.newest n.0.same (in_phase c n.0.request e n.0.newest w.0.0) h.0 one.0 says.0),
       ),
-      all_heard r (client_acts b e) es d size w.1 n.1 h.1 one.1 says.1,
+      all_heard hears r (client_acts b e) es d size w.1 n.1 h.1 one.1 says.1,
     )
 
 -- ---- In every world
@@ -140,19 +138,19 @@ all_heard r c (e ∷ es) d size w n h f a =
 abbrev Hears : ℕ → Connection → Type 0
 Hears size c = (r : Reading) → r.direction ≡ ToClient → r.size ≡ size → AllHeard r c c.to_client.waiting
 
-on_one : (answers : Answers) (size : ℕ) (c : Connection) → 512 ≤ size → AreSaid answers → WelcomeToClient c c.to_client.waiting → ActsOnNewest c → AreHeardOn c c.to_client.waiting → IsInRange c → OfSteps (IsStepOf answers) (sent_down c) → Hears size c
-on_one answers size c least a w n h f o r d same =
-    all_heard r c c.to_client.waiting d (subst (λ x. 512 ≤ x) (sym same) least) w n.hears h
+on_one : HearsAlike → (answers : Answers) (size : ℕ) (c : Connection) → 512 ≤ size → AreSaid answers → WelcomeToClient c c.to_client.waiting → ActsOnNewest c → AreHeardOn c c.to_client.waiting → IsInRange c → OfSteps (IsStepOf answers) (sent_down c) → Hears size c
+on_one hears answers size c least a w n h f o r d same =
+    all_heard hears r c c.to_client.waiting d (subst (λ x. 512 ≤ x) (sym same) least) w n.hears h
     (waiting_of FitsStep c.to_client.arrived c.to_client.waiting f.sent)
     (all_said answers c.to_client.waiting a (waiting_of (IsStepOf answers) c.to_client.arrived c.to_client.waiting o))
 
-on_each : (answers : Answers) (size : ℕ) (cs : List Connection) → 512 ≤ size → AreSaid answers
+on_each : HearsAlike → (answers : Answers) (size : ℕ) (cs : List Connection) → 512 ≤ size → AreSaid answers
     → AllByRecursion (λ c. WelcomeToServer answers c c.to_server.waiting × WelcomeToClient c c.to_client.waiting) cs
     → AllByRecursion ActsOnNewest cs → AllByRecursion (λ c. AreHeardOn c c.to_client.waiting) cs → AllByRecursion IsInRange cs
     → AllByRecursion (λ c. OfSteps (IsStepOf answers) (sent_down c) × AllByRecursion (IsStepOf answers) c.due) cs → AllByRecursion (Hears size) cs
-on_each answers size [] least a w n h f o = tt
-on_each answers size (c ∷ cs) least a w n h f o =
-    (on_one answers size c least a w.0.1 n.0 h.0 f.0 o.0.0, on_each answers size cs least a w.1 n.1 h.1 f.1 o.1)
+on_each hears answers size [] least a w n h f o = tt
+on_each hears answers size (c ∷ cs) least a w n h f o =
+    (on_one hears answers size c least a w.0.1 n.0 h.0 f.0 o.0.0, on_each hears answers size cs least a w.1 n.1 h.1 f.1 o.1)
 
-pub worlds_hear : (setup : Setup) (answers : Answers) (w : World) → IsSetup setup → AreSaid answers → AllWelcome answers w → ActOnNewest w → ChangesAreHeard w → AllInRange w → StepsAreOfAnswers answers w → OfEachConnection (Hears setup.packet_size) w
-worlds_hear setup answers w s a e n h f o = on_each answers setup.packet_size w.connections s.packet_least a e n h f o
+pub worlds_hear : HearsAlike → (setup : Setup) (answers : Answers) (w : World) → IsSetup setup → AreSaid answers → AllWelcome answers w → ActOnNewest w → ChangesAreHeard w → AllInRange w → StepsAreOfAnswers answers w → OfEachConnection (Hears setup.packet_size) w
+worlds_hear hears setup answers w s a e n h f o = on_each hears answers setup.packet_size w.connections s.packet_least a e n h f o

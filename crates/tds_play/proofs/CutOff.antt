@@ -9,7 +9,7 @@ use Rattle.tds_play.specs.Lending.{standing_by}
 use Rattle.tds_play.specs.Links.{lost_record, lost_status}
 use Rattle.tds_play.specs.Pipe.{Pipe, traffic, cut_pipe}
 use Rattle.tds_play.specs.Plays.{IsPlayed}
-use Rattle.tds_play.specs.Requests.{IsRequest, AreOlder, IsNewest}
+use Rattle.tds_play.specs.Requests.{MatchesRecord, AreOlder, IsNewest}
 use Rattle.tds_play.specs.declared.link.Link.{Link}
 use Rattle.tds_play.specs.declared.link.Record.{Record}
 
@@ -40,7 +40,7 @@ older_cut number [] [] h = tt
 older_cut number [] (q ∷ qs) h = absurd h
 older_cut number (r ∷ rs) [] h = absurd h
 older_cut number (r ∷ rs) (q ∷ qs) h =
-    let i : IsRequest number false r q = h.0.0 in (
+    let i : MatchesRecord number false r q = h.0.0 in (
       (
         record {
           lease = i.lease;

@@ -1,6 +1,7 @@
 -- What a client hears of a step's tokens.
-use Rattle.std.proofs.Common.{◌≡◌, ◌∙◌, ℕ, Bool, true, false, refl, sym, ap, Option, Some, None, List, [], ◌∷◌, ◌++◌, append-nil, eqb}
-use Rattle.std.specs.List.{AllByRecursion}
+use Rattle.std.proofs.Common.{◌≡◌, ◌∙◌, ℕ, Bool, true, false, refl, sym, ap, Option, Some, None, List, [], ◌∷◌, ◌++◌, append-nil, eqb, length, ◌<◌, arith}
+use Rattle.std.proofs.lemmas.List.Elements.{All-tail}
+use Rattle.std.specs.List.{All, AllByRecursion}
 use Rattle.std.specs.Prelude.{Ok, bit_and}
 use Rattle.tds_client.specs.declared.heard.Heard.{Heard}
 use Rattle.tds_client.specs.declared.heard.FinalDone.{FinalDone}
@@ -15,7 +16,7 @@ use Rattle.tds_token.specs.declared.token.Token.{Token}
 use Rattle.tds_token.specs.declared.token.Token.TheVariants as tokens
 use Rattle.tds_token.specs.Contents.{Contents}
 use Rattle.tds_token.specs.Told.{changes_of, applied, applied_on, change_applied, no_reset}
-use Rattle.tds_play.specs.Hearing.{IsFinal, HasDones}
+use Rattle.tds_world.specs.Dones.{IsFinal, DonesBy}
 use Rattle.tds_play.proofs.Picks.{pick_true, pick_false}
 
 -- Between two entries.
@@ -47,15 +48,10 @@ unfolding hear_done
 done_heard cancelling x mark status more none =
     pick_false _ _ (ap (λ (n : ℕ). eqb n 32) none) (pick_true _ _ (ap (λ (n : ℕ). eqb n 1) more) refl)
 
-final_heard : (cancelling : Bool) (x : ℕ) (mark : Option Reset) (t : Token) → IsFinal t → hear cancelling (at x mark) t ≡ Ok (behind x mark true)
-unfolding hear hear_done
-final_heard cancelling x mark (tokens.Done status cur_cmd rows) f = pick_false _ _ f.1 (pick_false _ _ f.0 refl)
-final_heard cancelling x mark (tokens.Info m) f = absurd f
-final_heard cancelling x mark (tokens.Error m) f = absurd f
-final_heard cancelling x mark (tokens.ReturnStatus v) f = absurd f
-final_heard cancelling x mark (tokens.Columns cs) f = absurd f
-final_heard cancelling x mark (tokens.Row vs) f = absurd f
-final_heard cancelling x mark (tokens.Env e) f = absurd f
+final_heard : (cancelling : Bool) (x : ℕ) (mark : Option Reset) (status : ℕ) → IsFinal status → hear_done cancelling (at x mark) status ≡ Ok (behind x mark true)
+unfolding hear_done
+final_heard cancelling x mark status f =
+    pick_false _ _ (ap (λ (n : ℕ). eqb n 32) f.1) (pick_false _ _ (ap (λ (n : ℕ). eqb n 1) f.0) refl)
 
 -- Tokens of a statement, and then others.
 front_heard : (cancelling : Bool) (x d : ℕ) (mark : Option Reset) (ts rest : List Token) → applied no_reset x (changes_of ts) ≡ Some d → AllByRecursion IsStatementDone ts → hear_all cancelling (at x mark) (ts ++ rest) ≡ hear_all cancelling (at d mark) rest
@@ -75,29 +71,29 @@ front_heard cancelling x d mark (tokens.Done status cur_cmd rows ∷ ts) rest e 
     ∙ front_heard cancelling x d mark ts rest e a.1
 
 -- The final DONE tells no change.
-changes_before : (front : List Token) (final : Token) → IsFinal final → changes_of (front ++ final ∷ []) ≡ changes_of front
-changes_before [] (tokens.Done status cur_cmd rows) f = refl
-changes_before [] (tokens.Info m) f = refl
-changes_before [] (tokens.Error m) f = refl
-changes_before [] (tokens.ReturnStatus v) f = refl
-changes_before [] (tokens.Columns cs) f = refl
-changes_before [] (tokens.Row vs) f = refl
-changes_before [] (tokens.Env e) f = absurd f
-changes_before (tokens.Info m ∷ ts) final f = changes_before ts final f
-changes_before (tokens.Error m ∷ ts) final f = changes_before ts final f
-changes_before (tokens.ReturnStatus v ∷ ts) final f = changes_before ts final f
-changes_before (tokens.Columns cs ∷ ts) final f = changes_before ts final f
-changes_before (tokens.Row vs ∷ ts) final f = changes_before ts final f
-changes_before (tokens.Env e ∷ ts) final f = ap (λ (es : List EnvChange). e ∷ es) (changes_before ts final f)
-changes_before (tokens.Done status cur_cmd rows ∷ ts) final f = changes_before ts final f
+changes_before : (front : List Token) (status cur_cmd rows : ℕ) → changes_of (front ++ tokens.Done status cur_cmd rows ∷ []) ≡ changes_of front
+changes_before [] status cur_cmd rows = refl
+changes_before (tokens.Info m ∷ ts) status cur_cmd rows = changes_before ts status cur_cmd rows
+changes_before (tokens.Error m ∷ ts) status cur_cmd rows = changes_before ts status cur_cmd rows
+changes_before (tokens.ReturnStatus v ∷ ts) status cur_cmd rows = changes_before ts status cur_cmd rows
+changes_before (tokens.Columns cs ∷ ts) status cur_cmd rows = changes_before ts status cur_cmd rows
+changes_before (tokens.Row vs ∷ ts) status cur_cmd rows = changes_before ts status cur_cmd rows
+changes_before (tokens.Env e ∷ ts) status cur_cmd rows = ap (λ (es : List EnvChange). e ∷ es) (changes_before ts status cur_cmd rows)
+changes_before (tokens.Done s c r ∷ ts) status cur_cmd rows = changes_before ts status cur_cmd rows
+
+each : (ts : List Token) → All IsStatementDone ts → AllByRecursion IsStatementDone ts
+each [] h = tt
+each (t ∷ ts) h = (let some : 0 < length (t ∷ ts) = omega arith in h 0 t some, each ts (All-tail IsStatementDone t ts h))
 
 -- All tokens of a step without a reset.
-pub tokens_heard : (cancelling last : Bool) (x d : ℕ) (mark : Option Reset) (ts : List Token) → applied no_reset x (changes_of ts) ≡ Some d → HasDones last ts → hear_all cancelling (at x mark) ts ≡ Ok (behind d mark last)
-tokens_heard cancelling false x d mark ts e a =
-    ap (λ (all : List Token). hear_all cancelling (at x mark) all) (sym (append-nil ts)) ∙ front_heard cancelling x d mark ts [] e a
-tokens_heard cancelling true x d mark ts e a =
+pub tokens_heard : (cancelling last : Bool) (x d cur_cmd rows : ℕ) (mark : Option Reset) (ts : List Token) → applied no_reset x (changes_of ts) ≡ Some d → DonesBy cur_cmd rows last ts → hear_all cancelling (at x mark) ts ≡ Ok (behind d mark last)
+unfolding hear
+tokens_heard cancelling false x d cur_cmd rows mark ts e a =
+    ap (λ (all : List Token). hear_all cancelling (at x mark) all) (sym (append-nil ts)) ∙ front_heard cancelling x d mark ts [] e (each ts a)
+tokens_heard cancelling true x d cur_cmd rows mark ts e a =
+    let final : Token = tokens.Done a.1 cur_cmd rows in
     ap (λ (all : List Token). hear_all cancelling (at x mark) all) a.2
-    ∙ (front_heard cancelling x d mark a.0 (a.1 ∷ []) (ap (λ (es : List EnvChange). applied no_reset x es) (sym (ap changes_of a.2 ∙ changes_before a.0 a.1 a.4)) ∙ e) a.3
+    ∙ (front_heard cancelling x d mark a.0 (final ∷ []) (ap (λ (es : List EnvChange). applied no_reset x es) (sym (ap changes_of a.2 ∙ changes_before a.0 a.1 cur_cmd rows)) ∙ e) (each a.0 a.3)
     ∙ ap (λ r. r >>= λ next. hear_all cancelling next []) (final_heard cancelling d mark a.1 a.4))
 
 -- The end of a reset that was asked for.

@@ -17,19 +17,27 @@ use Rattle.tds_token.specs.declared.env_change.EnvChange.TheVariants.{ResetDone}
 use Rattle.tds_token.specs.declared.token.Token.{Token}
 use Rattle.tds_token.specs.declared.token.Token.TheVariants as tokens
 use Rattle.tds_token.specs.Contents.{Contents, contents_of}
-use Rattle.tds_token.specs.Layout.{Fits, is_done_status, spelling}
+use Rattle.tds_token.specs.Layout.{Fits, IsTokens, is_done_status, spelling}
 use Rattle.tds_token.specs.Texts.{AreColumns}
 use Rattle.tds_token.specs.Told.{told, changes_of, applied}
 use Rattle.tds_world.specs.declared.report.RequestStatus.TheVariants as shown
 use Rattle.tds_world.specs.Arrivals.{client_acts, heard_after, mark_after, reset_effect}
 use Rattle.tds_world.specs.Connection.{Connection}
 use Rattle.tds_world.specs.Entries.{Down, Step, Acknowledgement, down_packet}
+use Rattle.tds_world.specs.Heard.{Meets, IsHeardOn}
 use Rattle.tds_world.specs.Phase.{Phase, Settled, Reading, Cancelling, phase_by, phase_of, status_by, status_of}
 use Rattle.tds_world.specs.Record.{Record, Out, NotBegun, Begun, Whole, gives, acknowledges, when, if_numbered}
-use Rattle.tds_play.specs.Hearing.{HasSpelling, IsHeardBy, IsAwaited, HearAlike}
+use Rattle.tds_world.specs.Sessions.{HasSpelling}
+use Rattle.tds_play.specs.Hearing.{IsSaid, IsSaidBy, IsAwaited, HearAlike}
 use Rattle.tds_play.specs.Stands.{MatchesClient, BeginsBy, BeginsIn, stage_by, stage_in}
-use Rattle.tds_play.proofs.Contents.{AreGood, are_good, known_behind, contents_are}
 use Rattle.tds_play.proofs.Heard.{at, behind, descriptor_behind, tokens_heard, reset_heard, packet_heard}
+
+-- What is promised of reading: tokens that are spelled where no columns are known are spelled under
+-- any, they are read again then, all of them, and columns are known behind them.
+pub record AreRead : Type 0 where
+  pub contents : (columns : Option ℕ) (ts : List Token) (bytes : List ℕ) (after : Option ℕ) → IsTokens columns ts bytes after → contents_of columns bytes ≡ record { tokens = ts; fault = None; columns = after }
+  pub known : (columns : Option ℕ) (ts : List Token) (bytes : List ℕ) (after : Option ℕ) → AreColumns columns → IsTokens columns ts bytes after → AreColumns after
+  pub anywhere : (columns : Option ℕ) (ts : List Token) (bytes : List ℕ) (after : Option ℕ) → IsTokens None ts bytes after → (behind : Option ℕ) × IsTokens columns ts bytes behind
 
 -- ---- What the client hears
 
@@ -43,26 +51,26 @@ reset_applied : (r : Reset) (x : ℕ) → applied (reset_effect (Some r)) x (Res
 reset_applied Full x = refl
 reset_applied KeepTransaction x = refl
 
-by_reset : (cancelling : Bool) (r : Option Reset) (c : Connection) (s : answer.Step) → s.reset ≡ r → IsHeardBy r c s → IsHeard cancelling c s
-by_reset cancelling None c s is h = record {
-  descriptor = h.0;
-  applies = h.1;
+by_reset : (cancelling : Bool) (r : Option Reset) (c : Connection) (s : answer.Step) → s.reset ≡ r → (d : ℕ) → heard_after c.heard s ≡ Some d → Meets c.mark r → IsSaidBy r s → IsHeard cancelling c s
+by_reset cancelling None c s is d e m a = record {
+  descriptor = d;
+  applies = e;
   hears = λ contents same none.
-      packet_heard cancelling s.last (at c.heard c.mark) h.0 (mark_after s.reset c.mark) contents none
+      packet_heard cancelling s.last (at c.heard c.mark) d (mark_after s.reset c.mark) contents none
       (ap (λ (ts : List Token). hear_all cancelling (at c.heard c.mark) ts) same
-      ∙ (tokens_heard cancelling s.last c.heard h.0 c.mark s.tokens
-      (ap (λ (o : Option Reset). applied (reset_effect o) c.heard (changes_of s.tokens)) (sym is) ∙ h.1) h.2
-      ∙ ap (λ (o : Option Reset). Ok (behind h.0 (mark_after o c.mark) s.last)) (sym is)));
+      ∙ (tokens_heard cancelling s.last c.heard d a.0 a.1 c.mark s.tokens
+      (ap (λ (o : Option Reset). applied (reset_effect o) c.heard (changes_of s.tokens)) (sym is) ∙ e) a.2
+      ∙ ap (λ (o : Option Reset). Ok (behind d (mark_after o c.mark) s.last)) (sym is)));
 }
-by_reset cancelling (Some r) c s is h = record {
+by_reset cancelling (Some r) c s is d e m a = record {
   descriptor = descriptor_behind r c.heard;
-  applies = ap (λ (o : Option Reset). applied (reset_effect o) c.heard (changes_of s.tokens)) is ∙ (ap (λ (ts : List Token). applied (reset_effect (Some r)) c.heard (changes_of ts)) h.0 ∙ reset_applied r c.heard);
+  applies = ap (λ (o : Option Reset). applied (reset_effect o) c.heard (changes_of s.tokens)) is ∙ (ap (λ (ts : List Token). applied (reset_effect (Some r)) c.heard (changes_of ts)) a.0 ∙ reset_applied r c.heard);
   hears = λ contents same none.
       packet_heard cancelling s.last (at c.heard c.mark) (descriptor_behind r c.heard) (mark_after s.reset c.mark) contents none
-      (ap (λ (ts : List Token). hear_all cancelling (at c.heard c.mark) ts) (same ∙ h.0)
-      ∙ (ap (λ (m : Option Reset). hear_all cancelling (at c.heard m) (tokens.Env ResetDone ∷ [])) h.2
+      (ap (λ (ts : List Token). hear_all cancelling (at c.heard c.mark) ts) (same ∙ a.0)
+      ∙ (ap (λ (m : Option Reset). hear_all cancelling (at c.heard m) (tokens.Env ResetDone ∷ [])) m
       ∙ (reset_heard cancelling c.heard r
-      ∙ (ap (λ (b : Bool). Ok (behind (descriptor_behind r c.heard) None b)) (sym h.1)
+      ∙ (ap (λ (b : Bool). Ok (behind (descriptor_behind r c.heard) None b)) (sym a.1)
       ∙ ap (λ (o : Option Reset). Ok (behind (descriptor_behind r c.heard) (mark_after o c.mark) s.last)) (sym is)))));
 }
 
@@ -84,13 +92,13 @@ record IsRead (cancelling : Bool) (s : ClientSession) (c : Connection) (step : a
   tokens : (contents_of s.columns (flat_map spelling step.tokens)).tokens ≡ step.tokens
   hears : hear_packet cancelling s.heard step.last (contents_of s.columns (flat_map spelling step.tokens)) ≡ Ok (behind heard.descriptor (mark_after step.reset c.mark) step.last)
 
-step_read : (cancelling : Bool) (s : ClientSession) (c : Connection) (step : answer.Step) → MatchesClient s c → HasSpelling step → IsHeardBy step.reset c step → IsRead cancelling s c step
-step_read cancelling s c step m spelled h =
-    let heard : IsHeard cancelling c step = by_reset cancelling step.reset c step refl h in
-    let good : AreGood s.columns step.tokens = are_good None s.columns step.tokens (flat_map spelling step.tokens) spelled.0 (inl refl) spelled.1 in
-    let all = contents_are s.columns step.tokens good in record {
+step_read : AreRead → (cancelling : Bool) (s : ClientSession) (c : Connection) (step : answer.Step) → MatchesClient s c → HasSpelling step → IsHeard cancelling c step → IsRead cancelling s c step
+step_read again cancelling s c step m spelled heard =
+    let bytes : List ℕ = flat_map spelling step.tokens in
+    let here = again.anywhere s.columns step.tokens bytes spelled.0 spelled.1 in
+    let all = again.contents s.columns step.tokens bytes here.0 here.1 in record {
       heard = heard;
-      known = subst AreColumns (sym (ap (λ (x : Contents). x.columns) all)) (known_behind s.columns step.tokens m.columns good);
+      known = subst AreColumns (sym (ap (λ (x : Contents). x.columns) all)) (again.known s.columns step.tokens bytes here.0 m.columns here.1);
       tokens = ap (λ (x : Contents). x.tokens) all;
       hears =
           ap (λ (x : Heard). hear_packet cancelling x step.last (contents_of s.columns (flat_map spelling step.tokens))) (same_heard s.heard c.heard c.mark m.descriptor m.mark m.done)
@@ -243,15 +251,15 @@ at_stage s c q e stage last is bit h =
     subst (λ (x : client.Stage). HearAlike c q e (taken_in x s (has_bit (bits_of (down_packet e).header.status) 1) (down_packet e).body)) (sym is)
     (subst (λ (b : Bool). HearAlike c q e (taken_in stage s b (down_packet e).body)) (sym bit) h)
 
-step_alike : (s : ClientSession) (c : Connection) (q : Record) (r place : ℕ) (step : answer.Step) → MatchesClient s c → c.current ≡ Some q → r ≡ q.number → (phase_of q ≡ Reading) ⊎ (phase_of q ≡ Cancelling) → HasSpelling step → IsHeardBy step.reset c step → HearAlike c q (Step r place step) (taken s (has_bit (bits_of (down_packet (Step r place step)).header.status) 1) (down_packet (Step r place step)).body)
-step_alike s c q r place step m is same phase spelled heard = elim phase [
+step_alike : AreRead → (s : ClientSession) (c : Connection) (q : Record) (r place : ℕ) (step : answer.Step) → MatchesClient s c → c.current ≡ Some q → r ≡ q.number → (phase_of q ≡ Reading) ⊎ (phase_of q ≡ Cancelling) → HasSpelling step → IsHeardOn c (Step r place step) → IsSaid step → HearAlike c q (Step r place step) (taken s (has_bit (bits_of (down_packet (Step r place step)).header.status) 1) (down_packet (Step r place step)).body)
+step_alike again s c q r place step m is same phase spelled heard said = elim phase [
   | inl e ↦
-      let k : IsRead false s c step = step_read false s c step m spelled heard in
+      let k : IsRead false s c step = step_read again false s c step m spelled (by_reset false step.reset c step refl heard.0.0 heard.0.1 heard.1 said) in
       at_stage s c q (Step r place step) client.Reading step.last (stage_is s c q Reading m is e) (end_bit step.last)
       (subst (λ x. HearAlike c q (Step r place step) x) (sym (reading_is s c step k))
       (reads_alike step.last s c q r place step refl m is same (stage_is s c q Reading m is e) e k))
   | inr e ↦
-      let k : IsRead true s c step = step_read true s c step m spelled heard in
+      let k : IsRead true s c step = step_read again true s c step m spelled (by_reset true step.reset c step refl heard.0.0 heard.0.1 heard.1 said) in
       at_stage s c q (Step r place step) client.Cancelling step.last (stage_is s c q Cancelling m is e) (end_bit step.last)
       (subst (λ x. HearAlike c q (Step r place step) x) (sym (skipping_is s c step k))
       (skips_alike step.last s c q r place step refl m is same (stage_is s c q Cancelling m is e) e k))
@@ -267,28 +275,36 @@ sole_fits : Fits (tokens.Done 0x20 0 0)
 unfolding is_done_status
 sole_fits = refl
 
-sole_good : (columns : Option ℕ) → AreGood columns sole
-sole_good columns = (record { fits = sole_fits; ranged = (omega arith, omega arith, omega arith); under = tt }, tt)
+sole_spelled : (columns : Option ℕ) → IsTokens columns sole (spelling (tokens.Done 0x20 0 0)) None
+unfolding IsTokens
+sole_spelled columns = (
+  spelling (tokens.Done 0x20 0 0),
+  [],
+  None,
+  refl,
+  record { spelled = refl; fits = sole_fits; ranged = (omega arith, omega arith, omega arith); under = tt; after_is = refl },
+  (refl, refl),
+)
 
-sole_read : (columns : Option ℕ) → contents_of columns (spelling (tokens.Done 0x20 0 0)) ≡ record { tokens = sole; fault = None; columns = None }
-sole_read columns = contents_are columns sole (sole_good columns)
+sole_read : AreRead → (columns : Option ℕ) → contents_of columns (spelling (tokens.Done 0x20 0 0)) ≡ record { tokens = sole; fault = None; columns = None }
+sole_read again columns = again.contents columns sole (spelling (tokens.Done 0x20 0 0)) None (sole_spelled columns)
 
 sole_heard : (heard : Heard) (columns : Option ℕ) → heard.done ≡ Awaited → hear_packet true heard true (record { tokens = sole; fault = None; columns = columns }) ≡ Ok (with_done heard Acknowledged)
 unfolding hear_packet hear hear_done
 sole_heard heard columns e = ap (λ (d : FinalDone). ((hear_before d true heard (tokens.Done 0x20 0 0) >>= λ next. Ok next) >>= λ next. Ok next) >>= λ next. at_end_of_message true next.done next) e
 
-acknowledged_is : (s : ClientSession) → s.heard.done ≡ Awaited → taken_cancelling s true (spelling (tokens.Done 0x20 0 0)) ≡ Ok (skipped s true (with_done s.heard Acknowledged) (record { tokens = sole; fault = None; columns = None }))
+acknowledged_is : AreRead → (s : ClientSession) → s.heard.done ≡ Awaited → taken_cancelling s true (spelling (tokens.Done 0x20 0 0)) ≡ Ok (skipped s true (with_done s.heard Acknowledged) (record { tokens = sole; fault = None; columns = None }))
 unfolding taken_cancelling
-acknowledged_is s e =
-    ap (λ (x : Contents). hear_packet true s.heard true x >>= λ heard. Ok (skipped s true heard x)) (sole_read s.columns)
+acknowledged_is again s e =
+    ap (λ (x : Contents). hear_packet true s.heard true x >>= λ heard. Ok (skipped s true heard x)) (sole_read again s.columns)
     ∙ ap (λ x. x >>= λ heard. Ok (skipped s true heard (record { tokens = sole; fault = None; columns = None }))) (sole_heard s.heard None e)
 
-acknowledgement_alike : (s : ClientSession) (c : Connection) (q : Record) (r place : ℕ) → MatchesClient s c → c.current ≡ Some q → r ≡ q.number → phase_of q ≡ Cancelling → HearAlike c q (Acknowledgement r place) (taken s (has_bit (bits_of (down_packet (Acknowledgement r place)).header.status) 1) (down_packet (Acknowledgement r place)).body)
-acknowledgement_alike s c q r place m is same phase =
+acknowledgement_alike : AreRead → (s : ClientSession) (c : Connection) (q : Record) (r place : ℕ) → MatchesClient s c → c.current ≡ Some q → r ≡ q.number → phase_of q ≡ Cancelling → HearAlike c q (Acknowledgement r place) (taken s (has_bit (bits_of (down_packet (Acknowledgement r place)).header.status) 1) (down_packet (Acknowledgement r place)).body)
+acknowledgement_alike again s c q r place m is same phase =
     let one : SkippedStep q.finished q.acknowledged q.cancelled q.out true = skipped_step q.finished q.acknowledged q.cancelled q.out true phase in
     let now : option_map (if_numbered r acknowledges) c.current ≡ Some (acknowledges q) = changed r acknowledges c.current q is same in
     at_stage s c q (Acknowledgement r place) client.Cancelling true (stage_is s c q Cancelling m is phase) refl
-    (subst (λ x. HearAlike c q (Acknowledgement r place) x) (sym (acknowledged_is s m.done)) (record {
+    (subst (λ x. HearAlike c q (Acknowledgement r place) x) (sym (acknowledged_is again s m.done)) (record {
       took = skipped s true (with_done s.heard Acknowledged) (record { tokens = sole; fault = None; columns = None });
       lawful = refl;
       matches = record {
@@ -302,6 +318,6 @@ acknowledgement_alike s c q r place m is same phase =
       told = (acknowledges q, now, record { given = sym (append-nil q.given); status = one.ends });
     }))
 
-pub hear_alike : (s : ClientSession) (c : Connection) (q : Record) (e : Down) → MatchesClient s c → c.current ≡ Some q → IsAwaited c q e → HearAlike c q e (taken s (has_bit (bits_of (down_packet e).header.status) 1) (down_packet e).body)
-hear_alike s c q (Step r place step) m is a = step_alike s c q r place step m is a.0 a.1 a.2 a.3
-hear_alike s c q (Acknowledgement r place) m is a = acknowledgement_alike s c q r place m is a.0 a.1
+pub hear_alike : AreRead → (s : ClientSession) (c : Connection) (q : Record) (e : Down) → MatchesClient s c → c.current ≡ Some q → IsAwaited c q e → HearAlike c q e (taken s (has_bit (bits_of (down_packet e).header.status) 1) (down_packet e).body)
+hear_alike again s c q (Step r place step) m is a = step_alike again s c q r place step m is a.0 a.1 a.2 a.3 a.4
+hear_alike again s c q (Acknowledgement r place) m is a = acknowledgement_alike again s c q r place m is a.0 a.1

@@ -2,7 +2,6 @@
 use Rattle.std.proofs.Common.{◌≡◌, ◌∙◌, ℕ, Bool, true, false, eqb, refl, sym, subst, Option, Some, None, option_map, List, [], ◌∷◌}
 use Rattle.tds_client.specs.Session.{ClientSession}
 use Rattle.tds_packet.specs.declared.status.Reset.{Reset}
-use Rattle.tds_server.specs.State as server
 use Rattle.tds_server.specs.State.{ServerState, Message}
 use Rattle.tds_session.specs.Answer as answer
 use Rattle.tds_session.specs.Answer.{Answers}
@@ -13,7 +12,8 @@ use Rattle.tds_world.specs.Connection.{Connection}
 use Rattle.tds_world.specs.Entries.{Up, Part, End, Drop, Attention, Down, Step, Acknowledgement}
 use Rattle.tds_world.specs.Phase.{Phase, Settled, Asked, Sending, Reading, Cancelling, phase_of}
 use Rattle.tds_world.specs.Record.{Record, gives, acknowledges, runs, when, if_numbered}
-use Rattle.tds_play.specs.Stands.{MatchesClient, MatchesServer, MatchesPhase, IsOf, BeginsBy, BeginsIn, stage_by, stage_in}
+use Rattle.tds_play.specs.Stands.{MatchesClient, MatchesServer, IsOf, BeginsBy, BeginsIn, stage_by, stage_in}
+use Rattle.tds_play.proofs.Matching.{client_still_matches, server_still_matches}
 
 -- ---- The server
 
@@ -34,35 +34,15 @@ acknowledges_is_of : (m : Message) (r : ℕ) (current : Option Record) → IsOf 
 acknowledges_is_of m r None h = h
 acknowledges_is_of m r (Some q) h = is_of_acknowledged m (eqb q.number r) q h
 
-hears_phase : (phase : server.Phase) (c : Connection) (e : Down) → MatchesPhase phase c → MatchesPhase phase (client_acts c e)
-hears_phase server.Waiting c (Step r place s) h = h
-hears_phase server.Waiting c (Acknowledgement r place) h = h
-hears_phase (server.Receiving m) c (Step r place s) h = (h.0, h.1, h.2, gives_is_of m r s c.current h.3)
-hears_phase (server.Receiving m) c (Acknowledgement r place) h = (h.0, h.1, h.2, acknowledges_is_of m r c.current h.3)
-hears_phase (server.Answering due id) c (Step r place s) h = h
-hears_phase (server.Answering due id) c (Acknowledgement r place) h = h
-hears_phase (server.Broken fault) c e h = absurd h
-
-same_session : (c : Connection) (e : Down) → (client_acts c e).session ≡ c.session
-same_session c (Step r place s) = refl
-same_session c (Acknowledgement r place) = refl
-
 pub hears_kept : {E : Type 0} (s : ServerState E) (c : Connection) (e : Down) → MatchesServer s c → MatchesServer s (client_acts c e)
-hears_kept s c (Step r place step) m = record { session = m.session; phase = hears_phase s.phase c (Step r place step) m.phase }
-hears_kept s c (Acknowledgement r place) m = record { session = m.session; phase = hears_phase s.phase c (Acknowledgement r place) m.phase }
-
-sends_phase : (phase : server.Phase) (b : Bool) (room : ℕ) (c : Connection) (q : Record) → c.current ≡ Some q → MatchesPhase phase c → MatchesPhase phase (sends_by b room q c)
-sends_phase server.Waiting true room c q is h = h
-sends_phase server.Waiting false room c q is h = h
-sends_phase (server.Receiving m) true room c q is h = (h.0, h.1, h.2, subst (λ (o : Option Record). IsOf m o) is h.3)
-sends_phase (server.Receiving m) false room c q is h = (h.0, h.1, h.2, subst (λ (o : Option Record). IsOf m o) is h.3)
-sends_phase (server.Answering due id) true room c q is h = h
-sends_phase (server.Answering due id) false room c q is h = h
-sends_phase (server.Broken fault) b room c q is h = absurd h
+hears_kept s c (Step r place step) m =
+    server_still_matches s c (client_acts c (Step r place step)) refl refl refl refl (λ message some of. gives_is_of message r step c.current of) m
+hears_kept s c (Acknowledgement r place) m =
+    server_still_matches s c (client_acts c (Acknowledgement r place)) refl refl refl refl (λ message some of. acknowledges_is_of message r c.current of) m
 
 sends_kept_by : {E : Type 0} (b : Bool) (room : ℕ) (s : ServerState E) (c : Connection) (q : Record) → c.current ≡ Some q → MatchesServer s c → MatchesServer s (sends_by b room q c)
-sends_kept_by true room s c q is m = record { session = m.session; phase = sends_phase s.phase true room c q is m.phase }
-sends_kept_by false room s c q is m = record { session = m.session; phase = sends_phase s.phase false room c q is m.phase }
+sends_kept_by true room s c q is m = server_still_matches s c (sends_by true room q c) refl refl refl refl (λ message some of. subst (λ (o : Option Record). IsOf message o) is of) m
+sends_kept_by false room s c q is m = server_still_matches s c (sends_by false room q c) refl refl refl refl (λ message some of. subst (λ (o : Option Record). IsOf message o) is of) m
 
 pub sends_kept : {E : Type 0} (room : ℕ) (s : ServerState E) (c : Connection) (q : Record) → c.current ≡ Some q → MatchesServer s c → MatchesServer s (sends room q c)
 sends_kept room s c q is m = sends_kept_by (sends_last room q) room s c q is m
@@ -114,7 +94,7 @@ pub works_kept : (s : ClientSession) (c : Connection) → MatchesClient s c → 
 works_kept s c m = works_on_kept s c c.due m
 
 pub arrives_kept : (answers : Answers) (s : ClientSession) (c : Connection) (e : Up) → MatchesClient s c → MatchesClient s (server_acts answers c e)
-arrives_kept answers s c (Part r p) m = record { stage = m.stage; descriptor = m.descriptor; mark = m.mark; done = m.done; columns = m.columns; begins = m.begins }
-arrives_kept answers s c (End r a p) m = record { stage = m.stage; descriptor = m.descriptor; mark = m.mark; done = m.done; columns = m.columns; begins = m.begins }
-arrives_kept answers s c (Drop r p) m = record { stage = m.stage; descriptor = m.descriptor; mark = m.mark; done = m.done; columns = m.columns; begins = m.begins }
-arrives_kept answers s c (Attention r) m = record { stage = m.stage; descriptor = m.descriptor; mark = m.mark; done = m.done; columns = m.columns; begins = m.begins }
+arrives_kept answers s c (Part r p) m = client_still_matches s c (server_acts answers c (Part r p)) refl refl refl m
+arrives_kept answers s c (End r a p) m = client_still_matches s c (server_acts answers c (End r a p)) refl refl refl m
+arrives_kept answers s c (Drop r p) m = client_still_matches s c (server_acts answers c (Drop r p)) refl refl refl m
+arrives_kept answers s c (Attention r) m = client_still_matches s c (server_acts answers c (Attention r)) refl refl refl m

@@ -10,7 +10,6 @@ pub mod Sending
 pub mod Working
 pub mod Arriving
 pub mod AllArriving
-pub mod Contents
 pub mod Heard
 pub mod Hearing
 pub mod Cancelling

@@ -19,7 +19,7 @@ use Rattle.tds_play.specs.Links.{drained_at, placed_at}
 use Rattle.tds_play.specs.Listening.{HasListened, IsToldSo, told_in}
 use Rattle.tds_play.specs.Pipe.{Pipe, traffic, carried, carried_on, next_of, IsOpen}
 use Rattle.tds_play.specs.Plays.{IsPlayed}
-use Rattle.tds_play.specs.Requests.{IsNewest, IsRequest}
+use Rattle.tds_play.specs.Requests.{IsNewest, MatchesRecord}
 use Rattle.tds_play.specs.Ties.{with_counted}
 use Rattle.tds_play.proofs.ClientEvent.{Heard, bare, reach_beside, stands_drained}
 use Rattle.tds_play.proofs.ClientSizes.{listened_size}
@@ -47,7 +47,7 @@ TellsOf x y told then =
 same_some : {A : Type 0} (a b : A) → Some a ≡ Some b → a ≡ b
 same_some a b e = cc
 
-one_heard : (number : ℕ) (then : Listened) (r s : Record) (q p : world.Record) → IsRequest number false r q → IsToldSo then (Some r) (Some s) → bare p ≡ bare q → TellsOf (Some q) (Some p) r.tokens.items then → IsRequest number false s p
+one_heard : (number : ℕ) (then : Listened) (r s : Record) (q p : world.Record) → MatchesRecord number false r q → IsToldSo then (Some r) (Some s) → bare p ≡ bare q → TellsOf (Some q) (Some p) r.tokens.items then → MatchesRecord number false s p
 one_heard number then r s q p is told same tells =
     let t = tells q refl in
     let at : p ≡ t.0 = same_some p t.0 t.1 in

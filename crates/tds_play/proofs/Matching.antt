@@ -17,14 +17,14 @@ phase_same (server.Answering steps id) c d parts due taken of h =
     (parts ∙ h.0, h.1 ∙ sym due, λ e. h.2 (sym due ∙ e), h.3 ∙ ap (λ (k : ℕ). (k + 1) % 256) (sym taken))
 phase_same (server.Broken fault) c d parts due taken of h = absurd h
 
-pub server_same : {E : Type 0} (s : ServerState E) (c d : Connection) → d.session ≡ c.session → d.parts ≡ c.parts → d.due ≡ c.due → d.taken ≡ c.taken → ((m : Message) → d.parts ≢ [] → IsOf m c.current → IsOf m d.current) → MatchesServer s c → MatchesServer s d
-server_same s c d session parts due taken of m = record {
+pub server_still_matches : {E : Type 0} (s : ServerState E) (c d : Connection) → d.session ≡ c.session → d.parts ≡ c.parts → d.due ≡ c.due → d.taken ≡ c.taken → ((m : Message) → d.parts ≢ [] → IsOf m c.current → IsOf m d.current) → MatchesServer s c → MatchesServer s d
+server_still_matches s c d session parts due taken of m = record {
   session = m.session ∙ sym session;
   phase = phase_same s.phase c d parts due taken of m.phase;
 }
 
-pub client_same : (s : ClientSession) (c d : Connection) → d.current ≡ c.current → d.heard ≡ c.heard → d.mark ≡ c.mark → MatchesClient s c → MatchesClient s d
-client_same s c d current heard mark m = record {
+pub client_still_matches : (s : ClientSession) (c d : Connection) → d.current ≡ c.current → d.heard ≡ c.heard → d.mark ≡ c.mark → MatchesClient s c → MatchesClient s d
+client_still_matches s c d current heard mark m = record {
   stage = m.stage ∙ ap stage_in (sym current);
   descriptor = m.descriptor ∙ sym heard;
   mark = m.mark ∙ sym mark;

@@ -21,7 +21,7 @@ use Rattle.tds_play.specs.Stands.{MatchesClient}
 use Rattle.tds_play.specs.declared.link.Done.{Done}
 use Rattle.tds_play.specs.declared.link.Link.{Link}
 use Rattle.tds_play.proofs.Begun.{marked_matches}
-use Rattle.tds_play.proofs.Matching.{server_same, client_same}
+use Rattle.tds_play.proofs.Matching.{server_still_matches, client_still_matches}
 use Rattle.tds_play.proofs.Phases.{idle_in}
 
 -- ---- Who waits
@@ -67,8 +67,8 @@ placed_played number size engine link pipe c p i live = record {
       let s = v.stands in
       record {
         stands = record {
-          client = client_same link.client c (record c { standing = In p }) refl refl refl s.client;
-          server = server_same link.server c (record c { standing = In p }) refl refl refl refl (λ m some of. of) s.server;
+          client = client_still_matches link.client c (record c { standing = In p }) refl refl refl s.client;
+          server = server_still_matches link.server c (record c { standing = In p }) refl refl refl refl (λ m some of. of) s.server;
           up = s.up;
           down = s.down;
         };
@@ -105,7 +105,7 @@ lent_played {E} {S} number size lease mark engine link new pipe c i live idle is
           record {
             stands = record {
               client = marked_matches link.client c mark (In (place.Leased lease)) s.client (idle_settled c idle);
-              server = server_same link.server c d refl refl refl refl (λ m some of. of) s.server;
+              server = server_still_matches link.server c d refl refl refl refl (λ m some of. of) s.server;
               up = s.up;
               down = s.down;
             };

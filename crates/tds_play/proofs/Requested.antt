@@ -18,34 +18,34 @@ use Rattle.tds_play.specs.Links.{behind, newest_first, report_of}
 use Rattle.tds_world.specs.Order.{number_if, numbers_on, IsInOrder, RequestsInOrder}
 use Rattle.tds_play.specs.Pipe.{Pipe}
 use Rattle.tds_play.specs.Plays.{IsPlayed, ArePlayed}
-use Rattle.tds_play.specs.Requests.{IsRequest, AreOlder, IsNewest}
+use Rattle.tds_play.specs.Requests.{MatchesRecord, AreOlder, IsNewest}
 use Rattle.tds_play.specs.declared.link.Link.{Link}
 use Rattle.tds_play.specs.declared.link.Record.{Record}
 
 -- ---- The requests of a connection
 
 -- Requests and what each stands for.
-abbrev pub AreRequests : ℕ → Bool → List Record → List world.Record → Type 0
-AreRequests number cut [] [] = Unit {0}
-AreRequests number cut [] (q ∷ qs) = ⊥
-AreRequests number cut (r ∷ rs) [] = ⊥
-AreRequests number cut (r ∷ rs) (q ∷ qs) = IsRequest number cut r q × AreRequests number cut rs qs
+abbrev pub MatchRecords : ℕ → Bool → List Record → List world.Record → Type 0
+MatchRecords number cut [] [] = Unit {0}
+MatchRecords number cut [] (q ∷ qs) = ⊥
+MatchRecords number cut (r ∷ rs) [] = ⊥
+MatchRecords number cut (r ∷ rs) (q ∷ qs) = MatchesRecord number cut r q × MatchRecords number cut rs qs
 
-all_older : (number : ℕ) (cut : Bool) (rs : List Record) (qs : List world.Record) → AreOlder number cut rs qs → AreRequests number cut rs qs
+all_older : (number : ℕ) (cut : Bool) (rs : List Record) (qs : List world.Record) → AreOlder number cut rs qs → MatchRecords number cut rs qs
 all_older number cut [] [] h = tt
 all_older number cut [] (q ∷ qs) h = absurd h
 all_older number cut (r ∷ rs) [] h = absurd h
 all_older number cut (r ∷ rs) (q ∷ qs) h = (h.0.0, all_older number cut rs qs h.1)
 
 and_last : (number : ℕ) (cut : Bool) (rs : List Record) (qs : List world.Record) (r : Record) (q : world.Record)
-    → AreRequests number cut rs qs → IsRequest number cut r q → AreRequests number cut (rs ++ r ∷ []) (qs ++ q ∷ [])
+    → MatchRecords number cut rs qs → MatchesRecord number cut r q → MatchRecords number cut (rs ++ r ∷ []) (qs ++ q ∷ [])
 and_last number cut [] [] r q h last = (last, tt)
 and_last number cut [] (p ∷ ps) r q h last = absurd h
 and_last number cut (s ∷ ss) [] r q h last = absurd h
 and_last number cut (s ∷ ss) (p ∷ ps) r q h last = (h.0, and_last number cut ss ps r q h.1 last)
 
 all_requests : (number : ℕ) (cut : Bool) (rs : List Record) (qs : List world.Record) (r : Option Record) (q : Option world.Record)
-    → AreOlder number cut rs qs → IsNewest number cut r q → AreRequests number cut (behind rs r) (joined qs q)
+    → AreOlder number cut rs qs → IsNewest number cut r q → MatchRecords number cut (behind rs r) (joined qs q)
 all_requests number cut rs qs None None h n = all_older number cut rs qs h
 all_requests number cut rs qs None (Some q) h n = absurd n
 all_requests number cut rs qs (Some r) None h n = absurd n
@@ -61,7 +61,7 @@ pub record LeftOn (n number : ℕ) (asked_on : List ℕ) (stack : List Record) (
   pub ahead : List world.Record
   pub stacked : stack ≡ reverse left
   pub parts : records c ≡ told ++ ahead
-  pub alike : AreRequests n (is_cut c.standing) left ahead
+  pub alike : MatchRecords n (is_cut c.standing) left ahead
   pub numbers : map (λ q. q.number) ahead ≡ numbers_on n number asked_on
   pub before : AllByRecursion (λ q. q.number < number) told
 
@@ -86,7 +86,7 @@ left_at_first n size engine link pipe c asked_on p o =
       ahead = records c;
       stacked = refl;
       parts = refl;
-      alike = subst (λ b. AreRequests n b (behind link.past.items link.current) (records c)) cut (all_requests n link.is_cut link.past.items c.past link.current c.current p.older p.newest);
+      alike = subst (λ b. MatchRecords n b (behind link.past.items link.current) (records c)) cut (all_requests n link.is_cut link.past.items c.past link.current c.current p.older p.newest);
       numbers = o.numbers;
       before = tt;
     }
@@ -148,12 +148,12 @@ pub record NextOn (m k : ℕ) (ms : List ℕ) (s : List Record) (c : Connection)
   pub next : Record
   pub request : world.Record
   pub last : s ≡ left ++ next ∷ []
-  pub is : IsRequest m (is_cut c.standing) next request
+  pub is : MatchesRecord m (is_cut c.standing) next request
   pub found : record_on k c ≡ Some request
   pub rest : LeftOn m (suc k) ms left c
 
 next_on : (m k : ℕ) (ms : List ℕ) (s : List Record) (c : Connection) (left : List Record) (ahead : List world.Record) (told : List world.Record)
-    → s ≡ reverse left → records c ≡ told ++ ahead → AreRequests m (is_cut c.standing) left ahead
+    → s ≡ reverse left → records c ≡ told ++ ahead → MatchRecords m (is_cut c.standing) left ahead
     → map (λ q. q.number) ahead ≡ k ∷ numbers_on m (suc k) ms → AllByRecursion (λ q. q.number < k) told → NextOn m k ms s c
 next_on m k ms s c [] [] told stacked parts alike numbers before = absurd (cc)
 next_on m k ms s c [] (q ∷ qs) told stacked parts alike numbers before = absurd alike
@@ -224,7 +224,7 @@ next_at n (suc i) m k ms (s ∷ ss) (d ∷ ds) c h e at =
 reported : ℕ → ℕ → RequestStatus → Option SessionState → List Token → RequestReport
 reported lease conn status ran tokens = record { lease = lease; conn = conn; status = status; ran = ran; tokens = tokens }
 
-report_alike : (m : ℕ) (cut : Bool) (r : Record) (q : world.Record) → IsRequest m cut r q → report_of m r ≡ request_report cut q
+report_alike : (m : ℕ) (cut : Bool) (r : Record) (q : world.Record) → MatchesRecord m cut r q → report_of m r ≡ request_report cut q
 unfolding reported
 report_alike m cut r q h =
     ap (λ x. reported x m r.status r.ran r.tokens.items) h.lease

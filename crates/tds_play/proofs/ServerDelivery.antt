@@ -4,7 +4,7 @@ use Rattle.std.proofs.lemmas.List.{take_all}
 use Rattle.tds_packet.specs.Reading.{Reading}
 use Rattle.tds_server.specs.declared.fault.ServerFault.{ServerFault}
 use Rattle.tds_server.specs.declared.outcome.ServerTook.{ServerTook}
-use Rattle.tds_server.specs.State.{ServerState, Phase, Waiting, Receiving, Answering, Broken}
+use Rattle.tds_server.specs.State.{ServerState}
 use Rattle.tds_server.specs.Taking.{Taken, taken}
 use Rattle.tds_session.specs.Answer.{Answers}
 use Rattle.tds_world.specs.Arrivals.{server_acts, reach_server}
@@ -14,8 +14,9 @@ use Rattle.tds_world.specs.Lane.{Lane, passed, with_waiting}
 use Rattle.tds_play.specs.Alike.{ArriveAlike}
 use Rattle.tds_play.specs.Deliveries.{up_coming, AllArrive, ServesAlike}
 use Rattle.tds_play.specs.Feeding.{IsComing, served, unless_refused, bytes_of}
-use Rattle.tds_play.specs.Stands.{MatchesServer, MatchesPhase, Sends}
+use Rattle.tds_play.specs.Stands.{MatchesServer, Sends}
 use Rattle.tds_play.proofs.Cuts.{cut_inside, cut_behind, begun_by}
+use Rattle.tds_play.proofs.Matching.{server_still_matches}
 
 -- ---- What goes out
 
@@ -38,14 +39,8 @@ nothing_sent {Entry} bytes a b e = record {
 -- ---- What a server stands for
 
 -- A server sees nothing of what is underway to it.
-phase_on : (phase : Phase) (c : Connection) (lane : Lane Up) → MatchesPhase phase c → MatchesPhase phase (record c { to_server = lane })
-phase_on Waiting c lane m = m
-phase_on (Receiving message) c lane m = m
-phase_on (Answering due id) c lane m = m
-phase_on (Broken fault) c lane m = m
-
 matches_on : {E : Type 0} (s : ServerState E) (c : Connection) (lane : Lane Up) → MatchesServer s c → MatchesServer s (record c { to_server = lane })
-matches_on s c lane m = record { session = m.session; phase = phase_on s.phase c lane m.phase }
+matches_on s c lane m = server_still_matches s c (record c { to_server = lane }) refl refl refl refl (λ message some of. of) m
 
 -- ---- One entry, and those behind it
 

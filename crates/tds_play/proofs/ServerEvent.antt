@@ -8,8 +8,8 @@ use Rattle.tds_session.specs.Answer.{Answers}
 use Rattle.tds_world.specs.Arrivals.{server_acts, reach_server, to_server}
 use Rattle.tds_world.specs.Connection.{Connection, up_underway, down_underway}
 use Rattle.tds_world.specs.Deliveries.{IsDelivered}
-use Rattle.tds_world.specs.Entries.{Up, Part, End, Drop, Attention, up_bytes, down_bytes}
-use Rattle.tds_world.specs.Lane.{Lane, passed, with_waiting, underway}
+use Rattle.tds_world.specs.Entries.{Up, up_bytes, down_bytes}
+use Rattle.tds_world.specs.Lane.{passed, with_waiting, underway}
 use Rattle.tds_play.specs.Between.{IsLane, Stands}
 use Rattle.tds_play.specs.Deliveries.{AllArrive, ServesAlike}
 use Rattle.tds_play.specs.Pipe.{Pipe, Traffic, traffic, carried, carried_on, next_of, sent, sent_on, IsOpen}
@@ -17,6 +17,8 @@ use Rattle.tds_play.specs.Stands.{MatchesClient}
 use Rattle.tds_play.specs.Ties.{saturated, counted, with_counted}
 use Rattle.tds_play.specs.declared.link.Link.{Link}
 use Rattle.tds_play.proofs.Between.{offered_front, lane_delivered, lane_sent}
+use Rattle.tds_play.proofs.Kept.{arrives_kept}
+use Rattle.tds_play.proofs.Matching.{client_still_matches}
 use Rattle.tds_play.proofs.ServerDelivery.{serve_alike}
 
 -- ---- What comes is served
@@ -33,26 +35,18 @@ come_served {E} answers link pipe c most n s count all =
 
 -- ---- The client is as it was
 
-acts_seen : (answers : Answers) (s : ClientSession) (c : Connection) (e : Up) → MatchesClient s c → MatchesClient s (server_acts answers (record c { to_server = passed e c.to_server }) e)
-acts_seen answers s c (Part r p) m = record { stage = m.stage; descriptor = m.descriptor; mark = m.mark; done = m.done; columns = m.columns; begins = m.begins }
-acts_seen answers s c (End r a p) m = record { stage = m.stage; descriptor = m.descriptor; mark = m.mark; done = m.done; columns = m.columns; begins = m.begins }
-acts_seen answers s c (Drop r p) m = record { stage = m.stage; descriptor = m.descriptor; mark = m.mark; done = m.done; columns = m.columns; begins = m.begins }
-acts_seen answers s c (Attention r) m = record { stage = m.stage; descriptor = m.descriptor; mark = m.mark; done = m.done; columns = m.columns; begins = m.begins }
-
 either : (b : Bool) (s : ClientSession) (x y : Connection) → MatchesClient s x → MatchesClient s y → MatchesClient s (cond b x y)
 either true s x y f g = f
 either false s x y f g = g
 
-waits_seen : (s : ClientSession) (c : Connection) (lane : Lane Up) → MatchesClient s c → MatchesClient s (record c { to_server = lane })
-waits_seen s c lane m = record { stage = m.stage; descriptor = m.descriptor; mark = m.mark; done = m.done; columns = m.columns; begins = m.begins }
-
 pub client_stays : (answers : Answers) (s : ClientSession) (c : Connection) (es : List Up) (k : ℕ) → MatchesClient s c → MatchesClient s (reach_server answers c es k)
-client_stays answers s c [] k m = waits_seen s c (with_waiting [] 0 c.to_server) m
+client_stays answers s c [] k m = client_still_matches s c (record c { to_server = with_waiting [] 0 c.to_server }) refl refl refl m
 client_stays answers s c (e ∷ es) k m =
-    let d : Connection = server_acts answers (record c { to_server = passed e c.to_server }) e in
+    let b : Connection = record c { to_server = passed e c.to_server } in
+    let d : Connection = server_acts answers b e in
     either (ltb k (length (up_bytes e))) s (record c { to_server = with_waiting (e ∷ es) k c.to_server }) (reach_server answers d es (k - length (up_bytes e)))
-    (waits_seen s c (with_waiting (e ∷ es) k c.to_server) m)
-    (client_stays answers s d es (k - length (up_bytes e)) (acts_seen answers s c e m))
+    (client_still_matches s c (record c { to_server = with_waiting (e ∷ es) k c.to_server }) refl refl refl m)
+    (client_stays answers s d es (k - length (up_bytes e)) (arrives_kept answers s b e (client_still_matches s c b refl refl refl m)))
 
 -- ---- The connection then
 

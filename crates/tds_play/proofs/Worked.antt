@@ -22,7 +22,7 @@ use Rattle.tds_play.specs.Pipe.{Pipe}
 use Rattle.tds_play.specs.Plays.{IsPlayed}
 use Rattle.tds_world.specs.Newest.{WorksOnNewest}
 use Rattle.tds_world.specs.Steps.{EndsIfDue}
-use Rattle.tds_play.specs.Requests.{IsRequest, IsNewest}
+use Rattle.tds_play.specs.Requests.{MatchesRecord, IsNewest}
 use Rattle.tds_play.specs.declared.link.Link.{Link}
 use Rattle.tds_play.specs.declared.link.Record.{Record}
 use Rattle.tds_play.proofs.Kept.{works_kept}
@@ -72,7 +72,7 @@ ran_alike : (ran : Option SessionState) (mark reset : Option Reset) (before afte
 ran_alike (Some x) mark reset before after h = refl
 ran_alike None mark reset before after h = ap (λ (m : Option Reset). ran_in None m before after) (sym (h refl))
 
-stepped_alike : (number : ℕ) (r : Record) (q : world.Record) (s : Step) (before after session : SessionState) → IsRequest number false r q → (q.ran ≡ None → s.reset ≡ q.asking.mark) → before ≡ session → after ≡ s.after → IsRequest number false (stepped before after r) (runs session s q)
+stepped_alike : (number : ℕ) (r : Record) (q : world.Record) (s : Step) (before after session : SessionState) → MatchesRecord number false r q → (q.ran ≡ None → s.reset ≡ q.asking.mark) → before ≡ session → after ≡ s.after → MatchesRecord number false (stepped before after r) (runs session s q)
 stepped_alike number r q s before after session i first from to = record {
   lease = i.lease;
   conn = i.conn;

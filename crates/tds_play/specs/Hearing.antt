@@ -1,68 +1,40 @@
 -- What a client can hear of its connection, and what it is that it does the same as the model.
-use Rattle.std.specs.Prelude.{ℕ, ◌≡◌, ◌⊎◌, List, [], ◌∷◌, ◌++◌, flat_map, Bool, true, false, Option, Some, None, Result, Ok}
-use Rattle.std.specs.List.{AllByRecursion}
+use Rattle.std.specs.Prelude.{ℕ, ◌≡◌, ◌⊎◌, [], ◌∷◌, ◌++◌, false, Option, Some, None, Result, Ok}
 use Rattle.tds_client.specs.declared.fault.ClientFault.{ClientFault}
 use Rattle.tds_client.specs.declared.state.Taken.{Taken}
 use Rattle.tds_client.specs.declared.state.Taken.TheVariants as taken
 use Rattle.tds_client.specs.Taking.{Took}
 use Rattle.tds_packet.specs.declared.status.Reset.{Reset}
-use Rattle.tds_packet.specs.Layout.{has_bit}
 use Rattle.tds_session.specs.Answer as answer
-use Rattle.tds_session.specs.Lawful.{IsStatementDone}
 use Rattle.tds_token.specs.declared.env_change.EnvChange.TheVariants.{ResetDone}
-use Rattle.tds_token.specs.declared.token.Token.{Token}
 use Rattle.tds_token.specs.declared.token.Token.TheVariants as token
-use Rattle.tds_token.specs.Layout.{IsTokens, spelling}
 use Rattle.tds_world.specs.declared.report.RequestStatus.{RequestStatus}
 use Rattle.tds_world.specs.declared.report.RequestStatus.TheVariants as status
-use Rattle.tds_world.specs.Arrivals.{client_acts, heard_after}
+use Rattle.tds_world.specs.Arrivals.{client_acts}
 use Rattle.tds_world.specs.Connection.{Connection}
+use Rattle.tds_world.specs.Dones.{DonesBy}
 use Rattle.tds_world.specs.Entries.{Down, Step, Acknowledgement}
+use Rattle.tds_world.specs.Heard.{IsHeardOn}
 use Rattle.tds_world.specs.Phase.{Reading, Cancelling, phase_of, status_of}
 use Rattle.tds_world.specs.Record.{Record}
+use Rattle.tds_world.specs.Sessions.{HasSpelling}
 use Rattle.tds_play.specs.Stands.{MatchesClient}
 
--- A DONE that ends an answer: nothing follows, and it acknowledges no attention (MS-TDS 2.2.7.6).
-abbrev pub IsFinal : Token → Type 0
-IsFinal (token.Done status cur_cmd rows) = (has_bit status 1 ≡ false) × (has_bit status 32 ≡ false)
-IsFinal (token.Info m) = ⊥
-IsFinal (token.Error m) = ⊥
-IsFinal (token.ReturnStatus v) = ⊥
-IsFinal (token.Columns cs) = ⊥
-IsFinal (token.Row vs) = ⊥
-IsFinal (token.Env e) = ⊥
-
--- A step's DONEs say that more follows. The last step has one more token, and that ends the answer.
-abbrev pub HasDones : Bool → List Token → Type 0
-HasDones false tokens = AllByRecursion IsStatementDone tokens
-HasDones true tokens =
-    (front : List Token) × (final : Token) × (tokens ≡ front ++ final ∷ [])
-    × AllByRecursion IsStatementDone front × IsFinal final
-
--- What a step says by its DONEs; and one that takes a reset tells its end alone.
+-- What a step says by its DONEs: of a final one a client reads neither the command nor the count of
+-- rows. A step that takes a reset tells its end alone.
 abbrev pub IsSaidBy : Option Reset → answer.Step → Type 0
-IsSaidBy None s = HasDones s.last s.tokens
+IsSaidBy None s = (cur_cmd : ℕ) × (rows : ℕ) × DonesBy cur_cmd rows s.last s.tokens
 IsSaidBy (Some r) s = (s.tokens ≡ token.Env ResetDone ∷ []) × (s.last ≡ false)
 
 abbrev pub IsSaid : answer.Step → Type 0
 IsSaid s = IsSaidBy s.reset s
 
--- A step without a reset can be heard where all its changes apply. One that tells the end of a reset
--- tells nothing else, and is heard where that reset was asked for.
-abbrev pub IsHeardBy : Option Reset → Connection → answer.Step → Type 0
-IsHeardBy None c s =
-    (descriptor : ℕ) × (heard_after c.heard s ≡ Some descriptor) × HasDones s.last s.tokens
-IsHeardBy (Some r) c s = (s.tokens ≡ token.Env ResetDone ∷ []) × (s.last ≡ false) × (c.mark ≡ Some r)
-
--- Its tokens have a spelling.
-abbrev pub HasSpelling : answer.Step → Type 0
-HasSpelling s = (columns : Option ℕ) × IsTokens None s.tokens (flat_map spelling s.tokens) columns
-
--- A request's client waits for an entry.
+-- A request's client waits for an entry, and can hear it: its changes apply, a reset that it takes was
+-- asked for, and it says what a step says.
 abbrev pub IsAwaited : Connection → Record → Down → Type 0
 IsAwaited c q (Step r place s) =
     (r ≡ q.number) × ((phase_of q ≡ Reading) ⊎ (phase_of q ≡ Cancelling))
-    × HasSpelling s × IsHeardBy s.reset c s
+    × HasSpelling s × IsHeardOn c (Step r place s) × IsSaid s
 IsAwaited c q (Acknowledgement r place) = (r ≡ q.number) × (phase_of q ≡ Cancelling)
 
 -- What becomes of a request's status, by what its client answers.

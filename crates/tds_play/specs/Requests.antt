@@ -5,7 +5,7 @@ use Rattle.tds_world.specs.Phase.{Settled, phase_of, status_of}
 use Rattle.tds_world.specs.Record as world
 
 -- A request that was asked on the connection of this number, which is cut or isn't.
-pub record IsRequest (number : ℕ) (cut : Bool) (r : Record) (q : world.Record) : Type 0 where
+pub record MatchesRecord (number : ℕ) (cut : Bool) (r : Record) (q : world.Record) : Type 0 where
   pub lease : r.lease ≡ q.lease
   pub conn : q.conn ≡ number
   pub mark : r.mark ≡ q.asking.mark
@@ -19,11 +19,11 @@ AreOlder number cut [] [] = Unit {0}
 AreOlder number cut [] (q ∷ qs) = ⊥
 AreOlder number cut (r ∷ rs) [] = ⊥
 AreOlder number cut (r ∷ rs) (q ∷ qs) =
-    (IsRequest number cut r q × (phase_of q ≡ Settled)) × AreOlder number cut rs qs
+    (MatchesRecord number cut r q × (phase_of q ≡ Settled)) × AreOlder number cut rs qs
 
 -- The newest one, if there is one.
 abbrev pub IsNewest : ℕ → Bool → Option Record → Option world.Record → Type 0
 IsNewest number cut None None = Unit {0}
 IsNewest number cut None (Some q) = ⊥
 IsNewest number cut (Some r) None = ⊥
-IsNewest number cut (Some r) (Some q) = IsRequest number cut r q
+IsNewest number cut (Some r) (Some q) = MatchesRecord number cut r q

@@ -43,10 +43,12 @@ ghost use Rattle.tds_world.specs.declared.event.Setup.{Setup};
 ghost use Rattle.tds_world.specs.declared.report.Place.{Place};
 ghost use Rattle.tds_world.specs.declared.report.RequestStatus.{RequestStatus};
 
+use tds_request::laws::spelled_is_read;
 use tds_session::Engine;
+use tds_token::laws::spelled_are_read;
 use tds_world::laws::{
-    act_on_newest, all_in_range, all_welcome, changes_are_heard, engine_is_lawful,
-    engine_stays_in_range, steps_are_of_answers,
+    act_on_newest, all_in_range, all_welcome, changes_are_heard, engine_has_dones,
+    engine_is_lawful, engine_stays_in_range, steps_are_of_answers,
 };
 
 /// A client takes a request exactly where the model does, and then stands for its connection.
@@ -73,7 +75,9 @@ pub fn arrives_alike<E: Engine>()
     ensures { (answers : Answers) (s : ServerState E) (c : Connection) (q : Record) (e : Up) → Lawful answers
         → MatchesServer s c → c.current ≡ Some q → IsSpelled q.asking → IsNext q.asking c.parts e → ServerExpects c e
         → ArriveAlike answers c e (taken answers s (up_packet e).header (up_packet e).body) }
-{}
+{
+    spelled_is_read();
+}
 
 /// A client takes the packet of each entry that arrives as the model does, without a fault: it tells
 /// the caller the same tokens, ends the request where the model does, and hears the same.
@@ -81,7 +85,9 @@ pub fn hears_alike()
     ensures { (s : ClientSession) (c : Connection) (q : Record) (e : Down) → MatchesClient s c → c.current ≡ Some q
         → IsAwaited c q e
         → HearAlike c q e (client_taken s (has_bit (bits_of (down_packet e).header.status) 1) (down_packet e).body) }
-{}
+{
+    spelled_are_read();
+}
 
 /// The next lease gets the same connection as in the model: the free one with the lowest number, or
 /// else a new one, or none, by where each connection stands.
@@ -119,7 +125,10 @@ pub fn lends_matching<E: Engine>()
 pub fn answers_are_said<E: Engine>(engine: &E)
     ensures { (s : SessionState) (descriptor : ℕ) (reset : Option Reset) (q : Request)
         → AllByRecursion IsSaid (answer_of (E.statements_of engine.now) (E.step_of engine.now) s descriptor reset q) }
-{}
+{
+    engine_is_lawful(engine);
+    engine_has_dones(engine);
+}
 
 /// A server that is fed the bytes of entries takes those that come whole as the model does, in order,
 /// and is left with what has come of the next one.
@@ -136,7 +145,9 @@ pub fn all_arrive<E: Engine>()
     ensures { (answers : Answers) (r : Reading) (c : Connection) → Lawful answers → r.direction ≡ ToServer → AreWhole c
         → WelcomeToServer answers c c.to_server.waiting → AllByRecursion (λ e. IsSized r.size (up_packet e)) c.to_server.waiting
         → AllArrive E answers r c c.to_server.waiting }
-{}
+{
+    arrives_alike::<E>();
+}
 
 /// A client that is fed the bytes of entries hears those that come whole as the model does, in order,
 /// and is left with what has come of the next one.
@@ -163,6 +174,7 @@ pub fn all_heard<E: Engine>(engine: &E)
     engine_is_lawful(engine);
     engine_stays_in_range(engine);
     answers_are_said(engine);
+    hears_alike();
     all_welcome();
     act_on_newest();
     changes_are_heard();

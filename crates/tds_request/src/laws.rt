@@ -7,7 +7,7 @@ ghost use Rattle.tds_request.specs.declared.request.Request.{Request};
 ghost use Rattle.tds_request.specs.declared.request.RequestKind.{RequestKind};
 ghost use Rattle.tds_request.specs.Values.{AreBytes};
 ghost use Rattle.tds_request.specs.Layout.{IsRequest};
-ghost use Rattle.tds_request.specs.Reading.{wrong_request};
+ghost use Rattle.tds_request.specs.Reading.{read_request, wrong_request};
 
 use crate::decoding::decode;
 use crate::encoding::encode;
@@ -47,6 +47,13 @@ pub fn spelled_or_wrong()
     ensures wrong { (kind : RequestKind) (bytes : List ℕ)
         → AreBytes bytes → wrong_request kind bytes ≡ None
         → (descriptor : ℕ) × (request : Request) × IsRequest kind descriptor request bytes }
+{}
+
+/// What a message spells is read of it: its descriptor and its request.
+pub fn spelled_is_read()
+    ensures { (kind : RequestKind) (descriptor : ℕ) (request : Request)
+        (bytes : List ℕ)
+        → IsRequest kind descriptor request bytes → read_request kind bytes ≡ Ok (descriptor, request) }
 {}
 
 /// What was encoded is decoded again, unless memory runs out. It rests on the contracts of the two

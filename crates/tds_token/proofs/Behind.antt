@@ -24,7 +24,7 @@ known_after columns (tokens.Row vs) known g = known
 known_after columns (tokens.Env e) known g = known
 known_after columns (tokens.Done status cur_cmd rows) known g = tt
 
-has_a_byte : (t : Token) → 1 ≤ length (spelling t)
+pub has_a_byte : (t : Token) → 1 ≤ length (spelling t)
 has_a_byte (tokens.Info m) = omega arith
 has_a_byte (tokens.Error m) = omega arith
 has_a_byte (tokens.ReturnStatus v) = omega arith

@@ -9,3 +9,4 @@ pub mod Whole
 pub mod Stepping
 pub mod Behind
 pub mod Spelled
+pub mod Again

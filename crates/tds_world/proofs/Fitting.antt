@@ -67,8 +67,7 @@ some_bytes (t ∷ ts) h = omega (arith, a_byte t, length-append (spelling t) (fl
 of_engine : (e : Effect) → 0 < length e.tokens → FitsPacket e → FitsStep (step_then e)
 of_engine e some h =
     let same : h.bytes ≡ flat_map spelling e.tokens = joined None h.columns e.tokens h.bytes h.spelled in record {
-      columns = h.columns;
-      spelled = subst (λ bytes. IsTokens None e.tokens bytes h.columns) same h.spelled;
+      spelled = (h.columns, subst (λ bytes. IsTokens None e.tokens bytes h.columns) same h.spelled);
       some = some_bytes e.tokens some;
       most = subst (λ bytes. length bytes ≤ 504) same h.short;
       after = h.after;
@@ -110,8 +109,7 @@ short_error number text n units few short = record {
 
 from_written : (ts : List Token) (most : ℕ) (last : Bool) (reset : Option Reset) (s : SessionState) → 0 < length ts → most ≤ 504 → Written None ts most → IsSession s → FitsStep (record { tokens = ts; last = last; reset = reset; after = s })
 from_written ts most last reset s some few w h = record {
-  columns = w.after;
-  spelled = w.spelled;
+  spelled = (w.after, w.spelled);
   some = some_bytes ts some;
   most = omega (arith, w.short, few);
   after = h;

@@ -21,7 +21,7 @@ use Rattle.tds_world.specs.Laws.{Always}
 use Rattle.tds_world.specs.Phase.{Phase, Settled, Asked, Sending, Reading, Cancelling, phase_of, phase_by, phase_in, is_settled}
 use Rattle.tds_world.specs.Pool.{Acted, Refuses, Does, gives_back_at, abandons_at, keeps_by, is_full}
 use Rattle.tds_world.specs.Record.{Record, Out, NotBegun, Begun, Whole, packets_of, gives, acknowledges, runs, cancelled, when, if_numbered}
-use Rattle.tds_world.specs.Requests.{Message, Nothing, Partly, content_of, packets_in, AreRequests, IsSpelled, RequestsAreSpelled}
+use Rattle.tds_world.specs.Requests.{Message, Nothing, Partly, content_of, packets_in, AreRequests, SendsRequests, RequestsAreSpelled}
 use Rattle.tds_world.specs.World.{World, new_world, next_number}
 use Rattle.tds_world.proofs.Busy.{busy_down}
 use Rattle.tds_world.proofs.Flow.{FlowIn, number_in, SoundWith, Sound}
@@ -379,6 +379,6 @@ spelled_kept setup answers l =
 
 pub requests_are_spelled : (setup : Setup) (answers : Answers) → Lawful answers → Always setup answers RequestsAreSpelled
 requests_are_spelled setup answers l events =
-    each_follows (λ c. Sound c × Spelled c) IsSpelled (world_after setup answers events new_world).connections
+    each_follows (λ c. Sound c × Spelled c) SendsRequests (world_after setup answers events new_world).connections
     (λ c h. record { part = h.1.part; arrived = h.1.arrived; parts = h.1.parts; out = h.1.out; waiting = h.1.waiting })
     (always (λ c. Sound c × Spelled c) setup answers events (spelled_kept setup answers l))

@@ -35,16 +35,16 @@ not_none : {A : Type 0} (x : A) (xs : List A) → x ∷ xs ≡ [] → ⊥
 not_none x xs e = absurd (cc)
 
 -- The entry is not an attention.
-abbrev IsRequest : Up → Type 0
-IsRequest (Part r p) = Unit {0}
-IsRequest (End r a p) = Unit {0}
-IsRequest (Drop r p) = Unit {0}
-IsRequest (Attention r) = ⊥
+abbrev IsOfMessage : Up → Type 0
+IsOfMessage (Part r p) = Unit {0}
+IsOfMessage (End r a p) = Unit {0}
+IsOfMessage (Drop r p) = Unit {0}
+IsOfMessage (Attention r) = ⊥
 
-attention_is_none : (e : Up) (es : List Up) (r : ℕ) → IsRequest e → e ∷ es ≡ Attention r ∷ [] → ⊥
-attention_is_none e es r h z = let is : e ≡ Attention r = cc in subst IsRequest is h
+attention_is_none : (e : Up) (es : List Up) (r : ℕ) → IsOfMessage e → e ∷ es ≡ Attention r ∷ [] → ⊥
+attention_is_none e es r h z = let is : e ≡ Attention r = cc in subst IsOfMessage is h
 
-none_due : (p : Phase) (r a : ℕ) (e : Up) (es : List Up) (downs : List Down) (parts : List ℕ) (due : List answer.Step) → IsRequest e → FlowIn p r a (e ∷ es) downs parts due → due ≡ []
+none_due : (p : Phase) (r a : ℕ) (e : Up) (es : List Up) (downs : List Down) (parts : List ℕ) (due : List answer.Step) → IsOfMessage e → FlowIn p r a (e ∷ es) downs parts due → due ≡ []
 none_due Settled r a e es downs parts due i f = absurd (not_none e es f.0)
 none_due Asked r a e es downs parts due i f = absurd (not_none e es f.0)
 none_due Sending r a e es downs parts due i f = f.2

@@ -17,15 +17,18 @@ use Rattle.tds_world.specs.World.{World}
 abbrev pub IsFinal : ℕ → Type 0
 IsFinal status = (bit_and status 1 ≡ 0) × (bit_and status 32 ≡ 0)
 
--- The tokens of a last step end with a final DONE, and each other DONE says that more follows.
-abbrev pub DonesBy : Bool → List Token → Type 0
-DonesBy false tokens = All IsStatementDone tokens
-DonesBy true tokens =
+-- The tokens of a last step end with a final DONE, of this command and this count of rows, and each
+-- other DONE says that more follows.
+abbrev pub DonesBy : ℕ → ℕ → Bool → List Token → Type 0
+DonesBy cur_cmd rows false tokens = All IsStatementDone tokens
+DonesBy cur_cmd rows true tokens =
     (before : List Token) × (status : ℕ)
-    × (tokens ≡ before ++ token.Done status 0 0 ∷ []) × All IsStatementDone before × IsFinal status
+    × (tokens ≡ before ++ token.Done status cur_cmd rows ∷ [])
+    × All IsStatementDone before × IsFinal status
 
+-- A server's own final DONE tells neither.
 abbrev pub HasDones : answer.Step → Type 0
-HasDones s = DonesBy s.last s.tokens
+HasDones s = DonesBy 0 0 s.last s.tokens
 
 -- Answers of which it holds, for every session, header descriptor, reset and request.
 abbrev pub HaveDones : Answers → Type 0

@@ -14,7 +14,9 @@ abbrev pub Meets : Option Reset → Option Reset → Type 0
 Meets mark None = Unit {0}
 Meets mark (Some r) = mark ≡ Some r
 
--- A step's changes all apply to the descriptor heard, and a reset that it takes meets the mark.
+-- A step's changes all apply to the descriptor heard, and a reset that it takes meets the mark. They
+-- apply together here, under the reset that the step takes. `ChangesApply` (specs/Welcome) lets them
+-- apply one after the other, as a client must that knows its mark alone.
 abbrev pub IsHeardOn : Connection → Down → Type 0
 IsHeardOn c (Step r place s) =
     ((descriptor : ℕ) × (heard_after c.heard s ≡ Some descriptor)) × Meets c.mark s.reset

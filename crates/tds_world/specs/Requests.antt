@@ -59,7 +59,7 @@ AreRequests m (Attention r ∷ es) out = (m ≡ Nothing) × AreRequests Nothing 
 
 -- All that was sent to the server is such. What arrived of a message that has not ended, the server
 -- has as its parts.
-pub record IsSpelled (c : Connection) : Type 0 where
+pub record SendsRequests (c : Connection) : Type 0 where
   pub part : Message
   pub arrived : AreRequests Nothing c.to_server.arrived part
   pub parts : content_of part ≡ c.parts
@@ -67,4 +67,4 @@ pub record IsSpelled (c : Connection) : Type 0 where
   pub waiting : AreRequests part c.to_server.waiting out
 
 abbrev pub RequestsAreSpelled : World → Type 0
-RequestsAreSpelled w = OfEachConnection IsSpelled w
+RequestsAreSpelled w = OfEachConnection SendsRequests w

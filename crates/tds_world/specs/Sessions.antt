@@ -12,12 +12,15 @@ use Rattle.tds_world.specs.Laws.{OfEachConnection}
 use Rattle.tds_world.specs.Steps.{OfSteps, sent_down}
 use Rattle.tds_world.specs.World.{World}
 
+-- Its tokens have a spelling, where no columns are known before them.
+abbrev pub HasSpelling : answer.Step → Type 0
+HasSpelling s = (columns : Option ℕ) × IsTokens None s.tokens (flat_map spelling s.tokens) columns
+
 -- One packet of the smallest size, 512 bytes, holds the step's tokens: they have a spelling, which
 -- has a byte at least and has room behind the header. The session behind the step is one of the
 -- program.
 pub record FitsStep (s : answer.Step) : Type 0 where
-  pub columns : Option ℕ
-  pub spelled : IsTokens None s.tokens (flat_map spelling s.tokens) columns
+  pub spelled : HasSpelling s
   pub some : 1 ≤ length (flat_map spelling s.tokens)
   pub most : length (flat_map spelling s.tokens) ≤ 504
   pub after : IsSession s.after

@@ -10,7 +10,7 @@ returns g c setup s events =
     let answers : Answers = answer_of (g.E.Engine.statements_of engine) (g.E.Engine.step_of engine) in
     let w : World = world_after setup answers events new_world in
     let lawful = c.engine_is_lawful.ensures in
-    coming.worlds_hear setup answers w s c.answers_are_said.ensures
+    coming.worlds_hear c.hears_alike.ensures setup answers w s c.answers_are_said.ensures
     (c.all_welcome.ensures setup answers lawful events)
     (c.act_on_newest.ensures setup answers lawful events)
     (c.changes_are_heard.ensures setup answers lawful events)

@@ -2,4 +2,6 @@ use Rattle.tds_play.proofs.Hearing as hearing
 use Rattle.tds_play.proofs.laws.hears_alike.Goals as goal
 
 pub returns : goal.returns
-returns c = hearing.hear_alike
+returns c =
+    let read = c.spelled_are_read.ensures in
+    hearing.hear_alike (record { contents = read.contents; known = read.known; anywhere = read.anywhere })
