@@ -75,16 +75,30 @@ fn answered(alloc: Global) -> Result<Vec<(u8, u8)>, Fail> {
     heads(alloc, &mut server)
 }
 
+/// The first head, those about the last PacketID, and the last.
+fn marked(heads: &[(u8, u8)]) -> [Option<(u8, u8)>; 5] {
+    [
+        heads.first().copied(),
+        heads.get(254).copied(),
+        heads.get(255).copied(),
+        heads.get(256).copied(),
+        heads.last().copied(),
+    ]
+}
+
 /// 334 packets: PacketID 255 is followed by 0 and 1, and the last one alone ends the message.
 #[test]
 fn packet_ids_begin_again(rt: HostRuntime) -> Result<(), Fail> {
     let heads = answered(rt.alloc())?;
-    assert_eq!(rt; heads.len(), 334);
-    assert_eq!(rt; heads.first().copied(), Some((0, 1)));
-    assert_eq!(rt; heads.get(254).copied(), Some((0, 255)));
-    assert_eq!(rt; heads.get(255).copied(), Some((0, 0)));
-    assert_eq!(rt; heads.get(256).copied(), Some((0, 1)));
-    assert_eq!(rt; heads.iter().filter(|head| head.0 != 0).count(), 1);
-    assert_eq!(rt; heads.last().copied(), Some((1, 78)));
+    let ends = heads.iter().filter(|head| head.0 != 0).count();
+    assert_eq!(rt; (heads.len(), ends), (334, 1));
+    let expected = [
+        Some((0, 1)),
+        Some((0, 255)),
+        Some((0, 0)),
+        Some((0, 1)),
+        Some((1, 78)),
+    ];
+    assert_eq!(rt; marked(heads.as_slice()), expected);
     Ok(())
 }

@@ -71,24 +71,30 @@ const NO_TRANSACTION: [u8; 45] = [
 ];
 
 /// Texts and the tokens that their statements give in a session of their own.
-const STATEMENTS: [(&[u8], &[u8]); 10] = [
-    (b"say a", &SAID),
-    (b"rows 5 2", &ROWS),
-    (b"rows 1000000 1", &GREATEST_ROW),
-    (b"get x", &UNSET),
-    (b"set x -2147483648;get x", &LEAST),
-    (b"begin;begin", &BEGUN_TWICE),
-    (b"begin;commit;begin;rollback", &BOTH_ENDS),
-    (b"fail 999999", &FAILED),
-    (b"commit", &NO_TRANSACTION),
-    (b"rollback", &NO_TRANSACTION),
+const STATEMENTS: [(&str, &[u8]); 10] = [
+    ("say a", &SAID),
+    ("rows 5 2", &ROWS),
+    ("rows 1000000 1", &GREATEST_ROW),
+    ("get x", &UNSET),
+    ("set x -2147483648;get x", &LEAST),
+    ("begin;begin", &BEGUN_TWICE),
+    ("begin;commit;begin;rollback", &BOTH_ENDS),
+    ("fail 999999", &FAILED),
+    ("commit", &NO_TRANSACTION),
+    ("rollback", &NO_TRANSACTION),
 ];
 
 #[test]
 fn each_statement(rt: HostRuntime) -> Result<(), Fail> {
     for (text, bytes) in STATEMENTS {
-        let is_given = gives(rt.alloc(), &ScriptEngine, &mut Session::new(), text, bytes)?;
-        assert!(rt; is_given, "{text:?}");
+        let is_given = gives(
+            rt.alloc(),
+            &ScriptEngine,
+            &mut Session::new(),
+            text.as_bytes(),
+            bytes,
+        )?;
+        assert!(rt; is_given, "{text}");
     }
     Ok(())
 }
