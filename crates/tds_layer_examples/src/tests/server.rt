@@ -1,7 +1,11 @@
-use tds_server::*;
+//! The server by itself. A script is a list of calls with what is expected of each; one function
+//! plays them all.
+
 use std::alloc::Global;
+use std::process::Abort;
 use std::test::Fail;
 use tds_packet::{Direction, PacketReader, PacketSize};
+use tds_server::*;
 
 mod answers;
 mod attentions;
@@ -32,65 +36,104 @@ const ACKNOWLEDGED: [u8; 21] = [
     0, 0,
 ];
 
+/// A call of a server, and what is expected of it.
+#[derive(Clone, Copy)]
+enum Call<'a> {
+    /// The packet that these bytes spell is taken, with this outcome and this reply.
+    Take(&'a [u8], ServerTook, &'a [u8]),
+    /// It breaks the server, or comes to a broken one: the fault's number, and no reply.
+    Refuse(&'a [u8], u8),
+    /// The outcome and the packet.
+    Work(Worked, &'a [u8]),
+    /// The connection is lost.
+    Lose,
+    /// The session is the one that a connection begins with.
+    NewSession,
+    /// The session's descriptor.
+    Descriptor(u64),
+    /// The session's value of `a`.
+    Value(i32),
+}
+
+/// There is nothing to do.
+const IDLE: Call = Call::Work(Worked::Idle, &[]);
+
 fn size() -> Result<PacketSize, Fail> {
     Ok(PacketSize::new(512).ok_or("size")?)
 }
 
-/// A server as a connection begins.
-fn server(alloc: Global) -> Result<Server<ScriptEngine>, Fail> {
-    Ok(Server::new(alloc, ScriptEngine, size()?))
-}
-
-/// Hands the packet that these bytes spell to a server, with the reply in a vector of its own. Want
-/// of memory fails the test.
-fn take<E: Engine + Drop>(
+/// Hands the packet that these bytes spell to a server: whether the outcome is this one, or the
+/// fault has this number, and whether the reply is this one.
+fn takes<E: Engine + Drop>(
     alloc: Global,
     server: &mut Server<E>,
     bytes: &[u8],
-) -> Result<(Result<ServerTook, ServerFault>, Vec<u8>), Fail> {
+    expected: Result<ServerTook, u8>,
+    expected_reply: &[u8],
+) -> Result<bool, Fail> {
     let mut reader = PacketReader::new(alloc, size()?, Direction::ToServer)?;
     reader.feed(bytes).ok().ok_or("a packet fault")?;
     let packet = reader.packet().ok_or("no packet")?;
     let mut reply = Vec::new(alloc);
-    let took = server.take(packet, &mut reply);
-    if matches!(&took, Ok(ServerTook::NoMemory)) {
-        return Err("no memory".into());
-    }
-    Ok((took, reply))
+    let is_expected = match server.take(packet, &mut reply) {
+        Ok(took) => expected == Ok(took),
+        Err(fault) => expected == Err(fault.number()),
+    };
+    Ok(is_expected && reply.as_slice() == expected_reply)
 }
 
-/// The same, where there is neither a fault nor a reply.
-fn taken<E: Engine + Drop>(
+/// One call of `work`: whether its outcome and its packet are these.
+fn works<E: Engine + Drop>(
     alloc: Global,
     server: &mut Server<E>,
-    bytes: &[u8],
-) -> Result<ServerTook, Fail> {
-    let (took, reply) = take(alloc, server, bytes)?;
-    if !reply.is_empty() {
-        return Err("a reply".into());
-    }
-    Ok(took.ok().ok_or("a fault")?)
-}
-
-/// One call of `work`, with its packet in a vector of its own.
-fn work<E: Engine + Drop>(
-    alloc: Global,
-    server: &mut Server<E>,
-) -> Result<(Worked, Vec<u8>), Fail> {
+    expected: Worked,
+    expected_packet: &[u8],
+) -> Result<bool, Fail> {
     let mut out = Vec::new(alloc);
     let worked = server.work(&mut out)?;
-    Ok((worked, out))
+    Ok(worked == expected && out.as_slice() == expected_packet)
 }
 
-/// The bytes of an answer's first packets, this many at most.
-fn answer<E: Engine + Drop>(
+/// Whether a call goes as expected.
+fn goes<E: Engine + Drop>(
     alloc: Global,
     server: &mut Server<E>,
-    count: usize,
-) -> Result<Vec<u8>, Fail> {
-    let mut out = Vec::new(alloc);
-    for _ in 0..count {
-        let _ = server.work(&mut out)?;
+    call: Call<'_>,
+) -> Result<bool, Fail> {
+    match call {
+        Call::Take(bytes, took, reply) => takes(alloc, server, bytes, Ok(took), reply),
+        Call::Refuse(bytes, fault) => takes(alloc, server, bytes, Err(fault), &[]),
+        Call::Work(worked, packet) => works(alloc, server, worked, packet),
+        Call::Lose => {
+            server.lost();
+            Ok(true)
+        }
+        Call::NewSession => Ok(*server.session() == Session::new()),
+        Call::Descriptor(descriptor) => Ok(server.session().descriptor() == descriptor),
+        Call::Value(value) => Ok(server.session().get(b'a') == value),
     }
-    Ok(out)
+}
+
+/// Plays a script on a new server. The place of the first call that goes otherwise, from 0; None
+/// where there is none.
+fn plays<E: Engine + Drop>(
+    alloc: Global,
+    engine: E,
+    calls: &[Call<'_>],
+) -> Result<Option<usize>, Fail> {
+    let mut server = Server::new(alloc, engine, size()?);
+    for (place, call) in calls.iter().enumerate() {
+        if !goes(alloc, &mut server, *call)? {
+            return Ok(Some(place));
+        }
+    }
+    Ok(None)
+}
+
+/// Plays scripts, each on a new server of its own, and fails with the name of one that differs.
+fn play_all(rt: &impl Abort, alloc: Global, scripts: &[(&str, &[Call<'_>])]) -> Result<(), Fail> {
+    for (name, calls) in scripts {
+        assert_eq!(rt; plays(alloc, ScriptEngine, calls)?, None, "{name}");
+    }
+    Ok(())
 }

@@ -9,12 +9,17 @@ const SAY: [u8; 40] = [
     0x61, 0x00, 0x79, 0x00, 0x20, 0x00, 0x61, 0x00,
 ];
 
-/// Its answer: INFO 50000 and a DONE with `0001`; the final DONE.
-const SAID: [u8; 61] = [
+/// The first packet of its answer: INFO 50000 and a DONE with `0001`.
+pub(super) const SAID: [u8; 40] = [
     0x04, 0x00, 0x00, 0x28, 0x00, 0x00, 0x01, 0x00, 0xAB, 0x10, 0x00, 0x50, 0xC3, 0x00, 0x00, 0x01,
     0x00, 0x01, 0x00, 0x61, 0x00, 0x00, 0x00, 0x00, 0x00, 0x00, 0x00, 0xFD, 0x01, 0x00, 0x00, 0x00,
-    0x00, 0x00, 0x00, 0x00, 0x00, 0x00, 0x00, 0x00, 0x04, 0x01, 0x00, 0x15, 0x00, 0x00, 0x02, 0x00,
-    0xFD, 0x00, 0x00, 0x00, 0x00, 0x00, 0x00, 0x00, 0x00, 0x00, 0x00, 0x00, 0x00,
+    0x00, 0x00, 0x00, 0x00, 0x00, 0x00, 0x00, 0x00,
+];
+
+/// The final DONE, in the second packet of an answer.
+const SECOND_ENDS: [u8; 21] = [
+    0x04, 0x01, 0x00, 0x15, 0x00, 0x00, 0x02, 0x00, 0xFD, 0x00, 0x00, 0x00, 0x00, 0x00, 0x00, 0x00,
+    0x00, 0x00, 0x00, 0x00, 0x00,
 ];
 
 /// The batch `get x` under a full reset, with descriptor 0.
@@ -24,12 +29,21 @@ const RESET_AND_GET: [u8; 40] = [
     0x65, 0x00, 0x74, 0x00, 0x20, 0x00, 0x78, 0x00,
 ];
 
-/// Its answer: ENVCHANGE 18; RETURNSTATUS 0 and a DONE with `0001`; the final DONE.
-const RESET_AND_GOT: [u8; 61] = [
-    0x04, 0x00, 0x00, 0x0E, 0x00, 0x00, 0x01, 0x00, 0xE3, 0x03, 0x00, 0x12, 0x00, 0x00, 0x04, 0x00,
-    0x00, 0x1A, 0x00, 0x00, 0x02, 0x00, 0x79, 0x00, 0x00, 0x00, 0x00, 0xFD, 0x01, 0x00, 0x00, 0x00,
-    0x00, 0x00, 0x00, 0x00, 0x00, 0x00, 0x00, 0x00, 0x04, 0x01, 0x00, 0x15, 0x00, 0x00, 0x03, 0x00,
-    0xFD, 0x00, 0x00, 0x00, 0x00, 0x00, 0x00, 0x00, 0x00, 0x00, 0x00, 0x00, 0x00,
+/// The first packet of its answer: ENVCHANGE 18.
+const RESET: [u8; 14] = [
+    0x04, 0x00, 0x00, 0x0E, 0x00, 0x00, 0x01, 0x00, 0xE3, 0x03, 0x00, 0x12, 0x00, 0x00,
+];
+
+/// The second: RETURNSTATUS 0 and a DONE with `0001`.
+const GOT: [u8; 26] = [
+    0x04, 0x00, 0x00, 0x1A, 0x00, 0x00, 0x02, 0x00, 0x79, 0x00, 0x00, 0x00, 0x00, 0xFD, 0x01, 0x00,
+    0x00, 0x00, 0x00, 0x00, 0x00, 0x00, 0x00, 0x00, 0x00, 0x00,
+];
+
+/// The third: the final DONE.
+const THIRD_ENDS: [u8; 21] = [
+    0x04, 0x01, 0x00, 0x15, 0x00, 0x00, 0x03, 0x00, 0xFD, 0x00, 0x00, 0x00, 0x00, 0x00, 0x00, 0x00,
+    0x00, 0x00, 0x00, 0x00, 0x00,
 ];
 
 /// The batch `say`, which is not in the language.
@@ -39,12 +53,17 @@ const NO_STATEMENT: [u8; 36] = [
     0x61, 0x00, 0x79, 0x00,
 ];
 
-/// Its answer: ERROR 50001 `syntax`; the final DONE after an error.
-const SYNTAX: [u8; 58] = [
+/// The first packet of its answer: ERROR 50001 `syntax`.
+const SYNTAX: [u8; 37] = [
     0x04, 0x00, 0x00, 0x25, 0x00, 0x00, 0x01, 0x00, 0xAA, 0x1A, 0x00, 0x51, 0xC3, 0x00, 0x00, 0x01,
     0x10, 0x06, 0x00, 0x73, 0x00, 0x79, 0x00, 0x6E, 0x00, 0x74, 0x00, 0x61, 0x00, 0x78, 0x00, 0x00,
-    0x00, 0x00, 0x00, 0x00, 0x00, 0x04, 0x01, 0x00, 0x15, 0x00, 0x00, 0x02, 0x00, 0xFD, 0x02, 0x00,
-    0x00, 0x00, 0x00, 0x00, 0x00, 0x00, 0x00, 0x00, 0x00, 0x00,
+    0x00, 0x00, 0x00, 0x00, 0x00,
+];
+
+/// The final DONE after an error, in the second packet of an answer.
+const SECOND_ENDS_AFTER_ERROR: [u8; 21] = [
+    0x04, 0x01, 0x00, 0x15, 0x00, 0x00, 0x02, 0x00, 0xFD, 0x02, 0x00, 0x00, 0x00, 0x00, 0x00, 0x00,
+    0x00, 0x00, 0x00, 0x00, 0x00,
 ];
 
 /// A commit, with descriptor 0.
@@ -72,82 +91,77 @@ const FAIL_THEN_SAY: [u8; 54] = [
     0x79, 0x00, 0x20, 0x00, 0x61, 0x00,
 ];
 
-/// Its answer: ERROR 1 `fail`, behind which no statement is run; the final DONE after an error.
-const FAILED: [u8; 54] = [
+/// The first packet of its answer: ERROR 1 `fail`, behind which no statement is run.
+const FAILED: [u8; 33] = [
     0x04, 0x00, 0x00, 0x21, 0x00, 0x00, 0x01, 0x00, 0xAA, 0x16, 0x00, 0x01, 0x00, 0x00, 0x00, 0x01,
     0x10, 0x04, 0x00, 0x66, 0x00, 0x61, 0x00, 0x69, 0x00, 0x6C, 0x00, 0x00, 0x00, 0x00, 0x00, 0x00,
-    0x00, 0x04, 0x01, 0x00, 0x15, 0x00, 0x00, 0x02, 0x00, 0xFD, 0x02, 0x00, 0x00, 0x00, 0x00, 0x00,
-    0x00, 0x00, 0x00, 0x00, 0x00, 0x00,
+    0x00,
 ];
 
-/// Requests to a new server, with the steps of their answers and the bytes.
-const ANSWERS: [(&[u8], usize, &[u8]); 6] = [
-    (&BEGIN, 1, &BEGUN),
-    (&SAY, 2, &SAID),
-    (&RESET_AND_GET, 3, &RESET_AND_GOT),
-    (&NO_STATEMENT, 2, &SYNTAX),
-    (&FAIL_THEN_SAY, 2, &FAILED),
-    (&COMMIT, 1, &NO_TRANSACTION),
+/// Requests to a new server, with each packet of their answers. The last step, and no step before
+/// it, ends an answer; behind it there is nothing to do.
+const ANSWERS: [(&str, &[Call]); 7] = [
+    // A new server has nothing to do.
+    ("nothing", &[Call::NewSession, IDLE]),
+    // A request that is taken changes no session; its step does.
+    (
+        "begin",
+        &[
+            Call::Take(&BEGIN, ServerTook::Request, &[]),
+            Call::Descriptor(0),
+            Call::Work(Worked::Finished, &BEGUN),
+            Call::Descriptor(1),
+            IDLE,
+        ],
+    ),
+    (
+        "say",
+        &[
+            Call::Take(&SAY, ServerTook::Request, &[]),
+            Call::Work(Worked::Step, &SAID),
+            Call::Work(Worked::Finished, &SECOND_ENDS),
+            IDLE,
+        ],
+    ),
+    (
+        "get behind a reset",
+        &[
+            Call::Take(&RESET_AND_GET, ServerTook::Request, &[]),
+            Call::Work(Worked::Step, &RESET),
+            Call::Work(Worked::Step, &GOT),
+            Call::Work(Worked::Finished, &THIRD_ENDS),
+            IDLE,
+        ],
+    ),
+    (
+        "no statement",
+        &[
+            Call::Take(&NO_STATEMENT, ServerTook::Request, &[]),
+            Call::Work(Worked::Step, &SYNTAX),
+            Call::Work(Worked::Finished, &SECOND_ENDS_AFTER_ERROR),
+            IDLE,
+        ],
+    ),
+    (
+        "fail",
+        &[
+            Call::Take(&FAIL_THEN_SAY, ServerTook::Request, &[]),
+            Call::Work(Worked::Step, &FAILED),
+            Call::Work(Worked::Finished, &SECOND_ENDS_AFTER_ERROR),
+            IDLE,
+        ],
+    ),
+    (
+        "commit outside a transaction",
+        &[
+            Call::Take(&COMMIT, ServerTook::Request, &[]),
+            Call::Work(Worked::Finished, &NO_TRANSACTION),
+            IDLE,
+        ],
+    ),
 ];
 
 #[test]
 fn each_answer(rt: HostRuntime) -> Result<(), Fail> {
-    for (request, steps, bytes) in ANSWERS {
-        let mut server = server(rt.alloc())?;
-        assert_eq!(rt;
-            taken(rt.alloc(), &mut server, request)?,
-            ServerTook::Request
-        );
-        let found = answer(rt.alloc(), &mut server, steps)?;
-        assert_eq!(rt; found.as_slice(), bytes);
-    }
-    Ok(())
-}
-
-/// The last step, and no step before it, ends an answer; behind it there is nothing to do.
-#[test]
-fn each_answer_ends(rt: HostRuntime) -> Result<(), Fail> {
-    for (request, steps, _) in ANSWERS {
-        let mut server = server(rt.alloc())?;
-        let _ = taken(rt.alloc(), &mut server, request)?;
-        let _ = answer(rt.alloc(), &mut server, steps - 1)?;
-        let (worked, _) = work(rt.alloc(), &mut server)?;
-        assert_eq!(rt; worked, Worked::Finished);
-        let (worked, out) = work(rt.alloc(), &mut server)?;
-        assert_eq!(rt; worked, Worked::Idle);
-        assert!(rt; out.is_empty());
-    }
-    Ok(())
-}
-
-#[test]
-fn a_step_is_told(rt: HostRuntime) -> Result<(), Fail> {
-    let mut server = server(rt.alloc())?;
-    let _ = taken(rt.alloc(), &mut server, &SAY)?;
-    let (worked, out) = work(rt.alloc(), &mut server)?;
-    assert_eq!(rt; worked, Worked::Step);
-    assert_eq!(rt; out.len(), 40);
-    Ok(())
-}
-
-/// A new server has the session that a connection begins with, and nothing to do.
-#[test]
-fn a_new_server(rt: HostRuntime) -> Result<(), Fail> {
-    let mut server = server(rt.alloc())?;
-    assert_eq!(rt; *server.session(), Session::new());
-    let (worked, out) = work(rt.alloc(), &mut server)?;
-    assert_eq!(rt; worked, Worked::Idle);
-    assert!(rt; out.is_empty());
-    Ok(())
-}
-
-/// A request that is taken changes no session; its step does.
-#[test]
-fn a_step_changes_the_session(rt: HostRuntime) -> Result<(), Fail> {
-    let mut server = server(rt.alloc())?;
-    let _ = taken(rt.alloc(), &mut server, &BEGIN)?;
-    assert_eq!(rt; server.session().descriptor(), 0);
-    let _ = work(rt.alloc(), &mut server)?;
-    assert_eq!(rt; server.session().descriptor(), 1);
-    Ok(())
+    play_all(&rt, rt.alloc(), &ANSWERS)
 }

@@ -1,5 +1,6 @@
 //! Attentions: each is acknowledged by one packet, and ends what is underway.
 
+use super::answers::SAID;
 use super::*;
 
 /// An acknowledgement that ends an answer of which one packet went out.
@@ -16,45 +17,41 @@ const SAY_TWICE: [u8; 52] = [
     0x20, 0x00, 0x62, 0x00,
 ];
 
-/// Sends an attention after this many steps of the answer to a request, and gives the reply.
-fn attended(alloc: Global, request: &[u8], steps: usize) -> Result<Vec<u8>, Fail> {
-    let mut server = server(alloc)?;
-    let _ = taken(alloc, &mut server, request)?;
-    let _ = answer(alloc, &mut server, steps)?;
-    let (took, reply) = take(alloc, &mut server, &ATTENTION)?;
-    if took.ok() != Some(ServerTook::Acknowledged) {
-        return Err("not acknowledged".into());
-    }
-    let (worked, _) = work(alloc, &mut server)?;
-    if worked != Worked::Idle {
-        return Err("something is underway".into());
-    }
-    Ok(reply)
-}
+/// When an attention comes. Behind it there is nothing to do.
+const ATTENTIONS: [(&str, &[Call]); 3] = [
+    // It is acknowledged by a message of its own.
+    (
+        "when the answer has gone out",
+        &[
+            Call::Take(&BEGIN, ServerTook::Request, &[]),
+            Call::Work(Worked::Finished, &BEGUN),
+            Call::Take(&ATTENTION, ServerTook::Acknowledged, &ACKNOWLEDGED),
+            IDLE,
+        ],
+    ),
+    // It ends the answer's message.
+    (
+        "in the middle of an answer",
+        &[
+            Call::Take(&SAY_TWICE, ServerTook::Request, &[]),
+            Call::Work(Worked::Step, &SAID),
+            Call::Take(&ATTENTION, ServerTook::Acknowledged, &ENDS_ANSWER),
+            IDLE,
+        ],
+    ),
+    // It is the whole answer, and the step isn't done.
+    (
+        "before the first step",
+        &[
+            Call::Take(&BEGIN, ServerTook::Request, &[]),
+            Call::Take(&ATTENTION, ServerTook::Acknowledged, &ACKNOWLEDGED),
+            Call::Descriptor(0),
+            IDLE,
+        ],
+    ),
+];
 
-/// One that comes when the answer has gone out is acknowledged by a message of its own.
 #[test]
-fn a_late_attention(rt: HostRuntime) -> Result<(), Fail> {
-    let reply = attended(rt.alloc(), &BEGIN, 1)?;
-    assert_eq!(rt; reply.as_slice(), ACKNOWLEDGED.as_slice());
-    Ok(())
-}
-
-/// One in the middle of an answer ends its message.
-#[test]
-fn an_attention_in_the_middle(rt: HostRuntime) -> Result<(), Fail> {
-    let reply = attended(rt.alloc(), &SAY_TWICE, 1)?;
-    assert_eq!(rt; reply.as_slice(), ENDS_ANSWER.as_slice());
-    Ok(())
-}
-
-/// One before the first step is the whole answer, and the step isn't done.
-#[test]
-fn an_attention_before_the_first_step(rt: HostRuntime) -> Result<(), Fail> {
-    let mut server = server(rt.alloc())?;
-    let _ = taken(rt.alloc(), &mut server, &BEGIN)?;
-    let (_, reply) = take(rt.alloc(), &mut server, &ATTENTION)?;
-    assert_eq!(rt; reply.as_slice(), ACKNOWLEDGED.as_slice());
-    assert_eq!(rt; server.session().descriptor(), 0);
-    Ok(())
+fn each_attention(rt: HostRuntime) -> Result<(), Fail> {
+    play_all(&rt, rt.alloc(), &ATTENTIONS)
 }

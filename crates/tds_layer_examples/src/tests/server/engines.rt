@@ -58,49 +58,69 @@ const THREE_UNITS: [u8; 36] = [
     0x79, 0x00, 0x7A, 0x00,
 ];
 
-/// A DONE with `0001`, in the third packet of an answer.
-const THIRD: [u8; 21] = [
-    0x04, 0x00, 0x00, 0x15, 0x00, 0x00, 0x03, 0x00, 0xFD, 0x01, 0x00, 0x00, 0x00, 0, 0, 0, 0, 0, 0,
-    0, 0,
+/// A DONE with `0001`, in the first packet of an answer.
+const FIRST: [u8; 21] = [
+    0x04, 0x00, 0x00, 0x15, 0x00, 0x00, 0x01, 0x00, 0xFD, 0x01, 0x00, 0x00, 0x00, 0x00, 0x00, 0x00,
+    0x00, 0x00, 0x00, 0x00, 0x00,
 ];
 
-/// A server with this engine that has taken a batch of three units.
-fn counting(alloc: Global) -> Result<Server<Counts>, Fail> {
-    let mut server = Server::new(alloc, Counts, size()?);
-    let _ = taken(alloc, &mut server, &THREE_UNITS)?;
-    Ok(server)
-}
+/// In the second.
+const SECOND: [u8; 21] = [
+    0x04, 0x00, 0x00, 0x15, 0x00, 0x00, 0x02, 0x00, 0xFD, 0x01, 0x00, 0x00, 0x00, 0x00, 0x00, 0x00,
+    0x00, 0x00, 0x00, 0x00, 0x00,
+];
+
+/// In the third.
+const THIRD: [u8; 21] = [
+    0x04, 0x00, 0x00, 0x15, 0x00, 0x00, 0x03, 0x00, 0xFD, 0x01, 0x00, 0x00, 0x00, 0x00, 0x00, 0x00,
+    0x00, 0x00, 0x00, 0x00, 0x00,
+];
+
+/// The final DONE, in the fourth.
+const LAST: [u8; 21] = [
+    0x04, 0x01, 0x00, 0x15, 0x00, 0x00, 0x04, 0x00, 0xFD, 0x00, 0x00, 0x00, 0x00, 0x00, 0x00, 0x00,
+    0x00, 0x00, 0x00, 0x00, 0x00,
+];
+
+/// An acknowledgement that ends an answer of which two packets went out.
+const STOPPED: [u8; 21] = [
+    0x04, 0x01, 0x00, 0x15, 0x00, 0x00, 0x03, 0x00, 0xFD, 0x20, 0x00, 0x00, 0x00, 0x00, 0x00, 0x00,
+    0x00, 0x00, 0x00, 0x00, 0x00,
+];
 
 /// No step is done ahead: neither when a request is taken, nor by a call of `work` before its own.
-#[test]
-fn one_step_at_a_time(rt: HostRuntime) -> Result<(), Fail> {
-    let mut server = counting(rt.alloc())?;
-    assert_eq!(rt; server.session().get(b'a'), 0);
-    for done in [1, 2, 3, 3, 3] {
-        let _ = work(rt.alloc(), &mut server)?;
-        assert_eq!(rt; server.session().get(b'a'), done);
-    }
-    Ok(())
-}
+const ONE_STEP_AT_A_TIME: [Call; 12] = [
+    Call::Take(&THREE_UNITS, ServerTook::Request, &[]),
+    Call::Value(0),
+    Call::Work(Worked::Step, &FIRST),
+    Call::Value(1),
+    Call::Work(Worked::Step, &SECOND),
+    Call::Value(2),
+    Call::Work(Worked::Step, &THIRD),
+    Call::Value(3),
+    Call::Work(Worked::Finished, &LAST),
+    Call::Value(3),
+    IDLE,
+    Call::Value(3),
+];
+
+/// An attention after two of the steps: the third is never done.
+const NO_STEP_BEHIND_AN_ATTENTION: [Call; 7] = [
+    Call::Take(&THREE_UNITS, ServerTook::Request, &[]),
+    Call::Work(Worked::Step, &FIRST),
+    Call::Work(Worked::Step, &SECOND),
+    Call::Take(&ATTENTION, ServerTook::Acknowledged, &STOPPED),
+    IDLE,
+    IDLE,
+    Call::Value(2),
+];
 
 #[test]
 fn another_engine_is_served(rt: HostRuntime) -> Result<(), Fail> {
-    let mut server = counting(rt.alloc())?;
-    let _ = answer(rt.alloc(), &mut server, 2)?;
-    let (worked, out) = work(rt.alloc(), &mut server)?;
-    assert_eq!(rt; worked, Worked::Step);
-    assert_eq!(rt; out.as_slice(), THIRD.as_slice());
-    Ok(())
-}
-
-/// An attention after two of the steps: the third is never done.
-#[test]
-fn no_step_behind_an_attention(rt: HostRuntime) -> Result<(), Fail> {
-    let mut server = counting(rt.alloc())?;
-    let _ = answer(rt.alloc(), &mut server, 2)?;
-    let _ = take(rt.alloc(), &mut server, &ATTENTION)?;
-    let out = answer(rt.alloc(), &mut server, 2)?;
-    assert!(rt; out.is_empty());
-    assert_eq!(rt; server.session().get(b'a'), 2);
+    assert_eq!(rt; plays(rt.alloc(), Counts, &ONE_STEP_AT_A_TIME)?, None);
+    assert_eq!(rt;
+        plays(rt.alloc(), Counts, &NO_STEP_BEHIND_AN_ATTENTION)?,
+        None
+    );
     Ok(())
 }

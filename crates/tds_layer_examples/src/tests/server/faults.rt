@@ -2,102 +2,93 @@
 
 use super::*;
 
-/// A whole begin with one byte changed.
-fn begin_with(place: usize, byte: u8) -> [u8; 34] {
-    let mut bytes = BEGIN;
-    if place < 34 {
-        bytes[place] = byte;
-    }
-    bytes
-}
+/// A begin with a wrong total length.
+const WRONG_LENGTH: [u8; 34] = [
+    0x0E, 0x01, 0x00, 0x22, 0x00, 0x00, 0x01, 0x00, 0x17, 0x00, 0x00, 0x00, 0x12, 0x00, 0x00, 0x00,
+    0x02, 0x00, 0x00, 0x00, 0x00, 0x00, 0x00, 0x00, 0x00, 0x00, 0x01, 0x00, 0x00, 0x00, 0x05, 0x00,
+    0x00, 0x00,
+];
 
-/// The number of the fault, or 0 for none, with which a server answers.
-fn number(alloc: Global, server: &mut Server<ScriptEngine>, bytes: &[u8]) -> Result<u8, Fail> {
-    let (took, reply) = take(alloc, server, bytes)?;
-    if !reply.is_empty() {
-        return Err("a reply".into());
-    }
-    match took {
-        Ok(_) => Ok(0),
-        Err(fault) => Ok(fault.number()),
-    }
-}
+/// A begin with a wrong count of requests.
+const WRONG_COUNT: [u8; 34] = [
+    0x0E, 0x01, 0x00, 0x22, 0x00, 0x00, 0x01, 0x00, 0x16, 0x00, 0x00, 0x00, 0x12, 0x00, 0x00, 0x00,
+    0x02, 0x00, 0x00, 0x00, 0x00, 0x00, 0x00, 0x00, 0x00, 0x00, 0x02, 0x00, 0x00, 0x00, 0x05, 0x00,
+    0x00, 0x00,
+];
 
-/// First packets that break a new server.
-const FIRST: [(&[u8], u8); 3] = [
-    // Both resets.
-    (&[0x01, 0x19, 0x00, 0x08, 0x00, 0x00, 0x01, 0x00], 3),
-    // An attention that is to be ignored.
-    (&[0x06, 0x03, 0x00, 0x08, 0x00, 0x00, 0x01, 0x00], 4),
-    // The ignore bit without end of message.
-    (&[0x01, 0x02, 0x00, 0x09, 0x00, 0x00, 0x01, 0x00, 0x41], 7),
+/// A batch that goes on.
+const PART: [u8; 9] = [0x01, 0x00, 0x00, 0x09, 0x00, 0x00, 0x01, 0x00, 0x16];
+
+/// The first packet of a batch, with both resets.
+const BOTH_RESETS: [u8; 8] = [0x01, 0x19, 0x00, 0x08, 0x00, 0x00, 0x01, 0x00];
+
+/// An attention that is to be ignored.
+const IGNORED_ATTENTION: [u8; 8] = [0x06, 0x03, 0x00, 0x08, 0x00, 0x00, 0x01, 0x00];
+
+/// The ignore bit without end of message.
+const IGNORED_PART: [u8; 9] = [0x01, 0x02, 0x00, 0x09, 0x00, 0x00, 0x01, 0x00, 0x41];
+
+/// A batch that goes on, with one byte.
+const MORE: [u8; 9] = [0x01, 0x00, 0x00, 0x09, 0x00, 0x00, 0x09, 0x00, 0x00];
+
+const FAULTS: [(&str, &[Call]); 8] = [
+    // A fault is answered again, also to a lawful packet.
+    (
+        "both resets",
+        &[Call::Refuse(&BOTH_RESETS, 3), Call::Refuse(&ATTENTION, 3)],
+    ),
+    (
+        "an ignored attention",
+        &[
+            Call::Refuse(&IGNORED_ATTENTION, 4),
+            Call::Refuse(&ATTENTION, 4),
+        ],
+    ),
+    (
+        "an ignored part",
+        &[Call::Refuse(&IGNORED_PART, 7), Call::Refuse(&ATTENTION, 7)],
+    ),
+    ("a wrong length", &[Call::Refuse(&WRONG_LENGTH, 6)]),
+    ("a wrong count", &[Call::Refuse(&WRONG_COUNT, 6)]),
+    // A second request comes before the first is answered.
+    (
+        "a request while answering",
+        &[
+            Call::Take(&BEGIN, ServerTook::Request, &[]),
+            Call::Refuse(&BEGIN, 1),
+            IDLE,
+        ],
+    ),
+    // A batch goes on with a packet of another type.
+    (
+        "a changed type",
+        &[
+            Call::Take(&PART, ServerTook::More, &[]),
+            Call::Refuse(&BEGIN, 2),
+        ],
+    ),
+    ("a lost connection", &[Call::Lose, Call::Refuse(&BEGIN, 8)]),
 ];
 
 #[test]
-fn first_packets(rt: HostRuntime) -> Result<(), Fail> {
-    for (bytes, fault) in FIRST {
-        let mut server = server(rt.alloc())?;
-        assert_eq!(rt; number(rt.alloc(), &mut server, bytes)?, fault);
-        // It is answered again, also to a lawful packet.
-        assert_eq!(rt; number(rt.alloc(), &mut server, &ATTENTION)?, fault);
-    }
-    Ok(())
-}
-
-/// A wrong total length, and a wrong count of requests.
-#[test]
-fn wrong_requests(rt: HostRuntime) -> Result<(), Fail> {
-    for bytes in [begin_with(8, 0x17), begin_with(26, 0x02)] {
-        let mut server = server(rt.alloc())?;
-        assert_eq!(rt; number(rt.alloc(), &mut server, &bytes)?, 6);
-    }
-    Ok(())
-}
-
-/// A second request comes before the first is answered.
-#[test]
-fn a_request_while_answering(rt: HostRuntime) -> Result<(), Fail> {
-    let mut server = server(rt.alloc())?;
-    assert_eq!(rt; number(rt.alloc(), &mut server, &BEGIN)?, 0);
-    assert_eq!(rt; number(rt.alloc(), &mut server, &BEGIN)?, 1);
-    let (worked, _) = work(rt.alloc(), &mut server)?;
-    assert_eq!(rt; worked, Worked::Idle);
-    Ok(())
-}
-
-/// A batch goes on with a packet of another type.
-#[test]
-fn a_changed_type(rt: HostRuntime) -> Result<(), Fail> {
-    let mut server = server(rt.alloc())?;
-    let part = [0x01, 0x00, 0x00, 0x09, 0x00, 0x00, 0x01, 0x00, 0x16];
-    assert_eq!(rt; number(rt.alloc(), &mut server, &part)?, 0);
-    assert_eq!(rt; number(rt.alloc(), &mut server, &BEGIN)?, 2);
-    Ok(())
-}
-
-#[test]
-fn a_lost_connection(rt: HostRuntime) -> Result<(), Fail> {
-    let mut server = server(rt.alloc())?;
-    server.lost();
-    assert_eq!(rt; number(rt.alloc(), &mut server, &BEGIN)?, 8);
-    Ok(())
+fn each_fault(rt: HostRuntime) -> Result<(), Fail> {
+    play_all(&rt, rt.alloc(), &FAULTS)
 }
 
 /// Of 4,022 bytes each may still begin a request; one more is too much.
 #[test]
 fn a_long_message(rt: HostRuntime) -> Result<(), Fail> {
-    let mut server = server(rt.alloc())?;
     let mut part = [0; 512];
     part[0] = 0x01;
     part[2] = 0x02;
-    for _ in 0..7 {
-        assert_eq!(rt; number(rt.alloc(), &mut server, &part)?, 0);
-    }
-    // 3,528 bytes have come: 494 more are taken, and one more isn't.
-    part[2] = 0x01;
-    part[3] = 0xF6;
-    assert_eq!(rt; number(rt.alloc(), &mut server, &part[..502])?, 0);
-    let more = [0x01, 0x00, 0x00, 0x09, 0x00, 0x00, 0x09, 0x00, 0x00];
-    assert_eq!(rt; number(rt.alloc(), &mut server, &more)?, 5);
+    // Behind seven of these 3,528 bytes have come: 494 more are taken, and one more isn't.
+    let mut last = [0; 502];
+    last[0] = 0x01;
+    last[2] = 0x01;
+    last[3] = 0xF6;
+    let mut calls = [Call::Take(&part, ServerTook::More, &[]); 9];
+    calls[7] = Call::Take(&last, ServerTook::More, &[]);
+    calls[8] = Call::Refuse(&MORE, 5);
+    assert_eq!(rt; plays(rt.alloc(), ScriptEngine, &calls)?, None);
     Ok(())
 }

@@ -70,48 +70,69 @@ const NO_TRANSACTION: [u8; 45] = [
     0x00, 0x69, 0x00, 0x6F, 0x00, 0x6E, 0x00, 0x00, 0x00, 0x00, 0x00, 0x00, 0x00,
 ];
 
-/// Of a `begin` where the descriptors are used up.
+/// Texts and the tokens that their statements give in a session of their own.
+const STATEMENTS: [(&str, &[u8]); 10] = [
+    ("say a", &SAID),
+    ("rows 5 2", &ROWS),
+    ("rows 1000000 1", &GREATEST_ROW),
+    ("get x", &UNSET),
+    ("set x -2147483648;get x", &LEAST),
+    ("begin;begin", &BEGUN_TWICE),
+    ("begin;commit;begin;rollback", &BOTH_ENDS),
+    ("fail 999999", &FAILED),
+    ("commit", &NO_TRANSACTION),
+    ("rollback", &NO_TRANSACTION),
+];
+
+#[test]
+fn each_statement(rt: HostRuntime) -> Result<(), Fail> {
+    for (text, bytes) in STATEMENTS {
+        let is_given = gives(
+            rt.alloc(),
+            &ScriptEngine,
+            &mut Session::new(),
+            text.as_bytes(),
+            bytes,
+        )?;
+        assert!(rt; is_given, "{text}");
+    }
+    Ok(())
+}
+
+/// The error of a `begin` where the descriptors are used up.
 const NO_DESCRIPTOR: [u8; 43] = [
     0xAA, 0x28, 0x00, 0x54, 0xC3, 0x00, 0x00, 0x01, 0x10, 0x0D, 0x00, 0x6E, 0x00, 0x6F, 0x00, 0x20,
     0x00, 0x64, 0x00, 0x65, 0x00, 0x73, 0x00, 0x63, 0x00, 0x72, 0x00, 0x69, 0x00, 0x70, 0x00, 0x74,
     0x00, 0x6F, 0x00, 0x72, 0x00, 0x00, 0x00, 0x00, 0x00, 0x00, 0x00,
 ];
 
-/// Texts and the tokens that their statements give in a session of their own.
-const STATEMENTS: [(&[u8], &[u8]); 10] = [
-    (b"say a", &SAID),
-    (b"rows 5 2", &ROWS),
-    (b"rows 1000000 1", &GREATEST_ROW),
-    (b"get x", &UNSET),
-    (b"set x -2147483648;get x", &LEAST),
-    (b"begin;begin", &BEGUN_TWICE),
-    (b"begin;commit;begin;rollback", &BOTH_ENDS),
-    (b"fail 999999", &FAILED),
-    (b"commit", &NO_TRANSACTION),
-    (b"rollback", &NO_TRANSACTION),
+/// Another error, with the text `descriptor`.
+const ANOTHER_ERROR: [u8; 37] = [
+    0xAA, 0x22, 0x00, 0x5A, 0xC3, 0x00, 0x00, 0x01, 0x10, 0x0A, 0x00, 0x64, 0x00, 0x65, 0x00, 0x73,
+    0x00, 0x63, 0x00, 0x72, 0x00, 0x69, 0x00, 0x70, 0x00, 0x74, 0x00, 0x6F, 0x00, 0x72, 0x00, 0x00,
+    0x00, 0x00, 0x00, 0x00, 0x00,
 ];
 
-/// Whether a text is in the language.
-fn is_read(alloc: Global, text: &[u16]) -> Result<bool, Fail> {
-    Ok(ScriptEngine.parse(alloc, text)?.is_some())
+/// Errors by number and text, and their bytes.
+const ERRORS: [(u16, &[u8], &[u8]); 2] = [
+    (50004, b"no descriptor", &NO_DESCRIPTOR),
+    (50010, b"descriptor", &ANOTHER_ERROR),
+];
+
+/// Whether the token of an error has its number and these bytes.
+fn errs(alloc: Global, number: u16, text: &[u8], bytes: &[u8]) -> Result<bool, Fail> {
+    let token = error_token(alloc, u32::from(number), text)?;
+    let has_number = matches!(&token, Token::Error(message) if message.number == i32::from(number));
+    let mut tokens = Vec::new(alloc);
+    tokens.push(token)?;
+    Ok(has_number && spelled(alloc, tokens.as_slice())?.as_slice() == bytes)
 }
 
 #[test]
-fn each_statement(rt: HostRuntime) -> Result<(), Fail> {
-    for (text, expected) in STATEMENTS {
-        let found = answered(&rt, rt.alloc(), &ScriptEngine, &mut Session::new(), text)?;
-        let bytes = found.ok_or("no statements")?;
-        assert_eq!(rt; bytes.as_slice(), expected);
+fn each_error(rt: HostRuntime) -> Result<(), Fail> {
+    for (number, text, bytes) in ERRORS {
+        assert!(rt; errs(rt.alloc(), number, text, bytes)?, "{number}");
     }
-    Ok(())
-}
-
-#[test]
-fn an_error_where_no_descriptor_is_left(rt: HostRuntime) -> Result<(), Fail> {
-    let token = error_token(rt.alloc(), 50004, b"no descriptor")?;
-    let mut bytes = Vec::new(rt.alloc());
-    put_token(&mut bytes, &token)?;
-    assert_eq!(rt; bytes.as_slice(), NO_DESCRIPTOR.as_slice());
     Ok(())
 }
 
@@ -132,37 +153,75 @@ fail 0
 fail 01
 fail 1000000";
 
+/// The number of a text's statements, or None where it is not in the language.
+fn count(alloc: Global, text: &[u16]) -> Result<Option<usize>, Fail> {
+    let statements = ScriptEngine.parse(alloc, text)?;
+    Ok(statements.map(|found| found.len()))
+}
+
 #[test]
 fn what_is_not_in_the_language(rt: HostRuntime) -> Result<(), Fail> {
     for line in NOT_IN_THE_LANGUAGE.split(|byte| *byte == b'\n') {
         let text = units(rt.alloc(), line)?;
-        assert!(rt; !is_read(rt.alloc(), text.as_slice())?);
+        assert_eq!(rt; count(rt.alloc(), text.as_slice())?, None, "{line:?}");
     }
     Ok(())
 }
 
-#[test]
-fn the_longest_word(rt: HostRuntime) -> Result<(), Fail> {
-    let mut text = units(rt.alloc(), b"say ")?;
-    for _ in 0..200 {
-        text.push(0x61)?;
+/// A text of a head, a part so many times and a tail; its length, and the number of its statements.
+struct Long {
+    head: &'static [u8],
+    times: usize,
+    part: &'static [u8],
+    tail: &'static [u8],
+    length: usize,
+    count: Option<usize>,
+}
+
+/// The longest word, one that is too long, and the longest text.
+const LONG: [Long; 3] = [
+    Long {
+        head: b"say ",
+        times: 200,
+        part: b"a",
+        tail: b"",
+        length: 204,
+        count: Some(1),
+    },
+    Long {
+        head: b"say ",
+        times: 201,
+        part: b"a",
+        tail: b"",
+        length: 205,
+        count: None,
+    },
+    Long {
+        head: b"",
+        times: 285,
+        part: b"commit;",
+        tail: b"get x",
+        length: 2000,
+        count: Some(286),
+    },
+];
+
+/// The length of a long text, and the number of its statements.
+fn counted(alloc: Global, long: &Long) -> Result<(usize, Option<usize>), Fail> {
+    let mut bytes = Vec::new(alloc);
+    bytes.extend_from_slice(long.head)?;
+    for _ in 0..long.times {
+        bytes.extend_from_slice(long.part)?;
     }
-    assert!(rt; is_read(rt.alloc(), text.as_slice())?);
-    text.push(0x61)?;
-    assert!(rt; !is_read(rt.alloc(), text.as_slice())?);
-    Ok(())
+    bytes.extend_from_slice(long.tail)?;
+    let text = units(alloc, bytes.as_slice())?;
+    Ok((text.len(), count(alloc, text.as_slice())?))
 }
 
 #[test]
-fn the_longest_text(rt: HostRuntime) -> Result<(), Fail> {
-    let commit = units(rt.alloc(), b"commit;")?;
-    let mut text = Vec::new(rt.alloc());
-    for _ in 0..285 {
-        text.extend_from_slice(commit.as_slice())?;
+fn the_longest_texts(rt: HostRuntime) -> Result<(), Fail> {
+    for long in &LONG {
+        assert_eq!(rt; counted(rt.alloc(), long)?, (long.length, long.count));
     }
-    text.extend_from_slice(units(rt.alloc(), b"get x")?.as_slice())?;
-    assert_eq!(rt; text.len(), 2000);
-    let statements = ScriptEngine.parse(rt.alloc(), text.as_slice())?;
-    assert_eq!(rt; statements.map(|found| found.len()), Some(286));
     Ok(())
 }

@@ -1,56 +1,114 @@
 use super::*;
 use tds_packet::Reset;
-use tds_token::{EnvChange, Token};
+use tds_token::EnvChange;
 
-#[test]
-fn descriptors_rise_through_resets(rt: HostRuntime) {
+/// A call of a session, and what is expected of it.
+#[derive(Clone, Copy)]
+enum Call {
+    Begin(Option<u64>),
+    End(Option<u64>),
+    Reset(Reset),
+    Descriptor(u64),
+    /// Gives `a` a value.
+    Set(i32),
+    /// The value of `a`.
+    Get(i32),
+    /// No key is set.
+    Unset,
+    /// The token of a begin tells this descriptor.
+    TellsBegin(u64),
+    TellsCommit(u64),
+    TellsRollback(u64),
+}
+
+/// Whether the token of a begin, a commit or a rollback tells the descriptor.
+fn tells(alloc: Global, session: &mut Session, call: Call) -> Result<bool, Fail> {
+    match call {
+        Call::TellsBegin(descriptor) => Ok(matches!(
+            &begin_transaction(alloc, session)?,
+            Token::Env(EnvChange::Begin(found)) if *found == descriptor
+        )),
+        Call::TellsCommit(descriptor) => Ok(matches!(
+            &commit_transaction(alloc, session)?,
+            Token::Env(EnvChange::Commit(found)) if *found == descriptor
+        )),
+        Call::TellsRollback(descriptor) => Ok(matches!(
+            &roll_back_transaction(alloc, session)?,
+            Token::Env(EnvChange::Rollback(found)) if *found == descriptor
+        )),
+        _ => Ok(false),
+    }
+}
+
+/// Whether a call goes as expected.
+fn goes(alloc: Global, session: &mut Session, call: Call) -> Result<bool, Fail> {
+    match call {
+        Call::Begin(descriptor) => Ok(session.begin() == descriptor),
+        Call::End(descriptor) => Ok(session.end() == descriptor),
+        Call::Reset(reset) => {
+            session.reset(reset);
+            Ok(true)
+        }
+        Call::Descriptor(descriptor) => Ok(session.descriptor() == descriptor),
+        Call::Set(value) => {
+            session.set(b'a', value);
+            Ok(true)
+        }
+        Call::Get(value) => Ok(session.get(b'a') == value),
+        Call::Unset => Ok(session.settings() == [None; 26]),
+        _ => tells(alloc, session, call),
+    }
+}
+
+/// Plays a script on a new session. The place of the first call that goes otherwise, from 0; None
+/// where there is none.
+fn plays(alloc: Global, calls: &[Call]) -> Result<Option<usize>, Fail> {
     let mut session = Session::new();
-    assert_eq!(rt; session.begin(), Some(1));
-    session.reset(Reset::KeepTransaction);
-    assert_eq!(rt; session.descriptor(), 1);
-    session.reset(Reset::Full);
-    assert_eq!(rt; session.descriptor(), 0);
-    assert_eq!(rt; session.end(), None);
-    assert_eq!(rt; session.begin(), Some(2));
+    for (place, call) in calls.iter().enumerate() {
+        if !goes(alloc, &mut session, *call)? {
+            return Ok(Some(place));
+        }
+    }
+    Ok(None)
 }
 
-#[test]
-fn a_reset_unsets_each_key(rt: HostRuntime) {
-    let mut session = Session::new();
-    session.set(b'a', 7);
-    assert_eq!(rt; session.get(b'a'), 7);
-    session.reset(Reset::KeepTransaction);
-    assert_eq!(rt; session.settings(), [None; 26]);
-}
+const SCRIPTS: [(&str, &[Call]); 5] = [
+    (
+        "descriptors rise through resets",
+        &[
+            Call::Begin(Some(1)),
+            Call::Reset(Reset::KeepTransaction),
+            Call::Descriptor(1),
+            Call::Reset(Reset::Full),
+            Call::Descriptor(0),
+            Call::End(None),
+            Call::Begin(Some(2)),
+        ],
+    ),
+    (
+        "a reset unsets each key",
+        &[
+            Call::Set(7),
+            Call::Get(7),
+            Call::Reset(Reset::KeepTransaction),
+            Call::Unset,
+        ],
+    ),
+    ("a begin tells the descriptor", &[Call::TellsBegin(1)]),
+    (
+        "a commit tells the descriptor",
+        &[Call::Begin(Some(1)), Call::TellsCommit(1)],
+    ),
+    (
+        "a rollback tells the descriptor",
+        &[Call::Begin(Some(1)), Call::TellsRollback(1)],
+    ),
+];
 
 #[test]
-fn begin_tells_the_descriptor(rt: HostRuntime) -> Result<(), Fail> {
-    let token = begin_transaction(rt.alloc(), &mut Session::new())?;
-    assert!(rt; matches!(&token, Token::Env(EnvChange::Begin(1))));
-    Ok(())
-}
-
-#[test]
-fn commit_tells_the_descriptor(rt: HostRuntime) -> Result<(), Fail> {
-    let mut session = Session::new();
-    assert_eq!(rt; session.begin(), Some(1));
-    let token = commit_transaction(rt.alloc(), &mut session)?;
-    assert!(rt; matches!(&token, Token::Env(EnvChange::Commit(1))));
-    Ok(())
-}
-
-#[test]
-fn rollback_tells_the_descriptor(rt: HostRuntime) -> Result<(), Fail> {
-    let mut session = Session::new();
-    assert_eq!(rt; session.begin(), Some(1));
-    let token = roll_back_transaction(rt.alloc(), &mut session)?;
-    assert!(rt; matches!(&token, Token::Env(EnvChange::Rollback(1))));
-    Ok(())
-}
-
-#[test]
-fn an_error_has_its_number(rt: HostRuntime) -> Result<(), Fail> {
-    let token = error_token(rt.alloc(), 50010, b"descriptor")?;
-    assert!(rt; matches!(&token, Token::Error(message) if message.number == 50010));
+fn each_script(rt: HostRuntime) -> Result<(), Fail> {
+    for (name, calls) in SCRIPTS {
+        assert_eq!(rt; plays(rt.alloc(), calls)?, None, "{name}");
+    }
     Ok(())
 }
