@@ -1,6 +1,6 @@
 //! The cores on their own: a descriptor that differs, and faults of changed bytes.
 
-use std::alloc::Global;
+use std::alloc::{AllocError, Global};
 use std::test::Fail;
 use tds_client::Client;
 use tds_packet::{Direction, PacketReader, PacketSize};
@@ -86,20 +86,37 @@ fn client_fault(alloc: Global, bytes: &[u8]) -> Result<(u8, u8), Fail> {
     }
 }
 
+/// The same bytes but for one, at this place.
+fn changed(alloc: Global, bytes: &[u8], place: usize, byte: u8) -> Result<Vec<u8>, AllocError> {
+    let mut copy = bytes.to_vec(alloc)?;
+    if let Some(there) = copy.get_mut(place) {
+        *there = byte;
+    }
+    Ok(copy)
+}
+
+/// No byte changed; a message of another total length.
+const TO_SERVER: [(usize, u8, (u8, u8)); 2] = [(0, 0x0E, (0, 0)), (8, 0x17, (0, 6))];
+
+/// No byte changed; an unknown type; the answer to an attention that was never sent.
+const TO_CLIENT: [(usize, u8, (u8, u8)); 3] = [
+    (0, 0x04, (0, 0)),
+    (0, 0x05, (1, 0)),
+    (23, 0x20, (0, 3)),
+];
+
 #[test]
 fn changed_bytes(rt: HostRuntime) -> Result<(), Fail> {
-    let alloc = rt.alloc();
-    assert_eq!(rt; server_fault(alloc, &BEGIN)?, (0, 0));
-    assert_eq!(rt; client_fault(alloc, &BEGUN)?, (0, 0));
-    let mut unknown_type = BEGUN;
-    unknown_type[0] = 0x05;
-    assert_eq!(rt; client_fault(alloc, &unknown_type)?, (1, 0));
-    let mut wrong_total = BEGIN;
-    wrong_total[8] = 0x17;
-    assert_eq!(rt; server_fault(alloc, &wrong_total)?, (0, 6));
-    let mut attention_done = BEGUN;
-    attention_done[23] = 0x20;
-    assert_eq!(rt; client_fault(alloc, &attention_done)?, (0, 3));
+    for (place, byte, fault) in TO_SERVER {
+        let bytes = changed(rt.alloc(), &BEGIN, place, byte)?;
+        let found = server_fault(rt.alloc(), bytes.as_slice())?;
+        assert_eq!(rt; found, fault, "at {place} of a begin");
+    }
+    for (place, byte, fault) in TO_CLIENT {
+        let bytes = changed(rt.alloc(), &BEGUN, place, byte)?;
+        let found = client_fault(rt.alloc(), bytes.as_slice())?;
+        assert_eq!(rt; found, fault, "at {place} of an answer");
+    }
     Ok(())
 }
 
@@ -113,13 +130,14 @@ fn descriptor_that_differs(rt: HostRuntime) -> Result<(), Fail> {
     let packet = reader.packet().ok_or("no whole packet")?;
     assert!(rt; server.take(packet, &mut out).is_ok());
     assert_eq!(rt; out.as_slice(), b"".as_slice());
-    let _ = server.work(&mut out)?;
-    assert_eq!(rt; out.as_slice(), WRONG_DESCRIPTOR.as_slice());
-    out.clear();
-    let _ = server.work(&mut out)?;
-    assert_eq!(rt; out.as_slice(), ENDED_BY_ERROR.as_slice());
-    out.clear();
-    let _ = server.work(&mut out)?;
-    assert_eq!(rt; out.as_slice(), b"".as_slice());
+    for answer in [
+        WRONG_DESCRIPTOR.as_slice(),
+        ENDED_BY_ERROR.as_slice(),
+        b"".as_slice(),
+    ] {
+        out.clear();
+        let _ = server.work(&mut out)?;
+        assert_eq!(rt; out.as_slice(), answer);
+    }
     Ok(())
 }

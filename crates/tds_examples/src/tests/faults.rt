@@ -1,63 +1,68 @@
 //! The error lines of runs, and the exit statuses.
 
-use crate::tests::runs::{Narrow, refused};
-use std::alloc::{AllocError, Global};
+use crate::tests::runs::{Narrow, pieced, refused};
+use std::alloc::Global;
 use std::io;
 use std::io::Read;
 use std::test::Fail;
 use tds_play::{Command, MemoryCarrier, read_words, run_play};
 
-#[test]
-fn no_json(rt: HostRuntime) -> Result<(), Fail> {
-    refused(rt, "{\"version\":1,", "error: json\n")
-}
+/// The head of a schedule, up to its second event.
+const LEASED: &str = "{\"version\":1,\"packet_size\":512,\"max\":1,\"events\":[[\"lease\"]";
+
+/// Each by its name, with the schedule's pieces, each so many times, and the error line.
+const REFUSED: [(&str, &[(&str, usize)], &str); 7] = [
+    ("no JSON", &[("{\"version\":1,", 1)], "error: json\n"),
+    ("no schedule", &[("{}", 1)], "error: schedule 0\n"),
+    (
+        "bad second event",
+        &[(LEASED, 1), (",[\"rent\"]", 1), ("]}", 1)],
+        "error: schedule 2\n",
+    ),
+    (
+        "too many events",
+        &[(LEASED, 1), (",[\"lease\"]", 10_000), ("]}", 1)],
+        "error: play 1\n",
+    ),
+    (
+        "schedule comes before play",
+        &[
+            (LEASED, 1),
+            (",[\"lease\"]", 10_000),
+            (",[\"rent\"]", 1),
+            ("]}", 1),
+        ],
+        "error: schedule 10002\n",
+    ),
+    (
+        "packet size too small",
+        &[(
+            "{\"version\":1,\"packet_size\":511,\"max\":1,\"events\":[]}",
+            1,
+        )],
+        "error: play 2\n",
+    ),
+    (
+        "no connection allowed",
+        &[(
+            "{\"version\":1,\"packet_size\":512,\"max\":0,\"events\":[]}",
+            1,
+        )],
+        "error: play 2\n",
+    ),
+];
 
 #[test]
-fn no_schedule(rt: HostRuntime) -> Result<(), Fail> {
-    refused(rt, "{}", "error: schedule 0\n")
-}
-
-#[test]
-fn bad_second_event(rt: HostRuntime) -> Result<(), Fail> {
-    let schedule =
-        "{\"version\":1,\"packet_size\":512,\"max\":1,\"events\":[[\"lease\"],[\"rent\"]]}";
-    refused(rt, schedule, "error: schedule 2\n")
-}
-
-/// A schedule of so many leases, and of what stands behind them.
-fn leases(alloc: Global, count: usize, rest: &str) -> Result<String, AllocError> {
-    let head = "{\"version\":1,\"packet_size\":512,\"max\":1,\"events\":[[\"lease\"]";
-    let mut schedule = String::from_str(alloc, head)?;
-    for _ in 1..count {
-        schedule.push_str(",[\"lease\"]")?;
+fn error_lines(rt: HostRuntime) -> Result<(), Fail> {
+    for (name, pieces, line) in REFUSED {
+        let schedule = pieced(rt.alloc(), pieces)?;
+        assert_eq!(rt;
+            refused(rt.alloc(), schedule.as_str(), line),
+            "",
+            "at {name}"
+        );
     }
-    schedule.push_str(rest)?;
-    schedule.push_str("]}")?;
-    Ok(schedule)
-}
-
-#[test]
-fn too_many_events(rt: HostRuntime) -> Result<(), Fail> {
-    let schedule = leases(rt.alloc(), 10_001, "")?;
-    refused(rt, schedule.as_str(), "error: play 1\n")
-}
-
-#[test]
-fn schedule_comes_before_play(rt: HostRuntime) -> Result<(), Fail> {
-    let schedule = leases(rt.alloc(), 10_001, ",[\"rent\"]")?;
-    refused(rt, schedule.as_str(), "error: schedule 10002\n")
-}
-
-#[test]
-fn packet_size_too_small(rt: HostRuntime) -> Result<(), Fail> {
-    let schedule = "{\"version\":1,\"packet_size\":511,\"max\":1,\"events\":[]}";
-    refused(rt, schedule, "error: play 2\n")
-}
-
-#[test]
-fn no_connection_allowed(rt: HostRuntime) -> Result<(), Fail> {
-    let schedule = "{\"version\":1,\"packet_size\":512,\"max\":0,\"events\":[]}";
-    refused(rt, schedule, "error: play 2\n")
+    Ok(())
 }
 
 /// A reader that fails.
@@ -114,20 +119,25 @@ fn fault_of(alloc: Global, words: &[&str]) -> Result<u8, Fail> {
     }
 }
 
+const WORDS: [(&[&str], u8); 12] = [
+    (&["play", "row.json"], 0),
+    (&[], 1),
+    (&["play"], 1),
+    (&["play", "row.json", "row.json"], 1),
+    (&["row.json"], 1),
+    (&["show", "00"], 1),
+    (&["vectors"], 1),
+    (&["loopback", "x"], 1),
+    (&["help"], 1),
+    (&["--help"], 1),
+    (&["play", "--help"], 1),
+    (&["--version"], 1),
+];
+
 #[test]
 fn words(rt: HostRuntime) -> Result<(), Fail> {
-    let alloc = rt.alloc();
-    assert_eq!(rt; fault_of(alloc, &["play", "row.json"])?, 0);
-    assert_eq!(rt; fault_of(alloc, &[])?, 1);
-    assert_eq!(rt; fault_of(alloc, &["play"])?, 1);
-    assert_eq!(rt; fault_of(alloc, &["play", "row.json", "row.json"])?, 1);
-    assert_eq!(rt; fault_of(alloc, &["row.json"])?, 1);
-    assert_eq!(rt; fault_of(alloc, &["show", "00"])?, 1);
-    assert_eq!(rt; fault_of(alloc, &["vectors"])?, 1);
-    assert_eq!(rt; fault_of(alloc, &["loopback", "x"])?, 1);
-    assert_eq!(rt; fault_of(alloc, &["help"])?, 1);
-    assert_eq!(rt; fault_of(alloc, &["--help"])?, 1);
-    assert_eq!(rt; fault_of(alloc, &["play", "--help"])?, 1);
-    assert_eq!(rt; fault_of(alloc, &["--version"])?, 1);
+    for (words, fault) in WORDS {
+        assert_eq!(rt; fault_of(rt.alloc(), words)?, fault, "at {words:?}");
+    }
     Ok(())
 }

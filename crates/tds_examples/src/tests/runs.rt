@@ -1,9 +1,8 @@
 //! Runs from the bytes of a schedule file to what is printed.
 
-use std::alloc::Global;
+use std::alloc::{AllocError, Global};
 use std::io;
 use std::io::Write;
-use std::test::Fail;
 use tds_play::{MemoryCarrier, run_play};
 
 /// What a run printed, and its exit status.
@@ -15,7 +14,7 @@ pub struct Ended {
 }
 
 /// Runs a schedule file of these bytes.
-pub(super) fn run(alloc: Global, schedule: &[u8]) -> Ended {
+fn run(alloc: Global, schedule: &[u8]) -> Ended {
     let mut reader = schedule;
     let mut carrier = MemoryCarrier::new(alloc);
     let mut output = Vec::new(alloc);
@@ -28,28 +27,39 @@ pub(super) fn run(alloc: Global, schedule: &[u8]) -> Ended {
     }
 }
 
-/// The schedule prints this text and nothing else, and ends with status 0.
-pub(super) fn printed(rt: HostRuntime, schedule: &str, text: &str) -> Result<(), Fail> {
-    expect(&run(rt.alloc(), schedule.as_bytes()), 0, text, "")
-}
-
-/// The schedule prints no report, this error line, and ends with status 1.
-pub(super) fn refused(rt: HostRuntime, schedule: &str, line: &str) -> Result<(), Fail> {
-    expect(&run(rt.alloc(), schedule.as_bytes()), 1, "", line)
-}
-
-/// A run's exit status and the two texts.
-pub(super) fn expect(run: &Ended, status: u8, output: &str, errors: &str) -> Result<(), Fail> {
+/// What of a run isn't this exit status and these two texts: nothing where it is all so.
+fn difference(run: &Ended, status: u8, output: &str, errors: &str) -> &'static str {
     if run.errors.as_slice() != errors.as_bytes() {
-        return Err("another error line".into());
+        return "another error line";
     }
     if run.output.as_slice() != output.as_bytes() {
-        return Err("another text".into());
+        return "another text";
     }
     if run.status != status {
-        return Err("another status".into());
+        return "another status";
     }
-    Ok(())
+    ""
+}
+
+/// The schedule is to print this text and nothing else, and to end with status 0: what differs.
+pub(super) fn printed(alloc: Global, schedule: &str, text: &str) -> &'static str {
+    difference(&run(alloc, schedule.as_bytes()), 0, text, "")
+}
+
+/// The schedule is to print no report, this error line, and to end with status 1: what differs.
+pub(super) fn refused(alloc: Global, schedule: &str, line: &str) -> &'static str {
+    difference(&run(alloc, schedule.as_bytes()), 1, "", line)
+}
+
+/// The text of these pieces, each so many times.
+pub(super) fn pieced(alloc: Global, pieces: &[(&str, usize)]) -> Result<String, AllocError> {
+    let mut text = String::new(alloc);
+    for (piece, count) in pieces {
+        for _ in 0..*count {
+            text.push_str(*piece)?;
+        }
+    }
+    Ok(text)
 }
 
 /// A writer that fails behind its first so many bytes.

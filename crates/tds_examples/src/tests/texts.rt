@@ -84,78 +84,74 @@ fn written(alloc: Global, report: &Report) -> Result<Vec<u8>, Fail> {
     }
 }
 
-#[test]
-fn a_report_of_nothing(rt: HostRuntime) -> Result<(), Fail> {
-    let report = report_of(rt.alloc(), &[])?;
-    let bytes = written(rt.alloc(), &report)?;
-    assert_eq!(rt; bytes.len(), 0);
-    Ok(())
-}
+/// Each outcome.
+const OUTCOMES: [Outcome; 27] = [
+    Outcome::Leased {
+        lease: 1,
+        conn: 1,
+        opened: Opened::New,
+    },
+    Outcome::Leased {
+        lease: 2,
+        conn: 1,
+        opened: Opened::Reused,
+    },
+    Outcome::Leased {
+        lease: 4294967295,
+        conn: 12,
+        opened: Opened::Resumed,
+    },
+    Outcome::GivenBack(GiveBackOutcome::Free),
+    Outcome::GivenBack(GiveBackOutcome::Draining),
+    Outcome::GivenBack(GiveBackOutcome::Closed),
+    Outcome::Kept(1),
+    Outcome::Abandoned(AbandonOutcome::Free),
+    Outcome::Abandoned(AbandonOutcome::Closed),
+    Outcome::Asked(10),
+    Outcome::Sent(SendOutcome::More),
+    Outcome::Sent(SendOutcome::Last),
+    Outcome::Cancel(CancelOutcome::Nothing),
+    Outcome::Cancel(CancelOutcome::Already),
+    Outcome::Cancel(CancelOutcome::Unsent),
+    Outcome::Cancel(CancelOutcome::Asked),
+    Outcome::Work(WorkOutcome::Idle),
+    Outcome::Work(WorkOutcome::Step),
+    Outcome::Work(WorkOutcome::Finished),
+    Outcome::ToServer(34),
+    Outcome::ToClient(0),
+    Outcome::Cut,
+    Outcome::RestartedServer,
+    Outcome::RestartedClient,
+    Outcome::Refused(Refusal::ConnectionCut),
+    Outcome::Fault {
+        end: End::Server,
+        layer: Layer::Packet,
+        number: 3,
+    },
+    Outcome::Fault {
+        end: End::Client,
+        layer: Layer::Core,
+        number: 10,
+    },
+];
+
+const OUTCOMES_TEXT: &[u8] =
+    b"1 leased 1 on 1 new\n2 leased 2 on 1 reused\n3 leased 4294967295 on 12 resumed\n\
+    4 given back free\n5 given back draining\n6 given back closed\n7 kept 1\n\
+    8 abandoned free\n9 abandoned closed\n10 asked 10\n11 sent more\n12 sent last\n\
+    13 cancel nothing\n14 cancel already\n15 cancel unsent\n16 cancel asked\n\
+    17 work idle\n18 work step\n19 work finished\n20 to server 34\n21 to client 0\n\
+    22 cut\n23 restarted server\n24 restarted client\n25 refused 8\n\
+    26 fault server packet 3\n27 fault client core 10\n";
 
 #[test]
 fn each_outcome(rt: HostRuntime) -> Result<(), Fail> {
-    let report = report_of(
-        rt.alloc(),
-        &[
-            Outcome::Leased {
-                lease: 1,
-                conn: 1,
-                opened: Opened::New,
-            },
-            Outcome::Leased {
-                lease: 2,
-                conn: 1,
-                opened: Opened::Reused,
-            },
-            Outcome::Leased {
-                lease: 4294967295,
-                conn: 12,
-                opened: Opened::Resumed,
-            },
-            Outcome::GivenBack(GiveBackOutcome::Free),
-            Outcome::GivenBack(GiveBackOutcome::Draining),
-            Outcome::GivenBack(GiveBackOutcome::Closed),
-            Outcome::Kept(1),
-            Outcome::Abandoned(AbandonOutcome::Free),
-            Outcome::Abandoned(AbandonOutcome::Closed),
-            Outcome::Asked(10),
-            Outcome::Sent(SendOutcome::More),
-            Outcome::Sent(SendOutcome::Last),
-            Outcome::Cancel(CancelOutcome::Nothing),
-            Outcome::Cancel(CancelOutcome::Already),
-            Outcome::Cancel(CancelOutcome::Unsent),
-            Outcome::Cancel(CancelOutcome::Asked),
-            Outcome::Work(WorkOutcome::Idle),
-            Outcome::Work(WorkOutcome::Step),
-            Outcome::Work(WorkOutcome::Finished),
-            Outcome::ToServer(34),
-            Outcome::ToClient(0),
-            Outcome::Cut,
-            Outcome::RestartedServer,
-            Outcome::RestartedClient,
-            Outcome::Refused(Refusal::ConnectionCut),
-            Outcome::Fault {
-                end: End::Server,
-                layer: Layer::Packet,
-                number: 3,
-            },
-            Outcome::Fault {
-                end: End::Client,
-                layer: Layer::Core,
-                number: 10,
-            },
-        ],
-    )?;
-    let bytes = written(rt.alloc(), &report)?;
-    let expected =
-        b"1 leased 1 on 1 new\n2 leased 2 on 1 reused\n3 leased 4294967295 on 12 resumed\n\
-        4 given back free\n5 given back draining\n6 given back closed\n7 kept 1\n\
-        8 abandoned free\n9 abandoned closed\n10 asked 10\n11 sent more\n12 sent last\n\
-        13 cancel nothing\n14 cancel already\n15 cancel unsent\n16 cancel asked\n\
-        17 work idle\n18 work step\n19 work finished\n20 to server 34\n21 to client 0\n\
-        22 cut\n23 restarted server\n24 restarted client\n25 refused 8\n\
-        26 fault server packet 3\n27 fault client core 10\n";
-    assert_eq!(rt; bytes.as_slice(), expected.as_slice());
+    let nothing: &[Outcome] = &[];
+    for (outcomes, expected) in [(nothing, b"".as_slice()), (&OUTCOMES, OUTCOMES_TEXT)] {
+        let report = report_of(rt.alloc(), outcomes)?;
+        let bytes = written(rt.alloc(), &report)?;
+        assert_eq!(rt; bytes.as_slice(), expected);
+    }
     Ok(())
 }
 
@@ -308,34 +304,32 @@ impl Write for Slow {
     }
 }
 
-#[test]
-fn a_writer_that_takes_one_byte_at_a_time(rt: HostRuntime) -> Result<(), Fail> {
-    let report = report_of(rt.alloc(), &[Outcome::Cut, Outcome::Asked(1)])?;
+/// What a slow writer took, its calls, and the fault's number, or 0 for none.
+fn slowly(alloc: Global, fails_at: u32) -> Result<(Vec<u8>, u32, u8), Fail> {
+    let report = report_of(alloc, &[Outcome::Cut, Outcome::Asked(1)])?;
     let mut slow = Slow {
-        bytes: Vec::new(rt.alloc()),
+        bytes: Vec::new(alloc),
         calls: 0,
-        fails_at: 0,
+        fails_at,
     };
-    assert!(rt; render(rt.alloc(), &report, &mut slow).is_ok());
-    assert_eq!(rt; slow.bytes.as_slice(), b"1 cut\n2 asked 1\n".as_slice());
-    assert_eq!(rt; slow.calls, 16);
-    Ok(())
+    let number = match render(alloc, &report, &mut slow) {
+        Ok(()) => 0,
+        Err(fault) if matches!(fault, RenderFault::Write) => fault.number(),
+        Err(_) => return Err("another fault".into()),
+    };
+    Ok((slow.bytes, slow.calls, number))
 }
 
 #[test]
-fn a_writer_that_fails_at_its_third_write(rt: HostRuntime) -> Result<(), Fail> {
-    let report = report_of(rt.alloc(), &[Outcome::Cut, Outcome::Asked(1)])?;
-    let mut slow = Slow {
-        bytes: Vec::new(rt.alloc()),
-        calls: 0,
-        fails_at: 3,
-    };
-    let Err(fault) = render(rt.alloc(), &report, &mut slow) else {
-        return Err("no fault".into());
-    };
-    assert!(rt; matches!(fault, RenderFault::Write));
-    assert_eq!(rt; fault.number(), 1);
-    assert_eq!(rt; slow.bytes.as_slice(), b"1 ".as_slice());
-    assert_eq!(rt; slow.calls, 3);
+fn a_slow_writer(rt: HostRuntime) -> Result<(), Fail> {
+    for (fails_at, bytes, calls, number) in [
+        (0, b"1 cut\n2 asked 1\n".as_slice(), 16, 0),
+        (3, b"1 ", 3, 1),
+    ] {
+        let (found, found_calls, fault) = slowly(rt.alloc(), fails_at)?;
+        assert_eq!(rt; found.as_slice(), bytes, "at {fails_at}");
+        assert_eq!(rt; found_calls, calls, "at {fails_at}");
+        assert_eq!(rt; fault, number, "at {fails_at}");
+    }
     Ok(())
 }
