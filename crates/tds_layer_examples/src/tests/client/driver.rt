@@ -85,7 +85,7 @@ struct Player {
 
 /// Plays a script on an idle client for packets of 512 bytes: how many steps held before the first
 /// that didn't.
-pub fn play(alloc: Global, steps: &[Step]) -> Result<usize, Fail> {
+fn play(alloc: Global, steps: &[Step]) -> Result<usize, Fail> {
     let mut player = Player {
         alloc,
         client: new_client(alloc, 512)?,
@@ -97,6 +97,20 @@ pub fn play(alloc: Global, steps: &[Step]) -> Result<usize, Fail> {
         }
     }
     Ok(steps.len())
+}
+
+/// The first script in which a step doesn't hold, with the number of steps before it.
+pub fn first_failure(
+    alloc: Global,
+    scripts: &[Script],
+) -> Result<Option<(&'static str, usize)>, Fail> {
+    for (name, steps) in scripts {
+        let held = play(alloc, steps)?;
+        if held != steps.len() {
+            return Ok(Some((*name, held)));
+        }
+    }
+    Ok(None)
 }
 
 fn holds(player: &mut Player, step: Step) -> Result<bool, Fail> {

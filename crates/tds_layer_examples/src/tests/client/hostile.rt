@@ -64,7 +64,99 @@ const REFUSALS: [Step; 12] = [
     Step::Fault(&DONE, 9),
 ];
 
-const HOSTILE: [Script; 6] = [
+// Each fault in reading is answered again, also to a lawful packet, and a loss doesn't change it.
+// All but the first are faults in cancelling too.
+
+const AN_UNASKED_ACKNOWLEDGEMENT: [Step; 7] = [
+    Step::Asks(Ask::Batch(b"get x")),
+    Step::Fault(&ACKNOWLEDGED, 3),
+    Step::Fault(&DONE, 3),
+    Step::Lost,
+    Step::Is(Stands::Broken(3)),
+    Step::Descriptor(0),
+    Step::MarkIs(None),
+];
+
+const A_WRONG_CHANGE: [Step; 11] = [
+    Step::Asks(Ask::Batch(b"get x")),
+    Step::Fault(&COMMITTED, 4),
+    Step::Fault(&DONE, 4),
+    Step::Lost,
+    Step::Is(Stands::Broken(4)),
+    Step::Descriptor(0),
+    Step::MarkIs(None),
+    Step::New(512),
+    Step::Asks(Ask::Batch(b"get x")),
+    Step::Cancel(Cancelled::Asked, &ATTENTION),
+    Step::Fault(&COMMITTED, 4),
+];
+
+const AN_UNASKED_RESET: [Step; 11] = [
+    Step::Asks(Ask::Batch(b"get x")),
+    Step::Fault(&RESET, 5),
+    Step::Fault(&DONE, 5),
+    Step::Lost,
+    Step::Is(Stands::Broken(5)),
+    Step::Descriptor(0),
+    Step::MarkIs(None),
+    Step::New(512),
+    Step::Asks(Ask::Batch(b"get x")),
+    Step::Cancel(Cancelled::Asked, &ATTENTION),
+    Step::Fault(&RESET, 5),
+];
+
+const AN_END_WITHOUT_A_FINAL_DONE: [Step; 11] = [
+    Step::Asks(Ask::Batch(b"get x")),
+    Step::Fault(&EMPTY_END, 6),
+    Step::Fault(&DONE, 6),
+    Step::Lost,
+    Step::Is(Stands::Broken(6)),
+    Step::Descriptor(0),
+    Step::MarkIs(None),
+    Step::New(512),
+    Step::Asks(Ask::Batch(b"get x")),
+    Step::Cancel(Cancelled::Asked, &ATTENTION),
+    Step::Fault(&EMPTY_END, 6),
+];
+
+const A_TOKEN_BEHIND_THE_FINAL_DONE: [Step; 11] = [
+    Step::Asks(Ask::Batch(b"get x")),
+    Step::Fault(&BEHIND, 7),
+    Step::Fault(&DONE, 7),
+    Step::Lost,
+    Step::Is(Stands::Broken(7)),
+    Step::Descriptor(0),
+    Step::MarkIs(None),
+    Step::New(512),
+    Step::Asks(Ask::Batch(b"get x")),
+    Step::Cancel(Cancelled::Asked, &ATTENTION),
+    Step::Fault(&BEHIND, 7),
+];
+
+const A_ROW_WITHOUT_COLUMNS: [Step; 11] = [
+    Step::Asks(Ask::Batch(b"get x")),
+    Step::Fault(&ROW, 8),
+    Step::Fault(&DONE, 8),
+    Step::Lost,
+    Step::Is(Stands::Broken(8)),
+    Step::Descriptor(0),
+    Step::MarkIs(None),
+    Step::New(512),
+    Step::Asks(Ask::Batch(b"get x")),
+    Step::Cancel(Cancelled::Asked, &ATTENTION),
+    Step::Fault(&ROW, 8),
+];
+
+const HOSTILE: [Script; 12] = [
+    ("an unasked acknowledgement", &AN_UNASKED_ACKNOWLEDGEMENT),
+    ("a wrong change", &A_WRONG_CHANGE),
+    ("an unasked reset", &AN_UNASKED_RESET),
+    ("an end without a final done", &AN_END_WITHOUT_A_FINAL_DONE),
+    (
+        "a token behind the final done",
+        &A_TOKEN_BEHIND_THE_FINAL_DONE,
+    ),
+    ("a row without columns", &A_ROW_WITHOUT_COLUMNS),
     ("an answer in idle", &AN_ANSWER_IN_IDLE),
     ("an answer in sending", &AN_ANSWER_IN_SENDING),
     (
@@ -81,55 +173,7 @@ const HOSTILE: [Script; 6] = [
 
 #[test]
 fn each_hostile_answer(rt: HostRuntime) -> Result<(), Fail> {
-    for (name, steps) in HOSTILE {
-        assert_eq!(rt; play(rt.alloc(), steps)?, steps.len(), "{name}");
-    }
-    Ok(())
-}
-
-/// Packets that are faulty in reading, with the fault's number. All but the first are faulty in
-/// cancelling too.
-const FAULTY: [(&[u8], u8); 6] = [
-    (&ACKNOWLEDGED, 3),
-    (&COMMITTED, 4),
-    (&RESET, 5),
-    (&EMPTY_END, 6),
-    (&BEHIND, 7),
-    (&ROW, 8),
-];
-
-/// The fault is answered again, also to a lawful packet, and a loss doesn't change it.
-#[test]
-fn each_fault_in_reading(rt: HostRuntime) -> Result<(), Fail> {
-    for (bytes, number) in FAULTY {
-        let steps = [
-            Step::Asks(Ask::Batch(b"get x")),
-            Step::Fault(bytes, number),
-            Step::Fault(&DONE, number),
-            Step::Lost,
-            Step::Is(Stands::Broken(number)),
-            Step::Descriptor(0),
-            Step::MarkIs(None),
-        ];
-        assert_eq!(rt; play(rt.alloc(), &steps)?, steps.len(), "fault {number}");
-    }
-    Ok(())
-}
-
-/// An acknowledgement is lawful in cancelling, and all else is as in reading.
-#[test]
-fn each_fault_in_cancelling(rt: HostRuntime) -> Result<(), Fail> {
-    for (bytes, number) in FAULTY {
-        if number == 3 {
-            continue;
-        }
-        let steps = [
-            Step::Asks(Ask::Batch(b"get x")),
-            Step::Cancel(Cancelled::Asked, &ATTENTION),
-            Step::Fault(bytes, number),
-        ];
-        assert_eq!(rt; play(rt.alloc(), &steps)?, steps.len(), "fault {number}");
-    }
+    assert_eq!(rt; first_failure(rt.alloc(), &HOSTILE)?, None);
     Ok(())
 }
 
