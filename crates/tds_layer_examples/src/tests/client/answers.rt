@@ -1,193 +1,177 @@
 use super::*;
 
-#[test]
-fn an_answer_in_parts(rt: HostRuntime) -> Result<(), Fail> {
-    let mut client = asked(rt.alloc(), &batch(rt.alloc(), b"say a")?)?;
-    let mut told = Vec::new(rt.alloc());
-    assert_eq!(rt;
-        taken(rt.alloc(), &mut client, &SAID, &mut told)?,
-        Taken::More
-    );
-    assert_eq!(rt;
-        taken(rt.alloc(), &mut client, &DONE, &mut told)?,
-        Taken::Finished
-    );
-    let [
-        Token::Info(message),
-        Token::Done { status: 1, .. },
-        Token::Done { status: 0, .. },
-    ] = told.as_slice()
-    else {
-        return Err("other tokens".into());
-    };
-    assert_eq!(rt; message.number, 50000);
-    assert_eq!(rt; message.text.units(), [0x61].as_slice());
-    Ok(())
-}
+/// Columns of one name, `n`, and a row of 5.
+const FIRST_ROW: [u8; 26] = [
+    0x04, 0x00, 0x00, 0x1A, 0x00, 0x00, 0x01, 0x00, 0x81, 0x01, 0x00, 0x00, 0x00, 0x00, 0x00, 0x00,
+    0x00, 0x38, 0x01, 0x6E, 0x00, 0xD1, 0x05, 0x00, 0x00, 0x00,
+];
+
+/// A row of 6, and a final DONE of 2 rows.
+const SECOND_ROW: [u8; 26] = [
+    0x04, 0x01, 0x00, 0x1A, 0x00, 0x00, 0x02, 0x00, 0xD1, 0x06, 0x00, 0x00, 0x00, 0xFD, 0x10, 0x00,
+    0x00, 0x00, 0x02, 0x00, 0x00, 0x00, 0x00, 0x00, 0x00, 0x00,
+];
+
+/// What both packets tell.
+const ROWS: [u8; 36] = [
+    0x81, 0x01, 0x00, 0x00, 0x00, 0x00, 0x00, 0x00, 0x00, 0x38, 0x01, 0x6E, 0x00, 0xD1, 0x05, 0x00,
+    0x00, 0x00, 0xD1, 0x06, 0x00, 0x00, 0x00, 0xFD, 0x10, 0x00, 0x00, 0x00, 0x02, 0x00, 0x00, 0x00,
+    0x00, 0x00, 0x00, 0x00,
+];
+
+/// What `SAID` tells: INFO 50000 `a`, and a DONE with `0001`.
+const TOLD_ONCE: [u8; 32] = [
+    0xAB, 0x10, 0x00, 0x50, 0xC3, 0x00, 0x00, 0x01, 0x00, 0x01, 0x00, 0x61, 0x00, 0x00, 0x00, 0x00,
+    0x00, 0x00, 0x00, 0xFD, 0x01, 0x00, 0x00, 0x00, 0, 0, 0, 0, 0, 0, 0, 0,
+];
+
+/// What `SAID` and `DONE` tell.
+const SAID_AND_DONE: [u8; 45] = [
+    0xAB, 0x10, 0x00, 0x50, 0xC3, 0x00, 0x00, 0x01, 0x00, 0x01, 0x00, 0x61, 0x00, 0x00, 0x00, 0x00,
+    0x00, 0x00, 0x00, 0xFD, 0x01, 0x00, 0x00, 0x00, 0, 0, 0, 0, 0, 0, 0, 0, 0xFD, 0x00, 0x00, 0x00,
+    0x00, 0, 0, 0, 0, 0, 0, 0, 0,
+];
+
+/// A final DONE in a packet that does not end the message.
+const DONE_PART: [u8; 21] = [
+    0x04, 0x00, 0x00, 0x15, 0x00, 0x00, 0x02, 0x00, 0xFD, 0x00, 0x00, 0x00, 0x00, 0, 0, 0, 0, 0, 0,
+    0, 0,
+];
+
+/// An acknowledgement in a packet that does not end the message.
+const ACKNOWLEDGED_PART: [u8; 21] = [
+    0x04, 0x00, 0x00, 0x15, 0x00, 0x00, 0x01, 0x00, 0xFD, 0x20, 0x00, 0x00, 0x00, 0, 0, 0, 0, 0, 0,
+    0, 0,
+];
+
+/// An acknowledgement in the third packet of its message.
+const ACKNOWLEDGED_LATE: [u8; 21] = [
+    0x04, 0x01, 0x00, 0x15, 0x00, 0x00, 0x03, 0x00, 0xFD, 0x20, 0x00, 0x00, 0x00, 0, 0, 0, 0, 0, 0,
+    0, 0,
+];
+
+/// An empty packet that ends a message behind another one.
+const END: [u8; 8] = [0x04, 0x01, 0x00, 0x08, 0x00, 0x00, 0x02, 0x00];
+
+const TWO_FINAL_DONES: [u8; 26] = [
+    0xFD, 0x00, 0x00, 0x00, 0x00, 0, 0, 0, 0, 0, 0, 0, 0, 0xFD, 0x00, 0x00, 0x00, 0x00, 0, 0, 0, 0,
+    0, 0, 0, 0,
+];
+
+const AN_ANSWER_IN_PARTS: [Step; 4] = [
+    Step::Asks(Ask::Batch(b"say a")),
+    Step::Take(&SAID, Taken::More),
+    Step::Take(&DONE, Taken::Finished),
+    Step::Told(&SAID_AND_DONE),
+];
 
 /// Columns are known from packet to packet of one message, until a DONE.
-#[test]
-fn rows_in_two_packets(rt: HostRuntime) -> Result<(), Fail> {
-    let mut client = asked(rt.alloc(), &batch(rt.alloc(), b"rows 5 2")?)?;
-    let first = [
-        0x04, 0x00, 0x00, 0x1A, 0x00, 0x00, 0x01, 0x00, 0x81, 0x01, 0x00, 0x00, 0x00, 0x00, 0x00,
-        0x00, 0x00, 0x38, 0x01, 0x6E, 0x00, 0xD1, 0x05, 0x00, 0x00, 0x00,
-    ];
-    let second = [
-        0x04, 0x01, 0x00, 0x1A, 0x00, 0x00, 0x02, 0x00, 0xD1, 0x06, 0x00, 0x00, 0x00, 0xFD, 0x10,
-        0x00, 0x00, 0x00, 0x02, 0x00, 0x00, 0x00, 0x00, 0x00, 0x00, 0x00,
-    ];
-    let mut told = Vec::new(rt.alloc());
-    assert_eq!(rt;
-        taken(rt.alloc(), &mut client, &first, &mut told)?,
-        Taken::More
-    );
-    assert_eq!(rt;
-        taken(rt.alloc(), &mut client, &second, &mut told)?,
-        Taken::Finished
-    );
-    let [
-        Token::Columns(columns),
-        Token::Row(five),
-        Token::Row(six),
-        Token::Done { rows: 2, .. },
-    ] = told.as_slice()
-    else {
-        return Err("other tokens".into());
-    };
-    assert_eq!(rt; columns.as_slice().len(), 1);
-    assert_eq!(rt; five.as_slice(), [5].as_slice());
-    assert_eq!(rt; six.as_slice(), [6].as_slice());
-    Ok(())
-}
+const ROWS_IN_TWO_PACKETS: [Step; 4] = [
+    Step::Asks(Ask::Batch(b"rows 5 2")),
+    Step::Take(&FIRST_ROW, Taken::More),
+    Step::Take(&SECOND_ROW, Taken::Finished),
+    Step::Told(&ROWS),
+];
 
 /// The final DONE may stand in a packet before the one that ends the message.
-#[test]
-fn an_empty_end(rt: HostRuntime) -> Result<(), Fail> {
-    let mut part = DONE;
-    part[1] = 0;
-    let end = [0x04, 0x01, 0x00, 0x08, 0x00, 0x00, 0x02, 0x00];
-    let mut client = asked(rt.alloc(), &batch(rt.alloc(), b"get x")?)?;
-    let mut told = Vec::new(rt.alloc());
-    assert_eq!(rt;
-        taken(rt.alloc(), &mut client, &part, &mut told)?,
-        Taken::More
-    );
-    assert_eq!(rt;
-        taken(rt.alloc(), &mut client, &end, &mut told)?,
-        Taken::Finished
-    );
-    assert_eq!(rt; told.len(), 1);
-    // Also where the cancel comes in between: then the answer's end acknowledges nothing.
-    start(&mut client, &batch(rt.alloc(), b"get x")?)?;
-    let _ = send(rt.alloc(), &mut client)?;
-    assert_eq!(rt;
-        taken(rt.alloc(), &mut client, &part, &mut told)?,
-        Taken::More
-    );
-    let _ = cancel(rt.alloc(), &mut client)?;
-    assert_eq!(rt;
-        taken(rt.alloc(), &mut client, &end, &mut told)?,
-        Taken::More
-    );
-    assert!(rt; is_cancelling(&client));
-    let mut part = ACKNOWLEDGED;
-    part[1] = 0;
-    assert_eq!(rt;
-        taken(rt.alloc(), &mut client, &part, &mut told)?,
-        Taken::More
-    );
-    assert_eq!(rt;
-        taken(rt.alloc(), &mut client, &end, &mut told)?,
-        Taken::Acknowledged
-    );
-    assert_eq!(rt; told.len(), 2);
-    Ok(())
-}
+const AN_EMPTY_END: [Step; 4] = [
+    Step::Asks(Ask::Batch(b"get x")),
+    Step::Take(&DONE_PART, Taken::More),
+    Step::Take(&END, Taken::Finished),
+    Step::Told(&FINAL_DONE),
+];
 
-#[test]
-fn cancelled_in_the_middle(rt: HostRuntime) -> Result<(), Fail> {
-    let mut client = asked(rt.alloc(), &batch(rt.alloc(), b"say a;say b")?)?;
-    let mut told = Vec::new(rt.alloc());
-    assert_eq!(rt;
-        taken(rt.alloc(), &mut client, &SAID, &mut told)?,
-        Taken::More
-    );
-    let _ = cancel(rt.alloc(), &mut client)?;
-    // What was on its way is not told.
-    assert_eq!(rt;
-        taken(rt.alloc(), &mut client, &SAID, &mut told)?,
-        Taken::More
-    );
-    let mut last = ACKNOWLEDGED;
-    last[6] = 3;
-    assert_eq!(rt;
-        taken(rt.alloc(), &mut client, &last, &mut told)?,
-        Taken::Acknowledged
-    );
-    assert!(rt; is_idle(&client));
-    assert_eq!(rt; told.len(), 2);
-    Ok(())
-}
+/// Where the cancel comes in between, the answer's end acknowledges nothing.
+const A_CANCEL_BEFORE_AN_EMPTY_END: [Step; 11] = [
+    Step::Asks(Ask::Batch(b"get x")),
+    Step::Take(&DONE_PART, Taken::More),
+    Step::Take(&END, Taken::Finished),
+    Step::Asks(Ask::Batch(b"get x")),
+    Step::Take(&DONE_PART, Taken::More),
+    Step::Cancel(Cancelled::Asked, &ATTENTION),
+    Step::Take(&END, Taken::More),
+    Step::Is(Stands::Cancelling),
+    Step::Take(&ACKNOWLEDGED_PART, Taken::More),
+    Step::Take(&END, Taken::Acknowledged),
+    Step::Told(&TWO_FINAL_DONES),
+];
 
-#[test]
-fn answer_and_attention_cross(rt: HostRuntime) -> Result<(), Fail> {
-    let mut client = asked(rt.alloc(), &batch(rt.alloc(), b"get x")?)?;
-    let _ = cancel(rt.alloc(), &mut client)?;
-    let mut told = Vec::new(rt.alloc());
-    assert_eq!(rt;
-        taken(rt.alloc(), &mut client, &GOT, &mut told)?,
-        Taken::More
-    );
-    assert_eq!(rt;
-        taken(rt.alloc(), &mut client, &DONE, &mut told)?,
-        Taken::More
-    );
-    assert!(rt; is_cancelling(&client));
-    let answer = taken(rt.alloc(), &mut client, &ACKNOWLEDGED, &mut told)?;
-    assert_eq!(rt; answer, Taken::Acknowledged);
-    assert!(rt; is_idle(&client));
-    assert!(rt; told.is_empty());
-    Ok(())
-}
+/// What was on its way when the cancel came is not told.
+const CANCELLED_IN_THE_MIDDLE: [Step; 7] = [
+    Step::Asks(Ask::Batch(b"say a;say b")),
+    Step::Take(&SAID, Taken::More),
+    Step::Cancel(Cancelled::Asked, &ATTENTION),
+    Step::Take(&SAID, Taken::More),
+    Step::Take(&ACKNOWLEDGED_LATE, Taken::Acknowledged),
+    Step::Is(Stands::Idle),
+    Step::Told(&TOLD_ONCE),
+];
+
+const ANSWER_AND_ATTENTION_CROSS: [Step; 8] = [
+    Step::Asks(Ask::Batch(b"get x")),
+    Step::Cancel(Cancelled::Asked, &ATTENTION),
+    Step::Take(&GOT, Taken::More),
+    Step::Take(&DONE, Taken::More),
+    Step::Is(Stands::Cancelling),
+    Step::Take(&ACKNOWLEDGED, Taken::Acknowledged),
+    Step::Is(Stands::Idle),
+    Step::Told(b""),
+];
 
 /// What a cancelled answer changes is applied.
-#[test]
-fn a_cancelled_begin_has_begun(rt: HostRuntime) -> Result<(), Fail> {
-    let mut client = asked(rt.alloc(), &begin(0)?)?;
-    let _ = cancel(rt.alloc(), &mut client)?;
-    let mut told = Vec::new(rt.alloc());
-    assert_eq!(rt;
-        taken(rt.alloc(), &mut client, &BEGUN, &mut told)?,
-        Taken::More
-    );
-    let answer = taken(rt.alloc(), &mut client, &ACKNOWLEDGED, &mut told)?;
-    assert_eq!(rt; answer, Taken::Acknowledged);
-    assert_eq!(rt; client.descriptor(), 1);
-    assert!(rt; told.is_empty());
-    Ok(())
-}
+const A_CANCELLED_BEGIN_HAS_BEGUN: [Step; 6] = [
+    Step::Asks(Ask::Begin(0)),
+    Step::Cancel(Cancelled::Asked, &ATTENTION),
+    Step::Take(&BEGUN, Taken::More),
+    Step::Take(&ACKNOWLEDGED, Taken::Acknowledged),
+    Step::Descriptor(1),
+    Step::Told(b""),
+];
 
-/// A reset that is cancelled before it is done is asked for again; one that is done is not.
+/// A reset that is cancelled before it is done is asked for again ..
+const A_RESET_CANCELLED_BEFORE_IT_IS_DONE: [Step; 6] = [
+    Step::Mark(Reset::Full),
+    Step::Asks(Ask::Batch(b"set y 1")),
+    Step::Cancel(Cancelled::Asked, &ATTENTION),
+    Step::Take(&ACKNOWLEDGED, Taken::Acknowledged),
+    Step::MarkIs(Some(Reset::Full)),
+    Step::Told(b""),
+];
+
+/// .. and one that is done is not.
+const A_RESET_CANCELLED_WHEN_IT_IS_DONE: [Step; 7] = [
+    Step::Mark(Reset::Full),
+    Step::Asks(Ask::Batch(b"set y 1")),
+    Step::Cancel(Cancelled::Asked, &ATTENTION),
+    Step::Take(&RESET, Taken::More),
+    Step::Take(&ACKNOWLEDGED, Taken::Acknowledged),
+    Step::MarkIs(None),
+    Step::Told(b""),
+];
+
+const ANSWERS: [Script; 9] = [
+    ("an answer in parts", &AN_ANSWER_IN_PARTS),
+    ("rows in two packets", &ROWS_IN_TWO_PACKETS),
+    ("an empty end", &AN_EMPTY_END),
+    (
+        "a cancel before an empty end",
+        &A_CANCEL_BEFORE_AN_EMPTY_END,
+    ),
+    ("cancelled in the middle", &CANCELLED_IN_THE_MIDDLE),
+    ("answer and attention cross", &ANSWER_AND_ATTENTION_CROSS),
+    ("a cancelled begin has begun", &A_CANCELLED_BEGIN_HAS_BEGUN),
+    (
+        "a reset cancelled before it is done",
+        &A_RESET_CANCELLED_BEFORE_IT_IS_DONE,
+    ),
+    (
+        "a reset cancelled when it is done",
+        &A_RESET_CANCELLED_WHEN_IT_IS_DONE,
+    ),
+];
+
 #[test]
-fn a_cancelled_reset(rt: HostRuntime) -> Result<(), Fail> {
-    for (done, mark) in [(false, Some(Reset::Full)), (true, None)] {
-        let mut client = client(rt.alloc())?;
-        assert!(rt; client.mark_reset(Reset::Full).is_ok());
-        start(&mut client, &batch(rt.alloc(), b"set y 1")?)?;
-        let _ = send(rt.alloc(), &mut client)?;
-        let _ = cancel(rt.alloc(), &mut client)?;
-        let mut told = Vec::new(rt.alloc());
-        if done {
-            assert_eq!(rt;
-                taken(rt.alloc(), &mut client, &RESET, &mut told)?,
-                Taken::More
-            );
-        }
-        let answer = taken(rt.alloc(), &mut client, &ACKNOWLEDGED, &mut told)?;
-        assert_eq!(rt; answer, Taken::Acknowledged);
-        assert_eq!(rt; client.reset_mark(), mark);
-        assert!(rt; told.is_empty());
-    }
+fn each_answer(rt: HostRuntime) -> Result<(), Fail> {
+    assert_eq!(rt; first_failure(rt.alloc(), &ANSWERS)?, None);
     Ok(())
 }

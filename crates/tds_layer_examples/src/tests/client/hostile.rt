@@ -1,18 +1,4 @@
 use super::*;
-use tds_token::TokenFault;
-
-/// The number of the fault that a packet is answered with, or 0 for none.
-fn fault_number(alloc: Global, client: &mut Client, bytes: &[u8]) -> Result<u8, Fail> {
-    let mut told = Vec::new(alloc);
-    let taken = take(alloc, client, bytes, &mut told)?;
-    if !told.is_empty() {
-        return Err("told".into());
-    }
-    match taken {
-        Ok(_) => Ok(0),
-        Err(fault) => Ok(fault.number()),
-    }
-}
 
 const ROW: [u8; 13] = [
     0x04, 0x00, 0x00, 0x0D, 0x00, 0x00, 0x01, 0x00, 0xD1, 0x05, 0x00, 0x00, 0x00,
@@ -32,101 +18,167 @@ const BEHIND: [u8; 34] = [
     0x20, 0, 0, 0, 0, 0, 0, 0, 0, 0, 0, 0,
 ];
 
-#[test]
-fn each_fault_in_reading(rt: HostRuntime) -> Result<(), Fail> {
-    let table: [(&[u8], u8); 6] = [
-        (&ACKNOWLEDGED, 3),
-        (&COMMITTED, 4),
-        (&RESET, 5),
-        (&EMPTY_END, 6),
-        (&BEHIND, 7),
-        (&ROW, 8),
-    ];
-    for (bytes, number) in table {
-        let mut client = asked(rt.alloc(), &batch(rt.alloc(), b"get x")?)?;
-        assert_eq!(rt; fault_number(rt.alloc(), &mut client, bytes)?, number);
-        // It is answered again, also to a lawful packet, and the calls are refused.
-        assert_eq!(rt; fault_number(rt.alloc(), &mut client, &DONE)?, number);
-        client.lost();
-        let ClientState::Broken(fault) = client.state() else {
-            return Err("not broken".into());
-        };
-        assert_eq!(rt; fault.number(), number);
-        assert_eq!(rt; client.descriptor(), 0);
-        assert_eq!(rt; client.reset_mark(), None);
-    }
-    Ok(())
-}
+/// `BEGUN`, where the status of the DONE is `0020`.
+const BEGUN_AND_ACKNOWLEDGED: [u8; 35] = [
+    0x04, 0x01, 0x00, 0x23, 0x00, 0x00, 0x01, 0x00, 0xE3, 0x0B, 0x00, 0x08, 0x08, 0x01, 0x00, 0x00,
+    0x00, 0x00, 0x00, 0x00, 0x00, 0x00, 0xFD, 0x20, 0x00, 0x00, 0x00, 0x00, 0x00, 0x00, 0x00, 0x00,
+    0x00, 0x00, 0x00,
+];
 
-#[test]
-fn the_fault_of_a_token_is_carried(rt: HostRuntime) -> Result<(), Fail> {
-    let mut client = asked(rt.alloc(), &batch(rt.alloc(), b"get x")?)?;
-    let mut told = Vec::new(rt.alloc());
-    let taken = take(rt.alloc(), &mut client, &ROW, &mut told)?;
-    assert!(rt; matches!(taken, Err(ClientFault::Token(TokenFault::NoColumns))));
-    Ok(())
-}
+const AN_ANSWER_IN_IDLE: [Step; 1] = [Step::Fault(&ACKNOWLEDGED, 1)];
 
-#[test]
-fn answers_without_a_request(rt: HostRuntime) -> Result<(), Fail> {
-    let mut idle = client(rt.alloc())?;
-    assert_eq!(rt; fault_number(rt.alloc(), &mut idle, &ACKNOWLEDGED)?, 1);
-    let mut sending = client(rt.alloc())?;
-    start(&mut sending, &batch(rt.alloc(), b"get x")?)?;
-    assert_eq!(rt; fault_number(rt.alloc(), &mut sending, &ROW)?, 2);
-    Ok(())
-}
+const AN_ANSWER_IN_SENDING: [Step; 2] = [Step::Start(Ask::Batch(b"get x")), Step::Fault(&ROW, 2)];
 
-/// In cancelling an acknowledgement is lawful, and all else is as in reading.
-#[test]
-fn each_fault_in_cancelling(rt: HostRuntime) -> Result<(), Fail> {
-    let table: [(&[u8], u8); 6] = [
-        (&ACKNOWLEDGED, 0),
-        (&COMMITTED, 4),
-        (&RESET, 5),
-        (&EMPTY_END, 6),
-        (&BEHIND, 7),
-        (&ROW, 8),
-    ];
-    for (bytes, number) in table {
-        let mut client = asked(rt.alloc(), &batch(rt.alloc(), b"get x")?)?;
-        let _ = cancel(rt.alloc(), &mut client)?;
-        assert_eq!(rt; fault_number(rt.alloc(), &mut client, bytes)?, number);
-    }
-    Ok(())
-}
+const THE_FAULT_OF_A_TOKEN_IS_CARRIED: [Step; 2] = [
+    Step::Asks(Ask::Batch(b"get x")),
+    Step::TokenFault(&ROW, 6),
+];
+
+/// In cancelling an acknowledgement is lawful.
+const AN_ACKNOWLEDGEMENT_IN_CANCELLING: [Step; 4] = [
+    Step::Asks(Ask::Batch(b"get x")),
+    Step::Cancel(Cancelled::Asked, &ATTENTION),
+    Step::Take(&ACKNOWLEDGED, Taken::Acknowledged),
+    Step::Told(b""),
+];
 
 /// What a faulty packet tells before its fault changes nothing.
+const A_FAULT_BEHIND_A_CHANGE: [Step; 3] = [
+    Step::Asks(Ask::Begin(0)),
+    Step::Fault(&BEGUN_AND_ACKNOWLEDGED, 3),
+    Step::Descriptor(0),
+];
+
+const REFUSALS: [Step; 12] = [
+    Step::NoSend(2),
+    Step::Asks(Ask::Batch(b"get x")),
+    Step::NoStart(Ask::Batch(b"get x"), 1),
+    Step::NoMark(1),
+    Step::NoSend(2),
+    Step::Lost,
+    Step::Is(Stands::Broken(9)),
+    Step::NoStart(Ask::Batch(b"get x"), 3),
+    Step::NoMark(3),
+    Step::NoSend(3),
+    Step::NoCancel(3),
+    Step::Fault(&DONE, 9),
+];
+
+// Each fault in reading is answered again, also to a lawful packet, and a loss doesn't change it.
+// All but the first are faults in cancelling too.
+
+const AN_UNASKED_ACKNOWLEDGEMENT: [Step; 7] = [
+    Step::Asks(Ask::Batch(b"get x")),
+    Step::Fault(&ACKNOWLEDGED, 3),
+    Step::Fault(&DONE, 3),
+    Step::Lost,
+    Step::Is(Stands::Broken(3)),
+    Step::Descriptor(0),
+    Step::MarkIs(None),
+];
+
+const A_WRONG_CHANGE: [Step; 11] = [
+    Step::Asks(Ask::Batch(b"get x")),
+    Step::Fault(&COMMITTED, 4),
+    Step::Fault(&DONE, 4),
+    Step::Lost,
+    Step::Is(Stands::Broken(4)),
+    Step::Descriptor(0),
+    Step::MarkIs(None),
+    Step::New(512),
+    Step::Asks(Ask::Batch(b"get x")),
+    Step::Cancel(Cancelled::Asked, &ATTENTION),
+    Step::Fault(&COMMITTED, 4),
+];
+
+const AN_UNASKED_RESET: [Step; 11] = [
+    Step::Asks(Ask::Batch(b"get x")),
+    Step::Fault(&RESET, 5),
+    Step::Fault(&DONE, 5),
+    Step::Lost,
+    Step::Is(Stands::Broken(5)),
+    Step::Descriptor(0),
+    Step::MarkIs(None),
+    Step::New(512),
+    Step::Asks(Ask::Batch(b"get x")),
+    Step::Cancel(Cancelled::Asked, &ATTENTION),
+    Step::Fault(&RESET, 5),
+];
+
+const AN_END_WITHOUT_A_FINAL_DONE: [Step; 11] = [
+    Step::Asks(Ask::Batch(b"get x")),
+    Step::Fault(&EMPTY_END, 6),
+    Step::Fault(&DONE, 6),
+    Step::Lost,
+    Step::Is(Stands::Broken(6)),
+    Step::Descriptor(0),
+    Step::MarkIs(None),
+    Step::New(512),
+    Step::Asks(Ask::Batch(b"get x")),
+    Step::Cancel(Cancelled::Asked, &ATTENTION),
+    Step::Fault(&EMPTY_END, 6),
+];
+
+const A_TOKEN_BEHIND_THE_FINAL_DONE: [Step; 11] = [
+    Step::Asks(Ask::Batch(b"get x")),
+    Step::Fault(&BEHIND, 7),
+    Step::Fault(&DONE, 7),
+    Step::Lost,
+    Step::Is(Stands::Broken(7)),
+    Step::Descriptor(0),
+    Step::MarkIs(None),
+    Step::New(512),
+    Step::Asks(Ask::Batch(b"get x")),
+    Step::Cancel(Cancelled::Asked, &ATTENTION),
+    Step::Fault(&BEHIND, 7),
+];
+
+const A_ROW_WITHOUT_COLUMNS: [Step; 11] = [
+    Step::Asks(Ask::Batch(b"get x")),
+    Step::Fault(&ROW, 8),
+    Step::Fault(&DONE, 8),
+    Step::Lost,
+    Step::Is(Stands::Broken(8)),
+    Step::Descriptor(0),
+    Step::MarkIs(None),
+    Step::New(512),
+    Step::Asks(Ask::Batch(b"get x")),
+    Step::Cancel(Cancelled::Asked, &ATTENTION),
+    Step::Fault(&ROW, 8),
+];
+
+const HOSTILE: [Script; 12] = [
+    ("an unasked acknowledgement", &AN_UNASKED_ACKNOWLEDGEMENT),
+    ("a wrong change", &A_WRONG_CHANGE),
+    ("an unasked reset", &AN_UNASKED_RESET),
+    ("an end without a final done", &AN_END_WITHOUT_A_FINAL_DONE),
+    (
+        "a token behind the final done",
+        &A_TOKEN_BEHIND_THE_FINAL_DONE,
+    ),
+    ("a row without columns", &A_ROW_WITHOUT_COLUMNS),
+    ("an answer in idle", &AN_ANSWER_IN_IDLE),
+    ("an answer in sending", &AN_ANSWER_IN_SENDING),
+    (
+        "the fault of a token is carried",
+        &THE_FAULT_OF_A_TOKEN_IS_CARRIED,
+    ),
+    (
+        "an acknowledgement in cancelling",
+        &AN_ACKNOWLEDGEMENT_IN_CANCELLING,
+    ),
+    ("a fault behind a change", &A_FAULT_BEHIND_A_CHANGE),
+    ("refusals", &REFUSALS),
+];
+
 #[test]
-fn a_fault_behind_a_change(rt: HostRuntime) -> Result<(), Fail> {
-    let mut bytes = BEGUN;
-    // The status of its DONE becomes 0020.
-    bytes[23] = 0x20;
-    let mut client = asked(rt.alloc(), &begin(0)?)?;
-    assert_eq!(rt; fault_number(rt.alloc(), &mut client, &bytes)?, 3);
-    assert_eq!(rt; client.descriptor(), 0);
+fn each_hostile_answer(rt: HostRuntime) -> Result<(), Fail> {
+    assert_eq!(rt; first_failure(rt.alloc(), &HOSTILE)?, None);
     Ok(())
 }
 
 #[test]
-fn refusals(rt: HostRuntime) -> Result<(), Fail> {
-    let request = batch(rt.alloc(), b"get x")?;
-    let mut out = Vec::new(rt.alloc());
-    let mut idle = client(rt.alloc())?;
-    assert!(rt; matches!(idle.send(&mut out), Err(ClientRefusal::NotSending)));
-    let mut reading = asked(rt.alloc(), &request)?;
-    assert!(rt; matches!(reading.start(&request), Err(ClientRefusal::NotIdle)));
-    assert!(rt; matches!(reading.mark_reset(Reset::Full), Err(ClientRefusal::NotIdle)));
-    assert!(rt; matches!(reading.send(&mut out), Err(ClientRefusal::NotSending)));
-    let mut broken = reading;
-    broken.lost();
-    assert!(rt; matches!(broken.state(), ClientState::Broken(ClientFault::Lost)));
-    assert!(rt; matches!(broken.start(&request), Err(ClientRefusal::Broken)));
-    assert!(rt; matches!(broken.mark_reset(Reset::Full), Err(ClientRefusal::Broken)));
-    assert!(rt; matches!(broken.send(&mut out), Err(ClientRefusal::Broken)));
-    assert!(rt; matches!(broken.cancel(&mut out), Err(ClientRefusal::Broken)));
-    assert!(rt; out.is_empty());
-    assert_eq!(rt; fault_number(rt.alloc(), &mut broken, &DONE)?, 9);
+fn the_numbers_of_refusals(rt: HostRuntime) -> Result<(), Fail> {
     let numbers = [
         ClientRefusal::NotIdle.number(),
         ClientRefusal::NotSending.number(),
