@@ -1,18 +1,11 @@
-use tds_token::*;
+use super::read;
 use std::test::Fail;
+use tds_token::*;
 
-/// The number of the fault where the first token is at fault, where no columns are known.
-fn first_fault(bytes: &[u8]) -> Option<u8> {
-    let mut tokens = Tokens::new(bytes, Columns::none());
-    match tokens.next() {
-        Some(Err(fault)) => Some(fault.number()),
-        _ => None,
-    }
-}
-
+/// Each first token is at fault, and no columns are known then. Nothing comes behind a fault.
 #[test]
-fn one_of_each(rt: HostRuntime) {
-    let table: [(&[u8], u8); 18] = [
+fn first_faults(rt: HostRuntime) -> Result<(), Fail> {
+    let table: [(&[u8], u8); 25] = [
         (&[0x00], 1),
         // An INFO whose Length is one too great, with the byte there.
         (
@@ -37,16 +30,16 @@ fn one_of_each(rt: HostRuntime) {
         (&[0xFD, 0x20], 2),
         (&[0xD1, 5, 0, 0, 0], 6),
         (&[0x79, 0, 0, 0], 2),
-    ];
-    for (bytes, number) in table {
-        assert_eq!(rt; first_fault(bytes), Some(number), "{bytes:?}");
-    }
-}
-
-/// What real clients take.
-#[test]
-fn hostile(rt: HostRuntime) {
-    let table: [(&[u8], u8); 6] = [
+        // A name of eleven units.
+        (
+            &[
+                0x81, 2, 0, 0, 0, 0, 0, 0, 0, 0x38, 1, 0x6E, 0, 0, 0, 0, 0, 0, 0, 0x38, 11, 0x6E,
+                0, 0x6E, 0, 0x6E, 0, 0x6E, 0, 0x6E, 0, 0x6E, 0, 0x6E, 0, 0x6E, 0, 0x6E, 0, 0x6E, 0,
+                0x6E, 0,
+            ],
+            7,
+        ),
+        // What real clients take.
         // An INFO whose Length is 20 too great, with 20 bytes there.
         (
             &[
@@ -71,46 +64,31 @@ fn hostile(rt: HostRuntime) {
         (&[0xFD, 1, 2, 0, 0, 0, 0, 0, 0, 0, 0, 0, 0], 5),
     ];
     for (bytes, number) in table {
-        assert_eq!(rt; first_fault(bytes), Some(number), "{bytes:?}");
+        let mut tokens = Tokens::new(bytes, Columns::none());
+        let (before, faults) = read(&mut tokens, rt.alloc())?;
+        assert!(rt; before.is_empty(), "{bytes:?}");
+        assert_eq!(rt; faults.as_slice(), [number].as_slice(), "{bytes:?}");
+        assert_eq!(rt; tokens.columns().count(), None);
     }
-}
-
-#[test]
-fn nothing_behind_a_fault(rt: HostRuntime) -> Result<(), Fail> {
-    let bytes = [
-        0xAB, 0x0E, 0, 0x50, 0xC3, 0, 0, 1, 0, 0, 0, 0, 0, 0, 0, 0, 0, 0, 0x79, 1, 0, 0, 0,
-    ];
-    let mut tokens = Tokens::new(&bytes, Columns::none());
-    let first = tokens.next().ok_or("a token")?.ok().ok_or("no fault")?;
-    let TokenRef::Info(message) = first else {
-        return Err("not an INFO".into());
-    };
-    assert_eq!(rt; message.number, 50_000);
-    assert!(rt; message.text.own(rt.alloc())?.units().is_empty());
-    let fault = tokens.next().ok_or("an answer")?.err().ok_or("a fault")?;
-    assert_eq!(rt; fault.number(), 1);
-    assert!(rt; tokens.next().is_none());
     Ok(())
 }
 
 /// The answer to a begin, cut at each of its lengths: an ENVCHANGE of 14 bytes, and a DONE.
 #[test]
-fn cut_at_every_length(rt: HostRuntime) {
+fn cut_at_every_length(rt: HostRuntime) -> Result<(), Fail> {
     let answer = [
         0xE3, 0x0B, 0, 8, 8, 1, 0, 0, 0, 0, 0, 0, 0, 0, 0xFD, 0, 0, 0, 0, 0, 0, 0, 0, 0, 0, 0, 0,
     ];
-    assert_eq!(rt; first_fault(&[]), None);
-    for n in 1..14 {
-        assert_eq!(rt; first_fault(&answer[..n]), Some(2), "at {n}");
+    for n in 0..27 {
+        let expected = match n {
+            0 => "([], [])",
+            1..14 => "([], [2])",
+            14 => "([Env(Begin(1))], [])",
+            _ => "([Env(Begin(1))], [2])",
+        };
+        let all = read(&mut Tokens::new(&answer[..n], Columns::none()), rt.alloc())?;
+        let text = format!(in rt.alloc(); "{all:?}")?;
+        assert_eq!(rt; text.as_str(), expected, "at {n}");
     }
-    for n in 14..27 {
-        let mut tokens = Tokens::new(&answer[..n], Columns::none());
-        assert!(rt; matches!(tokens.next(), Some(Ok(TokenRef::Env(EnvChange::Begin(1))))));
-        match tokens.next() {
-            Some(Err(fault)) => assert_eq!(rt; fault.number(), 2, "at {n}"),
-            Some(Ok(_)) => assert!(rt; false, "at {n}"),
-            None => assert_eq!(rt; n, 14),
-        }
-        assert!(rt; tokens.next().is_none());
-    }
+    Ok(())
 }

@@ -1,6 +1,7 @@
-use tds_token::*;
+use super::{read, written};
 use std::alloc::Global;
 use std::test::Fail;
+use tds_token::*;
 
 /// A text of `n` units.
 fn text(alloc: Global, n: usize) -> Result<Text, NoMemory> {
@@ -49,122 +50,141 @@ fn row(alloc: Global, count: usize) -> Result<Row, NoMemory> {
     Ok(Row::new(values))
 }
 
-#[test]
-fn descriptors(rt: HostRuntime) {
-    assert!(rt; !Token::Env(EnvChange::Begin(0)).fits());
-    assert!(rt; !Token::Env(EnvChange::Commit(0)).fits());
-    assert!(rt; !Token::Env(EnvChange::Rollback(0)).fits());
-    assert!(rt; Token::Env(EnvChange::Rollback(u64::MAX)).fits());
-    assert!(rt; Token::Env(EnvChange::ResetDone).fits());
+/// A token by its counts.
+#[derive(Clone, Copy)]
+enum Case {
+    Env(EnvChange),
+    Info(usize, usize, usize),
+    Error(usize, usize, usize),
+    Columns(usize, usize),
+    Row(usize),
+    ReturnStatus(i32),
+    Done(u16),
 }
 
-#[test]
-fn lengths(rt: HostRuntime) -> Result<(), Fail> {
-    let alloc = rt.alloc();
-    assert!(rt; Token::Info(message(alloc, 0, 255, 255)?).fits());
-    assert!(rt; !Token::Info(message(alloc, 0, 256, 0)?).fits());
-    assert!(rt; !Token::Error(message(alloc, 0, 0, 256)?).fits());
-    // The Length is 65,534, and would be 65,536.
-    assert!(rt; Token::Error(message(alloc, 32_760, 0, 0)?).fits());
-    assert!(rt; !Token::Error(message(alloc, 32_761, 0, 0)?).fits());
-    assert!(rt; !Token::Info(message(alloc, 32_700, 60, 1)?).fits());
-    Ok(())
-}
-
-#[test]
-fn counts(rt: HostRuntime) -> Result<(), Fail> {
-    let alloc = rt.alloc();
-    assert!(rt; !Token::Columns(columns(alloc, 0, 0)?).fits());
-    assert!(rt; Token::Columns(columns(alloc, 1, 0)?).fits());
-    assert!(rt; Token::Columns(columns(alloc, 16, 10)?).fits());
-    assert!(rt; !Token::Columns(columns(alloc, 16, 11)?).fits());
-    assert!(rt; !Token::Columns(columns(alloc, 17, 1)?).fits());
-    assert!(rt; !Token::Row(row(alloc, 0)?).fits());
-    assert!(rt; Token::Row(row(alloc, 16)?).fits());
-    assert!(rt; !Token::Row(row(alloc, 17)?).fits());
-    assert!(rt; Token::ReturnStatus(i32::MIN).fits());
-    Ok(())
-}
-
-#[test]
-fn statuses(rt: HostRuntime) {
-    for (status, fits) in [
-        (0, true),
-        (0x0117, true),
-        (0x0136, true),
-        (0x0137, false),
-        (0x0021, false),
-        (0x0008, false),
-        (0x0040, false),
-        (0x0200, false),
-        (0x8000, false),
-    ] {
-        let done = Token::Done {
-            status,
+fn token(alloc: Global, case: &Case) -> Result<Token, NoMemory> {
+    Ok(match case {
+        Case::Env(change) => Token::Env(*change),
+        Case::Info(text, server, procedure) => {
+            Token::Info(message(alloc, *text, *server, *procedure)?)
+        }
+        Case::Error(text, server, procedure) => {
+            Token::Error(message(alloc, *text, *server, *procedure)?)
+        }
+        Case::Columns(count, n) => Token::Columns(columns(alloc, *count, *n)?),
+        Case::Row(count) => Token::Row(row(alloc, *count)?),
+        Case::ReturnStatus(value) => Token::ReturnStatus(*value),
+        Case::Done(status) => Token::Done {
+            status: *status,
             cur_cmd: 0,
             rows: 0,
-        };
-        assert_eq!(rt; done.fits(), fits, "{status:04x}");
-    }
+        },
+    })
 }
 
-/// The bytes of a token that fits.
-fn written(alloc: Global, token: &Token) -> Result<Vec<u8>, Fail> {
-    let mut bytes = Vec::new(alloc);
-    if !token.fits() {
-        return Err("does not fit".into());
-    }
-    put_token(&mut bytes, token)?;
-    Ok(bytes)
-}
-
+/// These fit.
 #[test]
-fn sixteen_columns(rt: HostRuntime) -> Result<(), Fail> {
-    let alloc = rt.alloc();
-    let bytes = written(alloc, &Token::Columns(columns(alloc, 16, 10)?))?;
-    assert_eq!(rt; bytes.len(), 3 + 16 * (4 + 2 + 1 + 1 + 20));
-    let mut tokens = Tokens::new(bytes.as_slice(), Columns::none());
-    let Some(Ok(TokenRef::Columns(lent))) = tokens.next() else {
-        return Err("not columns".into());
-    };
-    assert_eq!(rt; lent.count(), 16);
-    let owned = lent.own(alloc)?.into_vec();
-    assert_eq!(rt; owned.len(), 16);
-    let last = owned.as_slice().last().ok_or("a column")?;
-    assert_eq!(rt; last.user_type, 1);
-    assert_eq!(rt; last.flags, 2);
-    assert_eq!(rt; last.name.units().len(), 10);
-    assert_eq!(rt; tokens.columns().count(), Some(16));
-    Ok(())
-}
-
-#[test]
-fn row_of_two(rt: HostRuntime) -> Result<(), Fail> {
-    let alloc = rt.alloc();
-    let list = written(alloc, &Token::Columns(columns(alloc, 2, 10)?))?;
-    let mut tokens = Tokens::new(list.as_slice(), Columns::none());
-    let _ = tokens.next();
-    let bytes = written(alloc, &Token::Row(row(alloc, 2)?))?;
-    let mut tokens = Tokens::new(bytes.as_slice(), tokens.columns());
-    let Some(Ok(TokenRef::Row(lent))) = tokens.next() else {
-        return Err("not a row".into());
-    };
-    assert_eq!(rt; lent.own(alloc)?.into_vec().as_slice(), [-1, -1].as_slice());
-    assert!(rt; tokens.next().is_none());
-    Ok(())
-}
-
-/// The same bytes with 11 for the count of the last name.
-#[test]
-fn name_of_eleven_units(rt: HostRuntime) -> Result<(), Fail> {
-    let bytes = [
-        0x81, 2, 0, 0, 0, 0, 0, 0, 0, 0x38, 1, 0x6E, 0, 0, 0, 0, 0, 0, 0, 0x38, 11, 0x6E, 0, 0x6E,
-        0, 0x6E, 0, 0x6E, 0, 0x6E, 0, 0x6E, 0, 0x6E, 0, 0x6E, 0, 0x6E, 0, 0x6E, 0, 0x6E, 0,
+fn within(rt: HostRuntime) -> Result<(), Fail> {
+    let table = [
+        Case::Env(EnvChange::Rollback(u64::MAX)),
+        Case::Env(EnvChange::ResetDone),
+        Case::Info(0, 255, 255),
+        // The Length is 65,534.
+        Case::Error(32_760, 0, 0),
+        Case::Columns(1, 0),
+        Case::Columns(16, 10),
+        Case::Row(16),
+        Case::ReturnStatus(i32::MIN),
+        Case::Done(0),
+        Case::Done(0x0117),
+        Case::Done(0x0136),
     ];
-    let mut tokens = Tokens::new(&bytes, Columns::none());
-    let fault = tokens.next().ok_or("an answer")?.err().ok_or("a fault")?;
-    assert_eq!(rt; fault.number(), 7);
-    assert_eq!(rt; tokens.columns().count(), None);
+    for (place, case) in table.iter().enumerate() {
+        assert!(rt; token(rt.alloc(), case)?.fits(), "at {place}");
+    }
+    Ok(())
+}
+
+/// These do not fit.
+#[test]
+fn beyond(rt: HostRuntime) -> Result<(), Fail> {
+    let table = [
+        Case::Env(EnvChange::Begin(0)),
+        Case::Env(EnvChange::Commit(0)),
+        Case::Env(EnvChange::Rollback(0)),
+        Case::Info(0, 256, 0),
+        Case::Error(0, 0, 256),
+        // The Length would be 65,536.
+        Case::Error(32_761, 0, 0),
+        Case::Info(32_700, 60, 1),
+        Case::Columns(0, 0),
+        Case::Columns(16, 11),
+        Case::Columns(17, 1),
+        Case::Row(0),
+        Case::Row(17),
+        Case::Done(0x0137),
+        Case::Done(0x0021),
+        Case::Done(0x0008),
+        Case::Done(0x0040),
+        Case::Done(0x0200),
+        Case::Done(0x8000),
+    ];
+    for (place, case) in table.iter().enumerate() {
+        assert!(rt; !token(rt.alloc(), case)?.fits(), "at {place}");
+    }
+    Ok(())
+}
+
+/// Each is read as it was written, with the columns of the one before.
+#[test]
+fn read_again(rt: HostRuntime) -> Result<(), Fail> {
+    let mut known = Columns::none();
+    for (case, length, count) in [
+        (Case::Columns(16, 10), 3 + 16 * (4 + 2 + 1 + 1 + 20), 16),
+        (Case::Columns(2, 10), 3 + 2 * (4 + 2 + 1 + 1 + 20), 2),
+        (Case::Row(2), 1 + 2 * 4, 2),
+    ] {
+        let list = vec![in rt.alloc(); token(rt.alloc(), &case)?]?;
+        let bytes = written(rt.alloc(), list.as_slice())?.ok_or("does not fit")?;
+        assert_eq!(rt; bytes.len(), length);
+        let mut tokens = Tokens::new(bytes.as_slice(), known);
+        let again = read(&mut tokens, rt.alloc())?;
+        let text = format!(in rt.alloc(); "{again:?}")?;
+        let expected = format!(in rt.alloc(); "({list:?}, [])")?;
+        assert_eq!(rt; text.as_str(), expected.as_str());
+        known = tokens.columns();
+        assert_eq!(rt; known.count(), Some(count));
+    }
+    Ok(())
+}
+
+/// The numbers of sixteen columns: how many are lent and owned, and the last one's.
+fn numbers(alloc: Global, bytes: &[u8]) -> Result<Option<(u8, usize, u32, u16, usize)>, NoMemory> {
+    let Some(Ok(TokenRef::Columns(lent))) = Tokens::new(bytes, Columns::none()).next() else {
+        return Ok(None);
+    };
+    let owned = lent.own(alloc)?.into_vec();
+    let Some(last) = owned.as_slice().last() else {
+        return Ok(None);
+    };
+    let length = last.name.units().len();
+    Ok(Some((
+        lent.count(),
+        owned.len(),
+        last.user_type,
+        last.flags,
+        length,
+    )))
+}
+
+#[test]
+fn columns_and_rows_given_back(rt: HostRuntime) -> Result<(), Fail> {
+    let list = vec![in rt.alloc(); Token::Columns(columns(rt.alloc(), 16, 10)?)]?;
+    let bytes = written(rt.alloc(), list.as_slice())?.ok_or("does not fit")?;
+    let found = numbers(rt.alloc(), bytes.as_slice())?;
+    assert_eq!(rt; found, Some((16, 16, 1, 2, 10)));
+    let values = row(rt.alloc(), 2)?.into_vec();
+    assert_eq!(rt; values.as_slice(), [-1, -1].as_slice());
     Ok(())
 }
 

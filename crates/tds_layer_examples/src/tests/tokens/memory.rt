@@ -1,5 +1,5 @@
-use tds_token::*;
 use std::test::Fail;
+use tds_token::*;
 
 /// Holds whichever growth is refused: `rt try --test --fail-alloc N` refuses the Nth.
 #[test]
