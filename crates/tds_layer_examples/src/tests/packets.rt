@@ -1,7 +1,7 @@
-use tds_packet::*;
 use bitflags::Flags;
 use std::alloc::Global;
 use std::test::Fail;
+use tds_packet::*;
 
 /// The answer to a begin: a packet of 35 bytes.
 const BEGUN: [u8; 35] = [

@@ -1,5 +1,5 @@
-use tds_world::*;
 use std::test::Fail;
+use tds_world::*;
 
 #[test]
 fn a_sequence_is_the_vector_that_it_was_made_of(rt: HostRuntime) -> Result<(), Fail> {

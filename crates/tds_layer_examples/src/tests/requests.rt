@@ -1,6 +1,6 @@
-use tds_request::*;
 use std::alloc::Global;
 use std::test::Fail;
+use tds_request::*;
 
 /// A begin without a change of the isolation level, outside a transaction.
 const BEGIN: [u8; 26] = [
