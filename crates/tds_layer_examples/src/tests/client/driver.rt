@@ -100,7 +100,7 @@ fn play(alloc: Global, steps: &[Step]) -> Result<usize, Fail> {
 }
 
 /// The first script in which a step doesn't hold, with the number of steps before it.
-pub fn first_failure(
+pub(super) fn first_failure(
     alloc: Global,
     scripts: &[Script],
 ) -> Result<Option<(&'static str, usize)>, Fail> {
