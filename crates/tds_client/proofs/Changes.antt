@@ -11,7 +11,9 @@ use Rattle.tds_client.specs.declared.fault.ClientFault.TheVariants as faults
 use Rattle.tds_client.specs.declared.heard.Heard.{Heard}
 use Rattle.tds_client.specs.declared.heard.FinalDone.{FinalDone}
 use Rattle.tds_client.specs.declared.heard.FinalDone.TheVariants.{Awaited, Answered, Acknowledged}
-use Rattle.tds_client.specs.Hearing.{◌>>=◌, has_bit, with_done, changed, hear_change, hear_done, hear_token, hear_before, hear, hear_all, reset_effect, mark_after}
+use Rattle.tds_client.specs.Hearing.{◌>>=◌, with_done, changed, hear_change, hear_done, hear_token, hear_before, hear, hear_all, mark_after}
+use Rattle.tds_packet.specs.Layout.{has_bit}
+use Rattle.tds_packet.specs.Resets.{reset_effect}
 use Rattle.tds_client.specs.Marks.{mark_behind}
 
 abbrev Answer : Type 0

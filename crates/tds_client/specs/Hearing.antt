@@ -1,14 +1,15 @@
 -- What a client makes of what it hears, token by token.
-use Rattle.std.specs.Prelude.{ℕ, Bool, true, false, List, [], ◌∷◌, Option, Some, None, Result, Ok, Err, MatchResult, ◌≡◌, ◌==◌, if◌then◌else◌}
-use Rattle.std.specs.Int.RustNames.{bit_and}
+use Rattle.std.specs.Prelude.{ℕ, Bool, true, false, List, [], ◌∷◌, Option, Some, None, Result, Ok, Err, MatchResult, ◌≡◌, if◌then◌else◌}
 use Rattle.tds_packet.specs.declared.status.Reset.{Reset}
-use Rattle.tds_packet.specs.declared.status.Reset.TheVariants.{Full, KeepTransaction}
 use Rattle.tds_token.specs.declared.env_change.EnvChange.{EnvChange}
 use Rattle.tds_token.specs.declared.env_change.EnvChange.TheVariants.{Begin, Commit, Rollback, ResetDone}
 use Rattle.tds_token.specs.declared.fault.TokenFault.{TokenFault}
 use Rattle.tds_token.specs.declared.token.Token.{Token}
 use Rattle.tds_token.specs.declared.token.Token.TheVariants as tokens
-use Rattle.tds_token.specs.Told.{ResetEffect, ends_transaction, keeps_transaction, no_reset, change_applied}
+use Rattle.tds_packet.specs.Layout.{has_bit}
+use Rattle.tds_packet.specs.Resets.{reset_effect}
+use Rattle.tds_token.specs.DoneStatus.{attention, more}
+use Rattle.tds_token.specs.Told.{change_applied}
 use Rattle.tds_client.specs.declared.fault.ClientFault.{ClientFault}
 use Rattle.tds_client.specs.declared.fault.ClientFault.TheVariants as faults
 use Rattle.tds_client.specs.declared.heard.Heard.{Heard}
@@ -27,12 +28,6 @@ abbrev pub Gives : {A : Type 0} → Result A ClientFault → Result A ClientFaul
 Gives result wanted = MatchResult result (λ x. wanted ≡ Ok x) (λ e. wanted ≡ Err e)
 
 -- ---- ENVCHANGE (MS-TDS 2.2.7.9)
-
--- What the end of a reset makes of the descriptor: what was asked for.
-abbrev pub reset_effect : Option Reset → ResetEffect
-reset_effect None = no_reset
-reset_effect (Some Full) = ends_transaction
-reset_effect (Some KeepTransaction) = keeps_transaction
 
 -- The mark is cleared by the end of a reset, and by nothing else.
 abbrev pub mark_after : EnvChange → Option Reset → Option Reset
@@ -60,14 +55,11 @@ hear_change heard change = changed heard change (change_applied (reset_effect he
 abbrev pub with_done : Heard → FinalDone → Heard
 with_done heard done = record heard { done = done }
 
-abbrev pub has_bit : ℕ → ℕ → Bool
-has_bit status bit = bit_and status bit == bit
-
 -- Bit 0020 acknowledges an attention, and is a fault where none is out. Bit 0001 says that more follows.
 unfoldable pub hear_done : Bool → Heard → ℕ → Result Heard ClientFault
 hear_done cancelling heard status =
-    if has_bit status 0x20 then (if cancelling then Ok (with_done heard Acknowledged) else Err faults.UnaskedAcknowledgement)
-    else if has_bit status 1 then Ok heard
+    if has_bit status attention then (if cancelling then Ok (with_done heard Acknowledged) else Err faults.UnaskedAcknowledgement)
+    else if has_bit status more then Ok heard
     else Ok (with_done heard Answered)
 
 -- ---- Tokens

@@ -6,3 +6,5 @@ pub mod Hearing
 pub mod Taking
 pub mod Marks
 pub mod Fields
+pub mod Calls
+pub mod Promises

@@ -1,10 +1,8 @@
 -- What starting, sending and cancelling a request does.
 use Rattle.std.specs.Prelude.{◌≡◌, ℕ, ◌+◌, ◌-◌, ◌==◌, nat_le, true, false, List, [], ◌++◌, length, take, drop, Option, Some, None, Result, Ok, Err, if◌then◌else◌}
 use Rattle.tds_packet.specs.declared.kind.Kind.{Kind}
-use Rattle.tds_packet.specs.declared.status.Reset.{Reset}
-use Rattle.tds_packet.specs.declared.status.Reset.TheVariants.{Full, KeepTransaction}
 use Rattle.tds_request.specs.declared.request.Request.{Request}
-use Rattle.tds_request.specs.Layout.{kind_of_request, spelling}
+use Rattle.tds_request.specs.Layout.{kind_of_request, spelling, packet_kind}
 use Rattle.tds_client.specs.declared.fault.ClientRefusal.{ClientRefusal}
 use Rattle.tds_client.specs.declared.fault.ClientRefusal.TheVariants as refusals
 use Rattle.tds_client.specs.declared.heard.Heard.{Heard}
@@ -12,20 +10,16 @@ use Rattle.tds_client.specs.declared.state.Sent.{Sent}
 use Rattle.tds_client.specs.declared.state.Sent.TheVariants as sents
 use Rattle.tds_client.specs.declared.state.Cancelled.{Cancelled}
 use Rattle.tds_client.specs.declared.state.Cancelled.TheVariants as cancels
-use Rattle.tds_client.specs.Packets.{packet_bytes, packet_kind, end_bit, mark_bit, attention, ignore}
+use Rattle.tds_client.specs.Packets.{packet_bytes, attention, ignore}
+use Rattle.tds_packet.specs.Resets.{header_descriptor, mark_bit}
+use Rattle.tds_packet.specs.Sent.{end_bit}
 use Rattle.tds_client.specs.Session.{ClientSession, Stage, Idle, Sending, Reading, Cancelling, Broken, with_stage}
 
 -- ---- Starting
 
--- The descriptor in a request's header: none where a full reset is asked for, since that ends the transaction first.
-abbrev pub descriptor_under : Option Reset → ℕ → ℕ
-descriptor_under None descriptor = descriptor
-descriptor_under (Some Full) descriptor = 0
-descriptor_under (Some KeepTransaction) descriptor = descriptor
-
 -- The message of a request.
 abbrev pub message_of : Heard → Request → List ℕ
-message_of heard request = spelling (descriptor_under heard.mark heard.descriptor) request
+message_of heard request = spelling (header_descriptor heard.mark heard.descriptor) request
 
 abbrev pub started : ClientSession → Request → ClientSession
 started s request = with_stage s (Sending (packet_kind (kind_of_request request)) (message_of s.heard request) 0)

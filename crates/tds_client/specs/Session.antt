@@ -2,7 +2,7 @@
 use Rattle.std.specs.Prelude.{ℕ, List, Option, Some, None}
 use Rattle.tds_packet.specs.declared.kind.Kind.{Kind}
 use Rattle.tds_packet.specs.declared.status.Reset.{Reset}
-use Rattle.tds_packet.specs.declared.status.Reset.TheVariants.{Full, KeepTransaction}
+use Rattle.tds_packet.specs.Resets.{strongest}
 use Rattle.tds_client.specs.declared.fault.ClientFault.{ClientFault}
 use Rattle.tds_client.specs.declared.fault.ClientFault.TheVariants as faults
 use Rattle.tds_client.specs.declared.fault.ClientRefusal.{ClientRefusal}
@@ -71,14 +71,6 @@ unless_idle (Broken fault) = Some refusals.Broken
 
 -- ---- The mark: the reset that the next request asks for (MS-TDS 2.2.3.1.2)
 
--- The stronger of two marks: a full reset is stronger than one that keeps the transaction.
-abbrev pub stronger : Reset → Reset → Reset
-stronger Full reset = Full
-stronger KeepTransaction reset = reset
-
-abbrev pub marked_with : Reset → Option Reset → Reset
-marked_with reset None = reset
-marked_with reset (Some mark) = stronger mark reset
-
+-- Of two marks the stronger one stays.
 abbrev pub marked : ClientSession → Reset → ClientSession
-marked s reset = record s { heard = record s.heard { mark = Some (marked_with reset s.heard.mark) } }
+marked s reset = record s { heard = record s.heard { mark = strongest (Some reset) s.heard.mark } }

@@ -8,11 +8,11 @@ mod taking;
 
 use crate::fault::{ClientFault, ClientRefusal};
 use crate::heard::{FinalDone, Heard};
-use crate::packets::{kind_of, put, put_attention, put_ignore_and_attention, request_status};
+use crate::packets::{put, put_attention, put_ignore_and_attention};
 use crate::state::{Cancelled, ClientState, Sent};
 use std::alloc::Global;
 use std::marker::Model;
-use tds_packet::{Kind, PacketSize, Reset};
+use tds_packet::{Kind, PacketSize, Reset, Status};
 use tds_request::{Request, encode};
 use tds_token::Columns;
 
@@ -124,6 +124,20 @@ impl Client {
         }
     }
 
+    /// Refuses what only an idle client does.
+    fn check_idle(&self) -> Result<(), ClientRefusal>
+        ensures idle { OnOk result (unless_idle self.now.stage ≡ None) }
+        ensures refused { IfErr result (λ refusal. unless_idle self.now.stage ≡ Some refusal) }
+    {
+        match &self.stage {
+            Stage::Idle => Ok(()),
+            Stage::Sending(_) => Err(ClientRefusal::NotIdle),
+            Stage::Reading => Err(ClientRefusal::NotIdle),
+            Stage::Cancelling => Err(ClientRefusal::NotIdle),
+            Stage::Broken(_) => Err(ClientRefusal::Broken),
+        }
+    }
+
     /// Lets the next request ask for a reset. Of two marks the stronger one stays: `Full` is
     /// stronger than `KeepTransaction`.
     pub fn mark_reset(&mut self, reset: Reset) -> Result<(), ClientRefusal>
@@ -132,13 +146,7 @@ impl Client {
         ensures refused { IfErr result (λ refusal. unless_idle self.old.stage ≡ Some refusal) }
         ensures err { OnErr result (self.new ≡ self.old) }
     {
-        match &self.stage {
-            Stage::Idle => {}
-            Stage::Sending(_) => return Err(ClientRefusal::NotIdle),
-            Stage::Reading => return Err(ClientRefusal::NotIdle),
-            Stage::Cancelling => return Err(ClientRefusal::NotIdle),
-            Stage::Broken(_) => return Err(ClientRefusal::Broken),
-        }
+        self.check_idle()?;
         match self.heard.mark {
             None => self.heard.mark = Some(reset),
             Some(Reset::Full) => {}
@@ -157,13 +165,7 @@ impl Client {
         ensures refused { IfErr result (IsRefusal (unless_idle self.old.stage)) }
         ensures err { OnErr result (self.new ≡ self.old) }
     {
-        match &self.stage {
-            Stage::Idle => {}
-            Stage::Sending(_) => return Err(ClientRefusal::NotIdle),
-            Stage::Reading => return Err(ClientRefusal::NotIdle),
-            Stage::Cancelling => return Err(ClientRefusal::NotIdle),
-            Stage::Broken(_) => return Err(ClientRefusal::Broken),
-        }
+        self.check_idle()?;
         let descriptor = match self.heard.mark {
             None => self.heard.descriptor,
             Some(Reset::Full) => 0,
@@ -172,7 +174,7 @@ impl Client {
         self.message.clear();
         encode(request, descriptor, &mut self.message)?;
         self.stage = Stage::Sending(Outgoing {
-            kind: kind_of(request.kind()),
+            kind: request.kind().packet_kind(),
             sent: 0,
             packets: 0,
         });
@@ -199,12 +201,12 @@ impl Client {
         let room = usize::from(self.size.get()) - 8;
         let left = &self.message[outgoing.sent..];
         if left.len() <= room {
-            let status = request_status(true, outgoing.packets, self.heard.mark);
+            let status = Status::of_request(true, outgoing.packets, self.heard.mark);
             put(out, outgoing.kind, status, outgoing.packets, left)?;
             self.stage = Stage::Reading;
             return Ok(Sent::Last);
         }
-        let status = request_status(false, outgoing.packets, self.heard.mark);
+        let status = Status::of_request(false, outgoing.packets, self.heard.mark);
         put(out, outgoing.kind, status, outgoing.packets, &left[..room])?;
         self.stage = Stage::Sending(Outgoing {
             kind: outgoing.kind,

@@ -3,12 +3,8 @@ ghost use Rattle.tds_client.specs.Hearing.{Gives, hear, hear_change, hear_done};
 
 use crate::fault::ClientFault;
 use tds_packet::Reset;
+use tds_token::done_status::{ATTENTION, MORE};
 use tds_token::{EnvChange, TokenRef};
-
-/// The bits of a DONE's status (MS-TDS 2.2.7.6): more follows, and an attention is acknowledged.
-const MORE: u16 = 0x0001;
-
-const ATTENTION: u16 = 0x0020;
 
 /// How the message that comes stands: whether its final DONE has come, and which (MS-TDS 2.2.7.6).
 /// A DONE is final when its bit `0001` is clear.

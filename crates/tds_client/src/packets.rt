@@ -1,48 +1,9 @@
 ghost use Rattle.std.specs.Prelude.{◌≡◌, ◌+◌, ◌≤◌, ◌<◌, ◌^◌, ◌++◌, OnOk, OnErr, length};
 ghost use Rattle.tds_packet.specs.Layout.{bits_of};
-ghost use Rattle.tds_client.specs.Packets.{packet_bytes, packet_kind};
-ghost use Rattle.tds_client.specs.Packets.{end_bit, mark_bit, reset_bit, attention, ignore};
+ghost use Rattle.tds_client.specs.Packets.{packet_bytes, attention, ignore};
 
 use crate::NoMemory;
-use bitflags::Flags;
-use tds_packet::{Header, Kind, Reset, Status, put_packet};
-use tds_request::RequestKind;
-
-/// The type of a request's packets.
-pub(crate) fn kind_of(request: RequestKind) -> Kind
-    ensures { result ≡ packet_kind request }
-{
-    match request {
-        RequestKind::Batch => Kind::Batch,
-        RequestKind::Transaction => Kind::Transaction,
-    }
-}
-
-fn reset_status(mark: Option<Reset>) -> Status
-    ensures { bits_of result ≡ reset_bit mark }
-{
-    match mark {
-        None => Status::empty(),
-        Some(Reset::Full) => Status::RESET,
-        Some(Reset::KeepTransaction) => Status::RESET_KEEP_TRANSACTION,
-    }
-}
-
-/// The status of a request's packet that goes out behind `before` others. The first one has the
-/// mark's bit.
-pub(crate) fn request_status(ends: bool, before: usize, mark: Option<Reset>) -> Status
-    ensures { bits_of result ≡ end_bit ends + mark_bit before mark }
-{
-    let mut status = if before == 0 {
-        reset_status(mark)
-    } else {
-        Status::empty()
-    };
-    if ends {
-        status.insert(Status::END_OF_MESSAGE);
-    }
-    status
-}
+use tds_packet::{Kind, Status, put_sent};
 
 /// Appends a packet that stands behind `before` others of its message. At want of memory nothing is
 /// appended.
@@ -59,15 +20,7 @@ pub(crate) fn put(
         (out.new.items ≡ out.old.items ++ packet_bytes kind (bits_of status) before data.now) }
     ensures err { OnErr result (out.new.items ≡ out.old.items) }
 {
-    let header = Header {
-        kind,
-        status,
-        length: (8 + data.len()) as u16,
-        spid: 0,
-        packet_id: ((before + 1) % 256) as u8,
-        window: 0,
-    };
-    put_packet(out, header, data)
+    put_sent(out, kind, status, ((before + 1) % 256) as u8, data)
 }
 
 /// Appends an attention.
@@ -75,7 +28,7 @@ pub(crate) fn put_attention(out: &mut Vec<u8>) -> Result<(), NoMemory>
     ensures ok { OnOk result (out.new.items ≡ out.old.items ++ attention) }
     ensures err { OnErr result (out.new.items ≡ out.old.items) }
 {
-    put(out, Kind::Attention, Status::END_OF_MESSAGE, 0, &[])
+    put(out, Kind::Attention, Status::of_answer(true), 0, &[])
 }
 
 /// Appends a packet that ends a request of which `before` packets are out, and tells the server to
@@ -90,9 +43,7 @@ pub(crate) fn put_ignore_and_attention(
     ensures err { OnErr result (out.new.items ≡ out.old.items) }
 {
     let length = out.len();
-    let mut status = Status::END_OF_MESSAGE;
-    status.insert(Status::IGNORE);
-    put(out, kind, status, before, &[])?;
+    put(out, kind, Status::to_ignore(), before, &[])?;
     let attention = put_attention(out);
     if attention.is_err() {
         out.truncate(length);

@@ -3,5 +3,4 @@ mod cores;
 mod faults;
 mod files;
 mod runs;
-mod schedules;
 mod texts;

@@ -1,4 +1,5 @@
 mod client;
+mod ends;
 mod packets;
 mod reports;
 mod requests;

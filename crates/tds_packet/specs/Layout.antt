@@ -1,5 +1,5 @@
 -- The layout of a packet: eight bytes of header, and then the data (MS-TDS 2.2.3.1 and 2.2.3.2).
-use Rattle.std.specs.Prelude.{◌≡◌, ℕ, ◌+◌, ◌/◌, ◌%◌, ◌≤◌, ◌==◌, ◌||◌, Bool, true, List, [], ◌∷◌, ◌++◌, length, find, Option, Some, None, if◌then◌else◌}
+use Rattle.std.specs.Prelude.{◌≡◌, ℕ, ◌+◌, ◌/◌, ◌%◌, ◌≤◌, ◌==◌, ◌||◌, ◌&&◌, Bool, true, List, [], ◌∷◌, ◌++◌, length, find, Option, Some, None, if◌then◌else◌}
 use Rattle.std.specs.Int.RustNames.{bit_and}
 use Rattle.tds_packet.specs.declared.kind.Kind.{Kind}
 use Rattle.tds_packet.specs.declared.kind.Kind.TheVariants.{Batch, Answer, Attention, Transaction}
@@ -65,6 +65,10 @@ abbrev pub reset_of : ℕ → Option Reset
 reset_of status =
     if has_bit status 8 then (if has_bit status 16 then None else Some Full)
     else (if has_bit status 16 then Some KeepTransaction else None)
+
+-- both resets are asked for
+abbrev pub has_both_resets : ℕ → Bool
+has_both_resets status = has_bit status 8 && has_bit status 16
 
 -- The bytes are a packet of this direction and packet size, with this header and these data.
 pub record IsPacket (direction : Direction) (size : ℕ) (bytes : List ℕ) (header : Header) (content : List ℕ) : Type 0 where

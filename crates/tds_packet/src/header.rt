@@ -1,5 +1,6 @@
-ghost use Rattle.std.specs.Prelude.{◌≡◌, ◌+◌, ◌++◌, IfOk, IfErr, OnOk, OnErr, None, Some, length};
-ghost use Rattle.tds_packet.specs.Layout.{header_bytes};
+ghost use Rattle.std.specs.Prelude.{◌≡◌, ◌≤◌, ◌+◌, ◌++◌, IfOk, IfErr, OnOk, OnErr, None, Some, length};
+ghost use Rattle.tds_packet.specs.Layout.{bits_of, header_bytes};
+ghost use Rattle.tds_packet.specs.Sent.{sent_bytes};
 ghost use Rattle.tds_packet.specs.Faults.{header_fault};
 
 use crate::NoMemory;
@@ -88,4 +89,29 @@ pub fn put_packet(out: &mut Vec<u8>, header: Header, data: &[u8]) -> Result<(), 
     out.reserve(8 + data.len())?;
     out.extend_from_slice(&bytes)?;
     out.extend_from_slice(data)
+}
+
+/// Appends a packet as both ends send it: SPID and Window are 0, and the Length counts the data. At
+/// want of memory nothing is appended.
+pub fn put_sent(
+    out: &mut Vec<u8>,
+    kind: Kind,
+    status: Status,
+    packet_id: u8,
+    data: &[u8],
+) -> Result<(), NoMemory>
+    requires { length data.now ≤ 65527 }
+    ensures ok { OnOk result
+        (out.new.items ≡ out.old.items ++ sent_bytes kind (bits_of status) packet_id data.now) }
+    ensures err { OnErr result (out.new.items ≡ out.old.items) }
+{
+    let header = Header {
+        kind,
+        status,
+        length: (8 + data.len()) as u16,
+        spid: 0,
+        packet_id,
+        window: 0,
+    };
+    put_packet(out, header, data)
 }

@@ -62,7 +62,8 @@ impl PacketReader {
         size: PacketSize,
         direction: Direction,
     ) -> Result<PacketReader, NoMemory>
-        ensures { IfOk result (λ reader. reader ≡ record { direction = direction; size = size; taken = [] }) }
+        ensures { IfOk result (λ reader. reader
+            ≡ record { direction = direction; size = size; taken = [] }) }
     {
         let bytes = Vec::with_capacity(alloc, usize::from(size.get()))?;
         Ok(PacketReader {
@@ -87,7 +88,8 @@ impl PacketReader {
     /// The fault of the header, if it has one.
     fn fault(&self) -> Option<PacketFault>
         ensures value { result ≡ fault_of self.now self.now.taken }
-        ensures whole { IsNone result → length self.now.taken ≡ end_of self.now self.now.taken → IsWhole self.now }
+        ensures whole { IsNone result → length self.now.taken ≡ end_of self.now self.now.taken
+            → IsWhole self.now }
     {
         match &self.state {
             State::Refused(fault) => Some(fault.again()),
@@ -123,11 +125,13 @@ impl PacketReader {
     /// come, and to each call from then on. No memory is taken.
     pub fn feed(&mut self, piece: &[u8]) -> Result<usize, PacketFault>
         // All that was offered is taken, up to the end of one packet, also where a fault is answered.
-        ensures taken { self.new ≡ with_taken self.old (up_to_end self.old (self.old.taken ++ piece.now)) }
+        ensures taken { self.new ≡ with_taken self.old
+            (up_to_end self.old (self.old.taken ++ piece.now)) }
         ensures count { IfOk result (λ n. self.new.taken ≡ self.old.taken ++ take n piece.now) }
         ensures within { IfOk result (λ n. n ≤ length piece.now) }
         ensures all { IfOk result (λ n. n < length piece.now → IsWhole self.new) }
-        ensures fault { MatchResult result (λ _. fault_of self.new self.new.taken ≡ None) (λ fault. fault_of self.new self.new.taken ≡ Some fault) }
+        ensures fault { MatchResult result (λ _. fault_of self.new self.new.taken ≡ None)
+            (λ fault. fault_of self.new self.new.taken ≡ Some fault) }
         // A reader that refused stays as it is, and so does one in which a whole packet waits.
         ensures refused { (fault : PacketFault) → fault_of self.old self.old.taken ≡ Some fault
             → (result ≡ Err fault) × (self.new ≡ self.old) }
@@ -147,7 +151,8 @@ impl PacketReader {
     /// The packet that has come, once it is whole.
     pub fn packet(&self) -> Option<PacketRef<'_>>
         ensures whole { IsSome result ↔ IsWhole self.now }
-        ensures lent { IfSome result (λ packet. IsPacket self.now.direction self.now.size self.now.taken packet.header packet.data.now) }
+        ensures lent { IfSome result
+            (λ packet. IsPacket self.now.direction self.now.size self.now.taken packet.header packet.data.now) }
     {
         match &self.state {
             State::Start => None,

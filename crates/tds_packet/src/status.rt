@@ -1,5 +1,7 @@
-ghost use Rattle.std.specs.Prelude.{⊤, ◌≡◌, [], ◌∷◌, codes, IfSome, is_some};
-ghost use Rattle.tds_packet.specs.Layout.{reset_of, bits_of, has_bit, is_status};
+ghost use Rattle.std.specs.Prelude.{⊤, ◌≡◌, ◌+◌, ◌==◌, [], ◌∷◌, codes, IfSome, is_some};
+ghost use Rattle.tds_packet.specs.Layout.{reset_of, bits_of, has_bit, has_both_resets, is_status};
+ghost use Rattle.tds_packet.specs.Resets.{reset_bit, mark_bit};
+ghost use Rattle.tds_packet.specs.Sent.{end_bit};
 
 use crate::kind::Direction;
 use bitflags::{Flag, Flags, bitflag_items};
@@ -88,5 +90,73 @@ impl Status {
             (false, true) => Some(Reset::KeepTransaction),
             _ => None,
         }
+    }
+
+    /// Whether it ends a message that is to be forgotten.
+    pub fn is_ignored(&self) -> bool
+        ensures { result ≡ has_bit (bits_of self.now) 2 }
+    {
+        self.contains(Status::IGNORE)
+    }
+
+    /// Whether both resets are asked for.
+    pub fn asks_for_both_resets(&self) -> bool
+        ensures { result ≡ has_both_resets (bits_of self.now) }
+    {
+        self.contains(Status::RESET) && self.contains(Status::RESET_KEEP_TRANSACTION)
+    }
+
+    /// Whether it is end of message and nothing else, as an attention's is.
+    pub fn ends_alone(&self) -> bool
+        ensures { result ≡ (bits_of self.now == 1) }
+    {
+        self.bits() == 0x01
+    }
+
+    /// The status of a packet of an answer, or of an attention, which ends its message.
+    pub fn of_answer(ends: bool) -> Status
+        ensures { bits_of result ≡ end_bit ends }
+    {
+        if ends {
+            Status::END_OF_MESSAGE
+        } else {
+            Status::empty()
+        }
+    }
+
+    /// The status of a request's packet that goes out behind `before` others of its message. The
+    /// first one has the bit of the reset that is asked for.
+    pub fn of_request(ends: bool, before: usize, reset: Option<Reset>) -> Status
+        ensures { bits_of result ≡ end_bit ends + mark_bit before reset }
+    {
+        let mut status = if before == 0 {
+            reset_status(reset)
+        } else {
+            Status::empty()
+        };
+        if ends {
+            status.insert(Status::END_OF_MESSAGE);
+        }
+        status
+    }
+
+    /// The status of a packet that ends a message and tells the server to forget it.
+    pub fn to_ignore() -> Status
+        ensures { bits_of result ≡ 3 }
+    {
+        let mut status = Status::END_OF_MESSAGE;
+        status.insert(Status::IGNORE);
+        status
+    }
+}
+
+/// The status that asks for this reset, and says nothing else.
+fn reset_status(reset: Option<Reset>) -> Status
+    ensures { bits_of result ≡ reset_bit reset }
+{
+    match reset {
+        None => Status::empty(),
+        Some(Reset::Full) => Status::RESET,
+        Some(Reset::KeepTransaction) => Status::RESET_KEEP_TRANSACTION,
     }
 }

@@ -22,13 +22,13 @@ use Rattle.tds_play.specs.Pipe.{Pipe, traffic}
 use Rattle.tds_play.specs.Plays.{IsPlayed}
 use Rattle.tds_play.specs.Requests.{AreOlder, IsNewest}
 use Rattle.tds_play.specs.Seen.{done_as}
-use Rattle.tds_play.specs.Stands.{MatchesClient, MatchesServer}
+use Rattle.tds_ends.specs.Stands.{MatchesClient, MatchesServer}
 use Rattle.tds_play.specs.declared.link.Done.{Done}
 use Rattle.tds_play.specs.declared.link.Link.{Link}
-use Rattle.tds_play.specs.declared.link.Record.{Record}
+use Rattle.tds_play.specs.declared.request.Record.{Record}
 use Rattle.tds_play.proofs.Asking.{asked_matches}
 use Rattle.tds_play.proofs.Matching.{server_still_matches}
-use Rattle.tds_play.proofs.Placed.{DoesAlike, idle_alike, idle_settled}
+use Rattle.tds_play.proofs.Placed.{DoesWhole, idle_alike, idle_settled}
 
 -- ---- The requests
 
@@ -90,13 +90,14 @@ asked_played {E} {S} number size id lease engine q link new pipe c i live idle r
         client_reads = ap (λ l. l.client_reader.direction) h.rest ∙ v.client_reads;
         client_size = ap (λ l. l.client_reader.size) h.rest ∙ v.client_size;
       };
+      gone = λ cut. i.gone (sym (ap (λ l. l.is_cut) h.rest) ∙ cut);
     }
 
 asked_by : {E S : Type 0} (number size id lease : ℕ) (engine : E) (q : Request) (link new : Link E S) (pipe : Option Pipe) (c : Connection) (done : Done) (idle : Bool)
     → IsPlayed number size engine link pipe c → link.is_cut ≡ false → is_idle c ≡ idle → (idle ≡ true → c.parts ≡ [])
     → (idle ≡ false → (done ≡ done_as (outcome.Refused NotIdle)) × (new ≡ link))
     → (idle ≡ true → (done ≡ done_as (outcome.Asked id)) × IsAskedOn lease q link new)
-    → DoesAlike number size engine done new pipe (asks_by idle id lease number q c) c
+    → DoesWhole number size engine done new pipe (asks_by idle id lease number q c) c
 asked_by {E} {S} number size id lease engine q link new pipe c done false i live is rests refused asked =
     let h = refused refl in (h.0, subst (λ (l : Link E S). IsPlayed number size engine l pipe c) (sym h.1) i)
 asked_by number size id lease engine q link new pipe c done true i live is rests refused asked =
@@ -110,7 +111,7 @@ pub asked_alike : {E S B : Type 0} (number size id lease : ℕ) (engine : E) (q 
     → r ≡ Ok done
     → (is_none (unless_idle link.client.stage) ≡ false → (r ≡ Ok (done_as (outcome.Refused NotIdle))) × (new ≡ link))
     → (is_none (unless_idle link.client.stage) ≡ true → IfOk r (λ done. (done ≡ done_as (outcome.Asked id)) × IsAskedOn lease q link new))
-    → DoesAlike number size engine done new pipe (asks_by (is_idle c) id lease number q c) c
+    → DoesWhole number size engine done new pipe (asks_by (is_idle c) id lease number q c) c
 asked_alike {E} {S} number size id lease engine q link new pipe c done r i live rests is refused asked =
     let same = idle_alike link.client c (i.lives live).stands.client in
     asked_by number size id lease engine q link new pipe c done (is_idle c) i live refl rests
@@ -122,8 +123,8 @@ pub asked_ok : {E S B : Type 0} (number size told id lease : ℕ) (engine : E) (
     → IsPlayed number size engine link pipe c → link.is_cut ≡ false → (is_idle c ≡ true → c.parts ≡ []) → told ≡ id
     → (is_none (unless_idle link.client.stage) ≡ false → (r ≡ Ok (done_as (outcome.Refused NotIdle))) × (new ≡ link))
     → (is_none (unless_idle link.client.stage) ≡ true → IfOk r (λ done. (done ≡ done_as (outcome.Asked told)) × IsAskedOn lease q link new))
-    → IfOk r (λ done. DoesAlike number size engine done new pipe (asks_by (is_idle c) id lease number q c) c)
+    → IfOk r (λ done. DoesWhole number size engine done new pipe (asks_by (is_idle c) id lease number q c) c)
 asked_ok {E} {S} number size told id lease engine q link new pipe c (Ok done) i live rests same refused asked =
-    subst (λ (n : ℕ). DoesAlike number size engine done new pipe (asks_by (is_idle c) n lease number q c) c) same
+    subst (λ (n : ℕ). DoesWhole number size engine done new pipe (asks_by (is_idle c) n lease number q c) c) same
     (asked_alike number size told lease engine q link new pipe c done (Ok done) i live rests refl refused asked)
 asked_ok number size told id lease engine q link new pipe c (Err why) i live rests same refused asked = tt

@@ -1,29 +1,20 @@
 -- A connection that is lent: a new one, and one whose next request is to ask for a reset.
 use Rattle.std.proofs.Common.{◌≡◌, ◌∙◌, ℕ, refl, ap, Option, Some, None}
-use Rattle.tds_client.specs.Session.{ClientSession, new_session, marked, marked_with}
+use Rattle.tds_client.specs.Session.{ClientSession, new_session, marked}
 use Rattle.tds_packet.specs.declared.status.Reset.{Reset}
-use Rattle.tds_packet.specs.declared.status.Reset.TheVariants.{Full, KeepTransaction}
 use Rattle.tds_server.specs.State.{new_server}
-use Rattle.tds_session.specs.Session.{strongest}
+use Rattle.tds_packet.specs.Resets.{strongest}
 use Rattle.tds_world.specs.declared.report.Place.{Place}
 use Rattle.tds_world.specs.Connection.{Connection, Standing, new_connection, phase}
 use Rattle.tds_world.specs.Phase.{Phase, Settled, phase_in, phase_of}
 use Rattle.tds_world.specs.Record.{Record}
-use Rattle.tds_play.specs.Stands.{MatchesClient, MatchesServer, BeginsBy, BeginsIn}
+use Rattle.tds_ends.specs.Stands.{MatchesClient, MatchesServer, BeginsBy, BeginsIn}
 
 pub new_client : (size : ℕ) (p : Place) → MatchesClient (new_session size) (new_connection p)
 new_client size p = record { stage = refl; descriptor = refl; mark = refl; done = refl; columns = tt; begins = tt }
 
 pub new_server_matches : {E : Type 0} (engine : E) (p : Place) → MatchesServer (new_server engine) (new_connection p)
 new_server_matches engine p = record { session = refl; phase = (refl, refl) }
-
-same_mark : (r : Reset) (mark : Option Reset) → Some (marked_with r mark) ≡ strongest (Some r) mark
-same_mark Full None = refl
-same_mark Full (Some Full) = refl
-same_mark Full (Some KeepTransaction) = refl
-same_mark KeepTransaction None = refl
-same_mark KeepTransaction (Some Full) = refl
-same_mark KeepTransaction (Some KeepTransaction) = refl
 
 begins_settled : (p : Phase) (q : Record) (mark : Option Reset) → p ≡ Settled → BeginsBy p q mark
 begins_settled p q mark e = rw e tt
@@ -36,7 +27,7 @@ pub marked_matches : (s : ClientSession) (c : Connection) (r : Reset) (standing 
 marked_matches s c r standing m e = record {
   stage = m.stage;
   descriptor = m.descriptor;
-  mark = ap (λ (mark : Option Reset). Some (marked_with r mark)) m.mark ∙ same_mark r c.mark;
+  mark = ap (λ (mark : Option Reset). strongest (Some r) mark) m.mark;
   done = m.done;
   columns = m.columns;
   begins = begins_where c.current (strongest (Some r) c.mark) e;

@@ -7,7 +7,7 @@ use Rattle.tds_world.specs.Deliveries.{IsDelivered}
 use Rattle.tds_world.specs.Lane.{Lane, sent_bytes, underway}
 use Rattle.tds_play.specs.Between.{IsLane}
 use Rattle.tds_play.specs.Pipe.{Traffic, carried, next_of, sent}
-use Rattle.tds_play.specs.Stands.{Sends}
+use Rattle.tds_ends.specs.Stands.{Sends}
 
 -- ---- What comes next
 
@@ -64,14 +64,24 @@ lane_delivered bytes n t old new taken rest count is d left =
       counts = omega (arith, part, long, is.counts, is.within, less);
     }
 
+-- A failure brings nothing.
+pub lane_stuck : {Entry : Type 0} (bytes : Entry → List ℕ) (t : Traffic) (failures : ℕ) (lane : Lane Entry) (taken : List ℕ) (count : ℕ) → IsLane bytes t lane taken count → IsLane bytes (record t { carry_failures = failures }) lane taken count
+lane_stuck bytes t failures lane taken count is = record {
+  handed = is.handed;
+  came = is.came;
+  within = is.within;
+  left = is.left;
+  counts = is.counts;
+}
+
 -- ---- What is sent
 
 take_same : (a b : ℕ) (xs more ys : List ℕ) → a ≤ length xs → ys ≡ xs ++ more → b ≡ a → take a xs ≡ take b ys
 take_same a b xs more ys within e same =
     sym (take-append-le a xs more within) ∙ ap (take a) (sym e) ∙ ap (λ (k : ℕ). take k ys) (sym same)
 
-pub lane_sent : {Entry : Type 0} (bytes : Entry → List ℕ) (more : List ℕ) (t : Traffic) (old new : Lane Entry) (taken : List ℕ) (count now : ℕ) → IsLane bytes t old taken count → Sends bytes more old new → now ≡ count + length more → IsLane bytes (sent t more 0) new taken now
-lane_sent {Entry} bytes more t old new taken count now is s e =
+pub lane_sent : {Entry : Type 0} (bytes : Entry → List ℕ) (more : List ℕ) (failures : ℕ) (t : Traffic) (old new : Lane Entry) (taken : List ℕ) (count now : ℕ) → IsLane bytes t old taken count → Sends bytes more old new → now ≡ count + length more → IsLane bytes (sent t more failures) new taken now
+lane_sent {Entry} bytes more failures t old new taken count now is s e =
     let waiting : List ℕ = flat_map bytes old.waiting in
     let long : length (flat_map bytes new.waiting) ≡ length waiting + length more = ap length s.waiting ∙ length-append waiting more in
     let all : sent_bytes bytes new ≡ sent_bytes bytes old ++ more =

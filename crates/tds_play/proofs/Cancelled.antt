@@ -20,19 +20,21 @@ use Rattle.tds_world.specs.Phase.{Phase, Settled, Asked, Sending, Reading, Cance
 use Rattle.tds_world.specs.Pool.{comes_back, place_back, returned_as}
 use Rattle.tds_world.specs.Record.{Out, NotBegun, Begun, Whole}
 use Rattle.tds_world.specs.Record as world
-use Rattle.tds_play.specs.Acts.{cancel_outcome, cancelled_as, with_status}
-use Rattle.tds_play.specs.Alike.{CancelAlike}
+use Rattle.tds_ends.specs.Alike.{cancel_outcome}
+use Rattle.tds_play.specs.Acts.{cancelled_as, with_status}
+use Rattle.tds_ends.specs.Alike.{CancelAlike}
 use Rattle.tds_play.specs.Lending.{standing_by}
 use Rattle.tds_play.specs.Links.{placed_at}
 use Rattle.tds_play.specs.Pipe.{Pipe}
 use Rattle.tds_play.specs.Plays.{IsPlayed, after, outcome_of}
 use Rattle.tds_play.specs.Requests.{IsNewest}
-use Rattle.tds_play.specs.Stands.{IsOf, Sends}
+use Rattle.tds_ends.specs.Stands.{IsOf, Sends}
 use Rattle.tds_play.specs.declared.link.Link.{Link}
-use Rattle.tds_play.specs.declared.link.Record.{Record}
+use Rattle.tds_play.specs.declared.request.Record.{Record}
 use Rattle.tds_play.proofs.Matching.{client_still_matches, server_still_matches}
 use Rattle.tds_play.proofs.Outward.{HandedUp, sent_played}
 use Rattle.tds_play.proofs.Placed.{idle_alike}
+use Rattle.tds_play.proofs.Phases.{when_asked, when_sending, when_reading}
 
 -- ---- The client
 
@@ -100,37 +102,16 @@ link_by client.Unsent s link = refl
 link_by client.Asked s link = refl
 
 -- One of which nothing was out is never sent.
-unsent_is : (fin ack can : Bool) (out : Out) → phase_by fin ack can out ≡ Asked → status.Unsent ≡ status_by fin ack false (phase_by fin ack true out)
-unsent_is true ack can out e = absurd (cc)
-unsent_is false true can out e = absurd (cc)
-unsent_is false false true NotBegun e = absurd (cc)
-unsent_is false false true (Begun n) e = absurd (cc)
-unsent_is false false true (Whole n) e = absurd (cc)
-unsent_is false false false NotBegun e = refl
-unsent_is false false false (Begun n) e = absurd (cc)
-unsent_is false false false (Whole n) e = absurd (cc)
+unsent_is : (fate : world.Fate) (out : Out) → phase_by fate out ≡ Asked → status.Unsent ≡ status_by world.Cancelled false (phase_by world.Cancelled out)
+unsent_is fate out = when_asked (λ x o. status.Unsent ≡ status_by world.Cancelled false (phase_by world.Cancelled o)) refl fate out
 
-sending_is : (fin ack can : Bool) (out : Out) → phase_by fin ack can out ≡ Sending → status.Cancelling ≡ status_by fin ack false (phase_by fin ack true out)
-sending_is true ack can out e = absurd (cc)
-sending_is false true can out e = absurd (cc)
-sending_is false false true NotBegun e = absurd (cc)
-sending_is false false true (Begun n) e = absurd (cc)
-sending_is false false true (Whole n) e = absurd (cc)
-sending_is false false false NotBegun e = absurd (cc)
-sending_is false false false (Begun n) e = refl
-sending_is false false false (Whole n) e = absurd (cc)
+sending_is : (fate : world.Fate) (out : Out) → phase_by fate out ≡ Sending → status.Cancelling ≡ status_by world.Cancelled false (phase_by world.Cancelled out)
+sending_is fate out = when_sending (λ x o. status.Cancelling ≡ status_by world.Cancelled false (phase_by world.Cancelled o)) (λ n. refl) fate out
 
-reading_is : (fin ack can : Bool) (out : Out) → phase_by fin ack can out ≡ Reading → status.Cancelling ≡ status_by fin ack false (phase_by fin ack true out)
-reading_is true ack can out e = absurd (cc)
-reading_is false true can out e = absurd (cc)
-reading_is false false true NotBegun e = absurd (cc)
-reading_is false false true (Begun n) e = absurd (cc)
-reading_is false false true (Whole n) e = absurd (cc)
-reading_is false false false NotBegun e = absurd (cc)
-reading_is false false false (Begun n) e = absurd (cc)
-reading_is false false false (Whole n) e = refl
+reading_is : (fate : world.Fate) (out : Out) → phase_by fate out ≡ Reading → status.Cancelling ≡ status_by world.Cancelled false (phase_by world.Cancelled out)
+reading_is fate out = when_reading (λ x o. status.Cancelling ≡ status_by world.Cancelled false (phase_by world.Cancelled o)) (λ n. refl) fate out
 
-with_status_of : (number : ℕ) (r : Option Record) (q : world.Record) (s : _) → s ≡ status_by q.finished q.acknowledged false (phase_by q.finished q.acknowledged true q.out) → IsNewest number false r (Some q) → IsNewest number false (option_map (with_status s) r) (Some (world.cancelled q))
+with_status_of : (number : ℕ) (r : Option Record) (q : world.Record) (s : _) → s ≡ status_by world.Cancelled false (phase_by world.Cancelled q.out) → IsNewest number false r (Some q) → IsNewest number false (option_map (with_status s) r) (Some (world.cancelled q))
 with_status_of number None q s e h = absurd h
 with_status_of number (Some r) q s e h = record { lease = h.lease; conn = h.conn; mark = h.mark; status = e; ran = h.ran; tokens = h.tokens }
 
@@ -145,16 +126,16 @@ newest_by Cancelling client.Unsent number r q c is at told h = absurd (cc)
 newest_by Cancelling client.Asked number r q c is at told h = absurd (cc)
 newest_by Asked client.Nothing number r q c is at told h = absurd (cc)
 newest_by Asked client.Already number r q c is at told h = absurd (cc)
-newest_by Asked client.Unsent number r q c is at told h = with_status_of number r q status.Unsent (unsent_is q.finished q.acknowledged q.cancelled q.out at) h
+newest_by Asked client.Unsent number r q c is at told h = with_status_of number r q status.Unsent (unsent_is q.fate q.out at) h
 newest_by Asked client.Asked number r q c is at told h = absurd (cc)
 newest_by Sending client.Nothing number r q c is at told h = absurd (cc)
 newest_by Sending client.Already number r q c is at told h = absurd (cc)
 newest_by Sending client.Unsent number r q c is at told h = absurd (cc)
-newest_by Sending client.Asked number r q c is at told h = with_status_of number r q status.Cancelling (sending_is q.finished q.acknowledged q.cancelled q.out at) h
+newest_by Sending client.Asked number r q c is at told h = with_status_of number r q status.Cancelling (sending_is q.fate q.out at) h
 newest_by Reading client.Nothing number r q c is at told h = absurd (cc)
 newest_by Reading client.Already number r q c is at told h = absurd (cc)
 newest_by Reading client.Unsent number r q c is at told h = absurd (cc)
-newest_by Reading client.Asked number r q c is at told h = with_status_of number r q status.Cancelling (reading_is q.finished q.acknowledged q.cancelled q.out at) h
+newest_by Reading client.Asked number r q c is at told h = with_status_of number r q status.Cancelling (reading_is q.fate q.out at) h
 
 newest_in : (current : Option world.Record) (a : Cancelled) (number : ℕ) (r : Option Record) (c : Connection) → c.current ≡ current → model.cancel_outcome (phase_in current) ≡ cancel_outcome a → IsNewest number false r current → IsNewest number false (current_behind a r) (cancels_in current c).current
 newest_in None client.Nothing number r c is told h = subst (IsNewest number false r) (sym is) h

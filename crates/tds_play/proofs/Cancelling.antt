@@ -16,10 +16,10 @@ use Rattle.tds_world.specs.Lane.{Lane, append}
 use Rattle.tds_world.specs.Phase.{Phase, Settled, Asked, Sending, Reading, Cancelling, phase_by, phase_in, phase_of}
 use Rattle.tds_world.specs.Record as record_of
 use Rattle.tds_world.specs.Record.{Record, Out, NotBegun, Begun, Whole, packets_of}
-use Rattle.tds_play.specs.Alike.{CancelAlike, DoesCancel}
-use Rattle.tds_play.specs.Stands.{MatchesClient, BeginsBy, BeginsIn, Sends, kind_asked, stage_by, stage_in}
+use Rattle.tds_ends.specs.Alike.{CancelAlike, DoesCancel}
+use Rattle.tds_ends.specs.Stands.{MatchesClient, BeginsBy, BeginsIn, Sends, kind_asked, stage_by, stage_in}
 use Rattle.tds_play.proofs.Lanes.{appended, unsent}
-use Rattle.tds_play.proofs.Phases.{not_begun}
+use Rattle.tds_play.proofs.Phases.{not_begun, when_asked, when_sending, when_reading}
 use Rattle.tds_play.proofs.Picks.{pick_true, pick_false}
 
 sends_two : {Entry : Type 0} {bytes : Entry → List ℕ} {one two : List ℕ} {a b c : Lane Entry} → Sends bytes one a b → Sends bytes two b c → Sends bytes (one ++ two) a c
@@ -30,35 +30,14 @@ sends_two {bytes = bytes} {one = one} {two = two} {a = a} h k = record {
 }
 
 -- Where a request is when it is cancelled.
-from_asked : (fin ack can : Bool) (out : Out) → phase_by fin ack can out ≡ Asked → phase_by fin ack true out ≡ Settled
-from_asked true ack can out e = absurd (cc)
-from_asked false true can out e = absurd (cc)
-from_asked false false true NotBegun e = refl
-from_asked false false true (Begun n) e = absurd (cc)
-from_asked false false true (Whole n) e = absurd (cc)
-from_asked false false false NotBegun e = refl
-from_asked false false false (Begun n) e = absurd (cc)
-from_asked false false false (Whole n) e = absurd (cc)
+from_asked : (fate : record_of.Fate) (out : Out) → phase_by fate out ≡ Asked → phase_by record_of.Cancelled out ≡ Settled
+from_asked fate out = when_asked (λ x o. phase_by record_of.Cancelled o ≡ Settled) refl fate out
 
-from_sending : (fin ack can : Bool) (out : Out) → phase_by fin ack can out ≡ Sending → phase_by fin ack true out ≡ Cancelling
-from_sending true ack can out e = absurd (cc)
-from_sending false true can out e = absurd (cc)
-from_sending false false true NotBegun e = absurd (cc)
-from_sending false false true (Begun n) e = refl
-from_sending false false true (Whole n) e = absurd (cc)
-from_sending false false false NotBegun e = absurd (cc)
-from_sending false false false (Begun n) e = refl
-from_sending false false false (Whole n) e = absurd (cc)
+from_sending : (fate : record_of.Fate) (out : Out) → phase_by fate out ≡ Sending → phase_by record_of.Cancelled out ≡ Cancelling
+from_sending fate out = when_sending (λ x o. phase_by record_of.Cancelled o ≡ Cancelling) (λ n. refl) fate out
 
-from_reading : (fin ack can : Bool) (out : Out) → phase_by fin ack can out ≡ Reading → phase_by fin ack true out ≡ Cancelling
-from_reading true ack can out e = absurd (cc)
-from_reading false true can out e = absurd (cc)
-from_reading false false true NotBegun e = absurd (cc)
-from_reading false false true (Begun n) e = absurd (cc)
-from_reading false false true (Whole n) e = absurd (cc)
-from_reading false false false NotBegun e = absurd (cc)
-from_reading false false false (Begun n) e = absurd (cc)
-from_reading false false false (Whole n) e = refl
+from_reading : (fate : record_of.Fate) (out : Out) → phase_by fate out ≡ Reading → phase_by record_of.Cancelled out ≡ Cancelling
+from_reading fate out = when_reading (λ x o. phase_by record_of.Cancelled o ≡ Cancelling) (λ n. refl) fate out
 
 -- The client's effect, by how much is out.
 none_out : (s : ClientSession) (q : Record) → q.out ≡ NotBegun → cancelled_sending s (kind_asked q.asking) (packets_of q.out) ≡ record { answer = answered.Unsent; session = with_stage s client.Idle; bytes = [] }
@@ -87,11 +66,11 @@ by_phase Settled s c q e m b = (_, refl, refl, m, unsent up_bytes c.to_server)
 by_phase Cancelling s c q e m b = (_, refl, refl, m, unsent up_bytes c.to_server)
 by_phase Asked s c q e m b =
     let d : Connection = cancels_by Asked q c in
-    let out : q.out ≡ NotBegun = not_begun q.finished q.acknowledged q.cancelled q.out e in (
+    let out : q.out ≡ NotBegun = not_begun q.fate q.out e in (
       record { answer = answered.Unsent; session = with_stage s client.Idle; bytes = [] },
       ap (λ (x : Effect Cancelled). Ok x) (none_out s q out),
       refl,
-      client_at s c d q Settled client.Idle m refl refl refl (from_asked q.finished q.acknowledged q.cancelled q.out e) refl tt,
+      client_at s c d q Settled client.Idle m refl refl refl (from_asked q.fate q.out e) refl tt,
       unsent up_bytes c.to_server,
     )
 by_phase Sending s c q e m b =
@@ -99,7 +78,7 @@ by_phase Sending s c q e m b =
       record { answer = answered.Asked; session = with_stage s client.Cancelling; bytes = ignore (kind_asked q.asking) (packets_of q.out) ++ attention },
       ap (λ (x : Effect Cancelled). Ok x) (some_out s q b),
       refl,
-      client_at s c d q Cancelling client.Cancelling m refl refl refl (from_sending q.finished q.acknowledged q.cancelled q.out e) refl tt,
+      client_at s c d q Cancelling client.Cancelling m refl refl refl (from_sending q.fate q.out e) refl tt,
       sends_two
           (appended up_bytes (ignore (kind_asked q.asking) (packets_of q.out)) (Drop q.number (drop_packet q)) c.to_server refl)
           (appended up_bytes attention (Attention q.number) (append (Drop q.number (drop_packet q)) c.to_server) refl),
@@ -109,7 +88,7 @@ by_phase Reading s c q e m b =
       record { answer = answered.Asked; session = with_stage s client.Cancelling; bytes = attention },
       refl,
       refl,
-      client_at s c d q Cancelling client.Cancelling m refl refl refl (from_reading q.finished q.acknowledged q.cancelled q.out e) refl tt,
+      client_at s c d q Cancelling client.Cancelling m refl refl refl (from_reading q.fate q.out e) refl tt,
       appended up_bytes attention (Attention q.number) c.to_server refl,
     )
 

@@ -14,10 +14,10 @@ use Rattle.tds_world.specs.Entries.{Down, down_bytes}
 use Rattle.tds_world.specs.Lane.{Lane, passed, with_waiting}
 use Rattle.tds_world.specs.Phase.{status_of}
 use Rattle.tds_world.specs.Record.{Record}
-use Rattle.tds_play.specs.Deliveries.{down_coming, heard_of, AllHeard, ListensAlike, TellsMore, status_under}
-use Rattle.tds_play.specs.Feeding.{IsComing, IsBegun, Listened, listened, on_taken, settled_by, bytes_of}
-use Rattle.tds_play.specs.Hearing.{HearAlike, IsTold, status_after}
-use Rattle.tds_play.specs.Stands.{MatchesClient}
+use Rattle.tds_ends.specs.Deliveries.{down_coming, heard_of, AllHeard, ListensAlike, TellsMore, status_under}
+use Rattle.tds_ends.specs.Feeding.{IsComing, IsBegun, Listened, listened, on_taken, settled_by, bytes_of}
+use Rattle.tds_ends.specs.Hearing.{HearAlike, IsTold, status_after}
+use Rattle.tds_ends.specs.Stands.{MatchesClient}
 use Rattle.tds_play.proofs.Cuts.{cut_inside, cut_behind, begun_by}
 use Rattle.tds_play.proofs.Matching.{client_still_matches}
 

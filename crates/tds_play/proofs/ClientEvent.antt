@@ -11,15 +11,15 @@ use Rattle.tds_world.specs.declared.report.Place.{Place}
 use Rattle.tds_world.specs.declared.report.Place.TheVariants as place
 use Rattle.tds_world.specs.Entries.{Up, Down, Step, Acknowledgement, up_bytes, down_bytes}
 use Rattle.tds_world.specs.Lane.{Lane, passed, with_waiting}
-use Rattle.tds_world.specs.Record.{Record, gives, acknowledges, when, if_numbered}
+use Rattle.tds_world.specs.Record.{Record, Open, gives, acknowledges, when, if_numbered}
 use Rattle.tds_play.specs.Between.{IsLane, Stands}
-use Rattle.tds_play.specs.Deliveries.{AllHeard, ListensAlike}
+use Rattle.tds_ends.specs.Deliveries.{AllHeard, ListensAlike}
 use Rattle.tds_play.specs.declared.link.Link.{Link}
 use Rattle.tds_play.specs.Links.{drained_at}
 use Rattle.tds_play.specs.Listening.{told_in}
 use Rattle.tds_play.specs.Pipe.{Pipe, traffic, carried, next_of}
-use Rattle.tds_play.specs.Stands.{MatchesClient, MatchesServer}
-use Rattle.tds_play.proofs.Between.{offered_front, lane_delivered}
+use Rattle.tds_ends.specs.Stands.{MatchesClient, MatchesServer}
+use Rattle.tds_play.proofs.Between.{offered_front, lane_delivered, lane_stuck}
 use Rattle.tds_play.proofs.ClientDelivery.{listen_alike}
 use Rattle.tds_play.proofs.Kept.{hears_kept}
 use Rattle.tds_play.proofs.Matching.{client_still_matches, server_still_matches}
@@ -59,7 +59,7 @@ server_stays s c (e ∷ es) k m =
 
 -- What of a request no answer changes.
 abbrev pub bare : Record → Record
-bare q = record q { given = []; finished = false; acknowledged = false }
+bare q = record q { given = []; fate = Open }
 
 -- What of a connection no answer changes.
 pub record HearsBeside (c d : Connection) : Type 0 where
@@ -126,8 +126,9 @@ pub record Heard {E S : Type 0} (old new : Link E S) (pipe after : Option Pipe) 
   pub server_reader : new.server_reader ≡ old.server_reader
   pub to_server : new.to_server ≡ old.to_server
   pub to_client : new.to_client ≡ old.to_client - n
+  pub stuck : ℕ
   pub up : traffic after ToServer ≡ traffic pipe ToServer
-  pub down : traffic after ToClient ≡ carried (traffic pipe ToClient) (next_of (traffic pipe ToClient) n)
+  pub down : traffic after ToClient ≡ record (carried (traffic pipe ToClient) (next_of (traffic pipe ToClient) n)) { carry_failures = stuck }
 
 pub heard_alike : {E S : Type 0} (old new : Link E S) (pipe after : Option Pipe) (c : Connection) (most n : ℕ) (session : ClientSession) (left : List ℕ)
     → Stands old pipe c → n ≡ min most old.to_client
@@ -144,7 +145,8 @@ heard_alike old new pipe after c most n session left s count lanes m rest h =
     let drained_too : MatchesClient session w = client_still_matches session d w refl refl refl m in
     let stays : MatchesServer old.server w = seen_on old.server d d.to_client w.standing (server_stays old.server c c.to_client.waiting k s.server) in
     let up : IsLane up_bytes (traffic pipe ToServer) w.to_server old.server_reader.taken old.to_server = subst (λ (l : Lane Up). IsLane up_bytes (traffic pipe ToServer) l old.server_reader.taken old.to_server) (sym beside.to_server) s.up in
-    let down : IsLane down_bytes (carried (traffic pipe ToClient) (next_of (traffic pipe ToClient) (min most old.to_client))) w.to_client left (old.to_client - min most old.to_client) = lane_delivered down_bytes most (traffic pipe ToClient) c.to_client w.to_client old.client_reader.taken left old.to_client s.down lanes rest in
+    let down : IsLane down_bytes (record (carried (traffic pipe ToClient) (next_of (traffic pipe ToClient) (min most old.to_client))) { carry_failures = h.stuck }) w.to_client left (old.to_client - min most old.to_client) =
+    lane_stuck down_bytes (carried (traffic pipe ToClient) (next_of (traffic pipe ToClient) (min most old.to_client))) h.stuck w.to_client left (old.to_client - min most old.to_client) (lane_delivered down_bytes most (traffic pipe ToClient) c.to_client w.to_client old.client_reader.taken left old.to_client s.down lanes rest) in
     record {
       client = rw h.client drained_too;
       server = rw h.server stays;

@@ -11,7 +11,7 @@ use Rattle.tds_packet.specs.Layout.{bits_of, has_bit}
 use Rattle.tds_token.specs.Contents.{Contents}
 use Rattle.tds_token.specs.declared.token.Token.{Token}
 use Rattle.tds_world.specs.declared.report.RequestStatus.{RequestStatus}
-use Rattle.tds_play.specs.Feeding.{Coming, Listened, listened, on_taken, settled_by}
+use Rattle.tds_ends.specs.Feeding.{Coming, Listened, listened, on_taken, settled_by}
 
 read_size : (s : ClientSession) (ends : Bool) (heard : Heard) (contents : Contents) → (read s ends heard contents).session.size ≡ s.size
 read_size s true heard contents = refl

@@ -7,33 +7,43 @@ use Rattle.tds_world.specs.Phase.{Phase, Settled, Asked, Sending, Reading, Cance
 use Rattle.tds_world.specs.Record as world
 use Rattle.tds_play.specs.Lending.{standing_by}
 use Rattle.tds_play.specs.Links.{lost_record, lost_status}
-use Rattle.tds_play.specs.Pipe.{Pipe, traffic, cut_pipe}
+use Rattle.tds_play.specs.Pipe.{Pipe, IsUncut, traffic, cut_pipe, is_cut_at}
 use Rattle.tds_play.specs.Plays.{IsPlayed}
 use Rattle.tds_play.specs.Requests.{MatchesRecord, AreOlder, IsNewest}
 use Rattle.tds_play.specs.declared.link.Link.{Link}
-use Rattle.tds_play.specs.declared.link.Record.{Record}
+use Rattle.tds_play.specs.declared.request.Record.{Record}
 
 -- ---- Requests
 
 -- A settled request stays what it is.
-settled_stays : (finished acknowledged : Bool) (p : Phase) → p ≡ Settled → status_by finished acknowledged false p ≡ status_by finished acknowledged true p
-settled_stays true acknowledged p e = refl
-settled_stays false true p e = refl
-settled_stays false false Settled e = refl
-settled_stays false false Asked e = absurd (cc)
-settled_stays false false Sending e = absurd (cc)
-settled_stays false false Reading e = absurd (cc)
-settled_stays false false Cancelling e = absurd (cc)
+settled_stays : (fate : world.Fate) (p : Phase) → p ≡ Settled → status_by fate false p ≡ status_by fate true p
+settled_stays world.Finished p e = refl
+settled_stays world.Acknowledged p e = refl
+settled_stays world.Open Settled e = refl
+settled_stays world.Open Asked e = absurd (cc)
+settled_stays world.Open Sending e = absurd (cc)
+settled_stays world.Open Reading e = absurd (cc)
+settled_stays world.Open Cancelling e = absurd (cc)
+settled_stays world.Cancelled Settled e = refl
+settled_stays world.Cancelled Asked e = absurd (cc)
+settled_stays world.Cancelled Sending e = absurd (cc)
+settled_stays world.Cancelled Reading e = absurd (cc)
+settled_stays world.Cancelled Cancelling e = absurd (cc)
 
 -- Any other one is lost.
-lost_is : (finished acknowledged : Bool) (p : Phase) → lost_status (status_by finished acknowledged false p) ≡ status_by finished acknowledged true p
-lost_is true acknowledged p = refl
-lost_is false true p = refl
-lost_is false false Settled = refl
-lost_is false false Asked = refl
-lost_is false false Sending = refl
-lost_is false false Reading = refl
-lost_is false false Cancelling = refl
+lost_is : (fate : world.Fate) (p : Phase) → lost_status (status_by fate false p) ≡ status_by fate true p
+lost_is world.Finished p = refl
+lost_is world.Acknowledged p = refl
+lost_is world.Open Settled = refl
+lost_is world.Open Asked = refl
+lost_is world.Open Sending = refl
+lost_is world.Open Reading = refl
+lost_is world.Open Cancelling = refl
+lost_is world.Cancelled Settled = refl
+lost_is world.Cancelled Asked = refl
+lost_is world.Cancelled Sending = refl
+lost_is world.Cancelled Reading = refl
+lost_is world.Cancelled Cancelling = refl
 
 older_cut : (number : ℕ) (rs : List Record) (qs : List world.Record) → AreOlder number false rs qs → AreOlder number true rs qs
 older_cut number [] [] h = tt
@@ -46,7 +56,7 @@ older_cut number (r ∷ rs) (q ∷ qs) h =
           lease = i.lease;
           conn = i.conn;
           mark = i.mark;
-          status = i.status ∙ settled_stays q.finished q.acknowledged (phase_of q) h.0.1;
+          status = i.status ∙ settled_stays q.fate (phase_of q) h.0.1;
           ran = i.ran;
           tokens = i.tokens;
         },
@@ -63,7 +73,7 @@ newest_cut number (Some r) (Some q) h = record {
   lease = h.lease;
   conn = h.conn;
   mark = h.mark;
-  status = ap lost_status h.status ∙ lost_is q.finished q.acknowledged (phase_of q);
+  status = ap lost_status h.status ∙ lost_is q.fate (phase_of q);
   ran = h.ran;
   tokens = h.tokens;
 }
@@ -75,12 +85,16 @@ handed_stays None d = refl
 handed_stays (Some p) ToServer = refl
 handed_stays (Some p) ToClient = refl
 
+cut_off : (p : Option Pipe) → IsUncut p → is_cut_at (cut_pipe p) ≡ true
+cut_off None known = absurd known
+cut_off (Some p) known = refl
+
 pub cut_played : {E S : Type 0} (number size : ℕ) (engine : E) (link new : Link E S) (pipe after : Option Pipe) (c : Connection)
     → IsPlayed number size engine link pipe c → link.is_cut ≡ false
     → new.number ≡ link.number → new.is_cut ≡ true → new.past ≡ link.past → new.current ≡ option_map lost_record link.current
-    → after ≡ cut_pipe pipe
+    → IsUncut pipe → after ≡ cut_pipe pipe
     → IsPlayed number size engine new after (cut c)
-cut_played number size engine link new pipe after c p live same is past current off = record {
+cut_played number size engine link new pipe after c p live same is past current known off = record {
   numbered = same ∙ p.numbered;
   standing = ap (λ (b : Bool). standing_by b new.place) is;
   older = rw (is, past) (older_cut number link.past.items c.past (subst (λ (b : Bool). AreOlder number b link.past.items c.past) live p.older));
@@ -88,4 +102,5 @@ cut_played number size engine link new pipe after c p live same is past current 
   to_server = rw off (handed_stays pipe ToServer ∙ p.to_server);
   to_client = rw off (handed_stays pipe ToClient ∙ p.to_client);
   lives = λ uncut. let no : true ≡ false = sym is ∙ uncut in absurd (cc);
+  gone = λ cut. ap is_cut_at off ∙ cut_off pipe known;
 }

@@ -4,7 +4,7 @@ use Rattle.std.proofs.lemmas.Bool.Decides.{nat_tests}
 use Rattle.std.proofs.lemmas.List.{take-append-drop, take-append-le}
 use Rattle.std.proofs.Math.Seq.{take-append-add}
 use Rattle.tds_packet.specs.Reading.{Reading}
-use Rattle.tds_play.specs.Feeding.{Coming, IsComing, IsBegun}
+use Rattle.tds_ends.specs.Feeding.{Coming, IsComing, IsBegun}
 
 pub cut_inside : (k : ℕ) (first others : List ℕ) → ltb k (length first) ≡ true → take k (first ++ others) ≡ take k first
 cut_inside k first others less = take-append-le k first others (grind (arith, nat_tests, less))

@@ -1,13 +1,28 @@
 -- What is told of an event that is done.
 use Rattle.std.specs.Prelude.{IfOk}
-use Rattle.std.proofs.Common.{◌≡◌, ◌∙◌, Bool, false, ap, sym, subst, Option, Some, None, Result, Ok}
+use Rattle.std.proofs.Common.{◌≡◌, ◌∙◌, ℕ, Bool, sym, subst, Option, Some, None, Result, Ok}
 use Rattle.tds_world.specs.declared.outcome.Outcome.{Outcome}
-use Rattle.tds_play.specs.Seen.{done_as}
+use Rattle.tds_world.specs.Connection.{Connection}
+use Rattle.tds_world.specs.Pool.{Acted}
+use Rattle.tds_play.specs.Pipe.{Pipe}
+use Rattle.tds_play.specs.Plays.{DoesAlike, IsPlayed, after, cut_where, outcome_of}
 use Rattle.tds_play.specs.declared.link.Done.{Done}
+use Rattle.tds_play.specs.declared.link.Link.{Link}
 
-pub done_so : (done : Done) (what as_told : Outcome) (lost : Bool) → done ≡ record { outcome = what; lost = lost } → lost ≡ false → what ≡ as_told → done ≡ done_as as_told
-done_so done what as_told lost is whole same =
-    is ∙ ap (λ (b : Bool). record { outcome = what; lost = b }) whole ∙ ap (λ (o : Outcome). record { outcome = o; lost = false }) same
+pub does_so : {E S : Type 0} (number size : ℕ) (engine : E) (done : Done) (what : Outcome) (lost : Bool) (new : Link E S) (pipe : Option Pipe) (acted : Acted) (c : Connection)
+    → done ≡ record { outcome = what; lost = lost } → what ≡ outcome_of acted
+    → IsPlayed number size engine new pipe (cut_where lost (after acted c))
+    → DoesAlike number size engine done new pipe acted c
+does_so {E} {S} number size engine done what lost new pipe acted c is same then =
+    subst (λ (d : Done). DoesAlike number size engine d new pipe acted c) (sym is) (record { outcome = same; played = then })
+
+-- The end of an event, on the connection of this number.
+pub ended : {E S : Type 0} (n m size : ℕ) (engine : E) (mid new : Link E S) (before after : ℕ → Option Pipe) (lost : Bool) (c : Connection)
+    → m ≡ n
+    → (IsPlayed m size engine mid (before m) c → IsPlayed m size engine new (after m) (cut_where lost c))
+    → IsPlayed n size engine mid (before n) c → IsPlayed n size engine new (after n) (cut_where lost c)
+ended {E} {S} n m size engine mid new before after lost c at ends =
+    subst (λ (k : ℕ). IsPlayed k size engine mid (before k) c → IsPlayed k size engine new (after k) (cut_where lost c)) at ends
 
 -- ---- What a call answered
 

@@ -12,7 +12,7 @@ use Rattle.tds_world.specs.Connection.{Connection}
 use Rattle.tds_world.specs.Entries.{Up, Part, End, Drop, Attention, Down, Step, Acknowledgement}
 use Rattle.tds_world.specs.Phase.{Phase, Settled, Asked, Sending, Reading, Cancelling, phase_of}
 use Rattle.tds_world.specs.Record.{Record, gives, acknowledges, runs, when, if_numbered}
-use Rattle.tds_play.specs.Stands.{MatchesClient, MatchesServer, IsOf, BeginsBy, BeginsIn, stage_by, stage_in}
+use Rattle.tds_ends.specs.Stands.{MatchesClient, MatchesServer, IsOf, BeginsBy, BeginsIn, stage_by, stage_in}
 use Rattle.tds_play.proofs.Matching.{client_still_matches, server_still_matches}
 
 -- ---- The server

@@ -2,7 +2,7 @@
 use Rattle.std.proofs.Common.{◌≡◌, ◌∙◌, List, [], ◌∷◌, ◌++◌, ℕ, refl, sym, ap, flat_map, append-nil, append_assoc}
 use Rattle.std.proofs.lemmas.Grind.{flat_map-append}
 use Rattle.tds_world.specs.Lane.{Lane, append, sent_bytes}
-use Rattle.tds_play.specs.Stands.{Sends}
+use Rattle.tds_ends.specs.Stands.{Sends}
 
 pub appended : {Entry : Type 0} (bytes : Entry → List ℕ) (more : List ℕ) (e : Entry) (lane : Lane Entry) → bytes e ≡ more → Sends bytes more lane (append e lane)
 appended bytes more e lane is = record {

@@ -8,17 +8,9 @@ pub mod Lanes
 pub mod Asking
 pub mod Sending
 pub mod Working
-pub mod Arriving
-pub mod AllArriving
-pub mod Heard
-pub mod Hearing
 pub mod Cancelling
 pub mod Begun
 pub mod Kept
-pub mod Said
-pub mod Fronts
-pub mod FedServer
-pub mod FedClient
 pub mod Cuts
 pub mod CutOff
 pub mod Matching
@@ -29,6 +21,7 @@ pub mod Sent
 pub mod Cancelled
 pub mod Asked
 pub mod Acting
+pub mod Losing
 pub mod Doing
 pub mod ServerDelivery
 pub mod ClientDelivery
@@ -39,7 +32,6 @@ pub mod Played
 pub mod AllPlayed
 pub mod Held
 pub mod Snapshots
-pub mod Coming
 pub mod Promised
 pub mod Found
 pub mod Listening

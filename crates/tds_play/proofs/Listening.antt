@@ -1,5 +1,5 @@
 -- A connection of the player whose client listens: its newest request, and what it stands for then.
-use Rattle.std.proofs.Common.{◌≡◌, ◌∙◌, ◌+◌, ◌-◌, ◌++◌, ℕ, min, false, refl, sym, ap, Option, Some, None, option_map, List, Result, Ok, Err, IfOk}
+use Rattle.std.proofs.Common.{◌≡◌, ◌∙◌, ◌+◌, ◌-◌, ◌++◌, ℕ, min, Bool, true, false, refl, sym, ap, Option, Some, None, option_map, List, Result, Ok, Err, IfOk}
 use Rattle.std.specs.Prelude.{is_none}
 use Rattle.tds_client.specs.Session.{unless_idle}
 use Rattle.tds_packet.specs.declared.kind.Direction.TheVariants.{ToServer, ToClient}
@@ -10,14 +10,14 @@ use Rattle.tds_world.specs.Connection.{Connection, In, down_underway}
 use Rattle.tds_world.specs.Phase.{status_of}
 use Rattle.tds_world.specs.Record as world
 use Rattle.tds_play.specs.declared.link.Link.{Link}
-use Rattle.tds_play.specs.declared.link.Record.{Record}
+use Rattle.tds_play.specs.declared.request.Record.{Record}
 use Rattle.tds_play.specs.Between.{Stands}
-use Rattle.tds_play.specs.Deliveries.{ListensAlike, status_under}
-use Rattle.tds_play.specs.Feeding.{Listened}
+use Rattle.tds_ends.specs.Deliveries.{ListensAlike, status_under}
+use Rattle.tds_ends.specs.Feeding.{Listened}
 use Rattle.tds_play.specs.Lending.{standing_by}
 use Rattle.tds_play.specs.Links.{drained_at, placed_at}
 use Rattle.tds_play.specs.Listening.{HasListened, IsToldSo, told_in}
-use Rattle.tds_play.specs.Pipe.{Pipe, traffic, carried, carried_on, next_of, IsOpen}
+use Rattle.tds_play.specs.Pipe.{Pipe, traffic, brought_on, carried, next_of, IsOpen}
 use Rattle.tds_play.specs.Plays.{IsPlayed}
 use Rattle.tds_play.specs.Requests.{IsNewest, MatchesRecord}
 use Rattle.tds_play.specs.Ties.{with_counted}
@@ -87,20 +87,35 @@ pub record ListenedOn {E S : Type 0} (old new : Link E S) (pipe after : Option P
   pub client_reads : new.client_reader.direction ≡ old.client_reader.direction
   pub client_size : new.client_reader.size ≡ old.client_reader.size
 
-came_down : (pipe after : Option Pipe) (bytes : List ℕ) → IsOpen pipe → after ≡ carried_on pipe ToClient bytes → (traffic after ToServer ≡ traffic pipe ToServer) × (traffic after ToClient ≡ carried (traffic pipe ToClient) bytes)
-came_down None after bytes open_ is = absurd open_
-came_down (Some p) after bytes open_ is = (ap (λ (o : Option Pipe). traffic o ToServer) is, ap (λ (o : Option Pipe). traffic o ToClient) is)
+-- What the carrier did; it may have failed then.
+record CameDown (pipe after : Option Pipe) (bytes : List ℕ) : Type 0 where
+  stuck : ℕ
+  up : traffic after ToServer ≡ traffic pipe ToServer
+  down : traffic after ToClient ≡ record (carried (traffic pipe ToClient) bytes) { carry_failures = stuck }
+
+came_down : (pipe after : Option Pipe) (bytes : List ℕ) (lost : Bool) → IsOpen pipe → after ≡ brought_on pipe ToClient bytes lost → CameDown pipe after bytes
+came_down None after bytes lost open_ is = absurd open_
+came_down (Some p) after bytes false open_ is = record {
+  stuck = p.to_client.carry_failures;
+  up = ap (λ (o : Option Pipe). traffic o ToServer) is;
+  down = ap (λ (o : Option Pipe). traffic o ToClient) is;
+}
+came_down (Some p) after bytes true open_ is = record {
+  stuck = p.to_client.carry_failures + 1;
+  up = ap (λ (o : Option Pipe). traffic o ToServer) is;
+  down = ap (λ (o : Option Pipe). traffic o ToClient) is;
+}
 
 -- Behind the carrier's call, behind the client's turn, and where it is drained.
-pub listened_by : {E S : Type 0} (old one two new : Link E S) (pipe after : Option Pipe) (n : ℕ) (then : Listened) (left : List ℕ)
+pub listened_by : {E S : Type 0} (old one two new : Link E S) (pipe after : Option Pipe) (n : ℕ) (then : Listened) (left : List ℕ) (lost : Bool)
     → IsOpen pipe
     → one ≡ with_counted old ToClient (old.to_client - n)
     → HasListened then left one two
     → new ≡ placed_at (drained_at (is_none (unless_idle two.client.stage)) two.place) two
-    → after ≡ carried_on pipe ToClient (next_of (traffic pipe ToClient) n)
+    → after ≡ brought_on pipe ToClient (next_of (traffic pipe ToClient) n) lost
     → ListenedOn old new pipe after n then left
-listened_by old one two new pipe after n then left open_ first h last came =
-    let down = came_down pipe after (next_of (traffic pipe ToClient) n) open_ came in
+listened_by old one two new pipe after n then left lost open_ first h last came =
+    let down = came_down pipe after (next_of (traffic pipe ToClient) n) lost open_ came in
     let second = h.rest in
     let reader = ap (λ l. l.client_reader) last ∙ h.reader in
     let place : two.place ≡ old.place = ap (λ l. l.place) second ∙ ap (λ l. l.place) first in
@@ -112,8 +127,9 @@ listened_by old one two new pipe after n then left open_ first h last came =
         server_reader = ap (λ l. l.server_reader) last ∙ ap (λ l. l.server_reader) second ∙ ap (λ l. l.server_reader) first;
         to_server = ap (λ l. l.to_server) last ∙ ap (λ l. l.to_server) second ∙ ap (λ l. l.to_server) first;
         to_client = ap (λ l. l.to_client) last ∙ ap (λ l. l.to_client) second ∙ ap (λ l. l.to_client) first;
-        up = down.0;
-        down = down.1;
+        stuck = down.stuck;
+        up = down.up;
+        down = down.down;
       };
       number = ap (λ l. l.number) last ∙ ap (λ l. l.number) second ∙ ap (λ l. l.number) first;
       is_cut = ap (λ l. l.is_cut) last ∙ ap (λ l. l.is_cut) second ∙ ap (λ l. l.is_cut) first;
@@ -162,4 +178,5 @@ listened_on number size most n engine bytes old new pipe after c p live past a d
         client_reads = d.client_reads ∙ l.client_reads;
         client_size = d.client_size ∙ l.client_size;
       };
+      gone = λ cut. let no : false ≡ true = sym uncut ∙ cut in absurd (cc);
     }

@@ -6,7 +6,7 @@ use Rattle.tds_server.specs.State as server
 use Rattle.tds_server.specs.State.{ServerState, Message}
 use Rattle.tds_world.specs.Connection.{Connection}
 use Rattle.tds_world.specs.Record.{Record}
-use Rattle.tds_play.specs.Stands.{BeginsIn, IsOf, MatchesClient, MatchesPhase, MatchesServer, stage_in}
+use Rattle.tds_ends.specs.Stands.{BeginsIn, IsOf, MatchesClient, MatchesPhase, MatchesServer, stage_in}
 
 phase_same : (p : server.Phase) (c d : Connection) → d.parts ≡ c.parts → d.due ≡ c.due → d.taken ≡ c.taken → ((m : Message) → d.parts ≢ [] → IsOf m c.current → IsOf m d.current) → MatchesPhase p c → MatchesPhase p d
 phase_same server.Waiting c d parts due taken of h = (parts ∙ h.0, due ∙ h.1)

@@ -1,5 +1,5 @@
 -- What an event sends, from either end: the connection then, in a play and in the model.
-use Rattle.std.proofs.Common.{◌≡◌, ◌≢◌, ◌≤◌, ◌∙◌, ◌+◌, ℕ, Bool, false, cond, refl, sym, ap, subst, Option, Some, None, List, [], ◌∷◌, ◌++◌, length, arith}
+use Rattle.std.proofs.Common.{◌≡◌, ◌≢◌, ◌≤◌, ◌∙◌, ◌+◌, ℕ, Bool, true, false, cond, refl, sym, ap, subst, Option, Some, None, List, [], ◌∷◌, ◌++◌, length, arith}
 use Rattle.tds_client.specs.Session.{ClientSession}
 use Rattle.tds_packet.specs.declared.kind.Direction.TheVariants.{ToServer, ToClient}
 use Rattle.tds_packet.specs.Reading.{Reading}
@@ -14,110 +14,102 @@ use Rattle.tds_play.specs.Lending.{standing_by, standing_of}
 use Rattle.tds_play.specs.Pipe.{Pipe, Traffic, traffic, sent, sent_on, IsOpen}
 use Rattle.tds_play.specs.Plays.{IsPlayed}
 use Rattle.tds_play.specs.Requests.{AreOlder, IsNewest}
-use Rattle.tds_play.specs.Stands.{MatchesClient, MatchesServer, Sends}
+use Rattle.tds_ends.specs.Stands.{MatchesClient, MatchesServer, Sends}
 use Rattle.tds_play.specs.Ties.{saturated, with_counted}
 use Rattle.tds_play.specs.declared.link.Link.{Link}
-use Rattle.tds_play.specs.declared.link.Record.{Record}
+use Rattle.tds_play.specs.declared.request.Record.{Record}
 use Rattle.tds_play.proofs.Between.{lane_sent}
 use Rattle.tds_play.proofs.Lanes.{sent_more}
 use Rattle.tds_play.proofs.ServerEvent.{sent_none, count_by}
 
 -- ---- Handing over
 
--- These bytes were handed over towards the server, and counted, and nothing failed.
+-- These bytes were handed over towards the server, and counted; that may have failed.
 pub record HandedUp {E S : Type 0} (mid new : Link E S) (pipe after : Option Pipe) (bytes : List ℕ) : Type 0 where
   pub link : new ≡ record mid { to_server = new.to_server }
   pub counts : mid.to_server + length bytes ≤ 18446744073709551615 → new.to_server ≡ mid.to_server + length bytes
-  pub up : traffic after ToServer ≡ sent (traffic pipe ToServer) bytes 0
+  pub failures : ℕ
+  pub up : traffic after ToServer ≡ sent (traffic pipe ToServer) bytes failures
   pub down : traffic after ToClient ≡ traffic pipe ToClient
 
 -- The same towards the client.
 pub record HandedDown {E S : Type 0} (mid new : Link E S) (pipe after : Option Pipe) (bytes : List ℕ) : Type 0 where
   pub link : new ≡ record mid { to_client = new.to_client }
   pub counts : mid.to_client + length bytes ≤ 18446744073709551615 → new.to_client ≡ mid.to_client + length bytes
+  pub failures : ℕ
   pub up : traffic after ToServer ≡ traffic pipe ToServer
-  pub down : traffic after ToClient ≡ sent (traffic pipe ToClient) bytes 0
+  pub down : traffic after ToClient ≡ sent (traffic pipe ToClient) bytes failures
 
-handed_up : {E S : Type 0} (mid new : Link E S) (pipe after : Option Pipe) (bytes : List ℕ) → IsOpen pipe
+handed_up : {E S : Type 0} (mid new : Link E S) (pipe after : Option Pipe) (bytes : List ℕ) (failures : ℕ) → IsOpen pipe
     → (bytes ≡ [] → (new ≡ mid) × (after ≡ pipe))
-    → (bytes ≢ [] → (new ≡ with_counted mid ToServer (saturated (mid.to_server + length bytes))) × (after ≡ sent_on pipe ToServer bytes 0))
+    → (bytes ≢ [] → (new ≡ with_counted mid ToServer (saturated (mid.to_server + length bytes))) × (after ≡ sent_on pipe ToServer bytes failures))
     → HandedUp mid new pipe after bytes
-handed_up mid new None after bytes open_ none some = absurd open_
-handed_up mid new (Some p) after [] open_ none some =
+handed_up mid new None after bytes failures open_ none some = absurd open_
+handed_up mid new (Some p) after [] failures open_ none some =
     let h = none refl in
     record {
       link = h.0 ∙ ap (λ (n : ℕ). record mid { to_server = n }) (ap (λ l. l.to_server) (sym h.0));
       counts = count_by mid.to_server new.to_server [] (λ e. ap (λ l. l.to_server) h.0) (λ full. absurd (full refl));
+      failures = 0;
       up = ap (λ o. traffic o ToServer) h.1 ∙ sent_none p.to_server;
       down = ap (λ o. traffic o ToClient) h.1;
     }
-handed_up mid new (Some p) after (b ∷ bs) open_ none some =
+handed_up mid new (Some p) after (b ∷ bs) failures open_ none some =
     let h = some (λ e. absurd (cc)) in
     record {
       link = h.0 ∙ ap (λ (n : ℕ). record mid { to_server = n }) (ap (λ l. l.to_server) (sym h.0));
       counts = count_by mid.to_server new.to_server (b ∷ bs) (λ e. absurd (cc)) (λ full. ap (λ l. l.to_server) h.0);
+      failures = failures;
       up = ap (λ o. traffic o ToServer) h.1;
       down = ap (λ o. traffic o ToClient) h.1;
     }
 
-handed_down : {E S : Type 0} (mid new : Link E S) (pipe after : Option Pipe) (bytes : List ℕ) → IsOpen pipe
+handed_down : {E S : Type 0} (mid new : Link E S) (pipe after : Option Pipe) (bytes : List ℕ) (failures : ℕ) → IsOpen pipe
     → (bytes ≡ [] → (new ≡ mid) × (after ≡ pipe))
-    → (bytes ≢ [] → (new ≡ with_counted mid ToClient (saturated (mid.to_client + length bytes))) × (after ≡ sent_on pipe ToClient bytes 0))
+    → (bytes ≢ [] → (new ≡ with_counted mid ToClient (saturated (mid.to_client + length bytes))) × (after ≡ sent_on pipe ToClient bytes failures))
     → HandedDown mid new pipe after bytes
-handed_down mid new None after bytes open_ none some = absurd open_
-handed_down mid new (Some p) after [] open_ none some =
+handed_down mid new None after bytes failures open_ none some = absurd open_
+handed_down mid new (Some p) after [] failures open_ none some =
     let h = none refl in
     record {
       link = h.0 ∙ ap (λ (n : ℕ). record mid { to_client = n }) (ap (λ l. l.to_client) (sym h.0));
       counts = count_by mid.to_client new.to_client [] (λ e. ap (λ l. l.to_client) h.0) (λ full. absurd (full refl));
+      failures = 0;
       up = ap (λ o. traffic o ToServer) h.1;
       down = ap (λ o. traffic o ToClient) h.1 ∙ sent_none p.to_client;
     }
-handed_down mid new (Some p) after (b ∷ bs) open_ none some =
+handed_down mid new (Some p) after (b ∷ bs) failures open_ none some =
     let h = some (λ e. absurd (cc)) in
     record {
       link = h.0 ∙ ap (λ (n : ℕ). record mid { to_client = n }) (ap (λ l. l.to_client) (sym h.0));
       counts = count_by mid.to_client new.to_client (b ∷ bs) (λ e. absurd (cc)) (λ full. ap (λ l. l.to_client) h.0);
+      failures = failures;
       up = ap (λ o. traffic o ToServer) h.1;
       down = ap (λ o. traffic o ToClient) h.1;
     }
 
--- What was handed over on the connection of this number, and what the end of the event left.
-pub ended_up : {E S : Type 0} (n : ℕ) (mid out new : Link E S) (before after last : ℕ → Option Pipe) (bytes : List ℕ) (lost : Bool) (lose : Link E S)
-    → mid.number ≡ n → lost ≡ false → IsOpen (before n)
-    → new ≡ cond lost lose out → last ≡ after
+-- What was handed over on the connection of this number.
+pub given_up : {E S : Type 0} (n : ℕ) (mid out : Link E S) (before after : ℕ → Option Pipe) (bytes : List ℕ) (lost : Bool)
+    → mid.number ≡ n → IsOpen (before n)
     → (bytes ≡ [] → (out ≡ mid) × (after ≡ before))
     → (bytes ≢ [] → after mid.number ≡ sent_on (before mid.number) ToServer bytes (cond lost 1 0))
     → (bytes ≢ [] → out ≡ with_counted mid ToServer (saturated (mid.to_server + length bytes)))
-    → HandedUp mid new (before n) (last n) bytes
-ended_up n mid out new before after last bytes lost lose at whole open_ is kept none handed counted =
-    let same : new ≡ out = is ∙ ap (λ (b : Bool). cond b lose out) whole in
-    handed_up mid new (before n) (last n) bytes open_
-    (λ e. (same ∙ (none e).0, ap (λ f. f n) kept ∙ ap (λ f. f n) (none e).1))
-    (λ full. (
-      same ∙ counted full,
-      ap (λ f. f n) kept
-          ∙ subst (λ (k : ℕ). after k ≡ sent_on (before k) ToServer bytes (cond lost 1 0)) at (handed full)
-          ∙ ap (λ (b : Bool). sent_on (before n) ToServer bytes (cond b 1 0)) whole,
-    ))
+    → HandedUp mid out (before n) (after n) bytes
+given_up n mid out before after bytes lost at open_ none handed counted =
+    handed_up mid out (before n) (after n) bytes (cond lost 1 0) open_
+    (λ e. ((none e).0, ap (λ f. f n) (none e).1))
+    (λ full. (counted full, subst (λ (k : ℕ). after k ≡ sent_on (before k) ToServer bytes (cond lost 1 0)) at (handed full)))
 
-pub ended_down : {E S : Type 0} (n : ℕ) (mid out new : Link E S) (before after last : ℕ → Option Pipe) (bytes : List ℕ) (lost : Bool) (lose : Link E S)
-    → mid.number ≡ n → lost ≡ false → IsOpen (before n)
-    → new ≡ cond lost lose out → last ≡ after
+pub given_down : {E S : Type 0} (n : ℕ) (mid out : Link E S) (before after : ℕ → Option Pipe) (bytes : List ℕ) (lost : Bool)
+    → mid.number ≡ n → IsOpen (before n)
     → (bytes ≡ [] → (out ≡ mid) × (after ≡ before))
     → (bytes ≢ [] → after mid.number ≡ sent_on (before mid.number) ToClient bytes (cond lost 1 0))
     → (bytes ≢ [] → out ≡ with_counted mid ToClient (saturated (mid.to_client + length bytes)))
-    → HandedDown mid new (before n) (last n) bytes
-ended_down n mid out new before after last bytes lost lose at whole open_ is kept none handed counted =
-    let same : new ≡ out = is ∙ ap (λ (b : Bool). cond b lose out) whole in
-    handed_down mid new (before n) (last n) bytes open_
-    (λ e. (same ∙ (none e).0, ap (λ f. f n) kept ∙ ap (λ f. f n) (none e).1))
-    (λ full. (
-      same ∙ counted full,
-      ap (λ f. f n) kept
-          ∙ subst (λ (k : ℕ). after k ≡ sent_on (before k) ToClient bytes (cond lost 1 0)) at (handed full)
-          ∙ ap (λ (b : Bool). sent_on (before n) ToClient bytes (cond b 1 0)) whole,
-    ))
+    → HandedDown mid out (before n) (after n) bytes
+given_down n mid out before after bytes lost at open_ none handed counted =
+    handed_down mid out (before n) (after n) bytes (cond lost 1 0) open_
+    (λ e. ((none e).0, ap (λ f. f n) (none e).1))
+    (λ full. (counted full, subst (λ (k : ℕ). after k ≡ sent_on (before k) ToClient bytes (cond lost 1 0)) at (handed full)))
 
 -- ---- The connection then
 
@@ -144,7 +136,7 @@ sent_played {E} {S} number size engine link new s q p pipe after c d bytes i liv
   to_client = ap (λ t. t.handed) h.down ∙ i.to_client ∙ ap (sent_bytes down_bytes) (sym below);
   lives = λ uncut.
       let v = i.lives live in
-      let lane : (now : ℕ) → now ≡ link.to_server + length bytes → IsLane up_bytes (sent (traffic pipe ToServer) bytes 0) d.to_server link.server_reader.taken now = λ now e. lane_sent up_bytes bytes (traffic pipe ToServer) c.to_server d.to_server link.server_reader.taken link.to_server now v.stands.up sends e in
+      let lane : (now : ℕ) → now ≡ link.to_server + length bytes → IsLane up_bytes (sent (traffic pipe ToServer) bytes h.failures) d.to_server link.server_reader.taken now = λ now e. lane_sent up_bytes bytes h.failures (traffic pipe ToServer) c.to_server d.to_server link.server_reader.taken link.to_server now v.stands.up sends e in
       let counts : new.to_server ≡ link.to_server + length bytes = h.counts (omega (arith, (lane (link.to_server + length bytes) refl).counts, few)) in
       record {
         stands = record {
@@ -152,7 +144,7 @@ sent_played {E} {S} number size engine link new s q p pipe after c d bytes i liv
           server = subst (λ (l : Link E S). MatchesServer l.server d) (sym h.link) server;
           up =
               subst (λ (t : Traffic). IsLane up_bytes t d.to_server new.server_reader.taken new.to_server) (sym h.up)
-              (subst (λ (r : Reading). IsLane up_bytes (sent (traffic pipe ToServer) bytes 0) d.to_server r.taken new.to_server) (sym (ap (λ l. l.server_reader) h.link)) (lane new.to_server counts));
+              (subst (λ (r : Reading). IsLane up_bytes (sent (traffic pipe ToServer) bytes h.failures) d.to_server r.taken new.to_server) (sym (ap (λ l. l.server_reader) h.link)) (lane new.to_server counts));
           down =
               subst (λ (t : Traffic). IsLane down_bytes t d.to_client new.client_reader.taken new.to_client) (sym h.down)
               (subst (λ (lane : Lane Down). IsLane down_bytes (traffic pipe ToClient) lane new.client_reader.taken new.to_client) (sym below)
@@ -165,6 +157,7 @@ sent_played {E} {S} number size engine link new s q p pipe after c d bytes i liv
         client_reads = ap (λ l. l.client_reader.direction) h.link ∙ v.client_reads;
         client_size = ap (λ l. l.client_reader.size) h.link ∙ v.client_size;
       };
+  gone = λ cut. let no : false ≡ true = sym live ∙ sym (ap (λ l. l.is_cut) h.link) ∙ cut in absurd (cc);
 }
 
 -- The server did it: it sent these bytes, and the newest request may have changed.
@@ -190,7 +183,7 @@ replied_played {E} {S} number size engine link new s q pipe after c d bytes i li
   to_client = ap (λ t. t.handed) h.down ∙ ap (λ (xs : List ℕ). xs ++ bytes) i.to_client ∙ sym (sent_more down_bytes bytes c.to_client d.to_client sends);
   lives = λ uncut.
       let v = i.lives live in
-      let lane : (now : ℕ) → now ≡ link.to_client + length bytes → IsLane down_bytes (sent (traffic pipe ToClient) bytes 0) d.to_client link.client_reader.taken now = λ now e. lane_sent down_bytes bytes (traffic pipe ToClient) c.to_client d.to_client link.client_reader.taken link.to_client now v.stands.down sends e in
+      let lane : (now : ℕ) → now ≡ link.to_client + length bytes → IsLane down_bytes (sent (traffic pipe ToClient) bytes h.failures) d.to_client link.client_reader.taken now = λ now e. lane_sent down_bytes bytes h.failures (traffic pipe ToClient) c.to_client d.to_client link.client_reader.taken link.to_client now v.stands.down sends e in
       let counts : new.to_client ≡ link.to_client + length bytes = h.counts (omega (arith, (lane (link.to_client + length bytes) refl).counts, few)) in
       record {
         stands = record {
@@ -202,7 +195,7 @@ replied_played {E} {S} number size engine link new s q pipe after c d bytes i li
               (subst (λ (l : Link E S). IsLane up_bytes (traffic pipe ToServer) c.to_server l.server_reader.taken l.to_server) (sym h.link) v.stands.up));
           down =
               subst (λ (t : Traffic). IsLane down_bytes t d.to_client new.client_reader.taken new.to_client) (sym h.down)
-              (subst (λ (r : Reading). IsLane down_bytes (sent (traffic pipe ToClient) bytes 0) d.to_client r.taken new.to_client) (sym (ap (λ l. l.client_reader) h.link)) (lane new.to_client counts));
+              (subst (λ (r : Reading). IsLane down_bytes (sent (traffic pipe ToClient) bytes h.failures) d.to_client r.taken new.to_client) (sym (ap (λ l. l.client_reader) h.link)) (lane new.to_client counts));
         };
         engine_is = ap (λ l. l.server.engine) h.link ∙ same ∙ v.engine_is;
         size_is = ap (λ l. l.client.size) h.link ∙ v.size_is;
@@ -211,4 +204,5 @@ replied_played {E} {S} number size engine link new s q pipe after c d bytes i li
         client_reads = ap (λ l. l.client_reader.direction) h.link ∙ v.client_reads;
         client_size = ap (λ l. l.client_reader.size) h.link ∙ v.client_size;
       };
+  gone = λ cut. let no : false ≡ true = sym live ∙ sym (ap (λ l. l.is_cut) h.link) ∙ cut in absurd (cc);
 }

@@ -3,7 +3,7 @@ use Rattle.std.specs.Prelude.{◌==◌, ◌||◌, is_none}
 use Rattle.std.proofs.Common.{◌≡◌, ◌∙◌, ℕ, Bool, true, false, refl, sym, ap, Option, Some, None, inl, inr}
 use Rattle.tds_client.specs.Session.{ClientSession, unless_idle}
 use Rattle.tds_packet.specs.declared.status.Reset.{Reset}
-use Rattle.tds_session.specs.Session.{strongest}
+use Rattle.tds_packet.specs.Resets.{strongest}
 use Rattle.tds_world.specs.declared.outcome.Outcome.TheVariants.{Kept, Refused}
 use Rattle.tds_world.specs.declared.outcome.Refusal.{Refusal}
 use Rattle.tds_world.specs.declared.outcome.Refusal.TheVariants.{NotIdle, NothingToKeep}
@@ -17,7 +17,7 @@ use Rattle.tds_play.specs.Links.{lent_as, placed_at, unless_kept, unless_kept_by
 use Rattle.tds_play.specs.Pipe.{Pipe}
 use Rattle.tds_play.specs.Plays.{IsPlayed, after, outcome_of}
 use Rattle.tds_play.specs.Seen.{done_as}
-use Rattle.tds_play.specs.Stands.{MatchesClient}
+use Rattle.tds_ends.specs.Stands.{MatchesClient}
 use Rattle.tds_play.specs.declared.link.Done.{Done}
 use Rattle.tds_play.specs.declared.link.Link.{Link}
 use Rattle.tds_play.proofs.Begun.{marked_matches}
@@ -79,6 +79,7 @@ placed_played number size engine link pipe c p i live = record {
         client_reads = v.client_reads;
         client_size = v.client_size;
       };
+  gone = i.gone;
 }
 
 pub lent_played : {E S : Type 0} (number size lease : ℕ) (mark : Reset) (engine : E) (link new : Link E S) (pipe : Option Pipe) (c : Connection)
@@ -116,20 +117,21 @@ lent_played {E} {S} number size lease mark engine link new pipe c i live idle is
             client_reads = v.client_reads;
             client_size = v.client_size;
           };
+      gone = i.gone;
     }
 
 -- ---- Keeping
 
--- What is done on a connection, and that it stands for the model's then.
-abbrev pub DoesAlike : {E S : Type 0} → ℕ → ℕ → E → Done → Link E S → Option Pipe → Acted → Connection → Type 0
-DoesAlike number size engine done link pipe a c =
+-- What is done on a connection without its carrier, and that it stands for the model's then.
+abbrev pub DoesWhole : {E S : Type 0} → ℕ → ℕ → E → Done → Link E S → Option Pipe → Acted → Connection → Type 0
+DoesWhole number size engine done link pipe a c =
     (done ≡ done_as (outcome_of a)) × IsPlayed number size engine link pipe (after a c)
 
 kept_by : {E S : Type 0} (number size ticket : ℕ) (engine : E) (link new : Link E S) (pipe : Option Pipe) (c : Connection) (done : Done) (idle nothing : Bool)
     → IsPlayed number size engine link pipe c → link.is_cut ≡ false
     → ((why : Refusal) → unless_kept_by idle nothing ≡ Some why → (done ≡ done_as (Refused why)) × (new ≡ link))
     → (unless_kept_by idle nothing ≡ None → (done ≡ done_as (Kept ticket)) × (new ≡ placed_at (place.Kept ticket) link))
-    → DoesAlike number size engine done new pipe (keeps_by idle nothing ticket c) c
+    → DoesWhole number size engine done new pipe (keeps_by idle nothing ticket c) c
 kept_by number size ticket engine link new pipe c done false nothing i live refused kept =
     let h = refused NotIdle refl in (h.0, rw h.1 i)
 kept_by number size ticket engine link new pipe c done true true i live refused kept =
@@ -141,7 +143,7 @@ pub kept_alike : {E S : Type 0} (number size ticket : ℕ) (engine : E) (link ne
     → IsPlayed number size engine link pipe c → link.is_cut ≡ false
     → ((why : Refusal) → unless_kept link.client ≡ Some why → (done ≡ done_as (Refused why)) × (new ≡ link))
     → (unless_kept link.client ≡ None → (done ≡ done_as (Kept ticket)) × (new ≡ placed_at (place.Kept ticket) link))
-    → DoesAlike number size engine done new pipe (keeps ticket c) c
+    → DoesWhole number size engine done new pipe (keeps ticket c) c
 kept_alike number size ticket engine link new pipe c done i live refused kept =
     let m = (i.lives live).stands.client in
     let same : unless_kept link.client ≡ unless_kept_by (is_idle c) (c.heard == 0 || is_full c.mark) =

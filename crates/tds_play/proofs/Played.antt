@@ -109,4 +109,5 @@ served_on answers number size most engine old new pipe after c p live stays ends
         client_reads = ap (λ r. r.direction) stays.client_reader ∙ (p.lives live).client_reads;
         client_size = ap (λ r. r.size) stays.client_reader ∙ (p.lives live).client_size;
       };
+      gone = λ cut. let no : false ≡ true = sym live ∙ sym stays.is_cut ∙ cut in absurd (cc);
     }

@@ -1,11 +1,13 @@
 -- A play that does an event on one of its connections stands for the world that does.
 use Rattle.std.proofs.Common.{◌≡◌, ◌∙◌, ℕ, zero, suc, ◌-◌, ◌==◌, ◌||◌, Bool, true, false, ◌<◌, List, [], ◌∷◌, length, get_or, set, Option, Some, None, refl, sym, ap, subst}
+use Rattle.std.specs.Prelude.{IfOk, Result, Ok}
 use Rattle.std.specs.List.{AllByRecursion, slice_get}
 use Rattle.tds_request.specs.declared.request.Request.{Request}
 use Rattle.tds_session.specs.Answer.{Answers}
 use Rattle.tds_world.specs.declared.event.Event.{Event}
 use Rattle.tds_world.specs.declared.event.Event.TheVariants as event
 use Rattle.tds_world.specs.declared.event.Setup.{Setup}
+use Rattle.tds_world.specs.declared.outcome.Outcome.{Outcome}
 use Rattle.tds_world.specs.declared.outcome.Outcome.TheVariants as outcome
 use Rattle.tds_world.specs.declared.outcome.Refusal.{Refusal}
 use Rattle.tds_world.specs.declared.report.Place.{Place}
@@ -23,8 +25,8 @@ use Rattle.tds_play.specs.Lending.{standing_by}
 use Rattle.tds_play.specs.Noted.{asked_after, leases_after, tickets_after}
 use Rattle.tds_play.specs.Pipe.{Pipe, AreSame}
 use Rattle.tds_play.specs.Player.{HappensAlike, IsPlay}
-use Rattle.tds_play.specs.Promises.{IsCountable}
-use Rattle.tds_play.specs.Plays.{ArePlayed, IsPlayed, IsReady, acts_at, acts_on, after, outcome_of}
+use Rattle.tds_ends.specs.Promises.{IsCountable}
+use Rattle.tds_play.specs.Plays.{ArePlayed, DoesAlike, IsPlayed, IsReady, acts_at, acts_on, after, bringing, cut_where, met, met_by, outcome_of}
 use Rattle.tds_play.specs.Seen.{done_as}
 use Rattle.tds_play.proofs.AllCut.{played_there, put_changed}
 use Rattle.tds_play.proofs.AllPlayed.{put_same}
@@ -126,17 +128,36 @@ lives_by b p s e is = sym (ap is_cut e) ∙ ap (λ (x : Bool). is_cut (standing_
 
 -- ---- The whole player
 
+-- Where the carrier did not fail, an event is met as it is.
+pub met_whole : {E S : Type 0} (number size : ℕ) (engine : E) (done : Done) (new : Link E S) (pipe : Option Pipe) (acts : Event → Acted) (e : Event) (c : Connection)
+    → done.lost ≡ false → DoesAlike number size engine done new pipe (acts (met done e)) c
+    → (done ≡ done_as (outcome_of (acts e))) × IsPlayed number size engine new pipe (after (acts e) c)
+met_whole {E} {S} number size engine done new pipe acts e c whole h =
+    let same : met done e ≡ e = ap (λ (b : Bool). met_by b done.outcome e) whole in
+    let outcome : done.outcome ≡ outcome_of (acts e) = h.outcome ∙ ap (λ (x : Event). outcome_of (acts x)) same in
+    let then : IsPlayed number size engine new pipe (after (acts (met done e)) c) = subst (λ (b : Bool). IsPlayed number size engine new pipe (cut_where b (after (acts (met done e)) c))) whole h.played in (
+      ap (λ (o : Outcome). record { outcome = o; lost = done.lost }) outcome ∙ ap (λ (b : Bool). record { outcome = outcome_of (acts e); lost = b }) whole,
+      subst (λ (x : Event). IsPlayed number size engine new pipe (after (acts x) c)) same then,
+    )
+
+pub met_whole_ok : {E S B : Type 0} (number size : ℕ) (engine : E) (r : Result Done B) (done : Done) (new : Link E S) (pipe : Option Pipe) (acts : Event → Acted) (e : Event) (c : Connection)
+    → r ≡ Ok done → IfOk r (λ d. d.lost ≡ false) → IfOk r (λ d. DoesAlike number size engine d new pipe (acts (met d e)) c)
+    → (done ≡ done_as (outcome_of (acts e))) × IsPlayed number size engine new pipe (after (acts e) c)
+met_whole_ok {E} {S} number size engine r done new pipe acts e c is whole h =
+    met_whole number size engine done new pipe acts e c (subst (λ x. IfOk x (λ d. d.lost ≡ false)) is whole)
+    (subst (λ x. IfOk x (λ d. DoesAlike number size engine d new pipe (acts (met d e)) c)) is h)
+
 -- What an event came to on its connection, and all connections then.
 pub record ActsAlike {E S : Type 0} (size : ℕ) (engine : E) (place : ℕ) (c : Connection) (cs : List Connection) (acted : Acted) (done : Done) (ls : List (Link E S)) (pipes : ℕ → Option Pipe) : Type 0 where
   pub same : done ≡ done_as (outcome_of acted)
   pub all : ArePlayed 1 size engine ls pipes (put place (after acted c) cs)
 
-pub acts_alike : {E S : Type 0} (setup : Setup) (engine : E) (answers : Answers) (w : World) (e : Event) (place : ℕ) (c : Connection) (player : Player E S) (pipes pipes' : ℕ → Option Pipe) (link new : Link E S) (done : Done) → IsPlay setup engine player pipes w → link ≡ get_or player.links.items place link → place < length player.links.items → AreSame pipes pipes' link.number → slice_get w.connections place ≡ Some c → OfEachConnection IsCountable (settles e (suc place) w (acts_on setup answers w e (suc place) c)).1 → (is_cut c.standing ≡ false → IsReady e c) → (IsPlayed link.number setup.packet_size engine link (pipes link.number) c → IsCountable (after (acts_on setup answers w e link.number c) c) → (link.is_cut ≡ false → IsReady e c) → (done ≡ done_as (outcome_of (acts_on setup answers w e link.number c))) × IsPlayed link.number setup.packet_size engine new (pipes' link.number) (after (acts_on setup answers w e link.number c) c)) → ActsAlike setup.packet_size engine place c w.connections (acts_on setup answers w e (suc place) c) done (set player.links.items place new) pipes'
+pub acts_alike : {E S : Type 0} (setup : Setup) (engine : E) (answers : Answers) (w : World) (e : Event) (place : ℕ) (c : Connection) (player : Player E S) (pipes pipes' : ℕ → Option Pipe) (link new : Link E S) (done : Done) → IsPlay setup engine player pipes w → link ≡ get_or player.links.items place link → place < length player.links.items → AreSame pipes pipes' link.number → slice_get w.connections place ≡ Some c → ((k : ℕ) → OfEachConnection IsCountable (settles (bringing k e) (suc place) w (acts_on setup answers w (bringing k e) (suc place) c)).1) → (is_cut c.standing ≡ false → IsReady e c) → (IsPlayed link.number setup.packet_size engine link (pipes link.number) c → ((k : ℕ) → IsCountable (after (acts_on setup answers w (bringing k e) link.number c) c)) → (link.is_cut ≡ false → IsReady e c) → (done ≡ done_as (outcome_of (acts_on setup answers w e link.number c))) × IsPlayed link.number setup.packet_size engine new (pipes' link.number) (after (acts_on setup answers w e link.number c) c)) → ActsAlike setup.packet_size engine place c w.connections (acts_on setup answers w e (suc place) c) done (set player.links.items place new) pipes'
 acts_alike {E} {S} setup engine answers w e place c player pipes pipes' link new done is link_is less same_others there countable ready act =
     let played : IsPlayed (suc place) setup.packet_size engine link (pipes (suc place)) c = played_there setup.packet_size engine player.links.items pipes w.connections place link c link_is is.connections there in
     let number : link.number ≡ suc place = played.numbered in
-    let counts : IsCountable (after (acts_on setup answers w e link.number c) c) =
-    subst (λ (n : ℕ). IsCountable (after (acts_on setup answers w e n c) c)) (sym number) (after_at IsCountable w e place c (acts_on setup answers w e (suc place) c) there countable) in
+    let counts : (k : ℕ) → IsCountable (after (acts_on setup answers w (bringing k e) link.number c) c) = (λ k.
+    subst (λ (n : ℕ). IsCountable (after (acts_on setup answers w (bringing k e) n c) c)) (sym number) (after_at IsCountable w (bringing k e) place c (acts_on setup answers w (bringing k e) (suc place) c) there (countable k))) in
     let is_ready : (link.is_cut ≡ false → IsReady e c) = (λ lives. ready (lives_by link.is_cut link.place c.standing played.standing lives)) in
     record {
       same = subst (λ (n : ℕ). done ≡ done_as (outcome_of (acts_on setup answers w e n c))) number

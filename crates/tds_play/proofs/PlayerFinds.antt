@@ -1,5 +1,6 @@
 -- A play finds the connection of an event where its world does, and is cut as its world is.
-use Rattle.std.proofs.Common.{◌≡◌, ◌∙◌, ℕ, List, map, Option, refl, sym, ap, subst}
+use Rattle.std.specs.List.{slice_get}
+use Rattle.std.proofs.Common.{◌≡◌, ◌∙◌, ℕ, suc, List, map, Option, Some, refl, sym, ap, subst}
 use Rattle.tds_session.specs.Answer.{Answers}
 use Rattle.tds_world.specs.declared.event.Event.{Event}
 use Rattle.tds_world.specs.declared.event.Event.TheVariants as event
@@ -7,23 +8,26 @@ use Rattle.tds_world.specs.declared.event.Setup.{Setup}
 use Rattle.tds_world.specs.declared.outcome.Outcome.{Outcome}
 use Rattle.tds_world.specs.declared.outcome.Outcome.TheVariants as outcome
 use Rattle.tds_world.specs.declared.outcome.Refusal.{Refusal}
-use Rattle.tds_world.specs.Connection.{Standing, cut}
-use Rattle.tds_world.specs.Events.{happens}
+use Rattle.tds_world.specs.Connection.{Connection, Standing, cut}
+use Rattle.tds_world.specs.Events.{happens, settles}
+use Rattle.tds_world.specs.Laws.{OfEachConnection}
 use Rattle.tds_world.specs.Lending.{LendsIdle}
 use Rattle.tds_world.specs.World.{World}
 use Rattle.tds_play.specs.declared.link.Done.{Done}
 use Rattle.tds_play.specs.declared.link.Link.{Link}
 use Rattle.tds_play.specs.declared.player.Player.{Player}
 use Rattle.tds_play.specs.declared.pool.Found.{Found}
+use Rattle.tds_play.specs.declared.pool.Found.TheVariants.{Here}
 use Rattle.tds_play.specs.Holdings.{all_ended}
 use Rattle.tds_play.specs.Lending.{standing_of}
 use Rattle.tds_play.specs.Noted.{about_of}
 use Rattle.tds_play.specs.Pipe.{Pipe}
 use Rattle.tds_play.specs.Player.{HappensAlike, IsPlay}
-use Rattle.tds_play.specs.Plays.{ArePlayed, holdings_of}
+use Rattle.tds_play.specs.Plays.{ArePlayed, acts_on, bringing, holdings_of}
+use Rattle.tds_ends.specs.Promises.{IsCountable}
 use Rattle.tds_play.specs.Seen.{done_as}
 use Rattle.tds_play.proofs.AllPlayed.{same_standings}
-use Rattle.tds_play.proofs.Found.{HappensBy, IsAboutOne, happens_found}
+use Rattle.tds_play.proofs.Found.{HappensBy, IsAboutOne, Settles, happens_found}
 use Rattle.tds_play.proofs.Held.{all_held}
 use Rattle.tds_play.proofs.Lent.{lends_alike}
 
@@ -93,3 +97,56 @@ client_restarts {E} {S} setup engine answers w e player cuts new pipes pipes' sa
         size = ap (λ (p : Player E S). p.size) ends ∙ ap (λ (p : Player E S). p.size) rest ∙ is.size;
       };
     })
+
+-- ---- A delivery of other bytes
+
+some_one : {A : Type 0} (x y : A) → Some x ≡ Some y → x ≡ y
+some_one x y e = cc
+
+-- It is about the same connection.
+about_bringing : (k : ℕ) (e : Event) (standings : List Standing) (max : ℕ) (leases tickets : List (Option ℕ)) → about_of (bringing k e) standings max leases tickets ≡ about_of e standings max leases tickets
+about_bringing k event.Lease standings max leases tickets = refl
+about_bringing k (event.Resume ticket) standings max leases tickets = refl
+about_bringing k (event.GiveBack lease) standings max leases tickets = refl
+about_bringing k (event.Keep lease) standings max leases tickets = refl
+about_bringing k (event.Abandon ticket) standings max leases tickets = refl
+about_bringing k (event.Ask lease q) standings max leases tickets = refl
+about_bringing k (event.Send lease) standings max leases tickets = refl
+about_bringing k (event.Cancel lease) standings max leases tickets = refl
+about_bringing k (event.Work n) standings max leases tickets = refl
+about_bringing k (event.ToServer n count) standings max leases tickets = refl
+about_bringing k (event.ToClient n count) standings max leases tickets = refl
+about_bringing k (event.Cut n) standings max leases tickets = refl
+about_bringing k event.RestartServer standings max leases tickets = refl
+about_bringing k event.RestartClient standings max leases tickets = refl
+
+one_bringing : (k : ℕ) (e : Event) → IsAboutOne e → IsAboutOne (bringing k e)
+one_bringing k event.Lease one = one
+one_bringing k (event.Resume ticket) one = one
+one_bringing k (event.GiveBack lease) one = one
+one_bringing k (event.Keep lease) one = one
+one_bringing k (event.Abandon ticket) one = one
+one_bringing k (event.Ask lease q) one = one
+one_bringing k (event.Send lease) one = one
+one_bringing k (event.Cancel lease) one = one
+one_bringing k (event.Work n) one = one
+one_bringing k (event.ToServer n count) one = one
+one_bringing k (event.ToClient n count) one = one
+one_bringing k (event.Cut n) one = one
+one_bringing k event.RestartServer one = one
+one_bringing k event.RestartClient one = one
+
+-- What holds of the world behind it holds where that event settles here.
+pub countable_here : {E S : Type 0} (setup : Setup) (engine : E) (answers : Answers) (w : World) (e : Event) (player : Player E S) (pipes : ℕ → Option Pipe) (place k : ℕ) (c : Connection)
+    → IsPlay setup engine player pipes w → LendsIdle setup w → IsAboutOne e
+    → Here place ≡ about_of e (map standing_of player.links.items) player.max player.leases player.tickets
+    → slice_get w.connections place ≡ Some c
+    → OfEachConnection IsCountable (happens setup answers (bringing k e) w).1
+    → OfEachConnection IsCountable (settles (bringing k e) (suc place) w (acts_on setup answers w (bringing k e) (suc place) c)).1
+countable_here setup engine answers w e player pipes place k c is idle one found there countable =
+    let at : Settles setup answers w (bringing k e) place (happens setup answers (bringing k e) w) =
+    found_alike setup engine answers w (bringing k e) player pipes (Here place) is idle (one_bringing k e one)
+    (found ∙ sym (about_bringing k e (map standing_of player.links.items) player.max player.leases player.tickets)) in
+    let same : at.connection ≡ c = some_one at.connection c (sym at.there ∙ there) in
+    subst (λ (d : Connection). OfEachConnection IsCountable (settles (bringing k e) (suc place) w (acts_on setup answers w (bringing k e) (suc place) d)).1) same
+    (subst (λ (next : Outcome × World). OfEachConnection IsCountable next.1) at.settles countable)

@@ -12,9 +12,9 @@ use Rattle.tds_world.specs.Newest.{ActsOnNewest, WorksOnNewest}
 use Rattle.tds_world.specs.Phase.{Phase, Settled, Asked, Sending, Reading as IsReading, Cancelling, is_settled}
 use Rattle.tds_world.specs.Steps.{EndsIfDue}
 use Rattle.tds_world.specs.World.{World}
-use Rattle.tds_play.specs.Deliveries.{AllArrive, AllHeard}
+use Rattle.tds_ends.specs.Deliveries.{AllArrive, AllHeard}
 use Rattle.tds_play.specs.Player.{IsSmall}
-use Rattle.tds_play.specs.Promises.{Promises, IsCountable}
+use Rattle.tds_ends.specs.Promises.{Promises, IsCountable}
 
 -- ---- A connection
 

@@ -20,7 +20,7 @@ use Rattle.tds_play.specs.Pipe.{Pipe}
 use Rattle.tds_play.specs.Plays.{IsPlayed, ArePlayed}
 use Rattle.tds_play.specs.Requests.{MatchesRecord, AreOlder, IsNewest}
 use Rattle.tds_play.specs.declared.link.Link.{Link}
-use Rattle.tds_play.specs.declared.link.Record.{Record}
+use Rattle.tds_play.specs.declared.request.Record.{Record}
 
 -- ---- The requests of a connection
 

@@ -1,11 +1,14 @@
 -- What a run leaves and tells.
-use Rattle.std.proofs.Common.{◌≡◌, ap, arith, inl, inr, List, ℕ, [], Option, Some, None, refl, sym, append-nil}
-use Rattle.std.specs.Prelude.{◌⊎◌, Result, Ok, Err, IfErr}
+use Rattle.std.proofs.Common.{◌≡◌, ap, arith, inl, inr, List, ℕ, [], Option, Some, None, refl, sym, suc, ◌∙◌, subst, append-nil}
+use Rattle.std.specs.Prelude.{◌⊎◌, Result, Ok, Err, IfErr, IfSome, option_map, take, length, min, ◌≤◌, ◌++◌}
+use Rattle.std.proofs.lemmas.List.{length-take, take_all}
 use Rattle.std.specs.Io.KnownBytes.{Appends, Keeps}
+use Rattle.std.specs.Io.Take.{take_limit, take_inner, take_remaining}
+use Rattle.std.specs.declared.io.traits.Take.{Take}
 use Rattle.tds_world.specs.declared.report.Report.{Report}
 use Rattle.tds_text.specs.Lines.{text_of}
 use Rattle.tds_text.specs.Written.{WritesBeginning}
-use Rattle.tds_play.specs.Runs.{AreLeft, IsReportOf, IsUnread, IsBeforeOutput, LeavesOutput, EndsBy}
+use Rattle.tds_play.specs.Runs.{file_limit, AreLeft, FitsFile, IsReportOf, IsUnread, IsBeforeOutput, LeavesOutput, EndsBy}
 use Rattle.tds_play.specs.declared.run.RunFault.{RunFault}
 use Rattle.tds_play.specs.declared.run.RunFault.TheVariants as run
 
@@ -17,6 +20,30 @@ whole_is_beginning a b text h = ([], record { front = text; whole = sym (append-
 pub some_left : (left : Option (List ℕ)) → (bytes : List ℕ) × AreLeft left bytes
 some_left None = ([], tt)
 some_left (Some all) = (all, refl)
+
+-- what was read is all, where it is less than what was asked for
+pub all_of_front : (left : Option (List ℕ)) (n : ℕ) (bytes : List ℕ) → IfSome (option_map (take (suc n)) left) (λ front. bytes ≡ [] ++ front)
+    → length bytes ≤ n → AreLeft left bytes
+all_of_front None n bytes read few = tt
+all_of_front (Some all) n bytes read few =
+    let counted : length bytes ≡ min (suc n) (length all) = ap length read ∙ length-take (suc n) all
+    in let short : length all ≤ suc n = omega (arith)
+    in read ∙ take_all (suc n) all short
+
+-- so it is of a reader of which no more is taken
+pub all_of_take : {R : Type 0} (remaining : R → Option (List ℕ)) (front : Take R) (left : Option (List ℕ)) (n : ℕ) (old bytes : List ℕ)
+    → take_limit front ≡ suc n → remaining (take_inner front) ≡ left → old ≡ []
+    → IfSome (take_remaining remaining front) (λ taken. bytes ≡ old ++ taken) → length bytes ≤ n → AreLeft left bytes
+all_of_take remaining front left n old bytes limit inner none read few =
+    let all : IfSome (option_map (take (take_limit front)) (remaining (take_inner front))) (λ taken. bytes ≡ [] ++ taken)
+    = subst (λ before. IfSome (take_remaining remaining front) (λ taken. bytes ≡ before ++ taken)) none read
+    in let some : IfSome (option_map (take (suc n)) (remaining (take_inner front))) (λ taken. bytes ≡ [] ++ taken)
+    = subst (λ k. IfSome (option_map (take k) (remaining (take_inner front))) (λ taken. bytes ≡ [] ++ taken)) limit all
+    in all_of_front left n bytes (subst (λ o. IfSome (option_map (take (suc n)) o) (λ taken. bytes ≡ [] ++ taken)) inner some) few
+
+pub fits_file : (left : Option (List ℕ)) (bytes : List ℕ) → AreLeft left bytes → length bytes ≤ file_limit → FitsFile left
+fits_file None bytes read few = tt
+fits_file (Some all) bytes read few = subst (λ xs. length xs ≤ file_limit) read few
 
 pub keeps_same : (a : Option (List ℕ)) → Keeps a a
 keeps_same None = tt

@@ -10,7 +10,8 @@ use Rattle.tds_client.specs.Session as client
 use Rattle.tds_client.specs.Session.{ClientSession, with_stage}
 use Rattle.tds_packet.specs.declared.status.Reset.{Reset}
 use Rattle.tds_packet.specs.declared.status.Reset.TheVariants.{Full, KeepTransaction}
-use Rattle.tds_world.specs.Caller.{mark_bit, first_bit, next_packet, sends_by, sends_last}
+use Rattle.tds_world.specs.Caller.{first_bit, next_packet, sends_by, sends_last}
+use Rattle.tds_packet.specs.Resets.{reset_bit, mark_bit}
 use Rattle.tds_world.specs.Connection.{Connection, phase}
 use Rattle.tds_world.specs.Entries.{End, Part, up_bytes}
 use Rattle.tds_world.specs.Events.{sends_in, sent_as}
@@ -18,45 +19,40 @@ use Rattle.tds_world.specs.Phase.{Phase, Settled, Asked, Sending, Reading, Cance
 use Rattle.tds_world.specs.Pool.{Does}
 use Rattle.tds_world.specs.Record.{Record, Out, NotBegun, Begun, Whole, packets_of}
 use Rattle.tds_world.specs.declared.outcome.Outcome.TheVariants as outcome
-use Rattle.tds_play.specs.Alike.{SendAlike}
-use Rattle.tds_play.specs.Stands.{is_sending, MatchesClient, BeginsBy, BeginsIn, stage_by, stage_in, kind_asked}
+use Rattle.tds_ends.specs.Alike.{SendAlike}
+use Rattle.tds_ends.specs.Stands.{is_sending, MatchesClient, BeginsBy, BeginsIn, stage_by, stage_in, kind_asked}
 use Rattle.tds_play.proofs.Lanes.{appended}
 use Rattle.tds_play.proofs.Phases.{GoesOn, goes_on, not_begun, begun}
 
 -- ---- The mark's bit
 
-same_bit : (mark : Option Reset) → mark_bit mark ≡ packets.reset_bit mark
-same_bit None = refl
-same_bit (Some Full) = refl
-same_bit (Some KeepTransaction) = refl
-
-first_asked : (out : Out) (asked mark : Option Reset) → out ≡ NotBegun → asked ≡ mark → first_bit out asked ≡ packets.mark_bit (packets_of out) mark
+first_asked : (out : Out) (asked mark : Option Reset) → out ≡ NotBegun → asked ≡ mark → first_bit out asked ≡ mark_bit (packets_of out) mark
 first_asked out asked mark o a =
-    subst (λ (x : Out). first_bit x asked ≡ packets.mark_bit (packets_of x) mark) (sym o)
-    (ap (λ (m : Option Reset). mark_bit m) a ∙ same_bit mark)
+    subst (λ (x : Out). first_bit x asked ≡ mark_bit (packets_of x) mark) (sym o)
+    (ap (λ (m : Option Reset). reset_bit m) a)
 
-first_begun : (out : Out) (n : ℕ) (asked mark : Option Reset) → out ≡ Begun n → 1 ≤ packets_of out → first_bit out asked ≡ packets.mark_bit (packets_of out) mark
+first_begun : (out : Out) (n : ℕ) (asked mark : Option Reset) → out ≡ Begun n → 1 ≤ packets_of out → first_bit out asked ≡ mark_bit (packets_of out) mark
 first_begun out zero asked mark o some = let z : 1 ≤ packets_of (Begun 0) = subst (λ (x : Out). 1 ≤ packets_of x) o some in absurd (omega arith)
 first_begun out (suc n) asked mark o some =
     let later : eqb (suc n) 0 ≡ false = grind (arith, nat_tests) in
-    subst (λ (x : Out). first_bit x asked ≡ packets.mark_bit (packets_of x) mark) (sym o)
-    (sym (ap (λ (b : Bool). cond b (packets.reset_bit mark) 0) later))
+    subst (λ (x : Out). first_bit x asked ≡ mark_bit (packets_of x) mark) (sym o)
+    (sym (ap (λ (b : Bool). cond b (reset_bit mark) 0) later))
 
 -- What is wanted of the newest request, where its client sends.
 record IsGoing (q : Record) (mark : Option Reset) : Type 0 where
-  goes : GoesOn q.finished q.acknowledged q.cancelled
-  first : first_bit q.out q.asking.mark ≡ packets.mark_bit (packets_of q.out) mark
+  goes : GoesOn q.fate
+  first : first_bit q.out q.asking.mark ≡ mark_bit (packets_of q.out) mark
 
 going_asked : (q : Record) (mark : Option Reset) → phase_of q ≡ Asked → q.asking.mark ≡ mark → IsGoing q mark
 going_asked q mark e b = record {
-  goes = goes_on q.finished q.acknowledged q.cancelled q.out (ap is_sending e);
-  first = first_asked q.out q.asking.mark mark (not_begun q.finished q.acknowledged q.cancelled q.out e) b;
+  goes = goes_on q.fate q.out (ap is_sending e);
+  first = first_asked q.out q.asking.mark mark (not_begun q.fate q.out e) b;
 }
 
 going_begun : (q : Record) (mark : Option Reset) → phase_of q ≡ Sending → 1 ≤ packets_of q.out → IsGoing q mark
 going_begun q mark e b =
-    let o : (n : ℕ) × (q.out ≡ Begun n) = begun q.finished q.acknowledged q.cancelled q.out e in record {
-      goes = goes_on q.finished q.acknowledged q.cancelled q.out (ap is_sending e);
+    let o : (n : ℕ) × (q.out ≡ Begun n) = begun q.fate q.out e in record {
+      goes = goes_on q.fate q.out (ap is_sending e);
       first = first_begun q.out o.0 q.asking.mark mark o.1 b;
     }
 
@@ -67,14 +63,14 @@ abbrev last_effect : ClientSession → Record → Effect Sent
 last_effect s q = record {
   answer = sents.Last;
   session = with_stage s client.Reading;
-  bytes = packets.packet_bytes (kind_asked q.asking) (1 + packets.mark_bit (packets_of q.out) s.heard.mark) (packets_of q.out) q.left;
+  bytes = packets.packet_bytes (kind_asked q.asking) (1 + mark_bit (packets_of q.out) s.heard.mark) (packets_of q.out) q.left;
 }
 
 abbrev more_effect : ClientSession → Record → Effect Sent
 more_effect s q = record {
   answer = sents.More;
   session = with_stage s (client.Sending (kind_asked q.asking) (drop (room s) q.left) (packets_of q.out + 1));
-  bytes = packets.packet_bytes (kind_asked q.asking) (0 + packets.mark_bit (packets_of q.out) s.heard.mark) (packets_of q.out) (take (room s) q.left);
+  bytes = packets.packet_bytes (kind_asked q.asking) (0 + mark_bit (packets_of q.out) s.heard.mark) (packets_of q.out) (take (room s) q.left);
 }
 
 last_alike : (s : ClientSession) (c : Connection) (q : Record) → MatchesClient s c → IsGoing q c.mark → SendAlike c (Ok (last_effect s q)) (Does (outcome.Sent (sent_as true)) (sends_by true (room s) q c))
@@ -92,7 +88,7 @@ last_alike s c q m g =
       },
       appended up_bytes (last_effect s q).bytes (End q.number q.asking (next_packet q 1 q.left)) c.to_server
           (ap (λ (b : ℕ). packets.packet_bytes (kind_asked q.asking) (1 + b) (packets_of q.out) q.left)
-          (g.first ∙ ap (λ (mark : Option Reset). packets.mark_bit (packets_of q.out) mark) (sym m.mark))),
+          (g.first ∙ ap (λ (mark : Option Reset). mark_bit (packets_of q.out) mark) (sym m.mark))),
     )
 
 more_alike : (s : ClientSession) (c : Connection) (q : Record) → MatchesClient s c → IsGoing q c.mark → SendAlike c (Ok (more_effect s q)) (Does (outcome.Sent (sent_as false)) (sends_by false (room s) q c))
@@ -110,7 +106,7 @@ more_alike s c q m g =
       },
       appended up_bytes (more_effect s q).bytes (Part q.number (next_packet q 0 (take (room s) q.left))) c.to_server
           (ap (λ (b : ℕ). packets.packet_bytes (kind_asked q.asking) (0 + b) (packets_of q.out) (take (room s) q.left))
-          (g.first ∙ ap (λ (mark : Option Reset). packets.mark_bit (packets_of q.out) mark) (sym m.mark))),
+          (g.first ∙ ap (λ (mark : Option Reset). mark_bit (packets_of q.out) mark) (sym m.mark))),
     )
 
 by_last : (b : Bool) (s : ClientSession) (c : Connection) (q : Record) → MatchesClient s c → IsGoing q c.mark → SendAlike c (Ok (cond b (last_effect s q) (more_effect s q))) (Does (outcome.Sent (sent_as b)) (sends_by b (room s) q c))

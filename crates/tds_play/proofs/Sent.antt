@@ -19,17 +19,18 @@ use Rattle.tds_world.specs.Pool.{Acted, Refuses, Does}
 use Rattle.tds_world.specs.Record.{Out, NotBegun, Begun, Whole, packets_of}
 use Rattle.tds_world.specs.Record as world
 use Rattle.tds_play.specs.Acts.{with_client}
-use Rattle.tds_play.specs.Alike.{SendAlike, send_outcome}
+use Rattle.tds_ends.specs.Alike.{SendAlike, send_outcome}
 use Rattle.tds_play.specs.Lending.{standing_by}
 use Rattle.tds_play.specs.Pipe.{Pipe}
 use Rattle.tds_play.specs.Plays.{IsPlayed, after, outcome_of}
 use Rattle.tds_play.specs.Requests.{IsNewest}
-use Rattle.tds_play.specs.Stands.{is_sending, MatchesServer}
+use Rattle.tds_ends.specs.Stands.{is_sending, MatchesServer}
 use Rattle.tds_play.specs.declared.link.Link.{Link}
-use Rattle.tds_play.specs.declared.link.Record.{Record}
+use Rattle.tds_play.specs.declared.request.Record.{Record}
 use Rattle.tds_play.proofs.Kept.{sends_kept}
 use Rattle.tds_play.proofs.Outward.{HandedUp, sent_played}
 use Rattle.tds_play.proofs.Sending.{send_alike}
+use Rattle.tds_play.proofs.Phases.{when_going}
 
 -- ---- The client
 
@@ -91,30 +92,16 @@ past_by_last false room q c = refl
 -- ---- The newest request
 
 -- It is open before and after.
-begun_open : (fin ack can : Bool) (out : Out) (n : ℕ) → is_sending (phase_by fin ack can out) ≡ true → status_by fin ack false (phase_by fin ack can out) ≡ status_by fin ack false (phase_by fin ack can (Begun n))
-begun_open true ack can out n e = absurd (cc)
-begun_open false true can out n e = absurd (cc)
-begun_open false false true NotBegun n e = absurd (cc)
-begun_open false false true (Begun k) n e = absurd (cc)
-begun_open false false true (Whole k) n e = absurd (cc)
-begun_open false false false NotBegun n e = refl
-begun_open false false false (Begun k) n e = refl
-begun_open false false false (Whole k) n e = absurd (cc)
+begun_open : (fate : world.Fate) (out : Out) (n : ℕ) → is_sending (phase_by fate out) ≡ true → status_by fate false (phase_by fate out) ≡ status_by fate false (phase_by fate (Begun n))
+begun_open fate out n = when_going (λ x o. status_by x false (phase_by x o) ≡ status_by x false (phase_by x (Begun n))) refl (λ k. refl) fate out
 
-whole_open : (fin ack can : Bool) (out : Out) (n : ℕ) → is_sending (phase_by fin ack can out) ≡ true → status_by fin ack false (phase_by fin ack can out) ≡ status_by fin ack false (phase_by fin ack can (Whole n))
-whole_open true ack can out n e = absurd (cc)
-whole_open false true can out n e = absurd (cc)
-whole_open false false true NotBegun n e = absurd (cc)
-whole_open false false true (Begun k) n e = absurd (cc)
-whole_open false false true (Whole k) n e = absurd (cc)
-whole_open false false false NotBegun n e = refl
-whole_open false false false (Begun k) n e = refl
-whole_open false false false (Whole k) n e = absurd (cc)
+whole_open : (fate : world.Fate) (out : Out) (n : ℕ) → is_sending (phase_by fate out) ≡ true → status_by fate false (phase_by fate out) ≡ status_by fate false (phase_by fate (Whole n))
+whole_open fate out n = when_going (λ x o. status_by x false (phase_by x o) ≡ status_by x false (phase_by x (Whole n))) refl (λ k. refl) fate out
 
 newest_sent : (b : Bool) (room number : ℕ) (r : Option Record) (q : world.Record) (c : Connection) → is_sending (phase_of q) ≡ true → IsNewest number false r (Some q) → IsNewest number false r (sends_by b room q c).current
 newest_sent b room number None q c e h = absurd h
-newest_sent true room number (Some r) q c e h = record { lease = h.lease; conn = h.conn; mark = h.mark; status = h.status ∙ whole_open q.finished q.acknowledged q.cancelled q.out (packets_of q.out + 1) e; ran = h.ran; tokens = h.tokens }
-newest_sent false room number (Some r) q c e h = record { lease = h.lease; conn = h.conn; mark = h.mark; status = h.status ∙ begun_open q.finished q.acknowledged q.cancelled q.out (packets_of q.out + 1) e; ran = h.ran; tokens = h.tokens }
+newest_sent true room number (Some r) q c e h = record { lease = h.lease; conn = h.conn; mark = h.mark; status = h.status ∙ whole_open q.fate q.out (packets_of q.out + 1) e; ran = h.ran; tokens = h.tokens }
+newest_sent false room number (Some r) q c e h = record { lease = h.lease; conn = h.conn; mark = h.mark; status = h.status ∙ begun_open q.fate q.out (packets_of q.out + 1) e; ran = h.ran; tokens = h.tokens }
 
 -- ---- The connection then
 

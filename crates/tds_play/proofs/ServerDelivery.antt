@@ -11,10 +11,10 @@ use Rattle.tds_world.specs.Arrivals.{server_acts, reach_server}
 use Rattle.tds_world.specs.Connection.{Connection}
 use Rattle.tds_world.specs.Entries.{Up, up_packet, up_bytes, down_bytes}
 use Rattle.tds_world.specs.Lane.{Lane, passed, with_waiting}
-use Rattle.tds_play.specs.Alike.{ArriveAlike}
-use Rattle.tds_play.specs.Deliveries.{up_coming, AllArrive, ServesAlike}
-use Rattle.tds_play.specs.Feeding.{IsComing, served, unless_refused, bytes_of}
-use Rattle.tds_play.specs.Stands.{MatchesServer, Sends}
+use Rattle.tds_ends.specs.Alike.{ArriveAlike}
+use Rattle.tds_ends.specs.Deliveries.{up_coming, AllArrive, ServesAlike}
+use Rattle.tds_ends.specs.Feeding.{IsComing, served, unless_refused, bytes_of}
+use Rattle.tds_ends.specs.Stands.{MatchesServer, Sends}
 use Rattle.tds_play.proofs.Cuts.{cut_inside, cut_behind, begun_by}
 use Rattle.tds_play.proofs.Matching.{server_still_matches}
 

@@ -11,12 +11,12 @@ use Rattle.tds_world.specs.Deliveries.{IsDelivered}
 use Rattle.tds_world.specs.Entries.{Up, up_bytes, down_bytes}
 use Rattle.tds_world.specs.Lane.{passed, with_waiting, underway}
 use Rattle.tds_play.specs.Between.{IsLane, Stands}
-use Rattle.tds_play.specs.Deliveries.{AllArrive, ServesAlike}
-use Rattle.tds_play.specs.Pipe.{Pipe, Traffic, traffic, carried, carried_on, next_of, sent, sent_on, IsOpen}
-use Rattle.tds_play.specs.Stands.{MatchesClient}
+use Rattle.tds_ends.specs.Deliveries.{AllArrive, ServesAlike}
+use Rattle.tds_play.specs.Pipe.{Pipe, Traffic, traffic, brought_on, carried, next_of, sent, sent_on, IsOpen}
+use Rattle.tds_ends.specs.Stands.{MatchesClient}
 use Rattle.tds_play.specs.Ties.{saturated, counted, with_counted}
 use Rattle.tds_play.specs.declared.link.Link.{Link}
-use Rattle.tds_play.proofs.Between.{offered_front, lane_delivered, lane_sent}
+use Rattle.tds_play.proofs.Between.{offered_front, lane_delivered, lane_sent, lane_stuck}
 use Rattle.tds_play.proofs.Kept.{arrives_kept}
 use Rattle.tds_play.proofs.Matching.{client_still_matches}
 use Rattle.tds_play.proofs.ServerDelivery.{serve_alike}
@@ -48,18 +48,7 @@ client_stays answers s c (e ∷ es) k m =
     (client_still_matches s c (record c { to_server = with_waiting (e ∷ es) k c.to_server }) refl refl refl m)
     (client_stays answers s d es (k - length (up_bytes e)) (arrives_kept answers s b e (client_still_matches s c b refl refl refl m)))
 
--- ---- The connection then
-
--- What the player's connection is behind the delivery, field by field.
-pub record Delivered {E S : Type 0} (old new : Link E S) (pipe after : Option Pipe) (n : ℕ) (server : ServerState E) (rest reply : List ℕ) : Type 0 where
-  client : new.client ≡ old.client
-  server_is : new.server ≡ server
-  client_reader : new.client_reader ≡ old.client_reader
-  server_reader : new.server_reader.taken ≡ rest
-  to_server : new.to_server ≡ old.to_server - n
-  to_client : (reply ≡ [] → new.to_client ≡ old.to_client) × (reply ≢ [] → new.to_client ≡ saturated (old.to_client + length reply))
-  up : traffic after ToServer ≡ carried (traffic pipe ToServer) (next_of (traffic pipe ToServer) n)
-  down : (reply ≡ [] → traffic after ToClient ≡ traffic pipe ToClient) × (reply ≢ [] → traffic after ToClient ≡ sent (traffic pipe ToClient) reply 0)
+-- ---- What the carrier did
 
 -- Nothing that is sent is no change.
 pub sent_none : (t : Traffic) → t ≡ sent t [] 0
@@ -67,9 +56,60 @@ sent_none t =
     ap (λ (bs : List ℕ). record { handed = bs; came = t.came; send_failures = t.send_failures; carry_failures = t.carry_failures }) (sym (append-nil t.handed))
     ∙ ap (λ (n : ℕ). record { handed = t.handed ++ []; came = t.came; send_failures = n; carry_failures = t.carry_failures }) (omega (arith))
 
-pub by_reply : (t u : Traffic) (reply : List ℕ) → (reply ≡ [] → u ≡ t) → (reply ≢ [] → u ≡ sent t reply 0) → u ≡ sent t reply 0
-by_reply t u [] none some = none refl ∙ sent_none t
-by_reply t u (b ∷ bs) none some = some (λ e. absurd (cc))
+-- A carrier's connection when this came and that was handed over the other way, each of which may have
+-- failed.
+pub record Moved (pipe after : Option Pipe) (came reply : List ℕ) : Type 0 where
+  pub stuck : ℕ
+  pub failures : ℕ
+  pub up : traffic after ToServer ≡ record (carried (traffic pipe ToServer) came) { carry_failures = stuck }
+  pub down : traffic after ToClient ≡ sent (traffic pipe ToClient) reply failures
+
+moved_by : (p : Pipe) (after : Option Pipe) (came reply : List ℕ) (lost : Bool) (k : ℕ) → (reply ≡ [] → after ≡ brought_on (Some p) ToServer came lost) → (reply ≢ [] → after ≡ sent_on (brought_on (Some p) ToServer came lost) ToClient reply k) → Moved (Some p) after came reply
+moved_by p after came [] false k none some = record {
+  stuck = p.to_server.carry_failures;
+  failures = 0;
+  up = ap (λ (o : Option Pipe). traffic o ToServer) (none refl);
+  down = ap (λ (o : Option Pipe). traffic o ToClient) (none refl) ∙ sent_none p.to_client;
+}
+moved_by p after came [] true k none some = record {
+  stuck = p.to_server.carry_failures + 1;
+  failures = 0;
+  up = ap (λ (o : Option Pipe). traffic o ToServer) (none refl);
+  down = ap (λ (o : Option Pipe). traffic o ToClient) (none refl) ∙ sent_none p.to_client;
+}
+moved_by p after came (b ∷ bs) false k none some =
+    let e = some (λ e. absurd (cc)) in
+    record {
+      stuck = p.to_server.carry_failures;
+      failures = k;
+      up = ap (λ (o : Option Pipe). traffic o ToServer) e;
+      down = ap (λ (o : Option Pipe). traffic o ToClient) e;
+    }
+moved_by p after came (b ∷ bs) true k none some =
+    let e = some (λ e. absurd (cc)) in
+    record {
+      stuck = p.to_server.carry_failures + 1;
+      failures = k;
+      up = ap (λ (o : Option Pipe). traffic o ToServer) e;
+      down = ap (λ (o : Option Pipe). traffic o ToClient) e;
+    }
+
+moved : (pipe mid after : Option Pipe) (came reply : List ℕ) (lost : Bool) (k : ℕ) → IsOpen pipe → mid ≡ brought_on pipe ToServer came lost → (reply ≡ [] → after ≡ mid) → (reply ≢ [] → after ≡ sent_on mid ToClient reply k) → Moved pipe after came reply
+moved None mid after came reply lost k open_ is none some = absurd open_
+moved (Some p) mid after came reply lost k open_ is none some =
+    moved_by p after came reply lost k (λ empty. none empty ∙ is) (λ full. some full ∙ ap (λ (o : Option Pipe). sent_on o ToClient reply k) is)
+
+-- ---- The connection then
+
+-- What the player's connection is behind the delivery, field by field; the carrier may have failed.
+pub record Delivered {E S : Type 0} (old new : Link E S) (pipe after : Option Pipe) (n : ℕ) (server : ServerState E) (rest reply : List ℕ) : Type 0 where
+  client : new.client ≡ old.client
+  server_is : new.server ≡ server
+  client_reader : new.client_reader ≡ old.client_reader
+  server_reader : new.server_reader.taken ≡ rest
+  to_server : new.to_server ≡ old.to_server - n
+  to_client : (reply ≡ [] → new.to_client ≡ old.to_client) × (reply ≢ [] → new.to_client ≡ saturated (old.to_client + length reply))
+  moved : Moved pipe after (next_of (traffic pipe ToServer) n) reply
 
 pub count_by : (old new : ℕ) (reply : List ℕ) → (reply ≡ [] → new ≡ old) → (reply ≢ [] → new ≡ saturated (old + length reply)) → old + length reply ≤ 18446744073709551615 → new ≡ old + length reply
 count_by old new [] none some few = none refl ∙ omega (arith)
@@ -88,17 +128,20 @@ pub delivered_alike : {E S : Type 0} (answers : Answers) (old new : Link E S) (p
 delivered_alike {E} answers old new pipe after c most n bytes reply s count lanes few a told d =
     let w : Connection = to_server answers most c in
     let more : List ℕ = a.sends.0 in
+    let m = d.moved in
     let same : reply ≡ more = told ∙ a.sends.1 in
-    let now : underway down_bytes w.to_client ≡ old.to_client + length more = sym ((lane_sent down_bytes more (traffic pipe ToClient) c.to_client w.to_client old.client_reader.taken old.to_client (old.to_client + length more) s.down a.sends.2 refl).counts) in
+    let down : IsLane down_bytes (sent (traffic pipe ToClient) more m.failures) w.to_client old.client_reader.taken (old.to_client + length more) = lane_sent down_bytes more m.failures (traffic pipe ToClient) c.to_client w.to_client old.client_reader.taken old.to_client (old.to_client + length more) s.down a.sends.2 refl in
+    let now : underway down_bytes w.to_client ≡ old.to_client + length more = sym down.counts in
     let long : length reply ≡ length more = ap length same in
-    let up : IsLane up_bytes (carried (traffic pipe ToServer) (next_of (traffic pipe ToServer) (min most old.to_server))) w.to_server a.rest (old.to_server - min most old.to_server) = lane_delivered up_bytes most (traffic pipe ToServer) c.to_server w.to_server old.server_reader.taken a.rest old.to_server s.up lanes a.left in
-    let down : IsLane down_bytes (sent (traffic pipe ToClient) more 0) w.to_client old.client_reader.taken (old.to_client + length more) = lane_sent down_bytes more (traffic pipe ToClient) c.to_client w.to_client old.client_reader.taken old.to_client (old.to_client + length more) s.down a.sends.2 refl in
+    let up : IsLane up_bytes (record (carried (traffic pipe ToServer) (next_of (traffic pipe ToServer) (min most old.to_server))) { carry_failures = m.stuck }) w.to_server a.rest (old.to_server - min most old.to_server) =
+    lane_stuck up_bytes (carried (traffic pipe ToServer) (next_of (traffic pipe ToServer) (min most old.to_server))) m.stuck w.to_server a.rest (old.to_server - min most old.to_server)
+    (lane_delivered up_bytes most (traffic pipe ToServer) c.to_server w.to_server old.server_reader.taken a.rest old.to_server s.up lanes a.left) in
     let counts : new.to_client ≡ old.to_client + length more = count_by old.to_client new.to_client reply d.to_client.0 d.to_client.1 (omega (arith, few, now, long)) ∙ ap (λ (k : ℕ). old.to_client + k) long in
-    let below : traffic after ToClient ≡ sent (traffic pipe ToClient) more 0 = by_reply (traffic pipe ToClient) (traffic after ToClient) reply d.down.0 d.down.1 ∙ ap (λ (bs : List ℕ). sent (traffic pipe ToClient) bs 0) same in
+    let below : traffic after ToClient ≡ sent (traffic pipe ToClient) more m.failures = m.down ∙ ap (λ (bs : List ℕ). sent (traffic pipe ToClient) bs m.failures) same in
     record {
       client = rw d.client (client_stays answers old.client c c.to_server.waiting (c.to_server.part + min most (up_underway c)) s.client);
       server = rw d.server_is a.matches;
-      up = rw (d.up, d.server_reader, d.to_server, count) up;
+      up = rw (m.up, d.server_reader, d.to_server, count) up;
       down = rw (below, d.client_reader, counts) down;
     }
 
@@ -110,49 +153,18 @@ pub both_false : (a b : Bool) → a || b ≡ false → (a ≡ false) × (b ≡ f
 both_false true b e = absurd (cc)
 both_false false b e = (refl, e)
 
--- ---- What the calls made of it
-
-pub picked : {A : Type 0} (b : Bool) (x y : A) → b ≡ false → cond b x y ≡ y
-picked true x y e = absurd (cc)
-picked false x y e = refl
-
--- A carrier's connection when this came and that was handed over the other way.
-record Moved (pipe after : Option Pipe) (came reply : List ℕ) : Type 0 where
-  up : traffic after ToServer ≡ carried (traffic pipe ToServer) came
-  none : reply ≡ [] → traffic after ToClient ≡ traffic pipe ToClient
-  some : reply ≢ [] → traffic after ToClient ≡ sent (traffic pipe ToClient) reply 0
-
-moved : (pipe mid after : Option Pipe) (came reply : List ℕ) → IsOpen pipe → mid ≡ carried_on pipe ToServer came → (reply ≡ [] → after ≡ mid) → (reply ≢ [] → after ≡ sent_on mid ToClient reply 0) → Moved pipe after came reply
-moved None mid after came reply open_ is none some = absurd open_
-moved (Some p) mid after came [] open_ is none some =
-    let e : after ≡ carried_on (Some p) ToServer came = none refl ∙ is in
-    record {
-      up = ap (λ (o : Option Pipe). traffic o ToServer) e;
-      none = λ empty. ap (λ (o : Option Pipe). traffic o ToClient) e;
-      some = λ full. absurd (full refl);
-    }
-moved (Some p) mid after came (b ∷ bs) open_ is none some =
-    let full : b ∷ bs ≢ [] = λ e. absurd (cc) in
-    let e : after ≡ sent_on (carried_on (Some p) ToServer came) ToClient (b ∷ bs) 0 = some full ∙ ap (λ (o : Option Pipe). sent_on o ToClient (b ∷ bs) 0) is in
-    record {
-      up = ap (λ (o : Option Pipe). traffic o ToServer) e;
-      none = λ empty. absurd (full empty);
-      some = λ f. ap (λ (o : Option Pipe). traffic o ToClient) e;
-    }
-
 -- The connection behind the carrier's first call, behind the server's turn, and behind the second call.
-pub delivered_by : {E S : Type 0} (old one two new : Link E S) (pipe mid after : Option Pipe) (n : ℕ) (rest reply : List ℕ)
+pub delivered_by : {E S : Type 0} (old one two new : Link E S) (pipe mid after : Option Pipe) (n : ℕ) (rest reply : List ℕ) (lost : Bool) (failures : ℕ)
     → IsOpen pipe
     → one ≡ with_counted old ToServer (old.to_server - n)
     → two ≡ record one { server = two.server; server_reader = two.server_reader }
     → two.server_reader.taken ≡ rest
-    → mid ≡ carried_on pipe ToServer (next_of (traffic pipe ToServer) n)
+    → mid ≡ brought_on pipe ToServer (next_of (traffic pipe ToServer) n) lost
     → (reply ≡ [] → (new ≡ two) × (after ≡ mid))
-    → (reply ≢ [] → (new ≡ with_counted two ToClient (saturated (counted two ToClient + length reply))) × (after ≡ sent_on mid ToClient reply 0))
+    → (reply ≢ [] → (new ≡ with_counted two ToClient (saturated (counted two ToClient + length reply))) × (after ≡ sent_on mid ToClient reply failures))
     → Delivered old new pipe after n two.server rest reply
-delivered_by old one two new pipe mid after n rest [] open_ first second taken came none some =
+delivered_by old one two new pipe mid after n rest [] lost failures open_ first second taken came none some =
     let e : new ≡ two = (none refl).0 in
-    let m = moved pipe mid after (next_of (traffic pipe ToServer) n) [] open_ came (λ x. (none x).1) (λ x. (some x).1) in
     record {
       client = ap (λ l. l.client) (e ∙ second) ∙ ap (λ l. l.client) first;
       server_is = ap (λ l. l.server) e;
@@ -160,13 +172,11 @@ delivered_by old one two new pipe mid after n rest [] open_ first second taken c
       server_reader = ap (λ l. l.server_reader.taken) e ∙ taken;
       to_server = ap (λ l. l.to_server) (e ∙ second) ∙ ap (λ l. l.to_server) first;
       to_client = (λ x. ap (λ l. l.to_client) (e ∙ second) ∙ ap (λ l. l.to_client) first, λ x. absurd (x refl));
-      up = m.up;
-      down = (m.none, m.some);
+      moved = moved pipe mid after (next_of (traffic pipe ToServer) n) [] lost failures open_ came (λ x. (none x).1) (λ x. (some x).1);
     }
-delivered_by old one two new pipe mid after n rest (b ∷ bs) open_ first second taken came none some =
+delivered_by old one two new pipe mid after n rest (b ∷ bs) lost failures open_ first second taken came none some =
     let full : b ∷ bs ≢ [] = λ e. absurd (cc) in
     let e = (some full).0 in
-    let m = moved pipe mid after (next_of (traffic pipe ToServer) n) (b ∷ bs) open_ came (λ x. (none x).1) (λ x. (some x).1) in
     let count : two.to_client ≡ old.to_client = ap (λ l. l.to_client) second ∙ ap (λ l. l.to_client) first in
     record {
       client = ap (λ l. l.client) e ∙ ap (λ l. l.client) second ∙ ap (λ l. l.client) first;
@@ -175,6 +185,5 @@ delivered_by old one two new pipe mid after n rest (b ∷ bs) open_ first second
       server_reader = ap (λ l. l.server_reader.taken) e ∙ taken;
       to_server = ap (λ l. l.to_server) e ∙ ap (λ l. l.to_server) second ∙ ap (λ l. l.to_server) first;
       to_client = (λ x. absurd (full x), λ x. ap (λ l. l.to_client) e ∙ ap (λ (k : ℕ). saturated (k + length (b ∷ bs))) count);
-      up = m.up;
-      down = (m.none, m.some);
+      moved = moved pipe mid after (next_of (traffic pipe ToServer) n) (b ∷ bs) lost failures open_ came (λ x. (none x).1) (λ x. (some x).1);
     }

@@ -16,7 +16,7 @@ use Rattle.tds_play.specs.Lending.{standing_by}
 use Rattle.tds_play.specs.Pipe.{Pipe}
 use Rattle.tds_play.specs.Plays.{IsPlayed, Lives, ArePlayed}
 use Rattle.tds_play.specs.Seen.{view_of, snapshot_as, seen_by, seen_of}
-use Rattle.tds_play.specs.Stands.{stage_by, stage_in}
+use Rattle.tds_ends.specs.Stands.{stage_by, stage_in}
 use Rattle.tds_play.specs.declared.link.Link.{Link}
 
 -- ---- One more of a list

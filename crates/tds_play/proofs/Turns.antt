@@ -1,32 +1,38 @@
 -- A play, event by event, is the model's.
-use Rattle.std.proofs.Common.{◌≡◌, ◌∙◌, ◌<◌, ◌≤◌, ◌+◌, ℕ, zero, suc, List, [], ◌∷◌, ◌++◌, length, take, slice_index_or, false, Option, refl, sym, ap, subst, arith, length-take-le}
+use Rattle.std.proofs.Common.{◌≡◌, ◌∙◌, ◌<◌, ◌≤◌, ◌+◌, ℕ, zero, suc, List, [], ◌∷◌, ◌++◌, length, length-append, take, slice_index_or, Bool, true, false, Option, Some, None, refl, sym, ap, subst, arith, length-take-le}
 use Rattle.std.specs.Prelude.{slice_get}
 use Rattle.std.specs.List.{AllByRecursion, filter_map}
 use Rattle.std.proofs.lemmas.List.{take_more, take_all}
+use Rattle.std.proofs.lemmas.Option.{slice_get_within}
 use Rattle.tds_packet.specs.declared.kind.Direction.{Direction}
 use Rattle.tds_packet.specs.declared.kind.Direction.TheVariants.{ToServer, ToClient}
 use Rattle.tds_session.specs.Answer.{Answers}
 use Rattle.tds_world.specs.declared.event.Event.{Event}
+use Rattle.tds_world.specs.declared.event.Event.TheVariants as event
 use Rattle.tds_world.specs.declared.event.Setup.{Setup}
 use Rattle.tds_world.specs.declared.outcome.Outcome.{Outcome}
 use Rattle.tds_world.specs.declared.report.EventReport.{EventReport}
+use Rattle.tds_world.specs.declared.report.Place.{Place}
 use Rattle.tds_world.specs.declared.report.RequestReport.{RequestReport}
 use Rattle.tds_world.specs.declared.report.Snapshot.{Snapshot}
-use Rattle.tds_world.specs.Connection.{Connection}
+use Rattle.tds_world.specs.Bounds.{IsEvent, IsSetup}
+use Rattle.tds_world.specs.Connection.{Connection, Standing, is_cut}
 use Rattle.tds_world.specs.Events.{happens, world_after}
 use Rattle.tds_world.specs.Laws.{OfEachConnection}
 use Rattle.tds_world.specs.Observed.{event_report, event_reports, snapshots, request_reports, bytes_in, bytes_of}
-use Rattle.tds_world.specs.World.{World, new_world}
+use Rattle.tds_world.specs.World.{World, new_world, numbered}
 use Rattle.tds_play.specs.declared.link.Done.{Done}
 use Rattle.tds_play.specs.declared.link.Link.{Link}
 use Rattle.tds_play.specs.declared.player.Player.{Player}
-use Rattle.tds_play.specs.Pipe.{Pipe, traffic}
+use Rattle.tds_play.specs.Lending.{standing_by}
+use Rattle.tds_play.specs.Pipe.{Pipe, IsOpen, is_cut_at, traffic}
 use Rattle.tds_play.specs.Player.{IsPlay, HappensAlike}
-use Rattle.tds_play.specs.Plays.{ArePlayed}
-use Rattle.tds_play.specs.Promises.{Promises, IsCountable}
+use Rattle.tds_play.specs.Plays.{ArePlayed, IsPlayed, bringing}
+use Rattle.tds_ends.specs.Promises.{Promises, IsCountable}
 use Rattle.tds_play.specs.Seen.{done_as, seen_of}
-use Rattle.tds_play.specs.Ties.{AreTied}
-use Rattle.tds_play.specs.WholePlay.{IsPlayOf}
+use Rattle.tds_play.specs.Ties.{AreTied, IsTied}
+use Rattle.tds_play.specs.WholePlay.{IsCutAs, IsPlayOf}
+use Rattle.tds_play.proofs.AllPlayed.{as_many, played_at}
 use Rattle.tds_play.proofs.Snapshots.{all_seen_alike}
 
 -- ---- One event more
@@ -57,14 +63,34 @@ each_countable : (E : Type 0) (answers : Answers) (size : ℕ) (cs : List Connec
 each_countable E answers size [] h = tt
 each_countable E answers size (c ∷ cs) h = (h.0.countable, each_countable E answers size cs h.1)
 
--- The bytes of the world after the next event can be counted.
-pub countable_then : (E : Type 0) (setup : Setup) (answers : Answers) (es : List Event) (i : ℕ) (e : Event) → i < length es → e ≡ slice_index_or es i e
-    → OfEachConnection (Promises E answers setup.packet_size) (world_after setup answers (take (i + 1) es) new_world)
-    → OfEachConnection IsCountable (happens setup answers e (world_after setup answers (take i es) new_world)).1
-countable_then E setup answers es i e less is h =
-    let same : world_after setup answers (take (i + 1) es) new_world ≡ (happens setup answers e (world_after setup answers (take i es) new_world)).1 =
-    ap (λ xs. world_after setup answers xs new_world) (one_taken es i e less is) ∙ world_one_more setup answers (take i es) e new_world in
-    subst (OfEachConnection IsCountable) same (each_countable E answers setup.packet_size (world_after setup answers (take (i + 1) es) new_world).connections h)
+-- A delivery of other bytes is one too.
+pub brought_known : (k : ℕ) (e : Event) → IsEvent e → IsEvent (bringing k e)
+brought_known k event.Lease known = known
+brought_known k (event.Resume ticket) known = known
+brought_known k (event.GiveBack lease) known = known
+brought_known k (event.Keep lease) known = known
+brought_known k (event.Abandon ticket) known = known
+brought_known k (event.Ask lease q) known = known
+brought_known k (event.Send lease) known = known
+brought_known k (event.Cancel lease) known = known
+brought_known k (event.Work n) known = known
+brought_known k (event.ToServer n count) known = known
+brought_known k (event.ToClient n count) known = known
+brought_known k (event.Cut n) known = known
+brought_known k event.RestartServer known = known
+brought_known k event.RestartClient known = known
+
+-- The bytes of the world after one event more can be counted.
+pub countable_then : (E : Type 0) (setup : Setup) (answers : Answers) (es : List Event) (e : Event)
+    → OfEachConnection (Promises E answers setup.packet_size) (world_after setup answers (es ++ e ∷ []) new_world)
+    → OfEachConnection IsCountable (happens setup answers e (world_after setup answers es new_world)).1
+countable_then E setup answers es e h =
+    subst (OfEachConnection IsCountable) (world_one_more setup answers es e new_world)
+    (each_countable E answers setup.packet_size (world_after setup answers (es ++ e ∷ []) new_world).connections h)
+
+-- There is one event more.
+pub one_longer : (es : List Event) (e : Event) (n : ℕ) → length es < n → length (es ++ e ∷ []) ≤ n
+one_longer es e n less = omega (arith, length-append es (e ∷ []), less)
 
 pub so_many : {A : Type 0} (i : ℕ) (xs : List A) → i ≤ length xs → length (take i xs) ≡ i
 so_many i xs most = length-take-le i xs most
@@ -131,20 +157,49 @@ bytes_handed size engine links pipes w zero direction all some most = absurd (om
 bytes_handed size engine links pipes w (suc i) direction all some most =
     bytes_at 1 (suc i) i size engine links pipes w.connections direction all (omega (arith, most)) (omega arith)
 
+-- ---- What is cut
+
+cut_by : (b : Bool) (place : Place) (s : Standing) (p : Option Pipe) → standing_by b place ≡ s
+    → (b ≡ true → is_cut_at p ≡ true) → (b ≡ false → IsOpen p) → IsCutAs (is_cut s) p
+cut_by true place s None at gone live = let no : false ≡ true = gone refl in absurd (cc)
+cut_by true place s (Some p) at gone live = gone refl ∙ ap is_cut at
+cut_by false place s None at gone live = absurd (live refl)
+cut_by false place s (Some p) at gone live = (live refl).0 ∙ ap is_cut at
+
+-- Where a connection of the play lives, the carrier holds it open; where not, it was cut there too.
+cut_as : {E S : Type 0} (number size : ℕ) (engine : E) (link : Link E S) (p : Option Pipe) (c : Connection)
+    → IsPlayed number size engine link p c → IsTied link p → IsCutAs (is_cut c.standing) p
+cut_as number size engine link p c is tied =
+    cut_by link.is_cut link.place c.standing p is.standing is.gone (λ live. (tied.holds live).is_open)
+
+all_cut : {E S : Type 0} (size : ℕ) (engine : E) (links : List (Link E S)) (pipes : ℕ → Option Pipe) (cs : List Connection) (n : ℕ) (c : Connection)
+    → ArePlayed 1 size engine links pipes cs → AreTied links pipes → numbered cs n ≡ Some c → IsCutAs (is_cut c.standing) (pipes n)
+all_cut size engine links pipes cs zero c all tied at = absurd (cc)
+all_cut size engine [] pipes [] (suc i) c all tied at = absurd (cc)
+all_cut size engine [] pipes (d ∷ cs) (suc i) c all tied at = absurd all
+all_cut size engine (l ∷ ls) pipes cs (suc i) c all tied at =
+    let less : i < length (l ∷ ls) = omega (arith, slice_get_within cs i c at, as_many 1 size engine (l ∷ ls) pipes cs all) in
+    cut_as (suc i) size engine (slice_index_or (l ∷ ls) i l) (pipes (suc i)) c
+    (played_at 1 (suc i) size engine (l ∷ ls) pipes cs i l c all at (omega arith)) (tied.tied i l less)
+
 pub in_the_end : {E S : Type 0} (setup : Setup) (answers : Answers) (engine : E) (es : List Event) (i : ℕ) (player : Player E S)
     (pipes : ℕ → Option Pipe) (so_far reports : List EventReport) (requests : List RequestReport)
+    → IsSetup setup → AllByRecursion IsEvent (take i es) → AreTied player.links.items pipes
     → length es ≤ i → IsSoFar setup answers engine (take i es) player pipes so_far → reports ≡ so_far
     → requests ≡ request_reports (world_after setup answers (take i es) new_world) 1 (world_after setup answers (take i es) new_world).asked_on
     → IsPlayOf setup answers es (record { events = reports; requests = requests }) pipes
-in_the_end setup answers engine es i player pipes so_far reports requests over far same asked =
+in_the_end setup answers engine es i player pipes so_far reports requests in_range known tied over far same asked =
     let whole : take i es ≡ es = take_all i es over in
     let w : World = world_after setup answers es new_world in
     let all : ArePlayed 1 setup.packet_size engine player.links.items pipes w.connections =
     subst (λ xs. ArePlayed 1 setup.packet_size engine player.links.items pipes (world_after setup answers xs new_world).connections) whole far.play.connections in
     record {
+      in_range = in_range;
+      known = subst (AllByRecursion IsEvent) whole known;
       told =
           ap (λ (rs : List EventReport). record { events = rs; requests = requests }) (same ∙ far.told ∙ ap (λ xs. event_reports setup answers xs new_world) whole)
           ∙ ap (λ (qs : List RequestReport). record { events = event_reports setup answers es new_world; requests = qs })
           (asked ∙ ap (λ xs. request_reports (world_after setup answers xs new_world) 1 (world_after setup answers xs new_world).asked_on) whole);
       bytes = λ n direction some most. bytes_handed setup.packet_size engine player.links.items pipes w n direction all some most;
+      cuts = λ n c at. all_cut setup.packet_size engine player.links.items pipes w.connections n c all tied at;
     }

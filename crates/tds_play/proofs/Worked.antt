@@ -16,7 +16,7 @@ use Rattle.tds_world.specs.Events.{work_outcome}
 use Rattle.tds_world.specs.Record.{ran_in, runs}
 use Rattle.tds_world.specs.Record as world
 use Rattle.tds_play.specs.Acts.{worked_as, worked_by}
-use Rattle.tds_play.specs.Alike.{worked_outcome}
+use Rattle.tds_ends.specs.Alike.{worked_outcome}
 use Rattle.tds_play.specs.Links.{stepped}
 use Rattle.tds_play.specs.Pipe.{Pipe}
 use Rattle.tds_play.specs.Plays.{IsPlayed}
@@ -24,7 +24,7 @@ use Rattle.tds_world.specs.Newest.{WorksOnNewest}
 use Rattle.tds_world.specs.Steps.{EndsIfDue}
 use Rattle.tds_play.specs.Requests.{MatchesRecord, IsNewest}
 use Rattle.tds_play.specs.declared.link.Link.{Link}
-use Rattle.tds_play.specs.declared.link.Record.{Record}
+use Rattle.tds_play.specs.declared.request.Record.{Record}
 use Rattle.tds_play.proofs.Kept.{works_kept}
 use Rattle.tds_play.proofs.Outward.{HandedDown, replied_played}
 use Rattle.tds_play.proofs.Working.{work_alike}

@@ -10,10 +10,10 @@ use Rattle.tds_world.specs.Arrivals.{works_on}
 use Rattle.tds_world.specs.Connection.{Connection}
 use Rattle.tds_world.specs.Entries.{Step, down_bytes}
 use Rattle.tds_world.specs.Events.{work_outcome}
-use Rattle.tds_world.specs.Lawful.{EndsOnce}
+use Rattle.tds_session.specs.Answer.{EndsOnce}
 use Rattle.tds_world.specs.Steps.{EndsIfDue}
-use Rattle.tds_play.specs.Alike.{WorkAlike, worked_outcome}
-use Rattle.tds_play.specs.Stands.{MatchesServer, MatchesPhase, Sends}
+use Rattle.tds_ends.specs.Alike.{WorkAlike, worked_outcome}
+use Rattle.tds_ends.specs.Stands.{MatchesServer, MatchesPhase, Sends}
 use Rattle.tds_play.proofs.Lanes.{appended, unsent}
 
 -- A server at this does the same as the connection from which this is due.

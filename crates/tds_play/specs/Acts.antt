@@ -7,12 +7,10 @@ use Rattle.tds_server.specs.declared.outcome.Worked.{Worked}
 use Rattle.tds_server.specs.declared.outcome.Worked.TheVariants as server
 use Rattle.tds_server.specs.State.{ServerState}
 use Rattle.tds_server.specs.Working.{Work}
-use Rattle.tds_world.specs.declared.outcome.CancelOutcome.{CancelOutcome}
-use Rattle.tds_world.specs.declared.outcome.CancelOutcome.TheVariants as cancel
 use Rattle.tds_world.specs.declared.report.RequestStatus.{RequestStatus}
 use Rattle.tds_world.specs.declared.report.RequestStatus.TheVariants as status
 use Rattle.tds_play.specs.declared.link.Link.{Link}
-use Rattle.tds_play.specs.declared.link.Record.{Record}
+use Rattle.tds_play.specs.declared.request.Record.{Record}
 use Rattle.tds_play.specs.Links.{cut_of, stepped}
 
 -- The connection, cut where the carrier failed.
@@ -28,12 +26,10 @@ with_status s r = record r { status = s }
 
 -- ---- Cancelling
 
--- What a report says of a client's answer.
-abbrev pub cancel_outcome : Cancelled → CancelOutcome
-cancel_outcome client.Nothing = cancel.Nothing
-cancel_outcome client.Already = cancel.Already
-cancel_outcome client.Unsent = cancel.Unsent
-cancel_outcome client.Asked = cancel.Asked
+-- A request that is cancelled: an attention is out for it, or none of it was sent and none will be.
+abbrev pub cancel_status : Bool → RequestStatus
+cancel_status true = status.Cancelling
+cancel_status false = status.Unsent
 
 -- The newest request is never sent, or its attention is out.
 abbrev pub cancelled_as : {E S : Type 0} → Cancelled → ClientSession → Link E S → Link E S

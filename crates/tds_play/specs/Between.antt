@@ -5,7 +5,7 @@ use Rattle.tds_world.specs.Connection.{Connection}
 use Rattle.tds_world.specs.Entries.{up_bytes, down_bytes}
 use Rattle.tds_world.specs.Lane.{Lane, sent_bytes, underway}
 use Rattle.tds_play.specs.Pipe.{Pipe, Traffic, traffic}
-use Rattle.tds_play.specs.Stands.{MatchesClient, MatchesServer}
+use Rattle.tds_ends.specs.Stands.{MatchesClient, MatchesServer}
 use Rattle.tds_play.specs.declared.link.Link.{Link}
 
 -- One direction, at the carrier and in the model: the same bytes were handed over, and as many of them

@@ -9,15 +9,9 @@ pub mod Lending
 pub mod Noted
 pub mod Refused
 pub mod Runs
-pub mod Stands
-pub mod Alike
-pub mod Hearing
-pub mod Feeding
-pub mod Deliveries
 pub mod Listening
 pub mod Between
 pub mod Requests
-pub mod Promises
 pub mod Plays
 pub mod Player
 pub mod WholePlay

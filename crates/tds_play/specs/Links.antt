@@ -17,7 +17,7 @@ use Rattle.tds_world.specs.declared.report.RequestStatus.TheVariants as status
 use Rattle.tds_world.specs.Pool.{is_full}
 use Rattle.tds_world.specs.Record.{ran_in}
 use Rattle.tds_play.specs.declared.link.Link.{Link}
-use Rattle.tds_play.specs.declared.link.Record.{Record}
+use Rattle.tds_play.specs.declared.request.Record.{Record}
 
 -- ---- Requests
 

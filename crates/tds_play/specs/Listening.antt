@@ -3,9 +3,9 @@ use Rattle.std.specs.Prelude.{ℕ, ◌≡◌, List, [], Option, Some, None}
 use Rattle.tds_packet.specs.Reading.{with_taken}
 use Rattle.tds_token.specs.declared.token.Token.{Token}
 use Rattle.tds_play.specs.declared.link.Link.{Link}
-use Rattle.tds_play.specs.declared.link.Record.{Record}
-use Rattle.tds_play.specs.Deliveries.{status_under}
-use Rattle.tds_play.specs.Feeding.{Listened}
+use Rattle.tds_play.specs.declared.request.Record.{Record}
+use Rattle.tds_ends.specs.Deliveries.{status_under}
+use Rattle.tds_ends.specs.Feeding.{Listened}
 
 -- What the newest request's caller was given. Where there is no request, nobody was given anything.
 abbrev pub told_in : Option Record → List Token

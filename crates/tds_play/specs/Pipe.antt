@@ -46,6 +46,11 @@ abbrev pub with_traffic_in : Option Pipe → Direction → Traffic → Option Pi
 with_traffic_in None d t = None
 with_traffic_in (Some p) d t = Some (with_traffic p d t)
 
+-- Whether it is known, and cut.
+abbrev pub is_cut_at : Option Pipe → Bool
+is_cut_at None = false
+is_cut_at (Some p) = p.is_cut
+
 -- It is known, and isn't cut.
 abbrev pub IsUncut : Option Pipe → Type 0
 IsUncut None = ⊥

@@ -10,7 +10,7 @@ use Rattle.tds_play.specs.declared.link.Done.{Done}
 use Rattle.tds_play.specs.declared.player.Player.{Player}
 use Rattle.tds_play.specs.Pipe.{Pipe}
 use Rattle.tds_play.specs.Plays.{ArePlayed, holdings_of}
-use Rattle.tds_play.specs.Promises.{Promises}
+use Rattle.tds_ends.specs.Promises.{Promises}
 use Rattle.tds_play.specs.Seen.{done_as}
 
 -- The player and the world: the connections, leases, tickets and requests are the world's.

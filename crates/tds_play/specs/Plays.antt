@@ -1,13 +1,14 @@
 -- What a play stands for in the model: each connection, the leases and tickets, and the connections of
 -- the requests.
-use Rattle.std.specs.Prelude.{ℕ, suc, ◌≡◌, List, [], ◌∷◌, map, true, false, Option, Some, None, if◌then◌else◌}
+use Rattle.std.specs.Prelude.{ℕ, suc, ◌≡◌, List, [], ◌∷◌, map, min, Bool, true, false, Option, Some, None, if◌then◌else◌}
 use Rattle.tds_packet.specs.declared.kind.Direction.TheVariants.{ToServer, ToClient}
 use Rattle.tds_session.specs.Answer.{Answers}
+use Rattle.tds_play.specs.declared.link.Done.{Done}
 use Rattle.tds_play.specs.declared.link.Link.{Link}
 use Rattle.tds_play.specs.declared.link.acts.Next.{Next}
 use Rattle.tds_play.specs.Between.{Stands}
 use Rattle.tds_play.specs.Lending.{standing_of}
-use Rattle.tds_play.specs.Pipe.{Pipe, traffic}
+use Rattle.tds_play.specs.Pipe.{Pipe, is_cut_at, traffic}
 use Rattle.tds_play.specs.Requests.{AreOlder, IsNewest}
 use Rattle.tds_world.specs.declared.event.Event.{Event}
 use Rattle.tds_world.specs.declared.event.Event.TheVariants as event
@@ -17,7 +18,8 @@ use Rattle.tds_world.specs.declared.outcome.GiveBackOutcome.TheVariants as given
 use Rattle.tds_world.specs.declared.outcome.Outcome.{Outcome}
 use Rattle.tds_world.specs.declared.outcome.Outcome.TheVariants as outcome
 use Rattle.tds_world.specs.declared.outcome.Refusal.TheVariants.{UnknownConnection, ConnectionCut}
-use Rattle.tds_world.specs.Connection.{Connection, Standing, In, Cut, is_idle}
+use Rattle.tds_world.specs.Connection.{Connection, Standing, In, Cut, cut, is_idle, up_underway, down_underway}
+use Rattle.tds_world.specs.Arrivals.{to_server, to_client}
 use Rattle.tds_world.specs.Entries.{up_bytes, down_bytes}
 use Rattle.tds_world.specs.Events.{acts}
 use Rattle.tds_world.specs.Lane.{sent_bytes}
@@ -37,7 +39,8 @@ pub record Lives {E S : Type 0} (size : ℕ) (engine : E) (link : Link E S) (pip
   pub client_reads : link.client_reader.direction ≡ ToClient
   pub client_size : link.client_reader.size ≡ size
 
--- The connection of this number, and the model's.
+-- The connection of this number, and the model's. One that is cut was cut at the carrier; that no other
+-- one was is a part of `IsTied`.
 pub record IsPlayed {E S : Type 0} (number size : ℕ) (engine : E) (link : Link E S) (pipe : Option Pipe)
     (c : Connection) : Type 0 where
   pub numbered : link.number ≡ number
@@ -47,6 +50,7 @@ pub record IsPlayed {E S : Type 0} (number size : ℕ) (engine : E) (link : Link
   pub to_server : (traffic pipe ToServer).handed ≡ sent_bytes up_bytes c.to_server
   pub to_client : (traffic pipe ToClient).handed ≡ sent_bytes down_bytes c.to_client
   pub lives : link.is_cut ≡ false → Lives size engine link pipe c
+  pub gone : link.is_cut ≡ true → is_cut_at pipe ≡ true
 
 -- ---- An event on it
 
@@ -76,6 +80,53 @@ outcome_of (Does what d) = what
 abbrev pub after : Acted → Connection → Connection
 after (Refuses why) c = c
 after (Does what d) c = d
+
+-- A connection, cut where the carrier failed.
+abbrev pub cut_where : Bool → Connection → Connection
+cut_where true c = cut c
+cut_where false c = c
+
+-- What an event came to on its connection is what the model's act comes to, and the connection is the
+-- model's then; where the carrier failed, it is cut in both.
+pub record DoesAlike {E S : Type 0} (number size : ℕ) (engine : E) (done : Done) (link : Link E S)
+    (pipe : Option Pipe) (acted : Acted) (c : Connection) : Type 0 where
+  pub outcome : done.outcome ≡ outcome_of acted
+  pub played : IsPlayed number size engine link pipe (cut_where done.lost (after acted c))
+
+-- A delivery, each way, of so many bytes at most.
+abbrev pub delivers_up : Answers → ℕ → Connection → Acted
+delivers_up answers count c = Does (outcome.ToServer (min count (up_underway c))) (to_server answers count c)
+
+abbrev pub delivers_down : ℕ → Connection → Acted
+delivers_down count c = Does (outcome.ToClient (min count (down_underway c))) (to_client count c)
+
+-- An event that brings bytes brings so many.
+abbrev pub bringing : ℕ → Event → Event
+bringing k (event.ToServer n count) = event.ToServer n k
+bringing k (event.ToClient n count) = event.ToClient n k
+bringing k e = e
+
+-- How many bytes came, as an outcome says.
+abbrev pub came_in : Outcome → ℕ
+came_in (outcome.ToServer k) = k
+came_in (outcome.ToClient k) = k
+came_in o = 0
+
+-- So many bytes a delivery was met to bring: where the carrier failed, those that had come.
+abbrev pub count_by : Bool → Outcome → ℕ → ℕ
+count_by true o count = came_in o
+count_by false o count = count
+
+abbrev pub count_of : Done → ℕ → ℕ
+count_of done count = count_by done.lost done.outcome count
+
+-- The event as it was met: where the carrier failed in a delivery, with the bytes that had come.
+abbrev pub met_by : Bool → Outcome → Event → Event
+met_by true o e = bringing (came_in o) e
+met_by false o e = e
+
+abbrev pub met : Done → Event → Event
+met done e = met_by done.lost done.outcome e
 
 -- A connection that is lent is idle. A restart is about all connections, and about none alone.
 abbrev pub IsReady : Event → Connection → Type 0

@@ -1,6 +1,6 @@
 -- What a request of the player stands for in the model.
 use Rattle.std.specs.Prelude.{ℕ, ◌≡◌, List, [], ◌∷◌, Bool, Option, Some, None}
-use Rattle.tds_play.specs.declared.link.Record.{Record}
+use Rattle.tds_play.specs.declared.request.Record.{Record}
 use Rattle.tds_world.specs.Phase.{Settled, phase_of, status_of}
 use Rattle.tds_world.specs.Record as world
 

@@ -1,5 +1,5 @@
 -- What a run of a schedule file comes to: the text of a report, or one line about a fault.
-use Rattle.std.specs.Prelude.{◌≡◌, ℕ, List, ◌++◌, length, Option, Some, None, IfSome, ⊤, ◌⊎◌, codes, decimal}
+use Rattle.std.specs.Prelude.{◌≡◌, ℕ, List, ◌++◌, ◌≤◌, length, Option, Some, None, IfSome, ⊤, ◌⊎◌, codes, decimal}
 use Rattle.std.specs.Io.KnownBytes.{Appends, Keeps}
 use Rattle.tds_world.specs.declared.event.Setup.{Setup}
 use Rattle.tds_world.specs.declared.event.Event.{Event}
@@ -18,9 +18,17 @@ use Rattle.tds_play.specs.declared.playing.PlayRefusal.TheVariants as play
 use Rattle.tds_play.specs.declared.run.RunFault.{RunFault}
 use Rattle.tds_play.specs.declared.run.RunFault.TheVariants as run
 
+-- The most bytes of a schedule file.
+abbrev pub file_limit : ℕ
+file_limit = 33554432
+
 -- These are the bytes that the reader had left, where it tells them.
 abbrev pub AreLeft : Option (List ℕ) → List ℕ → Type 0
 AreLeft left bytes = IfSome left (λ all. bytes ≡ all)
+
+-- What the reader has left is no longer than a schedule file may be, where it tells it.
+abbrev pub FitsFile : Option (List ℕ) → Type 0
+FitsFile left = IfSome left (λ all. length all ≤ file_limit)
 
 -- Bytes are a schedule file, and the events are refused for this or for nothing.
 abbrev pub IsRefused : List ℕ → Option PlayRefusal → Type 0

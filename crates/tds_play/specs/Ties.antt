@@ -3,7 +3,7 @@
 use Rattle.std.specs.Prelude.{ℕ, suc, ◌+◌, ◌≡◌, ◌≤◌, ◌<◌, List, length, Option, false, min, slice_index_or}
 use Rattle.tds_packet.specs.declared.kind.Direction.{Direction}
 use Rattle.tds_packet.specs.declared.kind.Direction.TheVariants.{ToServer, ToClient}
-use Rattle.tds_play.specs.Pipe.{Pipe, traffic, IsOpen}
+use Rattle.tds_play.specs.Pipe.{Pipe, AreSame, traffic, IsOpen}
 use Rattle.tds_play.specs.declared.link.Link.{Link}
 
 -- So many bytes are underway each way, or more.
@@ -18,6 +18,15 @@ pub record IsTied {E S : Type 0} (link : Link E S) (pipe : Option Pipe) : Type 0
   pub client_reads : link.client_reader.direction ≡ ToClient
   pub holds : link.is_cut ≡ false → Holds link.to_server link.to_client pipe
 
+-- What each event on the connection of this number keeps: the connection stays tied to what the carrier
+-- knows of it, nothing changes at the carrier on the other ones, and a carrier that told what it was
+-- handed still does.
+pub record KeepsTies {E S : Type 0} (number : ℕ) (link : Link E S) (before after : ℕ → Option Pipe)
+    (told still : Type 0) : Type 0 where
+  pub tied : IsTied link (after number)
+  pub others : AreSame before after number
+  pub tells : told → still
+
 -- The bytes that a connection counts as underway one way.
 abbrev pub counted : {E S : Type 0} → Link E S → Direction → ℕ
 counted link ToServer = link.to_server
@@ -25,8 +34,10 @@ counted link ToClient = link.to_client
 
 -- All connections of a play, numbered from 1.
 pub record AreTied {E S : Type 0} (links : List (Link E S)) (pipes : ℕ → Option Pipe) : Type 0 where
-  pub numbered : (i : ℕ) (d : Link E S) → i < length links → (slice_index_or links i d).number ≡ suc i
-  pub tied : (i : ℕ) (d : Link E S) → i < length links → IsTied (slice_index_or links i d) (pipes (suc i))
+  pub numbered : (i : ℕ) (d : Link E S) → i < length links
+      → (slice_index_or links i d).number ≡ suc i
+  pub tied : (i : ℕ) (d : Link E S) → i < length links
+      → IsTied (slice_index_or links i d) (pipes (suc i))
 
 -- The connection with so many bytes underway one way.
 abbrev pub with_counted : {E S : Type 0} → Link E S → Direction → ℕ → Link E S

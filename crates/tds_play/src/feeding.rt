@@ -1,19 +1,20 @@
-//! Bytes that came are fed to an end: its reader, and then its core.
-ghost use Rattle.std.specs.Prelude.{◌≡◌, ◌∷◌, ◌++◌, ℕ, List, [], None, Some, Ok, IfOk, OnOk};
-ghost use Rattle.tds_packet.specs.Layout.{IsPacket};
-ghost use Rattle.tds_packet.specs.Reading.{Reading, with_taken, fault_of, up_to_end, IsWhole};
-ghost use Rattle.tds_packet.specs.declared.header.Header.{Header};
+//! Bytes that came are fed to an end, and what it refuses is a fault of the play.
+ghost use Rattle.std.specs.Prelude.{◌≡◌, ◌≢◌, ◌++◌, ℕ, List, None, Some, Ok, IfOk, OnOk};
+ghost use Rattle.tds_ends.specs.declared.listening.ClientStop.TheVariants as client_stop;
+ghost use Rattle.tds_ends.specs.declared.serving.ServerStop.TheVariants as server_stop;
+ghost use Rattle.tds_packet.specs.Reading.{with_taken};
 ghost use Rattle.tds_packet.specs.declared.kind.Direction.TheVariants.{ToServer, ToClient};
-ghost use Rattle.tds_play.specs.Feeding.{Coming, Comes, IsServed, Served, served, IsListened, Listened, listened, settled_by};
+ghost use Rattle.tds_ends.specs.Feeding.{Coming, Comes, IsServed, Served, served, IsListened, Listened, listened};
 ghost use Rattle.tds_play.specs.Seen.{outcome_of};
 ghost use Rattle.tds_session.specs.Answer.{answer_of};
 
 use crate::NoMemory;
 use std::alloc::AllocError;
-use tds_client::{Client, Taken};
-use tds_packet::laws::{fronts, one_packet, whatever_follows};
-use tds_packet::{PacketFault, PacketReader};
-use tds_server::{Server, ServerTook};
+use tds_client::Client;
+use tds_ends::laws::{whole_packets_are_heard, whole_packets_are_served};
+use tds_ends::{ClientStop, ServerStop, listen, serve};
+use tds_packet::PacketReader;
+use tds_server::Server;
 use tds_session::Engine;
 use tds_token::Token;
 use tds_world::{End, Layer, Outcome, RequestStatus};
@@ -27,19 +28,41 @@ pub(crate) struct Fault {
 }
 
 impl Fault {
-    fn of_reader(end: End, fault: &PacketFault) -> Fault {
-        Fault {
-            end,
-            layer: Layer::Packet,
-            number: fault.number(),
+    /// What a server stopped at; an error where that is want of memory.
+    fn at_server(stop: ServerStop) -> Result<Fault, NoMemory>
+        ensures { OnOk result (stop ≢ server_stop.NoMemory) }
+    {
+        match stop {
+            ServerStop::Packet(fault) => Ok(Fault {
+                end: End::Server,
+                layer: Layer::Packet,
+                number: fault.number(),
+            }),
+            ServerStop::Server(fault) => Ok(Fault {
+                end: End::Server,
+                layer: Layer::Core,
+                number: fault.number(),
+            }),
+            ServerStop::NoMemory => Err(AllocError),
         }
     }
 
-    fn of_core(end: End, number: u8) -> Fault {
-        Fault {
-            end,
-            layer: Layer::Core,
-            number,
+    /// What a client stopped at; an error where that is want of memory.
+    fn at_client(stop: ClientStop) -> Result<Fault, NoMemory>
+        ensures { OnOk result (stop ≢ client_stop.NoMemory) }
+    {
+        match stop {
+            ClientStop::Packet(fault) => Ok(Fault {
+                end: End::Client,
+                layer: Layer::Packet,
+                number: fault.number(),
+            }),
+            ClientStop::Client(fault) => Ok(Fault {
+                end: End::Client,
+                layer: Layer::Core,
+                number: fault.number(),
+            }),
+            ClientStop::NoMemory => Err(AllocError),
         }
     }
 
@@ -63,24 +86,6 @@ pub(crate) struct Heard {
     pub(crate) fault: Option<Fault>,
 }
 
-/// Of bytes that are packets and then less than one, a reader takes the first packet; where there is
-/// none, it takes all of them and finds no fault.
-fn first_or_all()
-    ensures first { (r : Reading) (p : Coming) (ps : List Coming) (bytes rest : List ℕ) → Comes r bytes (p ∷ ps) rest
-        → (up_to_end r bytes ≡ p.bytes) × (fault_of r p.bytes ≡ None) }
-    ensures all { (r : Reading) (bytes rest : List ℕ) → Comes r bytes [] rest
-        → (up_to_end r bytes ≡ bytes) × (fault_of r bytes ≡ None) × (¬ IsWhole (with_taken r bytes)) }
-    ensures one { (r : Reading) (p : Coming) (ps : List Coming) (bytes rest after : List ℕ) → Comes r bytes (p ∷ ps) rest
-        → bytes ≡ p.bytes ++ after → Comes r after ps rest }
-    ensures same { (r : Reading) (bytes content other : List ℕ) (header another : Header)
-        → IsPacket r.direction r.size bytes header content → IsPacket r.direction r.size bytes another other
-        → (header ≡ another) × (content ≡ other) }
-{
-    whatever_follows();
-    fronts();
-    one_packet();
-}
-
 /// Feeds a whole piece to a server. It appends what the packets caused to `reply`, and answers the
 /// fault that stopped it.
 pub(crate) fn feed_server<E: Engine + Drop>(
@@ -100,36 +105,10 @@ pub(crate) fn feed_server<E: Engine + Drop>(
         → served (answer_of (E.statements_of server.old.engine) (E.step_of server.old.engine)) server.old reply.old.items packets ≡ Some then
         → OnOk result ((result ≡ Ok None) × IsServed server.new reply.new.items then × (reader.new ≡ with_taken reader.old rest)) }
 {
-    first_or_all();
-    let mut rest = piece;
-    'packets: loop {
-        match reader.feed(rest) {
-            Ok(count) => rest = &rest[count..],
-            Err(fault) => return Ok(Some(Fault::of_reader(End::Server, &fault))),
-        }
-        let Some(packet) = reader.packet() else {
-            return Ok(None);
-        };
-        match server.take(packet, reply) {
-            Ok(took) => {
-                if took == ServerTook::NoMemory {
-                    return Err(AllocError);
-                }
-            }
-            Err(fault) => return Ok(Some(Fault::of_core(End::Server, fault.number()))),
-        }
-        reader.done();
-    }
-}
-
-/// What became of a request behind this answer to a packet.
-fn settled_by(took: Taken, before: Option<RequestStatus>) -> Option<RequestStatus>
-    ensures { result ≡ settled_by took before }
-{
-    match took {
-        Taken::More | Taken::NoMemory => before,
-        Taken::Finished => Some(RequestStatus::Finished),
-        Taken::Acknowledged => Some(RequestStatus::Acknowledged),
+    whole_packets_are_served::<E>();
+    match serve(server, reader, piece, reply).stop {
+        None => Ok(None),
+        Some(stop) => Ok(Some(Fault::at_server(stop)?)),
     }
 }
 
@@ -149,35 +128,17 @@ pub(crate) fn feed_client(
         → listened client.old None told.old.items packets ≡ Some then
         → IfOk result (λ heard. (heard.fault ≡ None) × IsListened client.new heard.settled told.new.items then × (reader.new ≡ with_taken reader.old rest)) }
 {
-    first_or_all();
-    let mut rest = piece;
-    let mut settled = None;
-    'packets: loop {
-        match reader.feed(rest) {
-            Ok(count) => rest = &rest[count..],
-            Err(fault) => {
-                let fault = Some(Fault::of_reader(End::Client, &fault));
-                return Ok(Heard { settled, fault });
-            }
-        }
-        let Some(packet) = reader.packet() else {
-            return Ok(Heard {
-                settled,
-                fault: None,
-            });
-        };
-        match client.take(packet, told) {
-            Ok(took) => {
-                if took == Taken::NoMemory {
-                    return Err(AllocError);
-                }
-                settled = settled_by(took, settled);
-            }
-            Err(fault) => {
-                let fault = Some(Fault::of_core(End::Client, fault.number()));
-                return Ok(Heard { settled, fault });
-            }
-        }
-        reader.done();
+    whole_packets_are_heard();
+    let fed = listen(client, reader, piece, told);
+    let settled = fed.settled;
+    match fed.stop {
+        None => Ok(Heard {
+            settled,
+            fault: None,
+        }),
+        Some(stop) => Ok(Heard {
+            settled,
+            fault: Some(Fault::at_client(stop)?),
+        }),
     }
 }

@@ -10,6 +10,7 @@ mod memory;
 mod player;
 mod playing;
 mod pool;
+mod request;
 mod run;
 mod worlds;
 
@@ -20,9 +21,12 @@ pub use run::run_play;
 
 /// The texts of a play.
 pub use tds_text::{
-    Command, LineFault, RenderFault, ScheduleFault, read_schedule, read_words, render,
-    right_or_wrong_somewhere,
+    Command, LineFault, RenderFault, ScheduleFault, WordFault, read_schedule, read_words, render,
+    right_or_wrong_somewhere, word_bytes,
 };
+
+/// Packets as text, and the vectors.
+pub use tds_show::{run_show, run_vectors};
 
 /// What a play is given, and what it answers.
 pub use tds_world::{

@@ -35,7 +35,7 @@ pub struct MemoryCarrier {
 impl MemoryCarrier {
     /// A carrier without a connection. It takes no memory.
     pub fn new(alloc: Global) -> MemoryCarrier
-        ensures { (conn : ℕ) → pipe_at result.pipes conn ≡ None }
+        ensures { (conn : ℕ) → ⟦<MemoryCarrier as Carrier>⟧.pipes result conn ≡ None }
     {
         MemoryCarrier {
             alloc,

@@ -6,11 +6,11 @@ ghost use Rattle.tds_play.specs.Links.{newest_first};
 ghost use Rattle.tds_play.specs.Noted.{about_of, asked_after, held_of, leases_after, tickets_after};
 ghost use Rattle.tds_play.specs.Pipe.{Pipe};
 ghost use Rattle.tds_play.specs.Player.{HappensAlike, IsPlay, IsSmall, PromisesAll};
-ghost use Rattle.tds_play.specs.Plays.{ArePlayed, IsReady, acts_on};
-ghost use Rattle.tds_play.specs.Promises.{IsCountable};
+ghost use Rattle.tds_play.specs.Plays.{ArePlayed, IsReady, acts_on, bringing};
+ghost use Rattle.tds_ends.specs.Promises.{IsCountable};
 ghost use Rattle.tds_play.specs.Seen.{seen_of};
 ghost use Rattle.tds_play.specs.Ties.{AreTied};
-ghost use Rattle.tds_play.specs.declared.link.Record.{Record};
+ghost use Rattle.tds_play.specs.declared.request.Record.{Record};
 ghost use Rattle.tds_play.specs.declared.pool.Found.TheVariants.{Here};
 ghost use Rattle.tds_session.specs.Answer.{answer_of};
 ghost use Rattle.tds_world.specs.Connection.{Connection, cut, is_cut};
@@ -26,8 +26,9 @@ ghost use Rattle.tds_world.specs.declared.event.Setup.{Setup};
 use crate::NoMemory;
 use crate::carrier::Carrier;
 use crate::link::acts::{Next, refused};
-use crate::link::{Done, Link, Record};
+use crate::link::{Done, Link};
 use crate::pool::{Found, Holdings, by_number, next_number, to_lend};
+use crate::request::Record;
 use std::alloc::Global;
 use tds_packet::PacketSize;
 use tds_session::Engine;
@@ -84,7 +85,8 @@ impl<E: Engine + Copy> Player<E> {
         ensures tells { OnOk result (C.tells carrier.old → C.tells carrier.new) }
         ensures alike { (setup : Setup) (engine : E) (w : World) → C.tells carrier.old → C.steady
             → IsPlay setup engine self.old (C.pipes carrier.old) w → PromisesAll E (answer_of (E.statements_of engine) (E.step_of engine)) setup w
-            → OfEachConnection IsCountable (happens setup (answer_of (E.statements_of engine) (E.step_of engine)) event.now w).1
+            → ((k : ℕ) → OfEachConnection IsCountable (happens setup (answer_of (E.statements_of engine) (E.step_of engine))
+            (bringing k event.now) w).1)
             → IfOk result (λ done. HappensAlike setup engine done self.new (C.pipes carrier.new) (happens setup (answer_of (E.statements_of engine) (E.step_of engine)) event.now w)) }
     {
         match event {
@@ -163,7 +165,8 @@ impl<E: Engine + Copy> Player<E> {
         ensures alike { (setup : Setup) (engine : E) (w : World) (c : Connection) → C.tells carrier.old → C.steady
             → IsPlay setup engine self.old (C.pipes carrier.old) w → PromisesAll E (answer_of (E.statements_of engine) (E.step_of engine)) setup w
             → slice_get w.connections place ≡ Some c → (is_cut c.standing ≡ false → IsReady event.now c)
-            → OfEachConnection IsCountable (settles event.now (suc place) w (acts_on setup (answer_of (E.statements_of engine) (E.step_of engine)) w event.now (suc place) c)).1
+            → ((k : ℕ) → OfEachConnection IsCountable (settles (bringing k event.now) (suc place) w
+            (acts_on setup (answer_of (E.statements_of engine) (E.step_of engine)) w (bringing k event.now) (suc place) c)).1)
             → IfOk result (λ done. HappensAlike setup engine done self.new (C.pipes carrier.new) (settles event.now (suc place) w (acts_on setup (answer_of (E.statements_of engine) (E.step_of engine)) w event.now (suc place) c))) }
     {
         let next = Next {

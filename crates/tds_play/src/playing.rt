@@ -1,18 +1,16 @@
 //! A whole play.
-ghost use Rattle.std.specs.Prelude.{◌≡◌, ◌≢◌, ◌<◌, ◌≤◌, ℕ, [], length, None, Some, Err, IfErr, IfOk, OnOk};
-ghost use Rattle.tds_packet.specs.declared.kind.Direction.{Direction};
-ghost use Rattle.tds_play.specs.Memory.{pipe_at};
-ghost use Rattle.tds_play.specs.Pipe.{traffic};
+ghost use Rattle.std.specs.Prelude.{◌≡◌, ◌≢◌, ◌≤◌, List, [], ◌++◌, length, None, Some, Err, IfErr, IfOk, OnOk};
 ghost use Rattle.tds_play.specs.Player.{IsPlay};
 ghost use Rattle.tds_play.specs.Refused.{first_refusal, play_refusal_number};
-ghost use Rattle.tds_play.specs.WholePlay.{IsPlayOf};
+ghost use Rattle.tds_play.specs.WholePlay.{CutsThoseOf, GivesNoMoreThan, HandsBytesOf, IsPlayOf, world_of};
 ghost use Rattle.tds_play.specs.declared.playing.PlayRefusal.TheVariants.{Memory};
 ghost use Rattle.tds_play.specs.declared.playing.PlayRefusal.{PlayRefusal};
 ghost use Rattle.tds_session.specs.Answer.{answer_of, script_answers};
-ghost use Rattle.tds_world.specs.Bounds.{IsEvent, IsSetup};
-ghost use Rattle.tds_world.specs.Events.{world_after};
-ghost use Rattle.tds_world.specs.Observed.{bytes_of, observed};
+ghost use Rattle.tds_world.specs.Bounds.{BeginsOnce, IsEvent, IsSetup, OneAttention};
+ghost use Rattle.tds_world.specs.Observed.{observed};
+ghost use Rattle.tds_world.specs.Reports.{ShowsFewUnderway, ShowsFreshStart, ShowsIdleQuiet, ShowsKeptTransaction, ShowsLendsIdle, ShowsNoFault, ShowsOwnAnswers, ShowsOwnTransaction};
 ghost use Rattle.tds_world.specs.World.{new_world};
+ghost use Rattle.tds_world.specs.declared.event.Event.{Event};
 ghost use Rattle.tds_world.specs.declared.event.Setup.{Setup};
 
 use crate::carrier::Carrier;
@@ -23,6 +21,11 @@ use std::alloc::{AllocError, AllocFailed, Global};
 use tds_packet::PacketSize;
 use tds_request::Request;
 use tds_session::{Engine, ScriptEngine};
+use tds_world::laws::{begins_once, one_attention, script_hands_out_next, script_is_lawful};
+use tds_world::report::laws::{
+    few_underway, fresh_start, idle_is_quiet, kept_transaction, lends_idle, no_fault,
+    nothing_after_cancel, own_answers, own_transaction,
+};
 use tds_world::{Event, EventReport, Report, Sequence, Setup};
 
 /// How many events a schedule may have.
@@ -73,20 +76,70 @@ impl<T: Drop> From<AllocFailed<T>> for PlayRefusal {
 }
 
 /// Plays a schedule from nothing: both ends of each connection, over bytes that the carrier brings.
+/// The servers know the batch language.
+///
+/// It takes at most 10,000 events, packets of 512 to 32,767 bytes, and 1 to 64 connections at a
+/// time. It answers what each event came to, with what is seen of the connections after it, and
+/// what came of each request in the end. An event that doesn't apply is told as refused, and the
+/// play goes on.
+///
+/// Where it is refused for its events or its setup, the carrier is as it was. Where memory was
+/// refused, the carrier may have been used, and nothing is said of it. A carrier that was used
+/// serves another play: what it held of a connection is forgotten when that number is opened.
 pub fn play(
     alloc: Global,
     setup: &Setup,
     events: &[Event],
     carrier: &mut MemoryCarrier,
 ) -> Result<Report, PlayRefusal>
-    ensures refused { (why : PlayRefusal) → first_refusal setup.now (length events.now) ≡ Some why → result ≡ Err why }
-    ensures unused { (why : PlayRefusal) → first_refusal setup.now (length events.now) ≡ Some why → carrier.new ≡ carrier.old }
+    // Why nothing is played.
+    ensures refused { (why : PlayRefusal) → first_refusal setup.now (length events.now) ≡ Some why
+        → result ≡ Err why }
+    ensures unused { (why : PlayRefusal) → first_refusal setup.now (length events.now) ≡ Some why
+        → carrier.new ≡ carrier.old }
     ensures played { OnOk result (first_refusal setup.now (length events.now) ≡ None) }
-    ensures named { IfErr result (λ why. why ≢ Memory → first_refusal setup.now (length events.now) ≡ Some why) }
+    ensures named { IfErr result (λ why. why ≢ Memory
+        → first_refusal setup.now (length events.now) ≡ Some why) }
+    // The report is the model's, and so are the bytes that were handed over and what is cut.
     ensures report { IfOk result (λ report. report ≡ observed setup.now script_answers events.now) }
-    ensures bytes { OnOk result ((n : ℕ) (direction : Direction) → 0 < n → n ≤ length (world_after setup.now script_answers events.now new_world).connections
-        → (traffic (pipe_at carrier.new.pipes n) direction).handed ≡ bytes_of (world_after setup.now script_answers events.now new_world) n direction) }
+    ensures bytes { OnOk result (HandsBytesOf (world_of setup.now events.now)
+        (⟦<MemoryCarrier as Carrier>⟧.pipes carrier.new)) }
+    ensures cuts { OnOk result (CutsThoseOf (world_of setup.now events.now)
+        (⟦<MemoryCarrier as Carrier>⟧.pipes carrier.new)) }
+    // Each caller gets the answer to its own request, run in the transaction that it was in, and
+    // nothing of it after a cancel.
+    ensures own_answers { IfOk result (ShowsOwnAnswers script_answers events.now) }
+    ensures own_transaction { IfOk result (ShowsOwnTransaction events.now) }
+    ensures after_cancel { (front later : List Event) → events.now ≡ front ++ later
+        → IfOk result (GivesNoMoreThan setup.now front) }
+    // What one lease did doesn't show in the next, but for the transaction that a ticket keeps.
+    ensures fresh_start { IfOk result ShowsFreshStart }
+    ensures kept_transaction { IfOk result (ShowsKeptTransaction events.now) }
+    ensures lends_idle { IfOk result ShowsLendsIdle }
+    // Where nobody waits nothing is underway, and at no time much is. Neither end refuses what
+    // comes to it, and no event is lost.
+    ensures idle_is_quiet { IfOk result ShowsIdleQuiet }
+    ensures few_underway { IfOk result ShowsFewUnderway }
+    ensures no_fault { IfOk result ShowsNoFault }
+    // In the world whose bytes were handed over at most one attention of a connection is without
+    // an acknowledgement that came, and no transaction of a connection begins twice.
+    ensures one_attention { OnOk result (OneAttention (world_of setup.now events.now)) }
+    ensures begins_once { OnOk result (BeginsOnce (world_of setup.now events.now)) }
 {
+    // The laws of the model, whose report it is.
+    script_is_lawful();
+    script_hands_out_next();
+    own_answers();
+    own_transaction();
+    nothing_after_cancel();
+    fresh_start();
+    kept_transaction();
+    lends_idle();
+    idle_is_quiet();
+    few_underway();
+    no_fault();
+    one_attention();
+    begins_once();
     play_on(alloc, setup, events, ScriptEngine, carrier)
 }
 
@@ -98,12 +151,17 @@ fn play_on<E: Engine + Copy, C: Carrier>(
     engine: E,
     carrier: &mut C,
 ) -> Result<Report, PlayRefusal>
-    ensures refused { (why : PlayRefusal) → first_refusal setup.now (length events.now) ≡ Some why → result ≡ Err why }
-    ensures unused { (why : PlayRefusal) → first_refusal setup.now (length events.now) ≡ Some why → carrier.new ≡ carrier.old }
+    ensures refused { (why : PlayRefusal) → first_refusal setup.now (length events.now) ≡ Some why
+        → result ≡ Err why }
+    ensures unused { (why : PlayRefusal) → first_refusal setup.now (length events.now) ≡ Some why
+        → carrier.new ≡ carrier.old }
     ensures played { OnOk result (first_refusal setup.now (length events.now) ≡ None) }
-    ensures named { IfErr result (λ why. why ≢ Memory → first_refusal setup.now (length events.now) ≡ Some why) }
+    ensures named { IfErr result (λ why. why ≢ Memory
+        → first_refusal setup.now (length events.now) ≡ Some why) }
     ensures alike { C.tells carrier.old → C.steady
-        → IfOk result (λ report. IsPlayOf setup.now (answer_of (E.statements_of engine) (E.step_of engine)) events.now report (C.pipes carrier.new)) }
+        → IfOk result (λ report. IsPlayOf setup.now
+        (answer_of (E.statements_of engine) (E.step_of engine)) events.now report
+        (C.pipes carrier.new)) }
 {
     match packet_size(setup, events.len()) {
         Ok(size) => {
@@ -166,7 +224,9 @@ fn play_events<E: Engine + Copy, C: Carrier>(
     ensures memory { IfErr result (λ why. why ≡ Memory) }
     ensures alike { (setup : Setup) → IsSetup setup → C.tells carrier.old → C.steady
         → IsPlay setup player.engine player (C.pipes carrier.old) new_world
-        → IfOk result (λ report. IsPlayOf setup (answer_of (E.statements_of player.engine) (E.step_of player.engine)) events.now report (C.pipes carrier.new)) }
+        → IfOk result (λ report. IsPlayOf setup
+        (answer_of (E.statements_of player.engine) (E.step_of player.engine)) events.now report
+        (C.pipes carrier.new)) }
 {
     worlds_hold(&player.engine);
     let mut reports = Vec::new(alloc);

@@ -3,7 +3,7 @@ ghost use Rattle.std.specs.Prelude.{◌≡◌, ◌++◌, ◌⊎◌, ℕ, List, O
 ghost use Rattle.std.specs.Io.KnownBytes.{Appends, Keeps};
 ghost use Rattle.tds_text.specs.Lines.{text_of};
 ghost use Rattle.tds_text.specs.Written.{WritesBeginning};
-ghost use Rattle.tds_play.specs.Runs.{AreLeft, IsReportOf, IsFaultOf, IsBeforeOutput, IsUnread, EndsBy, Reports, TellsFault, fault_line, of_schedule, of_refusal};
+ghost use Rattle.tds_play.specs.Runs.{AreLeft, IsReportOf, IsFaultOf, IsBeforeOutput, IsUnread, EndsBy, Reports, TellsFault, fault_line, FitsFile, of_schedule, of_refusal};
 ghost use Rattle.tds_play.specs.declared.run.RunFault.{RunFault};
 ghost use Rattle.tds_play.specs.declared.run.RunFault.TheVariants.{Output, Memory};
 
@@ -14,10 +14,14 @@ use std::io::{ErrorKind, Read, Write};
 use tds_text::{RenderFault, ScheduleFault, read_schedule, render, write_whole};
 use tds_world::Report;
 
+/// The most bytes of a schedule file: 10,000 texts of 2,000 ASCII characters have 20 million. What
+/// is longer would take gigabytes of memory before its events can be counted.
+const FILE_LIMIT: usize = 33_554_432;
+
 /// What ends a run before the whole report is printed.
 #[derive(Debug, Drop)]
 pub(crate) enum RunFault {
-    /// Reading failed.
+    /// Reading failed, or there is more than a schedule file may have.
     File,
     /// What was read is no JSON text.
     Json,
@@ -83,6 +87,7 @@ pub fn run_play<R: Read, W: Write, F: Write>(
     errors: &mut F,
 ) -> u8
     ensures status { (result ≡ 0) ⊎ (result ≡ 1) }
+    ensures fits { result ≡ 0 → FitsFile (R.remaining reader.old) }
     ensures report { result ≡ 0 → Reports (R.remaining reader.old) (W.contents output.old) (W.contents output.new) }
     ensures silent { result ≡ 0 → F.contents errors.new ≡ F.contents errors.old }
     ensures fault { result ≡ 1 → (fault : RunFault)
@@ -126,6 +131,7 @@ fn report_file<R: Read, W: Write>(
     carrier: &mut MemoryCarrier,
     output: &mut W,
 ) -> Result<(), RunFault>
+    ensures fits { OnOk result (FitsFile (R.remaining reader.old)) }
     ensures report { OnOk result (Reports (R.remaining reader.old) (W.contents output.old) (W.contents output.new)) }
     ensures fault { IfErr result (λ fault. EndsBy fault (R.remaining reader.old) (W.contents output.old) (W.contents output.new)) }
 {
@@ -134,13 +140,17 @@ fn report_file<R: Read, W: Write>(
     print_report(alloc, &report, output)
 }
 
+/// Reads what is left; of a file that is too long, one byte more than it may have.
 fn read_file<R: Read>(alloc: Global, reader: &mut R) -> Result<Vec<u8>, RunFault>
     ensures bytes { IfOk result (λ bytes. AreLeft (R.remaining reader.old) bytes.items) }
+    ensures fits { OnOk result (FitsFile (R.remaining reader.old)) }
     ensures fault { IfErr result (λ fault. IsUnread fault (R.remaining reader.old)) }
 {
     let mut bytes = Vec::new(alloc);
-    match reader.read_to_end(&mut bytes) {
-        Ok(_) => Ok(bytes),
+    let mut front = reader.take(FILE_LIMIT as u64 + 1);
+    match front.read_to_end(&mut bytes) {
+        Ok(_) if bytes.len() <= FILE_LIMIT => Ok(bytes),
+        Ok(_) => Err(RunFault::File),
         Err(error) => match error.kind() {
             ErrorKind::OutOfMemory => Err(RunFault::Memory),
             _ => Err(RunFault::File),

@@ -1,45 +1,23 @@
 //! What holds in every world of the model, with an engine's answers.
 ghost use Rattle.std.specs.Prelude.{◌≡◌, ◌≤◌, ◌<◌, List, length};
 ghost use Rattle.std.specs.List.{AllByRecursion};
-ghost use Rattle.tds_packet.specs.Reading.{Reading};
-ghost use Rattle.tds_packet.specs.declared.kind.Direction.TheVariants.{ToServer};
-ghost use Rattle.tds_play.specs.Deliveries.{AllArrive};
 ghost use Rattle.tds_play.specs.Player.{PromisesAll};
-ghost use Rattle.tds_play.specs.Promises.{Promises};
+ghost use Rattle.tds_ends.specs.Promises.{Promises};
 ghost use Rattle.tds_session.specs.Answer.{answer_of};
 ghost use Rattle.tds_world.specs.Bounds.{IsEvent, IsSetup};
-ghost use Rattle.tds_world.specs.Connection.{up_underway};
 ghost use Rattle.tds_world.specs.Events.{world_after};
-ghost use Rattle.tds_world.specs.Laws.{AlwaysOf, OfEachConnection};
+ghost use Rattle.tds_world.specs.Laws.{OfEachConnection};
 ghost use Rattle.tds_world.specs.Order.{RequestsInOrder};
 ghost use Rattle.tds_world.specs.World.{new_world};
 ghost use Rattle.tds_world.specs.declared.event.Event.{Event};
 ghost use Rattle.tds_world.specs.declared.event.Setup.{Setup};
 
-use crate::laws::{all_arrive, all_heard};
+use tds_ends::laws::{all_heard, arrivals_hold};
 use tds_session::Engine;
 use tds_world::laws::{
-    act_on_newest, all_welcome, answers_end_once, delivers_exactly, engine_is_lawful,
-    engine_stays_in_range, few_of_each, few_to_clients, few_underway, idle_is_quiet, lends_idle,
-    messages_are_whole, packets_fit, requests_in_order, work_on_newest,
+    act_on_newest, answers_end_once, delivers_exactly, engine_is_lawful, engine_stays_in_range,
+    few_of_each, few_to_clients, idle_is_quiet, lends_idle, requests_in_order, work_on_newest,
 };
-
-/// All that waits for a server arrives there as in the model, and 4,094 bytes at most are underway.
-pub(crate) fn arrivals_hold<E: Engine>(engine: &E)
-    ensures { (setup : Setup) → IsSetup setup
-        → AlwaysOf IsEvent setup (answer_of (E.statements_of engine.now) (E.step_of engine.now))
-        (OfEachConnection (λ c. ((r : Reading) → r.direction ≡ ToServer → r.size ≡ setup.packet_size
-        → AllArrive E (answer_of (E.statements_of engine.now) (E.step_of engine.now)) r c c.to_server.waiting)
-        × (up_underway c ≤ 4094))) }
-{
-    engine_is_lawful(engine);
-    engine_stays_in_range(engine);
-    messages_are_whole();
-    all_welcome();
-    packets_fit();
-    few_underway();
-    all_arrive::<E>();
-}
 
 /// What the model promises of each connection of every world, of every world before an event, and of
 /// the order of the requests.

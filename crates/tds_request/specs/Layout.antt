@@ -2,6 +2,8 @@
 use Rattle.std.specs.Prelude.{◌≡◌, ℕ, ◌^◌, ◌<◌, List, [], ◌∷◌, ◌++◌}
 use Rattle.std.specs.Int.{w16, w32, w64, to_le_bytes}
 use Rattle.std.specs.List.{flat_map}
+use Rattle.tds_packet.specs.declared.kind.Kind.{Kind}
+use Rattle.tds_packet.specs.declared.kind.Kind.TheVariants as packets
 use Rattle.tds_request.specs.declared.request.Request.{Request}
 use Rattle.tds_request.specs.declared.request.Request.TheVariants as requests
 use Rattle.tds_request.specs.declared.request.RequestKind.{RequestKind}
@@ -14,6 +16,11 @@ kind_of_request (requests.Batch units) = kinds.Batch
 kind_of_request (requests.Begin isolation) = kinds.Transaction
 kind_of_request requests.Commit = kinds.Transaction
 kind_of_request requests.Rollback = kinds.Transaction
+
+-- The type of its packets (MS-TDS 2.2.3.1.1).
+abbrev pub packet_kind : RequestKind → Kind
+packet_kind kinds.Batch = packets.Batch
+packet_kind kinds.Transaction = packets.Transaction
 
 -- The transaction descriptor header: its length 18 (four bytes), its type 2 (two), the descriptor (eight), and the count of outstanding requests (four), always 1. MS-TDS 2.2.5.3.2.
 abbrev pub descriptor_header : ℕ → List ℕ

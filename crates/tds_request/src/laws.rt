@@ -53,7 +53,8 @@ pub fn spelled_or_wrong()
 pub fn spelled_is_read()
     ensures { (kind : RequestKind) (descriptor : ℕ) (request : Request)
         (bytes : List ℕ)
-        → IsRequest kind descriptor request bytes → read_request kind bytes ≡ Ok (descriptor, request) }
+        → IsRequest kind descriptor request bytes
+        → read_request kind bytes ≡ Ok (descriptor, request) }
 {}
 
 /// What was encoded is decoded again, unless memory runs out. It rests on the contracts of the two

@@ -1,8 +1,9 @@
 ghost use Rattle.std.specs.Prelude.{◌≡◌};
-ghost use Rattle.tds_request.specs.Layout.{kind_of_request};
+ghost use Rattle.tds_request.specs.Layout.{kind_of_request, packet_kind};
 
 use crate::isolation::Isolation;
 use crate::text::BatchText;
+use tds_packet::Kind;
 
 /// What a client asks for.
 #[derive(Debug, Drop)]
@@ -36,6 +37,18 @@ impl Request {
             Request::Begin(_) => RequestKind::Transaction,
             Request::Commit => RequestKind::Transaction,
             Request::Rollback => RequestKind::Transaction,
+        }
+    }
+}
+
+impl RequestKind {
+    /// The type of its packets (MS-TDS 2.2.3.1.1).
+    pub fn packet_kind(self) -> Kind
+        ensures { result ≡ packet_kind self }
+    {
+        match self {
+            RequestKind::Batch => Kind::Batch,
+            RequestKind::Transaction => Kind::Transaction,
         }
     }
 }

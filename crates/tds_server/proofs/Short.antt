@@ -1,9 +1,9 @@
 -- The steps that a server makes itself fit into a packet.
-use Rattle.std.proofs.Common.{rules, ℕ, ◌≤◌, ◌<◌, List, [], ◌∷◌, ◌++◌, length, arith, refl, ap, sym, codes, ◌==◌, Bool, true, false, if◌then◌else◌, ◌≡◌, length-append, Option}
+use Rattle.std.proofs.Common.{rules, ℕ, ◌≤◌, ◌<◌, List, [], ◌∷◌, ◌++◌, length, arith, refl, ap, subst, sym, codes, ◌==◌, Bool, true, false, if◌then◌else◌, ◌≡◌, length-append, Option}
 use Rattle.std.specs.List.{flat_map}
 use Rattle.std.proofs.lemmas.Bool.Decides.{nat_tests}
 use Rattle.std.proofs.lemmas.List.Elements.{All-cons, All-nil}
-use Rattle.tds_server.specs.Packets.{FitsOnePacket, answer_packet, LeavesRoom, final}
+use Rattle.tds_server.specs.Packets.{AreShort, FitsOnePacket, answer_packet, LeavesRoom, final}
 use Rattle.tds_session.specs.Effects.{error, done, Effect, begins, begin_by, ends, end_by}
 use Rattle.tds_session.specs.Session.{SessionState, IsSession}
 use Rattle.tds_session.specs.Lawful.{FitsPacket}
@@ -40,14 +40,17 @@ acknowledging = one _ (short_done 32 refl)
 pub finished : (failed : Bool) → FitsOnePacket (final failed ∷ [])
 finished failed = one _ (short_done _ (is_lawful_final failed))
 
-pub requested : (t : Token) (failed : Bool) → LeavesRoom t → FitsOnePacket (t ∷ final failed ∷ [])
-requested t failed s = two t _ s (is_lawful_final failed)
+pub requested : (ts : List Token) (failed : Bool) → AreShort ts → FitsOnePacket (ts ++ final failed ∷ [])
+requested ts failed (t, is, room) = subst (λ (ts : List Token). FitsOnePacket (ts ++ final failed ∷ [])) (sym is) (two t _ room (is_lawful_final failed))
 
 pub reset_done : FitsOnePacket (token.Env change.ResetDone ∷ [])
 reset_done = one _ (record { fits = tt; short = search rules })
 
 pub short_descriptor : LeavesRoom (error 50010 (codes "descriptor"))
 short_descriptor = record { fits = record { server = search rules; procedure = search rules; whole = search rules }; short = search rules }
+
+pub refused_short : (t : Token) → t ≡ error 50010 (codes "descriptor") → AreShort (t ∷ [])
+refused_short t e = (t, refl, subst LeavesRoom (sym e) short_descriptor)
 
 pub descriptor_error : FitsOnePacket (error 50010 (codes "descriptor") ∷ [])
 descriptor_error = one _ short_descriptor
@@ -60,18 +63,18 @@ syntax_error = one _ short_syntax
 
 -- one token that leaves room
 abbrev pub IsSingle : Effect → Type 0
-IsSingle e = (t : Token) × (e.tokens ≡ t ∷ []) × LeavesRoom t
+IsSingle e = AreShort e.tokens
 
 begin_is_single : (none used_up : Bool) (s : SessionState) → IsSession s → IsSingle (begin_by none used_up s)
 begin_is_single false used_up s is = (_, refl, record { fits = record { server = search rules; procedure = search rules; whole = search rules }; short = search rules })
 begin_is_single true true s is = (_, refl, record { fits = record { server = search rules; procedure = search rules; whole = search rules }; short = search rules })
 begin_is_single true false s is = (_, refl, record { fits = is.next_some; short = search rules })
 
-the_one : (e : Effect) (t : Token) → IsSingle e → e.tokens ≡ t ∷ [] → LeavesRoom t
-the_one e t s h = let same : s.0 ≡ t = cc in rw (sym same) s.2
+short_alike : (e : Effect) (ts : List Token) → ts ≡ e.tokens → IsSingle e → AreShort ts
+short_alike e ts h s = subst AreShort (sym h) s
 
-pub begins_short : (s : SessionState) (t : Token) → IsSession s → (begins s).tokens ≡ t ∷ [] → LeavesRoom t
-begins_short s t is h = the_one (begins s) t (begin_is_single _ _ s is) h
+pub begins_short : (s : SessionState) (ts : List Token) → IsSession s → ts ≡ (begins s).tokens → AreShort ts
+begins_short s ts is h = short_alike (begins s) ts h (begin_is_single _ _ s is)
 
 some_descriptor : (d : ℕ) → (d == 0) ≡ false → 0 < d
 some_descriptor d e = grind (arith, nat_tests)
@@ -80,11 +83,11 @@ end_is_single : (none : Bool) (to : ℕ → EnvChange) (s : SessionState) → (s
 end_is_single true to s e short = (_, refl, record { fits = record { server = search rules; procedure = search rules; whole = search rules }; short = search rules })
 end_is_single false to s e short = (_, refl, short (some_descriptor s.descriptor e))
 
-pub commit_short : (s : SessionState) (t : Token) → (ends change.Commit s).tokens ≡ t ∷ [] → LeavesRoom t
-commit_short s t h = the_one (ends change.Commit s) t (end_is_single _ change.Commit s refl (λ some. record { fits = some; short = search rules })) h
+pub commit_short : (s : SessionState) (ts : List Token) → ts ≡ (ends change.Commit s).tokens → AreShort ts
+commit_short s ts h = short_alike (ends change.Commit s) ts h (end_is_single _ change.Commit s refl (λ some. record { fits = some; short = search rules }))
 
-pub rollback_short : (s : SessionState) (t : Token) → (ends change.Rollback s).tokens ≡ t ∷ [] → LeavesRoom t
-rollback_short s t h = the_one (ends change.Rollback s) t (end_is_single _ change.Rollback s refl (λ some. record { fits = some; short = search rules })) h
+pub rollback_short : (s : SessionState) (ts : List Token) → ts ≡ (ends change.Rollback s).tokens → AreShort ts
+rollback_short s ts h = short_alike (ends change.Rollback s) ts h (end_is_single _ change.Rollback s refl (λ some. record { fits = some; short = search rules }))
 
 joined : {a b x y : List ℕ} → a ≡ x → b ≡ y → a ++ b ≡ x ++ y
 joined e f = cc

@@ -1,15 +1,15 @@
 -- An answer is worked off, one step a call.
 use Rattle.std.proofs.Common.{◌≡◌, ℕ, List, [], ◌∷◌, ◌++◌, length, ap, ◌∙◌}
-use Rattle.tds_session.specs.Answer.{Step}
+use Rattle.tds_session.specs.Answer.{Step, EndsOnce}
 use Rattle.tds_server.specs.Packets.{answer_packet, next_id}
 use Rattle.tds_server.specs.State.{ServerState, Waiting, Answering}
-use Rattle.tds_server.specs.Whole.{IsEnded, after_works, bytes_of_works, packets_from, session_after}
+use Rattle.tds_server.specs.Whole.{after_works, bytes_of_works, packets_from, session_after}
 use Rattle.tds_server.specs.Working.{worked, works_in, does, phase_behind}
 
 one_step : {E : Type 0} (s : ServerState E) (step : Step) (rest : List Step) (id : ℕ) → s.phase ≡ Answering (step ∷ rest) id → worked s ≡ does s step rest id
 one_step s step rest id e = ap (λ phase. works_in s phase) e
 
-pub bytes_are : {E : Type 0} (s : ServerState E) (steps : List Step) (id : ℕ) → IsEnded steps → s.phase ≡ Answering steps id → bytes_of_works (length steps) s ≡ packets_from id steps
+pub bytes_are : {E : Type 0} (s : ServerState E) (steps : List Step) (id : ℕ) → EndsOnce steps → s.phase ≡ Answering steps id → bytes_of_works (length steps) s ≡ packets_from id steps
 bytes_are s [] id h e = absurd h
 bytes_are s (x ∷ []) id h e = ap (λ w. w.packet ++ []) (one_step s x [] id e)
 bytes_are s (x ∷ y ∷ ys) id h e =
@@ -17,7 +17,7 @@ bytes_are s (x ∷ y ∷ ys) id h e =
     (ap (λ rest. answer_packet id x.last x.tokens ++ rest)
     (bytes_are (does s x (y ∷ ys) id).state (y ∷ ys) (next_id id) h.1 (ap (λ last. phase_behind last (y ∷ ys) id) h.0)))
 
-pub server_is : {E : Type 0} (s : ServerState E) (steps : List Step) (id : ℕ) → IsEnded steps → s.phase ≡ Answering steps id →
+pub server_is : {E : Type 0} (s : ServerState E) (steps : List Step) (id : ℕ) → EndsOnce steps → s.phase ≡ Answering steps id →
     after_works (length steps) s ≡ record s { session = session_after s.session steps; phase = Waiting }
 server_is s [] id h e = absurd h
 server_is s (x ∷ []) id h e =

@@ -1,9 +1,9 @@
 -- The packets that a server sends: each holds whole tokens (MS-TDS 2.2.3.1, 2.2.7).
-use Rattle.std.specs.Prelude.{ℕ, ◌+◌, ◌%◌, ◌≤◌, List, [], ◌∷◌, ◌++◌, length, Bool, true, if◌then◌else◌}
+use Rattle.std.specs.Prelude.{◌≡◌, ℕ, ◌+◌, ◌%◌, ◌≤◌, List, [], ◌∷◌, ◌++◌, length, Bool, true, if◌then◌else◌}
 use Rattle.std.specs.List.{All, flat_map}
-use Rattle.tds_packet.specs.declared.header.Header.{Header}
 use Rattle.tds_packet.specs.declared.kind.Kind.TheVariants as kind
-use Rattle.tds_packet.specs.Layout.{header_bytes, status_of}
+use Rattle.tds_packet.specs.Sent.{end_bit, sent_bytes}
+use Rattle.tds_token.specs.DoneStatus as done_status
 use Rattle.tds_token.specs.declared.token.Token.{Token}
 use Rattle.tds_token.specs.declared.token.Token.TheVariants as token
 use Rattle.tds_token.specs.Layout.{Fits, spelling}
@@ -18,22 +18,17 @@ pub record LeavesRoom (t : Token) : Type 0 where
   pub fits : Fits t
   pub short : length (spelling t) ≤ 491
 
+-- What stands in front of such a DONE is one token that leaves it room.
+abbrev pub AreShort : List Token → Type 0
+AreShort tokens = (t : Token) × (tokens ≡ t ∷ []) × LeavesRoom t
+
 -- the DONE that ends an answer: status 0, or `0002` after an ERROR (MS-TDS 2.2.7.6)
 abbrev pub final : Bool → Token
-final failed = token.Done (if failed then 2 else 0) 0 0
-
--- end of message, or nothing
-abbrev pub end_bit : Bool → ℕ
-end_bit last = if last then 1 else 0
-
--- SPID and window are 0
-abbrev pub answer_header : ℕ → Bool → ℕ → Header
-answer_header id last count = record { kind = kind.Answer; status = status_of (end_bit last); length = 8 + count; spid = 0; packet_id = id; window = 0 }
+final failed = token.Done (if failed then done_status.error else 0) 0 0
 
 -- the packet of these tokens, with this PacketID; end of message is set on the last one alone
 abbrev pub answer_packet : ℕ → Bool → List Token → List ℕ
-answer_packet id last tokens =
-    header_bytes (answer_header id last (length (flat_map spelling tokens))) ++ flat_map spelling tokens
+answer_packet id last tokens = sent_bytes kind.Answer (end_bit last) id (flat_map spelling tokens)
 
 -- packets are counted modulo 256 (MS-TDS 2.2.3.1.5)
 abbrev pub next_id : ℕ → ℕ
@@ -41,4 +36,4 @@ next_id id = (id + 1) % 256
 
 -- what acknowledges an attention: one DONE with bit `0020` (MS-TDS 2.2.7.6), which ends its message
 abbrev pub acknowledgement : ℕ → List ℕ
-acknowledgement id = answer_packet id true (token.Done 32 0 0 ∷ [])
+acknowledgement id = answer_packet id true (token.Done done_status.attention 0 0 ∷ [])

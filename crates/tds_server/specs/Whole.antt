@@ -25,9 +25,3 @@ packets_from id (step ∷ steps) = answer_packet id step.last step.tokens ++ pac
 abbrev pub session_after : SessionState → List Step → SessionState
 session_after session [] = session
 session_after session (step ∷ steps) = session_after step.after steps
-
--- of these steps the last one, and no other, ends the message
-abbrev pub IsEnded : List Step → Type 0
-IsEnded [] = ⊥
-IsEnded (step ∷ []) = step.last ≡ true
-IsEnded (step ∷ next ∷ steps) = (step.last ≡ false) × IsEnded (next ∷ steps)

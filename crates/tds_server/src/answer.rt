@@ -1,10 +1,10 @@
 //! What is left of an answer, and how its next step is done.
-ghost use Rattle.std.specs.Prelude.{◌≡◌, ℕ, ◌∷◌, ◌+◌, [], drop, IfOk, OnOk, IfNone, IfSome, None, Some};
+ghost use Rattle.std.specs.Prelude.{◌≡◌, ℕ, ◌∷◌, ◌+◌, ◌++◌, [], drop, IfOk, OnOk, IfNone, IfSome, None, Some};
 ghost use Rattle.std.specs.List.{list_any};
 ghost use Rattle.tds_server.specs.declared.answer.Answer.{Answer};
 ghost use Rattle.tds_server.specs.declared.answer.Due.TheVariants as due;
 ghost use Rattle.tds_server.specs.Due.{IsNext, compared, refused, statements_in, steps_of, reset_in, first_of};
-ghost use Rattle.tds_server.specs.Packets.{FitsOnePacket, LeavesRoom, final};
+ghost use Rattle.tds_server.specs.Packets.{AreShort, FitsOnePacket, final};
 ghost use Rattle.tds_session.specs.Answer.{answer_of, answer_to, batch_steps};
 ghost use Rattle.tds_session.specs.Effects.{Effect, is_error};
 ghost use Rattle.tds_session.specs.Session.{SessionState, after_reset};
@@ -18,6 +18,7 @@ use tds_request::Request;
 use tds_session::{
     Engine, Session, begin_transaction, commit_transaction, error_token, roll_back_transaction,
 };
+use tds_token::done_status::ERROR;
 use tds_token::{EnvChange, Token};
 
 /// What a request asks for, its statements parsed.
@@ -71,7 +72,8 @@ fn task_of<E: Engine>(
 ) -> Result<Task<E::Stmt>, NoMemory>
     ensures { IfOk result (λ t. (session : SessionState) (descriptor : ℕ)
         → compared (E.step_of engine.now) session descriptor t
-        ≡ answer_to (E.statements_of engine.now) (E.step_of engine.now) session descriptor request.now) }
+        ≡ answer_to (E.statements_of engine.now)
+        (E.step_of engine.now) session descriptor request.now) }
 {
     match request {
         Request::Batch(text) => {
@@ -104,7 +106,8 @@ pub(crate) fn begin_answer<E: Engine>(
 ) -> Result<Answer<E::Stmt>, NoMemory>
     ensures steps { IfOk result (λ a. (session : SessionState)
         → steps_of (E.step_of engine.now) session a
-        ≡ answer_of (E.statements_of engine.now) (E.step_of engine.now) session descriptor reset request.now) }
+        ≡ answer_of (E.statements_of engine.now)
+        (E.step_of engine.now) session descriptor reset request.now) }
     ensures first { IfOk result (λ a. a.packet_id ≡ 1) }
 {
     let task = task_of(alloc, engine, request)?;
@@ -120,7 +123,9 @@ impl<S: Drop> Task<S> {
     /// The statement at this place.
     fn statement(&self, place: usize) -> Option<&S>
         ensures none { IfNone result (drop place (statements_in self.now) ≡ []) }
-        ensures some { IfSome result (λ statement. drop place (statements_in self.now) ≡ statement.now ∷ drop (place + 1) (statements_in self.now)) }
+        ensures some { IfSome result
+            (λ statement. drop place (statements_in self.now)
+            ≡ statement.now ∷ drop (place + 1) (statements_in self.now)) }
     {
         match self {
             Task::Batch(Some(statements)) => statements.get(place),
@@ -139,7 +144,9 @@ pub(crate) fn do_step<E: Engine>(
     answer: &Answer<E::Stmt>,
     session: &mut Session,
 ) -> Result<Done, NoMemory>
-    ensures next { IfOk result (λ done. IsNext (E.step_of engine.now) (steps_of (E.step_of engine.now) session.old answer.now) answer.now
+    ensures next { IfOk result
+        (λ done. IsNext (E.step_of engine.now)
+        (steps_of (E.step_of engine.now) session.old answer.now) answer.now
         (reset_in answer.now.due) done.tokens.items session.new done.next) }
     ensures fits { IfOk result (λ done. FitsOnePacket done.tokens.items) }
 {
@@ -184,25 +191,38 @@ fn begin_task<E: Engine>(
     match &answer.task {
         Task::Batch(Some(_)) => run_statement(alloc, engine, answer, 0, session),
         Task::Batch(None) => end_batch(alloc, error_token(alloc, 50001, b"syntax")?),
-        Task::Begin => end_request(alloc, begin_transaction(alloc, session)?),
-        Task::Commit => end_request(alloc, commit_transaction(alloc, session)?),
-        Task::Rollback => end_request(alloc, roll_back_transaction(alloc, session)?),
+        Task::Begin => {
+            let mut tokens = Vec::new(alloc);
+            begin_transaction(alloc, session, &mut tokens)?;
+            end_request(tokens)
+        }
+        Task::Commit => {
+            let mut tokens = Vec::new(alloc);
+            commit_transaction(alloc, session, &mut tokens)?;
+            end_request(tokens)
+        }
+        Task::Rollback => {
+            let mut tokens = Vec::new(alloc);
+            roll_back_transaction(alloc, session, &mut tokens)?;
+            end_request(tokens)
+        }
     }
 }
 
 /// Refuses a task, since the request's descriptor is not the session's.
-#[tactic(auto, using(crate::proofs::Short::short_descriptor))]
+#[tactic(auto, using(crate::proofs::Short::refused_short))]
 fn refuse<S: Drop>(alloc: Global, task: &Task<S>) -> Result<Done, NoMemory>
-    ensures next { IfOk result (λ done. (step : SessionState → S → Effect) (session : SessionState) (a : Answer S)
+    ensures next { IfOk result
+        (λ done. (step : SessionState → S → Effect) (session : SessionState) (a : Answer S)
         → IsNext step (refused session task.now) a None done.tokens.items session done.next) }
     ensures fits { IfOk result (λ done. FitsOnePacket done.tokens.items) }
 {
     let error = error_token(alloc, 50010, b"descriptor")?;
     match task {
         Task::Batch(_) => end_batch(alloc, error),
-        Task::Begin => end_request(alloc, error),
-        Task::Commit => end_request(alloc, error),
-        Task::Rollback => end_request(alloc, error),
+        Task::Begin => end_request(vec![in alloc; error]?),
+        Task::Commit => end_request(vec![in alloc; error]?),
+        Task::Rollback => end_request(vec![in alloc; error]?),
     }
 }
 
@@ -219,14 +239,16 @@ fn end_batch(alloc: Global, error: Token) -> Result<Done, NoMemory>
 }
 
 /// The one step of a transaction manager request: what it gave, and the final DONE.
-fn end_request(alloc: Global, given: Token) -> Result<Done, NoMemory>
-    requires { LeavesRoom given }
-    ensures tokens { IfOk result (λ done. done.tokens.items ≡ given ∷ final (list_any is_error (given ∷ [])) ∷ []) }
+fn end_request(given: Vec<Token>) -> Result<Done, NoMemory>
+    requires { AreShort given.items }
+    ensures tokens { IfOk result (λ done. done.tokens.items
+        ≡ given.items ++ final (list_any is_error given.items) ∷ []) }
     ensures next { IfOk result (λ done. done.next ≡ None) }
     ensures fits { IfOk result (λ done. FitsOnePacket done.tokens.items) }
 {
-    let failed = is_error(&given);
-    let tokens = vec![in alloc; given, final_token(failed)]?;
+    let failed = has_error(given.as_slice());
+    let mut tokens = given;
+    tokens.push(final_token(failed))?;
     Ok(Done { tokens, next: None })
 }
 
@@ -286,7 +308,7 @@ fn final_token(failed: bool) -> Token
     ensures { result ≡ final failed }
 {
     Token::Done {
-        status: if failed { 0x0002 } else { 0x0000 },
+        status: if failed { ERROR } else { 0x0000 },
         cur_cmd: 0,
         rows: 0,
     }

@@ -12,8 +12,8 @@ ghost use Rattle.tds_server.specs.declared.outcome.ServerTook.TheVariants.{Ackno
 ghost use Rattle.tds_server.specs.Packets.{acknowledgement};
 ghost use Rattle.tds_server.specs.State.{Message, Phase, Waiting, Answering, Broken, ServerState};
 ghost use Rattle.tds_server.specs.Taking.{moved, part_taken, message_before, goes_on, fault_in, acknowledging_id};
-ghost use Rattle.tds_server.specs.Whole.{IsEnded, after_works, bytes_of_works, packets_from, session_after};
-ghost use Rattle.tds_session.specs.Answer.{Answers, Step, answer_of};
+ghost use Rattle.tds_server.specs.Whole.{after_works, bytes_of_works, packets_from, session_after};
+ghost use Rattle.tds_session.specs.Answer.{Answers, Step, answer_of, EndsOnce};
 ghost use Rattle.tds_session.specs.Session.{SessionState};
 
 use tds_session::Engine;
@@ -24,7 +24,12 @@ pub fn attention_is_acknowledged()
     ensures { (answers : Answers) (session : SessionState) (phase : Phase) (header : Header)
         → fault_in phase ≡ None → header.kind ≡ Attention → bits_of header.status ≡ 1
         → moved answers session phase header []
-        ≡ Ok (record { phase = Waiting; took = Acknowledged; reply = acknowledgement (acknowledging_id phase) }) }
+        ≡ Ok (record {
+          phase = Waiting;
+          took = Acknowledged;
+          reply = acknowledgement
+              (acknowledging_id phase);
+        }) }
 {}
 
 /// A broken server answers its fault to every packet.
@@ -37,22 +42,27 @@ pub fn a_fault_stays()
 #[tactic(auto, unfolding(crate::specs::Taking::continued, crate::specs::Taking::ignored))]
 pub fn an_ignored_message_is_dropped()
     ensures { (answers : Answers) (session : SessionState) (phase : Phase) (kind : RequestKind) (status : ℕ) (content : List ℕ) (m : Message)
-        → message_before phase kind status ≡ Ok m → has_bit status 1 ≡ true → has_bit status 2 ≡ true
+        → message_before phase kind status ≡ Ok m → has_bit status 1 ≡ true
+        → has_bit status 2 ≡ true
         → part_taken answers session phase kind status content ≡ Ok (goes_on Waiting Dropped) }
 {}
 
 /// Whatever the engine, the last step of an answer ends its message, and no other one does.
 pub fn the_last_step_ends_an_answer<E: Engine>()
     ensures { (engine : E) (session : SessionState) (descriptor : ℕ) (reset : Option Reset) (request : Request)
-        → IsEnded (answer_of (E.statements_of engine) (E.step_of engine) session descriptor reset request) }
+        → EndsOnce (answer_of (E.statements_of engine)
+        (E.step_of engine) session descriptor reset request) }
 {}
 
 /// Called once for each step of an answer, `work` appends the packets of the steps in their order,
 /// with PacketIDs that count from the first one. Then nothing is being answered, and the session is
 /// the one after the last step.
 pub fn an_answer_is_worked_off<E: Engine>()
-    ensures bytes { (s : ServerState E) (steps : List Step) (id : ℕ) → IsEnded steps → s.phase ≡ Answering steps id
+    ensures bytes { (s : ServerState E) (steps : List Step) (id : ℕ) → EndsOnce steps
+        → s.phase ≡ Answering steps id
         → bytes_of_works (length steps) s ≡ packets_from id steps }
-    ensures server { (s : ServerState E) (steps : List Step) (id : ℕ) → IsEnded steps → s.phase ≡ Answering steps id
-        → after_works (length steps) s ≡ record s { session = session_after s.session steps; phase = Waiting } }
+    ensures server { (s : ServerState E) (steps : List Step) (id : ℕ) → EndsOnce steps
+        → s.phase ≡ Answering steps id
+        → after_works (length steps) s
+        ≡ record s { session = session_after s.session steps; phase = Waiting } }
 {}

@@ -1,41 +1,25 @@
 //! A request's message: the checks of its packets, and the request that it spells.
 ghost use Rattle.std.specs.Prelude.{◌≡◌, ◌≢◌, Ok, Err, IfOk, IfErr, true};
-ghost use Rattle.tds_packet.specs.Layout.{bits_of, has_bit};
 ghost use Rattle.tds_request.specs.declared.fault.RequestFault.TheVariants.{Memory};
 ghost use Rattle.tds_request.specs.Reading.{read_request};
 ghost use Rattle.tds_server.specs.declared.fault.ServerFault.TheVariants.{WrongRequest};
 ghost use Rattle.tds_server.specs.declared.outcome.ServerTook.TheVariants as took;
 ghost use Rattle.tds_server.specs.Due.{steps_of};
 ghost use Rattle.tds_server.specs.State.{Answering};
-ghost use Rattle.tds_server.specs.Taking.{is_same_kind, has_both_resets, answered, goes_on};
+ghost use Rattle.tds_server.specs.Taking.{is_same_kind, answered, goes_on};
 ghost use Rattle.tds_session.specs.Answer.{answer_of};
 ghost use Rattle.tds_session.specs.Session.{SessionState};
 
 use crate::answer::{Answer, begin_answer};
 use crate::fault::ServerFault;
 use crate::outcome::ServerTook;
-use bitflags::Flags;
 use std::alloc::Global;
-use tds_packet::{Reset, Status};
+use tds_packet::Reset;
 use tds_request::{RequestFault, RequestKind, decode};
 use tds_session::Engine;
 
 /// The most data that a message may have: 22 bytes of ALL_HEADERS and a text of 2,000 units.
 pub(crate) const MESSAGE_LIMIT: usize = 4022;
-
-/// Whether the message is to be ignored (MS-TDS 2.2.3.1.2).
-pub(crate) fn is_ignored(status: Status) -> bool
-    ensures { result ≡ has_bit (bits_of status) 2 }
-{
-    status.contains(Status::IGNORE)
-}
-
-/// Whether both resets are asked for (MS-TDS 2.2.3.1.2).
-pub(crate) fn asks_for_both_resets(status: Status) -> bool
-    ensures { result ≡ has_both_resets (bits_of status) }
-{
-    status.contains(Status::RESET) && status.contains(Status::RESET_KEEP_TRANSACTION)
-}
 
 /// Whether two messages have packets of one type.
 pub(crate) fn is_same_kind(one: RequestKind, other: RequestKind) -> bool
@@ -59,9 +43,12 @@ pub(crate) fn read_answer<E: Engine>(
     bytes: &[u8],
 ) -> Result<Answer<E::Stmt>, RequestFault>
     ensures answer { IfOk result (λ a. (session : SessionState)
-        → answered (answer_of (E.statements_of engine.now) (E.step_of engine.now)) session reset (read_request kind bytes.now)
-        ≡ Ok (goes_on (Answering (steps_of (E.step_of engine.now) session a) a.packet_id) took.Request)) }
-    ensures fault { IfErr result (λ fault. fault ≢ Memory → read_request kind bytes.now ≡ Err fault) }
+        → answered (answer_of (E.statements_of engine.now) (E.step_of engine.now)) session reset
+        (read_request kind bytes.now)
+        ≡ Ok (goes_on (Answering (steps_of
+        (E.step_of engine.now) session a) a.packet_id) took.Request)) }
+    ensures fault { IfErr result
+        (λ fault. fault ≢ Memory → read_request kind bytes.now ≡ Err fault) }
 {
     let (descriptor, request) = decode(alloc, kind, bytes)?;
     let answer = begin_answer(alloc, engine, descriptor, reset, &request)?;

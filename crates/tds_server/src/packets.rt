@@ -1,26 +1,14 @@
 //! The packets that a server sends.
 ghost use Rattle.std.specs.Prelude.{◌≡◌, ◌≤◌, ◌++◌, length, OnOk, OnErr, IfOk};
 ghost use Rattle.std.specs.List.{All, flat_map};
-ghost use Rattle.tds_packet.specs.Layout.{status_of};
-ghost use Rattle.tds_server.specs.Packets.{answer_packet, acknowledgement, end_bit, FitsOnePacket};
+ghost use Rattle.tds_server.specs.Packets.{answer_packet, acknowledgement, FitsOnePacket};
 ghost use Rattle.tds_token.specs.Layout.{Fits, spelling};
 
 use crate::NoMemory;
 use std::alloc::Global;
-use tds_packet::{Direction, Header, Kind, Status, put_packet};
+use tds_packet::{Kind, Status, put_sent};
+use tds_token::done_status::ATTENTION;
 use tds_token::{Token, put_token};
-
-/// Of the packet that ends a message, or of another one.
-#[tactic(auto, unfolding(tds_packet::specs::Layout::is_status))]
-fn status(last: bool) -> Status
-    ensures { result ≡ status_of (end_bit last) }
-{
-    let byte = if last { 0x01 } else { 0x00 };
-    match Status::read(byte, Direction::ToClient) {
-        Some(status) => status,
-        None => unreachable!(),
-    }
-}
 
 /// The bytes of these tokens, one behind another.
 fn spell(alloc: Global, tokens: &[Token]) -> Result<Vec<u8>, NoMemory>
@@ -44,20 +32,19 @@ pub(crate) fn put_answer(
     tokens: &[Token],
 ) -> Result<(), NoMemory>
     requires { FitsOnePacket tokens.now }
-    ensures ok { OnOk result (out.new.items ≡ out.old.items ++ answer_packet packet_id last tokens.now) }
+    ensures ok { OnOk result (out.new.items
+        ≡ out.old.items ++ answer_packet packet_id last tokens.now) }
     ensures short { length (answer_packet packet_id last tokens.now) ≤ 512 }
     ensures err { OnErr result (out.new.items ≡ out.old.items) }
 {
     let bytes = spell(alloc, tokens)?;
-    let header = Header {
-        kind: Kind::Answer,
-        status: status(last),
-        length: (8 + bytes.len()) as u16,
-        spid: 0,
+    put_sent(
+        out,
+        Kind::Answer,
+        Status::of_answer(last),
         packet_id,
-        window: 0,
-    };
-    put_packet(out, header, bytes.as_slice())
+        bytes.as_slice(),
+    )
 }
 
 /// Appends what acknowledges an attention. At want of memory nothing is appended.
@@ -70,7 +57,7 @@ pub(crate) fn put_acknowledgement(
     ensures err { OnErr result (out.new.items ≡ out.old.items) }
 {
     let done = [Token::Done {
-        status: 0x0020,
+        status: ATTENTION,
         cur_cmd: 0,
         rows: 0,
     }];

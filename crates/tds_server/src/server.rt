@@ -11,11 +11,10 @@ ghost use Rattle.tds_session.specs.Answer.{answer_of};
 
 use crate::answer::do_step;
 use crate::fault::ServerFault;
-use crate::message::{MESSAGE_LIMIT, is_ignored, read_answer, refusal};
+use crate::message::{MESSAGE_LIMIT, read_answer, refusal};
 use crate::outcome::{ServerTook, Worked};
 use crate::packets::{put_acknowledgement, put_answer};
 use crate::state::State;
-use bitflags::Flags;
 use std::alloc::{AllocError, Global};
 use std::marker::Model;
 use tds_packet::{Kind, PacketRef, PacketSize, Status};
@@ -44,7 +43,12 @@ impl<E: Engine + Drop> Model for Server<E> {
 
     ghost use Rattle.tds_server.specs.Due.{phase_of};
 
-    ghost view = { λ a. record { engine = a.engine; session = a.session; phase = phase_of (E.step_of a.engine) a.session a.state a.data.items } };
+    ghost view = { λ a. record {
+      engine = a.engine;
+      session = a.session;
+      phase = phase_of
+          (E.step_of a.engine) a.session a.state a.data.items;
+    } };
 }
 
 impl<E: Engine + Drop> Server<E> {
@@ -97,13 +101,23 @@ impl<E: Engine + Drop> Server<E> {
         requires { direction_of packet.header.kind ≡ ToServer }
         ensures engine { self.new.engine ≡ self.old.engine }
         ensures session { self.new.session ≡ self.old.session }
-        ensures state { result ≢ Ok NoMemory → self.new ≡ (taken (answer_of (E.statements_of self.old.engine) (E.step_of self.old.engine)) self.old packet.entry.header packet.entry.data.now).state }
-        ensures answer { result ≢ Ok NoMemory → result ≡ (taken (answer_of (E.statements_of self.old.engine) (E.step_of self.old.engine)) self.old packet.entry.header packet.entry.data.now).answer }
-        ensures reply { result ≢ Ok NoMemory → reply.new.items ≡ reply.old.items ++ (taken (answer_of (E.statements_of self.old.engine) (E.step_of self.old.engine)) self.old packet.entry.header packet.entry.data.now).reply }
+        ensures state { result ≢ Ok NoMemory
+            → self.new ≡ (taken (answer_of (E.statements_of self.old.engine)
+            (E.step_of self.old.engine)) self.old packet.entry.header packet.entry.data.now).state }
+        ensures answer { result ≢ Ok NoMemory
+            → result ≡ (taken (answer_of (E.statements_of self.old.engine)
+            (E.step_of self.old.engine)) self.old packet.entry.header packet.entry.data.now).answer }
+        ensures reply { result ≢ Ok NoMemory
+            → reply.new.items ≡ reply.old.items
+            ++ (taken (answer_of (E.statements_of self.old.engine)
+            (E.step_of self.old.engine)) self.old packet.entry.header packet.entry.data.now).reply }
         // At want of memory nothing changes. It comes only where a growth is needed, so not in place of
         // a fault, but for one that a message has once all its data have been joined.
-        ensures memory { result ≡ Ok NoMemory → (self.new ≡ self.old) × (reply.new.items ≡ reply.old.items) }
-        ensures wanted { result ≡ Ok NoMemory → TakesMemory (moved (answer_of (E.statements_of self.old.engine) (E.step_of self.old.engine)) self.old.session self.old.phase packet.entry.header packet.entry.data.now) }
+        ensures memory { result ≡ Ok NoMemory
+            → (self.new ≡ self.old) × (reply.new.items ≡ reply.old.items) }
+        ensures wanted { result ≡ Ok NoMemory
+            → TakesMemory (moved (answer_of (E.statements_of self.old.engine)
+            (E.step_of self.old.engine)) self.old.session self.old.phase packet.entry.header packet.entry.data.now) }
     {
         match self.take_unbroken(packet, reply) {
             Ok(took) => Ok(took),
@@ -124,11 +138,17 @@ impl<E: Engine + Drop> Server<E> {
         ensures engine { self.new.engine ≡ self.old.engine }
         ensures session { self.new.session ≡ self.old.session }
         ensures moved { IfOk result (λ took. took ≢ NoMemory
-            → Moves (moved (answer_of (E.statements_of self.old.engine) (E.step_of self.old.engine)) self.old.session self.old.phase packet.entry.header packet.entry.data.now)
+            → Moves (moved (answer_of (E.statements_of self.old.engine)
+            (E.step_of self.old.engine)) self.old.session self.old.phase packet.entry.header packet.entry.data.now)
             took self.new.phase reply.old.items reply.new.items) }
-        ensures memory { result ≡ Ok NoMemory → (self.new ≡ self.old) × (reply.new.items ≡ reply.old.items) }
-        ensures wanted { result ≡ Ok NoMemory → TakesMemory (moved (answer_of (E.statements_of self.old.engine) (E.step_of self.old.engine)) self.old.session self.old.phase packet.entry.header packet.entry.data.now) }
-        ensures fault { IfErr result (λ fault. moved (answer_of (E.statements_of self.old.engine) (E.step_of self.old.engine)) self.old.session self.old.phase packet.entry.header packet.entry.data.now ≡ Err fault) }
+        ensures memory { result ≡ Ok NoMemory
+            → (self.new ≡ self.old) × (reply.new.items ≡ reply.old.items) }
+        ensures wanted { result ≡ Ok NoMemory
+            → TakesMemory (moved (answer_of (E.statements_of self.old.engine)
+            (E.step_of self.old.engine)) self.old.session self.old.phase packet.entry.header packet.entry.data.now) }
+        ensures fault { IfErr result
+            (λ fault. moved (answer_of (E.statements_of self.old.engine)
+            (E.step_of self.old.engine)) self.old.session self.old.phase packet.entry.header packet.entry.data.now ≡ Err fault) }
         ensures quiet { OnErr result (reply.new.items ≡ reply.old.items) }
     {
         if let Some(fault) = self.state.fault() {
@@ -153,13 +173,24 @@ impl<E: Engine + Drop> Server<E> {
     ) -> Result<ServerTook, ServerFault>
         ensures engine { self.new.engine ≡ self.old.engine }
         ensures session { self.new.session ≡ self.old.session }
-        ensures moved { IfOk result (λ took. took ≢ NoMemory → part_taken (answer_of (E.statements_of self.old.engine) (E.step_of self.old.engine)) self.old.session self.old.phase kind (bits_of status) «data».now ≡ Ok (goes_on self.new.phase took)) }
+        ensures moved { IfOk result
+            (λ took. took ≢ NoMemory → part_taken
+            (answer_of (E.statements_of self.old.engine)
+            (E.step_of self.old.engine)) self.old.session self.old.phase kind
+            (bits_of status) «data».now ≡ Ok (goes_on self.new.phase took)) }
         ensures memory { result ≡ Ok NoMemory → self.new ≡ self.old }
-        ensures wanted { result ≡ Ok NoMemory → TakesMemory (part_taken (answer_of (E.statements_of self.old.engine) (E.step_of self.old.engine)) self.old.session self.old.phase kind (bits_of status) «data».now) }
-        ensures fault { IfErr result (λ fault. part_taken (answer_of (E.statements_of self.old.engine) (E.step_of self.old.engine)) self.old.session self.old.phase kind (bits_of status) «data».now ≡ Err fault) }
+        ensures wanted { result ≡ Ok NoMemory
+            → TakesMemory (part_taken
+            (answer_of (E.statements_of self.old.engine)
+            (E.step_of self.old.engine)) self.old.session self.old.phase kind
+            (bits_of status) «data».now) }
+        ensures fault { IfErr result
+            (λ fault. part_taken (answer_of (E.statements_of self.old.engine)
+            (E.step_of self.old.engine)) self.old.session self.old.phase kind
+            (bits_of status) «data».now ≡ Err fault) }
     {
         let reset = self.state.reset_of_message(kind, status)?;
-        if is_ignored(status) {
+        if status.is_ignored() {
             if !status.ends() {
                 return Err(ServerFault::IgnoredPart);
             }
@@ -200,14 +231,26 @@ impl<E: Engine + Drop> Server<E> {
     ) -> Result<ServerTook, ServerFault>
         ensures engine { self.new.engine ≡ self.old.engine }
         ensures session { self.new.session ≡ self.old.session }
-        ensures moved { IfOk result (λ took. took ≢ NoMemory → attended self.old.phase (bits_of status) «data».now ≡ Ok (record { phase = self.new.phase; took = took; reply = acknowledgement (acknowledging_id self.old.phase) })) }
-        ensures reply { IfOk result (λ took. took ≢ NoMemory → reply.new.items ≡ reply.old.items ++ acknowledgement (acknowledging_id self.old.phase)) }
-        ensures memory { result ≡ Ok NoMemory → (self.new ≡ self.old) × (reply.new.items ≡ reply.old.items) }
-        ensures wanted { result ≡ Ok NoMemory → TakesMemory (attended self.old.phase (bits_of status) «data».now) }
-        ensures fault { IfErr result (λ fault. attended self.old.phase (bits_of status) «data».now ≡ Err fault) }
+        ensures moved { IfOk result
+            (λ took. took ≢ NoMemory → attended self.old.phase (bits_of status) «data».now
+            ≡ Ok (record {
+              phase = self.new.phase;
+              took = took;
+              reply = acknowledgement
+                  (acknowledging_id self.old.phase);
+            })) }
+        ensures reply { IfOk result
+            (λ took. took ≢ NoMemory → reply.new.items
+            ≡ reply.old.items ++ acknowledgement (acknowledging_id self.old.phase)) }
+        ensures memory { result ≡ Ok NoMemory
+            → (self.new ≡ self.old) × (reply.new.items ≡ reply.old.items) }
+        ensures wanted { result ≡ Ok NoMemory
+            → TakesMemory (attended self.old.phase (bits_of status) «data».now) }
+        ensures fault { IfErr result
+            (λ fault. attended self.old.phase (bits_of status) «data».now ≡ Err fault) }
         ensures quiet { OnErr result (reply.new.items ≡ reply.old.items) }
     {
-        if status.bits() != 0x01 || !data.is_empty() {
+        if !status.ends_alone() || !data.is_empty() {
             return Err(ServerFault::WrongAttention);
         }
         let packet_id = self.state.acknowledging_id();

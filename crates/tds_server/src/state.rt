@@ -8,7 +8,7 @@ ghost use Rattle.tds_session.specs.Session.{SessionState};
 
 use crate::answer::Answer;
 use crate::fault::ServerFault;
-use crate::message::{asks_for_both_resets, is_same_kind};
+use crate::message::is_same_kind;
 use tds_packet::{Reset, Status};
 use tds_request::RequestKind;
 
@@ -51,12 +51,18 @@ impl<S: Drop> State<S> {
         ensures { (step : SessionState → S → Effect) (session : SessionState) (content : List ℕ)
             → MatchResult result
             (λ reset. message_before (phase_of step session self.now content) kind (bits_of status)
-            ≡ Ok (record { kind = kind; reset = reset; content = content_of (phase_of step session self.now content) }))
-            (λ fault. message_before (phase_of step session self.now content) kind (bits_of status) ≡ Err fault) }
+            ≡ Ok (record {
+              kind = kind;
+              reset = reset;
+              content = content_of
+                  (phase_of step session self.now content);
+            }))
+            (λ fault. message_before (phase_of step session self.now content) kind (bits_of status)
+            ≡ Err fault) }
     {
         match self {
             State::Waiting => {
-                if asks_for_both_resets(status) {
+                if status.asks_for_both_resets() {
                     return Err(ServerFault::BothResets);
                 }
                 Ok(status.reset())
@@ -75,8 +81,10 @@ impl<S: Drop> State<S> {
     /// How many bytes of a message have come, if the server holds so many bytes.
     pub(crate) fn received(&self, count: usize) -> usize
         ensures most { result ≤ count }
-        ensures content { (step : SessionState → S → Effect) (session : SessionState) (content : List ℕ)
-            → length content ≡ count → take result content ≡ content_of (phase_of step session self.now content) }
+        ensures content { (step : SessionState → S → Effect) (session : SessionState)
+            (content : List ℕ)
+            → length content ≡ count → take result content
+            ≡ content_of (phase_of step session self.now content) }
     {
         match self {
             State::Receiving { .. } => count,

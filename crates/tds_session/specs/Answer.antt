@@ -1,5 +1,5 @@
 -- Answers: the steps by which a server answers a request, one packet each.
-use Rattle.std.specs.Prelude.{ℕ, List, [], ◌∷◌, ◌++◌, Bool, true, false, if◌then◌else◌, ◌==◌, Option, Some, None, codes}
+use Rattle.std.specs.Prelude.{◌≡◌, ℕ, List, [], ◌∷◌, ◌++◌, Bool, true, false, if◌then◌else◌, ◌==◌, Option, Some, None, codes}
 use Rattle.tds_session.specs.Session.{SessionState, after_reset}
 use Rattle.tds_session.specs.Effects.{Effect, has_error, fails, done, begins, ends}
 use Rattle.tds_session.specs.Language as language
@@ -84,3 +84,9 @@ Answers = SessionState → ℕ → Option Reset → Request → List Step
 -- how a server with the batch language answers
 abbrev pub script_answers : Answers
 script_answers = answer_of language.statements_of script.step_of
+
+-- of these steps the last one, and no other, ends the message
+abbrev pub EndsOnce : List Step → Type 0
+EndsOnce [] = ⊥
+EndsOnce (step ∷ []) = step.last ≡ true
+EndsOnce (step ∷ next ∷ steps) = (step.last ≡ false) × EndsOnce (next ∷ steps)

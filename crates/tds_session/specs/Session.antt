@@ -69,10 +69,3 @@ after_reset KeepTransaction s = record s { settings = no_settings }
 -- nothing of an earlier user is left
 abbrev pub IsFresh : SessionState → Type 0
 IsFresh s = (s.settings ≡ no_settings) × (s.descriptor ≡ 0)
-
--- of two marks the stronger one: a full reset, then one that keeps the transaction, then none
-abbrev pub strongest : Option Reset → Option Reset → Option Reset
-strongest None m = m
-strongest (Some Full) m = Some Full
-strongest (Some KeepTransaction) None = Some KeepTransaction
-strongest (Some KeepTransaction) (Some m) = Some m

@@ -30,7 +30,8 @@ pub trait Engine {
 
     /// The statements that this text spells, or None where it is not in the language.
     fn parse(&self, alloc: Global, text: &[u16]) -> Result<Option<Vec<Self::Stmt>>, NoMemory>
-        ensures { IfOk result (λ found. option_map (λ v. v.items) found ≡ statements_of self.now text.now) };
+        ensures { IfOk result (λ found. option_map (λ v. v.items) found
+            ≡ statements_of self.now text.now) };
 
     /// Runs a statement: appends its tokens, and leaves the session as it is after it. At want of
     /// memory both stay as they were.
@@ -41,17 +42,25 @@ pub trait Engine {
         statement: &Self::Stmt,
         tokens: &mut Vec<Token>,
     ) -> Result<(), NoMemory>
-        ensures tokens { OnOk result (tokens.new.items ≡ tokens.old.items ++ (step_of self.now session.old statement.now).tokens) }
-        ensures session { OnOk result (session.new ≡ (step_of self.now session.old statement.now).after) }
-        ensures refused { OnErr result ((tokens.new.items ≡ tokens.old.items) × (session.new ≡ session.old)) }
+        ensures tokens { OnOk result
+            (tokens.new.items ≡ tokens.old.items
+            ++ (step_of self.now session.old statement.now).tokens) }
+        ensures session { OnOk result
+            (session.new ≡ (step_of self.now session.old statement.now).after) }
+        ensures refused { OnErr result
+            ((tokens.new.items ≡ tokens.old.items) × (session.new ≡ session.old)) }
         ensures known { IsSession session.old × is_statement self.now statement.now };
 
     /// What a text spells are statements.
-    ghost spells: { (engine : Self) (text : List ℕ) (found : List Self.Stmt) → statements_of engine text ≡ Some found → All (is_statement engine) found };
+    ghost spells: { (engine : Self) (text : List ℕ) (found : List Self.Stmt)
+        → statements_of engine text ≡ Some found → All (is_statement engine) found };
 
     /// The changes are the session's, and no token ends the answer.
-    ghost is_effect: { (engine : Self) (session : SessionState) (statement : Self.Stmt) → IsEffect session (step_of engine session statement) };
+    ghost is_effect: { (engine : Self) (session : SessionState) (statement : Self.Stmt)
+        → IsEffect session (step_of engine session statement) };
 
     /// The tokens fit into a packet.
-    ghost fits_packet: { (engine : Self) (session : SessionState) (statement : Self.Stmt) → IsSession session → is_statement engine statement → FitsPacket (step_of engine session statement) };
+    ghost fits_packet: { (engine : Self) (session : SessionState) (statement : Self.Stmt)
+        → IsSession session → is_statement engine statement
+        → FitsPacket (step_of engine session statement) };
 }

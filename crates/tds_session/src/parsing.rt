@@ -40,7 +40,8 @@ fn parse_statement(alloc: Global, text: &[u16]) -> Result<Option<Statement>, NoM
 
 /// The pieces between the separators.
 fn cut(alloc: Global, text: &[u16], separator: u16) -> Result<Vec<&[u16]>, NoMemory>
-    ensures { IfOk result (λ found. map (λ piece. piece.now) found.items ≡ pieces separator text.now) }
+    ensures { IfOk result (λ found. map (λ piece. piece.now) found.items
+        ≡ pieces separator text.now) }
 {
     text.split(|unit| *unit == separator).collect(alloc)
 }

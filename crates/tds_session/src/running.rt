@@ -10,15 +10,10 @@ use crate::NoMemory;
 use crate::message::{error_token, message};
 use crate::session::Session;
 use crate::statement::{Statement, Word};
-use crate::transaction::{begin_transaction, commit_transaction, roll_back_transaction};
+use crate::transaction::{begin, commit, roll_back};
 use std::alloc::Global;
+use tds_token::done_status::{COUNT, MORE};
 use tds_token::{Column, ColumnList, Row, Text, Token};
-
-/// The status of a DONE after which more follows (MS-TDS 2.2.7.6).
-const MORE: u16 = 0x0001;
-
-/// The same of a DONE that counts rows.
-const MORE_AND_COUNT: u16 = 0x0011;
 
 /// Runs a statement: appends its tokens, and leaves the session as it is after it.
 pub(crate) fn run(
@@ -27,7 +22,8 @@ pub(crate) fn run(
     statement: &Statement,
     tokens: &mut Vec<Token>,
 ) -> Result<(), NoMemory>
-    ensures tokens { OnOk result (tokens.new.items ≡ tokens.old.items ++ (step_of session.old statement.now).tokens) }
+    ensures tokens { OnOk result
+        (tokens.new.items ≡ tokens.old.items ++ (step_of session.old statement.now).tokens) }
     ensures session { OnOk result (session.new ≡ (step_of session.old statement.now).after) }
     ensures limits { IsStatement statement.now }
 {
@@ -42,9 +38,9 @@ pub(crate) fn run(
         Statement::Get { key } => {
             put_with_done(Token::ReturnStatus(session.get(key.get() as u8)), tokens)
         }
-        Statement::Begin => put_with_done(begin_transaction(alloc, session)?, tokens),
-        Statement::Commit => put_with_done(commit_transaction(alloc, session)?, tokens),
-        Statement::Rollback => put_with_done(roll_back_transaction(alloc, session)?, tokens),
+        Statement::Begin => put_with_done(begin(alloc, session)?, tokens),
+        Statement::Commit => put_with_done(commit(alloc, session)?, tokens),
+        Statement::Rollback => put_with_done(roll_back(alloc, session)?, tokens),
         Statement::Fail { number } => {
             tokens.push(error_token(alloc, number.get(), b"fail")?)?;
             Ok(())
@@ -98,7 +94,7 @@ fn put_result_set(
 {
     tokens.push(Token::Columns(row_columns(alloc)?))?;
     put_rows(alloc, first, count, tokens)?;
-    tokens.push(done(MORE_AND_COUNT, u64::from(count)))?;
+    tokens.push(done(MORE | COUNT, u64::from(count)))?;
     Ok(())
 }
 

@@ -22,7 +22,8 @@ impl Model for Session {
 
     ghost view = { λ a. record { settings = a.settings; descriptor = a.descriptor; next_descriptor = a.next_descriptor } };
 
-    ghost invariant = { λ a. IsSession (record { settings = a.settings; descriptor = a.descriptor; next_descriptor = a.next_descriptor }) };
+    ghost invariant = { λ a. IsSession
+        (record { settings = a.settings; descriptor = a.descriptor; next_descriptor = a.next_descriptor }) };
 
     ghost inverse = { λ s. record { settings = s.settings; descriptor = s.descriptor; next_descriptor = s.next_descriptor } };
 }
@@ -87,7 +88,8 @@ impl Session {
     /// Begins a transaction and answers its descriptor. Inside a transaction, and where the
     /// descriptors are used up, it answers None and changes nothing.
     pub fn begin(&mut self) -> Option<u64>
-        ensures answer { result ≡ (if can_begin self.old then Some self.old.next_descriptor else None) }
+        ensures answer { result ≡
+            (if can_begin self.old then Some self.old.next_descriptor else None) }
         ensures after { self.new ≡ (if can_begin self.old then begun self.old else self.old) }
     {
         if self.descriptor != 0 || self.next_descriptor == u64::MAX {
@@ -101,7 +103,8 @@ impl Session {
     /// Ends the transaction and answers its descriptor. Outside one it answers None and changes
     /// nothing.
     pub fn end(&mut self) -> Option<u64>
-        ensures answer { result ≡ (if is_in_transaction self.old then Some self.old.descriptor else None) }
+        ensures answer { result ≡
+            (if is_in_transaction self.old then Some self.old.descriptor else None) }
         ensures after { self.new ≡ ended self.old }
     {
         if self.descriptor == 0 {

@@ -7,4 +7,5 @@ pub mod FieldCounts
 pub mod Utf16
 pub mod Batches
 pub mod Judged
+pub mod HexWords
 mod ScheduleExamples

@@ -2,6 +2,8 @@
 use Rattle.std.specs.Prelude.{ℕ}
 use Rattle.tds_text.specs.declared.rendering.fault.RenderFault.{RenderFault}
 use Rattle.tds_text.specs.declared.rendering.fault.RenderFault.TheVariants as render
+use Rattle.tds_text.specs.declared.hexadecimal.WordFault.{WordFault}
+use Rattle.tds_text.specs.declared.hexadecimal.WordFault.TheVariants as word
 use Rattle.tds_text.specs.declared.words.LineFault.{LineFault}
 use Rattle.tds_text.specs.declared.words.LineFault.TheVariants as line
 use Rattle.tds_text.specs.declared.schedule.fault.ScheduleFault.{ScheduleFault}
@@ -22,3 +24,8 @@ schedule_fault_number schedule.Memory = 3
 abbrev pub line_fault_number : LineFault → ℕ
 line_fault_number line.Usage = 1
 line_fault_number line.Memory = 2
+
+-- The number of a fault of `word_bytes`.
+abbrev pub word_fault_number : WordFault → ℕ
+word_fault_number word.NotHexadecimal = 1
+word_fault_number word.Memory = 2

@@ -9,3 +9,4 @@ pub mod Fields
 pub mod Events
 pub mod Schedule
 pub mod Files
+pub mod Words

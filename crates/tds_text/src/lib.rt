@@ -2,11 +2,13 @@
 //! command line that asks for it. Nothing here plays.
 #![tactic(auto)]
 
+mod hexadecimal;
 mod rendering;
 mod schedule;
 mod words;
 
-pub use rendering::{RenderFault, render, write_whole};
+pub use hexadecimal::{WordFault, word_bytes};
+pub use rendering::{RenderFault, put_token_line, put_units, render, write_whole};
 pub use schedule::{ScheduleFault, read_schedule, right_or_wrong_somewhere};
 pub use words::{Command, LineFault, read_words};
 

@@ -18,6 +18,8 @@ use line::{put_connection, put_event, put_request};
 use std::alloc::Global;
 use std::io::Write;
 use tds_world::{EventReport, Report, RequestReport, Snapshot};
+pub use text::put_units;
+pub use token::put_token_line;
 pub use written::write_whole;
 
 /// Writes the text of a report, line by line. After a fault a beginning of the text went out.

@@ -11,6 +11,10 @@ use std::alloc::{AllocError, Global};
 pub enum Command {
     /// To play the schedule in this file over memory.
     Play(String),
+    /// To show the packets that this word spells.
+    Show(String),
+    /// To check the vectors.
+    Vectors,
 }
 
 /// Why words name no command.
@@ -57,30 +61,42 @@ impl From<clap::Error> for LineFault {
 pub fn read_words(alloc: Global, words: &[String]) -> Result<Command, LineFault> {
     let commands = commands(alloc)?;
     let matches = commands.try_get_matches_from(words)?;
-    match file_named(&matches) {
-        None => Err(LineFault::Usage),
-        Some(file) => Ok(Command::Play(String::from_str(alloc, file)?)),
+    match matches.subcommand() {
+        Some(("play", used)) => Ok(Command::Play(word_of(alloc, used)?)),
+        Some(("show", used)) => Ok(Command::Show(word_of(alloc, used)?)),
+        Some(("vectors", _)) => Ok(Command::Vectors),
+        _ => Err(LineFault::Usage),
     }
 }
 
-/// The file of the command that was met.
-fn file_named<'a>(matches: &ArgMatches<'a>) -> Option<&'a str> {
-    match matches.subcommand() {
-        Some(("play", used)) => used.get_str("file"),
-        _ => None,
+/// The word of the command that was met.
+fn word_of(alloc: Global, used: &ArgMatches<'_>) -> Result<String, LineFault> {
+    match used.get_str("word") {
+        None => Err(LineFault::Usage),
+        Some(word) => Ok(String::from_str(alloc, word)?),
     }
 }
 
 /// The commands that there are. A call for help names none of them.
 fn commands<'a>(alloc: Global) -> Result<clap::Command<'a>, AllocError> {
-    let file = Arg::new(alloc, "file")
-        .required(true)
-        .action(ArgAction::Set);
-    let play = clap::Command::new(alloc, "play").arg(file)?;
+    let play = clap::Command::new(alloc, "play").arg(one_word(alloc))?;
+    // Whether the word is one of digits is for `show` to say, also where it begins with a dash.
+    let digits = one_word(alloc).allow_hyphen_values(true);
+    let show = clap::Command::new(alloc, "show").arg(digits)?;
+    let vectors = clap::Command::new(alloc, "vectors");
     clap::Command::new(alloc, "tdsplay")
         .no_binary_name(true)
         .disable_help_flag(true)
         .disable_help_subcommand(true)
         .subcommand_required(true)
-        .subcommand(play)
+        .subcommand(play)?
+        .subcommand(show)?
+        .subcommand(vectors)
+}
+
+/// The one word behind a command's name.
+fn one_word<'a>(alloc: Global) -> Arg<'a> {
+    Arg::new(alloc, "word")
+        .required(true)
+        .action(ArgAction::Set)
 }

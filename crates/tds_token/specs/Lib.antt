@@ -7,3 +7,4 @@ pub mod Cursor
 pub mod Contents
 pub mod Told
 pub mod Vectors
+pub mod DoneStatus

@@ -9,7 +9,8 @@ ghost use Rattle.tds_token.specs.Texts.{AreColumns, IsBytes};
 /// No spelling begins another for the same columns, so what was written is read again, whatever
 /// follows it.
 pub fn one_spelling()
-    ensures { (columns : Option ℕ) (first second : Token) (a b x y : List ℕ) (after other : Option ℕ) → IsToken columns first a after → IsToken columns second b other
+    ensures { (columns : Option ℕ) (first second : Token) (a b x y : List ℕ)
+        (after other : Option ℕ) → IsToken columns first a after → IsToken columns second b other
         → a ++ x ≡ b ++ y → (a ≡ b) × (first ≡ second) × (x ≡ y) }
 {}
 
@@ -18,17 +19,21 @@ pub fn one_spelling()
 pub fn contents_are_spelled()
     ensures found { (columns : Option ℕ) (bytes : List ℕ) → AreColumns columns → IsBytes bytes
         → AreContents columns bytes (contents_of columns bytes) }
-    ensures only { (columns : Option ℕ) (bytes : List ℕ) (all : Contents) → AreColumns columns → IsBytes bytes
+    ensures only { (columns : Option ℕ) (bytes : List ℕ) (all : Contents) → AreColumns columns
+        → IsBytes bytes
         → AreContents columns bytes all → all ≡ contents_of columns bytes }
 {}
 
 /// Data that spell tokens are read as these tokens, all of them and no more, and the columns that are
 /// known behind them are columns. What is spelled where none are known is spelled wherever it stands.
 pub fn spelled_are_read()
-    ensures contents { (columns : Option ℕ) (tokens : List Token) (bytes : List ℕ) (after : Option ℕ) → IsTokens columns tokens bytes after
+    ensures contents { (columns : Option ℕ) (tokens : List Token) (bytes : List ℕ)
+        (after : Option ℕ) → IsTokens columns tokens bytes after
         → contents_of columns bytes ≡ record { tokens = tokens; fault = None; columns = after } }
-    ensures known { (columns : Option ℕ) (tokens : List Token) (bytes : List ℕ) (after : Option ℕ) → AreColumns columns
+    ensures known { (columns : Option ℕ) (tokens : List Token) (bytes : List ℕ) (after : Option ℕ)
+        → AreColumns columns
         → IsTokens columns tokens bytes after → AreColumns after }
-    ensures anywhere { (columns : Option ℕ) (tokens : List Token) (bytes : List ℕ) (after : Option ℕ) → IsTokens None tokens bytes after
+    ensures anywhere { (columns : Option ℕ) (tokens : List Token) (bytes : List ℕ)
+        (after : Option ℕ) → IsTokens None tokens bytes after
         → (behind : Option ℕ) × IsTokens columns tokens bytes behind }
 {}

@@ -6,6 +6,7 @@
 #![tactic(auto)]
 
 mod columns;
+pub mod done_status;
 mod env_change;
 mod fault;
 mod fits;

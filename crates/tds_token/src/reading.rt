@@ -11,6 +11,7 @@ mod messages;
 mod tables;
 
 use crate::columns::Columns;
+use crate::done_status::{ALL, ATTENTION, MORE};
 use crate::fault::TokenFault;
 use crate::reading::env_changes::env_change;
 use crate::reading::fields::{byte, int, number16, number64};
@@ -24,7 +25,8 @@ use crate::token::TokenRef;
 pub(crate) fn is_status(status: u16) -> bool
     ensures { result ≡ is_done_status status }
 {
-    status & 0xFEC8 == 0 && status & 0x21 != 0x21
+    let both = MORE | ATTENTION;
+    status & !ALL == 0 && status & both != both
 }
 
 #[tactic(auto, unfolding(crate::specs::Reading::done_at))]

@@ -55,18 +55,23 @@ impl<'a> Tokens<'a> {
     /// a fault.
     pub fn next(&mut self) -> Option<Result<TokenRef<'a>, TokenFault>>
         // What is read is spelled by the front that is gone.
-        ensures found { (t : TokenRef) → result ≡ Some (Ok t) → (front : List ℕ) × IsToken self.old.columns (token_of t) front self.new.columns
+        ensures found { (t : TokenRef) → result ≡ Some (Ok t)
+            → (front : List ℕ) × IsToken self.old.columns (token_of t) front self.new.columns
             × (self.old.bytes ≡ front ++ self.new.bytes) }
         // What a front spells is read, whatever follows it.
-        ensures only { (token : Token) (front rest : List ℕ) (after : Option ℕ) → IsToken self.old.columns token front after → self.old.bytes ≡ front ++ rest
-            → (answer_of result ≡ Some (Ok token)) × (self.new ≡ record { bytes = rest; columns = after }) }
+        ensures only { (token : Token) (front rest : List ℕ) (after : Option ℕ)
+            → IsToken self.old.columns token front after → self.old.bytes ≡ front ++ rest
+            → (answer_of result ≡ Some (Ok token))
+            × (self.new ≡ record { bytes = rest; columns = after }) }
         // The fault is the first field that is wrong or cut. Nothing is left behind it.
-        ensures wrong { (fault : TokenFault) → result ≡ Some (Err fault) → (wrong_token self.old.columns self.old.bytes ≡ Some fault)
+        ensures wrong { (fault : TokenFault) → result ≡ Some (Err fault)
+            → (wrong_token self.old.columns self.old.bytes ≡ Some fault)
             × (self.new ≡ record { bytes = []; columns = self.old.columns }) }
         ensures end { self.old.bytes ≡ [] → (result ≡ None) × (self.new ≡ self.old) }
         ensures none { result ≡ None → (self.old.bytes ≡ []) × (self.new ≡ self.old) }
         // A token has a byte at least, so a loop ends.
-        ensures shorter { (answer : Result TokenRef TokenFault) → result ≡ Some answer → length self.new.bytes < length self.old.bytes }
+        ensures shorter { (answer : Result TokenRef TokenFault) → result ≡ Some answer
+            → length self.new.bytes < length self.old.bytes }
         // So a loop reads the contents of the data, token by token.
         ensures contents { contents_of self.old.columns self.old.bytes
             ≡ contents_before (answer_of result) (contents_of self.new.columns self.new.bytes) }

@@ -2,10 +2,10 @@
 -- server's work sends.
 use Rattle.std.specs.Prelude.{ℕ, ◌+◌, ◌-◌, min, List, [], ◌∷◌, ◌++◌, length, Bool, true, if◌then◌else◌, nat_lt, Option, Some, None, unwrap_or}
 use Rattle.tds_packet.specs.declared.status.Reset.{Reset}
-use Rattle.tds_packet.specs.declared.status.Reset.TheVariants.{Full, KeepTransaction}
+use Rattle.tds_packet.specs.Resets.{reset_effect}
 use Rattle.tds_session.specs.Answer as answer
 use Rattle.tds_session.specs.Answer.{Answers}
-use Rattle.tds_token.specs.Told.{ResetEffect, no_reset, ends_transaction, keeps_transaction, changes_of, applied}
+use Rattle.tds_token.specs.Told.{changes_of, applied}
 use Rattle.tds_world.specs.declared.report.Place.TheVariants as place
 use Rattle.tds_world.specs.Connection.{Connection, Standing, In, is_idle, with_record, up_underway, down_underway}
 use Rattle.tds_world.specs.Entries.{Up, Part, End, Drop, Attention, Down, Step, Acknowledgement, up_bytes, down_bytes}
@@ -50,12 +50,6 @@ works_on c (s ∷ ss) = with_record c.answering (runs c.session s) (record c {
 
 abbrev pub works : Connection → Connection
 works c = works_on c c.due
-
--- What the end of a step's reset makes of a descriptor (MS-TDS 2.2.7.9, type 18).
-abbrev pub reset_effect : Option Reset → ResetEffect
-reset_effect None = no_reset
-reset_effect (Some Full) = ends_transaction
-reset_effect (Some KeepTransaction) = keeps_transaction
 
 -- The descriptor after all changes that a step tells, if they apply.
 abbrev pub heard_after : ℕ → answer.Step → Option ℕ

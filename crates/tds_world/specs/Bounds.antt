@@ -1,5 +1,5 @@
 -- What is never exceeded, and never comes twice.
-use Rattle.std.specs.Prelude.{ℕ, suc, eqb, ◌≡◌, ◌≤◌, List, [], ◌∷◌, ◌++◌, flat_map, Some}
+use Rattle.std.specs.Prelude.{ℕ, suc, eqb, nat_le, ◌&&◌, ◌≡◌, ◌≤◌, Bool, true, List, [], ◌∷◌, ◌++◌, flat_map, Some}
 use Rattle.std.specs.List.{IsDistinct}
 use Rattle.tds_request.specs.Layout.{Fits}
 use Rattle.tds_session.specs.Session.{SessionState}
@@ -15,12 +15,14 @@ use Rattle.tds_world.specs.Laws.{OfEachConnection, OfEachRequest}
 use Rattle.tds_world.specs.Record.{Record}
 use Rattle.tds_world.specs.World.{World}
 
+-- A packet has 512 to 32,767 bytes, and a pool 1 to 64 connections.
+abbrev pub is_in_range : Setup → Bool
+is_in_range s =
+    (nat_le 512 s.packet_size && nat_le s.packet_size 32767) && (nat_le 1 s.max && nat_le s.max 64)
+
 -- A setup that a play takes.
-pub record IsSetup (setup : Setup) : Type 0 where
-  pub packet_least : 512 ≤ setup.packet_size
-  pub packet_most : setup.packet_size ≤ 32767
-  pub max_least : 1 ≤ setup.max
-  pub max_most : setup.max ≤ 64
+abbrev pub IsSetup : Setup → Type 0
+IsSetup setup = is_in_range setup ≡ true
 
 -- An event of the program. Its request is one that has a spelling.
 abbrev pub IsEvent : Event → Type 0

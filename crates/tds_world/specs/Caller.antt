@@ -1,13 +1,10 @@
 -- What a caller does on its connection: ask, send the next packet, cancel.
 use Rattle.std.specs.Prelude.{ℕ, ◌+◌, List, [], length, take, drop, Bool, true, false, nat_le, Option, Some, None}
-use Rattle.tds_packet.specs.declared.kind.Kind.{Kind}
 use Rattle.tds_packet.specs.declared.kind.Kind.TheVariants as kind
 use Rattle.tds_packet.specs.declared.status.Reset.{Reset}
-use Rattle.tds_packet.specs.declared.status.Reset.TheVariants.{Full, KeepTransaction}
+use Rattle.tds_packet.specs.Resets.{reset_bit}
 use Rattle.tds_request.specs.declared.request.Request.{Request}
-use Rattle.tds_request.specs.declared.request.RequestKind.{RequestKind}
-use Rattle.tds_request.specs.declared.request.RequestKind.TheVariants as message
-use Rattle.tds_request.specs.Layout.{kind_of_request}
+use Rattle.tds_request.specs.Layout.{kind_of_request, packet_kind}
 use Rattle.tds_world.specs.declared.outcome.CancelOutcome.{CancelOutcome}
 use Rattle.tds_world.specs.declared.outcome.CancelOutcome.TheVariants as cancel
 use Rattle.tds_world.specs.Connection.{Connection, records}
@@ -24,24 +21,14 @@ asks number lease conn q c = record c {
   current = Some (new_record number lease conn q c.mark c.heard);
 }
 
--- The packet type of a request (MS-TDS 2.2.3.1.1).
-abbrev pub kind_of_message : RequestKind → Kind
-kind_of_message message.Batch = kind.Batch
-kind_of_message message.Transaction = kind.Transaction
-
 -- A packet of a request, the next one after those that are out.
 abbrev pub packet_of : Record → ℕ → List ℕ → Packet
 packet_of q bits body =
-    packet (kind_of_message (kind_of_request q.asking.request)) bits (packets_of q.out + 1) body
+    packet (packet_kind (kind_of_request q.asking.request)) bits (packets_of q.out + 1) body
 
--- The status bit of a mark (MS-TDS 2.2.3.1.2). It stands on a request's first packet alone.
-abbrev pub mark_bit : Option Reset → ℕ
-mark_bit None = 0
-mark_bit (Some Full) = 0x08
-mark_bit (Some KeepTransaction) = 0x10
-
+-- The bit of a mark (MS-TDS 2.2.3.1.2) stands on a request's first packet alone.
 abbrev pub first_bit : Out → Option Reset → ℕ
-first_bit NotBegun mark = mark_bit mark
+first_bit NotBegun mark = reset_bit mark
 first_bit (Begun n) mark = 0
 first_bit (Whole n) mark = 0
 

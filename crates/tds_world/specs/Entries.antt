@@ -5,7 +5,8 @@ use Rattle.tds_packet.specs.declared.header.Header.{Header}
 use Rattle.tds_packet.specs.declared.kind.Kind.{Kind}
 use Rattle.tds_packet.specs.declared.kind.Kind.TheVariants as kind
 use Rattle.tds_packet.specs.declared.status.Reset.{Reset}
-use Rattle.tds_packet.specs.Layout.{header_bytes, status_of}
+use Rattle.tds_packet.specs.Layout.{header_bytes}
+use Rattle.tds_packet.specs.Sent.{sent_header}
 use Rattle.tds_request.specs.declared.request.Request.{Request}
 use Rattle.tds_session.specs.Answer as answer
 use Rattle.tds_token.specs.declared.token.Token.TheVariants as token
@@ -20,14 +21,7 @@ pub record Packet : Type 0 where
 -- are 0, and the PacketID is the place modulo 256 (MS-TDS 2.2.3.1.4 to 2.2.3.1.6).
 abbrev pub packet : Kind → ℕ → ℕ → List ℕ → Packet
 packet type bits place body = record {
-  header = record {
-    kind = type;
-    status = status_of bits;
-    length = 8 + length body;
-    spid = 0;
-    packet_id = place % 256;
-    window = 0;
-  };
+  header = sent_header type bits (place % 256) body;
   body = body;
 }
 

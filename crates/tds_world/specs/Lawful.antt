@@ -2,15 +2,9 @@
 use Rattle.std.specs.Prelude.{ℕ, ◌≡◌, List, [], ◌∷◌, true, false, Option, Some, None}
 use Rattle.tds_packet.specs.declared.status.Reset.{Reset}
 use Rattle.tds_request.specs.declared.request.Request.{Request}
-use Rattle.tds_session.specs.Answer.{Answers, Step, reset_step}
+use Rattle.tds_session.specs.Answer.{Answers, EndsOnce, Step, reset_step}
 use Rattle.tds_session.specs.Session.{SessionState, after_reset}
 use Rattle.tds_world.specs.Arrivals.{heard_after}
-
--- There is a last step, and it alone is marked as the last.
-abbrev pub EndsOnce : List Step → Type 0
-EndsOnce [] = ⊥
-EndsOnce (s ∷ []) = s.last ≡ true
-EndsOnce (s ∷ t ∷ ss) = (s.last ≡ false) × EndsOnce (t ∷ ss)
 
 -- From this session on, each step tells just the changes that take the descriptor before it to the
 -- one after it.

@@ -12,7 +12,7 @@ use Rattle.tds_world.specs.Connection.{Connection, records, phase, up_underway, 
 use Rattle.tds_world.specs.Events.{world_after}
 use Rattle.tds_world.specs.Observed.{record_on}
 use Rattle.tds_world.specs.Phase.{Settled}
-use Rattle.tds_world.specs.Record.{Record}
+use Rattle.tds_world.specs.Record.{Record, is_finished, is_cancelled}
 use Rattle.tds_world.specs.World.{World, Holding, new_world, numbered}
 
 -- P holds of the world after any events.
@@ -42,12 +42,12 @@ whole_answer answers s q = told (flat_map (λ step. step.tokens) (answers s s.de
 -- These tokens are a beginning of those, and all of them where the request is finished.
 pub record IsAnswer (given whole : List Token) (q : Record) : Type 0 where
   pub begins : (rest : List Token) × (given ++ rest ≡ whole)
-  pub ends : q.finished ≡ true → given ≡ whole
+  pub ends : is_finished q.fate ≡ true → given ≡ whole
 
 -- A request that ran in a session was given a beginning of its own answer there. One that didn't
 -- run was given nothing, and isn't finished.
 abbrev pub IsOwnAnswer : Answers → Record → Option SessionState → Type 0
-IsOwnAnswer answers q None = (q.given ≡ []) × (q.finished ≡ false)
+IsOwnAnswer answers q None = (q.given ≡ []) × (is_finished q.fate ≡ false)
 IsOwnAnswer answers q (Some s) = IsAnswer q.given (whole_answer answers s q.asking.request) q
 
 -- Each caller has a beginning of its own request's answer, and all of it where it is finished.
@@ -68,7 +68,7 @@ request_on w n number = request_in number (numbered w.connections n)
 abbrev pub NothingAfterCancel : Setup → Answers → Type 0
 NothingAfterCancel setup answers =
     (events later : List Event) (n number : ℕ) (q : Record)
-    → request_on (world_after setup answers events new_world) n number ≡ Some q → q.cancelled ≡ true
+    → request_on (world_after setup answers events new_world) n number ≡ Some q → is_cancelled q.fate ≡ true
     → (p : Record)
     × (request_on (world_after setup answers (events ++ later) new_world) n number ≡ Some p)
     × (p.given ≡ q.given)

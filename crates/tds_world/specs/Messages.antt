@@ -2,12 +2,12 @@
 use Rattle.std.specs.Prelude.{ℕ, ◌+◌, ◌≡◌, ◌≢◌, ◌≤◌, List, [], ◌∷◌, ◌++◌, length, Bool, true, false, Option, Some, None}
 use Rattle.tds_packet.specs.declared.status.Reset.{Reset}
 use Rattle.tds_packet.specs.Layout.{bits_of}
-use Rattle.tds_request.specs.Layout.{IsRequest, kind_of_request, spelling}
-use Rattle.tds_world.specs.Caller.{kind_of_message, mark_bit}
+use Rattle.tds_request.specs.Layout.{IsRequest, kind_of_request, spelling, packet_kind}
+use Rattle.tds_packet.specs.Resets.{reset_bit}
 use Rattle.tds_world.specs.Connection.{Connection}
 use Rattle.tds_world.specs.Entries.{Packet, Asking, Up, Part, End, Drop, Attention}
 use Rattle.tds_world.specs.Laws.{OfEachConnection}
-use Rattle.tds_world.specs.Record.{Record, Out, NotBegun, Begun, Whole}
+use Rattle.tds_world.specs.Record.{Record, Out, NotBegun, Begun, Whole, is_cancelled}
 use Rattle.tds_world.specs.World.{World}
 
 -- A request's message.
@@ -20,18 +20,18 @@ IsSpelled a = IsRequest (kind_of_request a.request) a.descriptor a.request (mess
 
 -- The mark's bit of a packet behind which so much of the message came: it stands on the first alone.
 abbrev pub bits_behind : List ℕ → Option Reset → ℕ
-bits_behind [] mark = mark_bit mark
+bits_behind [] mark = reset_bit mark
 bits_behind (b ∷ bs) mark = 0
 
 -- A packet with the next bytes of a request's message, and with these bits beside the mark's.
 pub record IsPiece (a : Asking) (before : List ℕ) (bits : ℕ) (p : Packet) : Type 0 where
-  pub kind : p.header.kind ≡ kind_of_message (kind_of_request a.request)
+  pub kind : p.header.kind ≡ packet_kind (kind_of_request a.request)
   pub status : bits_of p.header.status ≡ bits + bits_behind before a.mark
   pub most : length (before ++ p.body) ≤ 4022
 
 -- The word to drop what came.
 pub record IsDrop (a : Asking) (p : Packet) : Type 0 where
-  pub kind : p.header.kind ≡ kind_of_message (kind_of_request a.request)
+  pub kind : p.header.kind ≡ packet_kind (kind_of_request a.request)
   pub status : bits_of p.header.status ≡ 3
 
 -- An entry of a request is next, behind these bytes of its message.
@@ -66,7 +66,7 @@ AreNext a cancelled out left before (e ∷ es) =
 abbrev pub AreNextIn : Option Record → List ℕ → List Up → Type 0
 AreNextIn None parts ups = ups ≡ []
 AreNextIn (Some q) parts ups =
-    IsSpelled q.asking × AreNext q.asking q.cancelled q.out q.left parts ups
+    IsSpelled q.asking × AreNext q.asking (is_cancelled q.fate) q.out q.left parts ups
 
 abbrev pub AreWhole : Connection → Type 0
 AreWhole c = AreNextIn c.current c.parts c.to_server.waiting

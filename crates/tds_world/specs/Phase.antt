@@ -4,7 +4,7 @@ use Rattle.tds_world.specs.declared.report.ClientView.{ClientView}
 use Rattle.tds_world.specs.declared.report.ClientView.TheVariants as view
 use Rattle.tds_world.specs.declared.report.RequestStatus.{RequestStatus}
 use Rattle.tds_world.specs.declared.report.RequestStatus.TheVariants as status
-use Rattle.tds_world.specs.Record.{Record, Out, NotBegun, Begun, Whole}
+use Rattle.tds_world.specs.Record.{Record, Fate, Open, Finished, Cancelled, Acknowledged, Out, NotBegun, Begun, Whole}
 
 -- A request is settled when nobody waits for its answer any more. Before that, none of its packets
 -- is out, some are, all are, or it was cancelled after its first packet.
@@ -15,20 +15,20 @@ pub data Phase : Type 0 where
   Reading : Phase
   Cancelling : Phase
 
--- By what became of it: finished, acknowledged, cancelled, and how much of it is out. A finished,
--- an acknowledged and a never sent cancelled request are settled.
-abbrev pub phase_by : Bool → Bool → Bool → Out → Phase
-phase_by true acknowledged cancelled out = Settled
-phase_by false true cancelled out = Settled
-phase_by false false true NotBegun = Settled
-phase_by false false true (Begun n) = Cancelling
-phase_by false false true (Whole n) = Cancelling
-phase_by false false false NotBegun = Asked
-phase_by false false false (Begun n) = Sending
-phase_by false false false (Whole n) = Reading
+-- By what became of it, and how much of it is out. A finished, an acknowledged and a never sent
+-- cancelled request are settled.
+abbrev pub phase_by : Fate → Out → Phase
+phase_by Open NotBegun = Asked
+phase_by Open (Begun n) = Sending
+phase_by Open (Whole n) = Reading
+phase_by Finished out = Settled
+phase_by Cancelled NotBegun = Settled
+phase_by Cancelled (Begun n) = Cancelling
+phase_by Cancelled (Whole n) = Cancelling
+phase_by Acknowledged out = Settled
 
 abbrev pub phase_of : Record → Phase
-phase_of q = phase_by q.finished q.acknowledged q.cancelled q.out
+phase_of q = phase_by q.fate q.out
 
 -- The phase of a connection's newest request; settled, if there is none.
 abbrev pub phase_in : Option Record → Phase
@@ -52,14 +52,14 @@ state_of Cancelling = view.Cancelling
 
 -- What a report says of a request: finished and acknowledged, and then whether its connection was
 -- cut and its phase.
-abbrev pub status_by : Bool → Bool → Bool → Phase → RequestStatus
-status_by true acknowledged cut phase = status.Finished
-status_by false true cut phase = status.Acknowledged
-status_by false false cut Settled = status.Unsent
-status_by false false true phase = status.Lost
-status_by false false false Cancelling = status.Cancelling
-status_by false false false phase = status.Open
+abbrev pub status_by : Fate → Bool → Phase → RequestStatus
+status_by Finished cut phase = status.Finished
+status_by Acknowledged cut phase = status.Acknowledged
+status_by fate cut Settled = status.Unsent
+status_by fate true phase = status.Lost
+status_by fate false Cancelling = status.Cancelling
+status_by fate false phase = status.Open
 
 -- The status of a request on a connection that is cut, or isn't.
 abbrev pub status_of : Bool → Record → RequestStatus
-status_of cut q = status_by q.finished q.acknowledged cut (phase_of q)
+status_of cut q = status_by q.fate cut (phase_of q)

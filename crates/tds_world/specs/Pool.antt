@@ -3,7 +3,7 @@
 use Rattle.std.specs.Prelude.{ℕ, suc, ◌+◌, List, [], ◌∷◌, Bool, true, false, if◌then◌else◌, nat_lt, ◌==◌, ◌||◌, Option, Some, None}
 use Rattle.tds_packet.specs.declared.status.Reset.{Reset}
 use Rattle.tds_packet.specs.declared.status.Reset.TheVariants.{Full, KeepTransaction}
-use Rattle.tds_session.specs.Session.{strongest}
+use Rattle.tds_packet.specs.Resets.{strongest}
 use Rattle.tds_world.specs.declared.event.Setup.{Setup}
 use Rattle.tds_world.specs.declared.outcome.AbandonOutcome.TheVariants as abandoned
 use Rattle.tds_world.specs.declared.outcome.GiveBackOutcome.{GiveBackOutcome}

@@ -2,7 +2,7 @@
 -- was given.
 use Rattle.std.specs.Prelude.{ℕ, List, [], ◌++◌, Bool, true, false, if◌then◌else◌, ◌==◌, Option, Some, None}
 use Rattle.tds_packet.specs.declared.status.Reset.{Reset}
-use Rattle.tds_packet.specs.declared.status.Reset.TheVariants.{Full, KeepTransaction}
+use Rattle.tds_packet.specs.Resets.{header_descriptor}
 use Rattle.tds_request.specs.declared.request.Request.{Request}
 use Rattle.tds_request.specs.Layout as request
 use Rattle.tds_session.specs.Answer as answer
@@ -23,6 +23,27 @@ packets_of NotBegun = 0
 packets_of (Begun n) = n
 packets_of (Whole n) = n
 
+-- What became of a request: nothing yet; the last step of its answer came; its caller cancelled it; and
+-- the acknowledgement of its attention came.
+pub data Fate : Type 0 where
+  Open : Fate
+  Finished : Fate
+  Cancelled : Fate
+  Acknowledged : Fate
+
+abbrev pub is_finished : Fate → Bool
+is_finished Open = false
+is_finished Finished = true
+is_finished Cancelled = false
+is_finished Acknowledged = false
+
+-- Whatever is acknowledged was cancelled.
+abbrev pub is_cancelled : Fate → Bool
+is_cancelled Open = false
+is_cancelled Finished = false
+is_cancelled Cancelled = true
+is_cancelled Acknowledged = true
+
 -- A request, and all that is known of it.
 pub record Record : Type 0 where
   pub number : ℕ
@@ -31,18 +52,9 @@ pub record Record : Type 0 where
   pub asking : Asking
   pub left : List ℕ  -- its bytes that aren't sent
   pub out : Out
-  pub cancelled : Bool
-  pub finished : Bool
-  pub acknowledged : Bool
+  pub fate : Fate
   pub ran : Option SessionState  -- the session that it ran in
   pub given : List Token  -- what its caller was given
-
--- The descriptor that a request's header names (MS-TDS 2.2.5.3.2): the one that the client heard
--- last, but 0 under a full reset, which ends the transaction first.
-abbrev pub header_descriptor : Option Reset → ℕ → ℕ
-header_descriptor None heard = heard
-header_descriptor (Some Full) heard = 0
-header_descriptor (Some KeepTransaction) heard = heard
 
 -- A request that is asked under this mark, when the client has heard this descriptor. Nothing of it
 -- is out.
@@ -54,9 +66,7 @@ new_record number lease conn q mark heard = record {
   asking = record { request = q; descriptor = header_descriptor mark heard; mark = mark };
   left = request.spelling (header_descriptor mark heard) q;
   out = NotBegun;
-  cancelled = false;
-  finished = false;
-  acknowledged = false;
+  fate = Open;
   ran = None;
   given = [];
 }
@@ -72,21 +82,28 @@ ran_in None None before after = before
 abbrev pub runs : SessionState → answer.Step → Record → Record
 runs before s q = record q { ran = Some (ran_in q.ran s.reset before s.after) }
 
+-- A step arrived. The last one finishes a request that wasn't cancelled.
+abbrev pub stepped : Bool → Fate → Fate
+stepped last Open = if last then Finished else Open
+stepped last Finished = if last then Finished else Open
+stepped last Cancelled = Cancelled
+stepped last Acknowledged = Acknowledged
+
 -- This step of it arrived: its tokens are given to the caller, and the last step finishes it,
 -- unless it was cancelled.
 abbrev pub gives : answer.Step → Record → Record
 gives s q = record q {
-  given = if q.cancelled then q.given else q.given ++ told s.tokens;
-  finished = if q.cancelled then q.finished else s.last;
+  given = if is_cancelled q.fate then q.given else q.given ++ told s.tokens;
+  fate = stepped s.last q.fate;
 }
 
 -- The acknowledgement of its attention arrived.
 abbrev pub acknowledges : Record → Record
-acknowledges q = record q { acknowledged = true }
+acknowledges q = record q { fate = Acknowledged }
 
 -- Its caller cancelled it.
 abbrev pub cancelled : Record → Record
-cancelled q = record q { cancelled = true }
+cancelled q = record q { fate = Cancelled }
 
 -- A change of the record of this number, and of no other.
 abbrev pub when : Bool → (Record → Record) → Record → Record

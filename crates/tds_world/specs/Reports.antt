@@ -22,7 +22,7 @@ use Rattle.tds_world.specs.declared.report.RequestStatus.TheVariants as status
 use Rattle.tds_world.specs.declared.report.Snapshot.{Snapshot}
 use Rattle.tds_world.specs.Laws.{whole_answer}
 use Rattle.tds_world.specs.Observed.{observed}
-use Rattle.tds_world.specs.Record.{header_descriptor}
+use Rattle.tds_packet.specs.Resets.{header_descriptor}
 
 -- P holds of the report, whatever the events.
 abbrev pub AlwaysShown : Setup → Answers → (Report → Type 0) → Type 0

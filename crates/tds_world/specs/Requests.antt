@@ -2,8 +2,8 @@
 -- of one that is dropped; and attentions between them.
 use Rattle.std.specs.Prelude.{ℕ, ◌≡◌, ◌+◌, List, [], ◌∷◌, ◌++◌, Option}
 use Rattle.tds_packet.specs.declared.status.Reset.{Reset}
-use Rattle.tds_request.specs.Layout.{kind_of_request, spelling}
-use Rattle.tds_world.specs.Caller.{kind_of_message, mark_bit}
+use Rattle.tds_request.specs.Layout.{kind_of_request, spelling, packet_kind}
+use Rattle.tds_packet.specs.Resets.{reset_bit}
 use Rattle.tds_world.specs.Connection.{Connection}
 use Rattle.tds_world.specs.Entries.{Packet, packet, Asking, Up, Part, End, Drop, Attention}
 use Rattle.tds_world.specs.Laws.{OfEachConnection}
@@ -25,13 +25,13 @@ packets_in (Partly a content n) = n
 
 -- The bit of the mark stands on the first packet.
 abbrev pub first_bits : Message → Option Reset → ℕ
-first_bits Nothing mark = mark_bit mark
+first_bits Nothing mark = reset_bit mark
 first_bits (Partly a content n) mark = 0
 
 -- The next packet of a message that asks this, with these status bits and data.
 abbrev pub packet_in : Message → Asking → ℕ → List ℕ → Packet
 packet_in m a bits body =
-    packet (kind_of_message (kind_of_request a.request)) (bits + first_bits m a.mark) (packets_in m + 1) body
+    packet (packet_kind (kind_of_request a.request)) (bits + first_bits m a.mark) (packets_in m + 1) body
 
 -- The message, if it has begun, asks this.
 abbrev pub AsksThis : Message → Asking → Type 0

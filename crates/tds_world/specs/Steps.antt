@@ -4,11 +4,10 @@ use Rattle.std.specs.List.{AllByRecursion}
 use Rattle.tds_packet.specs.declared.status.Reset.{Reset}
 use Rattle.tds_request.specs.declared.request.Request.{Request}
 use Rattle.tds_session.specs.Answer as answer
-use Rattle.tds_session.specs.Answer.{Answers}
+use Rattle.tds_session.specs.Answer.{Answers, EndsOnce}
 use Rattle.tds_session.specs.Session.{SessionState}
 use Rattle.tds_world.specs.Connection.{Connection}
 use Rattle.tds_world.specs.Entries.{Down, Step, Acknowledgement}
-use Rattle.tds_world.specs.Lawful.{EndsOnce}
 use Rattle.tds_world.specs.Laws.{OfEachConnection}
 use Rattle.tds_world.specs.World.{World}
 

@@ -8,7 +8,8 @@ use Rattle.tds_token.specs.declared.env_change.EnvChange.TheVariants as change
 use Rattle.tds_token.specs.Told.{change_applied, changes_of}
 use Rattle.tds_world.specs.declared.report.ClientView.{ClientView}
 use Rattle.tds_world.specs.declared.report.ClientView.TheVariants as view
-use Rattle.tds_world.specs.Arrivals.{server_acts, client_acts, hears, reset_effect}
+use Rattle.tds_world.specs.Arrivals.{server_acts, client_acts, hears}
+use Rattle.tds_packet.specs.Resets.{reset_effect}
 use Rattle.tds_world.specs.Connection.{Connection, phase}
 use Rattle.tds_world.specs.Entries.{Up, Part, End, Drop, Attention, Down, Step, Acknowledgement}
 use Rattle.tds_world.specs.Lane.{passed}

@@ -1,5 +1,5 @@
 //! Plays schedules of pooled sessions of the Tabular Data Stream, and prints what each caller is
-//! told.
+//! told; shows the bytes of packets; and checks the vectors.
 #![tactic(auto)]
 
 mod fault;
@@ -8,7 +8,7 @@ use fault::ProgramFault;
 use std::fs::File;
 use std::process::ExitCode;
 use std::{env, fs};
-use tds_play::{Command, MemoryCarrier, read_words, run_play};
+use tds_play::{Command, MemoryCarrier, read_words, run_play, run_show, run_vectors};
 
 fn main(rt: HostRuntime) -> ExitCode {
     match run(&rt) {
@@ -22,18 +22,20 @@ fn main(rt: HostRuntime) -> ExitCode {
 
 /// Finds the faults of the words and of opening the file; all else is the run's.
 fn run(rt: &HostRuntime) -> Result<u8, ProgramFault> {
-    let Command::Play(name) = command(rt)?;
-    let mut file = open(rt, name.as_str())?;
-    let mut carrier = MemoryCarrier::new(rt.alloc());
+    let alloc = rt.alloc();
+    let command = command(rt)?;
     let mut output = rt.stdout();
     let mut errors = rt.stderr();
-    Ok(run_play(
-        rt.alloc(),
-        &mut file,
-        &mut carrier,
-        &mut output,
-        &mut errors,
-    ))
+    match command {
+        Command::Play(name) => {
+            let mut file = open(rt, name.as_str())?;
+            let mut carrier = MemoryCarrier::new(alloc);
+            let output = &mut output;
+            Ok(run_play(alloc, &mut file, &mut carrier, output, &mut errors))
+        }
+        Command::Show(word) => Ok(run_show(alloc, word.as_str(), &mut output, &mut errors)),
+        Command::Vectors => Ok(run_vectors(alloc, &mut output, &mut errors)),
+    }
 }
 
 /// The command that the words behind the program's name ask for.

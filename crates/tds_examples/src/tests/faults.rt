@@ -1,11 +1,10 @@
 //! The error lines of runs, and the exit statuses.
 
 use crate::tests::runs::{Narrow, pieced, refused};
-use std::alloc::Global;
 use std::io;
 use std::io::Read;
 use std::test::Fail;
-use tds_play::{Command, MemoryCarrier, read_words, run_play};
+use tds_play::{MemoryCarrier, run_play};
 
 /// The head of a schedule, up to its second event.
 const LEASED: &str = "{\"version\":1,\"packet_size\":512,\"max\":1,\"events\":[[\"lease\"]";
@@ -56,11 +55,8 @@ const REFUSED: [(&str, &[(&str, usize)], &str); 7] = [
 fn error_lines(rt: HostRuntime) -> Result<(), Fail> {
     for (name, pieces, line) in REFUSED {
         let schedule = pieced(rt.alloc(), pieces)?;
-        assert_eq!(rt;
-            refused(rt.alloc(), schedule.as_str(), line),
-            "",
-            "at {name}"
-        );
+        let mut reader = schedule.as_bytes();
+        assert_eq!(rt; refused(rt.alloc(), &mut reader, line), "", "at {name}");
     }
     Ok(())
 }
@@ -77,14 +73,24 @@ impl Read for Broken {
 
 #[test]
 fn reader_that_fails(rt: HostRuntime) -> Result<(), Fail> {
-    let alloc = rt.alloc();
-    let mut carrier = MemoryCarrier::new(alloc);
-    let mut output = Vec::new(alloc);
-    let mut errors = Vec::new(alloc);
-    let status = run_play(alloc, &mut Broken, &mut carrier, &mut output, &mut errors);
-    assert_eq!(rt; status, 1);
-    assert_eq!(rt; output.as_slice(), b"".as_slice());
-    assert_eq!(rt; errors.as_slice(), b"error: file\n".as_slice());
+    assert_eq!(rt; refused(rt.alloc(), &mut Broken, "error: file\n"), "");
+    Ok(())
+}
+
+/// So many blanks, which are no JSON, with the error line and how many of them are left unread.
+const BLANKS: [(u64, &str, u64); 3] = [
+    (33_554_432, "error: json\n", 0),
+    (33_554_433, "error: file\n", 0),
+    (33_554_435, "error: file\n", 2),
+];
+
+#[test]
+fn longest_file(rt: HostRuntime) -> Result<(), Fail> {
+    for (blanks, line, left) in BLANKS {
+        let mut reader = io::repeat(b' ').take(blanks);
+        assert_eq!(rt; refused(rt.alloc(), &mut reader, line), "", "at {blanks}");
+        assert_eq!(rt; reader.limit(), left, "at {blanks}");
+    }
     Ok(())
 }
 
@@ -103,41 +109,5 @@ fn writer_that_fails(rt: HostRuntime) -> Result<(), Fail> {
     assert_eq!(rt; status, 1);
     assert_eq!(rt; output.bytes.as_slice(), b"1 leased".as_slice());
     assert_eq!(rt; errors.as_slice(), b"error: output\n".as_slice());
-    Ok(())
-}
-
-/// The number of the fault that these words have, or 0 where they ask to play `row.json`.
-fn fault_of(alloc: Global, words: &[&str]) -> Result<u8, Fail> {
-    let mut owned = Vec::new(alloc);
-    for word in words {
-        owned.push(String::from_str(alloc, *word)?)?;
-    }
-    match read_words(alloc, owned.as_slice()) {
-        Ok(Command::Play(file)) if file.as_str() == "row.json" => Ok(0),
-        Ok(_) => Err("another file".into()),
-        Err(fault) => Ok(fault.number()),
-    }
-}
-
-const WORDS: [(&[&str], u8); 12] = [
-    (&["play", "row.json"], 0),
-    (&[], 1),
-    (&["play"], 1),
-    (&["play", "row.json", "row.json"], 1),
-    (&["row.json"], 1),
-    (&["show", "00"], 1),
-    (&["vectors"], 1),
-    (&["loopback", "x"], 1),
-    (&["help"], 1),
-    (&["--help"], 1),
-    (&["play", "--help"], 1),
-    (&["--version"], 1),
-];
-
-#[test]
-fn words(rt: HostRuntime) -> Result<(), Fail> {
-    for (words, fault) in WORDS {
-        assert_eq!(rt; fault_of(rt.alloc(), words)?, fault, "at {words:?}");
-    }
     Ok(())
 }

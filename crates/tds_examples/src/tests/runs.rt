@@ -2,7 +2,7 @@
 
 use std::alloc::{AllocError, Global};
 use std::io;
-use std::io::Write;
+use std::io::{Read, Write};
 use tds_play::{MemoryCarrier, run_play};
 
 /// What a run printed, and its exit status.
@@ -13,13 +13,12 @@ pub struct Ended {
     pub errors: Vec<u8>,
 }
 
-/// Runs a schedule file of these bytes.
-fn run(alloc: Global, schedule: &[u8]) -> Ended {
-    let mut reader = schedule;
+/// Runs the schedule file that this reader gives.
+fn run<R: Read>(alloc: Global, reader: &mut R) -> Ended {
     let mut carrier = MemoryCarrier::new(alloc);
     let mut output = Vec::new(alloc);
     let mut errors = Vec::new(alloc);
-    let status = run_play(alloc, &mut reader, &mut carrier, &mut output, &mut errors);
+    let status = run_play(alloc, reader, &mut carrier, &mut output, &mut errors);
     Ended {
         status,
         output,
@@ -43,12 +42,13 @@ fn difference(run: &Ended, status: u8, output: &str, errors: &str) -> &'static s
 
 /// The schedule is to print this text and nothing else, and to end with status 0: what differs.
 pub(super) fn printed(alloc: Global, schedule: &str, text: &str) -> &'static str {
-    difference(&run(alloc, schedule.as_bytes()), 0, text, "")
+    let mut reader = schedule.as_bytes();
+    difference(&run(alloc, &mut reader), 0, text, "")
 }
 
-/// The schedule is to print no report, this error line, and to end with status 1: what differs.
-pub(super) fn refused(alloc: Global, schedule: &str, line: &str) -> &'static str {
-    difference(&run(alloc, schedule.as_bytes()), 1, "", line)
+/// The file is to print no report, this error line, and to end with status 1: what differs.
+pub(super) fn refused<R: Read>(alloc: Global, reader: &mut R, line: &str) -> &'static str {
+    difference(&run(alloc, reader), 1, "", line)
 }
 
 /// The text of these pieces, each so many times.

@@ -122,6 +122,20 @@ fn hostile_headers(rt: HostRuntime) -> Result<(), Fail> {
     Ok(())
 }
 
+/// Behind a packet, a Length of 7 is no empty packet, and lends nothing of the one before.
+#[test]
+fn a_length_of_seven_behind_a_packet(rt: HostRuntime) -> Result<(), Fail> {
+    let mut reader = reader(rt.alloc(), Direction::ToClient)?;
+    assert_eq!(rt; fed(&mut reader, &BEGUN), 0);
+    assert!(rt; reader.packet().is_some());
+    reader.done();
+    assert_eq!(rt; fed(&mut reader, &[0x04, 0x01, 0x00, 0x07, 0, 0, 1, 0]), 3);
+    assert!(rt; reader.packet().is_none());
+    assert_eq!(rt; fed(&mut reader, &BEGUN), 3);
+    assert!(rt; reader.packet().is_none());
+    Ok(())
+}
+
 #[test]
 fn each_type(rt: HostRuntime) -> Result<(), Fail> {
     let mut counts = [0u32; 7];

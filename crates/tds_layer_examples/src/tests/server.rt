@@ -51,8 +51,6 @@ enum Call<'a> {
     NewSession,
     /// The session's descriptor.
     Descriptor(u64),
-    /// The session's value of `a`.
-    Value(i32),
 }
 
 /// There is nothing to do.
@@ -110,7 +108,6 @@ fn goes<E: Engine + Drop>(
         }
         Call::NewSession => Ok(*server.session() == Session::new()),
         Call::Descriptor(descriptor) => Ok(server.session().descriptor() == descriptor),
-        Call::Value(value) => Ok(server.session().get(b'a') == value),
     }
 }
 

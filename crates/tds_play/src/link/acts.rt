@@ -1,11 +1,12 @@
 //! What each event does on its connection.
-ghost use Rattle.std.specs.Prelude.{◌≡◌, ◌≤◌, ◌-◌, ℕ, true, false, is_none, min, Option, None, Some, Ok, IfOk, OnOk, ◌++◌, is_ok};
+ghost use Rattle.std.specs.Prelude.{◌≡◌, ◌≤◌, ◌-◌, ℕ, true, false, is_none, Option, None, Some, Ok, IfOk, OnOk, ◌++◌, is_ok};
 ghost use Rattle.tds_client.specs.Session.{unless_idle};
-ghost use Rattle.tds_play.specs.Links.{IsAskedOn, IsPutBy, lent_as, placed_at, recounted, unless_kept};
-ghost use Rattle.tds_play.specs.Acts.{cancel_outcome, cancelled_as, unless_lost, with_client, worked_as};
-ghost use Rattle.tds_play.specs.Alike.{send_outcome, worked_outcome};
-ghost use Rattle.tds_play.specs.Plays.{AreNext, IsPlayed, IsReady, acts_on, after, on_cut, outcome_of};
-ghost use Rattle.tds_play.specs.Promises.{IsCountable, Promises};
+ghost use Rattle.tds_play.specs.Links.{IsAskedOn, IsPutBy, recounted};
+ghost use Rattle.tds_ends.specs.Alike.{cancel_outcome};
+ghost use Rattle.tds_play.specs.Acts.{cancelled_as, unless_lost, with_client, worked_as};
+ghost use Rattle.tds_ends.specs.Alike.{send_outcome, worked_outcome};
+ghost use Rattle.tds_play.specs.Plays.{AreNext, DoesAlike, IsPlayed, IsReady, acts_on, after, bringing, met, on_cut, outcome_of};
+ghost use Rattle.tds_ends.specs.Promises.{IsCountable, Promises};
 ghost use Rattle.tds_world.specs.Newest.{WorksOnNewest};
 ghost use Rattle.tds_world.specs.Steps.{EndsIfDue};
 ghost use Rattle.tds_play.specs.Seen.{done_as};
@@ -14,33 +15,31 @@ ghost use Rattle.tds_world.specs.Caller.{cancels};
 ghost use Rattle.tds_world.specs.Caller as model;
 ghost use Rattle.tds_world.specs.Connection.{Connection, down_underway, phase, up_underway};
 ghost use Rattle.tds_world.specs.Events.{sends_in, work_outcome};
-ghost use Rattle.tds_world.specs.Pool.{comes_back, place_back, returned_as};
+ghost use Rattle.tds_world.specs.Pool.{Does};
 ghost use Rattle.tds_client.specs.Sending.{cancelled, sent};
 ghost use Rattle.tds_server.specs.Working.{worked};
-ghost use Rattle.tds_world.specs.declared.outcome.AbandonOutcome.TheVariants as abandoned;
-ghost use Rattle.tds_world.specs.declared.outcome.Outcome.TheVariants.{Abandoned, Asked, Kept, Leased, Refused};
+ghost use Rattle.tds_world.specs.declared.outcome.Outcome.TheVariants.{Asked, Refused};
 ghost use Rattle.tds_world.specs.declared.outcome.Outcome.TheVariants as outcome;
 ghost use Rattle.tds_world.specs.declared.outcome.Refusal.TheVariants.{NotIdle, NotSending};
 ghost use Rattle.tds_world.specs.declared.event.Setup.{Setup};
-ghost use Rattle.tds_world.specs.declared.report.Place.TheVariants as place;
 ghost use Rattle.tds_world.specs.World.{World};
 ghost use Rattle.tds_session.specs.Answer.{answer_of};
-ghost use Rattle.tds_packet.specs.declared.kind.Direction.TheVariants.{ToClient};
-ghost use Rattle.tds_play.specs.Pipe.{Pipe, AreSame};
-ghost use Rattle.tds_play.specs.Ties.{IsTied};
+ghost use Rattle.tds_play.specs.Pipe.{Pipe};
+ghost use Rattle.tds_play.specs.Ties.{IsTied, KeepsTies};
 
-use super::{Done, Link, Record};
+use super::{Done, Link};
 use crate::NoMemory;
 use crate::carrier::Carrier;
+use crate::request::Record;
 use std::alloc::{AllocError, Global};
 use tds_client::{Cancelled, ClientRefusal, Sent};
 use tds_packet::{Direction, Reset};
 use tds_request::Request;
 use tds_server::Worked;
-use tds_session::{Engine, Session};
+use tds_session::Engine;
 use tds_world::{
-    AbandonOutcome, CancelOutcome, Event, GiveBackOutcome, Opened, Outcome, Place, Refusal,
-    RequestStatus, SendOutcome, WorkOutcome,
+    AbandonOutcome, CancelOutcome, Event, GiveBackOutcome, Opened, Outcome, Refusal, SendOutcome,
+    WorkOutcome,
 };
 
 /// The numbers that the next ones get.
@@ -61,7 +60,7 @@ pub(crate) fn refused(refusal: Refusal) -> Done
     }
 }
 
-fn done(outcome: Outcome) -> Done
+pub(super) fn done(outcome: Outcome) -> Done
     ensures { result ≡ done_as outcome }
 {
     Done {
@@ -72,7 +71,8 @@ fn done(outcome: Outcome) -> Done
 
 /// What an event comes to whose connection is cut.
 fn on_cut(event: &Event) -> Done
-    ensures { (c : Connection) → result ≡ done_as (outcome_of (on_cut event.now c)) }
+    ensures value { (c : Connection) → result ≡ done_as (outcome_of (on_cut event.now c)) }
+    ensures whole { result.lost ≡ false }
 {
     match event {
         Event::GiveBack(_) => done(Outcome::GivenBack(GiveBackOutcome::Closed)),
@@ -102,18 +102,24 @@ impl<E: Engine + Drop> Link<E> {
     ) -> Result<Done, NoMemory>
         requires { IsTied self.old (C.pipes carrier.old self.old.number) }
         ensures number { self.new.number ≡ self.old.number }
-        ensures tied { OnOk result (IsTied self.new (C.pipes carrier.new self.old.number)) }
-        ensures others { OnOk result (AreSame (C.pipes carrier.old) (C.pipes carrier.new) self.old.number) }
-        ensures tells { OnOk result (C.tells carrier.old → C.tells carrier.new) }
-        // A connection that stands for one of the model stands for what the same event makes of it.
-        ensures alike { (setup : Setup) (w : World) (c : Connection) (engine : E) → C.tells carrier.old → C.steady
-            → IsPlayed self.old.number setup.packet_size engine self.old (C.pipes carrier.old self.old.number) c
+        ensures ties { OnOk result (KeepsTies self.old.number self.new (C.pipes carrier.old)
+            (C.pipes carrier.new) (C.tells carrier.old) (C.tells carrier.new)) }
+        ensures steady { C.steady → IfOk result (λ done. done.lost ≡ false) }
+        // A connection that stands for one of the model stands for what the event, as it was met, makes of
+        // it, cut where the carrier failed.
+        ensures alike { (setup : Setup) (w : World) (c : Connection) (engine : E)
+            → C.tells carrier.old
+            → IsPlayed self.old.number setup.packet_size engine self.old
+            (C.pipes carrier.old self.old.number) c
             → Promises E (answer_of (E.statements_of engine) (E.step_of engine)) setup.packet_size c
-            → IsCountable (after (acts_on setup (answer_of (E.statements_of engine) (E.step_of engine)) w event.now self.old.number c) c)
+            → ((k : ℕ) → IsCountable (after (acts_on setup
+            (answer_of (E.statements_of engine) (E.step_of engine)) w
+            (bringing k event.now) self.old.number c) c))
             → AreNext w next → (self.old.is_cut ≡ false → IsReady event.now c)
-            → IfOk result (λ done. (done ≡ done_as (outcome_of (acts_on setup (answer_of (E.statements_of engine) (E.step_of engine)) w event.now self.old.number c)))
-            × IsPlayed self.old.number setup.packet_size engine self.new (C.pipes carrier.new self.old.number)
-            (after (acts_on setup (answer_of (E.statements_of engine) (E.step_of engine)) w event.now self.old.number c) c)) }
+            → IfOk result (λ done. DoesAlike self.old.number setup.packet_size engine done self.new
+            (C.pipes carrier.new self.old.number)
+            (acts_on setup (answer_of (E.statements_of engine) (E.step_of engine)) w
+            (met done event.now) self.old.number c) c) }
     {
         if self.is_cut {
             return Ok(on_cut(event));
@@ -137,82 +143,6 @@ impl<E: Engine + Drop> Link<E> {
         }
     }
 
-    /// The connection is lent, and its next request is to ask for this reset.
-    fn lend(&mut self, next: Next, mark: Reset, opened: Opened) -> Done
-        ensures lent { unless_idle self.old.client.stage ≡ None → self.new ≡ lent_as next.lease mark self.old }
-        ensures done { result ≡ done_as (Leased next.lease self.old.number opened) }
-        ensures number { self.new.number ≡ self.old.number }
-        ensures tied { (pipe : Option Pipe) → IsTied self.old pipe → IsTied self.new pipe }
-    {
-        // A connection that is lent is idle, so this is not refused.
-        let _ = self.client.mark_reset(mark);
-        self.place = Place::Leased(next.lease);
-        done(Outcome::Leased {
-            lease: next.lease,
-            conn: self.number,
-            opened,
-        })
-    }
-
-    /// The lease ends. What is underway is cancelled first.
-    fn give_back<C: Carrier>(&mut self, alloc: Global, carrier: &mut C) -> Result<Done, NoMemory>
-        requires live { self.old.is_cut ≡ false }
-        requires tied { IsTied self.old (C.pipes carrier.old self.old.number) }
-        ensures number { self.new.number ≡ self.old.number }
-        ensures tied { OnOk result (IsTied self.new (C.pipes carrier.new self.old.number)) }
-        ensures others { OnOk result (AreSame (C.pipes carrier.old) (C.pipes carrier.new) self.old.number) }
-        ensures back { IfOk (cancelled self.old.client) (λ e. IfOk result (λ done. (done.outcome ≡ outcome.GivenBack (returned_as (is_none (unless_idle e.session.stage))))
-            × (self.new ≡ unless_lost done.lost (recounted self.new.to_server self.new.to_client
-            (placed_at (place_back (is_none (unless_idle e.session.stage))) (cancelled_as e.answer e.session self.old)))))) }
-        ensures tells { OnOk result (C.tells carrier.old → C.tells carrier.new) }
-        // A connection that stands for one of the model stands for what comes back there.
-        ensures alike { (size : ℕ) (engine : E) (c : Connection) → C.steady
-            → IsPlayed self.old.number size engine self.old (C.pipes carrier.old self.old.number) c
-            → up_underway (cancels c) ≤ 18446744073709551615
-            → IfOk result (λ done. (done ≡ done_as (outcome_of (comes_back (cancels c))))
-            × IsPlayed self.old.number size engine self.new (C.pipes carrier.new self.old.number) (after (comes_back (cancels c)) c)) }
-    {
-        let mut out = Vec::new(alloc);
-        let _ = self.cancel_request(&mut out)?;
-        let returned = if self.is_idle() {
-            self.place = Place::Free;
-            GiveBackOutcome::Free
-        } else {
-            self.place = Place::Draining;
-            GiveBackOutcome::Draining
-        };
-        let lost = self.hand_over(carrier, Direction::ToServer, out.as_slice())?;
-        Ok(self.end(carrier, Outcome::GivenBack(returned), lost))
-    }
-
-    /// The lease becomes a ticket, which keeps the transaction that the client heard of.
-    fn keep(&mut self, next: Next) -> Done
-        ensures refused { (why : Refusal) → unless_kept self.old.client ≡ Some why → (result ≡ done_as (Refused why)) × (self.new ≡ self.old) }
-        ensures kept { unless_kept self.old.client ≡ None → (result ≡ done_as (Kept next.ticket)) × (self.new ≡ placed_at (place.Kept next.ticket) self.old) }
-        ensures number { self.new.number ≡ self.old.number }
-        ensures tied { (pipe : Option Pipe) → IsTied self.old pipe → IsTied self.new pipe }
-    {
-        if !self.is_idle() {
-            return refused(Refusal::NotIdle);
-        }
-        if self.client.descriptor() == 0 || self.client.reset_mark() == Some(Reset::Full) {
-            return refused(Refusal::NothingToKeep);
-        }
-        self.place = Place::Kept(next.ticket);
-        done(Outcome::Kept(next.ticket))
-    }
-
-    /// The ticket ends. The connection that it kept is idle, so it is free then.
-    fn abandon(&mut self) -> Done
-        ensures value { self.new ≡ placed_at place.Free self.old }
-        ensures done { result ≡ done_as (Abandoned abandoned.Free) }
-        ensures number { self.new.number ≡ self.old.number }
-        ensures tied { (pipe : Option Pipe) → IsTied self.old pipe → IsTied self.new pipe }
-    {
-        self.place = Place::Free;
-        done(Outcome::Abandoned(AbandonOutcome::Free))
-    }
-
     /// A request is asked. None of it goes out yet.
     fn ask(
         &mut self,
@@ -221,8 +151,10 @@ impl<E: Engine + Drop> Link<E> {
         lease: u32,
         request: &Request,
     ) -> Result<Done, NoMemory>
-        ensures refused { is_none (unless_idle self.old.client.stage) ≡ false → (result ≡ Ok (done_as (Refused NotIdle))) × (self.new ≡ self.old) }
-        ensures asked { is_none (unless_idle self.old.client.stage) ≡ true → IfOk result (λ done. (done ≡ done_as (Asked next.request)) × IsAskedOn lease request.now self.old self.new) }
+        ensures refused { is_none (unless_idle self.old.client.stage) ≡ false
+            → (result ≡ Ok (done_as (Refused NotIdle))) × (self.new ≡ self.old) }
+        ensures asked { is_none (unless_idle self.old.client.stage) ≡ true → IfOk result (λ done.
+            (done ≡ done_as (Asked next.request)) × IsAskedOn lease request.now self.old self.new) }
         ensures number { self.new.number ≡ self.old.number }
         ensures tied { (pipe : Option Pipe) → IsTied self.old pipe → IsTied self.new pipe }
     {
@@ -253,9 +185,12 @@ impl<E: Engine + Drop> Link<E> {
 
     /// The client appends the request's next packet, if one is left.
     fn put_next(&mut self, out: &mut Vec<u8>) -> Result<Option<SendOutcome>, NoMemory>
-        ensures refused { is_ok (sent self.old.client) ≡ false → (result ≡ Ok None) × (self.new ≡ self.old) × (out.new.items ≡ out.old.items) }
-        ensures sent { IfOk (sent self.old.client) (λ e. IfOk result (λ o. (o ≡ Some (send_outcome e.answer))
-            × (self.new ≡ with_client e.session self.old) × (out.new.items ≡ out.old.items ++ e.bytes))) }
+        ensures refused { is_ok (sent self.old.client) ≡ false → (result ≡ Ok None)
+            × (self.new ≡ self.old) × (out.new.items ≡ out.old.items) }
+        ensures sent { IfOk (sent self.old.client) (λ e. IfOk result (λ o.
+            (o ≡ Some (send_outcome e.answer))
+            × (self.new ≡ with_client e.session self.old)
+            × (out.new.items ≡ out.old.items ++ e.bytes))) }
         ensures number { self.new.number ≡ self.old.number }
         ensures live { self.new.is_cut ≡ self.old.is_cut }
         ensures tied { (pipe : Option Pipe) → IsTied self.old pipe → IsTied self.new pipe }
@@ -273,18 +208,23 @@ impl<E: Engine + Drop> Link<E> {
         requires live { self.old.is_cut ≡ false }
         requires tied { IsTied self.old (C.pipes carrier.old self.old.number) }
         ensures number { self.new.number ≡ self.old.number }
-        ensures tied { OnOk result (IsTied self.new (C.pipes carrier.new self.old.number)) }
-        ensures others { OnOk result (AreSame (C.pipes carrier.old) (C.pipes carrier.new) self.old.number) }
-        ensures refused { is_ok (sent self.old.client) ≡ false → (result ≡ Ok (done_as (Refused NotSending))) × (self.new ≡ self.old) × (carrier.new ≡ carrier.old) }
-        ensures sent { IfOk (sent self.old.client) (λ e. IfOk result (λ done. (done.outcome ≡ outcome.Sent (send_outcome e.answer))
-            × (self.new ≡ unless_lost done.lost (recounted self.new.to_server self.new.to_client (with_client e.session self.old))))) }
-        ensures tells { OnOk result (C.tells carrier.old → C.tells carrier.new) }
+        ensures ties { OnOk result (KeepsTies self.old.number self.new (C.pipes carrier.old)
+            (C.pipes carrier.new) (C.tells carrier.old) (C.tells carrier.new)) }
+        ensures refused { is_ok (sent self.old.client) ≡ false
+            → (result ≡ Ok (done_as (Refused NotSending))) × (self.new ≡ self.old)
+            × (carrier.new ≡ carrier.old) }
+        ensures sent { IfOk (sent self.old.client) (λ e. IfOk result (λ done.
+            (done.outcome ≡ outcome.Sent (send_outcome e.answer))
+            × (self.new ≡ unless_lost done.lost
+            (recounted self.new.to_server self.new.to_client (with_client e.session self.old))))) }
+        ensures steady { C.steady → IfOk result (λ done. done.lost ≡ false) }
         // A connection that stands for one of the model stands for what the same send makes of it.
-        ensures alike { (size : ℕ) (engine : E) (c : Connection) → C.steady
+        ensures alike { (size : ℕ) (engine : E) (c : Connection)
             → IsPlayed self.old.number size engine self.old (C.pipes carrier.old self.old.number) c
-            → up_underway (after (sends_in (phase c) (size - 8) c.current c) c) ≤ 18446744073709551615
-            → IfOk result (λ done. (done ≡ done_as (outcome_of (sends_in (phase c) (size - 8) c.current c)))
-            × IsPlayed self.old.number size engine self.new (C.pipes carrier.new self.old.number) (after (sends_in (phase c) (size - 8) c.current c) c)) }
+            → up_underway (after (sends_in (phase c) (size - 8) c.current c) c)
+            ≤ 18446744073709551615
+            → IfOk result (λ done. DoesAlike self.old.number size engine done self.new
+            (C.pipes carrier.new self.old.number) (sends_in (phase c) (size - 8) c.current c) c) }
     {
         let mut out = Vec::new(alloc);
         let Some(sent) = self.put_next(&mut out)? else {
@@ -295,24 +235,26 @@ impl<E: Engine + Drop> Link<E> {
     }
 
     /// Cancels the request underway, and appends what goes out for it.
-    fn cancel_request(&mut self, out: &mut Vec<u8>) -> Result<CancelOutcome, NoMemory>
+    pub(super) fn cancel_request(&mut self, out: &mut Vec<u8>) -> Result<CancelOutcome, NoMemory>
         ensures number { self.new.number ≡ self.old.number }
         ensures tied { (pipe : Option Pipe) → IsTied self.old pipe → IsTied self.new pipe }
         ensures live { self.new.is_cut ≡ self.old.is_cut }
-        ensures cancelled { IfOk (cancelled self.old.client) (λ e. IfOk result (λ outcome. (outcome ≡ cancel_outcome e.answer)
-            × (self.new ≡ cancelled_as e.answer e.session self.old) × (out.new.items ≡ out.old.items ++ e.bytes))) }
+        ensures cancelled { IfOk (cancelled self.old.client) (λ e. IfOk result (λ outcome.
+            (outcome ≡ cancel_outcome e.answer)
+            × (self.new ≡ cancelled_as e.answer e.session self.old)
+            × (out.new.items ≡ out.old.items ++ e.bytes))) }
     {
-        let (outcome, status) = match self.client.cancel(out) {
+        let (outcome, is_out) = match self.client.cancel(out) {
             Ok(Cancelled::Nothing) => return Ok(CancelOutcome::Nothing),
             Ok(Cancelled::Already) => return Ok(CancelOutcome::Already),
-            Ok(Cancelled::Unsent) => (CancelOutcome::Unsent, RequestStatus::Unsent),
-            Ok(Cancelled::Asked) => (CancelOutcome::Asked, RequestStatus::Cancelling),
+            Ok(Cancelled::Unsent) => (CancelOutcome::Unsent, false),
+            Ok(Cancelled::Asked) => (CancelOutcome::Asked, true),
             Err(ClientRefusal::Memory) => return Err(AllocError),
             // A connection whose client broke is cut, so this does not come.
             Err(_) => return Ok(CancelOutcome::Nothing),
         };
         if let Some(record) = &mut self.current {
-            record.status = status;
+            record.cancel(is_out);
         }
         Ok(outcome)
     }
@@ -322,17 +264,21 @@ impl<E: Engine + Drop> Link<E> {
         requires live { self.old.is_cut ≡ false }
         requires tied { IsTied self.old (C.pipes carrier.old self.old.number) }
         ensures number { self.new.number ≡ self.old.number }
-        ensures tied { OnOk result (IsTied self.new (C.pipes carrier.new self.old.number)) }
-        ensures others { OnOk result (AreSame (C.pipes carrier.old) (C.pipes carrier.new) self.old.number) }
-        ensures cancelled { IfOk (cancelled self.old.client) (λ e. IfOk result (λ done. (done.outcome ≡ outcome.Cancel (cancel_outcome e.answer))
-            × (self.new ≡ unless_lost done.lost (recounted self.new.to_server self.new.to_client (cancelled_as e.answer e.session self.old))))) }
-        ensures tells { OnOk result (C.tells carrier.old → C.tells carrier.new) }
+        ensures ties { OnOk result (KeepsTies self.old.number self.new (C.pipes carrier.old)
+            (C.pipes carrier.new) (C.tells carrier.old) (C.tells carrier.new)) }
+        ensures cancelled { IfOk (cancelled self.old.client) (λ e. IfOk result (λ done.
+            (done.outcome ≡ outcome.Cancel (cancel_outcome e.answer))
+            × (self.new ≡ unless_lost done.lost
+            (recounted self.new.to_server self.new.to_client
+            (cancelled_as e.answer e.session self.old))))) }
+        ensures steady { C.steady → IfOk result (λ done. done.lost ≡ false) }
         // A connection that stands for one of the model stands for what the same cancel makes of it.
-        ensures alike { (size : ℕ) (engine : E) (c : Connection) → C.steady
+        ensures alike { (size : ℕ) (engine : E) (c : Connection)
             → IsPlayed self.old.number size engine self.old (C.pipes carrier.old self.old.number) c
             → up_underway (cancels c) ≤ 18446744073709551615
-            → IfOk result (λ done. (done ≡ done_as (outcome.Cancel (model.cancel_outcome (phase c))))
-            × IsPlayed self.old.number size engine self.new (C.pipes carrier.new self.old.number) (cancels c)) }
+            → IfOk result (λ done. DoesAlike self.old.number size engine done self.new
+            (C.pipes carrier.new self.old.number)
+            (Does (outcome.Cancel (model.cancel_outcome (phase c))) (cancels c)) c) }
     {
         let mut out = Vec::new(alloc);
         let cancelled = self.cancel_request(&mut out)?;
@@ -344,7 +290,8 @@ impl<E: Engine + Drop> Link<E> {
     fn put_step(&mut self, out: &mut Vec<u8>) -> Result<WorkOutcome, NoMemory>
         ensures outcome { IfOk result (λ o. o ≡ worked_outcome (worked self.old.server).answer) }
         ensures value { OnOk result (self.new ≡ worked_as (worked self.old.server) self.old) }
-        ensures bytes { OnOk result (out.new.items ≡ out.old.items ++ (worked self.old.server).packet) }
+        ensures bytes { OnOk result (out.new.items
+            ≡ out.old.items ++ (worked self.old.server).packet) }
         ensures number { self.new.number ≡ self.old.number }
         ensures live { self.new.is_cut ≡ self.old.is_cut }
         ensures tied { (pipe : Option Pipe) → IsTied self.old pipe → IsTied self.new pipe }
@@ -367,17 +314,22 @@ impl<E: Engine + Drop> Link<E> {
         requires live { self.old.is_cut ≡ false }
         requires tied { IsTied self.old (C.pipes carrier.old self.old.number) }
         ensures number { self.new.number ≡ self.old.number }
-        ensures tied { OnOk result (IsTied self.new (C.pipes carrier.new self.old.number)) }
-        ensures others { OnOk result (AreSame (C.pipes carrier.old) (C.pipes carrier.new) self.old.number) }
-        ensures worked { IfOk result (λ done. (done.outcome ≡ outcome.Work (worked_outcome (worked self.old.server).answer))
-            × (self.new ≡ unless_lost done.lost (recounted self.new.to_server self.new.to_client (worked_as (worked self.old.server) self.old)))) }
-        ensures tells { OnOk result (C.tells carrier.old → C.tells carrier.new) }
+        ensures ties { OnOk result (KeepsTies self.old.number self.new (C.pipes carrier.old)
+            (C.pipes carrier.new) (C.tells carrier.old) (C.tells carrier.new)) }
+        ensures worked { IfOk result (λ done.
+            (done.outcome ≡ outcome.Work (worked_outcome (worked self.old.server).answer))
+            × (self.new ≡ unless_lost done.lost
+            (recounted self.new.to_server self.new.to_client
+            (worked_as (worked self.old.server) self.old)))) }
+        ensures steady { C.steady → IfOk result (λ done. done.lost ≡ false) }
         // A connection that stands for one of the model stands for what the same work makes of it.
-        ensures alike { (size : ℕ) (engine : E) (c : Connection) → C.steady
+        ensures alike { (size : ℕ) (engine : E) (c : Connection)
             → IsPlayed self.old.number size engine self.old (C.pipes carrier.old self.old.number) c
-            → EndsIfDue c.due → WorksOnNewest c c.due → (works c).past ≡ c.past → down_underway (works c) ≤ 18446744073709551615
-            → IfOk result (λ done. (done ≡ done_as (outcome.Work (work_outcome c.due)))
-            × IsPlayed self.old.number size engine self.new (C.pipes carrier.new self.old.number) (works c)) }
+            → EndsIfDue c.due → WorksOnNewest c c.due → (works c).past ≡ c.past
+            → down_underway (works c) ≤ 18446744073709551615
+            → IfOk result (λ done. DoesAlike self.old.number size engine done self.new
+            (C.pipes carrier.new self.old.number)
+            (Does (outcome.Work (work_outcome c.due)) (works c)) c) }
     {
         let mut out = Vec::new(alloc);
         let outcome = self.put_step(&mut out)?;

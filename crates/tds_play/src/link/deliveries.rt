@@ -3,13 +3,13 @@ ghost use Rattle.std.specs.Prelude.{◌≡◌, ◌≤◌, ◌||◌, ◌++◌, �
 ghost use Rattle.tds_client.specs.Session.{unless_idle};
 ghost use Rattle.tds_packet.specs.declared.kind.Direction.TheVariants.{ToClient};
 ghost use Rattle.tds_play.specs.Between.{Stands};
-ghost use Rattle.tds_play.specs.Deliveries.{AllArrive};
-ghost use Rattle.tds_play.specs.Feeding.{Comes, Coming, Listened, listened};
+ghost use Rattle.tds_ends.specs.Deliveries.{AllArrive};
+ghost use Rattle.tds_ends.specs.Feeding.{Comes, Coming, Listened, listened};
 ghost use Rattle.tds_play.specs.Links.{drained_at, placed_at};
 ghost use Rattle.tds_play.specs.Listening.{HasListened, told_in};
 ghost use Rattle.tds_play.specs.Pipe.{Pipe, AreSame};
-ghost use Rattle.tds_play.specs.Plays.{IsPlayed};
-ghost use Rattle.tds_play.specs.Promises.{IsCountable, Promises};
+ghost use Rattle.tds_play.specs.Plays.{DoesAlike, IsPlayed, count_of, delivers_down, delivers_up};
+ghost use Rattle.tds_ends.specs.Promises.{IsCountable, Promises};
 ghost use Rattle.tds_play.specs.Seen.{done_as};
 ghost use Rattle.tds_play.specs.Ties.{IsTied};
 ghost use Rattle.tds_session.specs.Answer.{Answers, answer_of};
@@ -58,22 +58,17 @@ impl<E: Engine + Drop> Link<E> {
         ensures number { self.new.number ≡ self.old.number }
         ensures tied { OnOk result (IsTied self.new (C.pipes carrier.new self.old.number)) }
         ensures others { OnOk result (AreSame (C.pipes carrier.old) (C.pipes carrier.new) self.old.number) }
-        // A connection that stands for one of the model stands for what the same delivery makes of it.
-        ensures stands { (c : Connection) → C.tells carrier.old → Stands self.old (C.pipes carrier.old self.old.number) c
-            → DeliversOn (answer_of (E.statements_of self.old.server.engine) (E.step_of self.old.server.engine)) c
-            → down_underway (to_server (answer_of (E.statements_of self.old.server.engine) (E.step_of self.old.server.engine)) most c) ≤ 18446744073709551615
-            → AllArrive E (answer_of (E.statements_of self.old.server.engine) (E.step_of self.old.server.engine)) self.old.server_reader c c.to_server.waiting
-            → IfOk result (λ done. done.lost ≡ false
-            → (done.outcome ≡ outcome.ToServer (min most (up_underway c)))
-            × Stands self.new (C.pipes carrier.new self.old.number) (to_server (answer_of (E.statements_of self.old.server.engine) (E.step_of self.old.server.engine)) most c)) }
         ensures tells { OnOk result (C.tells carrier.old → C.tells carrier.new) }
         ensures steady { C.steady → IfOk result (λ done. done.lost ≡ false) }
-        ensures alike { (size : ℕ) (engine : E) (c : Connection) → C.tells carrier.old → C.steady
+        // A connection that stands for one of the model stands for what the delivery of as many bytes as came
+        // makes of it, cut where the carrier failed.
+        ensures alike { (size : ℕ) (engine : E) (c : Connection) → C.tells carrier.old
             → IsPlayed self.old.number size engine self.old (C.pipes carrier.old self.old.number) c
             → Promises E (answer_of (E.statements_of engine) (E.step_of engine)) size c
-            → IsCountable (to_server (answer_of (E.statements_of engine) (E.step_of engine)) most c)
-            → IfOk result (λ done. (done ≡ done_as (outcome.ToServer (min most (up_underway c))))
-            × IsPlayed self.old.number size engine self.new (C.pipes carrier.new self.old.number) (to_server (answer_of (E.statements_of engine) (E.step_of engine)) most c)) }
+            → ((k : ℕ) → IsCountable (to_server (answer_of (E.statements_of engine) (E.step_of engine)) k c))
+            → IfOk result (λ done. DoesAlike self.old.number size engine done self.new
+            (C.pipes carrier.new self.old.number)
+            (delivers_up (answer_of (E.statements_of engine) (E.step_of engine)) (count_of done most) c) c) }
     {
         let count = at_most(self.to_server, most);
         let mut piece = Vec::new(alloc);
@@ -104,11 +99,11 @@ impl<E: Engine + Drop> Link<E> {
         ensures others { OnOk result (AreSame (C.pipes carrier.old) (C.pipes carrier.new) self.old.number) }
         ensures tells { OnOk result (C.tells carrier.old → C.tells carrier.new) }
         ensures steady { C.steady → IfOk result (λ done. done.lost ≡ false) }
-        ensures alike { (answers : Answers) (size : ℕ) (engine : E) (c : Connection) → C.tells carrier.old → C.steady
+        ensures alike { (answers : Answers) (size : ℕ) (engine : E) (c : Connection) → C.tells carrier.old
             → IsPlayed self.old.number size engine self.old (C.pipes carrier.old self.old.number) c
             → Promises E answers size c
-            → IfOk result (λ done. (done ≡ done_as (outcome.ToClient (min most (down_underway c))))
-            × IsPlayed self.old.number size engine self.new (C.pipes carrier.new self.old.number) (to_client most c)) }
+            → IfOk result (λ done. DoesAlike self.old.number size engine done self.new
+            (C.pipes carrier.new self.old.number) (delivers_down (count_of done most) c) c) }
     {
         let count = at_most(self.to_client, most);
         let mut piece = Vec::new(alloc);
@@ -156,9 +151,7 @@ impl<E: Engine + Drop> Link<E> {
             Some(record) => {
                 let told = &mut record.tokens;
                 let heard = feed_client(&mut self.client, &mut self.client_reader, piece, told)?;
-                if let Some(status) = heard.settled {
-                    record.status = status;
-                }
+                record.settle(heard.settled);
                 Ok(heard)
             }
         }

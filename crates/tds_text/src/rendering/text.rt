@@ -4,7 +4,7 @@ ghost use Rattle.tds_text.specs.Texts.{hex_digit, hex4, is_plain, unit_text, sho
 use std::alloc::AllocError;
 
 /// Appends a text: each unit as itself where it is plain, else as `\u` and four digits.
-pub(crate) fn put_units(text: &mut String, units: &[u16]) -> Result<(), AllocError>
+pub fn put_units(text: &mut String, units: &[u16]) -> Result<(), AllocError>
     ensures { OnOk result (string_bytes text.new ≡ string_bytes text.old ++ shown units.now) }
 {
     for unit in units {

@@ -7,7 +7,7 @@ use std::fmt::Write;
 use tds_token::{Column, Message, Token};
 
 /// Appends the line of a token that a caller was given.
-pub(crate) fn put_token_line(text: &mut String, token: &Token) -> Result<(), AllocError>
+pub fn put_token_line(text: &mut String, token: &Token) -> Result<(), AllocError>
     ensures { OnOk result (string_bytes text.new ≡ string_bytes text.old ++ token_line token.now) }
 {
     match token {

@@ -12,7 +12,8 @@ use std::alloc::AllocError;
 /// A message behind this token byte and its Length (MS-TDS 2.2.7.10, 2.2.7.13).
 pub(crate) fn put_message(out: &mut Vec<u8>, kind: u8, message: &Message) -> Result<(), AllocError>
     requires { FitsMessage message.now }
-    ensures ok { OnOk result (out.new.items ≡ out.old.items ++ kind ∷ sized (message_inside message.now)) }
+    ensures ok { OnOk result (out.new.items
+        ≡ out.old.items ++ kind ∷ sized (message_inside message.now)) }
     ensures ranged { OnOk result (RangedMessage message.now) }
     ensures kept { IsKept out.old.items out.new.items }
 {

@@ -41,7 +41,8 @@ pub(crate) fn put_columns(out: &mut Vec<u8>, columns: &[Column]) -> Result<(), A
 
 /// A ROW (MS-TDS 2.2.7.20).
 pub(crate) fn put_row(out: &mut Vec<u8>, values: &[i32]) -> Result<(), AllocError>
-    ensures ok { OnOk result (out.new.items ≡ out.old.items ++ 0xD1 ∷ flat_map int_bytes values.now) }
+    ensures ok { OnOk result (out.new.items
+        ≡ out.old.items ++ 0xD1 ∷ flat_map int_bytes values.now) }
     ensures ranged { OnOk result (AllByRecursion IsInt values.now) }
     ensures kept { IsKept out.old.items out.new.items }
 {

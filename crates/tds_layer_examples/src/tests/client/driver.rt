@@ -52,6 +52,8 @@ pub enum Step {
     Cancel(Cancelled, &'static [u8]),
     /// Takes the packet that these bytes spell.
     Take(&'static [u8], Taken),
+    /// Takes this many packets of an answer, each with 64 rows, from 0 on: `More` each time.
+    TakeRows(u8),
     /// Takes a packet that is answered with the fault of this number and tells nothing.
     Fault(&'static [u8], u8),
     /// The same, with the token fault of this number.
@@ -121,6 +123,7 @@ fn holds(player: &mut Player, step: Step) -> Result<bool, Fail> {
         Step::Asks(ask) => asks(player, ask),
         Step::Cancel(answer, bytes) => cancels(player, answer, bytes),
         Step::Take(bytes, answer) => takes(player, bytes, answer),
+        Step::TakeRows(count) => takes_rows(player, count),
         Step::Fault(bytes, number) => faults(player, bytes, number),
         Step::TokenFault(bytes, number) => faults_by_token(player, bytes, number),
         Step::NoStart(ask, number) => Ok(start(player, ask)? == number),
@@ -273,6 +276,38 @@ fn takes(player: &mut Player, bytes: &[u8], answer: Taken) -> Result<bool, Fail>
         Ok(taken) => Ok(taken == answer),
         Err(_) => Ok(false),
     }
+}
+
+/// The head of a step with 64 rows, up to its PacketID.
+const ROWS_HEAD: [u8; 6] = [0x04, 0x00, 0x01, 0x62, 0x00, 0x00];
+
+/// Its COLMETADATA of one column, `n`.
+const ONE_COLUMN: [u8; 13] = [0x81, 0x01, 0, 0, 0, 0, 0, 0, 0, 0x38, 0x01, 0x6E, 0x00];
+
+/// Its DONE with `0011` and their count.
+const ROWS_DONE: [u8; 13] = [0xFD, 0x11, 0, 0, 0, 0x40, 0, 0, 0, 0, 0, 0, 0];
+
+/// The packet with this PacketID that gives the rows from 0 to 63.
+fn rows(alloc: Global, packet_id: u8) -> Result<Vec<u8>, Fail> {
+    let mut packet = Vec::new(alloc);
+    packet.extend_from_slice(&ROWS_HEAD)?;
+    packet.extend_from_slice(&[packet_id, 0])?;
+    packet.extend_from_slice(&ONE_COLUMN)?;
+    for value in 0..64 {
+        packet.extend_from_slice(&[0xD1, value, 0, 0, 0])?;
+    }
+    packet.extend_from_slice(&ROWS_DONE)?;
+    Ok(packet)
+}
+
+fn takes_rows(player: &mut Player, count: u8) -> Result<bool, Fail> {
+    for place in 0..count {
+        let packet = rows(player.alloc, place.wrapping_add(1))?;
+        if !takes(player, packet.as_slice(), Taken::More)? {
+            return Ok(false);
+        }
+    }
+    Ok(true)
 }
 
 fn faults(player: &mut Player, bytes: &[u8], number: u8) -> Result<bool, Fail> {

@@ -6,16 +6,17 @@ const ROW: [u8; 13] = [
 
 const EMPTY_END: [u8; 8] = [0x04, 0x01, 0x00, 0x08, 0x00, 0x00, 0x01, 0x00];
 
-/// A transaction with descriptor 1 is committed, and none is open.
-const COMMITTED: [u8; 35] = [
-    0x04, 0x00, 0x00, 0x23, 0x00, 0x00, 0x03, 0x00, 0xE3, 0x0B, 0x00, 0x09, 0x00, 0x08, 0x01, 0x00,
-    0x00, 0x00, 0x00, 0x00, 0x00, 0x00, 0xFD, 0x01, 0, 0, 0, 0, 0, 0, 0, 0, 0, 0, 0,
-];
-
 /// A token behind the final DONE.
 const BEHIND: [u8; 34] = [
     0x04, 0x01, 0x00, 0x22, 0x00, 0x00, 0x01, 0x00, 0xFD, 0, 0, 0, 0, 0, 0, 0, 0, 0, 0, 0, 0, 0xFD,
     0x20, 0, 0, 0, 0, 0, 0, 0, 0, 0, 0, 0,
+];
+
+/// A row of a result with one column, its final DONE, and a row behind it.
+const ROW_BEHIND: [u8; 44] = [
+    0x04, 0x01, 0x00, 0x2C, 0x00, 0x00, 0x01, 0x00, 0x81, 0x01, 0x00, 0x00, 0x00, 0x00, 0x00, 0x00,
+    0x00, 0x38, 0x01, 0x6E, 0x00, 0xD1, 0x05, 0x00, 0x00, 0x00, 0xFD, 0x10, 0x00, 0x00, 0x00, 0x01,
+    0x00, 0x00, 0x00, 0x00, 0x00, 0x00, 0x00, 0xD1, 0x06, 0x00, 0x00, 0x00,
 ];
 
 /// `BEGUN`, where the status of the DONE is `0020`.
@@ -32,6 +33,15 @@ const AN_ANSWER_IN_SENDING: [Step; 2] = [Step::Start(Ask::Batch(b"get x")), Step
 const THE_FAULT_OF_A_TOKEN_IS_CARRIED: [Step; 2] = [
     Step::Asks(Ask::Batch(b"get x")),
     Step::TokenFault(&ROW, 6),
+];
+
+/// A DONE ends the columns, so a row behind the final one is a row without columns.
+const A_ROW_BEHIND_THE_FINAL_DONE: [Step; 5] = [
+    Step::Asks(Ask::Batch(b"rows 5 1")),
+    Step::TokenFault(&ROW_BEHIND, 6),
+    Step::Told(b""),
+    Step::Is(Stands::Broken(8)),
+    Step::NoStart(Ask::Batch(b"get x"), 3),
 ];
 
 /// In cancelling an acknowledgement is lawful.
@@ -147,7 +157,8 @@ const A_ROW_WITHOUT_COLUMNS: [Step; 11] = [
     Step::Fault(&ROW, 8),
 ];
 
-const HOSTILE: [Script; 12] = [
+const HOSTILE: [Script; 13] = [
+    ("a row behind the final done", &A_ROW_BEHIND_THE_FINAL_DONE),
     ("an unasked acknowledgement", &AN_UNASKED_ACKNOWLEDGEMENT),
     ("a wrong change", &A_WRONG_CHANGE),
     ("an unasked reset", &AN_UNASKED_RESET),

@@ -18,7 +18,7 @@ const SAY_TWICE: [u8; 52] = [
 ];
 
 /// When an attention comes. Behind it there is nothing to do.
-const ATTENTIONS: [(&str, &[Call]); 3] = [
+const ATTENTIONS: [(&str, &[Call]); 4] = [
     // It is acknowledged by a message of its own.
     (
         "when the answer has gone out",
@@ -46,6 +46,16 @@ const ATTENTIONS: [(&str, &[Call]); 3] = [
             Call::Take(&BEGIN, ServerTook::Request, &[]),
             Call::Take(&ATTENTION, ServerTook::Acknowledged, &ACKNOWLEDGED),
             Call::Descriptor(0),
+            IDLE,
+        ],
+    ),
+    // Each of two is acknowledged by a message of its own.
+    (
+        "one after the other",
+        &[
+            Call::Take(&ATTENTION, ServerTook::Acknowledged, &ACKNOWLEDGED),
+            Call::Take(&ATTENTION, ServerTook::Acknowledged, &ACKNOWLEDGED),
+            Call::NewSession,
             IDLE,
         ],
     ),

@@ -11,13 +11,19 @@ ghost use Rattle.tds_session.specs.Session.{value_of};
 ghost use Rattle.tds_session.specs.declared.statement.Statement.TheVariants.{Set};
 
 use super::*;
+use std::cell::Cell;
 use tds_token::Token;
 
-/// An engine for which each unit of a text is a statement, and which counts its steps in `a`.
+/// An engine for which each unit of a text is a statement, and which adds 1 to `a`.
+///
+/// It counts the steps that it is asked for outside of any session: so a step shows whichever
+/// session it is done on, and whatever becomes of that session.
 #[derive(Drop)]
-struct Counts;
+struct Counts<'a> {
+    steps: &'a Cell<u32>,
+}
 
-impl Engine for Counts {
+impl Engine for Counts<'_> {
     type Stmt = u16;
 
     ghost statements_of = { λ _ text. Some text };
@@ -43,6 +49,7 @@ impl Engine for Counts {
         _statement: &u16,
         tokens: &mut Vec<Token>,
     ) -> Result<(), NoMemory> {
+        self.steps.set(self.steps.get().wrapping_add(1));
         let value = session.get(b'a').wrapping_add(1);
         let Some(key) = Key::new(97) else {
             unreachable!()
@@ -88,38 +95,50 @@ const STOPPED: [u8; 21] = [
     0x00, 0x00, 0x00, 0x00, 0x00,
 ];
 
+/// A call, and how many steps the engine has been asked for after it.
+type Counted = (Call<'static>, u32);
+
 /// No step is done ahead: neither when a request is taken, nor by a call of `work` before its own.
-const ONE_STEP_AT_A_TIME: [Call; 12] = [
-    Call::Take(&THREE_UNITS, ServerTook::Request, &[]),
-    Call::Value(0),
-    Call::Work(Worked::Step, &FIRST),
-    Call::Value(1),
-    Call::Work(Worked::Step, &SECOND),
-    Call::Value(2),
-    Call::Work(Worked::Step, &THIRD),
-    Call::Value(3),
-    Call::Work(Worked::Finished, &LAST),
-    Call::Value(3),
-    IDLE,
-    Call::Value(3),
+const ONE_STEP_AT_A_TIME: [Counted; 6] = [
+    (Call::Take(&THREE_UNITS, ServerTook::Request, &[]), 0),
+    (Call::Work(Worked::Step, &FIRST), 1),
+    (Call::Work(Worked::Step, &SECOND), 2),
+    (Call::Work(Worked::Step, &THIRD), 3),
+    (Call::Work(Worked::Finished, &LAST), 3),
+    (IDLE, 3),
 ];
 
 /// An attention after two of the steps: the third is never done.
-const NO_STEP_BEHIND_AN_ATTENTION: [Call; 7] = [
-    Call::Take(&THREE_UNITS, ServerTook::Request, &[]),
-    Call::Work(Worked::Step, &FIRST),
-    Call::Work(Worked::Step, &SECOND),
-    Call::Take(&ATTENTION, ServerTook::Acknowledged, &STOPPED),
-    IDLE,
-    IDLE,
-    Call::Value(2),
+const NO_STEP_BEHIND_AN_ATTENTION: [Counted; 6] = [
+    (Call::Take(&THREE_UNITS, ServerTook::Request, &[]), 0),
+    (Call::Work(Worked::Step, &FIRST), 1),
+    (Call::Work(Worked::Step, &SECOND), 2),
+    (
+        Call::Take(&ATTENTION, ServerTook::Acknowledged, &STOPPED),
+        2,
+    ),
+    (IDLE, 2),
+    (IDLE, 2),
 ];
+
+/// Plays a script on a new server. The place of the first call that goes otherwise, or after which
+/// the engine has been asked for another number of steps; None where there is none.
+fn plays_counted(alloc: Global, script: &[Counted]) -> Result<Option<usize>, Fail> {
+    let steps = Cell::new(0);
+    let mut server = Server::new(alloc, Counts { steps: &steps }, size()?);
+    for (place, (call, count)) in script.iter().enumerate() {
+        if !goes(alloc, &mut server, *call)? || steps.get() != *count {
+            return Ok(Some(place));
+        }
+    }
+    Ok(None)
+}
 
 #[test]
 fn another_engine_is_served(rt: HostRuntime) -> Result<(), Fail> {
-    assert_eq!(rt; plays(rt.alloc(), Counts, &ONE_STEP_AT_A_TIME)?, None);
+    assert_eq!(rt; plays_counted(rt.alloc(), &ONE_STEP_AT_A_TIME)?, None);
     assert_eq!(rt;
-        plays(rt.alloc(), Counts, &NO_STEP_BEHIND_AN_ATTENTION)?,
+        plays_counted(rt.alloc(), &NO_STEP_BEHIND_AN_ATTENTION)?,
         None
     );
     Ok(())

@@ -15,15 +15,29 @@ const REST: [u8; 14] = [
     0x01, 0x01, 0x00, 0x0E, 0x00, 0x00, 0x02, 0x00, 0x79, 0x00, 0x20, 0x00, 0x61, 0x00,
 ];
 
+/// The same with the bit of a full reset, which counts on a first packet alone.
+const REST_UNDER_RESET: [u8; 14] = [
+    0x01, 0x09, 0x00, 0x0E, 0x00, 0x00, 0x02, 0x00, 0x79, 0x00, 0x20, 0x00, 0x61, 0x00,
+];
+
 /// A second packet that says that the message is to be ignored.
 const IGNORED: [u8; 8] = [0x01, 0x03, 0x00, 0x08, 0x00, 0x00, 0x02, 0x00];
 
-const MESSAGES: [(&str, &[Call]); 3] = [
+const MESSAGES: [(&str, &[Call]); 4] = [
     (
         "a message in two packets",
         &[
             Call::Take(&PART, ServerTook::More, &[]),
             Call::Take(&REST, ServerTook::Request, &[]),
+            Call::Work(Worked::Step, &SAID),
+        ],
+    ),
+    // No reset step comes before the first statement's.
+    (
+        "a reset on the second packet",
+        &[
+            Call::Take(&PART, ServerTook::More, &[]),
+            Call::Take(&REST_UNDER_RESET, ServerTook::Request, &[]),
             Call::Work(Worked::Step, &SAID),
         ],
     ),

@@ -21,23 +21,27 @@ enum Call {
     TellsRollback(u64),
 }
 
-/// Whether the token of a begin, a commit or a rollback tells the descriptor.
+/// Whether a begin, a commit or a rollback appends one token, which tells the descriptor.
 fn tells(alloc: Global, session: &mut Session, call: Call) -> Result<bool, Fail> {
+    let mut tokens = Vec::new(alloc);
     match call {
-        Call::TellsBegin(descriptor) => Ok(matches!(
-            &begin_transaction(alloc, session)?,
-            Token::Env(EnvChange::Begin(found)) if *found == descriptor
-        )),
-        Call::TellsCommit(descriptor) => Ok(matches!(
-            &commit_transaction(alloc, session)?,
-            Token::Env(EnvChange::Commit(found)) if *found == descriptor
-        )),
-        Call::TellsRollback(descriptor) => Ok(matches!(
-            &roll_back_transaction(alloc, session)?,
-            Token::Env(EnvChange::Rollback(found)) if *found == descriptor
-        )),
-        _ => Ok(false),
+        Call::TellsBegin(_) => begin_transaction(alloc, session, &mut tokens)?,
+        Call::TellsCommit(_) => commit_transaction(alloc, session, &mut tokens)?,
+        Call::TellsRollback(_) => roll_back_transaction(alloc, session, &mut tokens)?,
+        _ => {}
     }
+    Ok(match (tokens.as_slice(), call) {
+        ([Token::Env(EnvChange::Begin(found))], Call::TellsBegin(descriptor)) => {
+            *found == descriptor
+        }
+        ([Token::Env(EnvChange::Commit(found))], Call::TellsCommit(descriptor)) => {
+            *found == descriptor
+        }
+        ([Token::Env(EnvChange::Rollback(found))], Call::TellsRollback(descriptor)) => {
+            *found == descriptor
+        }
+        _ => false,
+    })
 }
 
 /// Whether a call goes as expected.

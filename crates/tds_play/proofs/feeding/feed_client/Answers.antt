@@ -1,42 +1,22 @@
-use Rattle.std.proofs.Common.{◌≡◌, ◌∙◌, ap, refl, true, false}
-use Rattle.tds_client.specs.declared.state.Taken.TheVariants.{NoMemory}
-use Rattle.tds_packet.specs.Reading.{with_taken, IsWhole}
-use Rattle.tds_play.proofs.Fronts.{no_fault, offered, slice_rest}
-use Rattle.tds_play.proofs.FedClient.{all_listened, none_refused, goes_on, does_take}
+use Rattle.std.proofs.Common.{◌≡◌, ◌≢◌, Option, Some, None, refl}
+use Rattle.tds_ends.specs.declared.listening.ClientStop.{ClientStop}
+use Rattle.tds_ends.specs.declared.listening.ClientStop.TheVariants.{NoMemory}
 use Rattle.tds_play.proofs.feeding.feed_client.Goals as goal
 
-pub packets-preserved : goal.packets-preserved
-packets-preserved c =
-    let lent = c.in-Some.ensures.lent in
-    let gone = c.done.ensures.next (c.in-Some.packet.header, c.in-Some.packet.data.now, lent) in
-    let fed = c.in-Ok.ensures.taken in
-    let differs : ¬ (c.in-Ok-take.took ≡ NoMemory) = λ e. let z : false ≡ true = rw e at c.if-eq.ensures in absurd (cc) in
-    let does = does_take _ c.in-Ok-take.took _ _ _ _ differs c.in-Ok-take.ensures.taken in
-    record {
-      reads = ap (λ r. r.direction) gone ∙ ap (λ r. r.direction) fed ∙ c.packets.invariant.reads;
-      same = λ taken. ap (λ r. with_taken r taken) gone ∙ ap (λ r. with_taken r taken) fed ∙ c.packets.invariant.same taken;
-      listens = λ packets rest then comes is.
-          let left = c.packets.invariant.listens packets rest then comes is in
-          let cut = offered c.in-Ok.count _ c.packets.rest.now _ c.in-Ok.ensures.count in
-          rw (slice_rest c.in-Ok.count c.packets.rest.now)
-          (goes_on c.first_or_all.ensures.first c.first_or_all.ensures.all c.first_or_all.ensures.one c.first_or_all.ensures.same _ _ _ _ rest _ _ _ _ _ _ _ _ _ _ then c.in-Ok-take.took left fed lent cut gone does.1 does.2 c.settled_by-settled.ensures);
-    }
+pub returns-in-None-clause-listened : goal.returns-in-None-clause-listened
+returns-in-None-clause-listened c = λ packets rest then comes is.
+    let some : c.listen-fed.result.stop ≢ Some NoMemory = λ e. let none = c.in-None.is in absurd (cc) in
+    let done = c.whole_packets_are_heard.ensures _ _ _ rest _ _ _ _ c.listen-fed.result packets then c.listen-fed.ensures.listens comes is some in
+    (refl, done.1, done.2)
 
-pub returns-in-Err-clause-listened : goal.returns-in-Err-clause-listened
-returns-in-Err-clause-listened c = λ packets rest then comes is.
-    let left = c.packets.invariant.listens packets rest then comes is in
-    let none = no_fault c.first_or_all.ensures.first c.first_or_all.ensures.all _ _ left.0 _ rest left.1 c.in-Err.ensures.taken in
-    let found = c.in-Err.ensures.fault in
-    absurd (cc)
+some_other : (o : Option ClientStop) (x : ClientStop) → o ≡ Some x → x ≢ NoMemory → o ≢ Some NoMemory
+some_other o x is other e = other (let same : x ≡ NoMemory = cc in same)
 
-pub returns-in_default-clause-listened : goal.returns-in_default-clause-listened
-returns-in_default-clause-listened c = λ packets rest then comes is.
-    let left = c.packets.invariant.listens packets rest then comes is in
-    let not : ¬ IsWhole c.feed.new.self = λ whole. let z : false ≡ true = c.in_default.ensures.whole.1 whole in absurd (cc) in
-    let done = all_listened c.first_or_all.ensures.first c.first_or_all.ensures.all _ _ _ rest _ _ _ then left c.in-Ok.ensures.taken not in
-    (refl, done.0, done.1 ∙ c.packets.invariant.same rest)
+none_there : (o : Option ClientStop) (x : ClientStop) → o ≡ Some x → o ≡ None → ⊥
+none_there o x is none = absurd (cc)
 
-pub returns-in-Err-take-clause-listened : goal.returns-in-Err-take-clause-listened
-returns-in-Err-take-clause-listened c = λ packets rest then comes is.
-    let left = c.packets.invariant.listens packets rest then comes is in
-    absurd (none_refused c.first_or_all.ensures.first c.first_or_all.ensures.all c.first_or_all.ensures.same _ _ _ rest _ _ _ _ _ then c.in-Err-take.fault left c.in-Ok.ensures.taken c.in-Some.ensures.lent c.in-Err-take.ensures.fault)
+pub returns-in_ok-at_client-in-Some-clause-listened : goal.returns-in_ok-at_client-in-Some-clause-listened
+returns-in_ok-at_client-in-Some-clause-listened c = λ packets rest then comes is.
+    let some : c.listen-fed.result.stop ≢ Some NoMemory = some_other _ _ c.in-Some.is c.in_ok-at_client-in-Some.ensures in
+    let done = c.whole_packets_are_heard.ensures _ _ _ rest _ _ _ _ c.listen-fed.result packets then c.listen-fed.ensures.listens comes is some in
+    absurd (none_there _ _ c.in-Some.is done.0)

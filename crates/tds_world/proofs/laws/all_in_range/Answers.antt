@@ -1,4 +1,4 @@
-use Rattle.tds_world.proofs.Sessions as sessions
+use Rattle.tds_world.proofs.packets.Sessions as sessions
 use Rattle.tds_world.proofs.laws.all_in_range.Goals as goal
 
 pub returns : goal.returns

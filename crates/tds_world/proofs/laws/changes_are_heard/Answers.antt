@@ -1,4 +1,4 @@
-use Rattle.tds_world.proofs.Welcome as welcome
+use Rattle.tds_world.proofs.packets.Welcome as welcome
 use Rattle.tds_world.proofs.laws.changes_are_heard.Goals as goal
 
 pub returns : goal.returns

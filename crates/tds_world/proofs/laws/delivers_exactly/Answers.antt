@@ -1,4 +1,4 @@
-use Rattle.tds_world.proofs.Deliveries as deliveries
+use Rattle.tds_world.proofs.packets.Deliveries as deliveries
 use Rattle.tds_world.proofs.laws.delivers_exactly.Goals as goal
 
 pub returns : goal.returns

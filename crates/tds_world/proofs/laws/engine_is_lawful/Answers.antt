@@ -1,4 +1,4 @@
-use Rattle.tds_world.proofs.Lawful as lawful
+use Rattle.tds_world.proofs.script.Lawful as lawful
 use Rattle.tds_world.proofs.laws.engine_is_lawful.Goals as goal
 
 pub returns : goal.returns

@@ -1,4 +1,4 @@
-use Rattle.tds_world.proofs.Fitting as fitting
+use Rattle.tds_world.proofs.script.Fitting as fitting
 use Rattle.tds_world.proofs.laws.engine_stays_in_range.Goals as goal
 
 pub returns : goal.returns

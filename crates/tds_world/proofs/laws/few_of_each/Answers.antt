@@ -1,4 +1,4 @@
-use Rattle.tds_world.proofs.Few as few
+use Rattle.tds_world.proofs.reports.Few as few
 use Rattle.tds_world.proofs.laws.few_of_each.Goals as goal
 
 pub returns : goal.returns

@@ -1,4 +1,4 @@
-use Rattle.tds_world.proofs.Underway as underway
+use Rattle.tds_world.proofs.packets.Underway as underway
 use Rattle.tds_world.proofs.laws.few_to_clients.Goals as goal
 
 pub returns : goal.returns

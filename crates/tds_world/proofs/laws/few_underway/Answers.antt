@@ -1,4 +1,4 @@
-use Rattle.tds_world.proofs.Sizes as sizes
+use Rattle.tds_world.proofs.packets.Sizes as sizes
 use Rattle.tds_world.proofs.laws.few_underway.Goals as goal
 
 pub returns : goal.returns

@@ -1,4 +1,4 @@
-use Rattle.tds_world.proofs.Quiet as quiet
+use Rattle.tds_world.proofs.flow.Quiet as quiet
 use Rattle.tds_world.proofs.laws.idle_is_quiet.Goals as goal
 
 pub returns : goal.returns

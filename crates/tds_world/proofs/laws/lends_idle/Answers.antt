@@ -1,4 +1,4 @@
-use Rattle.tds_world.proofs.Lending as lending
+use Rattle.tds_world.proofs.requests.Lending as lending
 use Rattle.tds_world.proofs.laws.lends_idle.Goals as goal
 
 pub returns : goal.returns

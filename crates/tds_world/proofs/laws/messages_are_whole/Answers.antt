@@ -1,4 +1,4 @@
-use Rattle.tds_world.proofs.Messages as messages
+use Rattle.tds_world.proofs.packets.Messages as messages
 use Rattle.tds_world.proofs.laws.messages_are_whole.Goals as goal
 
 pub returns : goal.returns

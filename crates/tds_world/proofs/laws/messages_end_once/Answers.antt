@@ -1,4 +1,4 @@
-use Rattle.tds_world.proofs.Steps as steps
+use Rattle.tds_world.proofs.packets.Steps as steps
 use Rattle.tds_world.proofs.laws.messages_end_once.Goals as goal
 
 pub returns : goal.returns

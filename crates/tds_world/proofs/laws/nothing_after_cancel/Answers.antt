@@ -1,4 +1,4 @@
-use Rattle.tds_world.proofs.Given as given
+use Rattle.tds_world.proofs.requests.Given as given
 use Rattle.tds_world.proofs.laws.nothing_after_cancel.Goals as goal
 
 pub returns : goal.returns

@@ -1,4 +1,4 @@
-use Rattle.tds_world.proofs.Counts as counts
+use Rattle.tds_world.proofs.flow.Counts as counts
 use Rattle.tds_world.proofs.laws.one_attention.Goals as goal
 
 pub returns : goal.returns

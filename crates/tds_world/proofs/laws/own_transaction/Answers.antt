@@ -1,4 +1,4 @@
-use Rattle.tds_world.proofs.OwnTransactions as own
+use Rattle.tds_world.proofs.requests.OwnTransactions as own
 use Rattle.tds_world.proofs.laws.own_transaction.Goals as goal
 
 pub returns : goal.returns

@@ -1,4 +1,4 @@
-use Rattle.tds_world.proofs.Packets as packets
+use Rattle.tds_world.proofs.packets.Packets as packets
 use Rattle.tds_world.proofs.laws.packets_fit.Goals as goal
 
 pub returns : goal.returns

@@ -1,4 +1,4 @@
-use Rattle.tds_world.proofs.Requests as requests
+use Rattle.tds_world.proofs.packets.Requests as requests
 use Rattle.tds_world.proofs.laws.requests_are_spelled.Goals as goal
 
 pub returns : goal.returns

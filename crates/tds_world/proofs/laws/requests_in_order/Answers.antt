@@ -1,4 +1,4 @@
-use Rattle.tds_world.proofs.Order as order
+use Rattle.tds_world.proofs.requests.Order as order
 use Rattle.tds_world.proofs.laws.requests_in_order.Goals as goal
 
 pub returns : goal.returns

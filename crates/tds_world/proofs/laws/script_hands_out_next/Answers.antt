@@ -1,4 +1,4 @@
-use Rattle.tds_world.proofs.HandsOut as hands
+use Rattle.tds_world.proofs.script.HandsOut as hands
 use Rattle.tds_world.proofs.laws.script_hands_out_next.Goals as goal
 
 pub returns : goal.returns

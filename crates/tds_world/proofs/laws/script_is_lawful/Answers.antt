@@ -1,4 +1,4 @@
-use Rattle.tds_world.proofs.Script as script
+use Rattle.tds_world.proofs.script.Script as script
 use Rattle.tds_world.proofs.laws.script_is_lawful.Goals as goal
 
 pub returns : goal.returns

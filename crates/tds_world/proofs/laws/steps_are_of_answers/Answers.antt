@@ -1,4 +1,4 @@
-use Rattle.tds_world.proofs.Steps as steps
+use Rattle.tds_world.proofs.packets.Steps as steps
 use Rattle.tds_world.proofs.laws.steps_are_of_answers.Goals as goal
 
 pub returns : goal.returns

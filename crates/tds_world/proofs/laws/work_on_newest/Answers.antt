@@ -1,4 +1,4 @@
-use Rattle.tds_world.proofs.Newest as newest
+use Rattle.tds_world.proofs.requests.Newest as newest
 use Rattle.tds_world.proofs.laws.work_on_newest.Goals as goal
 
 pub returns : goal.returns

@@ -1,24 +1,28 @@
-use Rattle.std.proofs.Common.{◌∙◌, ℕ, Option, subst, inl, inr}
+use Rattle.std.proofs.Common.{ℕ, Option, refl, subst, inl, inr}
 use Rattle.tds_packet.specs.declared.status.Reset.TheVariants.{Full, KeepTransaction}
 use Rattle.tds_session.specs.Answer.{Answers, answer_of}
 use Rattle.tds_world.specs.declared.event.Event.TheVariants as event
 use Rattle.tds_world.specs.declared.outcome.Opened.TheVariants as opened
+use Rattle.tds_world.specs.Caller.{cancels}
+use Rattle.tds_world.specs.Pool.{comes_back, gives_back}
 use Rattle.tds_world.specs.World.{next_number}
 use Rattle.tds_play.specs.Pipe.{Pipe}
-use Rattle.tds_play.specs.Plays.{IsReady}
-use Rattle.tds_play.proofs.Acting.{abandoned_alike, by_event, by_event_ok, comes_there, cut_alike, event_at, few_then, kept_at, lent_alike, stands_in}
+use Rattle.tds_play.specs.Plays.{IsReady, acts_on}
+use Rattle.tds_play.proofs.Acting.{abandoned_alike, by_event, by_event_ok, comes_there, cut_alike, down_ok, event_at, few_back, kept_at, lent_alike, plain_few, plain_ok, stands_in, up_few, up_ok}
+use Rattle.tds_play.proofs.Losing.{met_ok, whole_alike, whole_ok}
 use Rattle.tds_play.proofs.Asked.{asked_ok}
 use Rattle.tds_play.proofs.Placed.{kept_alike}
 use Rattle.tds_play.proofs.link.Link.act.Goals as goal
 
 pub returns-then-self-clause-alike : goal.returns-then-self-clause-alike
-returns-then-self-clause-alike g c = λ setup w m engine tells steady played promises few next ready.
+returns-then-self-clause-alike g c = λ setup w m engine tells played promises few next ready.
     let conn : ℕ = c.args.self.now.number in
     let answers : Answers = answer_of (g.E.Engine.statements_of engine) (g.E.Engine.step_of engine) in
-    cut_alike conn setup.packet_size engine c.args.self.now (g.C.Carrier.pipes c.args.carrier.now conn) setup answers w c.args.event.now m c.on_cut.result played c.if-self.true (c.on_cut.ensures m)
+    whole_alike conn setup.packet_size engine c.on_cut.result c.args.self.now (g.C.Carrier.pipes c.args.carrier.now conn) (λ e. acts_on setup answers w e conn m) c.args.event.now m
+    (cut_alike conn setup.packet_size engine c.args.self.now (g.C.Carrier.pipes c.args.carrier.now conn) setup answers w c.args.event.now m c.on_cut.result played c.if-self.true (c.on_cut.ensures.value m))
 
 pub returns-in-Lease-clause-alike : goal.returns-in-Lease-clause-alike
-returns-in-Lease-clause-alike g c = λ setup w m engine tells steady played promises few next ready.
+returns-in-Lease-clause-alike g c = λ setup w m engine tells played promises few next ready.
     let conn : ℕ = c.args.self.now.number in
     let size : ℕ = setup.packet_size in
     let pipe : Option Pipe = g.C.Carrier.pipes c.args.carrier.now conn in
@@ -27,11 +31,12 @@ returns-in-Lease-clause-alike g c = λ setup w m engine tells steady played prom
     let in_place = stands_in conn size engine c.args.self.now pipe m played live in
     let at = event_at setup answers w c.args.event.now _ conn m c.args.self.now.place in_place c.in-Lease.is in
     let idle = subst (λ e. IsReady e m) c.in-Lease.is (ready live) in
-    by_event conn size engine c.lend.result c.lend.new.self pipe m _ _ at
-    (lent_alike conn size c.args.next.lease (next_number w.leases) Full opened.Reused engine c.args.self.now c.lend.new.self pipe m c.lend.result played live idle next.lease c.lend.ensures.done c.lend.ensures.lent)
+    whole_alike conn size engine c.lend.result c.lend.new.self pipe (λ e. acts_on setup answers w e conn m) c.args.event.now m
+    (by_event conn size engine c.lend.result c.lend.new.self pipe m _ _ at
+    (lent_alike conn size c.args.next.lease (next_number w.leases) Full opened.Reused engine c.args.self.now c.lend.new.self pipe m c.lend.result played live idle next.lease c.lend.ensures.done c.lend.ensures.lent))
 
 pub returns-in-Resume-clause-alike : goal.returns-in-Resume-clause-alike
-returns-in-Resume-clause-alike g c = λ setup w m engine tells steady played promises few next ready.
+returns-in-Resume-clause-alike g c = λ setup w m engine tells played promises few next ready.
     let conn : ℕ = c.args.self.now.number in
     let size : ℕ = setup.packet_size in
     let pipe : Option Pipe = g.C.Carrier.pipes c.args.carrier.now conn in
@@ -40,24 +45,25 @@ returns-in-Resume-clause-alike g c = λ setup w m engine tells steady played pro
     let in_place = stands_in conn size engine c.args.self.now pipe m played live in
     let at = event_at setup answers w c.args.event.now _ conn m c.args.self.now.place in_place c.in-Resume.is in
     let idle = subst (λ e. IsReady e m) c.in-Resume.is (ready live) in
-    by_event conn size engine c.lend-in-Resume.result c.lend-in-Resume.new.self pipe m _ _ at
-    (lent_alike conn size c.args.next.lease (next_number w.leases) KeepTransaction opened.Resumed engine c.args.self.now c.lend-in-Resume.new.self pipe m c.lend-in-Resume.result played live idle next.lease c.lend-in-Resume.ensures.done c.lend-in-Resume.ensures.lent)
+    whole_alike conn size engine c.lend-in-Resume.result c.lend-in-Resume.new.self pipe (λ e. acts_on setup answers w e conn m) c.args.event.now m
+    (by_event conn size engine c.lend-in-Resume.result c.lend-in-Resume.new.self pipe m _ _ at
+    (lent_alike conn size c.args.next.lease (next_number w.leases) KeepTransaction opened.Resumed engine c.args.self.now c.lend-in-Resume.new.self pipe m c.lend-in-Resume.result played live idle next.lease c.lend-in-Resume.ensures.done c.lend-in-Resume.ensures.lent))
 
 pub returns-in-GiveBack-clause-alike : goal.returns-in-GiveBack-clause-alike
-returns-in-GiveBack-clause-alike g c = λ setup w m engine tells steady played promises few next ready.
+returns-in-GiveBack-clause-alike g c = λ setup w m engine tells played promises few next ready.
     let conn : ℕ = c.args.self.now.number in
     let size : ℕ = setup.packet_size in
     let pipe : Option Pipe = g.C.Carrier.pipes c.args.carrier.now conn in
     let answers : Answers = answer_of (g.E.Engine.statements_of engine) (g.E.Engine.step_of engine) in
     let live = c.if-self.false in
     let in_place = stands_in conn size engine c.args.self.now pipe m played live in
-    let at = event_at setup answers w c.args.event.now _ conn m c.args.self.now.place in_place c.in-GiveBack.is in
-    let back = at ∙ comes_there m c.args.self.now.place in_place in
-    by_event_ok conn size engine c.give_back.result c.give_back.new.self (g.C.Carrier.pipes c.give_back.new.carrier conn) m _ _ back
-    (c.give_back.ensures.alike size engine m steady played (few_then m _ _ back few).0)
+    let back = comes_there m c.args.self.now.place in_place in
+    plain_ok conn size engine c.give_back.result c.give_back.new.self (g.C.Carrier.pipes c.give_back.new.carrier conn) setup answers w c.args.event.now _ m c.args.self.now.place in_place c.in-GiveBack.is (λ k. refl)
+    (met_ok conn size engine c.give_back.result c.give_back.new.self (g.C.Carrier.pipes c.give_back.new.carrier conn) m (λ done. gives_back m) (λ done. comes_back (cancels m)) (λ done. back)
+    (c.give_back.ensures.alike size engine m played (few_back m c.args.self.now.place in_place (plain_few setup answers w c.args.event.now _ conn m c.args.self.now.place in_place c.in-GiveBack.is (λ k. refl) few))))
 
 pub returns-in-Keep-clause-alike : goal.returns-in-Keep-clause-alike
-returns-in-Keep-clause-alike g c = λ setup w m engine tells steady played promises few next ready.
+returns-in-Keep-clause-alike g c = λ setup w m engine tells played promises few next ready.
     let conn : ℕ = c.args.self.now.number in
     let size : ℕ = setup.packet_size in
     let pipe : Option Pipe = g.C.Carrier.pipes c.args.carrier.now conn in
@@ -65,12 +71,13 @@ returns-in-Keep-clause-alike g c = λ setup w m engine tells steady played promi
     let live = c.if-self.false in
     let in_place = stands_in conn size engine c.args.self.now pipe m played live in
     let at = event_at setup answers w c.args.event.now _ conn m c.args.self.now.place in_place c.in-Keep.is in
-    by_event conn size engine c.keep.result c.keep.new.self pipe m _ _ at
+    whole_alike conn size engine c.keep.result c.keep.new.self pipe (λ e. acts_on setup answers w e conn m) c.args.event.now m
+    (by_event conn size engine c.keep.result c.keep.new.self pipe m _ _ at
     (kept_at conn size c.args.next.ticket (next_number w.tickets) engine c.args.self.now c.keep.new.self pipe m c.keep.result next.ticket
-    (kept_alike conn size c.args.next.ticket engine c.args.self.now c.keep.new.self pipe m c.keep.result played live c.keep.ensures.refused c.keep.ensures.kept))
+    (kept_alike conn size c.args.next.ticket engine c.args.self.now c.keep.new.self pipe m c.keep.result played live c.keep.ensures.refused c.keep.ensures.kept)))
 
 pub returns-in-Abandon-clause-alike : goal.returns-in-Abandon-clause-alike
-returns-in-Abandon-clause-alike g c = λ setup w m engine tells steady played promises few next ready.
+returns-in-Abandon-clause-alike g c = λ setup w m engine tells played promises few next ready.
     let conn : ℕ = c.args.self.now.number in
     let size : ℕ = setup.packet_size in
     let pipe : Option Pipe = g.C.Carrier.pipes c.args.carrier.now conn in
@@ -78,11 +85,12 @@ returns-in-Abandon-clause-alike g c = λ setup w m engine tells steady played pr
     let live = c.if-self.false in
     let in_place = stands_in conn size engine c.args.self.now pipe m played live in
     let at = event_at setup answers w c.args.event.now _ conn m c.args.self.now.place in_place c.in-Abandon.is in
-    by_event conn size engine c.abandon.result c.abandon.new.self pipe m _ _ at
-    (abandoned_alike conn size engine c.args.self.now c.abandon.new.self pipe m c.abandon.result played live c.abandon.ensures.done c.abandon.ensures.value)
+    whole_alike conn size engine c.abandon.result c.abandon.new.self pipe (λ e. acts_on setup answers w e conn m) c.args.event.now m
+    (by_event conn size engine c.abandon.result c.abandon.new.self pipe m _ _ at
+    (abandoned_alike conn size engine c.args.self.now c.abandon.new.self pipe m c.abandon.result played live c.abandon.ensures.done c.abandon.ensures.value))
 
 pub returns-in-Ask-clause-alike : goal.returns-in-Ask-clause-alike
-returns-in-Ask-clause-alike g c = λ setup w m engine tells steady played promises few next ready.
+returns-in-Ask-clause-alike g c = λ setup w m engine tells played promises few next ready.
     let conn : ℕ = c.args.self.now.number in
     let size : ℕ = setup.packet_size in
     let pipe : Option Pipe = g.C.Carrier.pipes c.args.carrier.now conn in
@@ -90,72 +98,68 @@ returns-in-Ask-clause-alike g c = λ setup w m engine tells steady played promis
     let live = c.if-self.false in
     let in_place = stands_in conn size engine c.args.self.now pipe m played live in
     let at = event_at setup answers w c.args.event.now _ conn m c.args.self.now.place in_place c.in-Ask.is in
-    by_event_ok conn size engine c.ask.result c.ask.new.self pipe m _ _ at
-    (asked_ok conn size c.args.next.request (next_number w.asked_on) _ engine _ c.args.self.now c.ask.new.self pipe m c.ask.result played live promises.rests next.request c.ask.ensures.refused c.ask.ensures.asked)
+    whole_ok conn size engine c.ask.result c.ask.new.self pipe (λ e. acts_on setup answers w e conn m) c.args.event.now m
+    (by_event_ok conn size engine c.ask.result c.ask.new.self pipe m _ _ at
+    (asked_ok conn size c.args.next.request (next_number w.asked_on) _ engine _ c.args.self.now c.ask.new.self pipe m c.ask.result played live promises.rests next.request c.ask.ensures.refused c.ask.ensures.asked))
 
 pub returns-in-Send-clause-alike : goal.returns-in-Send-clause-alike
-returns-in-Send-clause-alike g c = λ setup w m engine tells steady played promises few next ready.
+returns-in-Send-clause-alike g c = λ setup w m engine tells played promises few next ready.
     let conn : ℕ = c.args.self.now.number in
     let size : ℕ = setup.packet_size in
     let pipe : Option Pipe = g.C.Carrier.pipes c.args.carrier.now conn in
     let answers : Answers = answer_of (g.E.Engine.statements_of engine) (g.E.Engine.step_of engine) in
     let live = c.if-self.false in
     let in_place = stands_in conn size engine c.args.self.now pipe m played live in
-    let at = event_at setup answers w c.args.event.now _ conn m c.args.self.now.place in_place c.in-Send.is in
-    by_event_ok conn size engine c.send.result c.send.new.self (g.C.Carrier.pipes c.send.new.carrier conn) m _ _ at
-    (c.send.ensures.alike size engine m steady played (few_then m _ _ at few).0)
+    plain_ok conn size engine c.send.result c.send.new.self (g.C.Carrier.pipes c.send.new.carrier conn) setup answers w c.args.event.now _ m c.args.self.now.place in_place c.in-Send.is (λ k. refl)
+    (c.send.ensures.alike size engine m played (plain_few setup answers w c.args.event.now _ conn m c.args.self.now.place in_place c.in-Send.is (λ k. refl) few).0)
 
 pub returns-in-Cancel-clause-alike : goal.returns-in-Cancel-clause-alike
-returns-in-Cancel-clause-alike g c = λ setup w m engine tells steady played promises few next ready.
+returns-in-Cancel-clause-alike g c = λ setup w m engine tells played promises few next ready.
     let conn : ℕ = c.args.self.now.number in
     let size : ℕ = setup.packet_size in
     let pipe : Option Pipe = g.C.Carrier.pipes c.args.carrier.now conn in
     let answers : Answers = answer_of (g.E.Engine.statements_of engine) (g.E.Engine.step_of engine) in
     let live = c.if-self.false in
     let in_place = stands_in conn size engine c.args.self.now pipe m played live in
-    let at = event_at setup answers w c.args.event.now _ conn m c.args.self.now.place in_place c.in-Cancel.is in
-    by_event_ok conn size engine c.cancel.result c.cancel.new.self (g.C.Carrier.pipes c.cancel.new.carrier conn) m _ _ at
-    (c.cancel.ensures.alike size engine m steady played (few_then m _ _ at few).0)
+    plain_ok conn size engine c.cancel.result c.cancel.new.self (g.C.Carrier.pipes c.cancel.new.carrier conn) setup answers w c.args.event.now _ m c.args.self.now.place in_place c.in-Cancel.is (λ k. refl)
+    (c.cancel.ensures.alike size engine m played (plain_few setup answers w c.args.event.now _ conn m c.args.self.now.place in_place c.in-Cancel.is (λ k. refl) few).0)
 
 pub returns-in-Work-clause-alike : goal.returns-in-Work-clause-alike
-returns-in-Work-clause-alike g c = λ setup w m engine tells steady played promises few next ready.
+returns-in-Work-clause-alike g c = λ setup w m engine tells played promises few next ready.
     let conn : ℕ = c.args.self.now.number in
     let size : ℕ = setup.packet_size in
     let pipe : Option Pipe = g.C.Carrier.pipes c.args.carrier.now conn in
     let answers : Answers = answer_of (g.E.Engine.statements_of engine) (g.E.Engine.step_of engine) in
     let live = c.if-self.false in
     let in_place = stands_in conn size engine c.args.self.now pipe m played live in
-    let at = event_at setup answers w c.args.event.now _ conn m c.args.self.now.place in_place c.in-Work.is in
-    by_event_ok conn size engine c.work.result c.work.new.self (g.C.Carrier.pipes c.work.new.carrier conn) m _ _ at
-    (c.work.ensures.alike size engine m steady played promises.ends promises.newest promises.works_past (few_then m _ _ at few).1)
+    plain_ok conn size engine c.work.result c.work.new.self (g.C.Carrier.pipes c.work.new.carrier conn) setup answers w c.args.event.now _ m c.args.self.now.place in_place c.in-Work.is (λ k. refl)
+    (c.work.ensures.alike size engine m played promises.ends promises.newest promises.works_past (plain_few setup answers w c.args.event.now _ conn m c.args.self.now.place in_place c.in-Work.is (λ k. refl) few).1)
 
 pub returns-in-ToServer-clause-alike : goal.returns-in-ToServer-clause-alike
-returns-in-ToServer-clause-alike g c = λ setup w m engine tells steady played promises few next ready.
+returns-in-ToServer-clause-alike g c = λ setup w m engine tells played promises few next ready.
     let conn : ℕ = c.args.self.now.number in
     let size : ℕ = setup.packet_size in
     let pipe : Option Pipe = g.C.Carrier.pipes c.args.carrier.now conn in
     let answers : Answers = answer_of (g.E.Engine.statements_of engine) (g.E.Engine.step_of engine) in
     let live = c.if-self.false in
     let in_place = stands_in conn size engine c.args.self.now pipe m played live in
-    let at = event_at setup answers w c.args.event.now _ conn m c.args.self.now.place in_place c.in-ToServer.is in
-    by_event_ok conn size engine c.deliver_to_server.result c.deliver_to_server.new.self (g.C.Carrier.pipes c.deliver_to_server.new.carrier conn) m _ _ at
-    (c.deliver_to_server.ensures.alike size engine m tells steady played promises (few_then m _ _ at few))
+    up_ok conn size engine c.deliver_to_server.result c.deliver_to_server.new.self (g.C.Carrier.pipes c.deliver_to_server.new.carrier conn) setup answers w c.args.event.now _ _ m c.args.self.now.place in_place c.in-ToServer.is
+    (c.deliver_to_server.ensures.alike size engine m tells played promises (up_few setup answers w c.args.event.now conn _ _ m c.args.self.now.place in_place c.in-ToServer.is few))
 
 pub returns-in-ToClient-clause-alike : goal.returns-in-ToClient-clause-alike
-returns-in-ToClient-clause-alike g c = λ setup w m engine tells steady played promises few next ready.
+returns-in-ToClient-clause-alike g c = λ setup w m engine tells played promises few next ready.
     let conn : ℕ = c.args.self.now.number in
     let size : ℕ = setup.packet_size in
     let pipe : Option Pipe = g.C.Carrier.pipes c.args.carrier.now conn in
     let answers : Answers = answer_of (g.E.Engine.statements_of engine) (g.E.Engine.step_of engine) in
     let live = c.if-self.false in
     let in_place = stands_in conn size engine c.args.self.now pipe m played live in
-    let at = event_at setup answers w c.args.event.now _ conn m c.args.self.now.place in_place c.in-ToClient.is in
-    by_event_ok conn size engine c.deliver_to_client.result c.deliver_to_client.new.self (g.C.Carrier.pipes c.deliver_to_client.new.carrier conn) m _ _ at
-    (c.deliver_to_client.ensures.alike answers size engine m tells steady played promises)
+    down_ok conn size engine c.deliver_to_client.result c.deliver_to_client.new.self (g.C.Carrier.pipes c.deliver_to_client.new.carrier conn) setup answers w c.args.event.now _ _ m c.args.self.now.place in_place c.in-ToClient.is
+    (c.deliver_to_client.ensures.alike answers size engine m tells played promises)
 
 -- A restart is about no connection alone.
 pub returns-in-Cut-clause-alike : goal.returns-in-Cut-clause-alike
-returns-in-Cut-clause-alike g c = λ setup w m engine tells steady played promises few next ready.
+returns-in-Cut-clause-alike g c = λ setup w m engine tells played promises few next ready.
     let conn : ℕ = c.args.self.now.number in
     let size : ℕ = setup.packet_size in
     let pipe : Option Pipe = g.C.Carrier.pipes c.args.carrier.now conn in
@@ -164,9 +168,10 @@ returns-in-Cut-clause-alike g c = λ setup w m engine tells steady played promis
     let in_place = stands_in conn size engine c.args.self.now pipe m played live in
     elim c.in-Cut.is [
       | inl h ↦
-          by_event conn size engine c.done.result c.cut.new.self (g.C.Carrier.pipes c.cut.new.carrier conn) m _ _
+          whole_alike conn size engine c.done.result c.cut.new.self (g.C.Carrier.pipes c.cut.new.carrier conn) (λ e. acts_on setup answers w e conn m) c.args.event.now m
+          (by_event conn size engine c.done.result c.cut.new.self (g.C.Carrier.pipes c.cut.new.carrier conn) m _ _
           (event_at setup answers w c.args.event.now (event.Cut h.0) conn m c.args.self.now.place in_place h.1)
-          (c.done.ensures, c.cut.ensures.alike size engine m played live)
+          (c.done.ensures, c.cut.ensures.alike size engine m played live))
       | inr r ↦
           absurd (elim r [
             | inl e ↦ subst (λ x. IsReady x m) e (ready live)

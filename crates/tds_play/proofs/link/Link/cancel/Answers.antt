@@ -1,28 +1,28 @@
 use Rattle.std.proofs.Common.{◌∙◌, ◌++◌, ℕ, List, Option, sym, ap}
 use Rattle.tds_client.specs.Sending as client
 use Rattle.tds_world.specs.declared.outcome.Outcome.TheVariants as outcome
-use Rattle.tds_play.specs.Links.{cut_of}
 use Rattle.tds_play.specs.Pipe.{Pipe}
 use Rattle.tds_play.proofs.Cancelled.{cancelled_played}
 use Rattle.tds_play.proofs.Cancelling.{cancel_alike}
-use Rattle.tds_play.proofs.Doing.{done_so, ok_so}
-use Rattle.tds_play.proofs.Outward.{ended_up}
+use Rattle.tds_play.proofs.Doing.{does_so, ended, ok_so}
+use Rattle.tds_play.proofs.Outward.{given_up}
 use Rattle.tds_play.proofs.link.Link.cancel.Goals as goal
 
 pub returns-clause-alike : goal.returns-clause-alike
-returns-clause-alike g c = λ size engine d steady played few.
+returns-clause-alike g c = λ size engine d played few.
     let conn : ℕ = c.args.self.now.number in
     let old : ℕ → Option Pipe = g.C.Carrier.pipes c.args.carrier.now in
     let put = c.in_ok-cancelled.ensures in
     let out = c.in_ok-lost.ensures in
-    let whole = out.steady steady in
     let a = cancel_alike c.args.self.now.client d (played.lives c.requires.live).stands.client in
     let does = ok_so (client.cancelled c.args.self.now.client) a.0 _ a.1 put.cancelled in
     let bytes = c.as_slice.ensures.value ∙ does.2 ∙ ap (λ (xs : List ℕ). xs ++ a.0.bytes) c.new-out.ensures.items in
-    let handed = ended_up conn c.cancel_request.new.self c.hand_over.new.self c.end.new.self old (g.C.Carrier.pipes c.hand_over.new.carrier) (g.C.Carrier.pipes c.end.new.carrier) c.as_slice.result.now c.in_ok-lost.lost (cut_of c.hand_over.new.self)
-    put.number whole (c.requires.tied.holds c.requires.live).is_open c.end.ensures.value (ap g.C.Carrier.pipes (c.end.ensures.kept whole))
-    (λ e. let h = out.nothing e in (h.1, ap g.C.Carrier.pipes h.2)) out.handed out.counted in (
-      done_so c.end.result _ _ c.in_ok-lost.lost c.end.ensures.done whole (ap outcome.Cancel (does.0 ∙ sym a.2)),
-      cancelled_played conn size engine c.args.self.now c.cancel_request.new.self c.end.new.self (old conn) (g.C.Carrier.pipes c.end.new.carrier conn) d c.as_slice.result.now
-          played c.requires.live a does.1 bytes few handed,
-    )
+    let handed = given_up conn c.cancel_request.new.self c.hand_over.new.self old (g.C.Carrier.pipes c.hand_over.new.carrier) c.as_slice.result.now c.in_ok-lost.lost
+    put.number (c.requires.tied.holds c.requires.live).is_open
+    (λ e. let h = out.nothing e in (h.1, ap g.C.Carrier.pipes h.2)) out.handed out.counted in
+    does_so conn size engine c.end.result _ c.in_ok-lost.lost c.end.new.self (g.C.Carrier.pipes c.end.new.carrier conn) _ d c.end.ensures.done
+    (ap outcome.Cancel (does.0 ∙ sym a.2))
+    (ended conn c.hand_over.new.self.number size engine c.hand_over.new.self c.end.new.self (g.C.Carrier.pipes c.hand_over.new.carrier) (g.C.Carrier.pipes c.end.new.carrier) c.in_ok-lost.lost _
+    (out.number ∙ put.number) (c.end.ensures.alike size engine _)
+    (cancelled_played conn size engine c.args.self.now c.cancel_request.new.self c.hand_over.new.self (old conn) (g.C.Carrier.pipes c.hand_over.new.carrier conn) d c.as_slice.result.now
+    played c.requires.live a does.1 bytes few handed))

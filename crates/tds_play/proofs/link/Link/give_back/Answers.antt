@@ -4,22 +4,21 @@ use Rattle.tds_client.specs.Sending as client
 use Rattle.tds_client.specs.Session.{unless_idle}
 use Rattle.tds_world.specs.declared.outcome.Outcome.TheVariants as outcome
 use Rattle.tds_world.specs.Pool.{place_back, returned_as}
-use Rattle.tds_play.specs.Links.{cut_of, placed_at}
+use Rattle.tds_play.specs.Links.{placed_at}
 use Rattle.tds_play.specs.Pipe.{Pipe}
 use Rattle.tds_play.proofs.Cancelled.{back_played, client_behind}
 use Rattle.tds_play.proofs.Cancelling.{cancel_alike}
-use Rattle.tds_play.proofs.Doing.{done_so, ok_so}
-use Rattle.tds_play.proofs.Outward.{ended_up}
+use Rattle.tds_play.proofs.Doing.{does_so, ended, ok_so}
+use Rattle.tds_play.proofs.Outward.{given_up}
 use Rattle.tds_play.proofs.link.Link.give_back.Goals.{then-is_idle, else-is_idle}
 use Rattle.tds_play.proofs.link.Link.give_back.Goals as goal
 
 pub returns-clause-alike : goal.returns-clause-alike
-returns-clause-alike g c = λ size engine d steady played few.
+returns-clause-alike g c = λ size engine d played few.
     let conn : ℕ = c.args.self.now.number in
     let old : ℕ → Option Pipe = g.C.Carrier.pipes c.args.carrier.now in
     let put = c.in_ok-cancel_request.ensures in
     let out = c.in_ok-lost.ensures in
-    let whole = out.steady steady in
     let idle : Bool = c.is_idle.result in
     let a = cancel_alike c.args.self.now.client d (played.lives c.requires.live).stands.client in
     let does = ok_so (client.cancelled c.args.self.now.client) a.0 _ a.1 put.cancelled in
@@ -35,9 +34,13 @@ returns-clause-alike g c = λ size engine d steady played few.
       | else-is_idle w ↦ w.returned-is ∙ ap returned_as (sym w.if-is_idle.false)
     ] in
     let waits : idle ≡ is_none (unless_idle a.0.session.stage) = c.is_idle.ensures ∙ ap (λ l. is_none (unless_idle l.client.stage)) does.1 ∙ ap (λ s. is_none (unless_idle s.stage)) (client_behind a.0.answer a.0.session c.args.self.now) in
-    let handed = ended_up conn c.if-is_idle.self c.hand_over.new.self c.end.new.self old (g.C.Carrier.pipes c.hand_over.new.carrier) (g.C.Carrier.pipes c.end.new.carrier) c.as_slice.result.now c.in_ok-lost.lost (cut_of c.hand_over.new.self)
-    (ap (λ l. l.number) mid ∙ put.number) whole (c.requires.tied.holds c.requires.live).is_open c.end.ensures.value (ap g.C.Carrier.pipes (c.end.ensures.kept whole))
+    let at = ap (λ l. l.number) mid ∙ put.number in
+    let handed = given_up conn c.if-is_idle.self c.hand_over.new.self old (g.C.Carrier.pipes c.hand_over.new.carrier) c.as_slice.result.now c.in_ok-lost.lost
+    at (c.requires.tied.holds c.requires.live).is_open
     (λ e. let h = out.nothing e in (h.1, ap g.C.Carrier.pipes h.2)) out.handed out.counted in
-    let then = back_played conn size engine c.args.self.now c.if-is_idle.self c.end.new.self idle (old conn) (g.C.Carrier.pipes c.end.new.carrier conn) d c.as_slice.result.now
+    let then = back_played conn size engine c.args.self.now c.if-is_idle.self c.hand_over.new.self idle (old conn) (g.C.Carrier.pipes c.hand_over.new.carrier conn) d c.as_slice.result.now
     played c.requires.live a (mid ∙ ap (placed_at (place_back idle)) does.1) bytes waits few handed in
-    (done_so c.end.result _ _ c.in_ok-lost.lost c.end.ensures.done whole (ap outcome.GivenBack told ∙ then.0), then.1)
+    does_so conn size engine c.end.result _ c.in_ok-lost.lost c.end.new.self (g.C.Carrier.pipes c.end.new.carrier conn) _ d c.end.ensures.done
+    (ap outcome.GivenBack told ∙ then.0)
+    (ended conn c.hand_over.new.self.number size engine c.hand_over.new.self c.end.new.self (g.C.Carrier.pipes c.hand_over.new.carrier) (g.C.Carrier.pipes c.end.new.carrier) c.in_ok-lost.lost _
+    (out.number ∙ at) (c.end.ensures.alike size engine _) then.1)

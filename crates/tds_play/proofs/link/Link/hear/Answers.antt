@@ -1,5 +1,5 @@
 use Rattle.std.proofs.Common.{◌≡◌, ◌∙◌, sym, ap, refl, None}
-use Rattle.tds_play.specs.Feeding.{listened}
+use Rattle.tds_ends.specs.Feeding.{listened}
 use Rattle.tds_play.specs.Listening.{told_in}
 use Rattle.tds_play.proofs.Listening.{if_ok, nobody_told}
 use Rattle.tds_play.proofs.link.Link.hear.Goals as goal

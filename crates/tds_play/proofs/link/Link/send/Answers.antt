@@ -1,34 +1,34 @@
-use Rattle.std.proofs.Common.{◌∙◌, ◌++◌, ℕ, List, Option, Ok, ap, refl}
+use Rattle.std.proofs.Common.{◌∙◌, ◌++◌, ℕ, List, Option, Ok, ap, false, refl}
 use Rattle.tds_client.specs.Sending.{sent}
 use Rattle.tds_world.specs.declared.outcome.Outcome.TheVariants as outcome
-use Rattle.tds_play.specs.Links.{cut_of}
 use Rattle.tds_play.specs.Pipe.{Pipe}
-use Rattle.tds_play.specs.Seen.{done_as}
-use Rattle.tds_play.proofs.Doing.{done_so, ok_so, some_is, some_told}
-use Rattle.tds_play.proofs.Outward.{ended_up}
+use Rattle.tds_play.proofs.Doing.{does_so, ended, ok_so, some_is, some_told}
+use Rattle.tds_play.proofs.Outward.{given_up}
 use Rattle.tds_play.proofs.Sent.{packet_played, packet_refused, none_sent, some_sent}
 use Rattle.tds_play.proofs.link.Link.send.Goals as goal
 
 pub returns-clause-alike : goal.returns-clause-alike
-returns-clause-alike g c = λ size engine d steady played few.
+returns-clause-alike g c = λ size engine d played few.
     let conn : ℕ = c.args.self.now.number in
     let old : ℕ → Option Pipe = g.C.Carrier.pipes c.args.carrier.now in
     let put = c.in_ok-sent.ensures in
     let out = c.in_ok-lost.ensures in
-    let whole = out.steady steady in
     let does = some_sent (sent c.args.self.now.client) (λ e. some_told c.in-Some.sent c.in_ok-sent.field-0 (Ok c.in_ok-sent.field-0) c.in-Some.is refl (put.refused e).0) in
     let sends = ok_so (sent c.args.self.now.client) does.0 _ does.1 put.sent in
     let bytes = c.as_slice.ensures.value ∙ sends.2 ∙ ap (λ (xs : List ℕ). xs ++ does.0.bytes) c.new-out.ensures.items in
-    let handed = ended_up conn c.put_next.new.self c.hand_over.new.self c.end.new.self old (g.C.Carrier.pipes c.hand_over.new.carrier) (g.C.Carrier.pipes c.end.new.carrier) c.as_slice.result.now c.in_ok-lost.lost (cut_of c.hand_over.new.self)
-    put.number whole (c.requires.tied.holds c.requires.live).is_open c.end.ensures.value (ap g.C.Carrier.pipes (c.end.ensures.kept whole))
+    let handed = given_up conn c.put_next.new.self c.hand_over.new.self old (g.C.Carrier.pipes c.hand_over.new.carrier) c.as_slice.result.now c.in_ok-lost.lost
+    put.number (c.requires.tied.holds c.requires.live).is_open
     (λ e. let h = out.nothing e in (h.1, ap g.C.Carrier.pipes h.2)) out.handed out.counted in
-    let then = packet_played conn size engine c.args.self.now c.put_next.new.self c.end.new.self (old conn) (g.C.Carrier.pipes c.end.new.carrier conn) d c.as_slice.result.now does.0
+    let then = packet_played conn size engine c.args.self.now c.put_next.new.self c.hand_over.new.self (old conn) (g.C.Carrier.pipes c.hand_over.new.carrier conn) d c.as_slice.result.now does.0
     played c.requires.live does.1 few sends.1 bytes handed in
-    (done_so c.end.result _ _ c.in_ok-lost.lost c.end.ensures.done whole (ap outcome.Sent (some_is c.in-Some.sent _ c.in_ok-sent.field-0 c.in-Some.is sends.0) ∙ then.0), then.1)
+    does_so conn size engine c.end.result _ c.in_ok-lost.lost c.end.new.self (g.C.Carrier.pipes c.end.new.carrier conn) _ d c.end.ensures.done
+    (ap outcome.Sent (some_is c.in-Some.sent _ c.in_ok-sent.field-0 c.in-Some.is sends.0) ∙ then.0)
+    (ended conn c.hand_over.new.self.number size engine c.hand_over.new.self c.end.new.self (g.C.Carrier.pipes c.hand_over.new.carrier) (g.C.Carrier.pipes c.end.new.carrier) c.in_ok-lost.lost _
+    (out.number ∙ put.number) (c.end.ensures.alike size engine _) then.1)
 
 pub returns-in_default-clause-alike : goal.returns-in_default-clause-alike
-returns-in_default-clause-alike g c = λ size engine d steady played few.
+returns-in_default-clause-alike g c = λ size engine d played few.
     let put = c.in_ok-sent.ensures in
     let err = none_sent (sent c.args.self.now.client) c.in_ok-sent.field-0 _ (λ e h. h.0) c.in_default.is put.sent in
     let then = packet_refused c.args.self.now.number size engine c.args.self.now c.put_next.new.self (g.C.Carrier.pipes c.args.carrier.now c.args.self.now.number) d played c.requires.live err (put.refused err).1 in
-    (c.refused.ensures ∙ ap done_as then.0, then.1)
+    does_so c.args.self.now.number size engine c.refused.result _ false c.put_next.new.self (g.C.Carrier.pipes c.args.carrier.now c.args.self.now.number) _ d c.refused.ensures then.0 then.1

@@ -5,10 +5,10 @@ use Rattle.tds_session.specs.Answer.{Answers, answer_of}
 use Rattle.tds_play.specs.declared.link.Link.{Link}
 use Rattle.tds_play.specs.declared.player.Player.{Player}
 use Rattle.tds_play.specs.Plays.{AreNext, ArePlayed, acts_on, after, held_by}
-use Rattle.tds_play.specs.Promises.{Promises}
+use Rattle.tds_ends.specs.Promises.{Promises}
 use Rattle.tds_world.specs.World.{put}
 use Rattle.tds_play.proofs.AllPlayed.{as_many}
-use Rattle.tds_play.proofs.PlayerActs.{acts_alike, refused_alike, noted_alike, never_refused, all_at}
+use Rattle.tds_play.proofs.PlayerActs.{acts_alike, met_whole, refused_alike, noted_alike, never_refused, all_at}
 use Rattle.tds_play.proofs.player.Player.act_at.Goals.{in-Refused, in_default}
 use Rattle.tds_play.proofs.player.Player.act_at.Goals as goal
 
@@ -27,8 +27,9 @@ returns-in_ok-note-clause-alike g c = λ setup engine w c' tells steady is promi
     } in
     let promise : Promises g.row.E.Denot answers setup.packet_size c' = all_at (Promises g.row.E.Denot answers setup.packet_size) w.connections c.args.place c' promised.each there in
     let acted = acts_alike setup engine answers w c.args.event.now c.args.place c' c.args.self.now (pipes c.args.carrier.now) (pipes c.act.new.carrier) c.index_mut.result.now c.act.new.self c.in_ok-done.done
-    is c.index_mut.ensures.value c.requires.there c.in_ok-done.ensures.others there countable ready
-    (λ played counts is_ready. c.in_ok-done.ensures.alike setup w c' engine tells steady played promise counts next is_ready) in
+    is c.index_mut.ensures.value c.requires.there c.in_ok-done.ensures.ties.others there countable ready
+    (λ played counts is_ready. met_whole c.index_mut.result.now.number setup.packet_size engine c.in_ok-done.done c.act.new.self (pipes c.act.new.carrier c.index_mut.result.now.number) (λ e. acts_on setup answers w e c.index_mut.result.now.number c') c.args.event.now c'
+    (c.in_ok-done.ensures.steady steady) (c.in_ok-done.ensures.alike setup w c' engine tells played promise counts next is_ready)) in
     let links : c.note.new.self.links.items ≡ set c.args.self.now.links.items c.args.place c.act.new.self = ap (λ (p : Player g.row.E.Denot g.row.E-Stmt.Denot). p.links.items) c.in_ok-note.ensures.rest ∙ refl in
     noted_alike setup engine w c.args.event.now c.args.place c.next_number-then-not-matches.result c' (acts_on setup answers w c.args.event.now (suc c.args.place) c')
     c.args.self.now c.note.new.self (pipes c.args.carrier.now) (pipes c.act.new.carrier) c.in_ok-done.done is
@@ -58,8 +59,9 @@ returns-else-not-matches-clause-alike g c = λ setup engine w c' tells steady is
     } in
     let promise : Promises g.row.E.Denot answers setup.packet_size c' = all_at (Promises g.row.E.Denot answers setup.packet_size) w.connections c.args.place c' promised.each there in
     let acted = acts_alike setup engine answers w c.args.event.now c.args.place c' c.args.self.now (pipes c.args.carrier.now) (pipes c.act.new.carrier) c.index_mut.result.now c.act.new.self c.in_ok-done.done
-    is c.index_mut.ensures.value c.requires.there c.in_ok-done.ensures.others there countable ready
-    (λ played counts is_ready. c.in_ok-done.ensures.alike setup w c' engine tells steady played promise counts next is_ready) in
+    is c.index_mut.ensures.value c.requires.there c.in_ok-done.ensures.ties.others there countable ready
+    (λ played counts is_ready. met_whole c.index_mut.result.now.number setup.packet_size engine c.in_ok-done.done c.act.new.self (pipes c.act.new.carrier c.index_mut.result.now.number) (λ e. acts_on setup answers w e c.index_mut.result.now.number c') c.args.event.now c'
+    (c.in_ok-done.ensures.steady steady) (c.in_ok-done.ensures.alike setup w c' engine tells played promise counts next is_ready)) in
     elim c.match-matches.branch [
       | in-Refused v ↦ refused_alike setup engine w c.args.event.now c.args.place c' (acts_on setup answers w c.args.event.now (suc c.args.place) c')
           c.args.self.now (record c.args.self.now { links = with_item c.args.self.now.links c.args.place c.act.new.self }) (pipes c.args.carrier.now) (pipes c.act.new.carrier) c.in_ok-done.done v.in-Refused.field-0 is there

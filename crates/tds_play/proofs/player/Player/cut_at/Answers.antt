@@ -11,5 +11,5 @@ pub returns-clause-alike : goal.returns-clause-alike
 returns-clause-alike g c = λ size engine cs c' there all.
     put_changed size engine c.args.self.now.links.items (g.C.Carrier.pipes c.args.carrier.now) (g.C.Carrier.pipes c.cut.new.carrier) cs c.args.place
     c.index_mut-link.result.now c.cut.new.self c' (cut c')
-    c.index_mut-link.ensures.value c.requires.there c.cut.ensures.others there all
+    c.index_mut-link.ensures.value c.requires.there c.cut.ensures.ties.others there all
     (λ is. c.cut.ensures.alike size engine c' is c.if-link.false)

@@ -2,14 +2,12 @@ use Rattle.std.proofs.Common.{refl, sym, subst, IfOk}
 use Rattle.tds_session.specs.Answer.{Answers, answer_of}
 use Rattle.tds_world.specs.declared.outcome.Outcome.{Outcome}
 use Rattle.tds_world.specs.Events.{happens}
-use Rattle.tds_world.specs.Laws.{OfEachConnection}
 use Rattle.tds_world.specs.World.{World}
 use Rattle.tds_play.specs.declared.link.Done.{Done}
 use Rattle.tds_play.specs.declared.pool.Found.TheVariants.{Missing, Here, Opens}
 use Rattle.tds_play.specs.Player.{HappensAlike}
-use Rattle.tds_play.specs.Promises.{IsCountable}
 use Rattle.tds_play.proofs.Found.{HappensBy, Settles}
-use Rattle.tds_play.proofs.PlayerFinds.{about_one, client_restarts, found_alike, missing_alike, server_restarts}
+use Rattle.tds_play.proofs.PlayerFinds.{about_one, client_restarts, countable_here, found_alike, missing_alike, server_restarts}
 use Rattle.tds_play.proofs.player.Player.happen.Goals as goal
 
 pub returns-in-RestartServer-clause-tells : goal.returns-in-RestartServer-clause-tells
@@ -47,7 +45,8 @@ returns-in-Here-clause-alike g c = λ setup engine w tells steady is promised co
     (about_one c.args.event.now c.in_default.not-RestartServer c.in_default.not-RestartClient) c.in-Here.ensures.value in
     subst (λ (next : Outcome × World). IfOk c.act_at.result (λ (done : Done). HappensAlike setup engine done c.act_at.new.self (g.C.Carrier.pipes c.act_at.new.carrier) next)) (sym found.settles)
     (c.act_at.ensures.alike setup engine w found.connection tells steady is promised found.there found.ready
-    (subst (λ (next : Outcome × World). OfEachConnection IsCountable next.1) found.settles countable))
+    (λ k. countable_here setup engine answers w c.args.event.now c.args.self.now (g.C.Carrier.pipes c.args.carrier.now) c.in-Here.place k found.connection is promised.idle
+    (about_one c.args.event.now c.in_default.not-RestartServer c.in_default.not-RestartClient) c.in-Here.ensures.value found.there (countable k)))
 
 pub returns-in-Opens-clause-alike : goal.returns-in-Opens-clause-alike
 returns-in-Opens-clause-alike g c = λ setup engine w tells steady is promised countable.

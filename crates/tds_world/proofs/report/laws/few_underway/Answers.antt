@@ -1,4 +1,4 @@
-use Rattle.tds_world.proofs.Reports as reports
+use Rattle.tds_world.proofs.reports.Reports as reports
 use Rattle.tds_world.proofs.report.laws.few_underway.Goals as goal
 
 pub returns : goal.returns

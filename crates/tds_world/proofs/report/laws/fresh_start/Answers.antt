@@ -1,4 +1,4 @@
-use Rattle.tds_world.proofs.Leased as leased
+use Rattle.tds_world.proofs.reports.Leased as leased
 use Rattle.tds_world.proofs.report.laws.fresh_start.Goals as goal
 
 pub returns : goal.returns

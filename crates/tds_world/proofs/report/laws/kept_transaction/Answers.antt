@@ -1,4 +1,4 @@
-use Rattle.tds_world.proofs.Tickets as tickets
+use Rattle.tds_world.proofs.reports.Tickets as tickets
 use Rattle.tds_world.proofs.report.laws.kept_transaction.Goals as goal
 
 pub returns : goal.returns

@@ -1,4 +1,4 @@
-use Rattle.tds_world.proofs.Lends as lends
+use Rattle.tds_world.proofs.reports.Lends as lends
 use Rattle.tds_world.proofs.report.laws.lends_idle.Goals as goal
 
 pub returns : goal.returns

@@ -1,4 +1,4 @@
-use Rattle.tds_world.proofs.NoFault as fault
+use Rattle.tds_world.proofs.reports.NoFault as fault
 use Rattle.tds_world.proofs.report.laws.no_fault.Goals as goal
 
 pub returns : goal.returns

@@ -1,4 +1,4 @@
-use Rattle.tds_world.proofs.Asks as asks
+use Rattle.tds_world.proofs.reports.Asks as asks
 use Rattle.tds_world.proofs.report.laws.own_answers.Goals as goal
 
 pub returns : goal.returns

@@ -1,0 +1,19 @@
+use Rattle.std.proofs.Common.{◌≡◌, ◌≤◌, ◌+◌, ◌-◌, length}
+use Rattle.tds_packet.specs.declared.kind.Direction.TheVariants.{ToServer}
+use Rattle.tds_session.specs.Answer.{answer_of}
+use Rattle.tds_ends.proofs.FedServer.{Serving}
+use Rattle.tds_ends.proofs.serving.serve.Given as goal
+
+abbrev pub invariant-packets : goal.invariant-packets
+invariant-packets g l = record {
+  reads : l.reader.direction ≡ ToServer;
+  size : l.reader.size ≡ l.fn.reader.size;
+  engine : l.server.engine ≡ l.fn.server.engine;
+  session : l.server.session ≡ l.fn.server.session;
+  within : l.count ≤ length l.piece;
+  so_far : Serving (answer_of (g.E.Engine.statements_of l.fn.server.engine) (g.E.Engine.step_of l.fn.server.engine))
+      l.fn.reader l.reader l.piece l.count l.fn.server l.server l.fn.reply.items l.reply.items;
+}
+
+abbrev pub decreases-packets : goal.decreases-packets
+decreases-packets g l = length l.reader.taken + (length l.piece - l.count)

@@ -1,0 +1,130 @@
+//! An end of a connection in one value: a core and the reader of what comes to it.
+ghost use Rattle.std.specs.Prelude.{◌≡◌, ◌≤◌, ◌++◌, [], length, IfOk, OnOk, OnErr};
+ghost use Rattle.std.specs.Borrow.{sem};
+ghost use Rattle.tds_client.specs.Session.{new_session};
+ghost use Rattle.tds_ends.specs.Ends.{Listens, Serves};
+ghost use Rattle.tds_packet.specs.declared.kind.Direction.TheVariants.{ToClient, ToServer};
+ghost use Rattle.tds_server.specs.State.{IsAnswering, lost_of, new_server};
+ghost use Rattle.tds_server.specs.Working.{worked};
+ghost use Rattle.tds_session.specs.Answer.{answer_of};
+
+use crate::NoMemory;
+use crate::listening::{ClientFed, listen};
+use crate::serving::{ServerFed, serve};
+use std::alloc::Global;
+use tds_client::Client;
+use tds_packet::{Direction, PacketReader, PacketSize};
+use tds_server::{Server, Worked};
+use tds_session::Engine;
+use tds_token::Token;
+
+/// A client with the reader of what its server sends: bytes in, tokens out.
+#[derive(Drop)]
+pub struct ClientEnd {
+    client: Client,
+    reader: PacketReader,
+    ghost reads: { reader.direction ≡ ToClient },
+}
+
+impl ClientEnd {
+    ghost use Rattle.tds_ends.specs.Lending.{LendsClient};
+
+    /// A new client and its reader, for packets of this size. The reader takes memory, once.
+    pub fn new(alloc: Global, size: PacketSize) -> Result<ClientEnd, NoMemory>
+        ensures { IfOk result (λ end. (end.client ≡ new_session size)
+            × (end.reader ≡ record { direction = ToClient; size = size; taken = [] })) }
+    {
+        Ok(ClientEnd {
+            client: Client::new(alloc, size),
+            reader: PacketReader::new(alloc, size, Direction::ToClient)?,
+        })
+    }
+
+    /// The client, to see its state.
+    pub fn client(&self) -> &Client
+        ensures { result.now ≡ self.now.client }
+    {
+        &self.client
+    }
+
+    /// The client, to start a request, to send it, to cancel it and to ask for a reset.
+    pub fn client_mut(&mut self) -> &mut Client
+        // What is left of the client behind the reference is the end's client.
+        ensures* writes_back { sem 𝓛 (LendsClient self.entry result) }
+        ensures value { result.now ≡ self.old.client }
+    {
+        &mut self.client
+    }
+
+    /// Takes a piece of what the server sent, as [`listen`] does.
+    pub fn listen(&mut self, piece: &[u8], told: &mut Vec<Token>) -> ClientFed
+        ensures within { result.count ≤ length piece.now }
+        ensures listens { Listens self.old.reader self.new.reader piece.now self.old.client
+            self.new.client told.old.items told.new.items result }
+    {
+        listen(&mut self.client, &mut self.reader, piece, told)
+    }
+}
+
+/// A server with the reader of what its client sends: bytes in, bytes out.
+#[derive(Drop)]
+pub struct ServerEnd<E: Engine + Drop> {
+    server: Server<E>,
+    reader: PacketReader,
+    ghost reads: { reader.direction ≡ ToServer },
+}
+
+impl<E: Engine + Drop> ServerEnd<E> {
+    /// A new server and its reader, for packets of this size. The reader takes memory, once.
+    pub fn new(alloc: Global, engine: E, size: PacketSize) -> Result<ServerEnd<E>, NoMemory>
+        ensures { IfOk result (λ end. (end.server ≡ new_server engine)
+            × (end.reader ≡ record { direction = ToServer; size = size; taken = [] })) }
+    {
+        Ok(ServerEnd {
+            server: Server::new(alloc, engine, size),
+            reader: PacketReader::new(alloc, size, Direction::ToServer)?,
+        })
+    }
+
+    /// The server, to see its session.
+    pub fn server(&self) -> &Server<E>
+        ensures { result.now ≡ self.now.server }
+    {
+        &self.server
+    }
+
+    /// Does one step of the answer and appends its packet to `out`, as [`Server::work`] does.
+    pub fn work(&mut self, out: &mut Vec<u8>) -> Result<Worked, NoMemory>
+        ensures reader { self.new.reader ≡ self.old.reader }
+        ensures engine { self.new.server.engine ≡ self.old.server.engine }
+        ensures state { OnOk result (self.new.server ≡ (worked self.old.server).state) }
+        ensures answer { IfOk result (λ answer. answer ≡ (worked self.old.server).answer) }
+        ensures packet { OnOk result
+            (out.new.items ≡ out.old.items ++ (worked self.old.server).packet) }
+        // At want of memory nothing changes. It comes only where a step is to be done.
+        ensures refused { OnErr result
+            ((self.new.server ≡ self.old.server) × (out.new.items ≡ out.old.items)) }
+        ensures wanted { OnErr result (IsAnswering self.old.server.phase) }
+    {
+        self.server.work(out)
+    }
+
+    /// Says that the connection is lost, as [`Server::lost`] does.
+    pub fn lost(&mut self)
+        ensures reader { self.new.reader ≡ self.old.reader }
+        ensures server { self.new.server ≡ lost_of self.old.server }
+    {
+        self.server.lost();
+    }
+
+    /// Takes a piece of what the client sent, as [`serve`] does.
+    pub fn serve(&mut self, piece: &[u8], reply: &mut Vec<u8>) -> ServerFed
+        ensures within { result.count ≤ length piece.now }
+        ensures serves { let answers = answer_of (E.statements_of self.old.server.engine)
+            (E.step_of self.old.server.engine) in
+            Serves answers self.old.reader self.new.reader piece.now self.old.server
+            self.new.server reply.old.items reply.new.items result }
+    {
+        serve(&mut self.server, &mut self.reader, piece, reply)
+    }
+}

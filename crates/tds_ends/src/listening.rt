@@ -1,0 +1,112 @@
+//! What a client makes of bytes that come.
+ghost use Rattle.std.specs.Prelude.{◌≡◌, ◌≤◌, length};
+ghost use Rattle.tds_ends.specs.Ends.{Listens};
+ghost use Rattle.tds_ends.specs.Feeding.{settled_by};
+ghost use Rattle.tds_packet.specs.declared.kind.Direction.TheVariants.{ToClient};
+
+use crate::reading::reads_packets;
+use tds_client::{Client, ClientFault, Taken};
+use tds_packet::{PacketFault, PacketReader};
+use tds_token::Token;
+use tds_world::RequestStatus;
+
+/// Why a client stopped before all bytes were taken.
+#[derive(Debug, Drop)]
+pub enum ClientStop {
+    /// A packet's header has this fault (MS-TDS 2.2.3.1). Each later call answers it again.
+    Packet(PacketFault),
+    /// The client refused a packet by this fault, and is broken. Each later call answers it again.
+    Client(ClientFault),
+    /// Memory was wanted. The packet is still to be taken, and the next call begins with it.
+    NoMemory,
+}
+
+/// What a client made of a piece.
+#[derive(Debug, Drop)]
+pub struct ClientFed {
+    /// How many bytes of the piece are done with: all of them, but where the client refused a
+    /// packet, or memory was wanted.
+    pub count: usize,
+    /// `Finished` or `Acknowledged`, if the piece ended the request.
+    pub settled: Option<RequestStatus>,
+    /// Why it stopped; `None` if all bytes were taken.
+    pub stop: Option<ClientStop>,
+}
+
+/// What became of a request behind this answer to a packet.
+fn settled_by(took: Taken, before: Option<RequestStatus>) -> Option<RequestStatus>
+    ensures { result ≡ settled_by took before }
+{
+    match took {
+        Taken::More | Taken::NoMemory => before,
+        Taken::Finished => Some(RequestStatus::Finished),
+        Taken::Acknowledged => Some(RequestStatus::Acknowledged),
+    }
+}
+
+/// Takes a piece of what a server sent, however it is cut: the client takes each packet that is
+/// whole (MS-TDS 2.2.3), in order, and the tokens that it is told are appended to `told`.
+///
+/// Call it with what the transport brought, in the order in which it came. It stops behind the last
+/// whole packet, and the reader keeps what has come of the next one; or it stops earlier, for one of
+/// three reasons. At a faulty header: nothing behind it can be read. At a packet that the client
+/// refuses: what came before was taken and told. At want of memory: nothing is lost, and the next
+/// call, with the bytes of the piece behind the first `count` (there may be none), takes it up.
+pub fn listen(
+    client: &mut Client,
+    reader: &mut PacketReader,
+    piece: &[u8],
+    told: &mut Vec<Token>,
+) -> ClientFed
+    requires { reader.old.direction ≡ ToClient }
+    ensures reads { reader.new.direction ≡ ToClient }
+    ensures size { reader.new.size ≡ reader.old.size }
+    ensures within { result.count ≤ length piece.now }
+    // Whatever comes: the client takes the packets that the bytes spell, one after the other, up to
+    // the first that it refuses or has no memory for, or to a header with a fault.
+    ensures listens { Listens reader.old reader.new piece.now client.old client.new
+        told.old.items told.new.items result }
+{
+    reads_packets();
+    let mut count = 0;
+    let mut settled = None;
+    'packets: loop {
+        match reader.feed(&piece[count..]) {
+            Ok(taken) => count += taken,
+            Err(fault) => {
+                return ClientFed {
+                    count: piece.len(),
+                    settled,
+                    stop: Some(ClientStop::Packet(fault)),
+                };
+            }
+        }
+        let Some(packet) = reader.packet() else {
+            return ClientFed {
+                count,
+                settled,
+                stop: None,
+            };
+        };
+        match client.take(packet, told) {
+            Ok(took) => {
+                if took == Taken::NoMemory {
+                    return ClientFed {
+                        count,
+                        settled,
+                        stop: Some(ClientStop::NoMemory),
+                    };
+                }
+                settled = settled_by(took, settled);
+            }
+            Err(fault) => {
+                return ClientFed {
+                    count,
+                    settled,
+                    stop: Some(ClientStop::Client(fault)),
+                };
+            }
+        }
+        reader.done();
+    }
+}

@@ -1,0 +1,93 @@
+//! What a server makes of bytes that come.
+ghost use Rattle.std.specs.Prelude.{◌≡◌, ◌≤◌, length};
+ghost use Rattle.tds_ends.specs.Ends.{Serves};
+ghost use Rattle.tds_packet.specs.declared.kind.Direction.TheVariants.{ToServer};
+ghost use Rattle.tds_session.specs.Answer.{answer_of};
+
+use crate::reading::reads_packets;
+use tds_packet::{PacketFault, PacketReader};
+use tds_server::{Server, ServerFault, ServerTook};
+use tds_session::Engine;
+
+/// Why a server stopped before all bytes were taken.
+#[derive(Debug, Drop)]
+pub enum ServerStop {
+    /// A packet's header has this fault (MS-TDS 2.2.3.1). Each later call answers it again.
+    Packet(PacketFault),
+    /// The server refused a packet by this fault, and is broken. Each later call answers it again.
+    Server(ServerFault),
+    /// Memory was wanted. The packet is still to be taken, and the next call begins with it.
+    NoMemory,
+}
+
+/// What a server made of a piece.
+#[derive(Debug, Drop)]
+pub struct ServerFed {
+    /// How many bytes of the piece are done with: all of them, but where the server refused a
+    /// packet, or memory was wanted.
+    pub count: usize,
+    /// Why it stopped; `None` if all bytes were taken.
+    pub stop: Option<ServerStop>,
+}
+
+/// Takes a piece of what a client sent, however it is cut: the server takes each packet that is
+/// whole (MS-TDS 2.2.3), in order, and acknowledgements of attentions are appended to `reply`.
+///
+/// Call it with what the transport brought, in the order in which it came; send what `reply` has
+/// then, and call `work` for the answer. It stops behind the last whole packet, and the reader keeps
+/// what has come of the next one; or it stops earlier, for one of three reasons. At a faulty header:
+/// nothing behind it can be read. At a packet that the server refuses: what came before was taken
+/// and replied to. At want of memory: nothing is lost, and the next call, with the bytes of the
+/// piece behind the first `count` (there may be none), takes it up.
+pub fn serve<E: Engine + Drop>(
+    server: &mut Server<E>,
+    reader: &mut PacketReader,
+    piece: &[u8],
+    reply: &mut Vec<u8>,
+) -> ServerFed
+    requires { reader.old.direction ≡ ToServer }
+    ensures reads { reader.new.direction ≡ ToServer }
+    ensures size { reader.new.size ≡ reader.old.size }
+    ensures engine { server.new.engine ≡ server.old.engine }
+    ensures session { server.new.session ≡ server.old.session }
+    ensures within { result.count ≤ length piece.now }
+    // Whatever comes: the server takes the packets that the bytes spell, one after the other, up to
+    // the first that it refuses or has no memory for, or to a header with a fault.
+    ensures serves { let answers = answer_of (E.statements_of server.old.engine) (E.step_of server.old.engine) in
+        Serves answers reader.old reader.new piece.now server.old server.new
+        reply.old.items reply.new.items result }
+{
+    reads_packets();
+    let mut count = 0;
+    'packets: loop {
+        match reader.feed(&piece[count..]) {
+            Ok(taken) => count += taken,
+            Err(fault) => {
+                return ServerFed {
+                    count: piece.len(),
+                    stop: Some(ServerStop::Packet(fault)),
+                };
+            }
+        }
+        let Some(packet) = reader.packet() else {
+            return ServerFed { count, stop: None };
+        };
+        match server.take(packet, reply) {
+            Ok(took) => {
+                if took == ServerTook::NoMemory {
+                    return ServerFed {
+                        count,
+                        stop: Some(ServerStop::NoMemory),
+                    };
+                }
+            }
+            Err(fault) => {
+                return ServerFed {
+                    count,
+                    stop: Some(ServerStop::Server(fault)),
+                };
+            }
+        }
+        reader.done();
+    }
+}

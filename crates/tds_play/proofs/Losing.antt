@@ -1,0 +1,88 @@
+-- A delivery and an event as they were met, where the carrier may have failed.
+use Rattle.std.specs.Prelude.{IfOk}
+use Rattle.std.proofs.Common.{◌≡◌, ◌≤◌, ◌+◌, ℕ, min, Bool, true, false, refl, sym, ap, subst, Option, Result, Ok, Err, arith}
+use Rattle.tds_session.specs.Answer.{Answers}
+use Rattle.tds_world.specs.declared.event.Event.{Event}
+use Rattle.tds_world.specs.declared.event.Event.TheVariants as event
+use Rattle.tds_world.specs.declared.outcome.Outcome.{Outcome}
+use Rattle.tds_world.specs.declared.outcome.Outcome.TheVariants as outcome
+use Rattle.tds_world.specs.Arrivals.{reach_client, reach_server, to_client, to_server, drains}
+use Rattle.tds_world.specs.Connection.{Connection, down_underway, up_underway}
+use Rattle.tds_world.specs.Pool.{Acted}
+use Rattle.tds_play.specs.Pipe.{Pipe}
+use Rattle.tds_play.specs.Plays.{DoesAlike, IsPlayed, after, bringing, came_in, count_by, count_of, cut_where, delivers_down, delivers_up, met, met_by, outcome_of}
+use Rattle.tds_play.specs.Seen.{done_as}
+use Rattle.tds_play.specs.declared.link.Done.{Done}
+use Rattle.tds_play.specs.declared.link.Link.{Link}
+
+-- ---- Which event it was
+
+-- Only a delivery is met with fewer bytes.
+pub plain_met : (lost : Bool) (o : Outcome) (e : Event) → ((k : ℕ) → bringing k e ≡ e) → met_by lost o e ≡ e
+plain_met true o e same = same (came_in o)
+plain_met false o e same = refl
+
+pub up_met : (lost : Bool) (o : Outcome) (n count : ℕ) → met_by lost o (event.ToServer n count) ≡ event.ToServer n (count_by lost o count)
+up_met true o n count = refl
+up_met false o n count = refl
+
+pub down_met : (lost : Bool) (o : Outcome) (n count : ℕ) → met_by lost o (event.ToClient n count) ≡ event.ToClient n (count_by lost o count)
+down_met true o n count = refl
+down_met false o n count = refl
+
+-- ---- What a delivery came to
+
+pub delivered_up : {E S : Type 0} (number size most k : ℕ) (engine : E) (done : Done) (lost : Bool) (new : Link E S) (pipe : Option Pipe) (answers : Answers) (c : Connection)
+    → done ≡ record { outcome = outcome.ToServer k; lost = lost } → (lost ≡ false → k ≡ min most (up_underway c)) → k ≤ up_underway c
+    → IsPlayed number size engine new pipe (cut_where lost (to_server answers k c))
+    → DoesAlike number size engine done new pipe (delivers_up answers (count_of done most) c) c
+delivered_up {E} {S} number size most k engine done true new pipe answers c is all less played =
+    subst (λ (d : Done). DoesAlike number size engine d new pipe (delivers_up answers (count_of d most) c) c) (sym is)
+    (record { outcome = ap outcome.ToServer (omega (arith, less)); played = played })
+delivered_up {E} {S} number size most k engine done false new pipe answers c is all less played =
+    let same : k ≡ min most (up_underway c) = all refl in
+    let reached : min k (up_underway c) ≡ min most (up_underway c) = omega (arith, same) in
+    subst (λ (d : Done). DoesAlike number size engine d new pipe (delivers_up answers (count_of d most) c) c) (sym is)
+    (record {
+      outcome = ap outcome.ToServer same;
+      played = subst (λ (x : ℕ). IsPlayed number size engine new pipe (reach_server answers c c.to_server.waiting (c.to_server.part + x))) reached played;
+    })
+
+pub delivered_down : {E S : Type 0} (number size most k : ℕ) (engine : E) (done : Done) (lost : Bool) (new : Link E S) (pipe : Option Pipe) (c : Connection)
+    → done ≡ record { outcome = outcome.ToClient k; lost = lost } → (lost ≡ false → k ≡ min most (down_underway c)) → k ≤ down_underway c
+    → IsPlayed number size engine new pipe (cut_where lost (to_client k c))
+    → DoesAlike number size engine done new pipe (delivers_down (count_of done most) c) c
+delivered_down {E} {S} number size most k engine done true new pipe c is all less played =
+    subst (λ (d : Done). DoesAlike number size engine d new pipe (delivers_down (count_of d most) c) c) (sym is)
+    (record { outcome = ap outcome.ToClient (omega (arith, less)); played = played })
+delivered_down {E} {S} number size most k engine done false new pipe c is all less played =
+    let same : k ≡ min most (down_underway c) = all refl in
+    let reached : min k (down_underway c) ≡ min most (down_underway c) = omega (arith, same) in
+    subst (λ (d : Done). DoesAlike number size engine d new pipe (delivers_down (count_of d most) c) c) (sym is)
+    (record {
+      outcome = ap outcome.ToClient same;
+      played = subst (λ (x : ℕ). IsPlayed number size engine new pipe (drains (reach_client c c.to_client.waiting (c.to_client.part + x)))) reached played;
+    })
+
+-- ---- What an event came to
+
+-- An event that can't meet the carrier.
+pub whole_alike : {E S : Type 0} (number size : ℕ) (engine : E) (done : Done) (new : Link E S) (pipe : Option Pipe) (acts : Event → Acted) (e : Event) (c : Connection)
+    → (done ≡ done_as (outcome_of (acts e))) × IsPlayed number size engine new pipe (after (acts e) c)
+    → DoesAlike number size engine done new pipe (acts (met done e)) c
+whole_alike {E} {S} number size engine done new pipe acts e c h =
+    subst (λ (d : Done). DoesAlike number size engine d new pipe (acts (met d e)) c) (sym h.0) (record { outcome = refl; played = h.1 })
+
+pub whole_ok : {E S B : Type 0} (number size : ℕ) (engine : E) (r : Result Done B) (new : Link E S) (pipe : Option Pipe) (acts : Event → Acted) (e : Event) (c : Connection)
+    → IfOk r (λ done. (done ≡ done_as (outcome_of (acts e))) × IsPlayed number size engine new pipe (after (acts e) c))
+    → IfOk r (λ done. DoesAlike number size engine done new pipe (acts (met done e)) c)
+whole_ok number size engine (Ok done) new pipe acts e c h = whole_alike number size engine done new pipe acts e c h
+whole_ok number size engine (Err why) new pipe acts e c h = h
+
+-- What was done is what the event does as it was met.
+pub met_ok : {E S B : Type 0} (number size : ℕ) (engine : E) (r : Result Done B) (new : Link E S) (pipe : Option Pipe) (c : Connection) (acted does : Done → Acted)
+    → ((done : Done) → acted done ≡ does done)
+    → IfOk r (λ done. DoesAlike number size engine done new pipe (does done) c)
+    → IfOk r (λ done. DoesAlike number size engine done new pipe (acted done) c)
+met_ok number size engine (Ok done) new pipe c acted does same h = subst (λ (a : Acted). DoesAlike number size engine done new pipe a c) (sym (same done)) h
+met_ok number size engine (Err why) new pipe c acted does same h = h

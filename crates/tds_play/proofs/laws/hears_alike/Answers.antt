@@ -1,7 +1,0 @@
-use Rattle.tds_play.proofs.Hearing as hearing
-use Rattle.tds_play.proofs.laws.hears_alike.Goals as goal
-
-pub returns : goal.returns
-returns c =
-    let read = c.spelled_are_read.ensures in
-    hearing.hear_alike (record { contents = read.contents; known = read.known; anywhere = read.anywhere })

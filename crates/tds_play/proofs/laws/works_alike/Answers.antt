@@ -1,5 +1,0 @@
-use Rattle.tds_play.proofs.Working as working
-use Rattle.tds_play.proofs.laws.works_alike.Goals as goal
-
-pub returns : goal.returns
-returns g c = working.work_alike

@@ -1,0 +1,95 @@
+//! The words of a command line, and words of hexadecimal digits.
+
+use std::alloc::Global;
+use std::test::Fail;
+use tds_text::{Command, LineFault, read_words, word_bytes};
+
+/// What words ask for, or what is wrong with them.
+fn asked(alloc: Global, words: &[&str]) -> Result<String, Fail> {
+    let mut owned = Vec::new(alloc);
+    for word in words {
+        owned.push(String::from_str(alloc, *word)?)?;
+    }
+    let text = match read_words(alloc, owned.as_slice()) {
+        Ok(Command::Play(file)) => format!(in alloc; "play {}", file.as_str())?,
+        Ok(Command::Show(word)) => format!(in alloc; "show {}", word.as_str())?,
+        Ok(Command::Vectors) => String::from_str(alloc, "vectors")?,
+        Err(fault) => format!(in alloc; "fault {}", fault.number())?,
+    };
+    Ok(text)
+}
+
+const WORDS: [(&[&str], &str); 29] = [
+    (&["play", "row.json"], "play row.json"),
+    (&["show", "00"], "show 00"),
+    (&["show", "no digits"], "show no digits"),
+    (&["show", ""], "show "),
+    // Words that begin with a dash are taken as they are.
+    (&["show", "-x"], "show -x"),
+    (&["show", "-"], "show -"),
+    (&["show", "--help"], "show --help"),
+    (&["show", "--version"], "show --version"),
+    (&["show", "-h"], "show -h"),
+    (&["show", "-V"], "show -V"),
+    (&["vectors"], "vectors"),
+    // A word `--` stands for none; a word behind it is taken as it is.
+    (&["play", "--", "-x"], "play -x"),
+    (&["show", "--", "--"], "show --"),
+    (&["show", "--", "00"], "show 00"),
+    // All else is the usage error.
+    (&[], "fault 1"),
+    (&["play"], "fault 1"),
+    (&["play", "row.json", "row.json"], "fault 1"),
+    (&["play", "--help"], "fault 1"),
+    (&["play", "-x"], "fault 1"),
+    (&["row.json"], "fault 1"),
+    (&["show"], "fault 1"),
+    (&["show", "00", "00"], "fault 1"),
+    (&["show", "--"], "fault 1"),
+    (&["vectors", "00"], "fault 1"),
+    (&["vectors", "--help"], "fault 1"),
+    (&["loopback", "x"], "fault 1"),
+    (&["help"], "fault 1"),
+    (&["--help"], "fault 1"),
+    (&["--version"], "fault 1"),
+];
+
+#[test]
+fn words(rt: HostRuntime) -> Result<(), Fail> {
+    for (words, expected) in WORDS {
+        assert_eq!(rt;
+            asked(rt.alloc(), words)?.as_str(),
+            expected,
+            "at {words:?}"
+        );
+    }
+    assert_eq!(rt; LineFault::Memory.number(), 2);
+    Ok(())
+}
+
+#[test]
+fn words_of_digits(rt: HostRuntime) -> Result<(), Fail> {
+    let table: [(&str, &[u8]); 4] = [
+        ("", &[]),
+        ("00", &[0]),
+        ("09aFfA90", &[0x09, 0xAF, 0xFA, 0x90]),
+        ("AbCdEf", &[0xAB, 0xCD, 0xEF]),
+    ];
+    for (word, bytes) in table {
+        let Ok(found) = word_bytes(rt.alloc(), word) else {
+            return Err("a fault".into());
+        };
+        assert_eq!(rt; found.as_slice(), bytes, "at {word}");
+    }
+    // Odd counts, and what stands round the digits in the table of characters.
+    for word in [
+        "0", "000", "0g", "G0", "/0", "0:", "@0", "0`", " 00", "0x00", "é",
+    ] {
+        let number = match word_bytes(rt.alloc(), word) {
+            Ok(_) => 0,
+            Err(fault) => fault.number(),
+        };
+        assert_eq!(rt; number, 1, "at {word}");
+    }
+    Ok(())
+}

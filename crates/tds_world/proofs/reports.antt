@@ -1,0 +1,10 @@
+-- What the reports show.
+pub mod Few
+pub mod Reports
+pub mod NoFault
+pub mod Asks
+pub mod FirstRuns
+pub mod Leased
+pub mod NoMore
+pub mod Tickets
+pub mod Lends

@@ -1,0 +1,153 @@
+-- Each event adds at most one connection, one lease, one ticket and one request.
+use Rattle.std.proofs.Common.{◌≡◌, ◌≤◌, ℕ, zero, suc, List, [], ◌∷◌, ◌++◌, ◌+◌, length, map, refl, ap, subst, arith}
+use Rattle.std.proofs.lemmas.List.{length-append}
+use Rattle.tds_session.specs.Answer.{Answers}
+use Rattle.tds_world.specs.declared.event.Event.{Event}
+use Rattle.tds_world.specs.declared.event.Event.TheVariants as event
+use Rattle.tds_world.specs.declared.event.Setup.{Setup}
+use Rattle.tds_world.specs.Connection.{Connection, cut}
+use Rattle.tds_world.specs.Counts.{AreFew}
+use Rattle.tds_world.specs.Events.{about, acts, notes, settles, happens_at, happens, world_after}
+use Rattle.tds_world.specs.Pool.{Acted, Refuses, Does, opens}
+use Rattle.tds_world.specs.World.{World, Holding, Found, Missing, Here, Opens, new_world, next_number, put, put_numbered, ended, ended_at, ended_numbered}
+use Rattle.tds_world.proofs.events.Happens.{happens_cases}
+
+put_at : {A : Type 0} (n : ℕ) (x : A) (xs : List A) → length (put n x xs) ≤ suc (length xs)
+put_at n x [] = omega arith
+put_at zero x (y ∷ ys) = omega arith
+put_at (suc n) x (y ∷ ys) = omega (arith, put_at n x ys)
+
+put_number : {A : Type 0} (n : ℕ) (x : A) (xs : List A) → length (put_numbered n x xs) ≤ suc (length xs)
+put_number zero x xs = omega arith
+put_number (suc n) x xs = put_at n x xs
+
+end_at : (n : ℕ) (hs : List Holding) → length (ended_at n hs) ≡ length hs
+end_at n [] = refl
+end_at zero (h ∷ hs) = refl
+end_at (suc n) (h ∷ hs) = ap suc (end_at n hs)
+
+end_number : (n : ℕ) (hs : List Holding) → length (ended_numbered n hs) ≡ length hs
+end_number zero hs = refl
+end_number (suc n) hs = end_at n hs
+
+mapped : {A : Type 0} (f : A → A) (xs : List A) → length (map f xs) ≡ length xs
+mapped f [] = refl
+mapped f (x ∷ xs) = ap suc (mapped f xs)
+
+more : (n : ℕ) (w : World) → AreFew n w → AreFew (suc n) w
+more n w h = record {
+  connections = omega (arith, h.connections);
+  leases = omega (arith, h.leases);
+  tickets = omega (arith, h.tickets);
+  asked = omega (arith, h.asked);
+}
+
+same : (n k : ℕ) → k ≤ n → k ≤ suc n
+same n k h = omega (arith, h)
+
+one_more : {A : Type 0} (n : ℕ) (xs : List A) (x : A) → length xs ≤ n → length (xs ++ x ∷ []) ≤ suc n
+one_more n xs x h = omega (arith, length-append xs (x ∷ []), h)
+
+fewer : (n k : ℕ) (hs : List Holding) → length hs ≤ n → length (ended_numbered k hs) ≤ suc n
+fewer n k hs h = omega (arith, end_number k hs, h)
+
+-- With its connections: what is noted of an event adds one at most.
+others_stay : (n : ℕ) (w : World) (cs : List Connection) → length cs ≤ suc n → AreFew n w → AreFew (suc n) (record w { connections = cs })
+others_stay n w cs l h = record {
+  connections = l;
+  leases = same n (length w.leases) h.leases;
+  tickets = same n (length w.tickets) h.tickets;
+  asked = same n (length w.asked_on) h.asked;
+}
+
+noted : (n : ℕ) (e : Event) (k heard : ℕ) (w : World) (cs : List Connection) → length cs ≤ suc n → AreFew n w → AreFew (suc n) (notes e k heard (record w { connections = cs }))
+noted n event.Lease k heard w cs l h = record {
+  connections = l;
+  leases = one_more n w.leases _ h.leases;
+  tickets = same n (length w.tickets) h.tickets;
+  asked = same n (length w.asked_on) h.asked;
+}
+noted n (event.Resume t) k heard w cs l h = record {
+  connections = l;
+  leases = one_more n w.leases _ h.leases;
+  tickets = fewer n t w.tickets h.tickets;
+  asked = same n (length w.asked_on) h.asked;
+}
+noted n (event.GiveBack x) k heard w cs l h = record {
+  connections = l;
+  leases = fewer n x w.leases h.leases;
+  tickets = same n (length w.tickets) h.tickets;
+  asked = same n (length w.asked_on) h.asked;
+}
+noted n (event.Keep x) k heard w cs l h = record {
+  connections = l;
+  leases = fewer n x w.leases h.leases;
+  tickets = one_more n w.tickets _ h.tickets;
+  asked = same n (length w.asked_on) h.asked;
+}
+noted n (event.Abandon t) k heard w cs l h = record {
+  connections = l;
+  leases = same n (length w.leases) h.leases;
+  tickets = fewer n t w.tickets h.tickets;
+  asked = same n (length w.asked_on) h.asked;
+}
+noted n (event.Ask x q) k heard w cs l h = record {
+  connections = l;
+  leases = same n (length w.leases) h.leases;
+  tickets = same n (length w.tickets) h.tickets;
+  asked = one_more n w.asked_on _ h.asked;
+}
+noted n (event.Send x) k heard w cs l h = others_stay n w cs l h
+noted n (event.Cancel x) k heard w cs l h = others_stay n w cs l h
+noted n (event.Work x) k heard w cs l h = others_stay n w cs l h
+noted n (event.ToServer x m) k heard w cs l h = others_stay n w cs l h
+noted n (event.ToClient x m) k heard w cs l h = others_stay n w cs l h
+noted n (event.Cut x) k heard w cs l h = others_stay n w cs l h
+noted n event.RestartServer k heard w cs l h = others_stay n w cs l h
+noted n event.RestartClient k heard w cs l h = others_stay n w cs l h
+
+settled : (n : ℕ) (e : Event) (k : ℕ) (w : World) (a : Acted) → AreFew n w → AreFew (suc n) (settles e k w a).1
+settled n e k w (Refuses why) h = more n w h
+settled n e k w (Does what c) h =
+    noted n e k c.heard w (put_numbered k c w.connections) (omega (arith, put_number k c w.connections, h.connections)) h
+
+found : (setup : Setup) (answers : Answers) (n : ℕ) (e : Event) (w : World) (f : Found) → AreFew n w → AreFew (suc n) (happens_at setup answers e w f).1
+found setup answers n e w (Missing why) h = more n w h
+found setup answers n e w (Here k c) h = settled n e k w (acts setup answers w e k c) h
+found setup answers n e w (Opens k) h = settled n event.Lease k w (opens (next_number w.leases) k) h
+
+at_event : (setup : Setup) (answers : Answers) (n : ℕ) (e : Event) (w : World) → AreFew n w → AreFew (suc n) (happens_at setup answers e w (about setup w e)).1
+at_event setup answers n e w h = found setup answers n e w (about setup w e) h
+
+happens_few : (setup : Setup) (answers : Answers) (n : ℕ) (e : Event) (w : World) → AreFew n w → AreFew (suc n) (happens setup answers e w).1
+happens_few setup answers n e w h =
+    happens_cases setup answers w (λ e r. AreFew (suc n) r.1)
+    (record {
+      connections = omega (arith, mapped cut w.connections, h.connections);
+      leases = same n (length w.leases) h.leases;
+      tickets = same n (length w.tickets) h.tickets;
+      asked = same n (length w.asked_on) h.asked;
+    })
+    (record {
+      connections = omega (arith, mapped cut w.connections, h.connections);
+      leases = omega (arith, mapped ended w.leases, h.leases);
+      tickets = omega (arith, mapped ended w.tickets, h.tickets);
+      asked = same n (length w.asked_on) h.asked;
+    })
+    (λ e. at_event setup answers n e w h) e
+
+after_few : (setup : Setup) (answers : Answers) (n : ℕ) (events : List Event) (w : World) → AreFew n w → AreFew (n + length events) (world_after setup answers events w)
+after_few setup answers n [] w h =
+    let none : n ≡ n + 0 = omega arith in subst (λ k. AreFew k w) none h
+after_few setup answers n (e ∷ es) w h =
+    let sum : suc n + length es ≡ n + suc (length es) = omega arith in
+    subst (λ k. AreFew k (world_after setup answers es (happens setup answers e w).1)) sum
+    (after_few setup answers (suc n) es (happens setup answers e w).1 (happens_few setup answers n e w h))
+
+new_few : AreFew 0 new_world
+new_few = record { connections = omega arith; leases = omega arith; tickets = omega arith; asked = omega arith }
+
+pub few_of_each : (setup : Setup) (answers : Answers) (events : List Event) → AreFew (length events) (world_after setup answers events new_world)
+few_of_each setup answers events =
+    let none : 0 + length events ≡ length events = omega arith in
+    subst (λ n. AreFew n (world_after setup answers events new_world)) none (after_few setup answers 0 events new_world new_few)

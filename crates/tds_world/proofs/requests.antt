@@ -1,0 +1,19 @@
+-- The requests of a connection: their numbers, their transactions, their sessions.
+pub mod Cores
+pub mod Asking
+pub mod Runs
+pub mod Rests
+pub mod Numbers
+pub mod Marks
+pub mod OwnTransactions
+pub mod Ready
+pub mod ReadySteps
+pub mod FreshStarts
+pub mod Given
+pub mod Own
+pub mod OwnActs
+pub mod OwnAnswers
+pub mod Newest
+pub mod Order
+pub mod Lending
+pub mod Begins

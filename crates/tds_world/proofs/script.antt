@@ -1,0 +1,5 @@
+-- The answers of the batch language.
+pub mod Lawful
+pub mod Script
+pub mod HandsOut
+pub mod Fitting
