@@ -80,12 +80,7 @@ fn answered(
 }
 
 /// The client is fed with these bytes. The request has ended with the last piece, and not before.
-fn heard(
-    alloc: Global,
-    client: &mut ClientEnd,
-    answer: &[u8],
-    more: u16,
-) -> Result<Vec<u8>, Fail> {
+fn heard(alloc: Global, client: &mut ClientEnd, answer: &[u8], more: u16) -> Result<Vec<u8>, Fail> {
     let mut told = Vec::new(alloc);
     let mut left = answer.len();
     for piece in answer.chunks(1 + usize::from(more)) {
