@@ -1,0 +1,3 @@
+-- Plays over links that fail.
+pub mod Worlds
+pub mod Few
