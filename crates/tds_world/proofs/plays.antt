@@ -1,3 +1,5 @@
 -- Plays over links that fail.
 pub mod Worlds
 pub mod Few
+pub mod Told
+pub mod Reports

@@ -1,11 +1,14 @@
 -- What the laws say of plays over links that fail.
-use Rattle.std.specs.Prelude.{◌≡◌, List, map}
+use Rattle.std.specs.Prelude.{◌≡◌, List, ◌++◌, map}
 use Rattle.std.specs.List.{AllByRecursion}
 use Rattle.tds_session.specs.Answer.{Answers}
 use Rattle.tds_world.specs.declared.event.Event.{Event}
 use Rattle.tds_world.specs.declared.event.Setup.{Setup}
+use Rattle.tds_world.specs.declared.report.EventReport.{EventReport}
+use Rattle.tds_world.specs.declared.report.Report.{Report}
 use Rattle.tds_world.specs.Bounds.{IsEvent}
-use Rattle.tds_world.specs.Losses.{Played, Nothing, world_with}
+use Rattle.tds_world.specs.Losses.{Played, Nothing, world_with, observed_with}
+use Rattle.tds_world.specs.Reports.{IsNoFault, GivesNoMore}
 use Rattle.tds_world.specs.World.{World, new_world}
 
 -- The events of a play.
@@ -23,3 +26,27 @@ LosesNothing ps = AllByRecursion (λ (p : Played). p.loss ≡ Nothing) ps
 -- P holds of the world after any play, whatever it loses.
 abbrev pub AlwaysWith : Setup → Answers → (World → Type 0) → Type 0
 AlwaysWith setup answers P = (ps : List Played) → P (world_with setup answers ps new_world)
+
+-- P holds of the report of any play.
+abbrev pub AlwaysShownWith : Setup → Answers → (Report → Type 0) → Type 0
+AlwaysShownWith setup answers P = (ps : List Played) → P (observed_with setup answers ps)
+
+-- P holds of the report of any play whose events are of the program.
+abbrev pub AlwaysShownOfEvents : Setup → Answers → (Report → Type 0) → Type 0
+AlwaysShownOfEvents setup answers P =
+    (ps : List Played) → AreEvents ps → P (observed_with setup answers ps)
+
+-- P holds of the events of any play and its report.
+abbrev pub AlwaysToldWith : Setup → Answers → (List Event → Report → Type 0) → Type 0
+AlwaysToldWith setup answers P = (ps : List Played) → P (events_of ps) (observed_with setup answers ps)
+
+-- No end refuses what comes to it, whatever is lost.
+abbrev pub ShowsNoEndFaults : Report → Type 0
+ShowsNoEndFaults r = AllByRecursion (λ (e : EventReport). IsNoFault e.outcome) r.events
+
+-- Each request that a front of a play reports, the whole play reports, and with the same tokens where
+-- it was cancelled.
+abbrev pub ShowsNothingAfterCancelWith : Setup → Answers → Type 0
+ShowsNothingAfterCancelWith setup answers =
+    (ps later : List Played)
+    → GivesNoMore (observed_with setup answers ps).requests (observed_with setup answers (ps ++ later)).requests

@@ -1,0 +1,72 @@
+//! What the session laws say of the report of a play over links that fail. Each is the contract of a
+//! function without a body: what holds of `observed_with`, whatever the events, and whichever of
+//! them lose their links.
+ghost use Rattle.tds_session.specs.Answer.{Answers};
+ghost use Rattle.tds_world.specs.Bounds.{IsSetup};
+ghost use Rattle.tds_world.specs.Lawful.{Lawful};
+ghost use Rattle.tds_world.specs.Reports.{ShowsFewUnderway, ShowsFreshStart, ShowsIdleQuiet};
+ghost use Rattle.tds_world.specs.Reports.{ShowsKeptTransaction, ShowsLendsIdle, ShowsOwnAnswers};
+ghost use Rattle.tds_world.specs.Reports.{ShowsOwnTransaction};
+ghost use Rattle.tds_world.specs.WithLosses.{AlwaysShownOfEvents, AlwaysShownWith, AlwaysToldWith};
+ghost use Rattle.tds_world.specs.WithLosses.{ShowsNoEndFaults, ShowsNothingAfterCancelWith};
+ghost use Rattle.tds_world.specs.declared.event.Setup.{Setup};
+
+/// In each snapshot whose client is idle both byte counts are 0, and the two descriptors are one.
+pub fn idle_is_quiet()
+    ensures { (setup : Setup) (answers : Answers) → Lawful answers
+        → AlwaysShownWith setup answers ShowsIdleQuiet }
+{}
+
+/// In each snapshot at most 4,094 bytes are underway to the server, for a setup that a play takes and
+/// requests that have a spelling.
+pub fn few_underway()
+    ensures { (setup : Setup) (answers : Answers) → IsSetup setup → Lawful answers
+        → AlwaysShownOfEvents setup answers ShowsFewUnderway }
+{}
+
+/// In no event an end refuses what comes to it. It holds for any answers.
+pub fn no_fault()
+    ensures { (setup : Setup) (answers : Answers) → AlwaysShownWith setup answers ShowsNoEndFaults }
+{}
+
+/// There is one report for each request that was asked, in their order. It is of the lease that asked,
+/// and its tokens are a beginning of the request's own answer, in the session that it shows, and all
+/// of it where it is finished; where it shows no session, there are none.
+pub fn own_answers()
+    ensures { (setup : Setup) (answers : Answers) → Lawful answers
+        → AlwaysToldWith setup answers (ShowsOwnAnswers answers) }
+{}
+
+/// The first request of a lease that ran, of those reported, ran in a fresh session; for a lease that
+/// came from a ticket, in one without settings.
+pub fn fresh_start()
+    ensures { (setup : Setup) (answers : Answers) → Lawful answers
+        → AlwaysShownWith setup answers ShowsFreshStart }
+{}
+
+/// Whatever follows of a play, a request that is reported as cancelled has the tokens that it had.
+pub fn nothing_after_cancel()
+    ensures { (setup : Setup) (answers : Answers) → Lawful answers
+        → ShowsNothingAfterCancelWith setup answers }
+{}
+
+/// A request that ran did so in the transaction that its client was in when it was asked, as the
+/// snapshot after its event shows it; and outside one, where its mark asked for a full reset.
+pub fn own_transaction()
+    ensures { (setup : Setup) (answers : Answers) → Lawful answers
+        → AlwaysToldWith setup answers ShowsOwnTransaction }
+{}
+
+/// The first request of a resumed lease that ran, of those reported, ran in the transaction that the
+/// ticket kept, as the snapshot after the ticket's event shows it, and without settings.
+pub fn kept_transaction()
+    ensures { (setup : Setup) (answers : Answers) → Lawful answers
+        → AlwaysToldWith setup answers ShowsKeptTransaction }
+{}
+
+/// A connection that is lent is idle after the event that lends it, and stands under the lease, unless
+/// the link failed when it was opened.
+pub fn lends_idle()
+    ensures { (setup : Setup) (answers : Answers) → Lawful answers
+        → AlwaysShownWith setup answers ShowsLendsIdle }
+{}
