@@ -63,11 +63,14 @@ pub fn nothing_lost()
         → observed_with setup answers ps ≡ observed setup answers (events_of ps) }
 {}
 
-/// A report that tells of each event marks each as lost or not. What it marks is a play of these
-/// events, which loses nothing where nothing is marked; a front of the events is a front of it.
+/// What a report marks as lost is a play of these events, which loses nothing where nothing is
+/// marked; a front of the events is a front of it. A report that is the one of what it marks tells
+/// of each event.
 pub fn marks_of_a_report()
-    ensures events { (es : List Event) (rs : List EventReport) → length es ≡ length rs
-        → events_of (marked es rs) ≡ es }
+    ensures events { (es : List Event) (rs : List EventReport) → events_of (marked es rs) ≡ es }
+    ensures each { (setup : Setup) (answers : Answers) (es : List Event) (rs : List EventReport)
+        (w : World) → rs ≡ event_reports_with setup answers (marked es rs) w
+        → length rs ≡ length es }
     ensures known { (es : List Event) (rs : List EventReport) → AllByRecursion IsEvent es
         → AreEvents (marked es rs) }
     ensures unlost { (es : List Event) (rs : List EventReport)

@@ -4,6 +4,9 @@ use Rattle.tds_world.proofs.losses.marks_of_a_report.Goals as goal
 pub returns-clause-events : goal.returns-clause-events
 returns-clause-events c = marks.events
 
+pub returns-clause-each : goal.returns-clause-each
+returns-clause-each c = marks.each
+
 pub returns-clause-known : goal.returns-clause-known
 returns-clause-known c = marks.known
 
