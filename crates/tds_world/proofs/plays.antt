@@ -4,3 +4,4 @@ pub mod Few
 pub mod Marks
 pub mod Told
 pub mod Reports
+pub mod Headline
