@@ -29,3 +29,5 @@ pub mod Lending
 pub mod Underway
 pub mod Counts
 pub mod Reports
+pub mod Losses
+pub mod WithLosses

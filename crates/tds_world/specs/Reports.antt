@@ -137,8 +137,12 @@ abbrev pub LentIfLeased : Outcome → List Snapshot → Type 0
 LentIfLeased (outcome.Leased lease conn opened) snapshots = IsLent lease conn snapshots
 LentIfLeased o snapshots = Unit {0}
 
+-- One whose opening lost its link is told, and cut.
+abbrev pub IsLentIdle : EventReport → Type 0
+IsLentIdle e = e.lost ≡ false → LentIfLeased e.outcome e.snapshots
+
 abbrev pub ShowsLendsIdle : Report → Type 0
-ShowsLendsIdle r = AllByRecursion (λ (e : EventReport). LentIfLeased e.outcome e.snapshots) r.events
+ShowsLendsIdle r = AllByRecursion IsLentIdle r.events
 
 -- A session in the transaction that the client was in when the request was asked, as the snapshot
 -- after its event shows it; or outside one, where a full reset was to end it first.

@@ -8,6 +8,7 @@
 
 mod event;
 pub mod laws;
+pub mod losses;
 mod outcome;
 pub mod report;
 mod sequence;

@@ -1,6 +1,7 @@
 //! What is told of a play, and what the session laws say of it.
 
 pub mod laws;
+pub mod losses;
 
 use crate::outcome::Outcome;
 use crate::sequence::Sequence;

@@ -10,9 +10,10 @@ use Rattle.tds_session.specs.Answer.{Answers}
 use Rattle.tds_world.specs.declared.event.Event.{Event}
 use Rattle.tds_world.specs.declared.event.Event.TheVariants as event
 use Rattle.tds_world.specs.declared.event.Setup.{Setup}
+use Rattle.tds_world.specs.declared.outcome.Refusal.TheVariants as refusal
 use Rattle.tds_world.specs.Arrivals.{server_acts, client_acts, reach_server, reach_client, works_on, acknowledged_at}
 use Rattle.tds_world.specs.Caller.{sends_last, sends_by, cancels_in, cancels_by}
-use Rattle.tds_world.specs.Connection.{Connection, phase, is_idle, Standing, In, Cut, up_underway, down_underway}
+use Rattle.tds_world.specs.Connection.{Connection, phase, is_idle, Standing, In, Cut, is_cut, up_underway, down_underway}
 use Rattle.tds_world.specs.Entries.{Up, Part, End, Drop, Attention, Down, Step, Acknowledgement, Packet, packet_bytes, up_bytes, down_bytes}
 use Rattle.tds_world.specs.Events.{about, acts, asks_by, sends_in, happens_at, happens, world_after}
 use Rattle.tds_world.specs.Lane.{passed, with_waiting}
@@ -23,17 +24,17 @@ use Rattle.tds_world.specs.Record.{Record}
 use Rattle.tds_world.specs.Sessions.{FitsStep, IsInRange, StayInRange}
 use Rattle.tds_world.specs.Steps.{OfSteps}
 use Rattle.tds_world.specs.Underway.{FewToClients}
-use Rattle.tds_world.specs.World.{World, Found, Missing, Here, Opens, new_world, next_number}
+use Rattle.tds_world.specs.World.{World, Found, Missing, Here, Opens, new_world, numbered, next_number, uncut_in}
 use Rattle.tds_world.proofs.events.Happens.{happens_cases}
-use Rattle.tds_world.proofs.events.Words.{OfFound, OfActed, either}
-use Rattle.tds_world.proofs.events.Worlds.{about_has, settled, all_cut, always, each_follows, each_both}
+use Rattle.tds_world.proofs.events.Words.{OfSome, OfFound, OfActed, either}
+use Rattle.tds_world.proofs.events.Worlds.{about_has, at_number, settled, all_cut, always, each_follows, each_both}
 use Rattle.tds_world.proofs.flow.Flow.{FlowIn, StepsAndDue, OnlySteps, EndsInAcknowledgement, number_in, Sound}
 use Rattle.tds_world.proofs.flow.Sound.{sound_kept}
 use Rattle.tds_world.proofs.packets.Sessions.{all_in_range}
 
 -- ---- How many steps wait
 
-step_count : List Down → ℕ
+pub step_count : List Down → ℕ
 step_count [] = 0
 step_count (Step r place s ∷ es) = suc (step_count es)
 step_count (Acknowledgement r place ∷ es) = step_count es
@@ -55,7 +56,7 @@ unfolding step_count
 behind n (Step r place s) es h = omega (arith, h)
 behind n (Acknowledgement r place) es h = h
 
-abbrev AtMost : ℕ → Connection → Type 0
+abbrev pub AtMost : ℕ → Connection → Type 0
 AtMost n c = step_count c.to_client.waiting ≤ n
 
 more : (n : ℕ) (es : List Down) → step_count es ≤ n → step_count es ≤ suc n
@@ -148,7 +149,7 @@ acted setup answers n w event.RestartClient k c f h = tt
 
 -- ---- After any events
 
-abbrev Few : ℕ → World → Type 0
+abbrev pub Few : ℕ → World → Type 0
 Few n w = AllByRecursion (AtMost n) w.connections
 
 few_more : (n : ℕ) (w : World) → Few n w → Few (suc n) w
@@ -166,8 +167,8 @@ found setup answers n e w (Opens k) g h = settled (AtMost (suc n)) event.Lease k
 at_event : (setup : Setup) (answers : Answers) (n : ℕ) (e : Event) (w : World) → Few n w → Few (suc n) (happens_at setup answers e w (about setup w e)).1
 at_event setup answers n e w h = found setup answers n e w (about setup w e) (about_has (AtMost n) setup w e h) (few_more n w h)
 
-happens_few : (setup : Setup) (answers : Answers) (n : ℕ) (e : Event) (w : World) → Few n w → Few (suc n) (happens setup answers e w).1
-happens_few setup answers n e w h =
+pub happens_few_waits : (setup : Setup) (answers : Answers) (n : ℕ) (e : Event) (w : World) → Few n w → Few (suc n) (happens setup answers e w).1
+happens_few_waits setup answers n e w h =
     happens_cases setup answers w (λ e r. Few (suc n) r.1)
     (all_cut (AtMost (suc n)) w.connections (λ c k. k) (few_more n w h))
     (all_cut (AtMost (suc n)) w.connections (λ c k. k) (few_more n w h))
@@ -179,7 +180,7 @@ after_few setup answers n [] w h =
 after_few setup answers n (e ∷ es) w h =
     let same : suc n + length es ≡ n + suc (length es) = omega arith in
     subst (λ k. Few k (world_after setup answers es (happens setup answers e w).1)) same
-    (after_few setup answers (suc n) es (happens setup answers e w).1 (happens_few setup answers n e w h))
+    (after_few setup answers (suc n) es (happens setup answers e w).1 (happens_few_waits setup answers n e w h))
 
 -- ---- One acknowledgement at most
 
@@ -257,12 +258,31 @@ few_bytes n c a f r =
 
 -- ---- The law
 
+-- Where so few steps wait after any events, few bytes do.
+pub few_wait : (setup : Setup) (answers : Answers) → Lawful answers → StayInRange answers → (n : ℕ) (events : List Event) → Few n (world_after setup answers events new_world) → FewToClients n (world_after setup answers events new_world)
+few_wait setup answers l a n events few =
+    let w : World = world_after setup answers events new_world in
+    each_follows (λ c. AtMost n c × (Sound c × IsInRange c)) (λ c. down_underway c ≤ 512 * suc n) w.connections
+    (λ c h. few_bytes n c h.0 h.1.0 h.1.1)
+    (each_both (AtMost n) (λ c. Sound c × IsInRange c) w.connections few
+    (each_both Sound IsInRange w.connections (always Sound setup answers events (sound_kept setup answers l)) (all_in_range setup answers l a events)))
+
 pub few_to_clients : (setup : Setup) (answers : Answers) → Lawful answers → StayInRange answers → (events : List Event) → FewToClients (length events) (world_after setup answers events new_world)
 few_to_clients setup answers l a events =
-    let w : World = world_after setup answers events new_world in
     let none : 0 + length events ≡ length events = omega arith in
-    let few : Few (length events) w = subst (λ n. Few n w) none (after_few setup answers 0 events new_world tt) in
-    each_follows (λ c. AtMost (length events) c × (Sound c × IsInRange c)) (λ c. down_underway c ≤ 512 * suc (length events)) w.connections
-    (λ c h. few_bytes (length events) c h.0 h.1.0 h.1.1)
-    (each_both (AtMost (length events)) (λ c. Sound c × IsInRange c) w.connections few
-    (each_both Sound IsInRange w.connections (always Sound setup answers events (sound_kept setup answers l)) (all_in_range setup answers l a events)))
+    few_wait setup answers l a (length events) events
+    (subst (λ n. Few n (world_after setup answers events new_world)) none (after_few setup answers 0 events new_world tt))
+
+-- ---- A cut sends none
+
+pub new_few_waits : Few 0 new_world
+new_few_waits = tt
+
+cut_found : (setup : Setup) (answers : Answers) (n k : ℕ) (w : World) (o : Option Connection) → OfSome (AtMost n) o → Few n w → Few n (happens_at setup answers (event.Cut k) w (uncut_in refusal.UnknownConnection k o)).1
+cut_found setup answers n k w None g h = h
+cut_found setup answers n k w (Some c) g h =
+    either (λ f. Few n (happens_at setup answers (event.Cut k) w f).1) (is_cut c.standing) (Missing refusal.UnknownConnection) (Here k c) h
+    (settled (AtMost n) (event.Cut k) k w (acts setup answers w (event.Cut k) k c) g h)
+
+pub cut_few_waits : (setup : Setup) (answers : Answers) (n k : ℕ) (w : World) → Few n w → Few n (happens setup answers (event.Cut k) w).1
+cut_few_waits setup answers n k w h = cut_found setup answers n k w (numbered w.connections k) (at_number (AtMost n) w.connections k h) h

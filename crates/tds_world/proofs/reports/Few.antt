@@ -1,16 +1,19 @@
 -- Each event adds at most one connection, one lease, one ticket and one request.
-use Rattle.std.proofs.Common.{◌≡◌, ◌≤◌, ℕ, zero, suc, List, [], ◌∷◌, ◌++◌, ◌+◌, length, map, refl, ap, subst, arith}
+use Rattle.std.proofs.Common.{◌≡◌, ◌≤◌, ℕ, zero, suc, List, [], ◌∷◌, ◌++◌, ◌+◌, length, map, refl, ap, subst, Option, Some, None, arith}
 use Rattle.std.proofs.lemmas.List.{length-append}
+use Rattle.std.specs.Prelude.{slice_get}
 use Rattle.tds_session.specs.Answer.{Answers}
 use Rattle.tds_world.specs.declared.event.Event.{Event}
 use Rattle.tds_world.specs.declared.event.Event.TheVariants as event
 use Rattle.tds_world.specs.declared.event.Setup.{Setup}
-use Rattle.tds_world.specs.Connection.{Connection, cut}
+use Rattle.tds_world.specs.declared.outcome.Refusal.TheVariants as refusal
+use Rattle.tds_world.specs.Connection.{Connection, is_cut, cut}
 use Rattle.tds_world.specs.Counts.{AreFew}
 use Rattle.tds_world.specs.Events.{about, acts, notes, settles, happens_at, happens, world_after}
 use Rattle.tds_world.specs.Pool.{Acted, Refuses, Does, opens}
-use Rattle.tds_world.specs.World.{World, Holding, Found, Missing, Here, Opens, new_world, next_number, put, put_numbered, ended, ended_at, ended_numbered}
+use Rattle.tds_world.specs.World.{World, Holding, Found, Missing, Here, Opens, new_world, numbered, next_number, put, put_numbered, uncut_in, ended, ended_at, ended_numbered}
 use Rattle.tds_world.proofs.events.Happens.{happens_cases}
+use Rattle.tds_world.proofs.events.Words.{either}
 
 put_at : {A : Type 0} (n : ℕ) (x : A) (xs : List A) → length (put n x xs) ≤ suc (length xs)
 put_at n x [] = omega arith
@@ -50,6 +53,16 @@ one_more n xs x h = omega (arith, length-append xs (x ∷ []), h)
 
 fewer : (n k : ℕ) (hs : List Holding) → length hs ≤ n → length (ended_numbered k hs) ≤ suc n
 fewer n k hs h = omega (arith, end_number k hs, h)
+
+-- Where the number is there, nothing is added.
+put_here : {A : Type 0} (n : ℕ) (x y : A) (xs : List A) → slice_get xs n ≡ Some y → length (put n x xs) ≡ length xs
+put_here n x y [] e = absurd (cc)
+put_here zero x y (z ∷ zs) e = refl
+put_here (suc n) x y (z ∷ zs) e = ap suc (put_here n x y zs e)
+
+put_number_here : {A : Type 0} (n : ℕ) (x y : A) (xs : List A) → numbered xs n ≡ Some y → length (put_numbered n x xs) ≡ length xs
+put_number_here zero x y xs e = refl
+put_number_here (suc n) x y xs e = put_here n x y xs e
 
 -- With its connections: what is noted of an event adds one at most.
 others_stay : (n : ℕ) (w : World) (cs : List Connection) → length cs ≤ suc n → AreFew n w → AreFew (suc n) (record w { connections = cs })
@@ -119,7 +132,7 @@ found setup answers n e w (Opens k) h = settled n event.Lease k w (opens (next_n
 at_event : (setup : Setup) (answers : Answers) (n : ℕ) (e : Event) (w : World) → AreFew n w → AreFew (suc n) (happens_at setup answers e w (about setup w e)).1
 at_event setup answers n e w h = found setup answers n e w (about setup w e) h
 
-happens_few : (setup : Setup) (answers : Answers) (n : ℕ) (e : Event) (w : World) → AreFew n w → AreFew (suc n) (happens setup answers e w).1
+pub happens_few : (setup : Setup) (answers : Answers) (n : ℕ) (e : Event) (w : World) → AreFew n w → AreFew (suc n) (happens setup answers e w).1
 happens_few setup answers n e w h =
     happens_cases setup answers w (λ e r. AreFew (suc n) r.1)
     (record {
@@ -144,10 +157,26 @@ after_few setup answers n (e ∷ es) w h =
     subst (λ k. AreFew k (world_after setup answers es (happens setup answers e w).1)) sum
     (after_few setup answers (suc n) es (happens setup answers e w).1 (happens_few setup answers n e w h))
 
-new_few : AreFew 0 new_world
+pub new_few : AreFew 0 new_world
 new_few = record { connections = omega arith; leases = omega arith; tickets = omega arith; asked = omega arith }
 
 pub few_of_each : (setup : Setup) (answers : Answers) (events : List Event) → AreFew (length events) (world_after setup answers events new_world)
 few_of_each setup answers events =
     let none : 0 + length events ≡ length events = omega arith in
     subst (λ n. AreFew n (world_after setup answers events new_world)) none (after_few setup answers 0 events new_world new_few)
+
+-- ---- A cut adds none
+
+cut_found : (setup : Setup) (answers : Answers) (n k : ℕ) (w : World) (o : Option Connection) → numbered w.connections k ≡ o → AreFew n w → AreFew n (happens_at setup answers (event.Cut k) w (uncut_in refusal.UnknownConnection k o)).1
+cut_found setup answers n k w None e h = h
+cut_found setup answers n k w (Some c) e h =
+    either (λ f. AreFew n (happens_at setup answers (event.Cut k) w f).1) (is_cut c.standing) (Missing refusal.UnknownConnection) (Here k c) h
+    (record {
+      connections = omega (arith, put_number_here k (cut c) c w.connections e, h.connections);
+      leases = h.leases;
+      tickets = h.tickets;
+      asked = h.asked;
+    })
+
+pub cut_few : (setup : Setup) (answers : Answers) (n k : ℕ) (w : World) → AreFew n w → AreFew n (happens setup answers (event.Cut k) w).1
+cut_few setup answers n k w h = cut_found setup answers n k w (numbered w.connections k) refl h

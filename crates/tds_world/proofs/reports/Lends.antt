@@ -9,7 +9,6 @@ use Rattle.tds_world.specs.declared.event.Event.TheVariants as event
 use Rattle.tds_world.specs.declared.event.Setup.{Setup}
 use Rattle.tds_world.specs.declared.outcome.Outcome.{Outcome}
 use Rattle.tds_world.specs.declared.report.ClientView.TheVariants as view
-use Rattle.tds_world.specs.declared.report.EventReport.{EventReport}
 use Rattle.tds_world.specs.declared.report.Place.TheVariants as place
 use Rattle.tds_world.specs.Connection.{Connection, new_connection, phase, is_idle, Standing, In, Cut}
 use Rattle.tds_world.specs.Events.{about, acts, asks_by, sends_in, settles, happens_at, happens, world_after}
@@ -19,7 +18,7 @@ use Rattle.tds_world.specs.Observed.{snapshot_of, snapshots, snapshots_from, eve
 use Rattle.tds_world.specs.Phase.{Phase, Settled, Asked, Sending, Reading, Cancelling, state_of, is_settled}
 use Rattle.tds_world.specs.Pool.{gives_back_at, abandons_at, keeps_by, is_full}
 use Rattle.tds_world.specs.Record.{Record}
-use Rattle.tds_world.specs.Reports.{AlwaysShown, IsLent, LentIfLeased, ShowsLendsIdle}
+use Rattle.tds_world.specs.Reports.{AlwaysShown, IsLent, LentIfLeased, IsLentIdle, ShowsLendsIdle}
 use Rattle.tds_world.specs.World.{World, Found, Missing, Here, Opens, new_world, numbered, next_number, put, put_numbered}
 use Rattle.tds_world.proofs.events.Agreement.{happens_agrees, new_agrees}
 use Rattle.tds_world.proofs.events.Happens.{happens_cases}
@@ -115,10 +114,10 @@ happens_lends setup answers e w h a =
     tt
     (λ e. at_event setup answers e w h a) e
 
-each_lends : (setup : Setup) (answers : Answers) (events : List Event) (w : World) → ((later : List Event) → LendsIdle setup (world_after setup answers later w)) → Agrees w → AllByRecursion (λ (r : EventReport). LentIfLeased r.outcome r.snapshots) (event_reports setup answers events w)
+each_lends : (setup : Setup) (answers : Answers) (events : List Event) (w : World) → ((later : List Event) → LendsIdle setup (world_after setup answers later w)) → Agrees w → AllByRecursion IsLentIdle (event_reports setup answers events w)
 each_lends setup answers [] w h a = tt
 each_lends setup answers (e ∷ es) w h a =
-    (happens_lends setup answers e w (h []) a, each_lends setup answers es (happens setup answers e w).1 (λ later. h (e ∷ later)) (happens_agrees setup answers e w a))
+    (λ x. happens_lends setup answers e w (h []) a, each_lends setup answers es (happens setup answers e w).1 (λ later. h (e ∷ later)) (happens_agrees setup answers e w a))
 
 pub lends_idle_is_shown : (setup : Setup) (answers : Answers) → Lawful answers → AlwaysShown setup answers ShowsLendsIdle
 lends_idle_is_shown setup answers l events = each_lends setup answers events new_world (lends_idle setup answers l) new_agrees

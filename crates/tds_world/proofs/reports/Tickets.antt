@@ -146,7 +146,7 @@ happens_makes setup answers e w a =
 -- ---- What is shown when it is made
 
 -- These snapshots show the connection that this ticket keeps, with its descriptor.
-record IsKept (t : ℕ) (h : Holding) (shown : List Snapshot) : Type 0 where
+pub record IsKept (t : ℕ) (h : Holding) (shown : List Snapshot) : Type 0 where
   pub snapshot : Snapshot
   pub seen : snapshot_in snapshot.conn shown ≡ Some snapshot
   pub place : snapshot.place ≡ place.Kept t
@@ -240,7 +240,7 @@ from_lease v t h None s e g x = absurd g
 from_lease v t h (Some k) s e g x = subst (λ y. StartsFrom v y s) (g.0 ∙ e) x
 
 -- What is known of the world at the end.
-record AtEnd (v : World) (r : Report) : Type 0 where
+pub record AtEnd (v : World) (r : Report) : Type 0 where
   pub starts : (lease : ℕ) (s : SessionState) → first_run lease r.requests ≡ Some s → StartsUnder v (numbered v.leases lease) s
   pub kept : (t : ℕ) (h : Holding) → numbered v.tickets t ≡ Some h → IsKept t h (kept_in t r.events)
 
@@ -280,7 +280,7 @@ event_keeps v r (event.Cut n) what hs z f x = tt
 event_keeps v r event.RestartServer what hs z f x = tt
 event_keeps v r event.RestartClient what hs z f x = tt
 
-each_keeps : (setup : Setup) (answers : Answers) (events : List Event) (w : World) (r : Report) → AtEnd (world_after setup answers events w) r → OfEachOutcome (KeepsIfResumed r) events (event_reports setup answers events w)
+pub each_keeps : (setup : Setup) (answers : Answers) (events : List Event) (w : World) (r : Report) → AtEnd (world_after setup answers events w) r → OfEachOutcome (KeepsIfResumed r) events (event_reports setup answers events w)
 each_keeps setup answers [] w r z = tt
 each_keeps setup answers (e ∷ es) w r z =
     let p : Outcome × World = happens setup answers e w in (
@@ -288,11 +288,16 @@ each_keeps setup answers (e ∷ es) w r z =
       each_keeps setup answers es p.1 r z,
     )
 
-pub kept_transaction_is_shown : (setup : Setup) (answers : Answers) → Lawful answers → AlwaysTold setup answers ShowsKeptTransaction
-kept_transaction_is_shown setup answers l events =
+-- What holds at the end.
+pub at_end : (setup : Setup) (answers : Answers) (events : List Event) → Lawful answers → AtEnd (world_after setup answers events new_world) (observed setup answers events)
+at_end setup answers events l =
     let v : World = world_after setup answers events new_world in
-    each_keeps setup answers events new_world (observed setup answers events) (record {
+    record {
       starts = λ lease s e.
           starts v lease 1 v.asked_on (asked_in events (event_reports setup answers events new_world)) s (fresh_start setup answers l events) (all_asked setup answers events) (all_halves v lease (requests_in_order setup answers events)) e;
       kept = any_kept setup answers events;
-    })
+    }
+
+pub kept_transaction_is_shown : (setup : Setup) (answers : Answers) → Lawful answers → AlwaysTold setup answers ShowsKeptTransaction
+kept_transaction_is_shown setup answers l events =
+    each_keeps setup answers events new_world (observed setup answers events) (at_end setup answers events l)
