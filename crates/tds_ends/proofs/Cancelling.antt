@@ -1,5 +1,5 @@
 -- A request that is cancelled, at the client and in the model.
-use Rattle.std.proofs.Common.{◌≡◌, ◌∙◌, ◌≤◌, ℕ, Bool, true, false, eqb, refl, sym, ap, subst, Option, Some, None, List, [], ◌++◌, append_assoc, flat_map, arith}
+use Rattle.std.proofs.Common.{◌≡◌, ◌∙◌, ◌≤◌, ℕ, false, eqb, refl, sym, ap, subst, Option, Some, None, List, [], ◌++◌, append_assoc, flat_map, arith}
 use Rattle.std.proofs.lemmas.Bool.Decides.{nat_tests}
 use Rattle.std.specs.Prelude.{Ok}
 use Rattle.tds_client.specs.declared.state.Cancelled.{Cancelled}

@@ -1,5 +1,5 @@
 -- What the phase of a request says of it.
-use Rattle.std.proofs.Common.{◌≡◌, ℕ, Bool, true, false, refl, Option, Some, None, inl, inr}
+use Rattle.std.proofs.Common.{◌≡◌, ℕ, true, false, refl, Option, Some, None, inl, inr}
 use Rattle.std.specs.Prelude.{◌⊎◌}
 use Rattle.tds_client.specs.declared.fault.ClientRefusal.TheVariants as refused
 use Rattle.tds_client.specs.Session.{unless_idle}

@@ -9,7 +9,6 @@ use Rattle.tds_client.specs.Sending.{Effect, sent, sent_in, sent_of, room}
 use Rattle.tds_client.specs.Session as client
 use Rattle.tds_client.specs.Session.{ClientSession, with_stage}
 use Rattle.tds_packet.specs.declared.status.Reset.{Reset}
-use Rattle.tds_packet.specs.declared.status.Reset.TheVariants.{Full, KeepTransaction}
 use Rattle.tds_world.specs.Caller.{first_bit, next_packet, sends_by, sends_last}
 use Rattle.tds_packet.specs.Resets.{reset_bit, mark_bit}
 use Rattle.tds_world.specs.Connection.{Connection, phase}

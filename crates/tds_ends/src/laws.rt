@@ -3,7 +3,7 @@
 //! contract of a function without a body, or of one whose body does nothing but name the laws that
 //! it rests on.
 ghost use Rattle.std.specs.List.{AllByRecursion};
-ghost use Rattle.std.specs.Prelude.{◌≡◌, ◌≢◌, ◌≤◌, ◌++◌, ℕ, List, length, drop, None, Some};
+ghost use Rattle.std.specs.Prelude.{◌≡◌, ◌≢◌, ◌≤◌, ◌++◌, ℕ, List, [], length, drop, None, Some};
 ghost use Rattle.std.specs.Prelude.{flat_map, take, Option};
 ghost use Rattle.tds_client.specs.Sending.{started, sent, room};
 ghost use Rattle.tds_client.specs.Session.{ClientSession, marked, new_session, unless_idle};
@@ -16,6 +16,7 @@ ghost use Rattle.tds_ends.specs.Feeding.{Coming, Comes, Spells, Listened, IsList
 ghost use Rattle.tds_ends.specs.Feeding.{Served, IsServed, served};
 ghost use Rattle.tds_ends.specs.Hearing.{HearAlike, IsAwaited, IsSaid};
 ghost use Rattle.tds_ends.specs.Stands.{MatchesClient, MatchesServer, Sends};
+ghost use Rattle.tds_ends.specs.Stays.{ClientStays, ServerStays, PoolIsUnseen, IdleAlike};
 ghost use Rattle.tds_ends.specs.declared.listening.ClientFed.{ClientFed};
 ghost use Rattle.tds_ends.specs.declared.listening.ClientStop.TheVariants as client_stop;
 ghost use Rattle.tds_ends.specs.declared.serving.ServerFed.{ServerFed};
@@ -33,9 +34,9 @@ ghost use Rattle.tds_session.specs.Session.{SessionState};
 ghost use Rattle.tds_packet.specs.Resets.{strongest};
 ghost use Rattle.tds_token.specs.declared.token.Token.{Token};
 ghost use Rattle.tds_world.specs.Arrivals.{server_acts, client_acts, works, reach_server};
-ghost use Rattle.tds_world.specs.Arrivals.{reach_client};
+ghost use Rattle.tds_world.specs.Arrivals.{reach_client, to_client, to_server};
 ghost use Rattle.tds_world.specs.Bounds.{IsSetup, IsEvent};
-ghost use Rattle.tds_world.specs.Caller.{sends};
+ghost use Rattle.tds_world.specs.Caller.{asks, cancels, sends};
 ghost use Rattle.tds_world.specs.Connection.{Connection, Standing, new_connection, phase, is_idle};
 ghost use Rattle.tds_world.specs.Connection.{up_underway};
 ghost use Rattle.tds_world.specs.Entries.{Up, up_bytes, up_packet, Down, down_bytes, down_packet};
@@ -166,17 +167,33 @@ pub fn hears_alike()
 }
 
 /// What an end does leaves the other end as it is, and standing for the connection: a client that
-/// sends or hears its server, a server that works or takes an entry its client.
+/// asks, sends, cancels or hears its server, a server that works or takes an entry its client. So
+/// does a whole delivery.
 pub fn the_other_stays<E: Engine>()
+    ensures asks { (number lease n : ℕ) (q : Request) (s : ServerState E) (c : Connection)
+        → c.parts ≡ [] → MatchesServer s c → MatchesServer s (asks number lease n q c) }
     ensures sends { (room : ℕ) (s : ServerState E) (c : Connection) (q : Record)
         → c.current ≡ Some q
         → MatchesServer s c → MatchesServer s (sends room q c) }
+    ensures cancels { ServerStays E cancels }
     ensures hears { (s : ServerState E) (c : Connection) (e : Down) → MatchesServer s c
         → MatchesServer s (client_acts c e) }
+    ensures listens { (most : ℕ) → ServerStays E (to_client most) }
     ensures works { (s : ClientSession) (c : Connection) → MatchesClient s c
         → MatchesClient s (works c) }
     ensures arrives { (answers : Answers) (s : ClientSession) (c : Connection) (e : Up)
         → MatchesClient s c → MatchesClient s (server_acts answers c e) }
+    ensures serves { (answers : Answers) (most : ℕ) → ClientStays (to_server answers most) }
+{}
+
+/// Neither end sees where its connection stands in the pool, and the server doesn't see its mark.
+pub fn pool_is_unseen<E: Engine>()
+    ensures { PoolIsUnseen E }
+{}
+
+/// A client that stands for a connection is idle exactly where nobody waits for an answer there.
+pub fn idle_alike()
+    ensures { IdleAlike }
 {}
 
 /// A client cancels as the model does, in each phase: it sends the bytes of the same entries.

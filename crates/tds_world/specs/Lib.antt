@@ -31,3 +31,4 @@ pub mod Counts
 pub mod Reports
 pub mod Losses
 pub mod WithLosses
+pub mod PhaseTells

@@ -16,6 +16,9 @@ ghost use Rattle.tds_world.specs.Newest.{ActOnNewest, WorkOnNewest};
 ghost use Rattle.tds_world.specs.Order.{RequestsInOrder};
 ghost use Rattle.tds_world.specs.Messages.{MessagesAreWhole};
 ghost use Rattle.tds_world.specs.Packets.{PacketsFit};
+ghost use Rattle.tds_world.specs.Phase.{phase_of};
+ghost use Rattle.tds_world.specs.PhaseTells.{PhaseTells};
+ghost use Rattle.tds_world.specs.Record.{Record};
 ghost use Rattle.tds_world.specs.Requests.{RequestsAreSpelled};
 ghost use Rattle.tds_world.specs.Sessions.{AllInRange, StayInRange};
 ghost use Rattle.tds_world.specs.Steps.{AnswersEndOnce, MessagesEndOnce, StepsAreOfAnswers};
@@ -198,4 +201,9 @@ pub fn changes_are_heard()
 /// A connection that is lent again is idle.
 pub fn lends_idle()
     ensures { (setup : Setup) (answers : Answers) → Lawful answers → Always setup answers (LendsIdle setup) }
+{}
+
+/// The phase of a request says what became of it, and how much of it is out.
+pub fn phases_tell()
+    ensures { (q : Record) → PhaseTells (phase_of q) q.fate q.out }
 {}

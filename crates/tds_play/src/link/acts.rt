@@ -33,10 +33,15 @@ use crate::carrier::Carrier;
 use crate::request::Record;
 use std::alloc::{AllocError, Global};
 use tds_client::{Cancelled, ClientRefusal, Sent};
+use tds_ends::laws::{
+    asks_alike, cancels_alike, idle_alike, lends_matching, pool_is_unseen, sends_alike,
+    sends_append, the_other_stays, works_alike,
+};
 use tds_packet::{Direction, Reset};
 use tds_request::Request;
 use tds_server::Worked;
 use tds_session::Engine;
+use tds_world::laws::phases_tell;
 use tds_world::{
     AbandonOutcome, CancelOutcome, Event, GiveBackOutcome, Opened, Outcome, Refusal, SendOutcome,
     WorkOutcome,
@@ -121,6 +126,11 @@ impl<E: Engine + Drop> Link<E> {
             (acts_on setup (answer_of (E.statements_of engine) (E.step_of engine)) w
             (met done event.now) self.old.number c) c) }
     {
+        asks_alike();
+        idle_alike();
+        lends_matching::<E>();
+        pool_is_unseen::<E>();
+        the_other_stays::<E>();
         if self.is_cut {
             return Ok(on_cut(event));
         }
@@ -226,6 +236,10 @@ impl<E: Engine + Drop> Link<E> {
             → IfOk result (λ done. DoesAlike self.old.number size engine done self.new
             (C.pipes carrier.new self.old.number) (sends_in (phase c) (size - 8) c.current c) c) }
     {
+        sends_alike();
+        sends_append();
+        the_other_stays::<E>();
+        phases_tell();
         let mut out = Vec::new(alloc);
         let Some(sent) = self.put_next(&mut out)? else {
             return Ok(refused(Refusal::NotSending));
@@ -280,6 +294,11 @@ impl<E: Engine + Drop> Link<E> {
             (C.pipes carrier.new self.old.number)
             (Does (outcome.Cancel (model.cancel_outcome (phase c))) (cancels c)) c) }
     {
+        cancels_alike();
+        sends_append();
+        the_other_stays::<E>();
+        pool_is_unseen::<E>();
+        phases_tell();
         let mut out = Vec::new(alloc);
         let cancelled = self.cancel_request(&mut out)?;
         let lost = self.hand_over(carrier, Direction::ToServer, out.as_slice())?;
@@ -331,6 +350,9 @@ impl<E: Engine + Drop> Link<E> {
             (C.pipes carrier.new self.old.number)
             (Does (outcome.Work (work_outcome c.due)) (works c)) c) }
     {
+        works_alike::<E>();
+        sends_append();
+        the_other_stays::<E>();
         let mut out = Vec::new(alloc);
         let outcome = self.put_step(&mut out)?;
         let lost = self.hand_over(carrier, Direction::ToClient, out.as_slice())?;

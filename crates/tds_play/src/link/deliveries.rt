@@ -23,6 +23,7 @@ use crate::NoMemory;
 use crate::carrier::Carrier;
 use crate::feeding::{Heard, feed_client, feed_server};
 use std::alloc::Global;
+use tds_ends::laws::{idle_alike, listens_alike, pool_is_unseen, serves_alike, the_other_stays};
 use tds_packet::Direction;
 use tds_session::Engine;
 use tds_world::{Outcome, Place};
@@ -70,6 +71,8 @@ impl<E: Engine + Drop> Link<E> {
             (C.pipes carrier.new self.old.number)
             (delivers_up (answer_of (E.statements_of engine) (E.step_of engine)) (count_of done most) c) c) }
     {
+        serves_alike::<E>();
+        the_other_stays::<E>();
         let count = at_most(self.to_server, most);
         let mut piece = Vec::new(alloc);
         let carried = self.carry(carrier, Direction::ToServer, count, &mut piece)?;
@@ -105,6 +108,10 @@ impl<E: Engine + Drop> Link<E> {
             → IfOk result (λ done. DoesAlike self.old.number size engine done self.new
             (C.pipes carrier.new self.old.number) (delivers_down (count_of done most) c) c) }
     {
+        listens_alike();
+        idle_alike();
+        pool_is_unseen::<E>();
+        the_other_stays::<E>();
         let count = at_most(self.to_client, most);
         let mut piece = Vec::new(alloc);
         let carried = self.carry(carrier, Direction::ToClient, count, &mut piece)?;
