@@ -61,7 +61,7 @@ use tds_token::laws::spelled_are_read;
 use tds_world::laws::{
     act_on_newest, all_in_range, all_welcome, changes_are_heard, engine_has_dones,
     engine_is_lawful, engine_stays_in_range, few_underway, messages_are_whole, packets_fit,
-    steps_are_of_answers,
+    phases_tell, steps_are_of_answers,
 };
 
 /// Bytes spell one list of packets and one rest.
@@ -73,7 +73,8 @@ pub fn spelled_once()
 }
 
 /// However bytes are cut, a client makes the same of them: a call that took its whole piece, or
-/// wanted memory, and then one with what is left of it and more, are one call with all of the bytes.
+/// wanted memory, and then one with what is left of it and more, are one call with all of the
+/// bytes.
 pub fn pieces_are_heard()
     ensures { (r mid new : Reading) (piece more : List ℕ) (s between now : ClientSession)
         (told some after : List Token) (first second : ClientFed)
@@ -84,7 +85,8 @@ pub fn pieces_are_heard()
 {}
 
 /// However bytes are cut, a server makes the same of them: a call that took its whole piece, or
-/// wanted memory, and then one with what is left of it and more, are one call with all of the bytes.
+/// wanted memory, and then one with what is left of it and more, are one call with all of the
+/// bytes.
 pub fn pieces_are_served<E: Engine>()
     ensures { (answers : Answers) (r mid new : Reading) (piece more : List ℕ)
         (s between now : ServerState E) (reply some after : List ℕ) (first second : ServerFed)
@@ -133,7 +135,9 @@ pub fn asks_alike()
 pub fn sends_alike()
     ensures { (s : ClientSession) (c : Connection) → MatchesClient s c
         → SendAlike c (sent s) (sends_in (phase c) (room s) c.current c) }
-{}
+{
+    phases_tell();
+}
 
 /// A server works exactly where the model does: it does the same step, and sends the bytes of the
 /// same entry.
@@ -142,8 +146,8 @@ pub fn works_alike<E: Engine>()
         → WorkAlike c (worked s) }
 {}
 
-/// A server takes the packet of each entry that arrives as the model does, without a fault: it holds
-/// the same then, and acknowledges where the model does.
+/// A server takes the packet of each entry that arrives as the model does, without a fault: it
+/// holds the same then, and acknowledges where the model does.
 pub fn arrives_alike<E: Engine>()
     ensures { (answers : Answers) (s : ServerState E) (c : Connection) (q : Record) (e : Up)
         → Lawful answers
@@ -154,8 +158,8 @@ pub fn arrives_alike<E: Engine>()
     spelled_is_read();
 }
 
-/// A client takes the packet of each entry that arrives as the model does, without a fault: it tells
-/// the caller the same tokens, ends the request where the model does, and hears the same.
+/// A client takes the packet of each entry that arrives as the model does, without a fault: it
+/// tells the caller the same tokens, ends the request where the model does, and hears the same.
 pub fn hears_alike()
     ensures { (s : ClientSession) (c : Connection) (q : Record) (e : Down) → MatchesClient s c
         → c.current ≡ Some q
@@ -164,6 +168,7 @@ pub fn hears_alike()
         (has_bit (bits_of (down_packet e).header.status) 1) (down_packet e).body) }
 {
     spelled_are_read();
+    phases_tell();
 }
 
 /// What an end does leaves the other end as it is, and standing for the connection: a client that
@@ -199,10 +204,12 @@ pub fn idle_alike()
 /// A client cancels as the model does, in each phase: it sends the bytes of the same entries.
 pub fn cancels_alike()
     ensures { (s : ClientSession) (c : Connection) → MatchesClient s c → CancelAlike s c }
-{}
+{
+    phases_tell();
+}
 
-/// The ends of a new connection stand for a new connection of the model. A client that is marked for
-/// a reset stands for a connection that is lent again.
+/// The ends of a new connection stand for a new connection of the model. A client that is marked
+/// for a reset stands for a connection that is lent again.
 pub fn lends_matching<E: Engine>()
     ensures client { (size : ℕ) (p : Place) → MatchesClient (new_session size) (new_connection p) }
     ensures server { (engine : E) (p : Place)
@@ -224,8 +231,8 @@ pub fn answers_are_said<E: Engine>(engine: &E)
     engine_has_dones(engine);
 }
 
-/// A server that is fed the bytes of entries takes those that come whole as the model does, in order,
-/// and is left with what has come of the next one.
+/// A server that is fed the bytes of entries takes those that come whole as the model does, in
+/// order, and is left with what has come of the next one.
 pub fn serves_alike<E: Engine>()
     ensures { (answers : Answers) (r : Reading) (c : Connection) (es : List Up) (k : ℕ)
         (s : ServerState E) (reply : List ℕ)
@@ -234,9 +241,9 @@ pub fn serves_alike<E: Engine>()
         (reach_server answers c es k) s reply }
 {}
 
-/// All that waits for a server is packets to its reader, and a server that stands for the connection
-/// takes each as the model does, one after the other: where each is the next piece of its message, is
-/// welcome, and fits the packet size.
+/// All that waits for a server is packets to its reader, and a server that stands for the
+/// connection takes each as the model does, one after the other: where each is the next piece of
+/// its message, is welcome, and fits the packet size.
 pub fn all_arrive<E: Engine>()
     ensures { (answers : Answers) (r : Reading) (c : Connection) → Lawful answers
         → r.direction ≡ ToServer → AreWhole c
@@ -247,8 +254,8 @@ pub fn all_arrive<E: Engine>()
     arrives_alike::<E>();
 }
 
-/// A client that is fed the bytes of entries hears those that come whole as the model does, in order,
-/// and is left with what has come of the next one.
+/// A client that is fed the bytes of entries hears those that come whole as the model does, in
+/// order, and is left with what has come of the next one.
 pub fn listens_alike()
     ensures { (r : Reading) (c : Connection) (es : List Down) (k : ℕ) (s : ClientSession)
         (settled : Option RequestStatus) (told : List Token)

@@ -110,8 +110,8 @@ impl<E: Engine + Drop> Link<E> {
         ensures ties { OnOk result (KeepsTies self.old.number self.new (C.pipes carrier.old)
             (C.pipes carrier.new) (C.tells carrier.old) (C.tells carrier.new)) }
         ensures steady { C.steady → IfOk result (λ done. done.lost ≡ false) }
-        // A connection that stands for one of the model stands for what the event, as it was met, makes of
-        // it, cut where the carrier failed.
+        // A connection that stands for one of the model stands for what the event, as it was met,
+        // makes of it, cut where the carrier failed.
         ensures alike { (setup : Setup) (w : World) (c : Connection) (engine : E)
             → C.tells carrier.old
             → IsPlayed self.old.number setup.packet_size engine self.old
@@ -286,7 +286,8 @@ impl<E: Engine + Drop> Link<E> {
             (recounted self.new.to_server self.new.to_client
             (cancelled_as e.answer e.session self.old))))) }
         ensures steady { C.steady → IfOk result (λ done. done.lost ≡ false) }
-        // A connection that stands for one of the model stands for what the same cancel makes of it.
+        // A connection that stands for one of the model stands for what the same cancel makes of
+        // it.
         ensures alike { (size : ℕ) (engine : E) (c : Connection)
             → IsPlayed self.old.number size engine self.old (C.pipes carrier.old self.old.number) c
             → up_underway (cancels c) ≤ 18446744073709551615

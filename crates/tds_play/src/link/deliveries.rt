@@ -7,11 +7,11 @@ ghost use Rattle.tds_ends.specs.Deliveries.{AllArrive};
 ghost use Rattle.tds_ends.specs.Feeding.{Comes, Coming, Listened, listened};
 ghost use Rattle.tds_play.specs.Links.{drained_at, placed_at};
 ghost use Rattle.tds_play.specs.Listening.{HasListened, told_in};
-ghost use Rattle.tds_play.specs.Pipe.{Pipe, AreSame};
+ghost use Rattle.tds_play.specs.Pipe.{Pipe};
 ghost use Rattle.tds_play.specs.Plays.{DoesAlike, IsPlayed, count_of, delivers_down, delivers_up};
 ghost use Rattle.tds_ends.specs.Promises.{IsCountable, Promises};
 ghost use Rattle.tds_play.specs.Seen.{done_as};
-ghost use Rattle.tds_play.specs.Ties.{IsTied};
+ghost use Rattle.tds_play.specs.Ties.{IsTied, KeepsTies};
 ghost use Rattle.tds_session.specs.Answer.{Answers, answer_of};
 ghost use Rattle.tds_world.specs.Arrivals.{to_client, to_server};
 ghost use Rattle.tds_world.specs.Connection.{Connection, down_underway, up_underway};
@@ -57,19 +57,20 @@ impl<E: Engine + Drop> Link<E> {
         requires live { self.old.is_cut ≡ false }
         requires tied { IsTied self.old (C.pipes carrier.old self.old.number) }
         ensures number { self.new.number ≡ self.old.number }
-        ensures tied { OnOk result (IsTied self.new (C.pipes carrier.new self.old.number)) }
-        ensures others { OnOk result (AreSame (C.pipes carrier.old) (C.pipes carrier.new) self.old.number) }
-        ensures tells { OnOk result (C.tells carrier.old → C.tells carrier.new) }
+        ensures ties { OnOk result (KeepsTies self.old.number self.new (C.pipes carrier.old)
+            (C.pipes carrier.new) (C.tells carrier.old) (C.tells carrier.new)) }
         ensures steady { C.steady → IfOk result (λ done. done.lost ≡ false) }
-        // A connection that stands for one of the model stands for what the delivery of as many bytes as came
-        // makes of it, cut where the carrier failed.
+        // A connection that stands for one of the model stands for what the delivery of as many
+        // bytes as came makes of it, cut where the carrier failed.
         ensures alike { (size : ℕ) (engine : E) (c : Connection) → C.tells carrier.old
             → IsPlayed self.old.number size engine self.old (C.pipes carrier.old self.old.number) c
             → Promises E (answer_of (E.statements_of engine) (E.step_of engine)) size c
-            → ((k : ℕ) → IsCountable (to_server (answer_of (E.statements_of engine) (E.step_of engine)) k c))
+            → ((k : ℕ) → IsCountable (to_server (answer_of (E.statements_of engine)
+            (E.step_of engine)) k c))
             → IfOk result (λ done. DoesAlike self.old.number size engine done self.new
             (C.pipes carrier.new self.old.number)
-            (delivers_up (answer_of (E.statements_of engine) (E.step_of engine)) (count_of done most) c) c) }
+            (delivers_up (answer_of (E.statements_of engine) (E.step_of engine))
+            (count_of done most) c) c) }
     {
         serves_alike::<E>();
         the_other_stays::<E>();
@@ -98,11 +99,11 @@ impl<E: Engine + Drop> Link<E> {
         requires live { self.old.is_cut ≡ false }
         requires tied { IsTied self.old (C.pipes carrier.old self.old.number) }
         ensures number { self.new.number ≡ self.old.number }
-        ensures tied { OnOk result (IsTied self.new (C.pipes carrier.new self.old.number)) }
-        ensures others { OnOk result (AreSame (C.pipes carrier.old) (C.pipes carrier.new) self.old.number) }
-        ensures tells { OnOk result (C.tells carrier.old → C.tells carrier.new) }
+        ensures ties { OnOk result (KeepsTies self.old.number self.new (C.pipes carrier.old)
+            (C.pipes carrier.new) (C.tells carrier.old) (C.tells carrier.new)) }
         ensures steady { C.steady → IfOk result (λ done. done.lost ≡ false) }
-        ensures alike { (answers : Answers) (size : ℕ) (engine : E) (c : Connection) → C.tells carrier.old
+        ensures alike { (answers : Answers) (size : ℕ) (engine : E) (c : Connection)
+            → C.tells carrier.old
             → IsPlayed self.old.number size engine self.old (C.pipes carrier.old self.old.number) c
             → Promises E answers size c
             → IfOk result (λ done. DoesAlike self.old.number size engine done self.new
@@ -125,7 +126,8 @@ impl<E: Engine + Drop> Link<E> {
 
     /// A draining connection is free once its client is idle.
     fn drain(&mut self)
-        ensures { self.new ≡ placed_at (drained_at (is_none (unless_idle self.old.client.stage)) self.old.place) self.old }
+        ensures { self.new ≡ placed_at (drained_at (is_none (unless_idle self.old.client.stage))
+            self.old.place) self.old }
     {
         if self.place == Place::Draining && self.is_idle() {
             self.place = Place::Free;
@@ -137,13 +139,15 @@ impl<E: Engine + Drop> Link<E> {
         requires { self.old.client_reader.direction ≡ ToClient }
         ensures number { self.new.number ≡ self.old.number }
         ensures live { self.new.is_cut ≡ self.old.is_cut }
-        ensures tied { (pipe : Option Pipe) → IsTied self.old pipe → OnOk result (IsTied self.new pipe) }
-        // Where packets come that the client takes, it takes them in order, and tells what they say to
-        // the newest request's caller.
+        ensures tied { (pipe : Option Pipe) → IsTied self.old pipe
+            → OnOk result (IsTied self.new pipe) }
+        // Where packets come that the client takes, it takes them in order, and tells what they say
+        // to the newest request's caller.
         ensures heard { (packets : List Coming) (left : List ℕ) (then : Listened)
             → Comes self.old.client_reader (self.old.client_reader.taken ++ piece.now) packets left
             → listened self.old.client None (told_in self.old.current) packets ≡ Some then
-            → IfOk result (λ heard. (heard.fault ≡ None) × HasListened then left self.old self.new) }
+            → IfOk result (λ heard. (heard.fault ≡ None)
+            × HasListened then left self.old self.new) }
     {
         match &mut self.current {
             None => {
