@@ -16,13 +16,14 @@ use Rattle.tds_world.specs.Arrivals.{to_server}
 use Rattle.tds_world.specs.Caller.{cancels}
 use Rattle.tds_world.specs.Connection.{Connection, Standing, In, Cut, is_idle, up_underway}
 use Rattle.tds_world.specs.Events.{acts}
+use Rattle.tds_world.specs.Losses.{bringing, met}
 use Rattle.tds_world.specs.Pool.{Acted, Does, abandons, abandons_at, gives_back, gives_back_at, comes_back, keeps}
 use Rattle.tds_world.specs.World.{World}
 use Rattle.tds_client.specs.Session.{unless_idle}
 use Rattle.tds_play.specs.Lending.{standing_by}
 use Rattle.tds_play.specs.Links.{lent_as, placed_at}
 use Rattle.tds_play.specs.Pipe.{Pipe}
-use Rattle.tds_play.specs.Plays.{DoesAlike, IsPlayed, acts_at, acts_on, after, bringing, count_of, delivers_down, delivers_up, met, on_cut, outcome_of}
+use Rattle.tds_play.specs.Plays.{DoesAlike, IsPlayed, acts_at, acts_on, after, count_of, delivers_down, delivers_up, loss_of, on_cut, outcome_of}
 use Rattle.tds_ends.specs.Promises.{IsCountable}
 use Rattle.tds_play.specs.Seen.{done_as}
 use Rattle.tds_ends.specs.Stays.{IdleAlike, PoolIsUnseen}
@@ -92,10 +93,10 @@ few_back c p at few = (few_then c (gives_back c) (comes_back (cancels c)) (comes
 pub plain_ok : {E S B : Type 0} (number size : ℕ) (engine : E) (r : Result Done B) (new : Link E S) (pipe : Option Pipe) (setup : Setup) (answers : Answers) (w : World) (e kind : Event) (c : Connection) (p : Place)
     → c.standing ≡ In p → e ≡ kind → ((k : ℕ) → bringing k kind ≡ kind)
     → IfOk r (λ done. DoesAlike number size engine done new pipe (acts setup answers w kind number c) c)
-    → IfOk r (λ done. DoesAlike number size engine done new pipe (acts_on setup answers w (met done e) number c) c)
+    → IfOk r (λ done. DoesAlike number size engine done new pipe (acts_on setup answers w (met (loss_of done) e) number c) c)
 plain_ok number size engine r new pipe setup answers w e kind c p at is plain h =
-    met_ok number size engine r new pipe c (λ done. acts_on setup answers w (met done e) number c) (λ done. acts setup answers w kind number c)
-    (λ done. event_at setup answers w (met done e) kind number c p at (ap (met done) is ∙ plain_met done.lost done.outcome kind plain)) h
+    met_ok number size engine r new pipe c (λ done. acts_on setup answers w (met (loss_of done) e) number c) (λ done. acts setup answers w kind number c)
+    (λ done. event_at setup answers w (met (loss_of done) e) kind number c p at (ap (met (loss_of done)) is ∙ plain_met done.lost done.outcome kind plain)) h
 
 pub plain_few : (setup : Setup) (answers : Answers) (w : World) (e kind : Event) (number : ℕ) (c : Connection) (p : Place)
     → c.standing ≡ In p → e ≡ kind → ((k : ℕ) → bringing k kind ≡ kind)
@@ -109,10 +110,10 @@ plain_few setup answers w e kind number c p at is plain few =
 pub up_ok : {E S B : Type 0} (number size : ℕ) (engine : E) (r : Result Done B) (new : Link E S) (pipe : Option Pipe) (setup : Setup) (answers : Answers) (w : World) (e : Event) (n count : ℕ) (c : Connection) (p : Place)
     → c.standing ≡ In p → e ≡ event.ToServer n count
     → IfOk r (λ done. DoesAlike number size engine done new pipe (delivers_up answers (count_of done count) c) c)
-    → IfOk r (λ done. DoesAlike number size engine done new pipe (acts_on setup answers w (met done e) number c) c)
+    → IfOk r (λ done. DoesAlike number size engine done new pipe (acts_on setup answers w (met (loss_of done) e) number c) c)
 up_ok number size engine r new pipe setup answers w e n count c p at is h =
-    met_ok number size engine r new pipe c (λ done. acts_on setup answers w (met done e) number c) (λ done. delivers_up answers (count_of done count) c)
-    (λ done. event_at setup answers w (met done e) (event.ToServer n (count_of done count)) number c p at (ap (met done) is ∙ up_met done.lost done.outcome n count)) h
+    met_ok number size engine r new pipe c (λ done. acts_on setup answers w (met (loss_of done) e) number c) (λ done. delivers_up answers (count_of done count) c)
+    (λ done. event_at setup answers w (met (loss_of done) e) (event.ToServer n (count_of done count)) number c p at (ap (met (loss_of done)) is ∙ up_met done.lost done.outcome n count)) h
 
 pub up_few : (setup : Setup) (answers : Answers) (w : World) (e : Event) (number n count : ℕ) (c : Connection) (p : Place)
     → c.standing ≡ In p → e ≡ event.ToServer n count
@@ -125,10 +126,10 @@ up_few setup answers w e number n count c p at is few = λ k.
 pub down_ok : {E S B : Type 0} (number size : ℕ) (engine : E) (r : Result Done B) (new : Link E S) (pipe : Option Pipe) (setup : Setup) (answers : Answers) (w : World) (e : Event) (n count : ℕ) (c : Connection) (p : Place)
     → c.standing ≡ In p → e ≡ event.ToClient n count
     → IfOk r (λ done. DoesAlike number size engine done new pipe (delivers_down (count_of done count) c) c)
-    → IfOk r (λ done. DoesAlike number size engine done new pipe (acts_on setup answers w (met done e) number c) c)
+    → IfOk r (λ done. DoesAlike number size engine done new pipe (acts_on setup answers w (met (loss_of done) e) number c) c)
 down_ok number size engine r new pipe setup answers w e n count c p at is h =
-    met_ok number size engine r new pipe c (λ done. acts_on setup answers w (met done e) number c) (λ done. delivers_down (count_of done count) c)
-    (λ done. event_at setup answers w (met done e) (event.ToClient n (count_of done count)) number c p at (ap (met done) is ∙ down_met done.lost done.outcome n count)) h
+    met_ok number size engine r new pipe c (λ done. acts_on setup answers w (met (loss_of done) e) number c) (λ done. delivers_down (count_of done count) c)
+    (λ done. event_at setup answers w (met (loss_of done) e) (event.ToClient n (count_of done count)) number c p at (ap (met (loss_of done)) is ∙ down_met done.lost done.outcome n count)) h
 
 -- ---- A connection that is cut
 

@@ -24,7 +24,7 @@ put_played size engine ls pipes pipes' cs i n new c all less number same is =
     set_played 1 n size engine ls pipes pipes' cs i new c all less (omega (arith, number)) same is
 
 -- A connection that is cut already stays as it was.
-cut_again : (c : Connection) → c.standing ≡ Cut → c ≡ cut c
+pub cut_again : (c : Connection) → c.standing ≡ Cut → c ≡ cut c
 cut_again c e = ap (λ (s : Standing). record c { standing = s }) e
 
 is_cut_by : (b : Bool) (p : Place) (s : Standing) → standing_by b p ≡ s → b ≡ true → s ≡ Cut

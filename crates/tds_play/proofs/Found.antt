@@ -15,7 +15,8 @@ use Rattle.tds_world.specs.declared.outcome.Refusal.TheVariants as refusal
 use Rattle.tds_world.specs.Connection.{Connection, Standing, In, Cut, is_cut}
 use Rattle.tds_world.specs.Lending.{LendsIdle}
 use Rattle.tds_world.specs.Events.{acts, happens, happens_at, settles}
-use Rattle.tds_world.specs.Pool.{Refuses, is_free, first_of, lowest_free, pool_count, to_lend, to_lend_by, opens, gives_back_at, abandons_at}
+use Rattle.tds_world.specs.Losses.{link_of, number_of}
+use Rattle.tds_world.specs.Pool.{Refuses, is_free, first_of, lowest_free, pool_count, to_lend, to_lend_by, gives_back_at, abandons_at}
 use Rattle.tds_world.specs.World.{World, Holding, numbered, next_number, there, uncut, uncut_in, held, not_cut}
 use Rattle.tds_world.specs.World as world
 use Rattle.tds_play.specs.declared.pool.Found.{Found}
@@ -23,7 +24,7 @@ use Rattle.tds_play.specs.declared.pool.Found.TheVariants.{Missing, Here, Opens}
 use Rattle.tds_play.specs.Holdings.{conn_in, conn_of}
 use Rattle.tds_play.specs.Lending.{FoundAlike, lent, numbered_of}
 use Rattle.tds_play.specs.Noted.{about_of, held_of}
-use Rattle.tds_play.specs.Plays.{IsReady, acts_at, acts_on, held_by, holdings_of, on_cut}
+use Rattle.tds_play.specs.Plays.{IsReady, MayLose, acts_at, acts_on, held_by, holdings_of, on_cut}
 use Rattle.tds_play.proofs.Held.{conn_held}
 
 -- What the model makes of an event, by what the player found.
@@ -36,8 +37,7 @@ pub record Settles (setup : Setup) (answers : Answers) (w : World) (e : Event) (
 abbrev pub HappensBy : Setup → Answers → World → Event → Found → Outcome × World → Type 0
 HappensBy setup answers w e (Missing why) next = next ≡ (outcome.Refused why, w)
 HappensBy setup answers w e (Here place) next = Settles setup answers w e place next
-HappensBy setup answers w e Opens next =
-    next ≡ settles event.Lease (next_number w.connections) w (opens (next_number w.leases) (next_number w.connections))
+HappensBy setup answers w e Opens next = (e ≡ event.Lease) × (to_lend setup w ≡ world.Opens (next_number w.connections))
 
 -- ---- By its number
 
@@ -222,8 +222,75 @@ lent_happens setup answers w (Here place) (world.Here n c) is alike ready =
 lent_happens setup answers w (Here place) (world.Opens n) is alike ready = absurd alike
 lent_happens setup answers w Opens (world.Missing because) is alike ready = absurd alike
 lent_happens setup answers w Opens (world.Here n c) is alike ready = absurd alike
-lent_happens setup answers w Opens (world.Opens n) is alike ready =
-    ap (λ (m : ℕ). settles event.Lease m w (opens (next_number w.leases) m)) alike
+lent_happens setup answers w Opens (world.Opens n) is alike ready = (refl, is ∙ ap world.Opens alike)
+
+-- ---- The link that an event uses
+
+-- The number of a connection that isn't cut.
+uncut_number : (why : Refusal) (n : ℕ) (c : Connection) → is_cut c.standing ≡ false → number_of (uncut why n c) ≡ Some n
+uncut_number why n c lives = ap number_of (uncut_is_here why n c lives)
+
+-- Where a connection was found, and the event may be lost there, it uses its link.
+abbrev UsesLink : World → Option ℕ → Found → Type 0
+UsesLink w link (Missing why) = Unit {0}
+UsesLink w link Opens = Unit {0}
+UsesLink w link (Here place) = (c : Connection) → slice_get w.connections place ≡ Some c → is_cut c.standing ≡ false → link ≡ Some (suc place)
+
+same_connection : (w : World) (place : ℕ) (c d : Connection) → slice_get w.connections place ≡ Some c → slice_get w.connections place ≡ Some d → c ≡ d
+same_connection w place c d at there = let is : Some c ≡ Some d = sym at ∙ there in cc
+
+numbered_link : (w : World) (n : ℕ) → UsesLink w (number_of (uncut_in refusal.UnknownConnection n (numbered w.connections n))) (numbered_of (length (map (λ c. c.standing) w.connections)) n refusal.UnknownConnection)
+numbered_link w n =
+    subst (λ (k : ℕ). UsesLink w (number_of (uncut_in refusal.UnknownConnection n (numbered w.connections n))) (numbered_of k n refusal.UnknownConnection)) (sym (length-map w.connections (λ c. c.standing)))
+    (by_number refusal.UnknownConnection (λ (m : ℕ) (o : Option Connection) (f : Found). UsesLink w (number_of (uncut_in refusal.UnknownConnection m o)) f) w.connections n
+    tt (λ place. tt)
+    (λ place c at d there lives. uncut_number refusal.UnknownConnection (suc place) c (ap (λ (x : Connection). is_cut x.standing) (same_connection w place c d at there) ∙ lives)))
+
+held_link : (w : World) (n : ℕ) (why : Refusal) → UsesLink w (number_of (there why n (numbered w.connections n))) (numbered_of (length w.connections) n why)
+held_link w n why =
+    by_number why (λ (m : ℕ) (o : Option Connection) (f : Found). UsesLink w (number_of (there why m o)) f) w.connections n
+    tt (λ place. tt) (λ place c at d is lives. refl)
+
+uncut_link : (w : World) (n : ℕ) (why : Refusal) → UsesLink w (number_of (not_cut (there why n (numbered w.connections n)))) (numbered_of (length w.connections) n why)
+uncut_link w n why =
+    by_number why (λ (m : ℕ) (o : Option Connection) (f : Found). UsesLink w (number_of (not_cut (there why m o))) f) w.connections n
+    tt (λ place. tt)
+    (λ place c at d is lives. uncut_number refusal.ConnectionCut (suc place) c (ap (λ (x : Connection). is_cut x.standing) (same_connection w place c d at is) ∙ lives))
+
+back_link : (w : World) (lease : ℕ) → UsesLink w (number_of (held w refusal.UnknownLease (numbered w.leases lease))) (held_of (length (map (λ c. c.standing) w.connections)) (conn_of (holdings_of w.leases) lease) refusal.UnknownLease)
+back_link w lease =
+    of_holdings w w.leases lease refusal.UnknownLease (UsesLink w (number_of (held w refusal.UnknownLease (numbered w.leases lease))))
+    (by_holding w refusal.UnknownLease (λ f g. UsesLink w (number_of g) f) (numbered w.leases lease) tt
+    (λ h is. held_link w h.conn refusal.UnknownLease))
+
+lease_link : (w : World) (lease : ℕ) → UsesLink w (number_of (not_cut (held w refusal.UnknownLease (numbered w.leases lease)))) (held_of (length (map (λ c. c.standing) w.connections)) (conn_of (holdings_of w.leases) lease) refusal.UnknownLease)
+lease_link w lease =
+    of_holdings w w.leases lease refusal.UnknownLease (UsesLink w (number_of (not_cut (held w refusal.UnknownLease (numbered w.leases lease)))))
+    (by_holding w refusal.UnknownLease (λ f g. UsesLink w (number_of (not_cut g)) f) (numbered w.leases lease) tt
+    (λ h is. uncut_link w h.conn refusal.UnknownLease))
+
+links_by : (w : World) (link : Option ℕ) (f : Found) (place : ℕ) (c : Connection) → UsesLink w link f → Here place ≡ f → slice_get w.connections place ≡ Some c → is_cut c.standing ≡ false → link ≡ Some (suc place)
+links_by w link f place c uses is at lives = subst (UsesLink w link) (sym is) uses c at lives
+
+-- An event that may be lost uses the link of the connection that was found.
+pub link_found : (setup : Setup) (w : World) (e : Event) (place : ℕ) (c : Connection)
+    → Here place ≡ about_of e (map (λ c. c.standing) w.connections) setup.max (holdings_of w.leases) (holdings_of w.tickets)
+    → slice_get w.connections place ≡ Some c → (b : Bool) → is_cut c.standing ≡ b → MayLose b e → link_of setup w e ≡ Some (suc place)
+link_found setup w e place c is at true lives may = absurd may
+link_found setup w event.Lease place c is at false lives may = absurd may
+link_found setup w (event.Resume ticket) place c is at false lives may = absurd may
+link_found setup w (event.GiveBack lease) place c is at false lives may = links_by w _ _ place c (back_link w lease) is at lives
+link_found setup w (event.Keep lease) place c is at false lives may = absurd may
+link_found setup w (event.Abandon ticket) place c is at false lives may = absurd may
+link_found setup w (event.Ask lease q) place c is at false lives may = absurd may
+link_found setup w (event.Send lease) place c is at false lives may = links_by w _ _ place c (lease_link w lease) is at lives
+link_found setup w (event.Cancel lease) place c is at false lives may = links_by w _ _ place c (lease_link w lease) is at lives
+link_found setup w (event.Work n) place c is at false lives may = links_by w _ _ place c (numbered_link w n) is at lives
+link_found setup w (event.ToServer n count) place c is at false lives may = links_by w _ _ place c (numbered_link w n) is at lives
+link_found setup w (event.ToClient n count) place c is at false lives may = links_by w _ _ place c (numbered_link w n) is at lives
+link_found setup w (event.Cut n) place c is at false lives may = absurd may
+link_found setup w event.RestartServer place c is at false lives may = absurd may
+link_found setup w event.RestartClient place c is at false lives may = absurd may
 
 -- ---- Any event
 

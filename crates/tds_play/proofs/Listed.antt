@@ -1,5 +1,9 @@
 -- All connections of a play, when one changes or is added.
-use Rattle.std.proofs.Common.{◌≡◌, ℕ, suc, List, [], ◌∷◌, ◌++◌, ◌<◌, ◌≤◌, length, get_or, Option, Bool, true, false, ltb, arith, sym, refl, subst, length-append}
+use Rattle.std.proofs.Common.{◌≡◌, ◌≢◌, ◌∙◌, ℕ, suc, List, [], ◌∷◌, ◌++◌, ◌<◌, ◌≤◌, length, get_or, set, Option, Bool, true, false, ltb, eqb, ap, arith, sym, refl, subst, length-append}
+use Rattle.std.proofs.lemmas.List.{get_or-set_other, get_or-set_same, length-set}
+use Rattle.std.proofs.lemmas.Bool.{eq-eqb}
+use Rattle.std.proofs.Math.Dec.{T}
+use Rattle.std.proofs.Math.Facts.{eqb_yes}
 use Rattle.std.proofs.Math.Seq.{get_or-append_seam}
 use Rattle.std.proofs.Math.ListN.{get_or-append}
 use Rattle.std.proofs.lemmas.Bool.Decides.{nat_tests}
@@ -16,6 +20,12 @@ is_below i j e = grind (arith, nat_tests)
 
 is_not_below : (i j : ℕ) → ltb i j ≡ false → j ≤ i
 is_not_below i j e = grind (arith, nat_tests)
+
+is_at : (i j : ℕ) → eqb i j ≡ true → i ≡ j
+is_at i j e = eqb_yes (subst T (sym e) tt)
+
+is_other : (i j : ℕ) → eqb i j ≡ false → i ≢ j
+is_other i j e = λ z. let bad : false ≡ true = sym e ∙ eq-eqb i j z in absurd (cc)
 
 last_of : {X : Type 0} (xs : List X) (v d : X) → get_or (xs ++ v ∷ []) (length xs) d ≡ v
 last_of xs v d = get_or-append_seam xs v [] d
@@ -34,3 +44,19 @@ opened links new link pipes pipes' is all number tied same = rw is (record {
   numbered = push_each (λ k x. x.number ≡ suc k) links link all.numbered number;
   tied = push_each (λ k x. IsTied x (pipes' (suc k))) links link (λ k x lt. subst (λ p. IsTied (get_or links k x) p) (sym (same (suc k) (λ z. absurd (omega arith)))) (all.tied k x lt)) tied;
 })
+
+set_each : {X : Type 0} (P : ℕ → X → Type 0) (xs : List X) (i : ℕ) (v : X) → ((j : ℕ) (d : X) → j ≢ i → j < length xs → P j (get_or xs j d)) → i < length xs → P i v → (j : ℕ) (d : X) → j < length (set xs i v) → P j (get_or (set xs i v) j d)
+set_each P xs i v each there is j d less =
+    by_test (P j (get_or (set xs i v) j d)) (eqb j i)
+    (λ t. let at : j ≡ i = is_at j i t in subst (λ (k : ℕ). P k (get_or (set xs i v) k d)) (sym at) (subst (P i) (sym (get_or-set_same xs i v d there)) is))
+    (λ t. subst (P j) (sym (get_or-set_other xs i j v d (is_other j i t))) (each j d (is_other j i t) (omega (arith, less, length-set xs i v))))
+
+-- One of them changes, and keeps its number.
+pub changed : {E S : Type 0} (links : List (Link E S)) (place : ℕ) (link new : Link E S) (pipes pipes' : ℕ → Option Pipe) → AreTied links pipes → place < length links → link ≡ get_or links place link → new.number ≡ link.number → IsTied new (pipes' link.number) → AreSame pipes pipes' link.number → AreTied (set links place new) pipes'
+changed {E} {S} links place link new pipes pipes' all there is kept tied same =
+    let number : link.number ≡ suc place = ap (λ (l : Link E S). l.number) is ∙ all.numbered place link there in
+    record {
+      numbered = set_each (λ k x. x.number ≡ suc k) links place new (λ k x other less. all.numbered k x less) there (kept ∙ number);
+      tied = set_each (λ k x. IsTied x (pipes' (suc k))) links place new
+          (λ k x other less. subst (IsTied (get_or links k x)) (sym (same (suc k) (λ z. other (omega (arith, z, number))))) (all.tied k x less)) there (subst (λ (k : ℕ). IsTied new (pipes' k)) number tied);
+    }

@@ -8,9 +8,10 @@ use Rattle.tds_world.specs.declared.outcome.Outcome.{Outcome}
 use Rattle.tds_world.specs.declared.outcome.Outcome.TheVariants as outcome
 use Rattle.tds_world.specs.Arrivals.{reach_client, reach_server, to_client, to_server, drains}
 use Rattle.tds_world.specs.Connection.{Connection, down_underway, up_underway}
+use Rattle.tds_world.specs.Losses.{bringing, came_in, loss_by, met}
 use Rattle.tds_world.specs.Pool.{Acted}
 use Rattle.tds_play.specs.Pipe.{Pipe}
-use Rattle.tds_play.specs.Plays.{DoesAlike, IsPlayed, after, bringing, came_in, count_by, count_of, cut_where, delivers_down, delivers_up, met, met_by, outcome_of}
+use Rattle.tds_play.specs.Plays.{DoesAlike, IsPlayed, after, count_by, count_of, cut_where, delivers_down, delivers_up, loss_of, outcome_of}
 use Rattle.tds_play.specs.Seen.{done_as}
 use Rattle.tds_play.specs.declared.link.Done.{Done}
 use Rattle.tds_play.specs.declared.link.Link.{Link}
@@ -18,15 +19,15 @@ use Rattle.tds_play.specs.declared.link.Link.{Link}
 -- ---- Which event it was
 
 -- Only a delivery is met with fewer bytes.
-pub plain_met : (lost : Bool) (o : Outcome) (e : Event) → ((k : ℕ) → bringing k e ≡ e) → met_by lost o e ≡ e
+pub plain_met : (lost : Bool) (o : Outcome) (e : Event) → ((k : ℕ) → bringing k e ≡ e) → met (loss_by lost o) e ≡ e
 plain_met true o e same = same (came_in o)
 plain_met false o e same = refl
 
-pub up_met : (lost : Bool) (o : Outcome) (n count : ℕ) → met_by lost o (event.ToServer n count) ≡ event.ToServer n (count_by lost o count)
+pub up_met : (lost : Bool) (o : Outcome) (n count : ℕ) → met (loss_by lost o) (event.ToServer n count) ≡ event.ToServer n (count_by lost o count)
 up_met true o n count = refl
 up_met false o n count = refl
 
-pub down_met : (lost : Bool) (o : Outcome) (n count : ℕ) → met_by lost o (event.ToClient n count) ≡ event.ToClient n (count_by lost o count)
+pub down_met : (lost : Bool) (o : Outcome) (n count : ℕ) → met (loss_by lost o) (event.ToClient n count) ≡ event.ToClient n (count_by lost o count)
 down_met true o n count = refl
 down_met false o n count = refl
 
@@ -69,13 +70,13 @@ delivered_down {E} {S} number size most k engine done false new pipe c is all le
 -- An event that can't meet the carrier.
 pub whole_alike : {E S : Type 0} (number size : ℕ) (engine : E) (done : Done) (new : Link E S) (pipe : Option Pipe) (acts : Event → Acted) (e : Event) (c : Connection)
     → (done ≡ done_as (outcome_of (acts e))) × IsPlayed number size engine new pipe (after (acts e) c)
-    → DoesAlike number size engine done new pipe (acts (met done e)) c
+    → DoesAlike number size engine done new pipe (acts (met (loss_of done) e)) c
 whole_alike {E} {S} number size engine done new pipe acts e c h =
-    subst (λ (d : Done). DoesAlike number size engine d new pipe (acts (met d e)) c) (sym h.0) (record { outcome = refl; played = h.1 })
+    subst (λ (d : Done). DoesAlike number size engine d new pipe (acts (met (loss_of d) e)) c) (sym h.0) (record { outcome = refl; played = h.1 })
 
 pub whole_ok : {E S B : Type 0} (number size : ℕ) (engine : E) (r : Result Done B) (new : Link E S) (pipe : Option Pipe) (acts : Event → Acted) (e : Event) (c : Connection)
     → IfOk r (λ done. (done ≡ done_as (outcome_of (acts e))) × IsPlayed number size engine new pipe (after (acts e) c))
-    → IfOk r (λ done. DoesAlike number size engine done new pipe (acts (met done e)) c)
+    → IfOk r (λ done. DoesAlike number size engine done new pipe (acts (met (loss_of done) e)) c)
 whole_ok number size engine (Ok done) new pipe acts e c h = whole_alike number size engine done new pipe acts e c h
 whole_ok number size engine (Err why) new pipe acts e c h = h
 

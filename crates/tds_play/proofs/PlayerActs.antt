@@ -1,6 +1,7 @@
--- A play that does an event on one of its connections stands for the world that does.
-use Rattle.std.proofs.Common.{◌≡◌, ◌∙◌, ℕ, zero, suc, ◌-◌, ◌==◌, ◌||◌, Bool, true, false, ◌<◌, List, [], ◌∷◌, length, get_or, set, Option, Some, None, refl, sym, ap, subst}
-use Rattle.std.specs.Prelude.{IfOk, Result, Ok}
+-- A play that does an event on one of its connections stands for the world that does, also where the
+-- event is lost.
+use Rattle.std.proofs.Common.{◌≡◌, ◌∙◌, ℕ, zero, suc, ◌-◌, ◌==◌, ◌||◌, Bool, true, false, ◌<◌, List, [], ◌∷◌, length, get_or, set, Option, Some, None, refl, sym, ap, subst, arith}
+use Rattle.std.proofs.lemmas.Option.{slice_get_within}
 use Rattle.std.specs.List.{AllByRecursion, slice_get}
 use Rattle.tds_request.specs.declared.request.Request.{Request}
 use Rattle.tds_session.specs.Answer.{Answers}
@@ -12,24 +13,24 @@ use Rattle.tds_world.specs.declared.outcome.Outcome.TheVariants as outcome
 use Rattle.tds_world.specs.declared.outcome.Refusal.{Refusal}
 use Rattle.tds_world.specs.declared.report.Place.{Place}
 use Rattle.tds_world.specs.Connection.{Connection, Standing, In, Cut, is_cut, is_idle, phase}
-use Rattle.tds_world.specs.Events.{asks_by, sends_in, settles}
+use Rattle.tds_world.specs.Events.{asks_by, happens, notes, sends_in, settles}
 use Rattle.tds_world.specs.Laws.{OfEachConnection}
+use Rattle.tds_world.specs.Losses.{Loss, Nothing, Failed, bringing, link_of, met, world_then}
 use Rattle.tds_world.specs.Phase.{Phase, Settled, Asked, Sending, Reading, Cancelling}
 use Rattle.tds_world.specs.Pool.{Acted, Refuses, Does, abandons_at, gives_back_at, is_full, keeps_by}
 use Rattle.tds_world.specs.Record.{Record}
-use Rattle.tds_world.specs.World.{World, next_number, put}
+use Rattle.tds_world.specs.World.{World, next_number, put, put_numbered}
 use Rattle.tds_play.specs.declared.link.Done.{Done}
 use Rattle.tds_play.specs.declared.link.Link.{Link}
 use Rattle.tds_play.specs.declared.player.Player.{Player}
 use Rattle.tds_play.specs.Lending.{standing_by}
 use Rattle.tds_play.specs.Noted.{asked_after, leases_after, tickets_after}
 use Rattle.tds_play.specs.Pipe.{Pipe, AreSame}
-use Rattle.tds_play.specs.Player.{HappensAlike, IsPlay}
+use Rattle.tds_play.specs.Player.{HappensAlike, IsFound, IsPlay}
 use Rattle.tds_ends.specs.Promises.{IsCountable}
-use Rattle.tds_play.specs.Plays.{ArePlayed, DoesAlike, IsPlayed, IsReady, acts_at, acts_on, after, bringing, cut_where, met, met_by, outcome_of}
-use Rattle.tds_play.specs.Seen.{done_as}
+use Rattle.tds_play.specs.Plays.{ArePlayed, DoesAlike, IsPlayed, IsReady, MayLose, acts_at, acts_on, after, cut_where, holdings_of, loss_of, outcome_of}
 use Rattle.tds_play.proofs.AllCut.{played_there, put_changed}
-use Rattle.tds_play.proofs.AllPlayed.{put_same}
+use Rattle.tds_play.proofs.LossWorld.{IsMoved, put_there, settled_moved}
 use Rattle.tds_play.proofs.Held.{asked_noted, connections_noted, leases_noted, tickets_noted}
 
 -- ---- What applies is no refusal
@@ -111,104 +112,159 @@ all_at P [] i x all e = absurd (cc)
 all_at P (y ∷ xs) zero x all e = let is : y ≡ x = cc in subst P is all.0
 all_at P (y ∷ xs) (suc i) x all e = all_at P xs i x all.1 e
 
-put_there : {A : Type 0} (xs : List A) (i : ℕ) (x y : A) → slice_get xs i ≡ Some x → slice_get (put i y xs) i ≡ Some y
-put_there [] i x y e = absurd (cc)
-put_there (z ∷ xs) zero x y e = refl
-put_there (z ∷ xs) (suc i) x y e = put_there xs i x y e
-
 -- So of what an event makes of its connection.
 pub after_at : (P : Connection → Type 0) (w : World) (e : Event) (place : ℕ) (c : Connection) (acted : Acted) → slice_get w.connections place ≡ Some c → OfEachConnection P (settles e (suc place) w acted).1 → P (after acted c)
 after_at P w e place c (Refuses why) there all = all_at P w.connections place c all there
 after_at P w e place c (Does what d) there all =
     let now : World = record w { connections = put place d w.connections } in
-    all_at P (put place d w.connections) place d (subst (AllByRecursion P) (connections_noted e (suc place) d.heard now) all) (put_there w.connections place c d there)
+    all_at P (put place d w.connections) place d (subst (AllByRecursion P) (connections_noted e (suc place) d.heard now) all)
+    (put_there w.connections place d (omega (arith, slice_get_within w.connections place c there)))
+
+stands_cut : (b : Bool) (p : Place) (s : Standing) → standing_by b p ≡ s → b ≡ is_cut s
+stands_cut true p s e = ap is_cut e
+stands_cut false p s e = ap is_cut e
 
 pub lives_by : (b : Bool) (p : Place) (s : Standing) → standing_by b p ≡ s → b ≡ false → is_cut s ≡ false
 lives_by b p s e is = sym (ap is_cut e) ∙ ap (λ (x : Bool). is_cut (standing_by x p)) is
 
 -- ---- The whole player
 
--- Where the carrier did not fail, an event is met as it is.
-pub met_whole : {E S : Type 0} (number size : ℕ) (engine : E) (done : Done) (new : Link E S) (pipe : Option Pipe) (acts : Event → Acted) (e : Event) (c : Connection)
-    → done.lost ≡ false → DoesAlike number size engine done new pipe (acts (met done e)) c
-    → (done ≡ done_as (outcome_of (acts e))) × IsPlayed number size engine new pipe (after (acts e) c)
-met_whole {E} {S} number size engine done new pipe acts e c whole h =
-    let same : met done e ≡ e = ap (λ (b : Bool). met_by b done.outcome e) whole in
-    let outcome : done.outcome ≡ outcome_of (acts e) = h.outcome ∙ ap (λ (x : Event). outcome_of (acts x)) same in
-    let then : IsPlayed number size engine new pipe (after (acts (met done e)) c) = subst (λ (b : Bool). IsPlayed number size engine new pipe (cut_where b (after (acts (met done e)) c))) whole h.played in (
-      ap (λ (o : Outcome). record { outcome = o; lost = done.lost }) outcome ∙ ap (λ (b : Bool). record { outcome = outcome_of (acts e); lost = b }) whole,
-      subst (λ (x : Event). IsPlayed number size engine new pipe (after (acts x) c)) same then,
-    )
-
-pub met_whole_ok : {E S B : Type 0} (number size : ℕ) (engine : E) (r : Result Done B) (done : Done) (new : Link E S) (pipe : Option Pipe) (acts : Event → Acted) (e : Event) (c : Connection)
-    → r ≡ Ok done → IfOk r (λ d. d.lost ≡ false) → IfOk r (λ d. DoesAlike number size engine d new pipe (acts (met d e)) c)
-    → (done ≡ done_as (outcome_of (acts e))) × IsPlayed number size engine new pipe (after (acts e) c)
-met_whole_ok {E} {S} number size engine r done new pipe acts e c is whole h =
-    met_whole number size engine done new pipe acts e c (subst (λ x. IfOk x (λ d. d.lost ≡ false)) is whole)
-    (subst (λ x. IfOk x (λ d. DoesAlike number size engine d new pipe (acts (met d e)) c)) is h)
-
--- What an event came to on its connection, and all connections then.
+-- What an event, as it was met, came to on its connection, and all connections then.
 pub record ActsAlike {E S : Type 0} (size : ℕ) (engine : E) (place : ℕ) (c : Connection) (cs : List Connection) (acted : Acted) (done : Done) (ls : List (Link E S)) (pipes : ℕ → Option Pipe) : Type 0 where
-  pub same : done ≡ done_as (outcome_of acted)
-  pub all : ArePlayed 1 size engine ls pipes (put place (after acted c) cs)
+  pub same : done.outcome ≡ outcome_of acted
+  pub all : ArePlayed 1 size engine ls pipes (put place (cut_where done.lost (after acted c)) cs)
 
-pub acts_alike : {E S : Type 0} (setup : Setup) (engine : E) (answers : Answers) (w : World) (e : Event) (place : ℕ) (c : Connection) (player : Player E S) (pipes pipes' : ℕ → Option Pipe) (link new : Link E S) (done : Done) → IsPlay setup engine player pipes w → link ≡ get_or player.links.items place link → place < length player.links.items → AreSame pipes pipes' link.number → slice_get w.connections place ≡ Some c → ((k : ℕ) → OfEachConnection IsCountable (settles (bringing k e) (suc place) w (acts_on setup answers w (bringing k e) (suc place) c)).1) → (is_cut c.standing ≡ false → IsReady e c) → (IsPlayed link.number setup.packet_size engine link (pipes link.number) c → ((k : ℕ) → IsCountable (after (acts_on setup answers w (bringing k e) link.number c) c)) → (link.is_cut ≡ false → IsReady e c) → (done ≡ done_as (outcome_of (acts_on setup answers w e link.number c))) × IsPlayed link.number setup.packet_size engine new (pipes' link.number) (after (acts_on setup answers w e link.number c) c)) → ActsAlike setup.packet_size engine place c w.connections (acts_on setup answers w e (suc place) c) done (set player.links.items place new) pipes'
-acts_alike {E} {S} setup engine answers w e place c player pipes pipes' link new done is link_is less same_others there countable ready act =
-    let played : IsPlayed (suc place) setup.packet_size engine link (pipes (suc place)) c = played_there setup.packet_size engine player.links.items pipes w.connections place link c link_is is.connections there in
+pub acts_alike : {E S : Type 0} (setup : Setup) (engine : E) (answers : Answers) (w : World) (e : Event) (place : ℕ) (c : Connection) (player : Player E S) (pipes pipes' : ℕ → Option Pipe) (link new : Link E S) (done : Done)
+    → IsPlay setup engine player pipes w → link ≡ get_or player.links.items place link → place < length player.links.items
+    → AreSame pipes pipes' link.number → IsFound setup answers w e place c
+    → ((k : ℕ) → OfEachConnection IsCountable (happens setup answers (bringing k e) w).1)
+    → (IsPlayed link.number setup.packet_size engine link (pipes link.number) c
+    → ((k : ℕ) → IsCountable (after (acts_on setup answers w (bringing k e) link.number c) c)) → (link.is_cut ≡ false → IsReady e c)
+    → DoesAlike link.number setup.packet_size engine done new (pipes' link.number) (acts_on setup answers w (met (loss_of done) e) link.number c) c)
+    → ActsAlike setup.packet_size engine place c w.connections (acts_on setup answers w (met (loss_of done) e) (suc place) c) done (set player.links.items place new) pipes'
+acts_alike {E} {S} setup engine answers w e place c player pipes pipes' link new done is link_is less same_others found countable act =
+    let played : IsPlayed (suc place) setup.packet_size engine link (pipes (suc place)) c = played_there setup.packet_size engine player.links.items pipes w.connections place link c link_is is.connections found.there in
     let number : link.number ≡ suc place = played.numbered in
+    let m : Event = met (loss_of done) e in
     let counts : (k : ℕ) → IsCountable (after (acts_on setup answers w (bringing k e) link.number c) c) = (λ k.
-    subst (λ (n : ℕ). IsCountable (after (acts_on setup answers w (bringing k e) n c) c)) (sym number) (after_at IsCountable w (bringing k e) place c (acts_on setup answers w (bringing k e) (suc place) c) there (countable k))) in
-    let is_ready : (link.is_cut ≡ false → IsReady e c) = (λ lives. ready (lives_by link.is_cut link.place c.standing played.standing lives)) in
+    subst (λ (n : ℕ). IsCountable (after (acts_on setup answers w (bringing k e) n c) c)) (sym number)
+    (after_at IsCountable w (bringing k e) place c (acts_on setup answers w (bringing k e) (suc place) c) found.there
+    (subst (λ (next : Outcome × World). OfEachConnection IsCountable next.1) (found.settles (Failed k)) (countable k)))) in
+    let is_ready : (link.is_cut ≡ false → IsReady e c) = (λ lives. found.ready (lives_by link.is_cut link.place c.standing played.standing lives)) in
     record {
-      same = subst (λ (n : ℕ). done ≡ done_as (outcome_of (acts_on setup answers w e n c))) number
-          (act (subst (λ (n : ℕ). IsPlayed n setup.packet_size engine link (pipes n) c) (sym number) played) counts is_ready).0;
-      all = subst (λ (n : ℕ). ArePlayed 1 setup.packet_size engine (set player.links.items place new) pipes' (put place (after (acts_on setup answers w e n c) c) w.connections)) number
-          (put_changed setup.packet_size engine player.links.items pipes pipes' w.connections place link new c (after (acts_on setup answers w e link.number c) c) link_is less same_others there is.connections
-          (λ p. (act p counts is_ready).1));
+      same = subst (λ (n : ℕ). done.outcome ≡ outcome_of (acts_on setup answers w m n c)) number
+          (act (subst (λ (n : ℕ). IsPlayed n setup.packet_size engine link (pipes n) c) (sym number) played) counts is_ready).outcome;
+      all = subst (λ (n : ℕ). ArePlayed 1 setup.packet_size engine (set player.links.items place new) pipes' (put place (cut_where done.lost (after (acts_on setup answers w m n c) c)) w.connections)) number
+          (put_changed setup.packet_size engine player.links.items pipes pipes' w.connections place link new c (cut_where done.lost (after (acts_on setup answers w m link.number c) c)) link_is less same_others found.there is.connections
+          (λ p. (act p counts is_ready).played));
     }
 
+-- An event that may be lost uses the link of the connection at this place.
+pub lost_there : {E S : Type 0} (setup : Setup) (engine : E) (answers : Answers) (w : World) (e : Event) (place : ℕ) (c : Connection) (player : Player E S) (pipes : ℕ → Option Pipe) (link : Link E S) (lost : Bool)
+    → IsPlay setup engine player pipes w → link ≡ get_or player.links.items place link → IsFound setup answers w e place c
+    → (lost ≡ true → MayLose link.is_cut e) → lost ≡ true → link_of setup w e ≡ Some (suc place)
+lost_there setup engine answers w e place c player pipes link lost is link_is found loses failed =
+    let played : IsPlayed (suc place) setup.packet_size engine link (pipes (suc place)) c = played_there setup.packet_size engine player.links.items pipes w.connections place link c link_is is.connections found.there in
+    found.link (subst (λ (b : Bool). MayLose b e) (stands_cut link.is_cut link.place c.standing played.standing) (loses failed))
+
+-- What an event came to and what the world is then, by what it came to on its connection.
+settled_outcome : (e : Event) (n : ℕ) (w : World) (acted : Acted) → outcome_of acted ≡ (settles e n w acted).0
+settled_outcome e n w (Refuses why) = refl
+settled_outcome e n w (Does what d) = refl
+
+refused_world : (e : Event) (n : ℕ) (w : World) (acted : Acted) (why : Refusal) → NeverRefused acted → outcome_of acted ≡ outcome.Refused why → (settles e n w acted).1 ≡ w
+refused_world e n w (Refuses because) why never is = refl
+refused_world e n w (Does what d) why never is = absurd (never why is)
+
+applied_notes : {A : Type 0} (f : World → A) (e : Event) (n : ℕ) (w : World) (acted : Acted) (noted : A) → ((why : Refusal) → outcome_of acted ≡ outcome.Refused why → ⊥)
+    → ((heard : ℕ) (cs : List Connection) → noted ≡ f (notes e n heard (record w { connections = cs }))) → noted ≡ f (settles e n w acted).1
+applied_notes f e n w (Refuses because) noted applied is = absurd (applied because refl)
+applied_notes f e n w (Does what d) noted applied is = is d.heard (put_numbered n d w.connections)
+
+-- A delivery of other bytes is noted as it is.
+noted_met : (l : Loss) (e : Event) (n heard : ℕ) (w : World) → notes e n heard w ≡ notes (met l e) n heard w
+noted_met Nothing e n heard w = refl
+noted_met (Failed k) event.Lease n heard w = refl
+noted_met (Failed k) (event.Resume ticket) n heard w = refl
+noted_met (Failed k) (event.GiveBack lease) n heard w = refl
+noted_met (Failed k) (event.Keep lease) n heard w = refl
+noted_met (Failed k) (event.Abandon ticket) n heard w = refl
+noted_met (Failed k) (event.Ask lease q) n heard w = refl
+noted_met (Failed k) (event.Send lease) n heard w = refl
+noted_met (Failed k) (event.Cancel lease) n heard w = refl
+noted_met (Failed k) (event.Work m) n heard w = refl
+noted_met (Failed k) (event.ToServer m count) n heard w = refl
+noted_met (Failed k) (event.ToClient m count) n heard w = refl
+noted_met (Failed k) (event.Cut m) n heard w = refl
+noted_met (Failed k) event.RestartServer n heard w = refl
+noted_met (Failed k) event.RestartClient n heard w = refl
+
 -- An event that was refused is not noted.
-pub refused_alike : {E S : Type 0} (setup : Setup) (engine : E) (w : World) (e : Event) (place : ℕ) (c : Connection) (acted : Acted) (player new : Player E S) (pipes pipes' : ℕ → Option Pipe) (done : Done) (why : Refusal) → IsPlay setup engine player pipes w → slice_get w.connections place ≡ Some c → NeverRefused acted → done ≡ done_as (outcome_of acted) → ArePlayed 1 setup.packet_size engine new.links.items pipes' (put place (after acted c) w.connections) → new ≡ record player { links = new.links } → done.outcome ≡ outcome.Refused why → HappensAlike setup engine done new pipes' (settles e (suc place) w acted)
-refused_alike {E} {S} setup engine w e place c (Refuses because) player new pipes pipes' done why is there never same all rest refused = record {
-  outcome = same;
-  then = record {
-    connections = subst (ArePlayed 1 setup.packet_size engine new.links.items pipes') (put_same w.connections place c there) all;
-    leases = ap (λ (p : Player E S). p.leases) rest ∙ is.leases;
-    tickets = ap (λ (p : Player E S). p.tickets) rest ∙ is.tickets;
-    asked = ap (λ (p : Player E S). p.asked_on.items) rest ∙ is.asked;
-    engine_is = ap (λ (p : Player E S). p.engine) rest ∙ is.engine_is;
-    max = ap (λ (p : Player E S). p.max) rest ∙ is.max;
-    size = ap (λ (p : Player E S). p.size) rest ∙ is.size;
-  };
-}
-refused_alike setup engine w e place c (Does what d) player new pipes pipes' done why is there never same all rest refused =
-    absurd (never why (sym (ap (λ (x : Done). x.outcome) same) ∙ refused))
+pub refused_alike : {E S : Type 0} (setup : Setup) (engine : E) (answers : Answers) (w : World) (e : Event) (place : ℕ) (c : Connection) (player new : Player E S) (pipes pipes' : ℕ → Option Pipe) (done : Done) (why : Refusal)
+    → IsPlay setup engine player pipes w → IsFound setup answers w e place c
+    → (done.lost ≡ true → link_of setup w e ≡ Some (suc place))
+    → ActsAlike setup.packet_size engine place c w.connections (acts_on setup answers w (met (loss_of done) e) (suc place) c) done new.links.items pipes'
+    → new ≡ record player { links = new.links } → done.outcome ≡ outcome.Refused why
+    → HappensAlike setup engine answers done new pipes' e w
+refused_alike {E} {S} setup engine answers w e place c player new pipes pipes' done why is found link acts rest refused =
+    let m : Event = met (loss_of done) e in
+    let acted : Acted = acts_on setup answers w m (suc place) c in
+    let moved : IsMoved (world_then setup answers w (record { event = e; loss = loss_of done })) (settles m (suc place) w acted).1 (put place (cut_where done.lost (after acted c)) w.connections) =
+    settled_moved setup answers w e place c acted done.lost done.outcome found.there (found.settles (loss_of done)) link in
+    let same : (settles m (suc place) w acted).1 ≡ w = refused_world m (suc place) w acted why (never_refused setup answers w m (suc place) c) (sym acts.same ∙ refused) in
+    record {
+      outcome = acts.same ∙ settled_outcome m (suc place) w acted ∙ sym (ap (λ (next : Outcome × World). next.0) (found.settles (loss_of done)));
+      then = record {
+        connections = subst (ArePlayed 1 setup.packet_size engine new.links.items pipes') (sym moved.connections) acts.all;
+        leases = ap (λ (p : Player E S). p.leases) rest ∙ is.leases ∙ ap (λ (x : World). holdings_of x.leases) (sym same) ∙ ap holdings_of (sym moved.leases);
+        tickets = ap (λ (p : Player E S). p.tickets) rest ∙ is.tickets ∙ ap (λ (x : World). holdings_of x.tickets) (sym same) ∙ ap holdings_of (sym moved.tickets);
+        asked = ap (λ (p : Player E S). p.asked_on.items) rest ∙ is.asked ∙ ap (λ (x : World). x.asked_on) (sym same) ∙ sym moved.asked;
+        engine_is = ap (λ (p : Player E S). p.engine) rest ∙ is.engine_is;
+        max = ap (λ (p : Player E S). p.max) rest ∙ is.max;
+        size = ap (λ (p : Player E S). p.size) rest ∙ is.size;
+      };
+    }
 
 -- One that applied is.
-pub noted_alike : {E S : Type 0} (setup : Setup) (engine : E) (w : World) (e : Event) (place n : ℕ) (c : Connection) (acted : Acted) (player new : Player E S) (pipes pipes' : ℕ → Option Pipe) (done : Done) → IsPlay setup engine player pipes w → n ≡ suc place → done ≡ done_as (outcome_of acted) → ArePlayed 1 setup.packet_size engine new.links.items pipes' (put place (after acted c) w.connections) → new.engine ≡ player.engine → new.max ≡ player.max → new.size ≡ player.size → new.leases ≡ leases_after e n player.leases → new.tickets ≡ tickets_after e n player.tickets → new.asked_on.items ≡ asked_after e n player.asked_on.items → ((why : Refusal) → done.outcome ≡ outcome.Refused why → ⊥) → HappensAlike setup engine done new pipes' (settles e (suc place) w acted)
-noted_alike setup engine w e place n c (Refuses because) player new pipes pipes' done is number same all engine_same max_same size_same leases tickets asked applied =
-    absurd (applied because (ap (λ (x : Done). x.outcome) same))
-noted_alike setup engine w e place n c (Does what d) player new pipes pipes' done is number same all engine_same max_same size_same leases tickets asked applied =
-    let now : World = record w { connections = put place d w.connections } in
+pub noted_alike : {E S : Type 0} (setup : Setup) (engine : E) (answers : Answers) (w : World) (e : Event) (place n : ℕ) (c : Connection) (player new : Player E S) (pipes pipes' : ℕ → Option Pipe) (done : Done)
+    → IsPlay setup engine player pipes w → IsFound setup answers w e place c → n ≡ suc place
+    → (done.lost ≡ true → link_of setup w e ≡ Some (suc place))
+    → ActsAlike setup.packet_size engine place c w.connections (acts_on setup answers w (met (loss_of done) e) (suc place) c) done new.links.items pipes'
+    → new.engine ≡ player.engine → new.max ≡ player.max → new.size ≡ player.size → new.leases ≡ leases_after e n player.leases → new.tickets ≡ tickets_after e n player.tickets → new.asked_on.items ≡ asked_after e n player.asked_on.items
+    → ((why : Refusal) → done.outcome ≡ outcome.Refused why → ⊥)
+    → HappensAlike setup engine answers done new pipes' e w
+noted_alike setup engine answers w e place n c player new pipes pipes' done is found number link acts engine_same max_same size_same leases tickets asked applied =
+    let l : Loss = loss_of done in
+    let m : Event = met l e in
+    let acted : Acted = acts_on setup answers w m (suc place) c in
+    let moved : IsMoved (world_then setup answers w (record { event = e; loss = l })) (settles m (suc place) w acted).1 (put place (cut_where done.lost (after acted c)) w.connections) =
+    settled_moved setup answers w e place c acted done.lost done.outcome found.there (found.settles l) link in
+    let does : (why : Refusal) → outcome_of acted ≡ outcome.Refused why → ⊥ = (λ why z. applied why (acts.same ∙ z)) in
     record {
-      outcome = same;
+      outcome = acts.same ∙ settled_outcome m (suc place) w acted ∙ sym (ap (λ (next : Outcome × World). next.0) (found.settles l));
       then = record {
-        connections = subst (ArePlayed 1 setup.packet_size engine new.links.items pipes') (sym (connections_noted e (suc place) d.heard now)) all;
+        connections = subst (ArePlayed 1 setup.packet_size engine new.links.items pipes') (sym moved.connections) acts.all;
         leases =
             leases
-            ∙ ap (λ (m : ℕ). leases_after e m player.leases) number
+            ∙ ap (λ (x : ℕ). leases_after e x player.leases) number
             ∙ ap (leases_after e (suc place)) is.leases
-            ∙ leases_noted e (suc place) d.heard now;
+            ∙ applied_notes (λ x. holdings_of x.leases) m (suc place) w acted (leases_after e (suc place) (holdings_of w.leases)) does
+            (λ heard cs. leases_noted e (suc place) heard (record w { connections = cs }) ∙ ap (λ (x : World). holdings_of x.leases) (noted_met l e (suc place) heard (record w { connections = cs })))
+            ∙ ap holdings_of (sym moved.leases);
         tickets =
             tickets
-            ∙ ap (λ (m : ℕ). tickets_after e m player.tickets) number
+            ∙ ap (λ (x : ℕ). tickets_after e x player.tickets) number
             ∙ ap (tickets_after e (suc place)) is.tickets
-            ∙ tickets_noted e (suc place) d.heard now;
+            ∙ applied_notes (λ x. holdings_of x.tickets) m (suc place) w acted (tickets_after e (suc place) (holdings_of w.tickets)) does
+            (λ heard cs. tickets_noted e (suc place) heard (record w { connections = cs }) ∙ ap (λ (x : World). holdings_of x.tickets) (noted_met l e (suc place) heard (record w { connections = cs })))
+            ∙ ap holdings_of (sym moved.tickets);
         asked =
             asked
-            ∙ ap (λ (m : ℕ). asked_after e m player.asked_on.items) number
+            ∙ ap (λ (x : ℕ). asked_after e x player.asked_on.items) number
             ∙ ap (asked_after e (suc place)) is.asked
-            ∙ asked_noted e (suc place) d.heard now;
+            ∙ applied_notes (λ x. x.asked_on) m (suc place) w acted (asked_after e (suc place) w.asked_on) does
+            (λ heard cs. asked_noted e (suc place) heard (record w { connections = cs }) ∙ ap (λ (x : World). x.asked_on) (noted_met l e (suc place) heard (record w { connections = cs })))
+            ∙ sym moved.asked;
         engine_is = engine_same ∙ is.engine_is;
         max = max_same ∙ is.max;
         size = size_same ∙ is.size;

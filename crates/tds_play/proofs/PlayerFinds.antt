@@ -8,10 +8,10 @@ use Rattle.tds_world.specs.declared.event.Setup.{Setup}
 use Rattle.tds_world.specs.declared.outcome.Outcome.{Outcome}
 use Rattle.tds_world.specs.declared.outcome.Outcome.TheVariants as outcome
 use Rattle.tds_world.specs.declared.outcome.Refusal.{Refusal}
-use Rattle.tds_world.specs.Connection.{Connection, Standing, cut}
+use Rattle.tds_world.specs.Connection.{Connection, Standing, cut, is_cut}
 use Rattle.tds_world.specs.Events.{happens, settles}
-use Rattle.tds_world.specs.Laws.{OfEachConnection}
 use Rattle.tds_world.specs.Lending.{LendsIdle}
+use Rattle.tds_world.specs.Losses.{Loss, Nothing, Failed, bringing, met}
 use Rattle.tds_world.specs.World.{World}
 use Rattle.tds_play.specs.declared.link.Done.{Done}
 use Rattle.tds_play.specs.declared.link.Link.{Link}
@@ -22,12 +22,11 @@ use Rattle.tds_play.specs.Holdings.{all_ended}
 use Rattle.tds_play.specs.Lending.{standing_of}
 use Rattle.tds_play.specs.Noted.{about_of}
 use Rattle.tds_play.specs.Pipe.{Pipe}
-use Rattle.tds_play.specs.Player.{HappensAlike, IsPlay}
-use Rattle.tds_play.specs.Plays.{ArePlayed, acts_on, bringing, holdings_of}
-use Rattle.tds_ends.specs.Promises.{IsCountable}
+use Rattle.tds_play.specs.Player.{HappensAlike, IsFound, IsPlay}
+use Rattle.tds_play.specs.Plays.{ArePlayed, acts_on, holdings_of}
 use Rattle.tds_play.specs.Seen.{done_as}
 use Rattle.tds_play.proofs.AllPlayed.{same_standings}
-use Rattle.tds_play.proofs.Found.{HappensBy, IsAboutOne, Settles, happens_found}
+use Rattle.tds_play.proofs.Found.{HappensBy, IsAboutOne, Settles, happens_found, link_found}
 use Rattle.tds_play.proofs.Held.{all_held}
 use Rattle.tds_play.proofs.Lent.{lends_alike}
 
@@ -48,28 +47,38 @@ about_one (event.Cut n) server client = tt
 about_one event.RestartServer server client = server refl
 about_one event.RestartClient server client = client refl
 
+-- What the player's lists say of it and what the world's do.
+about_world : {E S : Type 0} (setup : Setup) (engine : E) (w : World) (e : Event) (player : Player E S) (pipes : ℕ → Option Pipe) → IsPlay setup engine player pipes w
+    → about_of e (map standing_of player.links.items) player.max player.leases player.tickets ≡ about_of e (map (λ c. c.standing) w.connections) setup.max (holdings_of w.leases) (holdings_of w.tickets)
+about_world setup engine w e player pipes is =
+    let standings : map standing_of player.links.items ≡ map (λ c. c.standing) w.connections = same_standings 1 setup.packet_size engine player.links.items pipes w.connections is.connections in
+    ap (λ (ss : List Standing). about_of e ss player.max player.leases player.tickets) standings
+    ∙ ap (λ (max : ℕ). about_of e (map (λ c. c.standing) w.connections) max player.leases player.tickets) is.max
+    ∙ ap (λ (leases : List (Option ℕ)). about_of e (map (λ c. c.standing) w.connections) setup.max leases player.tickets) is.leases
+    ∙ ap (λ (tickets : List (Option ℕ)). about_of e (map (λ c. c.standing) w.connections) setup.max (holdings_of w.leases) tickets) is.tickets
+
 -- What the model makes of an event, by what the player found.
 pub found_alike : {E S : Type 0} (setup : Setup) (engine : E) (answers : Answers) (w : World) (e : Event) (player : Player E S) (pipes : ℕ → Option Pipe) (f : Found) → IsPlay setup engine player pipes w → LendsIdle setup w → IsAboutOne e → f ≡ about_of e (map standing_of player.links.items) player.max player.leases player.tickets → HappensBy setup answers w e f (happens setup answers e w)
 found_alike setup engine answers w e player pipes f is idle one found =
-    let standings : map standing_of player.links.items ≡ map (λ c. c.standing) w.connections = same_standings 1 setup.packet_size engine player.links.items pipes w.connections is.connections in
     let same : f ≡ about_of e (map (λ c. c.standing) w.connections) setup.max (holdings_of w.leases) (holdings_of w.tickets) =
-    found
-    ∙ ap (λ (ss : List Standing). about_of e ss player.max player.leases player.tickets) standings
-    ∙ ap (λ (max : ℕ). about_of e (map (λ c. c.standing) w.connections) max player.leases player.tickets) is.max
-    ∙ ap (λ (leases : List (Option ℕ)). about_of e (map (λ c. c.standing) w.connections) setup.max leases player.tickets) is.leases
-    ∙ ap (λ (tickets : List (Option ℕ)). about_of e (map (λ c. c.standing) w.connections) setup.max (holdings_of w.leases) tickets) is.tickets in
+    found ∙ about_world setup engine w e player pipes is in
     subst (λ (g : Found). HappensBy setup answers w e g (happens setup answers e w)) (sym same)
     (happens_found setup answers w e (lends_alike setup w) idle one)
 
 -- An event that is refused before it comes to a connection.
-pub missing_alike : {E S : Type 0} (setup : Setup) (engine : E) (w : World) (player : Player E S) (pipes : ℕ → Option Pipe) (done : Done) (why : Refusal) (next : Outcome × World) → IsPlay setup engine player pipes w → done ≡ done_as (outcome.Refused why) → next ≡ (outcome.Refused why, w) → HappensAlike setup engine done player pipes next
-missing_alike setup engine w player pipes done why next is refused same =
-    subst (HappensAlike setup engine done player pipes) (sym same) (record { outcome = refused; then = is })
+pub missing_alike : {E S : Type 0} (setup : Setup) (engine : E) (answers : Answers) (w : World) (e : Event) (player : Player E S) (pipes : ℕ → Option Pipe) (done : Done) (why : Refusal)
+    → IsPlay setup engine player pipes w → done ≡ done_as (outcome.Refused why) → happens setup answers e w ≡ (outcome.Refused why, w)
+    → HappensAlike setup engine answers done player pipes e w
+missing_alike setup engine answers w e player pipes done why is refused same =
+    subst (λ (d : Done). HappensAlike setup engine answers d player pipes e w) (sym refused) (record {
+      outcome = ap (λ (next : Outcome × World). next.0) (sym same);
+      then = subst (IsPlay setup engine player pipes) (ap (λ (next : Outcome × World). next.1) (sym same)) is;
+    })
 
 -- The server is restarted: every connection is cut.
-pub server_restarts : {E S : Type 0} (setup : Setup) (engine : E) (answers : Answers) (w : World) (e : Event) (player new : Player E S) (pipes pipes' : ℕ → Option Pipe) → e ≡ event.RestartServer → IsPlay setup engine player pipes w → ArePlayed 1 setup.packet_size engine new.links.items pipes' (map cut w.connections) → new ≡ record player { links = new.links } → HappensAlike setup engine (done_as outcome.RestartedServer) new pipes' (happens setup answers e w)
+pub server_restarts : {E S : Type 0} (setup : Setup) (engine : E) (answers : Answers) (w : World) (e : Event) (player new : Player E S) (pipes pipes' : ℕ → Option Pipe) → e ≡ event.RestartServer → IsPlay setup engine player pipes w → ArePlayed 1 setup.packet_size engine new.links.items pipes' (map cut w.connections) → new ≡ record player { links = new.links } → HappensAlike setup engine answers (done_as outcome.RestartedServer) new pipes' e w
 server_restarts {E} {S} setup engine answers w e player new pipes pipes' same is all rest =
-    subst (λ (f : Event). HappensAlike setup engine (done_as outcome.RestartedServer) new pipes' (happens setup answers f w)) (sym same) (record {
+    subst (λ (f : Event). HappensAlike setup engine answers (done_as outcome.RestartedServer) new pipes' f w) (sym same) (record {
       outcome = refl;
       then = record {
         connections = all;
@@ -83,9 +92,9 @@ server_restarts {E} {S} setup engine answers w e player new pipes pipes' same is
     })
 
 -- The client is restarted: every lease and ticket ends too.
-pub client_restarts : {E S : Type 0} (setup : Setup) (engine : E) (answers : Answers) (w : World) (e : Event) (player cuts new : Player E S) (pipes pipes' : ℕ → Option Pipe) → e ≡ event.RestartClient → IsPlay setup engine player pipes w → ArePlayed 1 setup.packet_size engine cuts.links.items pipes' (map cut w.connections) → cuts ≡ record player { links = cuts.links } → new ≡ record cuts { leases = new.leases; tickets = new.tickets } → new.leases ≡ all_ended cuts.leases → new.tickets ≡ all_ended cuts.tickets → HappensAlike setup engine (done_as outcome.RestartedClient) new pipes' (happens setup answers e w)
+pub client_restarts : {E S : Type 0} (setup : Setup) (engine : E) (answers : Answers) (w : World) (e : Event) (player cuts new : Player E S) (pipes pipes' : ℕ → Option Pipe) → e ≡ event.RestartClient → IsPlay setup engine player pipes w → ArePlayed 1 setup.packet_size engine cuts.links.items pipes' (map cut w.connections) → cuts ≡ record player { links = cuts.links } → new ≡ record cuts { leases = new.leases; tickets = new.tickets } → new.leases ≡ all_ended cuts.leases → new.tickets ≡ all_ended cuts.tickets → HappensAlike setup engine answers (done_as outcome.RestartedClient) new pipes' e w
 client_restarts {E} {S} setup engine answers w e player cuts new pipes pipes' same is all rest ends leases tickets =
-    subst (λ (f : Event). HappensAlike setup engine (done_as outcome.RestartedClient) new pipes' (happens setup answers f w)) (sym same) (record {
+    subst (λ (f : Event). HappensAlike setup engine answers (done_as outcome.RestartedClient) new pipes' f w) (sym same) (record {
       outcome = refl;
       then = record {
         connections = subst (λ (ls : List (Link E S)). ArePlayed 1 setup.packet_size engine ls pipes' (map cut w.connections)) (sym (ap (λ (p : Player E S). p.links.items) ends)) all;
@@ -136,17 +145,39 @@ one_bringing k (event.Cut n) one = one
 one_bringing k event.RestartServer one = one
 one_bringing k event.RestartClient one = one
 
--- What holds of the world behind it holds where that event settles here.
-pub countable_here : {E S : Type 0} (setup : Setup) (engine : E) (answers : Answers) (w : World) (e : Event) (player : Player E S) (pipes : ℕ → Option Pipe) (place k : ℕ) (c : Connection)
+about_met : (l : Loss) (e : Event) (standings : List Standing) (max : ℕ) (leases tickets : List (Option ℕ)) → about_of (met l e) standings max leases tickets ≡ about_of e standings max leases tickets
+about_met Nothing e standings max leases tickets = refl
+about_met (Failed k) e standings max leases tickets = about_bringing k e standings max leases tickets
+
+one_met : (l : Loss) (e : Event) → IsAboutOne e → IsAboutOne (met l e)
+one_met Nothing e one = one
+one_met (Failed k) e one = one_bringing k e one
+
+-- ---- An event on the connection that the player found
+
+-- The connection of the model, and what an event does there, whatever it loses.
+pub record FoundHere (setup : Setup) (answers : Answers) (w : World) (e : Event) (place : ℕ) : Type 0 where
+  pub connection : Connection
+  pub is : IsFound setup answers w e place connection
+
+pub found_here : {E S : Type 0} (setup : Setup) (engine : E) (answers : Answers) (w : World) (e : Event) (player : Player E S) (pipes : ℕ → Option Pipe) (place : ℕ)
     → IsPlay setup engine player pipes w → LendsIdle setup w → IsAboutOne e
     → Here place ≡ about_of e (map standing_of player.links.items) player.max player.leases player.tickets
-    → slice_get w.connections place ≡ Some c
-    → OfEachConnection IsCountable (happens setup answers (bringing k e) w).1
-    → OfEachConnection IsCountable (settles (bringing k e) (suc place) w (acts_on setup answers w (bringing k e) (suc place) c)).1
-countable_here setup engine answers w e player pipes place k c is idle one found there countable =
-    let at : Settles setup answers w (bringing k e) place (happens setup answers (bringing k e) w) =
-    found_alike setup engine answers w (bringing k e) player pipes (Here place) is idle (one_bringing k e one)
-    (found ∙ sym (about_bringing k e (map standing_of player.links.items) player.max player.leases player.tickets)) in
-    let same : at.connection ≡ c = some_one at.connection c (sym at.there ∙ there) in
-    subst (λ (d : Connection). OfEachConnection IsCountable (settles (bringing k e) (suc place) w (acts_on setup answers w (bringing k e) (suc place) d)).1) same
-    (subst (λ (next : Outcome × World). OfEachConnection IsCountable next.1) at.settles countable)
+    → FoundHere setup answers w e place
+found_here setup engine answers w e player pipes place is idle one found =
+    let by : (l : Loss) → Settles setup answers w (met l e) place (happens setup answers (met l e) w) = (λ l.
+    found_alike setup engine answers w (met l e) player pipes (Here place) is idle (one_met l e one)
+    (found ∙ sym (about_met l e (map standing_of player.links.items) player.max player.leases player.tickets))) in
+    let here : Settles setup answers w e place (happens setup answers e w) = by Nothing in
+    let c : Connection = here.connection in
+    record {
+      connection = c;
+      is = record {
+        there = here.there;
+        settles = λ l.
+            (by l).settles
+            ∙ ap (λ (d : Connection). settles (met l e) (suc place) w (acts_on setup answers w (met l e) (suc place) d)) (some_one (by l).connection c (sym (by l).there ∙ here.there));
+        link = link_found setup w e place c (found ∙ about_world setup engine w e player pipes is) here.there (is_cut c.standing) refl;
+        ready = here.ready;
+      };
+    }

@@ -33,10 +33,10 @@ settled Sending e = absurd (cc)
 settled IsReading e = absurd (cc)
 settled Cancelling e = absurd (cc)
 
-countable : (n : ℕ) (c : Connection) → n ≤ 10000 → up_underway c ≤ 4094 → down_underway c ≤ 512 * suc n → IsCountable c
+countable : (n : ℕ) (c : Connection) → n ≤ 20000 → up_underway c ≤ 4094 → down_underway c ≤ 512 * suc n → IsCountable c
 countable n c few up down = (omega (arith, up), omega (arith, few, down))
 
-promised : (E : Type 0) (answers : Answers) (size n : ℕ) (c : Connection) → n ≤ 10000 → Arrives E answers size c → IsHeard size c → DeliversOn answers c → EndsIfDue c.due → QuietIfIdle c → WorksOnNewest c c.due → ActsOnNewest c → down_underway c ≤ 512 * suc n → Promises E answers size c
+promised : (E : Type 0) (answers : Answers) (size n : ℕ) (c : Connection) → n ≤ 20000 → Arrives E answers size c → IsHeard size c → DeliversOn answers c → EndsIfDue c.due → QuietIfIdle c → WorksOnNewest c c.due → ActsOnNewest c → down_underway c ≤ 512 * suc n → Promises E answers size c
 promised E answers size n c few arrives heard delivers ends quiet newest acts down = record {
   delivers = delivers;
   arrive = arrives.0;
@@ -49,13 +49,13 @@ promised E answers size n c few arrives heard delivers ends quiet newest acts do
   countable = countable n c few arrives.1 down;
 }
 
-pub each_promised : (E : Type 0) (answers : Answers) (size n : ℕ) (cs : List Connection) → n ≤ 10000 → AllByRecursion (Arrives E answers size) cs → AllByRecursion (IsHeard size) cs → AllByRecursion (DeliversOn answers) cs → AllByRecursion (λ c. EndsIfDue c.due) cs → AllByRecursion QuietIfIdle cs → AllByRecursion (λ c. WorksOnNewest c c.due) cs → AllByRecursion ActsOnNewest cs → AllByRecursion (λ c. down_underway c ≤ 512 * suc n) cs → AllByRecursion (Promises E answers size) cs
+pub each_promised : (E : Type 0) (answers : Answers) (size n : ℕ) (cs : List Connection) → n ≤ 20000 → AllByRecursion (Arrives E answers size) cs → AllByRecursion (IsHeard size) cs → AllByRecursion (DeliversOn answers) cs → AllByRecursion (λ c. EndsIfDue c.due) cs → AllByRecursion QuietIfIdle cs → AllByRecursion (λ c. WorksOnNewest c c.due) cs → AllByRecursion ActsOnNewest cs → AllByRecursion (λ c. down_underway c ≤ 512 * suc n) cs → AllByRecursion (Promises E answers size) cs
 each_promised E answers size n [] few a h d e q w s u = tt
 each_promised E answers size n (c ∷ cs) few a h d e q w s u =
     (promised E answers size n c few a.0 h.0 d.0 e.0 q.0 w.0 s.0 u.0, each_promised E answers size n cs few a.1 h.1 d.1 e.1 q.1 w.1 s.1 u.1)
 
 -- Before an event there are few of each.
-pub small : (n : ℕ) (w : World) → n < 10000 → AreFew n w → IsSmall w
+pub small : (n : ℕ) (w : World) → n < 20000 → AreFew n w → IsSmall w
 small n w few h = record {
   connections = omega (arith, few, h.connections);
   leases = omega (arith, few, h.leases);

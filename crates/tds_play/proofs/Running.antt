@@ -66,22 +66,22 @@ pub memory_unread : (left : Option (List ℕ)) → IsUnread run.Memory left
 memory_unread left = let some = some_left left in ((some.0, some.1, tt), λ e. let bad : 0 ≡ 1 = ap is_output e in absurd (omega arith))
 
 -- nothing is printed before a fault that comes first
-pub leaves_all : (fault : RunFault) (bytes : List ℕ) (a : Option (List ℕ)) → IsBeforeOutput fault → LeavesOutput fault bytes a a
-leaves_all run.File bytes a h = keeps_same a
-leaves_all run.Json bytes a h = keeps_same a
-leaves_all (run.Schedule place) bytes a h = keeps_same a
-leaves_all (run.Play refusal) bytes a h = keeps_same a
-leaves_all run.Output bytes a h = absurd (h refl)
-leaves_all run.Memory bytes a h = inl (keeps_same a)
+pub leaves_all : (steady : Type 0) (fault : RunFault) (bytes : List ℕ) (a : Option (List ℕ)) → IsBeforeOutput fault → LeavesOutput steady fault bytes a a
+leaves_all steady run.File bytes a h = keeps_same a
+leaves_all steady run.Json bytes a h = keeps_same a
+leaves_all steady (run.Schedule place) bytes a h = keeps_same a
+leaves_all steady (run.Play refusal) bytes a h = keeps_same a
+leaves_all steady run.Output bytes a h = absurd (h refl)
+leaves_all steady run.Memory bytes a h = inl (keeps_same a)
 
 -- printing that fails leaves a beginning of the report's text
-ends_by : (fault : RunFault) (left old new : Option (List ℕ)) (bytes : List ℕ) (report : Report) → AreLeft left bytes → IsReportOf bytes report
-    → WritesBeginning old new (text_of report) → (fault ≡ run.Output) ⊎ (fault ≡ run.Memory) → EndsBy fault left old new
-ends_by fault left old new bytes report all is begun (inl e) = rw e (bytes, all, (is.0, is.1, is.2, is.3), (report, is, begun))
-ends_by fault left old new bytes report all is begun (inr e) = rw e (bytes, all, tt, inr (report, is, begun))
+ends_by : (steady : Type 0) (fault : RunFault) (left old new : Option (List ℕ)) (bytes : List ℕ) (report : Report) → AreLeft left bytes → IsReportOf steady bytes report
+    → WritesBeginning old new (text_of report) → (fault ≡ run.Output) ⊎ (fault ≡ run.Memory) → EndsBy steady fault left old new
+ends_by steady fault left old new bytes report all is begun (inl e) = rw e (bytes, all, (is.0, is.1, is.2, is.3), (report, is, begun))
+ends_by steady fault left old new bytes report all is begun (inr e) = rw e (bytes, all, tt, inr (report, is, begun))
 
 -- so it does, if it fails
-pub ends_printing : {A : Type 0} (r : Result A RunFault) (left old new : Option (List ℕ)) (bytes : List ℕ) (report : Report) → AreLeft left bytes → IsReportOf bytes report
-    → IfErr r (λ fault. WritesBeginning old new (text_of report)) → IfErr r (λ fault. (fault ≡ run.Output) ⊎ (fault ≡ run.Memory)) → IfErr r (λ fault. EndsBy fault left old new)
-ends_printing (Ok x) left old new bytes report all is begun which = tt
-ends_printing (Err fault) left old new bytes report all is begun which = ends_by fault left old new bytes report all is begun which
+pub ends_printing : {A : Type 0} (steady : Type 0) (r : Result A RunFault) (left old new : Option (List ℕ)) (bytes : List ℕ) (report : Report) → AreLeft left bytes → IsReportOf steady bytes report
+    → IfErr r (λ fault. WritesBeginning old new (text_of report)) → IfErr r (λ fault. (fault ≡ run.Output) ⊎ (fault ≡ run.Memory)) → IfErr r (λ fault. EndsBy steady fault left old new)
+ends_printing steady (Ok x) left old new bytes report all is begun which = tt
+ends_printing steady (Err fault) left old new bytes report all is begun which = ends_by steady fault left old new bytes report all is begun which

@@ -19,7 +19,9 @@ use Rattle.tds_world.specs.Bounds.{IsEvent, IsSetup}
 use Rattle.tds_world.specs.Connection.{Connection, Standing, is_cut}
 use Rattle.tds_world.specs.Events.{happens, world_after}
 use Rattle.tds_world.specs.Laws.{OfEachConnection}
-use Rattle.tds_world.specs.Observed.{event_report, event_reports, snapshots, request_reports, bytes_in, bytes_of}
+use Rattle.tds_world.specs.Losses.{Loss, Nothing, Failed, Played, bringing, cuts_after, event_reports_with, is_lost, link_of, loss_by, loss_in, marked, met, observed_with, plainly, report_then, with_cuts, world_then, world_with}
+use Rattle.tds_world.specs.WithLosses.{LosesNothing, events_of}
+use Rattle.tds_world.specs.Observed.{observed, snapshots, request_reports, bytes_in, bytes_of}
 use Rattle.tds_world.specs.World.{World, new_world, numbered}
 use Rattle.tds_play.specs.declared.link.Done.{Done}
 use Rattle.tds_play.specs.declared.link.Link.{Link}
@@ -27,26 +29,67 @@ use Rattle.tds_play.specs.declared.player.Player.{Player}
 use Rattle.tds_play.specs.Lending.{standing_by}
 use Rattle.tds_play.specs.Pipe.{Pipe, IsOpen, is_cut_at, traffic}
 use Rattle.tds_play.specs.Player.{IsPlay, HappensAlike}
-use Rattle.tds_play.specs.Plays.{ArePlayed, IsPlayed, bringing}
+use Rattle.tds_play.specs.Plays.{ArePlayed, IsPlayed, loss_of}
 use Rattle.tds_ends.specs.Promises.{Promises, IsCountable}
-use Rattle.tds_play.specs.Seen.{done_as, seen_of}
+use Rattle.tds_play.specs.Seen.{seen_of}
 use Rattle.tds_play.specs.Ties.{AreTied, IsTied}
 use Rattle.tds_play.specs.WholePlay.{IsCutAs, IsPlayOf}
 use Rattle.tds_play.proofs.AllPlayed.{as_many, played_at}
 use Rattle.tds_play.proofs.Snapshots.{all_seen_alike}
+use Rattle.tds_play.proofs.Told.{whole_play}
+
+-- ---- The plain schedule
+
+world_joined : (setup : Setup) (answers : Answers) (es fs : List Event) (w : World)
+    → world_after setup answers (es ++ fs) w ≡ world_after setup answers fs (world_after setup answers es w)
+world_joined setup answers [] fs w = refl
+world_joined setup answers (e ∷ es) fs w = world_joined setup answers es fs (happens setup answers e w).1
+
+-- The world of a play is the one after its plain schedule.
+pub world_is : (setup : Setup) (answers : Answers) (ps : List Played) (w : World)
+    → world_with setup answers ps w ≡ world_after setup answers (with_cuts setup answers ps w) w
+world_is setup answers [] w = refl
+world_is setup answers (p ∷ ps) w =
+    world_is setup answers ps (world_then setup answers w p)
+    ∙ sym (world_joined setup answers (plainly setup w p) (with_cuts setup answers ps (world_then setup answers w p)) w)
+
+few_plainly : (l : Loss) (link : Option ℕ) → length (cuts_after l link) ≤ 1
+few_plainly Nothing link = omega arith
+few_plainly (Failed k) None = omega arith
+few_plainly (Failed k) (Some n) = omega arith
+
+-- Each event of a play stands for two plain ones at most.
+pub few_plain : (setup : Setup) (answers : Answers) (ps : List Played) (w : World) → length (with_cuts setup answers ps w) ≤ length ps + length ps
+few_plain setup answers [] w = omega arith
+few_plain setup answers (p ∷ ps) w =
+    let then : World = world_then setup answers w p in
+    omega (arith, length-append (plainly setup w p) (with_cuts setup answers ps then), few_plainly p.loss (link_of setup w p.event), few_plain setup answers ps then)
 
 -- ---- One event more
 
-pub world_one_more : (setup : Setup) (answers : Answers) (es : List Event) (e : Event) (w : World)
-    → world_after setup answers (es ++ e ∷ []) w ≡ (happens setup answers e (world_after setup answers es w)).1
-world_one_more setup answers [] e w = refl
-world_one_more setup answers (f ∷ fs) e w = world_one_more setup answers fs e (happens setup answers f w).1
+world_one_more : (setup : Setup) (answers : Answers) (ps : List Played) (p : Played) (w : World)
+    → world_with setup answers (ps ++ p ∷ []) w ≡ world_then setup answers (world_with setup answers ps w) p
+world_one_more setup answers [] p w = refl
+world_one_more setup answers (q ∷ qs) p w = world_one_more setup answers qs p (world_then setup answers w q)
 
-reports_one_more : (setup : Setup) (answers : Answers) (es : List Event) (e : Event) (w : World)
-    → event_reports setup answers (es ++ e ∷ []) w ≡ event_reports setup answers es w ++ event_report (happens setup answers e (world_after setup answers es w)) ∷ []
-reports_one_more setup answers [] e w = refl
-reports_one_more setup answers (f ∷ fs) e w =
-    ap (λ rs. event_report (happens setup answers f w) ∷ rs) (reports_one_more setup answers fs e (happens setup answers f w).1)
+reports_one_more : (setup : Setup) (answers : Answers) (ps : List Played) (p : Played) (w : World)
+    → event_reports_with setup answers (ps ++ p ∷ []) w ≡ event_reports_with setup answers ps w ++ report_then setup answers (world_with setup answers ps w) p ∷ []
+reports_one_more setup answers [] p w = refl
+reports_one_more setup answers (q ∷ qs) p w =
+    ap (λ rs. report_then setup answers w q ∷ rs) (reports_one_more setup answers qs p (world_then setup answers w q))
+
+marked_one_more : (es : List Event) (e : Event) (rs : List EventReport) (r : EventReport) → length rs ≡ length es
+    → marked (es ++ e ∷ []) (rs ++ r ∷ []) ≡ marked es rs ++ record { event = e; loss = loss_in r } ∷ []
+marked_one_more [] e [] r same = refl
+marked_one_more [] e (s ∷ ss) r same = absurd (omega (arith, same))
+marked_one_more (f ∷ fs) e [] r same = absurd (omega (arith, same))
+marked_one_more (f ∷ fs) e (s ∷ ss) r same =
+    ap (λ (ps : List Played). record { event = f; loss = loss_in s } ∷ ps) (marked_one_more fs e ss r (omega (arith, same)))
+
+few_marked : (es : List Event) (rs : List EventReport) → length (marked es rs) ≤ length es
+few_marked [] rs = omega arith
+few_marked (e ∷ es) [] = omega arith
+few_marked (e ∷ es) (r ∷ rs) = omega (arith, few_marked es rs)
 
 one_taken : (es : List Event) (i : ℕ) (e : Event) → i < length es → e ≡ slice_index_or es i e → take (i + 1) es ≡ take i es ++ e ∷ []
 one_taken es i e less is = take_more es i e less ∙ ap (λ x. take i es ++ x ∷ []) (sym is)
@@ -80,55 +123,114 @@ brought_known k (event.Cut n) known = known
 brought_known k event.RestartServer known = known
 brought_known k event.RestartClient known = known
 
--- The bytes of the world after one event more can be counted.
-pub countable_then : (E : Type 0) (setup : Setup) (answers : Answers) (es : List Event) (e : Event)
-    → OfEachConnection (Promises E answers setup.packet_size) (world_after setup answers (es ++ e ∷ []) new_world)
-    → OfEachConnection IsCountable (happens setup answers e (world_after setup answers es new_world)).1
-countable_then E setup answers es e h =
-    subst (OfEachConnection IsCountable) (world_one_more setup answers es e new_world)
-    (each_countable E answers setup.packet_size (world_after setup answers (es ++ e ∷ []) new_world).connections h)
+met_known : (l : Loss) (e : Event) → IsEvent e → IsEvent (met l e)
+met_known Nothing e known = known
+met_known (Failed k) e known = brought_known k e known
 
--- There is one event more.
-pub one_longer : (es : List Event) (e : Event) (n : ℕ) → length es < n → length (es ++ e ∷ []) ≤ n
-one_longer es e n less = omega (arith, length-append es (e ∷ []), less)
+plainly_known : (l : Loss) (link : Option ℕ) (e : Event) → IsEvent e → AllByRecursion IsEvent (met l e ∷ cuts_after l link)
+plainly_known Nothing link e known = (known, tt)
+plainly_known (Failed k) None e known = (brought_known k e known, tt)
+plainly_known (Failed k) (Some n) e known = (brought_known k e known, (tt, tt))
+
+all_joined : {A : Type 0} (P : A → Type 0) (xs ys : List A) → AllByRecursion P xs → AllByRecursion P ys → AllByRecursion P (xs ++ ys)
+all_joined P [] ys h k = k
+all_joined P (x ∷ xs) ys h k = (h.0, all_joined P xs ys h.1 k)
+
+-- What the events of a play stand for are events of the program too.
+plain_known : (setup : Setup) (answers : Answers) (es : List Event) (rs : List EventReport) (w : World) → AllByRecursion IsEvent es
+    → AllByRecursion IsEvent (with_cuts setup answers (marked es rs) w)
+plain_known setup answers [] rs w known = tt
+plain_known setup answers (e ∷ es) [] w known = tt
+plain_known setup answers (e ∷ es) (r ∷ rs) w known =
+    let p : Played = record { event = e; loss = loss_in r } in
+    all_joined IsEvent (plainly setup w p) (with_cuts setup answers (marked es rs) (world_then setup answers w p))
+    (plainly_known (loss_in r) (link_of setup w e) e known.0)
+    (plain_known setup answers es rs (world_then setup answers w p) known.1)
+
+-- What holds of the world after any few events holds of the world of a play.
+pub of_play : (P : World → Type 0) (n : ℕ) (setup : Setup) (answers : Answers) (es : List Event) (rs : List EventReport)
+    → length es + length es < n → AllByRecursion IsEvent es
+    → ((fs : List Event) → AllByRecursion IsEvent fs → length fs < n → P (world_after setup answers fs new_world))
+    → P (world_with setup answers (marked es rs) new_world)
+of_play P n setup answers es rs few known law =
+    subst P (sym (world_is setup answers (marked es rs) new_world))
+    (law (with_cuts setup answers (marked es rs) new_world) (plain_known setup answers es rs new_world known)
+    (omega (arith, few_plain setup answers (marked es rs) new_world, few_marked es rs, few)))
+
+-- So it is after one plain event more.
+pub of_play_then : (P : World → Type 0) (n : ℕ) (setup : Setup) (answers : Answers) (es : List Event) (rs : List EventReport) (e : Event)
+    → length es + length es < n → AllByRecursion IsEvent es → IsEvent e
+    → ((fs : List Event) → AllByRecursion IsEvent fs → length fs ≤ n → P (world_after setup answers fs new_world))
+    → P (happens setup answers e (world_with setup answers (marked es rs) new_world)).1
+of_play_then P n setup answers es rs e few known one law =
+    let plain : List Event = with_cuts setup answers (marked es rs) new_world in
+    subst (λ (x : World). P (happens setup answers e x).1) (sym (world_is setup answers (marked es rs) new_world))
+    (subst P (world_joined setup answers plain (e ∷ []) new_world)
+    (law (plain ++ e ∷ []) (all_so_far IsEvent plain e (plain_known setup answers es rs new_world known) one)
+    (omega (arith, length-append plain (e ∷ []), few_plain setup answers (marked es rs) new_world, few_marked es rs, few))))
+
+-- The bytes of a world whose promises hold can be counted.
+pub countable_then : (E : Type 0) (setup : Setup) (answers : Answers) (w : World)
+    → OfEachConnection (Promises E answers setup.packet_size) w → OfEachConnection IsCountable w
+countable_then E setup answers w h = each_countable E answers setup.packet_size w.connections h
 
 pub so_many : {A : Type 0} (i : ℕ) (xs : List A) → i ≤ length xs → length (take i xs) ≡ i
 so_many i xs most = length-take-le i xs most
 
 -- ---- So far
 
--- After these events the player is the model's world, and this is what the model tells of them.
+-- After these events, with the losses that their reports mark, the player is the model's world, and
+-- this is what the model tells of them.
 pub record IsSoFar {E S : Type 0} (setup : Setup) (answers : Answers) (engine : E) (events : List Event) (player : Player E S)
     (pipes : ℕ → Option Pipe) (reports : List EventReport) : Type 0 where
-  pub play : IsPlay setup engine player pipes (world_after setup answers events new_world)
-  pub told : reports ≡ event_reports setup answers events new_world
+  pub play : IsPlay setup engine player pipes (world_with setup answers (marked events reports) new_world)
+  pub told : reports ≡ event_reports_with setup answers (marked events reports) new_world
 
-told_of : (next : Outcome × World) (done : Done) (seen : List Snapshot) → done ≡ done_as next.0 → seen ≡ snapshots next.1
-    → record { outcome = done.outcome; lost = done.lost; snapshots = seen } ≡ event_report next
-told_of next done seen e f =
-    ap (λ (d : Done). record { outcome = d.outcome; lost = d.lost; snapshots = seen }) e
-    ∙ ap (λ (ss : List Snapshot). record { outcome = next.0; lost = false; snapshots = ss }) f
+report_as : Outcome → Bool → List Snapshot → EventReport
+report_as what lost seen = record { outcome = what; lost = lost; snapshots = seen }
+
+marks_lost : (b : Bool) (o : Outcome) → b ≡ is_lost (loss_by b o)
+marks_lost true o = refl
+marks_lost false o = refl
+
+told_of : {E S : Type 0} (setup : Setup) (engine : E) (answers : Answers) (done : Done) (player : Player E S) (pipes : ℕ → Option Pipe) (e : Event) (w : World) (seen : List Snapshot)
+    → HappensAlike setup engine answers done player pipes e w
+    → seen ≡ snapshots (world_then setup answers w (record { event = e; loss = loss_of done }))
+    → report_as done.outcome done.lost seen ≡ report_then setup answers w (record { event = e; loss = loss_of done })
+unfolding report_as
+told_of setup engine answers done player pipes e w seen alike shown =
+    let then : World = world_then setup answers w (record { event = e; loss = loss_of done }) in
+    ap (λ (o : Outcome). report_as o done.lost seen) alike.outcome
+    ∙ ap (λ (b : Bool). report_as (happens setup answers (met (loss_of done) e) w).0 b seen) (marks_lost done.lost done.outcome)
+    ∙ ap (λ (ss : List Snapshot). report_as (happens setup answers (met (loss_of done) e) w).0 (is_lost (loss_of done)) ss) shown
 
 pub one_event_more : {E S : Type 0} (setup : Setup) (answers : Answers) (engine : E) (es : List Event) (i : ℕ) (e : Event) (player then : Player E S)
     (pipes after : ℕ → Option Pipe) (reports told : List EventReport) (done : Done) (seen : List Snapshot)
-    → i < length es → e ≡ slice_index_or es i e
-    → HappensAlike setup engine done then after (happens setup answers e (world_after setup answers (take i es) new_world))
+    → i < length es → e ≡ slice_index_or es i e → length reports ≡ i
+    → HappensAlike setup engine answers done then after e (world_with setup answers (marked (take i es) reports) new_world)
     → seen ≡ filter_map seen_of then.links.items
     → told ≡ reports ++ record { outcome = done.outcome; lost = done.lost; snapshots = seen } ∷ []
     → IsSoFar setup answers engine (take i es) player pipes reports → IsSoFar setup answers engine (take (i + 1) es) then after told
-one_event_more setup answers engine es i e player then pipes after reports told done seen less is alike shown more far =
-    let next : Outcome × World = happens setup answers e (world_after setup answers (take i es) new_world) in
+unfolding report_as
+one_event_more setup answers engine es i e player then pipes after reports told done seen less is count alike shown more far =
+    let w : World = world_with setup answers (marked (take i es) reports) new_world in
+    let p : Played = record { event = e; loss = loss_of done } in
+    let r : EventReport = record { outcome = done.outcome; lost = done.lost; snapshots = seen } in
     let taken : take (i + 1) es ≡ take i es ++ e ∷ [] = one_taken es i e less is in
-    let world : world_after setup answers (take (i + 1) es) new_world ≡ next.1 =
-    ap (λ xs. world_after setup answers xs new_world) taken ∙ world_one_more setup answers (take i es) e new_world in
-    let same : seen ≡ snapshots next.1 = shown ∙ all_seen_alike 1 setup.packet_size engine then.links.items after next.1.connections alike.then.connections in
+    let ps : marked (take (i + 1) es) told ≡ marked (take i es) reports ++ p ∷ [] =
+    ap (λ xs. marked xs told) taken ∙ ap (marked (take i es ++ e ∷ [])) more
+    ∙ marked_one_more (take i es) e reports r (omega (arith, count, so_many i es (omega (arith, less)))) in
+    let world : world_with setup answers (marked (take (i + 1) es) told) new_world ≡ world_then setup answers w p =
+    ap (λ xs. world_with setup answers xs new_world) ps ∙ world_one_more setup answers (marked (take i es) reports) p new_world in
+    let same : seen ≡ snapshots (world_then setup answers w p) =
+    shown ∙ all_seen_alike 1 setup.packet_size engine then.links.items after (world_then setup answers w p).connections alike.then.connections in
     record {
       play = subst (IsPlay setup engine then after) (sym world) alike.then;
       told =
           more
-          ∙ ap (λ r. reports ++ r ∷ []) (told_of next done seen alike.outcome same)
-          ∙ ap (λ rs. rs ++ event_report next ∷ []) far.told
-          ∙ sym (ap (λ xs. event_reports setup answers xs new_world) taken ∙ reports_one_more setup answers (take i es) e new_world);
+          ∙ ap (λ x. reports ++ x ∷ []) (told_of setup engine answers done then after e w seen alike same)
+          ∙ ap (λ rs. rs ++ report_then setup answers w p ∷ []) far.told
+          ∙ sym (ap (λ xs. event_reports_with setup answers xs new_world) ps ∙ reports_one_more setup answers (marked (take i es) reports) p new_world);
     }
 
 -- No connection is tied to anything before any event.
@@ -185,21 +287,28 @@ all_cut size engine (l ∷ ls) pipes cs (suc i) c all tied at =
 pub in_the_end : {E S : Type 0} (setup : Setup) (answers : Answers) (engine : E) (es : List Event) (i : ℕ) (player : Player E S)
     (pipes : ℕ → Option Pipe) (so_far reports : List EventReport) (requests : List RequestReport)
     → IsSetup setup → AllByRecursion IsEvent (take i es) → AreTied player.links.items pipes
-    → length es ≤ i → IsSoFar setup answers engine (take i es) player pipes so_far → reports ≡ so_far
-    → requests ≡ request_reports (world_after setup answers (take i es) new_world) 1 (world_after setup answers (take i es) new_world).asked_on
+    → length es ≤ i → length so_far ≡ i → i ≤ length es → IsSoFar setup answers engine (take i es) player pipes so_far → reports ≡ so_far
+    → requests ≡ request_reports (world_with setup answers (marked (take i es) so_far) new_world) 1 (world_with setup answers (marked (take i es) so_far) new_world).asked_on
+    → ((ps : List Played) → LosesNothing ps → world_with setup answers ps new_world ≡ world_after setup answers (events_of ps) new_world)
+    → ((ps : List Played) → LosesNothing ps → observed_with setup answers ps ≡ observed setup answers (events_of ps))
     → IsPlayOf setup answers es (record { events = reports; requests = requests }) pipes
-in_the_end setup answers engine es i player pipes so_far reports requests in_range known tied over far same asked =
+in_the_end setup answers engine es i player pipes so_far reports requests in_range known tied over count most far same asked plain_world plain_report =
     let whole : take i es ≡ es = take_all i es over in
-    let w : World = world_after setup answers es new_world in
+    let ps : marked (take i es) so_far ≡ marked es reports = ap (λ xs. marked xs so_far) whole ∙ ap (marked es) (sym same) in
+    let w : World = world_with setup answers (marked es reports) new_world in
     let all : ArePlayed 1 setup.packet_size engine player.links.items pipes w.connections =
-    subst (λ xs. ArePlayed 1 setup.packet_size engine player.links.items pipes (world_after setup answers xs new_world).connections) whole far.play.connections in
+    subst (λ xs. ArePlayed 1 setup.packet_size engine player.links.items pipes (world_with setup answers xs new_world).connections) ps far.play.connections in
+    let told : record { events = reports; requests = requests } ≡ observed_with setup answers (marked es reports) =
+    ap (λ (rs : List EventReport). record { events = rs; requests = requests }) (same ∙ far.told ∙ ap (λ xs. event_reports_with setup answers xs new_world) ps)
+    ∙ ap (λ (qs : List RequestReport). record { events = event_reports_with setup answers (marked es reports) new_world; requests = qs })
+    (asked ∙ ap (λ xs. request_reports (world_with setup answers xs new_world) 1 (world_with setup answers xs new_world).asked_on) ps) in
+    let each : length reports ≡ length es = omega (arith, ap length same, count, over, most) in
     record {
       in_range = in_range;
       known = subst (AllByRecursion IsEvent) whole known;
-      told =
-          ap (λ (rs : List EventReport). record { events = rs; requests = requests }) (same ∙ far.told ∙ ap (λ xs. event_reports setup answers xs new_world) whole)
-          ∙ ap (λ (qs : List RequestReport). record { events = event_reports setup answers es new_world; requests = qs })
-          (asked ∙ ap (λ xs. request_reports (world_after setup answers xs new_world) 1 (world_after setup answers xs new_world).asked_on) whole);
+      each = each;
+      told = told;
       bytes = λ n direction some most. bytes_handed setup.packet_size engine player.links.items pipes w n direction all some most;
       cuts = λ n c at. all_cut setup.packet_size engine player.links.items pipes w.connections n c all tied at;
+      plain = whole_play setup answers es (record { events = reports; requests = requests }) plain_world plain_report each told;
     }

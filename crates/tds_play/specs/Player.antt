@@ -1,17 +1,19 @@
 -- What the whole player stands for in the model, and what the model promises of a world.
-use Rattle.std.specs.Prelude.{ℕ, ◌≡◌, ◌<◌, length, Option}
+use Rattle.std.specs.Prelude.{ℕ, suc, ◌≡◌, ◌<◌, length, false, Option, Some, slice_get}
 use Rattle.tds_session.specs.Answer.{Answers}
+use Rattle.tds_world.specs.declared.event.Event.{Event}
 use Rattle.tds_world.specs.declared.event.Setup.{Setup}
-use Rattle.tds_world.specs.declared.outcome.Outcome.{Outcome}
+use Rattle.tds_world.specs.Connection.{Connection, is_cut}
+use Rattle.tds_world.specs.Events.{happens, settles}
 use Rattle.tds_world.specs.Laws.{OfEachConnection}
 use Rattle.tds_world.specs.Lending.{LendsIdle}
+use Rattle.tds_world.specs.Losses.{Loss, link_of, met, world_then}
 use Rattle.tds_world.specs.World.{World}
 use Rattle.tds_play.specs.declared.link.Done.{Done}
 use Rattle.tds_play.specs.declared.player.Player.{Player}
 use Rattle.tds_play.specs.Pipe.{Pipe}
-use Rattle.tds_play.specs.Plays.{ArePlayed, holdings_of}
+use Rattle.tds_play.specs.Plays.{ArePlayed, IsReady, MayLose, acts_on, holdings_of, loss_of}
 use Rattle.tds_ends.specs.Promises.{Promises}
-use Rattle.tds_play.specs.Seen.{done_as}
 
 -- The player and the world: the connections, leases, tickets and requests are the world's.
 pub record IsPlay {E S : Type 0} (setup : Setup) (engine : E) (player : Player E S) (pipes : ℕ → Option Pipe)
@@ -24,18 +26,30 @@ pub record IsPlay {E S : Type 0} (setup : Setup) (engine : E) (player : Player E
   pub max : player.max ≡ setup.max
   pub size : player.size ≡ setup.packet_size
 
--- An event came to in the play what it came to in the model, and the player is the world then.
-pub record HappensAlike {E S : Type 0} (setup : Setup) (engine : E) (done : Done) (player : Player E S)
-    (pipes : ℕ → Option Pipe) (next : Outcome × World) : Type 0 where
-  pub outcome : done ≡ done_as next.0
-  pub then : IsPlay setup engine player pipes next.1
+-- In this world an event, whatever it loses, settles on the connection at this place, whose link it uses
+-- where it may be lost.
+pub record IsFound (setup : Setup) (answers : Answers) (w : World) (e : Event) (place : ℕ) (c : Connection)
+    : Type 0 where
+  pub there : slice_get w.connections place ≡ Some c
+  pub settles : (l : Loss) → happens setup answers (met l e) w
+      ≡ settles (met l e) (suc place) w (acts_on setup answers w (met l e) (suc place) c)
+  pub link : MayLose (is_cut c.standing) e → link_of setup w e ≡ Some (suc place)
+  pub ready : is_cut c.standing ≡ false → IsReady e c
+
+-- An event, as it was met, came to in the play what it came to in the model, and the player is the
+-- world after it and after the cut where it was lost.
+pub record HappensAlike {E S : Type 0} (setup : Setup) (engine : E) (answers : Answers) (done : Done)
+    (player : Player E S) (pipes : ℕ → Option Pipe) (e : Event) (w : World) : Type 0 where
+  pub outcome : done.outcome ≡ (happens setup answers (met (loss_of done) e) w).0
+  pub then : IsPlay setup engine player pipes
+      (world_then setup answers w (record { event = e; loss = loss_of done }))
 
 -- There are so few of each that their numbers fit.
 pub record IsSmall (w : World) : Type 0 where
-  pub connections : length w.connections < 10000
-  pub leases : length w.leases < 10000
-  pub tickets : length w.tickets < 10000
-  pub asked : length w.asked_on < 10000
+  pub connections : length w.connections < 20000
+  pub leases : length w.leases < 20000
+  pub tickets : length w.tickets < 20000
+  pub asked : length w.asked_on < 20000
 
 -- What the model promises of a world before an event.
 pub record PromisesAll (E : Type 0) (answers : Answers) (setup : Setup) (w : World) : Type 0 where

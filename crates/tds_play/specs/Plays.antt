@@ -23,6 +23,7 @@ use Rattle.tds_world.specs.Arrivals.{to_server, to_client}
 use Rattle.tds_world.specs.Entries.{up_bytes, down_bytes}
 use Rattle.tds_world.specs.Events.{acts}
 use Rattle.tds_world.specs.Lane.{sent_bytes}
+use Rattle.tds_world.specs.Losses.{Loss, came_in, loss_by}
 use Rattle.tds_world.specs.Pool.{Acted, Refuses, Does}
 use Rattle.tds_world.specs.World.{World, Holding, next_number}
 
@@ -100,18 +101,6 @@ delivers_up answers count c = Does (outcome.ToServer (min count (up_underway c))
 abbrev pub delivers_down : ℕ → Connection → Acted
 delivers_down count c = Does (outcome.ToClient (min count (down_underway c))) (to_client count c)
 
--- An event that brings bytes brings so many.
-abbrev pub bringing : ℕ → Event → Event
-bringing k (event.ToServer n count) = event.ToServer n k
-bringing k (event.ToClient n count) = event.ToClient n k
-bringing k e = e
-
--- How many bytes came, as an outcome says.
-abbrev pub came_in : Outcome → ℕ
-came_in (outcome.ToServer k) = k
-came_in (outcome.ToClient k) = k
-came_in o = 0
-
 -- So many bytes a delivery was met to bring: where the carrier failed, those that had come.
 abbrev pub count_by : Bool → Outcome → ℕ → ℕ
 count_by true o count = came_in o
@@ -120,13 +109,21 @@ count_by false o count = count
 abbrev pub count_of : Done → ℕ → ℕ
 count_of done count = count_by done.lost done.outcome count
 
--- The event as it was met: where the carrier failed in a delivery, with the bytes that had come.
-abbrev pub met_by : Bool → Outcome → Event → Event
-met_by true o e = bringing (came_in o) e
-met_by false o e = e
+-- What an event lost: nothing, or what came before the carrier failed.
+abbrev pub loss_of : Done → Loss
+loss_of done = loss_by done.lost done.outcome
 
-abbrev pub met : Done → Event → Event
-met done e = met_by done.lost done.outcome e
+-- Which events may be lost on a connection that is cut or isn't: those that hand bytes over or bring
+-- some. A lease is lost only where it opens a connection.
+abbrev pub MayLose : Bool → Event → Type 0
+MayLose true e = ⊥
+MayLose false (event.GiveBack lease) = Unit {0}
+MayLose false (event.Send lease) = Unit {0}
+MayLose false (event.Cancel lease) = Unit {0}
+MayLose false (event.Work n) = Unit {0}
+MayLose false (event.ToServer n count) = Unit {0}
+MayLose false (event.ToClient n count) = Unit {0}
+MayLose false e = ⊥
 
 -- A connection that is lent is idle. A restart is about all connections, and about none alone.
 abbrev pub IsReady : Event → Connection → Type 0

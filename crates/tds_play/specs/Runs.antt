@@ -10,6 +10,7 @@ use Rattle.tds_text.specs.Texts.{line_feed}
 use Rattle.tds_text.specs.Lines.{text_of}
 use Rattle.tds_text.specs.Written.{WritesBeginning}
 use Rattle.tds_text.specs.Files.{Spells, IsWrongAt, IsNoJson}
+use Rattle.tds_play.specs.WholePlay.{IsWhole, told_of}
 use Rattle.tds_play.specs.Refused.{first_refusal, play_refusal_number}
 use Rattle.tds_text.specs.declared.schedule.fault.ScheduleFault.{ScheduleFault}
 use Rattle.tds_text.specs.declared.schedule.fault.ScheduleFault.TheVariants as schedule
@@ -34,10 +35,17 @@ FitsFile left = IfSome left (λ all. length all ≤ file_limit)
 abbrev pub IsRefused : List ℕ → Option PlayRefusal → Type 0
 IsRefused bytes why = (setup : Setup) × (events : List Event) × Spells bytes setup events × (first_refusal setup (length events) ≡ why)
 
--- Bytes are a schedule file that is played, and this is the model's report of its very events.
-abbrev pub IsReportOf : List ℕ → Report → Type 0
-IsReportOf bytes report = (setup : Setup) × (events : List Event) × Spells bytes setup events
-    × (first_refusal setup (length events) ≡ None) × (report ≡ observed setup script_answers events)
+-- The report of a play of these events: the model's, with the losses that it marks. Where it marks
+-- none, it is the model's of the events as they are; and so it is where the carrier is steady.
+pub record IsTold (steady : Type 0) (setup : Setup) (events : List Event) (report : Report) : Type 0 where
+  pub told : report ≡ told_of setup script_answers events report.events
+  pub plain : IsWhole report → report ≡ observed setup script_answers events
+  pub whole : steady → IsWhole report
+
+-- These bytes are a schedule file of what is played, and this is its report.
+abbrev pub IsReportOf : Type 0 → List ℕ → Report → Type 0
+IsReportOf steady bytes report = (setup : Setup) × (events : List Event) × Spells bytes setup events
+    × (first_refusal setup (length events) ≡ None) × IsTold steady setup events report
 
 -- What a fault says of the bytes that were read. That reading failed, that a write failed and that
 -- memory was refused can't be seen in them; a report is printed only of what is played.
@@ -58,18 +66,18 @@ abbrev pub IsUnread : RunFault → Option (List ℕ) → Type 0
 IsUnread fault left = ((bytes : List ℕ) × AreLeft left bytes × IsFaultOf fault bytes) × IsBeforeOutput fault
 
 -- A beginning of the text of the report of these bytes went out.
-abbrev pub BeginsReport : List ℕ → Option (List ℕ) → Option (List ℕ) → Type 0
-BeginsReport bytes old new = (report : Report) × IsReportOf bytes report × WritesBeginning old new (text_of report)
+abbrev pub BeginsReport : Type 0 → List ℕ → Option (List ℕ) → Option (List ℕ) → Type 0
+BeginsReport steady bytes old new = (report : Report) × IsReportOf steady bytes report × WritesBeginning old new (text_of report)
 
 -- What went to the output before a fault: a beginning of the report's text where it was printed then,
 -- else nothing.
-abbrev pub LeavesOutput : RunFault → List ℕ → Option (List ℕ) → Option (List ℕ) → Type 0
-LeavesOutput run.Output bytes old new = BeginsReport bytes old new
-LeavesOutput run.Memory bytes old new = Keeps old new ⊎ BeginsReport bytes old new
-LeavesOutput run.File bytes old new = Keeps old new
-LeavesOutput run.Json bytes old new = Keeps old new
-LeavesOutput (run.Schedule place) bytes old new = Keeps old new
-LeavesOutput (run.Play refusal) bytes old new = Keeps old new
+abbrev pub LeavesOutput : Type 0 → RunFault → List ℕ → Option (List ℕ) → Option (List ℕ) → Type 0
+LeavesOutput steady run.Output bytes old new = BeginsReport steady bytes old new
+LeavesOutput steady run.Memory bytes old new = Keeps old new ⊎ BeginsReport steady bytes old new
+LeavesOutput steady run.File bytes old new = Keeps old new
+LeavesOutput steady run.Json bytes old new = Keeps old new
+LeavesOutput steady (run.Schedule place) bytes old new = Keeps old new
+LeavesOutput steady (run.Play refusal) bytes old new = Keeps old new
 
 -- The line of a fault.
 abbrev pub fault_line : RunFault → List ℕ
@@ -86,13 +94,13 @@ abbrev pub TellsFault : Option (List ℕ) → Option (List ℕ) → RunFault →
 TellsFault old new fault = WritesBeginning old new (fault_line fault) ⊎ WritesBeginning old new (fault_line run.Memory)
 
 -- The bytes that were left are a schedule that is played, and the text of its report went out.
-abbrev pub Reports : Option (List ℕ) → Option (List ℕ) → Option (List ℕ) → Type 0
-Reports left old new = (bytes : List ℕ) × AreLeft left bytes
-    × (report : Report) × IsReportOf bytes report × Appends old new (text_of report)
+abbrev pub Reports : Type 0 → Option (List ℕ) → Option (List ℕ) → Option (List ℕ) → Type 0
+Reports steady left old new = (bytes : List ℕ) × AreLeft left bytes
+    × (report : Report) × IsReportOf steady bytes report × Appends old new (text_of report)
 
 -- A run ended by this fault.
-abbrev pub EndsBy : RunFault → Option (List ℕ) → Option (List ℕ) → Option (List ℕ) → Type 0
-EndsBy fault left old new = (bytes : List ℕ) × AreLeft left bytes × IsFaultOf fault bytes × LeavesOutput fault bytes old new
+abbrev pub EndsBy : Type 0 → RunFault → Option (List ℕ) → Option (List ℕ) → Option (List ℕ) → Type 0
+EndsBy steady fault left old new = (bytes : List ℕ) × AreLeft left bytes × IsFaultOf fault bytes × LeavesOutput steady fault bytes old new
 
 -- The fault of a run, by the one of the schedule.
 abbrev pub of_schedule : ScheduleFault → RunFault

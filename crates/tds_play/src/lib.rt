@@ -16,7 +16,7 @@ mod worlds;
 
 pub use carrier::{Carrier, CarrierError};
 pub use memory::MemoryCarrier;
-pub use playing::{PlayRefusal, play};
+pub use playing::{PlayRefusal, play, play_with};
 pub use run::run_play;
 
 /// The texts of a play.

@@ -5,21 +5,22 @@ ghost use Rattle.tds_play.specs.Lending.{standing_of};
 ghost use Rattle.tds_play.specs.Links.{newest_first};
 ghost use Rattle.tds_play.specs.Noted.{about_of, asked_after, held_of, leases_after, tickets_after};
 ghost use Rattle.tds_play.specs.Pipe.{Pipe};
-ghost use Rattle.tds_play.specs.Player.{HappensAlike, IsPlay, IsSmall, PromisesAll};
-ghost use Rattle.tds_play.specs.Plays.{ArePlayed, IsReady, acts_on, bringing};
+ghost use Rattle.tds_play.specs.Player.{HappensAlike, IsFound, IsPlay, IsSmall, PromisesAll};
+ghost use Rattle.tds_play.specs.Plays.{ArePlayed};
 ghost use Rattle.tds_ends.specs.Promises.{IsCountable};
 ghost use Rattle.tds_play.specs.Seen.{seen_of};
 ghost use Rattle.tds_play.specs.Ties.{AreTied};
 ghost use Rattle.tds_play.specs.declared.request.Record.{Record};
 ghost use Rattle.tds_play.specs.declared.pool.Found.TheVariants.{Here};
-ghost use Rattle.tds_session.specs.Answer.{answer_of};
-ghost use Rattle.tds_world.specs.Connection.{Connection, cut, is_cut};
-ghost use Rattle.tds_world.specs.Events.{happens, settles};
+ghost use Rattle.tds_session.specs.Answer.{Answers, answer_of};
+ghost use Rattle.tds_world.specs.Connection.{Connection, cut};
+ghost use Rattle.tds_world.specs.Events.{happens};
 ghost use Rattle.tds_world.specs.Laws.{OfEachConnection};
+ghost use Rattle.tds_world.specs.Losses.{bringing};
 ghost use Rattle.tds_world.specs.Observed.{request_reports};
 ghost use Rattle.tds_world.specs.Order.{RequestsInOrder};
-ghost use Rattle.tds_world.specs.Pool.{opens};
-ghost use Rattle.tds_world.specs.World.{World, next_number, numbered, put};
+ghost use Rattle.tds_world.specs.Pool.{to_lend};
+ghost use Rattle.tds_world.specs.World.{World, Opens, next_number, numbered, put};
 ghost use Rattle.tds_world.specs.declared.event.Event.TheVariants as event;
 ghost use Rattle.tds_world.specs.declared.event.Setup.{Setup};
 
@@ -83,11 +84,15 @@ impl<E: Engine + Copy> Player<E> {
         ensures tied { OnOk result (AreTied self.new.links.items (C.pipes carrier.new)) }
         ensures grows { OnOk result (length self.new.links.items ≤ suc (length self.old.links.items)) }
         ensures tells { OnOk result (C.tells carrier.old → C.tells carrier.new) }
-        ensures alike { (setup : Setup) (engine : E) (w : World) → C.tells carrier.old → C.steady
-            → IsPlay setup engine self.old (C.pipes carrier.old) w → PromisesAll E (answer_of (E.statements_of engine) (E.step_of engine)) setup w
-            → ((k : ℕ) → OfEachConnection IsCountable (happens setup (answer_of (E.statements_of engine) (E.step_of engine))
-            (bringing k event.now) w).1)
-            → IfOk result (λ done. HappensAlike setup engine done self.new (C.pipes carrier.new) (happens setup (answer_of (E.statements_of engine) (E.step_of engine)) event.now w)) }
+        ensures steady { C.steady → IfOk result (λ done. done.lost ≡ false) }
+        ensures alike { (setup : Setup) (engine : E) (w : World) → C.tells carrier.old
+            → IsPlay setup engine self.old (C.pipes carrier.old) w
+            → PromisesAll E (answer_of (E.statements_of engine) (E.step_of engine)) setup w
+            → ((k : ℕ) → OfEachConnection IsCountable (happens setup
+            (answer_of (E.statements_of engine) (E.step_of engine)) (bringing k event.now) w).1)
+            → IfOk result (λ done. HappensAlike setup engine
+            (answer_of (E.statements_of engine) (E.step_of engine)) done self.new
+            (C.pipes carrier.new) event.now w) }
     {
         match event {
             Event::RestartServer => {
@@ -162,12 +167,17 @@ impl<E: Engine + Copy> Player<E> {
         ensures tied { OnOk result (AreTied self.new.links.items (C.pipes carrier.new)) }
         ensures count { OnOk result (length self.new.links.items ≡ length self.old.links.items) }
         ensures tells { OnOk result (C.tells carrier.old → C.tells carrier.new) }
-        ensures alike { (setup : Setup) (engine : E) (w : World) (c : Connection) → C.tells carrier.old → C.steady
-            → IsPlay setup engine self.old (C.pipes carrier.old) w → PromisesAll E (answer_of (E.statements_of engine) (E.step_of engine)) setup w
-            → slice_get w.connections place ≡ Some c → (is_cut c.standing ≡ false → IsReady event.now c)
-            → ((k : ℕ) → OfEachConnection IsCountable (settles (bringing k event.now) (suc place) w
-            (acts_on setup (answer_of (E.statements_of engine) (E.step_of engine)) w (bringing k event.now) (suc place) c)).1)
-            → IfOk result (λ done. HappensAlike setup engine done self.new (C.pipes carrier.new) (settles event.now (suc place) w (acts_on setup (answer_of (E.statements_of engine) (E.step_of engine)) w event.now (suc place) c))) }
+        ensures steady { C.steady → IfOk result (λ done. done.lost ≡ false) }
+        ensures alike { (setup : Setup) (engine : E) (w : World) (c : Connection)
+            → C.tells carrier.old → IsPlay setup engine self.old (C.pipes carrier.old) w
+            → PromisesAll E (answer_of (E.statements_of engine) (E.step_of engine)) setup w
+            → IsFound setup (answer_of (E.statements_of engine) (E.step_of engine)) w event.now
+            place c
+            → ((k : ℕ) → OfEachConnection IsCountable (happens setup
+            (answer_of (E.statements_of engine) (E.step_of engine)) (bringing k event.now) w).1)
+            → IfOk result (λ done. HappensAlike setup engine
+            (answer_of (E.statements_of engine) (E.step_of engine)) done self.new
+            (C.pipes carrier.new) event.now w) }
     {
         let next = Next {
             lease: self.leases.next(),
@@ -222,10 +232,12 @@ impl<E: Engine + Copy> Player<E> {
         ensures tied { OnOk result (AreTied self.new.links.items (C.pipes carrier.new)) }
         ensures count { OnOk result (length self.new.links.items ≡ suc (length self.old.links.items)) }
         ensures tells { OnOk result (C.tells carrier.old → C.tells carrier.new) }
-        ensures alike { (setup : Setup) (engine : E) (w : World) → C.steady
+        ensures steady { C.steady → IfOk result (λ done. done.lost ≡ false) }
+        ensures alike { (setup : Setup) (engine : E) (answers : Answers) (w : World)
             → IsPlay setup engine self.old (C.pipes carrier.old) w → IsSmall w
-            → IfOk result (λ done. HappensAlike setup engine done self.new (C.pipes carrier.new)
-            (settles event.Lease (next_number w.connections) w (opens (next_number w.leases) (next_number w.connections)))) }
+            → to_lend setup w ≡ Opens (next_number w.connections)
+            → IfOk result (λ done. HappensAlike setup engine answers done self.new
+            (C.pipes carrier.new) event.Lease w) }
     {
         let conn = next_number(self.links.len());
         let lease = self.leases.next();

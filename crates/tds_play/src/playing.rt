@@ -2,27 +2,27 @@
 ghost use Rattle.std.specs.Prelude.{◌≡◌, ◌≢◌, ◌≤◌, List, [], ◌++◌, length, None, Some, Err, IfErr, IfOk, OnOk};
 ghost use Rattle.tds_play.specs.Player.{IsPlay};
 ghost use Rattle.tds_play.specs.Refused.{first_refusal, play_refusal_number};
-ghost use Rattle.tds_play.specs.WholePlay.{CutsThoseOf, GivesNoMoreThan, HandsBytesOf, IsPlayOf, world_of};
+ghost use Rattle.tds_play.specs.WholePlay.{CutsThoseOf, GivesNoMoreThan, HandsBytesOf, IsPlayOf, IsWhole, IsWholePlayOf, told_of, world_of};
 ghost use Rattle.tds_play.specs.declared.playing.PlayRefusal.TheVariants.{Memory};
 ghost use Rattle.tds_play.specs.declared.playing.PlayRefusal.{PlayRefusal};
 ghost use Rattle.tds_session.specs.Answer.{answer_of, script_answers};
 ghost use Rattle.tds_world.specs.Bounds.{BeginsOnce, IsEvent, IsSetup, OneAttention};
-ghost use Rattle.tds_world.specs.Observed.{observed};
-ghost use Rattle.tds_world.specs.Reports.{ShowsFewUnderway, ShowsFreshStart, ShowsIdleQuiet, ShowsKeptTransaction, ShowsLendsIdle, ShowsNoFault, ShowsOwnAnswers, ShowsOwnTransaction};
+ghost use Rattle.tds_world.specs.Reports.{ShowsFewUnderway, ShowsFreshStart, ShowsIdleQuiet, ShowsKeptTransaction, ShowsLendsIdle, ShowsOwnAnswers, ShowsOwnTransaction};
+ghost use Rattle.tds_world.specs.WithLosses.{ShowsNoEndFaults};
 ghost use Rattle.tds_world.specs.World.{new_world};
 ghost use Rattle.tds_world.specs.declared.event.Event.{Event};
 ghost use Rattle.tds_world.specs.declared.event.Setup.{Setup};
 
 use crate::carrier::Carrier;
-use crate::memory::MemoryCarrier;
 use crate::player::Player;
 use crate::worlds::worlds_hold;
 use std::alloc::{AllocError, AllocFailed, Global};
 use tds_packet::PacketSize;
 use tds_request::Request;
 use tds_session::{Engine, ScriptEngine};
-use tds_world::laws::{begins_once, one_attention, script_hands_out_next, script_is_lawful};
-use tds_world::report::laws::{
+use tds_world::laws::{script_hands_out_next, script_is_lawful};
+use tds_world::losses::{begins_once, nothing_lost, one_attention};
+use tds_world::report::losses::{
     few_underway, fresh_start, idle_is_quiet, kept_transaction, lends_idle, no_fault,
     nothing_after_cancel, own_answers, own_transaction,
 };
@@ -81,16 +81,17 @@ impl<T: Drop> From<AllocFailed<T>> for PlayRefusal {
 /// It takes at most 10,000 events, packets of 512 to 32,767 bytes, and 1 to 64 connections at a
 /// time. It answers what each event came to, with what is seen of the connections after it, and
 /// what came of each request in the end. An event that doesn't apply is told as refused, and the
-/// play goes on.
+/// play goes on. Where the carrier fails in an event, the event is marked lost: its connection is
+/// cut, and the report is that of the schedule with a cut there.
 ///
 /// Where it is refused for its events or its setup, the carrier is as it was. Where memory was
 /// refused, the carrier may have been used, and nothing is said of it. A carrier that was used
 /// serves another play: what it held of a connection is forgotten when that number is opened.
-pub fn play(
+pub fn play<C: Carrier>(
     alloc: Global,
     setup: &Setup,
     events: &[Event],
-    carrier: &mut MemoryCarrier,
+    carrier: &mut C,
 ) -> Result<Report, PlayRefusal>
     // Why nothing is played.
     ensures refused { (why : PlayRefusal) → first_refusal setup.now (length events.now) ≡ Some why
@@ -100,31 +101,42 @@ pub fn play(
     ensures played { OnOk result (first_refusal setup.now (length events.now) ≡ None) }
     ensures named { IfErr result (λ why. why ≢ Memory
         → first_refusal setup.now (length events.now) ≡ Some why) }
-    // The report is the model's, and so are the bytes that were handed over and what is cut.
-    ensures report { IfOk result (λ report. report ≡ observed setup.now script_answers events.now) }
-    ensures bytes { OnOk result (HandsBytesOf (world_of setup.now events.now)
-        (⟦<MemoryCarrier as Carrier>⟧.pipes carrier.new)) }
-    ensures cuts { OnOk result (CutsThoseOf (world_of setup.now events.now)
-        (⟦<MemoryCarrier as Carrier>⟧.pipes carrier.new)) }
+    // Where the carrier brings the bytes that it was handed, the report is the model's of the events
+    // with the losses that it marks, and so are the bytes that were handed over and what is cut.
+    ensures report { C.tells carrier.old → IfOk result (λ report.
+        report ≡ told_of setup.now script_answers events.now report.events) }
+    ensures bytes { C.tells carrier.old → IfOk result (λ report.
+        HandsBytesOf (world_of setup.now events.now report.events) (C.pipes carrier.new)) }
+    ensures cuts { C.tells carrier.old → IfOk result (λ report.
+        CutsThoseOf (world_of setup.now events.now report.events) (C.pipes carrier.new)) }
+    // Where no event is lost both are the model's of the events as they are. A carrier of which no
+    // connection fails loses none.
+    ensures whole { C.tells carrier.old → IfOk result (λ report. IsWhole report
+        → IsWholePlayOf setup.now script_answers events.now report) }
+    ensures steady { C.steady → IfOk result IsWhole }
     // Each caller gets the answer to its own request, run in the transaction that it was in, and
     // nothing of it after a cancel.
-    ensures own_answers { IfOk result (ShowsOwnAnswers script_answers events.now) }
-    ensures own_transaction { IfOk result (ShowsOwnTransaction events.now) }
+    ensures own_answers { C.tells carrier.old
+        → IfOk result (ShowsOwnAnswers script_answers events.now) }
+    ensures own_transaction { C.tells carrier.old → IfOk result (ShowsOwnTransaction events.now) }
     ensures after_cancel { (front later : List Event) → events.now ≡ front ++ later
-        → IfOk result (GivesNoMoreThan setup.now front) }
+        → C.tells carrier.old → IfOk result (GivesNoMoreThan setup.now front) }
     // What one lease did doesn't show in the next, but for the transaction that a ticket keeps.
-    ensures fresh_start { IfOk result ShowsFreshStart }
-    ensures kept_transaction { IfOk result (ShowsKeptTransaction events.now) }
-    ensures lends_idle { IfOk result ShowsLendsIdle }
+    ensures fresh_start { C.tells carrier.old → IfOk result ShowsFreshStart }
+    ensures kept_transaction { C.tells carrier.old
+        → IfOk result (ShowsKeptTransaction events.now) }
+    ensures lends_idle { C.tells carrier.old → IfOk result ShowsLendsIdle }
     // Where nobody waits nothing is underway, and at no time much is. Neither end refuses what
-    // comes to it, and no event is lost.
-    ensures idle_is_quiet { IfOk result ShowsIdleQuiet }
-    ensures few_underway { IfOk result ShowsFewUnderway }
-    ensures no_fault { IfOk result ShowsNoFault }
+    // comes to it.
+    ensures idle_is_quiet { C.tells carrier.old → IfOk result ShowsIdleQuiet }
+    ensures few_underway { C.tells carrier.old → IfOk result ShowsFewUnderway }
+    ensures no_fault { C.tells carrier.old → IfOk result ShowsNoEndFaults }
     // In the world whose bytes were handed over at most one attention of a connection is without
     // an acknowledgement that came, and no transaction of a connection begins twice.
-    ensures one_attention { OnOk result (OneAttention (world_of setup.now events.now)) }
-    ensures begins_once { OnOk result (BeginsOnce (world_of setup.now events.now)) }
+    ensures one_attention { C.tells carrier.old → IfOk result (λ report.
+        OneAttention (world_of setup.now events.now report.events)) }
+    ensures begins_once { C.tells carrier.old → IfOk result (λ report.
+        BeginsOnce (world_of setup.now events.now report.events)) }
 {
     // The laws of the model, whose report it is.
     script_is_lawful();
@@ -140,11 +152,11 @@ pub fn play(
     no_fault();
     one_attention();
     begins_once();
-    play_on(alloc, setup, events, ScriptEngine, carrier)
+    play_with(alloc, setup, events, ScriptEngine, carrier)
 }
 
-/// Plays a schedule from nothing, with any engine and any carrier.
-fn play_on<E: Engine + Copy, C: Carrier>(
+/// Plays a schedule from nothing, as [`play`] does, with servers of any engine.
+pub fn play_with<E: Engine + Copy, C: Carrier>(
     alloc: Global,
     setup: &Setup,
     events: &[Event],
@@ -158,10 +170,12 @@ fn play_on<E: Engine + Copy, C: Carrier>(
     ensures played { OnOk result (first_refusal setup.now (length events.now) ≡ None) }
     ensures named { IfErr result (λ why. why ≢ Memory
         → first_refusal setup.now (length events.now) ≡ Some why) }
-    ensures alike { C.tells carrier.old → C.steady
-        → IfOk result (λ report. IsPlayOf setup.now
+    // Where the carrier brings the bytes that it was handed, the play is the model's with the losses
+    // that its report marks: what is told, what was handed over, and what is cut.
+    ensures alike { C.tells carrier.old → IfOk result (λ report. IsPlayOf setup.now
         (answer_of (E.statements_of engine) (E.step_of engine)) events.now report
         (C.pipes carrier.new)) }
+    ensures steady { C.steady → IfOk result IsWhole }
 {
     match packet_size(setup, events.len()) {
         Ok(size) => {
@@ -222,13 +236,15 @@ fn play_events<E: Engine + Copy, C: Carrier>(
     requires begins { player.links.items ≡ [] }
     requires few { length events.now ≤ 10000 }
     ensures memory { IfErr result (λ why. why ≡ Memory) }
-    ensures alike { (setup : Setup) → IsSetup setup → C.tells carrier.old → C.steady
+    ensures steady { C.steady → IfOk result IsWhole }
+    ensures alike { (setup : Setup) → IsSetup setup → C.tells carrier.old
         → IsPlay setup player.engine player (C.pipes carrier.old) new_world
         → IfOk result (λ report. IsPlayOf setup
         (answer_of (E.statements_of player.engine) (E.step_of player.engine)) events.now report
         (C.pipes carrier.new)) }
 {
     worlds_hold(&player.engine);
+    nothing_lost();
     let mut reports = Vec::new(alloc);
     'events: for event in events {
         known(event);

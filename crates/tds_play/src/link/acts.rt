@@ -5,7 +5,7 @@ ghost use Rattle.tds_play.specs.Links.{IsAskedOn, IsPutBy, recounted};
 ghost use Rattle.tds_ends.specs.Alike.{cancel_outcome};
 ghost use Rattle.tds_play.specs.Acts.{cancelled_as, unless_lost, with_client, worked_as};
 ghost use Rattle.tds_ends.specs.Alike.{send_outcome, worked_outcome};
-ghost use Rattle.tds_play.specs.Plays.{AreNext, DoesAlike, IsPlayed, IsReady, acts_on, after, bringing, met, on_cut, outcome_of};
+ghost use Rattle.tds_play.specs.Plays.{AreNext, DoesAlike, IsPlayed, IsReady, MayLose, acts_on, after, loss_of, on_cut, outcome_of};
 ghost use Rattle.tds_ends.specs.Promises.{IsCountable, Promises};
 ghost use Rattle.tds_world.specs.Newest.{WorksOnNewest};
 ghost use Rattle.tds_world.specs.Steps.{EndsIfDue};
@@ -15,6 +15,7 @@ ghost use Rattle.tds_world.specs.Caller.{cancels};
 ghost use Rattle.tds_world.specs.Caller as model;
 ghost use Rattle.tds_world.specs.Connection.{Connection, down_underway, phase, up_underway};
 ghost use Rattle.tds_world.specs.Events.{sends_in, work_outcome};
+ghost use Rattle.tds_world.specs.Losses.{bringing, met};
 ghost use Rattle.tds_world.specs.Pool.{Does};
 ghost use Rattle.tds_client.specs.Sending.{cancelled, sent};
 ghost use Rattle.tds_server.specs.Working.{worked};
@@ -110,6 +111,9 @@ impl<E: Engine + Drop> Link<E> {
         ensures ties { OnOk result (KeepsTies self.old.number self.new (C.pipes carrier.old)
             (C.pipes carrier.new) (C.tells carrier.old) (C.tells carrier.new)) }
         ensures steady { C.steady → IfOk result (λ done. done.lost ≡ false) }
+        // Only what hands bytes over or brings some is lost.
+        ensures loses { IfOk result (λ done. done.lost ≡ true
+            → MayLose self.old.is_cut event.now) }
         // A connection that stands for one of the model stands for what the event, as it was met,
         // makes of it, cut where the carrier failed.
         ensures alike { (setup : Setup) (w : World) (c : Connection) (engine : E)
@@ -124,7 +128,7 @@ impl<E: Engine + Drop> Link<E> {
             → IfOk result (λ done. DoesAlike self.old.number setup.packet_size engine done self.new
             (C.pipes carrier.new self.old.number)
             (acts_on setup (answer_of (E.statements_of engine) (E.step_of engine)) w
-            (met done event.now) self.old.number c) c) }
+            (met (loss_of done) event.now) self.old.number c) c) }
     {
         asks_alike();
         idle_alike();

@@ -1,11 +1,16 @@
-use Rattle.std.proofs.Common.{◌∙◌, ◌<◌, ◌++◌, ◌∷◌, [], ℕ, length, take, ap, arith}
-use Rattle.tds_world.specs.declared.event.Event.{Event}
-use Rattle.tds_play.specs.Plays.{bringing}
+use Rattle.std.proofs.Common.{◌≡◌, ◌∙◌, ◌+◌, ◌<◌, ℕ, suc, false, length, take, ap, subst, sym, arith, length-append}
+use Rattle.tds_world.specs.declared.report.EventReport.{EventReport}
+use Rattle.tds_world.specs.Laws.{OfEachConnection}
+use Rattle.tds_world.specs.Losses.{bringing, marked, with_cuts, world_with}
+use Rattle.tds_world.specs.Order.{RequestsInOrder}
+use Rattle.std.specs.List.{AllByRecursion}
 use Rattle.tds_session.specs.Answer.{Answers, answer_of}
 use Rattle.tds_world.specs.Bounds.{IsEvent}
-use Rattle.tds_world.specs.Events.{world_after}
+use Rattle.tds_world.specs.Events.{happens}
 use Rattle.tds_world.specs.World.{World, new_world}
-use Rattle.tds_play.proofs.Turns.{all_so_far, brought_known, known_so_far, countable_then, one_longer, one_event_more, in_the_end, none_tied, so_many}
+use Rattle.tds_play.specs.Player.{PromisesAll}
+use Rattle.tds_ends.specs.Promises.{IsCountable, Promises}
+use Rattle.tds_play.proofs.Turns.{all_so_far, brought_known, known_so_far, countable_then, of_play, of_play_then, one_event_more, in_the_end, none_tied, so_many, world_is}
 use Rattle.tds_play.proofs.playing.play_events.Goals as goal
 
 pub events-init : goal.events-init
@@ -14,7 +19,9 @@ events-init g c = record {
   few = omega (arith, ap length c.requires.begins);
   known = tt;
   tells = λ t. t;
-  alike = λ setup is tells steady play. record { play = play; told = c.new-reports.ensures.items };
+  count = ap length c.new-reports.ensures.items;
+  steady = λ s. subst (AllByRecursion (λ (r : EventReport). r.lost ≡ false)) (sym c.new-reports.ensures.items) tt;
+  alike = λ setup is tells play. record { play = play; told = c.new-reports.ensures.items };
 }
 
 pub events-preserved : goal.events-preserved
@@ -27,34 +34,44 @@ events-preserved g c =
     let said = c.in_ok-done.ensures in
     let known = known_so_far IsEvent es i c.event-item.result c.events-test.true c.event-item.is inv.known c.known.ensures in
     let less : i < 10000 = omega (arith, c.events-test.true, c.requires.few) in
+    let many : length (take i es) ≡ i = so_many i es (omega (arith, c.events-test.true)) in
+    let so_far : length (take i es) + length (take i es) < 20000 = omega (arith, many, less) in
+    let rs = c.events.reports.items in
     record {
       tied = said.tied;
       few = omega (arith, said.grows, inv.few);
       known = known;
       tells = λ t. said.tells (inv.tells t);
-      alike = λ setup is tells steady play.
-          let far = inv.alike setup is tells steady play in
-          let w : World = world_after setup answers (take i es) new_world in
-          let before = c.worlds_hold.ensures.before setup (take i es) is inv.known (omega (arith, so_many i es (omega (arith, c.events-test.true)), less)) in
-          let so_far : length (take i es) < 10000 = omega (arith, so_many i es (omega (arith, c.events-test.true)), less) in
-          let countable = (λ (k : ℕ).
-          let e : Event = bringing k c.event-item.result in
-          countable_then _ setup answers (take i es) e
-          (c.worlds_hold.ensures.each setup (take i es ++ e ∷ []) is
-          (all_so_far IsEvent (take i es) e inv.known (brought_known k c.event-item.result c.known.ensures)) (one_longer (take i es) e 10000 so_far))) in
-          one_event_more setup answers engine es i c.event-item.result c.events.player c.happen.new.self _ _ c.events.reports.items _ c.in_ok-done.done c.new.result
-          c.events-test.true c.event-item.is (said.alike setup engine w (inv.tells tells) steady far.play before countable)
+      count = ap length c.in_ok-push.ensures.items ∙ length-append rs _ ∙ omega (arith, inv.count);
+      steady = λ s. subst (AllByRecursion (λ (r : EventReport). r.lost ≡ false)) (sym c.in_ok-push.ensures.items) (all_so_far (λ (r : EventReport). r.lost ≡ false) rs _ (inv.steady s) (said.steady s));
+      alike = λ setup is tells play.
+          let far = inv.alike setup is tells play in
+          let w : World = world_with setup answers (marked (take i es) rs) new_world in
+          let before : PromisesAll g.row.E.Denot answers setup w = of_play (PromisesAll g.row.E.Denot answers setup) 20000 setup answers (take i es) rs so_far inv.known (λ fs all few. c.worlds_hold.ensures.before setup fs is all few) in
+          let countable : (k : ℕ) → OfEachConnection IsCountable (happens setup answers (bringing k c.event-item.result) w).1 = (λ k.
+          countable_then g.row.E.Denot setup answers (happens setup answers (bringing k c.event-item.result) w).1
+          (of_play_then (OfEachConnection (Promises g.row.E.Denot answers setup.packet_size)) 20000 setup answers (take i es) rs (bringing k c.event-item.result) so_far inv.known
+          (brought_known k c.event-item.result c.known.ensures) (λ fs all few. c.worlds_hold.ensures.each setup fs is all few))) in
+          one_event_more setup answers engine es i c.event-item.result c.events.player c.happen.new.self _ _ rs _ c.in_ok-done.done c.new.result
+          c.events-test.true c.event-item.is inv.count (said.alike setup engine w (inv.tells tells) far.play before countable)
           (c.new.ensures ∙ c.in_ok-snapshots.ensures) c.in_ok-push.ensures.items far;
     }
 
+pub returns-clause-steady : goal.returns-clause-steady
+returns-clause-steady g c = λ steady. subst (AllByRecursion (λ (r : EventReport). r.lost ≡ false)) (sym c.new-2.ensures) (c.events.invariant.steady steady)
+
 pub returns-clause-alike : goal.returns-clause-alike
-returns-clause-alike g c = λ setup is tells steady play.
+returns-clause-alike g c = λ setup is tells play.
     let i : ℕ = c.events.event-index in
     let es = c.args.events.now in
+    let rs = c.events.reports.items in
     let engine = c.args.player.engine in
     let answers : Answers = answer_of (g.E.Engine.statements_of engine) (g.E.Engine.step_of engine) in
-    let far = c.events.invariant.alike setup is tells steady play in
-    let w : World = world_after setup answers (take i es) new_world in
-    in_the_end setup answers engine es i c.events.player _ c.events.reports.items c.new-2.result c.new-3.result
-    is c.events.invariant.known c.events.invariant.tied (omega (arith, c.events-test.false)) far c.new-2.ensures
-    (c.new-3.ensures ∙ c.in_ok-into_requests.ensures setup engine _ w far.play (c.worlds_hold.ensures.order setup (take i es)))
+    let far = c.events.invariant.alike setup is tells play in
+    let w : World = world_with setup answers (marked (take i es) rs) new_world in
+    let order : RequestsInOrder w = subst RequestsInOrder (sym (world_is setup answers (marked (take i es) rs) new_world)) (c.worlds_hold.ensures.order setup (with_cuts setup answers (marked (take i es) rs) new_world)) in
+    let nothing = c.nothing_lost.ensures in
+    in_the_end setup answers engine es i c.events.player _ rs c.new-2.result c.new-3.result
+    is c.events.invariant.known c.events.invariant.tied (omega (arith, c.events-test.false)) c.events.invariant.count c.events.auto.event-index-end far c.new-2.ensures
+    (c.new-3.ensures ∙ c.in_ok-into_requests.ensures setup engine _ w far.play order)
+    (λ ps. nothing.world setup answers ps new_world) (nothing.report setup answers)

@@ -1,4 +1,4 @@
-use Rattle.std.proofs.Common.{◌≤◌, length, take}
+use Rattle.std.proofs.Common.{◌≡◌, ◌≤◌, length, take, false}
 use Rattle.std.specs.List.{AllByRecursion}
 use Rattle.tds_session.specs.Answer.{answer_of}
 use Rattle.tds_world.specs.Bounds.{IsEvent, IsSetup}
@@ -18,7 +18,9 @@ invariant-events g l =
       few : length l.player.links.items ≤ l.event-index;
       known : AllByRecursion IsEvent (take l.event-index l.events);
       tells : g.C.Carrier.tells l.fn.carrier → g.C.Carrier.tells l.carrier;
-      alike : (setup : Setup) → IsSetup setup → g.C.Carrier.tells l.fn.carrier → g.C.Carrier.steady
+      count : length l.reports.items ≡ l.event-index;
+      steady : g.C.Carrier.steady → AllByRecursion (λ r. r.lost ≡ false) l.reports.items;
+      alike : (setup : Setup) → IsSetup setup → g.C.Carrier.tells l.fn.carrier
           → IsPlay setup engine l.fn.player (pipes l.fn.carrier) new_world
           → IsSoFar setup (answer_of (g.E.Engine.statements_of engine) (g.E.Engine.step_of engine)) engine (take l.event-index l.events) l.player (pipes l.carrier) l.reports.items;
     }

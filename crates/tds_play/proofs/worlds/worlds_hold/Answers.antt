@@ -19,7 +19,7 @@ returns-clause-each g c setup events u x few =
     (c.act_on_newest.ensures setup answers lawful events)
     (c.few_to_clients.ensures setup answers lawful c.engine_stays_in_range.ensures events)
 
-no_more : (n : ℕ) → n < 10000 → n ≤ 10000
+no_more : (n : ℕ) → n < 20000 → n ≤ 20000
 no_more n h = omega (arith, h)
 
 pub returns-clause-before : goal.returns-clause-before

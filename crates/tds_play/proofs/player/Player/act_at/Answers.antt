@@ -4,16 +4,18 @@ use Rattle.std.specs.Vec.{with_item}
 use Rattle.tds_session.specs.Answer.{Answers, answer_of}
 use Rattle.tds_play.specs.declared.link.Link.{Link}
 use Rattle.tds_play.specs.declared.player.Player.{Player}
-use Rattle.tds_play.specs.Plays.{AreNext, ArePlayed, acts_on, after, held_by}
+use Rattle.tds_play.specs.Plays.{AreNext, acts_on, held_by, loss_of}
 use Rattle.tds_ends.specs.Promises.{Promises}
-use Rattle.tds_world.specs.World.{put}
+use Rattle.tds_world.specs.Losses.{met}
+use Rattle.tds_play.specs.Ties.{AreTied}
 use Rattle.tds_play.proofs.AllPlayed.{as_many}
-use Rattle.tds_play.proofs.PlayerActs.{acts_alike, met_whole, refused_alike, noted_alike, never_refused, all_at}
+use Rattle.tds_play.proofs.Listed.{changed}
+use Rattle.tds_play.proofs.PlayerActs.{ActsAlike, acts_alike, all_at, lost_there, noted_alike, refused_alike}
 use Rattle.tds_play.proofs.player.Player.act_at.Goals.{in-Refused, in_default}
 use Rattle.tds_play.proofs.player.Player.act_at.Goals as goal
 
 pub returns-in_ok-note-clause-alike : goal.returns-in_ok-note-clause-alike
-returns-in_ok-note-clause-alike g c = λ setup engine w c' tells steady is promised there ready countable.
+returns-in_ok-note-clause-alike g c = λ setup engine w c' tells is promised found countable.
     let answers : Answers = answer_of (g.E.Engine.statements_of engine) (g.E.Engine.step_of engine) in
     let pipes = g.C.Carrier.pipes in
     let leases : length c.args.self.now.leases ≡ length w.leases = ap length is.leases ∙ length-map w.leases held_by in
@@ -25,16 +27,18 @@ returns-in_ok-note-clause-alike g c = λ setup engine w c' tells steady is promi
       ticket = c.next-2.ensures ∙ omega (arith, tickets, promised.small.tickets);
       request = c.next_number.ensures.few (omega (arith, count, promised.small.asked)) ∙ ap suc count;
     } in
-    let promise : Promises g.row.E.Denot answers setup.packet_size c' = all_at (Promises g.row.E.Denot answers setup.packet_size) w.connections c.args.place c' promised.each there in
-    let acted = acts_alike setup engine answers w c.args.event.now c.args.place c' c.args.self.now (pipes c.args.carrier.now) (pipes c.act.new.carrier) c.index_mut.result.now c.act.new.self c.in_ok-done.done
-    is c.index_mut.ensures.value c.requires.there c.in_ok-done.ensures.ties.others there countable ready
-    (λ played counts is_ready. met_whole c.index_mut.result.now.number setup.packet_size engine c.in_ok-done.done c.act.new.self (pipes c.act.new.carrier c.index_mut.result.now.number) (λ e. acts_on setup answers w e c.index_mut.result.now.number c') c.args.event.now c'
-    (c.in_ok-done.ensures.steady steady) (c.in_ok-done.ensures.alike setup w c' engine tells played promise counts next is_ready)) in
+    let promise : Promises g.row.E.Denot answers setup.packet_size c' = all_at (Promises g.row.E.Denot answers setup.packet_size) w.connections c.args.place c' promised.each found.there in
+    let acts = acts_alike setup engine answers w c.args.event.now c.args.place c' c.args.self.now (pipes c.args.carrier.now) (pipes c.act.new.carrier) c.index_mut.result.now c.act.new.self c.in_ok-done.done
+    is c.index_mut.ensures.value c.requires.there c.in_ok-done.ensures.ties.others found countable
+    (λ played counts is_ready. c.in_ok-done.ensures.alike setup w c' engine tells played promise counts next is_ready) in
+    let link = lost_there setup engine answers w c.args.event.now c.args.place c' c.args.self.now (pipes c.args.carrier.now) c.index_mut.result.now c.in_ok-done.done.lost
+    is c.index_mut.ensures.value found c.in_ok-done.ensures.loses in
     let links : c.note.new.self.links.items ≡ set c.args.self.now.links.items c.args.place c.act.new.self = ap (λ (p : Player g.row.E.Denot g.row.E-Stmt.Denot). p.links.items) c.in_ok-note.ensures.rest ∙ refl in
-    noted_alike setup engine w c.args.event.now c.args.place c.next_number-then-not-matches.result c' (acts_on setup answers w c.args.event.now (suc c.args.place) c')
-    c.args.self.now c.note.new.self (pipes c.args.carrier.now) (pipes c.act.new.carrier) c.in_ok-done.done is
-    (c.next_number-then-not-matches.ensures.few (omega (arith, c.requires.there, as_many 1 setup.packet_size engine c.args.self.now.links.items (pipes c.args.carrier.now) w.connections is.connections, promised.small.connections))) acted.same
-    (subst (λ (ls : List (Link g.row.E.Denot g.row.E-Stmt.Denot)). ArePlayed 1 setup.packet_size engine ls (pipes c.act.new.carrier) (put c.args.place (after (acts_on setup answers w c.args.event.now (suc c.args.place) c') c') w.connections)) (sym links) acted.all)
+    noted_alike setup engine answers w c.args.event.now c.args.place c.next_number-then-not-matches.result c'
+    c.args.self.now c.note.new.self (pipes c.args.carrier.now) (pipes c.act.new.carrier) c.in_ok-done.done is found
+    (c.next_number-then-not-matches.ensures.few (omega (arith, c.requires.there, as_many 1 setup.packet_size engine c.args.self.now.links.items (pipes c.args.carrier.now) w.connections is.connections, promised.small.connections)))
+    link
+    (subst (λ (ls : List (Link g.row.E.Denot g.row.E-Stmt.Denot)). ActsAlike setup.packet_size engine c.args.place c' w.connections (acts_on setup answers w (met (loss_of c.in_ok-done.done) c.args.event.now) (suc c.args.place) c') c.in_ok-done.done ls (pipes c.act.new.carrier)) (sym links) acts)
     (ap (λ (p : Player g.row.E.Denot g.row.E-Stmt.Denot). p.engine) c.in_ok-note.ensures.rest)
     (ap (λ (p : Player g.row.E.Denot g.row.E-Stmt.Denot). p.max) c.in_ok-note.ensures.rest)
     (ap (λ (p : Player g.row.E.Denot g.row.E-Stmt.Denot). p.size) c.in_ok-note.ensures.rest)
@@ -45,7 +49,7 @@ returns-in_ok-note-clause-alike g c = λ setup engine w c' tells steady is promi
     ])
 
 pub returns-else-not-matches-clause-alike : goal.returns-else-not-matches-clause-alike
-returns-else-not-matches-clause-alike g c = λ setup engine w c' tells steady is promised there ready countable.
+returns-else-not-matches-clause-alike g c = λ setup engine w c' tells is promised found countable.
     let answers : Answers = answer_of (g.E.Engine.statements_of engine) (g.E.Engine.step_of engine) in
     let pipes = g.C.Carrier.pipes in
     let leases : length c.args.self.now.leases ≡ length w.leases = ap length is.leases ∙ length-map w.leases held_by in
@@ -57,14 +61,28 @@ returns-else-not-matches-clause-alike g c = λ setup engine w c' tells steady is
       ticket = c.next-2.ensures ∙ omega (arith, tickets, promised.small.tickets);
       request = c.next_number.ensures.few (omega (arith, count, promised.small.asked)) ∙ ap suc count;
     } in
-    let promise : Promises g.row.E.Denot answers setup.packet_size c' = all_at (Promises g.row.E.Denot answers setup.packet_size) w.connections c.args.place c' promised.each there in
-    let acted = acts_alike setup engine answers w c.args.event.now c.args.place c' c.args.self.now (pipes c.args.carrier.now) (pipes c.act.new.carrier) c.index_mut.result.now c.act.new.self c.in_ok-done.done
-    is c.index_mut.ensures.value c.requires.there c.in_ok-done.ensures.ties.others there countable ready
-    (λ played counts is_ready. met_whole c.index_mut.result.now.number setup.packet_size engine c.in_ok-done.done c.act.new.self (pipes c.act.new.carrier c.index_mut.result.now.number) (λ e. acts_on setup answers w e c.index_mut.result.now.number c') c.args.event.now c'
-    (c.in_ok-done.ensures.steady steady) (c.in_ok-done.ensures.alike setup w c' engine tells played promise counts next is_ready)) in
+    let promise : Promises g.row.E.Denot answers setup.packet_size c' = all_at (Promises g.row.E.Denot answers setup.packet_size) w.connections c.args.place c' promised.each found.there in
+    let acts = acts_alike setup engine answers w c.args.event.now c.args.place c' c.args.self.now (pipes c.args.carrier.now) (pipes c.act.new.carrier) c.index_mut.result.now c.act.new.self c.in_ok-done.done
+    is c.index_mut.ensures.value c.requires.there c.in_ok-done.ensures.ties.others found countable
+    (λ played counts is_ready. c.in_ok-done.ensures.alike setup w c' engine tells played promise counts next is_ready) in
+    let link = lost_there setup engine answers w c.args.event.now c.args.place c' c.args.self.now (pipes c.args.carrier.now) c.index_mut.result.now c.in_ok-done.done.lost
+    is c.index_mut.ensures.value found c.in_ok-done.ensures.loses in
     elim c.match-matches.branch [
-      | in-Refused v ↦ refused_alike setup engine w c.args.event.now c.args.place c' (acts_on setup answers w c.args.event.now (suc c.args.place) c')
-          c.args.self.now (record c.args.self.now { links = with_item c.args.self.now.links c.args.place c.act.new.self }) (pipes c.args.carrier.now) (pipes c.act.new.carrier) c.in_ok-done.done v.in-Refused.field-0 is there
-          (never_refused setup answers w c.args.event.now (suc c.args.place) c') acted.same acted.all refl v.in-Refused.is
+      | in-Refused v ↦ refused_alike setup engine answers w c.args.event.now c.args.place c'
+          c.args.self.now (record c.args.self.now { links = with_item c.args.self.now.links c.args.place c.act.new.self }) (pipes c.args.carrier.now) (pipes c.act.new.carrier) c.in_ok-done.done v.in-Refused.field-0
+          is found link acts refl v.in-Refused.is
       | in_default v ↦ absurd (cc)
     ]
+
+pub returns-in_ok-note-clause-tied : goal.returns-in_ok-note-clause-tied
+returns-in_ok-note-clause-tied g c =
+    let said = c.in_ok-done.ensures in
+    subst (λ (ls : List (Link g.row.E.Denot g.row.E-Stmt.Denot)). AreTied ls (g.C.Carrier.pipes c.act.new.carrier)) (sym (ap (λ (p : Player g.row.E.Denot g.row.E-Stmt.Denot). p.links.items) c.in_ok-note.ensures.rest))
+    (changed c.args.self.now.links.items c.args.place c.index_mut.result.now c.act.new.self (g.C.Carrier.pipes c.args.carrier.now) (g.C.Carrier.pipes c.act.new.carrier)
+    c.requires.tied c.requires.there c.index_mut.ensures.value said.number said.ties.tied said.ties.others)
+
+pub returns-else-not-matches-clause-tied : goal.returns-else-not-matches-clause-tied
+returns-else-not-matches-clause-tied g c =
+    let said = c.in_ok-done.ensures in
+    changed c.args.self.now.links.items c.args.place c.index_mut.result.now c.act.new.self (g.C.Carrier.pipes c.args.carrier.now) (g.C.Carrier.pipes c.act.new.carrier)
+    c.requires.tied c.requires.there c.index_mut.ensures.value said.number said.ties.tied said.ties.others

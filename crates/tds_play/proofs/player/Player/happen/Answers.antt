@@ -1,20 +1,19 @@
 use Rattle.std.proofs.Common.{refl, sym, subst, IfOk}
 use Rattle.tds_session.specs.Answer.{Answers, answer_of}
-use Rattle.tds_world.specs.declared.outcome.Outcome.{Outcome}
+use Rattle.tds_world.specs.declared.event.Event.{Event}
 use Rattle.tds_world.specs.Events.{happens}
-use Rattle.tds_world.specs.World.{World}
 use Rattle.tds_play.specs.declared.link.Done.{Done}
-use Rattle.tds_play.specs.declared.pool.Found.TheVariants.{Missing, Here, Opens}
+use Rattle.tds_play.specs.declared.pool.Found.TheVariants.{Missing, Opens}
 use Rattle.tds_play.specs.Player.{HappensAlike}
-use Rattle.tds_play.proofs.Found.{HappensBy, Settles}
-use Rattle.tds_play.proofs.PlayerFinds.{about_one, client_restarts, countable_here, found_alike, missing_alike, server_restarts}
+use Rattle.tds_play.proofs.Found.{HappensBy}
+use Rattle.tds_play.proofs.PlayerFinds.{FoundHere, about_one, client_restarts, found_alike, found_here, missing_alike, server_restarts}
 use Rattle.tds_play.proofs.player.Player.happen.Goals as goal
 
 pub returns-in-RestartServer-clause-tells : goal.returns-in-RestartServer-clause-tells
 returns-in-RestartServer-clause-tells g c = c.cut_all.ensures.tells
 
 pub returns-in-RestartServer-clause-alike : goal.returns-in-RestartServer-clause-alike
-returns-in-RestartServer-clause-alike g c = λ setup engine w tells steady is promised countable.
+returns-in-RestartServer-clause-alike g c = λ setup engine w tells is promised countable.
     server_restarts setup engine (answer_of (g.E.Engine.statements_of engine) (g.E.Engine.step_of engine)) w c.args.event.now c.args.self.now c.cut_all.new.self
     (g.C.Carrier.pipes c.args.carrier.now) (g.C.Carrier.pipes c.cut_all.new.carrier) c.in-RestartServer.is is
     (c.cut_all.ensures.alike setup.packet_size engine w.connections is.connections) c.cut_all.ensures.rest
@@ -23,7 +22,7 @@ pub returns-in-RestartClient-clause-tells : goal.returns-in-RestartClient-clause
 returns-in-RestartClient-clause-tells g c = c.cut_all-in-RestartClient.ensures.tells
 
 pub returns-in-RestartClient-clause-alike : goal.returns-in-RestartClient-clause-alike
-returns-in-RestartClient-clause-alike g c = λ setup engine w tells steady is promised countable.
+returns-in-RestartClient-clause-alike g c = λ setup engine w tells is promised countable.
     client_restarts setup engine (answer_of (g.E.Engine.statements_of engine) (g.E.Engine.step_of engine)) w c.args.event.now c.args.self.now c.cut_all-in-RestartClient.new.self
     (record c.cut_all-in-RestartClient.new.self { leases = c.end_all.new.self; tickets = c.end_all-in-RestartClient.new.self })
     (g.C.Carrier.pipes c.args.carrier.now) (g.C.Carrier.pipes c.cut_all-in-RestartClient.new.carrier) c.in-RestartClient.is is
@@ -31,28 +30,25 @@ returns-in-RestartClient-clause-alike g c = λ setup engine w tells steady is pr
     c.end_all.ensures c.end_all-in-RestartClient.ensures
 
 pub returns-in-Missing-clause-alike : goal.returns-in-Missing-clause-alike
-returns-in-Missing-clause-alike g c = λ setup engine w tells steady is promised countable.
+returns-in-Missing-clause-alike g c = λ setup engine w tells is promised countable.
     let answers : Answers = answer_of (g.E.Engine.statements_of engine) (g.E.Engine.step_of engine) in
-    missing_alike setup engine w c.args.self.now (g.C.Carrier.pipes c.args.carrier.now) c.refused.result c.in-Missing.refusal (happens setup answers c.args.event.now w) is c.refused.ensures
+    missing_alike setup engine answers w c.args.event.now c.args.self.now (g.C.Carrier.pipes c.args.carrier.now) c.refused.result c.in-Missing.refusal is c.refused.ensures
     (found_alike setup engine answers w c.args.event.now c.args.self.now (g.C.Carrier.pipes c.args.carrier.now) (Missing c.in-Missing.refusal) is promised.idle
     (about_one c.args.event.now c.in_default.not-RestartServer c.in_default.not-RestartClient) c.in-Missing.ensures.value)
 
 pub returns-in-Here-clause-alike : goal.returns-in-Here-clause-alike
-returns-in-Here-clause-alike g c = λ setup engine w tells steady is promised countable.
+returns-in-Here-clause-alike g c = λ setup engine w tells is promised countable.
     let answers : Answers = answer_of (g.E.Engine.statements_of engine) (g.E.Engine.step_of engine) in
-    let found : Settles setup answers w c.args.event.now c.in-Here.place (happens setup answers c.args.event.now w) =
-    found_alike setup engine answers w c.args.event.now c.args.self.now (g.C.Carrier.pipes c.args.carrier.now) (Here c.in-Here.place) is promised.idle
+    let found : FoundHere setup answers w c.args.event.now c.in-Here.place =
+    found_here setup engine answers w c.args.event.now c.args.self.now (g.C.Carrier.pipes c.args.carrier.now) c.in-Here.place is promised.idle
     (about_one c.args.event.now c.in_default.not-RestartServer c.in_default.not-RestartClient) c.in-Here.ensures.value in
-    subst (λ (next : Outcome × World). IfOk c.act_at.result (λ (done : Done). HappensAlike setup engine done c.act_at.new.self (g.C.Carrier.pipes c.act_at.new.carrier) next)) (sym found.settles)
-    (c.act_at.ensures.alike setup engine w found.connection tells steady is promised found.there found.ready
-    (λ k. countable_here setup engine answers w c.args.event.now c.args.self.now (g.C.Carrier.pipes c.args.carrier.now) c.in-Here.place k found.connection is promised.idle
-    (about_one c.args.event.now c.in_default.not-RestartServer c.in_default.not-RestartClient) c.in-Here.ensures.value found.there (countable k)))
+    c.act_at.ensures.alike setup engine w found.connection tells is promised found.is countable
 
 pub returns-in-Opens-clause-alike : goal.returns-in-Opens-clause-alike
-returns-in-Opens-clause-alike g c = λ setup engine w tells steady is promised countable.
+returns-in-Opens-clause-alike g c = λ setup engine w tells is promised countable.
     let answers : Answers = answer_of (g.E.Engine.statements_of engine) (g.E.Engine.step_of engine) in
     let found : HappensBy setup answers w c.args.event.now Opens (happens setup answers c.args.event.now w) =
     found_alike setup engine answers w c.args.event.now c.args.self.now (g.C.Carrier.pipes c.args.carrier.now) Opens is promised.idle
     (about_one c.args.event.now c.in_default.not-RestartServer c.in_default.not-RestartClient) c.in-Opens.ensures.value in
-    subst (λ (next : Outcome × World). IfOk c.open.result (λ (done : Done). HappensAlike setup engine done c.open.new.self (g.C.Carrier.pipes c.open.new.carrier) next)) (sym found)
-    (c.open.ensures.alike setup engine w steady is promised.small)
+    subst (λ (e : Event). IfOk c.open.result (λ (done : Done). HappensAlike setup engine answers done c.open.new.self (g.C.Carrier.pipes c.open.new.carrier) e w)) (sym found.0)
+    (c.open.ensures.alike setup engine answers w is promised.small found.1)

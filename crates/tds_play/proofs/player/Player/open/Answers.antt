@@ -2,9 +2,7 @@ use Rattle.std.proofs.Common.{◌≡◌, ◌∙◌, ℕ, suc, length, ap, arith,
 use Rattle.tds_play.specs.Pipe.{AreSame}
 use Rattle.tds_play.specs.Ties.{IsTied}
 use Rattle.std.proofs.lemmas.List.{length-map}
-use Rattle.tds_world.specs.Connection.{new_connection}
-use Rattle.tds_world.specs.declared.report.Place.TheVariants.{Leased}
-use Rattle.tds_play.specs.Plays.{IsPlayed, cut_where, held_by}
+use Rattle.tds_play.specs.Plays.{held_by}
 use Rattle.tds_play.proofs.AllPlayed.{as_many}
 use Rattle.tds_play.proofs.Listed.{opened}
 use Rattle.tds_play.proofs.PlayerOpens.{opens_alike}
@@ -24,15 +22,12 @@ returns-clause-tied g c =
     (subst (λ (n : ℕ). AreSame (pipes c.args.carrier.now) (pipes c.open.new.carrier) n) conn said.ties.others)
 
 pub returns-clause-alike : goal.returns-clause-alike
-returns-clause-alike g c = λ setup engine w steady is small.
-    let whole = c.in_ok-link.ensures.steady steady in
-    let conn = c.next_number-conn.result in
-    let played = subst (λ b. IsPlayed conn c.args.self.now.size c.args.self.now.engine c.in_ok-link.link (g.C.Carrier.pipes c.open.new.carrier conn) (cut_where b (new_connection (Leased c.next-lease.result)))) whole c.in_ok-link.ensures.alike in
+returns-clause-alike g c = λ setup engine answers w is small lends.
     let links : length c.args.self.now.links.items ≡ length w.connections = as_many 1 setup.packet_size engine c.args.self.now.links.items (g.C.Carrier.pipes c.args.carrier.now) w.connections is.connections in
     let leases : length c.args.self.now.leases ≡ length w.leases = ap length is.leases ∙ length-map w.leases held_by in
     let count : c.len.result ≡ length w.connections = omega (arith, c.len.ensures, c.args.self.now.links.ok.0, links) in
-    opens_alike setup engine w c.args.self.now (record c.args.self.now { links = c.push.new.self; leases = c.give.new.self }) (g.C.Carrier.pipes c.args.carrier.now) (g.C.Carrier.pipes c.open.new.carrier) c.in_ok-link.link c.next-lease.result c.next_number-conn.result c.in_ok-link.lost
-    is
+    opens_alike setup engine answers w c.args.self.now (record c.args.self.now { links = c.push.new.self; leases = c.give.new.self }) (g.C.Carrier.pipes c.args.carrier.now) (g.C.Carrier.pipes c.open.new.carrier) c.in_ok-link.link c.next-lease.result c.next_number-conn.result c.in_ok-link.lost
+    is lends
     (c.next-lease.ensures ∙ omega (arith, leases, small.leases))
     (c.next_number-conn.ensures.few (omega (arith, count, small.connections)) ∙ ap suc count)
-    whole played c.in_ok-link.ensures.ties.others c.in_ok-push.ensures.items c.in_ok-give.ensures.ok refl
+    c.in_ok-link.ensures.alike c.in_ok-link.ensures.ties.others c.in_ok-push.ensures.items c.in_ok-give.ensures.ok refl
