@@ -88,7 +88,7 @@ marked_one_more (f ∷ fs) e (s ∷ ss) r same =
 
 few_marked : (es : List Event) (rs : List EventReport) → length (marked es rs) ≤ length es
 few_marked [] rs = omega arith
-few_marked (e ∷ es) [] = omega arith
+few_marked (e ∷ es) [] = omega (arith, few_marked es [])
 few_marked (e ∷ es) (r ∷ rs) = omega (arith, few_marked es rs)
 
 one_taken : (es : List Event) (i : ℕ) (e : Event) → i < length es → e ≡ slice_index_or es i e → take (i + 1) es ≡ take i es ++ e ∷ []
@@ -140,7 +140,7 @@ all_joined P (x ∷ xs) ys h k = (h.0, all_joined P xs ys h.1 k)
 plain_known : (setup : Setup) (answers : Answers) (es : List Event) (rs : List EventReport) (w : World) → AllByRecursion IsEvent es
     → AllByRecursion IsEvent (with_cuts setup answers (marked es rs) w)
 plain_known setup answers [] rs w known = tt
-plain_known setup answers (e ∷ es) [] w known = tt
+plain_known setup answers (e ∷ es) [] w known = (known.0, plain_known setup answers es [] (happens setup answers e w).1 known.1)
 plain_known setup answers (e ∷ es) (r ∷ rs) w known =
     let p : Played = record { event = e; loss = loss_in r } in
     all_joined IsEvent (plainly setup w p) (with_cuts setup answers (marked es rs) (world_then setup answers w p))
