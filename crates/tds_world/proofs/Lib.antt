@@ -5,3 +5,4 @@ pub mod requests
 pub mod packets
 pub mod script
 pub mod reports
+pub mod rest

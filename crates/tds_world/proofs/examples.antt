@@ -27,3 +27,4 @@ pub mod TheLowestNumberIsLentFirst
 pub mod ARestartedClientHasNoTickets
 pub mod ARestartedServerHasNoTransactions
 pub mod EachTransactionBeginsOnce
+pub mod BroughtToRest

@@ -29,3 +29,4 @@ pub mod Lending
 pub mod Underway
 pub mod Counts
 pub mod Reports
+pub mod Rest

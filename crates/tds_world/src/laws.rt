@@ -4,6 +4,7 @@ ghost use Rattle.std.specs.Prelude.{List, length};
 ghost use Rattle.tds_session.specs.Answer.{Answers, answer_of, script_answers};
 ghost use Rattle.tds_world.specs.Begins.{HandsOutNext};
 ghost use Rattle.tds_world.specs.Bounds.{BeginsOnce, FewUnderway, IsEvent, IsSetup, OneAttention, OwnTransaction};
+ghost use Rattle.tds_world.specs.Connection.{Connection};
 ghost use Rattle.tds_world.specs.Counts.{AreFew};
 ghost use Rattle.tds_world.specs.Deliveries.{DeliversExactly};
 ghost use Rattle.tds_world.specs.Dones.{FinalDoneAtEnd, HaveDones};
@@ -17,6 +18,7 @@ ghost use Rattle.tds_world.specs.Order.{RequestsInOrder};
 ghost use Rattle.tds_world.specs.Messages.{MessagesAreWhole};
 ghost use Rattle.tds_world.specs.Packets.{PacketsFit};
 ghost use Rattle.tds_world.specs.Requests.{RequestsAreSpelled};
+ghost use Rattle.tds_world.specs.Rest.{AreThere, NeverStuck};
 ghost use Rattle.tds_world.specs.Sessions.{AllInRange, StayInRange};
 ghost use Rattle.tds_world.specs.Steps.{AnswersEndOnce, MessagesEndOnce, StepsAreOfAnswers};
 ghost use Rattle.tds_world.specs.Underway.{FewToClients};
@@ -198,4 +200,18 @@ pub fn changes_are_heard()
 /// A connection that is lent again is idle.
 pub fn lends_idle()
     ensures { (setup : Setup) (answers : Answers) → Lawful answers → Always setup answers (LendsIdle setup) }
+{}
+
+/// No connection that is whole is ever stuck. Its lease cancels, if a lease has it, and all that is
+/// underway arrives, first at the server and then at the client: it is at rest. Without a cancel it
+/// comes to rest too: what is left is sent and arrives, the server works off what is due, and that
+/// arrives. Then its newest request is finished, or acknowledged if it was cancelled before.
+pub fn never_stuck()
+    ensures { (setup : Setup) (answers : Answers) → Lawful answers → Always setup answers (NeverStuck setup answers) }
+{}
+
+/// There are bytes enough for a connection to come to rest by a cancel, and packets, bytes and steps
+/// enough for it to come to rest without one, for a setup that a play takes.
+pub fn enough_there()
+    ensures { (setup : Setup) (answers : Answers) (c : Connection) → IsSetup setup → AreThere setup answers c }
 {}

@@ -1,0 +1,8 @@
+-- Each connection that isn't cut comes to rest.
+pub mod Arriving
+pub mod Sending
+pub mod Stopping
+pub mod Holders
+pub mod Becomes
+pub mod NeverStuck
+pub mod Enough
