@@ -6,3 +6,6 @@ pub mod Holders
 pub mod Becomes
 pub mod NeverStuck
 pub mod Enough
+pub mod Older
+pub mod StopCounts
+pub mod FinishCounts

@@ -30,3 +30,4 @@ pub mod Underway
 pub mod Counts
 pub mod Reports
 pub mod Rest
+pub mod RestShown

@@ -5,6 +5,7 @@ use Rattle.tds_session.specs.Answer.{Answers}
 use Rattle.tds_world.specs.declared.event.Event.{Event}
 use Rattle.tds_world.specs.declared.event.Event.TheVariants as event
 use Rattle.tds_world.specs.declared.event.Setup.{Setup}
+use Rattle.tds_world.specs.declared.report.Place.{Place}
 use Rattle.tds_world.specs.declared.report.Place.TheVariants as place
 use Rattle.tds_world.specs.Arrivals.{to_server, works}
 use Rattle.tds_world.specs.Caller.{cancels}
@@ -17,11 +18,14 @@ use Rattle.tds_world.specs.Record.{Record, Fate, Finished, Acknowledged, is_canc
 use Rattle.tds_world.specs.World.{World, Here, numbered, by_number}
 
 -- Where a connection stands that came to rest: one that was draining is free.
+abbrev pub rested_at : Place → Place
+rested_at place.Draining = place.Free
+rested_at place.Free = place.Free
+rested_at (place.Leased lease) = place.Leased lease
+rested_at (place.Kept ticket) = place.Kept ticket
+
 abbrev pub rested : Standing → Standing
-rested (In place.Draining) = In place.Free
-rested (In place.Free) = In place.Free
-rested (In (place.Leased lease)) = In (place.Leased lease)
-rested (In (place.Kept ticket)) = In (place.Kept ticket)
+rested (In p) = In (rested_at p)
 rested Cut = Cut
 
 -- From c a connection came to rest: nobody waits on it, it is quiet, and it stands where it stood, or

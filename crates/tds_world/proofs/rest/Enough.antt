@@ -24,7 +24,7 @@ grows_by (suc n) room h =
     let less : n ≤ n * room = grows_by n room h in
     subst (λ x. suc n ≤ x) (sym (suc-mul n room)) (let z : suc n ≤ n * room + room = omega arith in z)
 
-abbrev packets_for : Option Record → ℕ
+abbrev pub packets_for : Option Record → ℕ
 packets_for None = 1
 packets_for (Some q) = suc (length q.left)
 
@@ -33,7 +33,7 @@ holds room q h =
     let all : suc (length q.left) ≤ suc (length q.left) * room = grows_by (suc (length q.left)) room h in
     record { some = omega arith; all = (let z : length q.left ≤ suc (length q.left) * room = omega arith in z) }
 
-holds_in : (room : ℕ) (p : Phase) (o : Option Record) → 1 ≤ room → HoldAll room (packets_for o) p o
+pub holds_in : (room : ℕ) (p : Phase) (o : Option Record) → 1 ≤ room → HoldAll room (packets_for o) p o
 holds_in room Settled o h = tt
 holds_in room Asked None h = tt
 holds_in room Sending None h = tt

@@ -63,7 +63,7 @@ settled_there e n w c (Does what d) t =
     ap (λ cs. numbered cs n) (notes_leave e n d.heard (record w { connections = put_numbered n d w.connections }))
     ∙ put_there w.connections n c d t
 
-number_finds : (w : World) (n : ℕ) (c : Connection) → There w n c → is_cut c.standing ≡ false → by_number w n ≡ Here n c
+pub number_finds : (w : World) (n : ℕ) (c : Connection) → There w n c → is_cut c.standing ≡ false → by_number w n ≡ Here n c
 number_finds w n c t s =
     ap (λ o. uncut_in refusal.UnknownConnection n o) t ∙ ap (λ b. cond b (Missing refusal.UnknownConnection) (Here n c)) s
 
@@ -264,7 +264,7 @@ finishes_by setup answers w n packets up steps down c Cut l g t e s f i j m = le
 
 -- ---- Both, after any events
 
-of_there : (P : Connection → Type 0) (w : World) (n : ℕ) (c : Connection) → There w n c → AllByRecursion P w.connections → P c
+pub of_there : (P : Connection → Type 0) (w : World) (n : ℕ) (c : Connection) → There w n c → AllByRecursion P w.connections → P c
 of_there P w n c t h = subst (OfSome P) t (at_number P w.connections n h)
 
 pub never_stuck : (setup : Setup) (answers : Answers) → Lawful answers → Always setup answers (NeverStuck setup answers)

@@ -31,7 +31,7 @@ left_fits room packets Reading (Some x) e h q f s = let same : x ≡ q = cc in l
 left_fits room packets Cancelling (Some x) e h q f s = let same : x ≡ q = cc in let z : is_sending Cancelling ≡ true = sym (ap is_sending (sym (ap phase_of same) ∙ e)) ∙ s in absurd (cc)
 
 -- One that has nothing to send sends nothing.
-sends_not : (p : Phase) (room : ℕ) (o : Option Record) (c : Connection) → is_sending p ≡ false → after_act c (sends_in p room o c) ≡ c
+pub sends_not : (p : Phase) (room : ℕ) (o : Option Record) (c : Connection) → is_sending p ≡ false → after_act c (sends_in p room o c) ≡ c
 sends_not Settled room o c e = refl
 sends_not Asked room o c e = absurd (cc)
 sends_not Sending room o c e = absurd (cc)
