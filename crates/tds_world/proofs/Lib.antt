@@ -6,3 +6,4 @@ pub mod packets
 pub mod script
 pub mod reports
 pub mod rest
+pub mod alone

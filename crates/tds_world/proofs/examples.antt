@@ -28,3 +28,4 @@ pub mod ARestartedClientHasNoTickets
 pub mod ARestartedServerHasNoTransactions
 pub mod EachTransactionBeginsOnce
 pub mod BroughtToRest
+pub mod ToldAlone

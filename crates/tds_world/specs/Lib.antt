@@ -31,3 +31,4 @@ pub mod Counts
 pub mod Reports
 pub mod Rest
 pub mod RestShown
+pub mod Alone

@@ -2,6 +2,7 @@
 //! after any events, whatever their order, and whatever the sizes of the deliveries.
 ghost use Rattle.std.specs.Prelude.{List, length};
 ghost use Rattle.tds_session.specs.Answer.{Answers, answer_of, script_answers};
+ghost use Rattle.tds_world.specs.Alone.{AsIfAlone, BlindToNumbers};
 ghost use Rattle.tds_world.specs.Begins.{HandsOutNext};
 ghost use Rattle.tds_world.specs.Bounds.{BeginsOnce, FewUnderway, IsEvent, IsSetup, OneAttention, OwnTransaction};
 ghost use Rattle.tds_world.specs.Connection.{Connection};
@@ -214,4 +215,16 @@ pub fn never_stuck()
 /// enough for it to come to rest without one, for a setup that a play takes.
 pub fn enough_there()
     ensures { (setup : Setup) (answers : Answers) (c : Connection) → IsSetup setup → AreThere setup answers c }
+{}
+
+/// From alike sessions with descriptors left, a server with the batch language answers alike.
+pub fn script_is_blind()
+    ensures { BlindToNumbers script_answers }
+{}
+
+/// A lease can't tell that it shares its connection: each of its requests that ran did so in a session
+/// alike to that of a server which nobody else ever had, and was told what is told there, as long as
+/// descriptors are left. It holds for answers that are blind to the numbers of transactions.
+pub fn as_if_alone()
+    ensures { (setup : Setup) (answers : Answers) → Lawful answers → BlindToNumbers answers → Always setup answers (AsIfAlone answers) }
 {}
