@@ -6,3 +6,5 @@ pub mod packets
 pub mod script
 pub mod reports
 pub mod plays
+pub mod rest
+pub mod alone

@@ -30,3 +30,5 @@ pub mod EachTransactionBeginsOnce
 pub mod LinksThatFail
 pub mod PartOfAnAnswerComes
 pub mod LostAtACancel
+pub mod BroughtToRest
+pub mod ToldAlone

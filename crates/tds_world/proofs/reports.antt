@@ -8,3 +8,5 @@ pub mod Leased
 pub mod NoMore
 pub mod Tickets
 pub mod Lends
+pub mod Answered
+pub mod Rest

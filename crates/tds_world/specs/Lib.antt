@@ -32,3 +32,6 @@ pub mod Reports
 pub mod Losses
 pub mod WithLosses
 pub mod PhaseTells
+pub mod Rest
+pub mod RestShown
+pub mod Alone

@@ -2,8 +2,10 @@
 //! after any events, whatever their order, and whatever the sizes of the deliveries.
 ghost use Rattle.std.specs.Prelude.{List, length};
 ghost use Rattle.tds_session.specs.Answer.{Answers, answer_of, script_answers};
+ghost use Rattle.tds_world.specs.Alone.{AsIfAlone, BlindToNumbers};
 ghost use Rattle.tds_world.specs.Begins.{HandsOutNext};
 ghost use Rattle.tds_world.specs.Bounds.{BeginsOnce, FewUnderway, IsEvent, IsSetup, OneAttention, OwnTransaction};
+ghost use Rattle.tds_world.specs.Connection.{Connection};
 ghost use Rattle.tds_world.specs.Counts.{AreFew};
 ghost use Rattle.tds_world.specs.Deliveries.{DeliversExactly};
 ghost use Rattle.tds_world.specs.Dones.{FinalDoneAtEnd, HaveDones};
@@ -20,6 +22,7 @@ ghost use Rattle.tds_world.specs.Phase.{phase_of};
 ghost use Rattle.tds_world.specs.PhaseTells.{PhaseTells};
 ghost use Rattle.tds_world.specs.Record.{Record};
 ghost use Rattle.tds_world.specs.Requests.{RequestsAreSpelled};
+ghost use Rattle.tds_world.specs.Rest.{AreThere, NeverStuck};
 ghost use Rattle.tds_world.specs.Sessions.{AllInRange, StayInRange};
 ghost use Rattle.tds_world.specs.Steps.{AnswersEndOnce, MessagesEndOnce, StepsAreOfAnswers};
 ghost use Rattle.tds_world.specs.Underway.{FewToClients};
@@ -228,4 +231,30 @@ pub fn lends_idle()
 /// The phase of a request says what became of it, and how much of it is out.
 pub fn phases_tell()
     ensures { (q : Record) → PhaseTells (phase_of q) q.fate q.out }
+{}
+
+/// No connection that is whole is ever stuck. Its lease cancels, if a lease has it, and all that is
+/// underway arrives, first at the server and then at the client: it is at rest. Without a cancel it
+/// comes to rest too: what is left is sent and arrives, the server works off what is due, and that
+/// arrives. Then its newest request is finished, or acknowledged if it was cancelled before.
+pub fn never_stuck()
+    ensures { (setup : Setup) (answers : Answers) → Lawful answers → Always setup answers (NeverStuck setup answers) }
+{}
+
+/// There are bytes enough for a connection to come to rest by a cancel, and packets, bytes and steps
+/// enough for it to come to rest without one, for a setup that a play takes.
+pub fn enough_there()
+    ensures { (setup : Setup) (answers : Answers) (c : Connection) → IsSetup setup → AreThere setup answers c }
+{}
+
+/// From alike sessions with descriptors left, a server with the batch language answers alike.
+pub fn script_is_blind()
+    ensures { BlindToNumbers script_answers }
+{}
+
+/// A lease can't tell that it shares its connection: each of its requests that ran did so in a session
+/// alike to that of a server which nobody else ever had, and was told what is told there, as long as
+/// descriptors are left. It holds for answers that are blind to the numbers of transactions.
+pub fn as_if_alone()
+    ensures { (setup : Setup) (answers : Answers) → Lawful answers → BlindToNumbers answers → Always setup answers (AsIfAlone answers) }
 {}

@@ -13,7 +13,7 @@ use Rattle.tds_world.specs.declared.event.Event.{Event}
 use Rattle.tds_world.specs.declared.event.Event.TheVariants as event
 use Rattle.tds_world.specs.declared.event.Setup.{Setup}
 use Rattle.tds_world.specs.declared.report.Place.TheVariants as place
-use Rattle.tds_world.specs.Arrivals.{server_acts, client_acts, reach_server, reach_client, works_on, to_server, drained}
+use Rattle.tds_world.specs.Arrivals.{server_acts, client_acts, reach_server, reach_client, works, works_on, to_server, to_client, drained}
 use Rattle.tds_world.specs.Caller.{asks, cancels_in, cancels_by, cancels, sends_by, sends_last}
 use Rattle.tds_world.specs.Connection.{Connection, new_connection, phase, is_idle, Standing, In, Cut, up_underway, down_underway, cut}
 use Rattle.tds_world.specs.Entries.{Up, up_bytes, Down, down_bytes}
@@ -22,13 +22,13 @@ use Rattle.tds_world.specs.Lane.{passed, with_waiting}
 use Rattle.tds_world.specs.Phase.{Phase, Settled, Asked, Sending, Reading, Cancelling, phase_of, phase_in}
 use Rattle.tds_world.specs.Pool.{gives_back_at, abandons_at, keeps_by, is_full, place_back}
 use Rattle.tds_world.specs.Record.{Record}
-use Rattle.tds_world.specs.World.{World, next_number, put_numbered}
+use Rattle.tds_world.specs.World.{World, new_world, next_number, put_numbered}
 use Rattle.tds_world.proofs.events.Adds.{Adds, notes_add}
 use Rattle.tds_world.proofs.events.Noted.{KeptIn, world_with}
 use Rattle.tds_world.proofs.events.Places.{StandsFor, StandsAt}
 use Rattle.tds_world.proofs.events.Words.{OfActed, by_test}
 use Rattle.tds_world.proofs.events.Worlds.{Any, Kept}
-use Rattle.tds_world.proofs.flow.Fates.{is_sending}
+use Rattle.tds_world.proofs.flow.Fates.{is_sending, is_stopped, cancelled_stops}
 
 -- What is said of a connection on which these entries wait, either way.
 abbrev pub Invariant : Type 1
@@ -90,7 +90,7 @@ event_of (Cuts n) = event.Cut n
 abbrev pub Before : Stand → Connection → Type 0
 Before Lends c = c.standing ≡ In place.Free
 Before (Resumes ticket) c = c.standing ≡ In (place.Kept ticket)
-Before (GivesBack lease) c = Unit {0}
+Before (GivesBack lease) c = is_stopped (phase c) ≡ true
 Before (Keeps lease) c = (is_idle c ≡ true) × ((c.heard == 0 || is_full c.mark) ≡ false)
 Before (Abandons ticket) c = c.standing ≡ In (place.Kept ticket)
 Before (Drains n count) c = Unit {0}
@@ -202,6 +202,21 @@ on_top setup answers E Q P j k = record {
 
 -- ---- Events are made of moves
 
+cancels_stop_by : (p : Phase) (q : Record) (c : Connection) → phase_of q ≡ p → c.current ≡ Some q → is_stopped (phase (cancels_by p q c)) ≡ true
+cancels_stop_by Settled q c e h = ap (λ o. is_stopped (phase_in o)) h ∙ ap is_stopped e
+cancels_stop_by Cancelling q c e h = ap (λ o. is_stopped (phase_in o)) h ∙ ap is_stopped e
+cancels_stop_by Asked q c e h = cancelled_stops q.out
+cancels_stop_by Sending q c e h = cancelled_stops q.out
+cancels_stop_by Reading q c e h = cancelled_stops q.out
+
+cancels_stop_in : (o : Option Record) (c : Connection) → c.current ≡ o → is_stopped (phase (cancels_in o c)) ≡ true
+cancels_stop_in None c e = ap (λ o. is_stopped (phase_in o)) e
+cancels_stop_in (Some q) c e = cancels_stop_by (phase_of q) q c refl e
+
+-- A cancel stops.
+pub cancels_stop : (c : Connection) → is_stopped (phase (cancels c)) ≡ true
+cancels_stop c = cancels_stop_in c.current c refl
+
 come : {Entry : Type 0} (bytes : Entry → List ℕ) (e : Entry) (es : List Entry) (k : ℕ) → ltb k (length (bytes e)) ≡ true → k ≤ length (flat_map bytes (e ∷ es))
 come bytes e es k t =
     let less : k ≤ length (bytes e) = grind (arith, nat_tests) in
@@ -222,25 +237,25 @@ asks_none (Cuts i) n heard w = refl
 
 -- What a move of one connection keeps, where it keeps too when the world notes something but a new request.
 module _ (setup : Setup) (answers : Answers) (E : ℕ → Event → Type 0) (P : World → Invariant) (noted : (w v : World) (c : Connection) (ups : List Up) (downs : List Down) → v.asked_on ≡ w.asked_on → Adds w v → P w c ups downs → P v c ups downs) (k : MovesOver setup answers E FreeIn P) where
-  reaches_server : (w : World) (c : Connection) (es : List Up) (n : ℕ) → P w c es c.to_client.waiting → Of (P w) (reach_server answers c es n)
+  pub reaches_server : (w : World) (c : Connection) (es : List Up) (n : ℕ) → P w c es c.to_client.waiting → Of (P w) (reach_server answers c es n)
   reaches_server w c [] n h = k.server_waits w c [] 0 none_come h
   reaches_server w c (e ∷ es) n h =
       let d : Connection = server_acts answers (record c { to_server = passed e c.to_server }) e in
       by_test (Of (P w)) (ltb n (length (up_bytes e))) (record c { to_server = with_waiting (e ∷ es) n c.to_server }) (reach_server answers d es (n - length (up_bytes e)))
       (λ t. k.server_waits w c (e ∷ es) n (come up_bytes e es n t) h) (λ t. reaches_server w d es (n - length (up_bytes e)) (k.at_server w c e es tt h))
 
-  reaches_client : (w : World) (c : Connection) (es : List Down) (n : ℕ) → P w c c.to_server.waiting es → Of (P w) (reach_client c es n)
+  pub reaches_client : (w : World) (c : Connection) (es : List Down) (n : ℕ) → P w c c.to_server.waiting es → Of (P w) (reach_client c es n)
   reaches_client w c [] n h = k.client_waits w c [] 0 none_come h
   reaches_client w c (e ∷ es) n h =
       let d : Connection = client_acts (record c { to_client = passed e c.to_client }) e in
       by_test (Of (P w)) (ltb n (length (down_bytes e))) (record c { to_client = with_waiting (e ∷ es) n c.to_client }) (reach_client d es (n - length (down_bytes e)))
       (λ t. k.client_waits w c (e ∷ es) n (come down_bytes e es n t) h) (λ t. reaches_client w d es (n - length (down_bytes e)) (k.at_client w c e es tt h))
 
-  works_in : (w : World) (c : Connection) (due : List answer.Step) → c.due ≡ due → Of (P w) c → Of (P w) (works_on c due)
+  pub works_in : (w : World) (c : Connection) (due : List answer.Step) → c.due ≡ due → Of (P w) c → Of (P w) (works_on c due)
   works_in w c [] is h = h
   works_in w c (s ∷ ss) is h = k.worked w c s ss is tt h
 
-  cancels_now : (w : World) (current : Option Record) (c : Connection) → c.current ≡ current → Of (P w) c → Of (P w) (cancels_in current c)
+  pub cancels_now : (w : World) (current : Option Record) (c : Connection) → c.current ≡ current → Of (P w) c → Of (P w) (cancels_in current c)
   cancels_now w None c is h = h
   cancels_now w (Some q) c is h = k.cancelled w (phase_of q) q c is refl tt h
 
@@ -255,7 +270,7 @@ module _ (setup : Setup) (answers : Answers) (E : ℕ → Event → Type 0) (P :
       (noted w (restood_in w r n c) c c.to_server.waiting c.to_client.waiting (asks_none r n c.heard (record w { connections = cs })) (notes_add (event_of r) n c.heard w cs) h)
 
   back : (w : World) (l n : ℕ) (s : Standing) (c : Connection) → Of (P w) c → OfActed (λ d. Of (P (world_with (event.GiveBack l) n w d)) d) (gives_back_at s c)
-  back w l n (In p) c h = stands_now w (GivesBack l) n (cancels c) tt (cancels_now w c.current c refl h)
+  back w l n (In p) c h = stands_now w (GivesBack l) n (cancels c) (cancels_stop c) (cancels_now w c.current c refl h)
   back w l n Cut c h = notes_now w (event.GiveBack l) n c refl h
 
   abandoned : (w : World) (t n : ℕ) (s : Standing) (c : Connection) → c.standing ≡ s → StandsAt (place.Kept t) c.standing → Of (P w) c → OfActed (λ d. Of (P (world_with (event.Abandon t) n w d)) d) (abandons_at s c)
@@ -327,3 +342,21 @@ by_moves_of setup answers E P k = record {
 
 pub by_moves : (setup : Setup) (answers : Answers) (P : Invariant) → KeptByMoves setup answers P → Kept setup answers Any (Of P)
 by_moves setup answers P k = by_moves_of setup answers Any P k
+
+-- ---- What every move keeps, each act of a connection keeps
+
+pub to_server_keeps : (setup : Setup) (answers : Answers) (P : Invariant) → KeptByMoves setup answers P → (n : ℕ) (c : Connection) → Of P c → Of P (to_server answers n c)
+to_server_keeps setup answers P k n c h =
+    reaches_server setup answers (λ i. Any) (λ v. P) (λ v u d i j l m g. g) (unnoted setup answers Any Free P k).moves new_world c c.to_server.waiting (c.to_server.part + min n (up_underway c)) h
+
+pub to_client_keeps : (setup : Setup) (answers : Answers) (P : Invariant) → KeptByMoves setup answers P → (n : ℕ) (c : Connection) → Of P c → Of P (to_client n c)
+to_client_keeps setup answers P k n c h =
+    let d : Connection = reach_client c c.to_client.waiting (c.to_client.part + min n (down_underway c)) in
+    k.stands d d.mark (drained (is_idle d) d.standing)
+    (reaches_client setup answers (λ i. Any) (λ v. P) (λ v u d i j l m g. g) (unnoted setup answers Any Free P k).moves new_world c c.to_client.waiting (c.to_client.part + min n (down_underway c)) h)
+
+pub works_keeps : (setup : Setup) (answers : Answers) (P : Invariant) → KeptByMoves setup answers P → (c : Connection) → Of P c → Of P (works c)
+works_keeps setup answers P k c h = works_in setup answers (λ i. Any) (λ v. P) (λ v u d i j l m g. g) (unnoted setup answers Any Free P k).moves new_world c c.due refl h
+
+pub cancels_keeps : (setup : Setup) (answers : Answers) (P : Invariant) → KeptByMoves setup answers P → (c : Connection) → Of P c → Of P (cancels c)
+cancels_keeps setup answers P k c h = cancels_now setup answers (λ i. Any) (λ v. P) (λ v u d i j l m g. g) (unnoted setup answers Any Free P k).moves new_world c.current c refl h

@@ -122,7 +122,7 @@ asked_then : (b : Bool) (number lease n : ℕ) (q : Request) (c : Connection) �
 asked_then true number lease n q c = same_still c.standing c.standing refl
 asked_then false number lease n q c = tt
 
-sends_stand : (b : Bool) (room : ℕ) (q : Record) (c : Connection) → (sends_by b room q c).standing ≡ c.standing
+pub sends_stand : (b : Bool) (room : ℕ) (q : Record) (c : Connection) → (sends_by b room q c).standing ≡ c.standing
 sends_stand true room q c = refl
 sends_stand false room q c = refl
 

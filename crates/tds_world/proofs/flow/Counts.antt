@@ -124,7 +124,7 @@ no_downs : (es : List Down) → es ≡ [] → acknowledgement_count es ≡ 0
 no_downs es e = ap acknowledgement_count e
 
 -- At most one of both waits.
-at_most_one : (p : Phase) (r a : ℕ) (ups : List Up) (downs : List Down) (parts : List ℕ) (due : List answer.Step) → FlowIn p r a ups downs parts due → attention_count ups + acknowledgement_count downs ≤ 1
+pub at_most_one : (p : Phase) (r a : ℕ) (ups : List Up) (downs : List Down) (parts : List ℕ) (due : List answer.Step) → FlowIn p r a ups downs parts due → attention_count ups + acknowledgement_count downs ≤ 1
 at_most_one Settled r a ups downs parts due f = rw (none_wait ups f.0, no_downs downs f.1) (omega arith)
 at_most_one Asked r a ups downs parts due f = rw (none_wait ups f.0, no_downs downs f.1) (omega arith)
 at_most_one Sending r a ups downs parts due f = rw (parts_alone r ups f.0, no_downs downs f.1) (omega arith)

@@ -12,6 +12,27 @@ is_sending Sending = true
 is_sending Reading = false
 is_sending Cancelling = false
 
+-- Nothing more of a request will be sent, and its answer is not waited for.
+abbrev pub is_stopped : Phase → Bool
+is_stopped Settled = true
+is_stopped Asked = false
+is_stopped Sending = false
+is_stopped Reading = false
+is_stopped Cancelling = true
+
+pub cancelled_stops : (out : Out) → is_stopped (phase_by Cancelled out) ≡ true
+cancelled_stops NotBegun = refl
+cancelled_stops (Begun n) = refl
+cancelled_stops (Whole n) = refl
+
+-- A step leaves a request stopped.
+pub step_stops : (fate : Fate) (last : Bool) (out : Out) → is_settled (phase_by fate out) ≡ false → is_stopped (phase_by fate out) ≡ true → is_stopped (phase_by (stepped last fate) out) ≡ true
+step_stops Open true out b e = refl
+step_stops Open false out b e = e
+step_stops Finished last out b e = absurd (cc)
+step_stops Cancelled last out b e = e
+step_stops Acknowledged last out b e = absurd (cc)
+
 -- Nothing makes a request that is all out send again.
 pub step_leaves : (fate : Fate) (last : Bool) (out : Out) → is_settled (phase_by fate out) ≡ false → is_sending (phase_by fate out) ≡ false → is_sending (phase_by (stepped last fate) out) ≡ false
 step_leaves Open true out b e = refl

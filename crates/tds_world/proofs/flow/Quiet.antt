@@ -15,7 +15,7 @@ use Rattle.tds_world.proofs.flow.Sound.{sound_kept}
 nothing : {Entry : Type 0} (bytes : Entry → List ℕ) (entries : List Entry) (k : ℕ) → entries ≡ [] → length (flat_map bytes entries) - k ≡ 0
 nothing bytes entries k e = rw e (omega arith)
 
-sound_is_quiet : (c : Connection) → Sound c → QuietIfIdle c
+pub sound_is_quiet : (c : Connection) → Sound c → QuietIfIdle c
 sound_is_quiet c f e =
     let q : Quiet c.to_server.waiting c.to_client.waiting c.parts c.due =
     subst (λ p. FlowIn p (number_in c.current) c.answering c.to_server.waiting c.to_client.waiting c.parts c.due) e f.0 in

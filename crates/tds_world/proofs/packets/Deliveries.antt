@@ -211,7 +211,7 @@ cancels_within Sending q c w = (append_within up_bytes _ (append _ c.to_server) 
 cancels_within Reading q c w = (append_within up_bytes _ c.to_server w.0, w.1)
 cancels_within Cancelling q c w = w
 
-sends_within : (b : Bool) (room : ℕ) (q : Record) (c : Connection) → LanesWithin c → LanesWithin (sends_by b room q c)
+pub sends_within : (b : Bool) (room : ℕ) (q : Record) (c : Connection) → LanesWithin c → LanesWithin (sends_by b room q c)
 sends_within true room q c w = (append_within up_bytes _ c.to_server w.0, w.1)
 sends_within false room q c w = (append_within up_bytes _ c.to_server w.0, w.1)
 
@@ -219,7 +219,7 @@ nothing_within : 0 ≤ 0
 nothing_within = omega arith
 
 -- What waits is less only where a delivery ends, and then no more has come than there is.
-within_moves : (setup : Setup) (answers : Answers) → KeptByMoves setup answers (λ c ups downs. LanesWithin c)
+pub within_moves : (setup : Setup) (answers : Answers) → KeptByMoves setup answers (λ c ups downs. LanesWithin c)
 within_moves setup answers = record {
   opened = λ lease. (nothing_within, nothing_within);
   stands = λ c m s h. h;

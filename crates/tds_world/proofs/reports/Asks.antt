@@ -259,7 +259,7 @@ all_asked setup answers events =
 
 -- ---- What is told of them
 
-found_has : (P : Record → Type 0) (f : Record → Bool) (qs : List Record) (q : Record) → AllByRecursion P qs → find f qs ≡ Some q → P q
+pub found_has : (P : Record → Type 0) (f : Record → Bool) (qs : List Record) (q : Record) → AllByRecursion P qs → find f qs ≡ Some q → P q
 found_has P f [] q h e = absurd (cc)
 found_has P f (p ∷ ps) q h e = by_test (f p) e (found_has P f ps q h.1)
   where

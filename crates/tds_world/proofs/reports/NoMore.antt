@@ -25,7 +25,7 @@ use Rattle.tds_world.proofs.requests.Order.{asked_then, notes_asked, asked_cases
 -- ---- What is asked later comes behind
 
 -- The requests of the one world are the first ones of the other.
-abbrev AsksMore : List ℕ → List ℕ → Type 0
+abbrev pub AsksMore : List ℕ → List ℕ → Type 0
 AsksMore ns ms = (more : List ℕ) × (ms ≡ ns ++ more)
 
 same_asked : (ns : List ℕ) → AsksMore ns ns
@@ -52,7 +52,7 @@ happens_more setup answers e w =
     (same_asked w.asked_on)
     (λ e. found_more setup answers e w (about setup w e)) e
 
-after_more : (setup : Setup) (answers : Answers) (events : List Event) (w : World) → AsksMore w.asked_on (world_after setup answers events w).asked_on
+pub after_more : (setup : Setup) (answers : Answers) (events : List Event) (w : World) → AsksMore w.asked_on (world_after setup answers events w).asked_on
 after_more setup answers [] w = same_asked w.asked_on
 after_more setup answers (e ∷ es) w =
     let m : AsksMore w.asked_on (happens setup answers e w).1.asked_on = happens_more setup answers e w in
@@ -75,18 +75,18 @@ shown_cancelled Open false (Whole n) c = absurd c
 -- ---- The reports
 
 -- The request of this number is reported alone in a later world.
-abbrev StillReported : World → ℕ → ℕ → Record → Type 0
+abbrev pub StillReported : World → ℕ → ℕ → Record → Type 0
 StillReported v n k q = (p : Record) × IsReported (λ c r. Unit {0}) k (numbered v.connections n) p × Later q p
 
 each_any : (qs : List Record) → AllByRecursion (λ (q : Record). Unit {0}) qs
 each_any [] = tt
 each_any (q ∷ qs) = (tt, each_any qs)
 
-all_any : (cs : List Connection) → AllByRecursion (λ c. AllByRecursion (λ (q : Record). Unit {0}) (records c)) cs
+pub all_any : (cs : List Connection) → AllByRecursion (λ c. AllByRecursion (λ (q : Record). Unit {0}) (records c)) cs
 all_any [] = tt
 all_any (c ∷ cs) = (each_any (records c), all_any cs)
 
-still_reported : (w v : World) (n k : ℕ) (q : Record) → Grown Follows w.connections v.connections → request_on w n k ≡ Some q → StillReported v n k q
+pub still_reported : (w v : World) (n k : ℕ) (q : Record) → Grown Follows w.connections v.connections → request_on w n k ≡ Some q → StillReported v n k q
 still_reported w v n k q g e =
     let l : (p : Record) × (request_in k (numbered v.connections n) ≡ Some p) × Later q p = in_grown k n w.connections v.connections q g e in
     (l.0, on_some (λ c r. Unit {0}) k (numbered v.connections n) l.0 (at_number (λ c. AllByRecursion (λ (q : Record). Unit {0}) (records c)) v.connections n (all_any v.connections)) l.1, l.2)

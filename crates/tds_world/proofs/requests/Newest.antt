@@ -90,7 +90,7 @@ answers_newest c (s ∷ ss) e f =
 
 -- ---- Older ones stay
 
-before : (n : ℕ) (past : List Record) (o : Option Record) → NumbersOf n (map core_of past) (option_map core_of o) → AreBefore o past
+pub before : (n : ℕ) (past : List Record) (o : Option Record) → NumbersOf n (map core_of past) (option_map core_of o) → AreBefore o past
 before n past None h = tt
 before n past (Some q) h = each past h.1
   where

@@ -41,7 +41,7 @@ below_next : (n : ℕ) (past : List Core) → AllByRecursion (λ p. p.number ≤
 below_next n [] h = tt
 below_next n (x ∷ xs) h = (let a : x.number ≤ n = h.0 in omega arith, below_next n xs h.1)
 
-all_below_next : (n : ℕ) (past : List Core) (o : Option Core) → NumbersOf n past o → AllByRecursion (λ p. p.number < suc n) (all_of past o)
+pub all_below_next : (n : ℕ) (past : List Core) (o : Option Core) → NumbersOf n past o → AllByRecursion (λ p. p.number < suc n) (all_of past o)
 all_below_next n past None h = below_next n past h
 all_below_next n past (Some q) h = with_newest past h.1
   where

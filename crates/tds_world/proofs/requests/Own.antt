@@ -28,7 +28,7 @@ waiting_tokens (Acknowledgement r place ∷ es) = waiting_tokens es
 abbrev pub tokens_left : List Down → List answer.Step → List Token
 tokens_left downs due = waiting_tokens downs ++ flat_map (λ step. step.tokens) due
 
-told_two : (xs ys : List Token) → told (xs ++ ys) ≡ told xs ++ told ys
+pub told_two : (xs ys : List Token) → told (xs ++ ys) ≡ told xs ++ told ys
 told_two [] ys = refl
 told_two (token.Info m ∷ xs) ys = ap (λ (ts : List Token). token.Info m ∷ ts) (told_two xs ys)
 told_two (token.Error m ∷ xs) ys = ap (λ (ts : List Token). token.Error m ∷ ts) (told_two xs ys)

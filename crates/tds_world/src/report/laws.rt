@@ -4,6 +4,7 @@ ghost use Rattle.tds_session.specs.Answer.{Answers};
 ghost use Rattle.tds_world.specs.Bounds.{IsEvent, IsSetup};
 ghost use Rattle.tds_world.specs.Lawful.{Lawful};
 ghost use Rattle.tds_world.specs.Reports.{AlwaysShown, AlwaysShownOf, AlwaysTold, ShowsFewUnderway, ShowsFreshStart, ShowsIdleQuiet, ShowsKeptTransaction, ShowsLendsIdle, ShowsNoFault, ShowsNothingAfterCancel, ShowsOwnAnswers, ShowsOwnTransaction};
+ghost use Rattle.tds_world.specs.RestShown.{ShowsNeverStuck};
 ghost use Rattle.tds_world.specs.declared.event.Setup.{Setup};
 
 /// In each snapshot whose client is idle both byte counts are 0, and the two descriptors are one.
@@ -63,4 +64,12 @@ pub fn kept_transaction()
 pub fn lends_idle()
     ensures { (setup : Setup) (answers : Answers) → Lawful answers
         → AlwaysShown setup answers ShowsLendsIdle }
+{}
+
+/// Each connection that is shown after the last event comes to rest, in the report of the same events
+/// with these behind it: by a cancel and what is underway then; or without one, with all that is left
+/// to do, and its request finished, or acknowledged if it was cancelled before. It holds for a setup
+/// that a play takes.
+pub fn never_stuck()
+    ensures { (setup : Setup) (answers : Answers) → IsSetup setup → Lawful answers → AlwaysTold setup answers (ShowsNeverStuck setup answers) }
 {}

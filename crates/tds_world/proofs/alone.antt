@@ -1,0 +1,6 @@
+-- A lease can't tell that it shares its connection.
+pub mod Blind
+pub mod Thread
+pub mod Tenants
+pub mod Tenancy
+pub mod AsIfAlone
