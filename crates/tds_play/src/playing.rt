@@ -6,7 +6,9 @@ ghost use Rattle.tds_play.specs.WholePlay.{CutsThoseOf, GivesNoMoreThan, HandsBy
 ghost use Rattle.tds_play.specs.declared.playing.PlayRefusal.TheVariants.{Memory};
 ghost use Rattle.tds_play.specs.declared.playing.PlayRefusal.{PlayRefusal};
 ghost use Rattle.tds_session.specs.Answer.{answer_of, script_answers};
+ghost use Rattle.tds_world.specs.Alone.{AsIfAlone};
 ghost use Rattle.tds_world.specs.Bounds.{BeginsOnce, IsEvent, IsSetup, OneAttention};
+ghost use Rattle.tds_world.specs.Rest.{NeverStuck};
 ghost use Rattle.tds_world.specs.Reports.{ShowsFewUnderway, ShowsFreshStart, ShowsIdleQuiet, ShowsKeptTransaction, ShowsLendsIdle, ShowsOwnAnswers, ShowsOwnTransaction};
 ghost use Rattle.tds_world.specs.WithLosses.{ShowsNoEndFaults};
 ghost use Rattle.tds_world.specs.World.{new_world};
@@ -20,8 +22,8 @@ use std::alloc::{AllocError, AllocFailed, Global};
 use tds_packet::PacketSize;
 use tds_request::Request;
 use tds_session::{Engine, ScriptEngine};
-use tds_world::laws::{script_hands_out_next, script_is_lawful};
-use tds_world::losses::{begins_once, nothing_lost, one_attention};
+use tds_world::laws::{script_hands_out_next, script_is_blind, script_is_lawful};
+use tds_world::losses::{as_if_alone, begins_once, never_stuck, nothing_lost, one_attention};
 use tds_world::report::losses::{
     few_underway, fresh_start, idle_is_quiet, kept_transaction, lends_idle, no_fault,
     nothing_after_cancel, own_answers, own_transaction,
@@ -137,10 +139,16 @@ pub fn play<C: Carrier>(
         OneAttention (world_of setup.now events.now report.events)) }
     ensures begins_once { C.tells carrier.old → IfOk result (λ report.
         BeginsOnce (world_of setup.now events.now report.events)) }
+    // In that world no connection that isn't cut is stuck, and no lease can tell that it shares.
+    ensures never_stuck { C.tells carrier.old → IfOk result (λ report.
+        NeverStuck setup.now script_answers (world_of setup.now events.now report.events)) }
+    ensures as_if_alone { C.tells carrier.old → IfOk result (λ report.
+        AsIfAlone script_answers (world_of setup.now events.now report.events)) }
 {
     // The laws of the model, whose report it is.
     script_is_lawful();
     script_hands_out_next();
+    script_is_blind();
     own_answers();
     own_transaction();
     nothing_after_cancel();
@@ -152,6 +160,8 @@ pub fn play<C: Carrier>(
     no_fault();
     one_attention();
     begins_once();
+    never_stuck();
+    as_if_alone();
     play_with(alloc, setup, events, ScriptEngine, carrier)
 }
 

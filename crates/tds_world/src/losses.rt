@@ -5,6 +5,7 @@
 ghost use Rattle.std.specs.Prelude.{◌≡◌, ◌++◌, List, false, length};
 ghost use Rattle.std.specs.List.{AllByRecursion};
 ghost use Rattle.tds_session.specs.Answer.{Answers};
+ghost use Rattle.tds_world.specs.Alone.{AsIfAlone, BlindToNumbers};
 ghost use Rattle.tds_world.specs.Begins.{HandsOutNext};
 ghost use Rattle.tds_world.specs.Bounds.{BeginsOnce, IsEvent, OneAttention};
 ghost use Rattle.tds_world.specs.Counts.{AreFew};
@@ -13,6 +14,7 @@ ghost use Rattle.tds_world.specs.Lawful.{Lawful};
 ghost use Rattle.tds_world.specs.Losses.{Played, event_reports_with, marked, observed_with};
 ghost use Rattle.tds_world.specs.Losses.{with_cuts, world_with};
 ghost use Rattle.tds_world.specs.Observed.{observed};
+ghost use Rattle.tds_world.specs.Rest.{NeverStuck};
 ghost use Rattle.tds_world.specs.Sessions.{StayInRange};
 ghost use Rattle.tds_world.specs.Underway.{FewToClients};
 ghost use Rattle.tds_world.specs.WithLosses.{AlwaysWith, AreEvents, AreMarked, LosesNothing};
@@ -116,4 +118,18 @@ pub fn one_attention()
 pub fn begins_once()
     ensures { (setup : Setup) (answers : Answers) → HandsOutNext answers
         → AlwaysWith setup answers BeginsOnce }
+{}
+
+/// No connection that isn't cut is ever stuck: it comes to rest by a cancel and what is underway
+/// then, or without one by what is left to do.
+pub fn never_stuck()
+    ensures { (setup : Setup) (answers : Answers) → Lawful answers
+        → AlwaysWith setup answers (NeverStuck setup answers) }
+{}
+
+/// A lease can't tell that it shares its connection, where the answers are blind to the numbers of
+/// transactions.
+pub fn as_if_alone()
+    ensures { (setup : Setup) (answers : Answers) → Lawful answers → BlindToNumbers answers
+        → AlwaysWith setup answers (AsIfAlone answers) }
 {}

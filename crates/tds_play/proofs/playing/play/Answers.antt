@@ -1,9 +1,11 @@
 use Rattle.std.proofs.Common.{◌≡◌}
 use Rattle.std.proofs.lemmas.Result.{IfOk-weaker}
 use Rattle.tds_session.specs.Answer.{script_answers}
+use Rattle.tds_world.specs.Alone.{AsIfAlone}
 use Rattle.tds_world.specs.Bounds.{BeginsOnce, OneAttention}
 use Rattle.tds_world.specs.Losses.{marked}
 use Rattle.tds_world.specs.Reports.{ShowsFewUnderway, ShowsFreshStart, ShowsIdleQuiet, ShowsKeptTransaction, ShowsLendsIdle, ShowsOwnAnswers, ShowsOwnTransaction}
+use Rattle.tds_world.specs.Rest.{NeverStuck}
 use Rattle.tds_world.specs.WithLosses.{ShowsNoEndFaults}
 use Rattle.tds_play.specs.WholePlay.{CutsThoseOf, HandsBytesOf, IsPlayOf, IsWhole, IsWholePlayOf, told_of, world_of}
 use Rattle.tds_play.proofs.Told.{few_ok, no_more_ok, shown_ok, told_ok}
@@ -90,4 +92,18 @@ returns-clause-begins_once g c = λ tells.
     IfOk-weaker c.play_with.result (λ report. IsPlayOf c.args.setup.now script_answers c.args.events.now report _)
     (λ report. BeginsOnce (world_of c.args.setup.now c.args.events.now report.events))
     (λ report is. c.begins_once.ensures c.args.setup.now script_answers c.script_hands_out_next.ensures (marked c.args.events.now report.events))
+    (c.play_with.ensures.alike tells)
+
+pub returns-clause-never_stuck : goal.returns-clause-never_stuck
+returns-clause-never_stuck g c = λ tells.
+    IfOk-weaker c.play_with.result (λ report. IsPlayOf c.args.setup.now script_answers c.args.events.now report _)
+    (λ report. NeverStuck c.args.setup.now script_answers (world_of c.args.setup.now c.args.events.now report.events))
+    (λ report is. c.never_stuck.ensures c.args.setup.now script_answers c.script_is_lawful.ensures (marked c.args.events.now report.events))
+    (c.play_with.ensures.alike tells)
+
+pub returns-clause-as_if_alone : goal.returns-clause-as_if_alone
+returns-clause-as_if_alone g c = λ tells.
+    IfOk-weaker c.play_with.result (λ report. IsPlayOf c.args.setup.now script_answers c.args.events.now report _)
+    (λ report. AsIfAlone script_answers (world_of c.args.setup.now c.args.events.now report.events))
+    (λ report is. c.as_if_alone.ensures c.args.setup.now script_answers c.script_is_lawful.ensures c.script_is_blind.ensures (marked c.args.events.now report.events))
     (c.play_with.ensures.alike tells)
