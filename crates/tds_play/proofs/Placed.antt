@@ -62,6 +62,8 @@ placed_played number size engine link pipe c p i live = record {
   newest = i.newest;
   to_server = i.to_server;
   to_client = i.to_client;
+  came_up = i.came_up;
+  came_down = i.came_down;
   lives = λ uncut.
       let v = i.lives uncut in
       let s = v.stands in
@@ -100,6 +102,8 @@ lent_played {E} {S} number size lease mark engine link new pipe c i live idle is
       newest = i.newest;
       to_server = i.to_server;
       to_client = i.to_client;
+      came_up = i.came_up;
+      came_down = i.came_down;
       lives = λ uncut.
           let v = i.lives uncut in
           let s = v.stands in
