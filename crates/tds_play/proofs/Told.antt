@@ -1,17 +1,16 @@
 -- The laws of the model, of the report of a play.
-use Rattle.std.proofs.Common.{◌≡◌, ◌∙◌, ℕ, suc, Bool, true, false, List, [], ◌∷◌, ◌++◌, length, drop, Option, refl, sym, ap, subst, arith}
+use Rattle.std.proofs.Common.{◌≡◌, ◌∙◌, ℕ, Bool, false, List, [], ◌∷◌, ◌++◌, length, drop, Option, refl, sym, ap, subst, arith}
 use Rattle.std.specs.Prelude.{IfOk, Result}
 use Rattle.std.specs.List.{AllByRecursion}
 use Rattle.std.proofs.lemmas.Result.{IfOk-weaker}
 use Rattle.tds_session.specs.Answer.{Answers, script_answers}
 use Rattle.tds_world.specs.declared.event.Event.{Event}
 use Rattle.tds_world.specs.declared.event.Setup.{Setup}
-use Rattle.tds_world.specs.declared.outcome.Outcome.{Outcome}
 use Rattle.tds_world.specs.declared.report.EventReport.{EventReport}
 use Rattle.tds_world.specs.declared.report.Report.{Report}
 use Rattle.tds_world.specs.Bounds.{IsEvent, IsSetup}
 use Rattle.tds_world.specs.Events.{world_after}
-use Rattle.tds_world.specs.Losses.{Loss, Nothing, Played, loss_by, loss_in, marked, observed_with, world_with}
+use Rattle.tds_world.specs.Losses.{Played, loss_by, loss_in, marked, observed_with, world_with}
 use Rattle.tds_world.specs.Observed.{observed}
 use Rattle.tds_world.specs.Reports.{GivesNoMore}
 use Rattle.tds_world.specs.WithLosses.{AlwaysShownOfEvents, AlwaysShownWith, AlwaysToldWith, AreEvents, LosesNothing, ShowsNothingAfterCancelWith, events_of}
