@@ -1,17 +1,16 @@
 -- The laws of the model, of the report of a play.
-use Rattle.std.proofs.Common.{◌≡◌, ◌∙◌, ℕ, suc, Bool, true, false, List, [], ◌∷◌, ◌++◌, length, drop, Option, refl, sym, ap, subst, arith}
+use Rattle.std.proofs.Common.{◌≡◌, ◌∙◌, ℕ, Bool, false, List, [], ◌∷◌, ◌++◌, length, drop, Option, refl, sym, ap, subst, arith}
 use Rattle.std.specs.Prelude.{IfOk, Result}
 use Rattle.std.specs.List.{AllByRecursion}
 use Rattle.std.proofs.lemmas.Result.{IfOk-weaker}
 use Rattle.tds_session.specs.Answer.{Answers, script_answers}
 use Rattle.tds_world.specs.declared.event.Event.{Event}
 use Rattle.tds_world.specs.declared.event.Setup.{Setup}
-use Rattle.tds_world.specs.declared.outcome.Outcome.{Outcome}
 use Rattle.tds_world.specs.declared.report.EventReport.{EventReport}
 use Rattle.tds_world.specs.declared.report.Report.{Report}
 use Rattle.tds_world.specs.Bounds.{IsEvent, IsSetup}
 use Rattle.tds_world.specs.Events.{world_after}
-use Rattle.tds_world.specs.Losses.{Loss, Nothing, Played, loss_by, loss_in, marked, observed_with, world_with}
+use Rattle.tds_world.specs.Losses.{Played, loss_by, loss_in, marked, observed_with, world_with}
 use Rattle.tds_world.specs.Observed.{observed}
 use Rattle.tds_world.specs.Reports.{GivesNoMore}
 use Rattle.tds_world.specs.WithLosses.{AlwaysShownOfEvents, AlwaysShownWith, AlwaysToldWith, AreEvents, LosesNothing, ShowsNothingAfterCancelWith, events_of}
@@ -28,12 +27,12 @@ marked_events (e ∷ es) (r ∷ rs) each = ap (λ (xs : List Event). e ∷ xs) (
 
 marked_known : (es : List Event) (rs : List EventReport) → AllByRecursion IsEvent es → AreEvents (marked es rs)
 marked_known [] rs known = tt
-marked_known (e ∷ es) [] known = tt
+marked_known (e ∷ es) [] known = (known.0, marked_known es [] known.1)
 marked_known (e ∷ es) (r ∷ rs) known = (known.0, marked_known es rs known.1)
 
 loses_nothing : (es : List Event) (rs : List EventReport) → AllByRecursion (λ (r : EventReport). r.lost ≡ false) rs → LosesNothing (marked es rs)
 loses_nothing [] rs whole = tt
-loses_nothing (e ∷ es) [] whole = tt
+loses_nothing (e ∷ es) [] whole = (refl, loses_nothing es [] whole)
 loses_nothing (e ∷ es) (r ∷ rs) whole = (ap (λ (b : Bool). loss_by b r.outcome) whole.0, loses_nothing es rs whole.1)
 
 marked_front : (front later : List Event) (rs : List EventReport) → length rs ≡ length (front ++ later)

@@ -33,7 +33,7 @@ use Rattle.tds_play.specs.Plays.{ArePlayed, IsPlayed, loss_of}
 use Rattle.tds_ends.specs.Promises.{Promises, IsCountable}
 use Rattle.tds_play.specs.Seen.{seen_of}
 use Rattle.tds_play.specs.Ties.{AreTied, IsTied}
-use Rattle.tds_play.specs.WholePlay.{IsCutAs, IsPlayOf}
+use Rattle.tds_play.specs.WholePlay.{IsCutAs, IsPlayOf, come_on}
 use Rattle.tds_play.proofs.AllPlayed.{as_many, played_at}
 use Rattle.tds_play.proofs.Snapshots.{all_seen_alike}
 use Rattle.tds_play.proofs.Told.{whole_play}
@@ -259,6 +259,22 @@ bytes_handed size engine links pipes w zero direction all some most = absurd (om
 bytes_handed size engine links pipes w (suc i) direction all some most =
     bytes_at 1 (suc i) i size engine links pipes w.connections direction all (omega (arith, most)) (omega arith)
 
+-- ---- What came
+
+came_on : {E S : Type 0} (number size : ℕ) (engine : E) (link : Link E S) (p : Option Pipe) (c : Connection) (direction : Direction)
+    → IsPlayed number size engine link p c → (traffic p direction).came ≡ come_on direction c
+came_on number size engine link p c ToServer is = is.came_up
+came_on number size engine link p c ToClient is = is.came_down
+
+bytes_carried : {E S : Type 0} (size : ℕ) (engine : E) (links : List (Link E S)) (pipes : ℕ → Option Pipe) (cs : List Connection) (n : ℕ) (c : Connection) (direction : Direction)
+    → ArePlayed 1 size engine links pipes cs → numbered cs n ≡ Some c → (traffic (pipes n) direction).came ≡ come_on direction c
+bytes_carried size engine links pipes cs zero c direction all at = absurd (cc)
+bytes_carried size engine [] pipes [] (suc i) c direction all at = absurd (cc)
+bytes_carried size engine [] pipes (d ∷ cs) (suc i) c direction all at = absurd all
+bytes_carried size engine (l ∷ ls) pipes cs (suc i) c direction all at =
+    came_on (suc i) size engine (slice_index_or (l ∷ ls) i l) (pipes (suc i)) c direction
+    (played_at 1 (suc i) size engine (l ∷ ls) pipes cs i l c all at (omega arith))
+
 -- ---- What is cut
 
 cut_by : (b : Bool) (place : Place) (s : Standing) (p : Option Pipe) → standing_by b place ≡ s
@@ -309,6 +325,7 @@ in_the_end setup answers engine es i player pipes so_far reports requests in_ran
       each = each;
       told = told;
       bytes = λ n direction some most. bytes_handed setup.packet_size engine player.links.items pipes w n direction all some most;
+      carried = λ n c direction at. bytes_carried setup.packet_size engine player.links.items pipes w.connections n c direction all at;
       cuts = λ n c at. all_cut setup.packet_size engine player.links.items pipes w.connections n c all tied at;
       plain = whole_play setup answers es (record { events = reports; requests = requests }) plain_world plain_report each told;
     }

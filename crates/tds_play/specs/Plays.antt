@@ -6,7 +6,7 @@ use Rattle.tds_session.specs.Answer.{Answers}
 use Rattle.tds_play.specs.declared.link.Done.{Done}
 use Rattle.tds_play.specs.declared.link.Link.{Link}
 use Rattle.tds_play.specs.declared.link.acts.Next.{Next}
-use Rattle.tds_play.specs.Between.{Stands}
+use Rattle.tds_play.specs.Between.{Stands, come_bytes}
 use Rattle.tds_play.specs.Lending.{standing_of}
 use Rattle.tds_play.specs.Pipe.{Pipe, is_cut_at, traffic}
 use Rattle.tds_play.specs.Requests.{AreOlder, IsNewest}
@@ -50,6 +50,8 @@ pub record IsPlayed {E S : Type 0} (number size : ℕ) (engine : E) (link : Link
   pub newest : IsNewest number link.is_cut link.current c.current
   pub to_server : (traffic pipe ToServer).handed ≡ sent_bytes up_bytes c.to_server
   pub to_client : (traffic pipe ToClient).handed ≡ sent_bytes down_bytes c.to_client
+  pub came_up : (traffic pipe ToServer).came ≡ come_bytes up_bytes c.to_server
+  pub came_down : (traffic pipe ToClient).came ≡ come_bytes down_bytes c.to_client
   pub lives : link.is_cut ≡ false → Lives size engine link pipe c
   pub gone : link.is_cut ≡ true → is_cut_at pipe ≡ true
 

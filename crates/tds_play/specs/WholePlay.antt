@@ -2,6 +2,7 @@
 use Rattle.std.specs.Prelude.{ℕ, ◌≡◌, ◌<◌, ◌≤◌, List, length, Bool, false, Option, Some, None}
 use Rattle.std.specs.List.{AllByRecursion}
 use Rattle.tds_packet.specs.declared.kind.Direction.{Direction}
+use Rattle.tds_packet.specs.declared.kind.Direction.TheVariants.{ToServer, ToClient}
 use Rattle.tds_session.specs.Answer.{Answers, script_answers}
 use Rattle.tds_world.specs.declared.event.Event.{Event}
 use Rattle.tds_world.specs.declared.event.Setup.{Setup}
@@ -9,11 +10,13 @@ use Rattle.tds_world.specs.declared.report.EventReport.{EventReport}
 use Rattle.tds_world.specs.declared.report.Report.{Report}
 use Rattle.tds_world.specs.Bounds.{IsEvent, IsSetup}
 use Rattle.tds_world.specs.Connection.{Connection, is_cut}
+use Rattle.tds_world.specs.Entries.{up_bytes, down_bytes}
 use Rattle.tds_world.specs.Events.{world_after}
 use Rattle.tds_world.specs.Losses.{marked, observed_with, world_with}
 use Rattle.tds_world.specs.Observed.{bytes_of, observed}
 use Rattle.tds_world.specs.Reports.{GivesNoMore}
 use Rattle.tds_world.specs.World.{World, new_world, numbered}
+use Rattle.tds_play.specs.Between.{come_bytes}
 use Rattle.tds_play.specs.Pipe.{Pipe, traffic}
 
 -- The world of the model after these events with the losses that their reports mark, where servers
@@ -34,6 +37,18 @@ abbrev pub HandsBytesOf : World → (ℕ → Option Pipe) → Type 0
 HandsBytesOf w pipes =
     (n : ℕ) (direction : Direction) → 0 < n → n ≤ length w.connections
     → (traffic (pipes n) direction).handed ≡ bytes_of w n direction
+
+-- The bytes that have come to an end of a connection of the model.
+abbrev pub come_on : Direction → Connection → List ℕ
+come_on ToServer c = come_bytes up_bytes c.to_server
+come_on ToClient c = come_bytes down_bytes c.to_client
+
+-- What the carrier brought on each connection, each way, is what came there in the model: the bytes of
+-- the entries that arrived, and those that had come of the next one.
+abbrev pub CarriesBytesOf : World → (ℕ → Option Pipe) → Type 0
+CarriesBytesOf w pipes =
+    (n : ℕ) (c : Connection) (direction : Direction) → numbered w.connections n ≡ Some c
+    → (traffic (pipes n) direction).came ≡ come_on direction c
 
 -- A connection that was opened at the carrier, and is cut there or not.
 abbrev pub IsCutAs : Bool → Option Pipe → Type 0
@@ -58,7 +73,7 @@ pub record IsWholePlayOf (setup : Setup) (answers : Answers) (events : List Even
   pub world : world_with setup answers (marked events report.events) new_world ≡ world_after setup answers events new_world
 
 -- The play of these events from nothing: its report is the model's with the losses that it marks, and
--- so are the bytes and what is cut. It is one that is played: its setup is in range, and its requests
+-- so are the bytes that were handed over, those that came, and what is cut. It is one that is played: its setup is in range, and its requests
 -- have a spelling.
 pub record IsPlayOf (setup : Setup) (answers : Answers) (events : List Event) (report : Report)
     (pipes : ℕ → Option Pipe) : Type 0 where
@@ -67,5 +82,6 @@ pub record IsPlayOf (setup : Setup) (answers : Answers) (events : List Event) (r
   pub each : length report.events ≡ length events  -- each event is told
   pub told : report ≡ told_of setup answers events report.events
   pub bytes : HandsBytesOf (world_with setup answers (marked events report.events) new_world) pipes
+  pub carried : CarriesBytesOf (world_with setup answers (marked events report.events) new_world) pipes
   pub cuts : CutsThoseOf (world_with setup answers (marked events report.events) new_world) pipes
   pub plain : IsWhole report → IsWholePlayOf setup answers events report

@@ -2,7 +2,7 @@
 ghost use Rattle.std.specs.Prelude.{◌≡◌, ◌≢◌, ◌≤◌, List, [], ◌++◌, length, None, Some, Err, IfErr, IfOk, OnOk};
 ghost use Rattle.tds_play.specs.Player.{IsPlay};
 ghost use Rattle.tds_play.specs.Refused.{first_refusal, play_refusal_number};
-ghost use Rattle.tds_play.specs.WholePlay.{CutsThoseOf, GivesNoMoreThan, HandsBytesOf, IsPlayOf, IsWhole, IsWholePlayOf, told_of, world_of};
+ghost use Rattle.tds_play.specs.WholePlay.{CarriesBytesOf, CutsThoseOf, GivesNoMoreThan, HandsBytesOf, IsPlayOf, IsWhole, IsWholePlayOf, told_of, world_of};
 ghost use Rattle.tds_play.specs.declared.playing.PlayRefusal.TheVariants.{Memory};
 ghost use Rattle.tds_play.specs.declared.playing.PlayRefusal.{PlayRefusal};
 ghost use Rattle.tds_session.specs.Answer.{answer_of, script_answers};
@@ -104,11 +104,14 @@ pub fn play<C: Carrier>(
     ensures named { IfErr result (λ why. why ≢ Memory
         → first_refusal setup.now (length events.now) ≡ Some why) }
     // Where the carrier brings the bytes that it was handed, the report is the model's of the events
-    // with the losses that it marks, and so are the bytes that were handed over and what is cut.
+    // with the losses that it marks, and so are the bytes that were handed over, the bytes that
+    // came, and what is cut.
     ensures report { C.tells carrier.old → IfOk result (λ report.
         report ≡ told_of setup.now script_answers events.now report.events) }
     ensures bytes { C.tells carrier.old → IfOk result (λ report.
         HandsBytesOf (world_of setup.now events.now report.events) (C.pipes carrier.new)) }
+    ensures carried { C.tells carrier.old → IfOk result (λ report.
+        CarriesBytesOf (world_of setup.now events.now report.events) (C.pipes carrier.new)) }
     ensures cuts { C.tells carrier.old → IfOk result (λ report.
         CutsThoseOf (world_of setup.now events.now report.events) (C.pipes carrier.new)) }
     // Where no event is lost both are the model's of the events as they are. A carrier of which no
@@ -181,7 +184,7 @@ pub fn play_with<E: Engine + Copy, C: Carrier>(
     ensures named { IfErr result (λ why. why ≢ Memory
         → first_refusal setup.now (length events.now) ≡ Some why) }
     // Where the carrier brings the bytes that it was handed, the play is the model's with the losses
-    // that its report marks: what is told, what was handed over, and what is cut.
+    // that its report marks: what is told, what was handed over, what came, and what is cut.
     ensures alike { C.tells carrier.old → IfOk result (λ report. IsPlayOf setup.now
         (answer_of (E.statements_of engine) (E.step_of engine)) events.now report
         (C.pipes carrier.new)) }

@@ -7,7 +7,7 @@ use Rattle.tds_world.specs.Losses.{marked}
 use Rattle.tds_world.specs.Reports.{ShowsFewUnderway, ShowsFreshStart, ShowsIdleQuiet, ShowsKeptTransaction, ShowsLendsIdle, ShowsOwnAnswers, ShowsOwnTransaction}
 use Rattle.tds_world.specs.Rest.{NeverStuck}
 use Rattle.tds_world.specs.WithLosses.{ShowsNoEndFaults}
-use Rattle.tds_play.specs.WholePlay.{CutsThoseOf, HandsBytesOf, IsPlayOf, IsWhole, IsWholePlayOf, told_of, world_of}
+use Rattle.tds_play.specs.WholePlay.{CarriesBytesOf, CutsThoseOf, HandsBytesOf, IsPlayOf, IsWhole, IsWholePlayOf, told_of, world_of}
 use Rattle.tds_play.proofs.Told.{few_ok, no_more_ok, shown_ok, told_ok}
 use Rattle.tds_play.proofs.playing.play.Goals as goal
 
@@ -22,6 +22,12 @@ returns-clause-bytes g c = λ tells.
     IfOk-weaker c.play_with.result (λ report. IsPlayOf c.args.setup.now script_answers c.args.events.now report (g.C.Carrier.pipes c.play_with.new.carrier))
     (λ report. HandsBytesOf (world_of c.args.setup.now c.args.events.now report.events) (g.C.Carrier.pipes c.play_with.new.carrier))
     (λ report is. is.bytes) (c.play_with.ensures.alike tells)
+
+pub returns-clause-carried : goal.returns-clause-carried
+returns-clause-carried g c = λ tells.
+    IfOk-weaker c.play_with.result (λ report. IsPlayOf c.args.setup.now script_answers c.args.events.now report (g.C.Carrier.pipes c.play_with.new.carrier))
+    (λ report. CarriesBytesOf (world_of c.args.setup.now c.args.events.now report.events) (g.C.Carrier.pipes c.play_with.new.carrier))
+    (λ report is. is.carried) (c.play_with.ensures.alike tells)
 
 pub returns-clause-cuts : goal.returns-clause-cuts
 returns-clause-cuts g c = λ tells.
