@@ -1,2 +1,4 @@
 pub mod Halves
 pub mod Tables
+pub mod Seats
+pub mod Taken

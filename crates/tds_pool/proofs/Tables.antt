@@ -3,7 +3,7 @@ use Rattle.std.proofs.Common.{◌≡◌, ℕ, zero, suc, Bool, true, false, not,
 use Rattle.std.proofs.Math.Dec.{eqb}
 use Rattle.std.proofs.lemmas.Bool.{eqb-true, eq-eqb}
 use Rattle.std.proofs.lemmas.Bool.Decides.{nat_tests}
-use Rattle.std.specs.Prelude.{slice_index, ◌≢◌, remove}
+use Rattle.std.specs.Prelude.{slice_index, ◌≢◌, remove, IfSome, IfNone}
 use Rattle.tds_pool.specs.declared.numbers.Entry.{Entry}
 use Rattle.tds_pool.specs.Table.{number_at, key_at, key_of, without, AreBelow, AreAbove, AreRising, IsTable}
 
@@ -66,7 +66,7 @@ removed (e ∷ es) up (suc i) lt =
     ap (λ xs. e ∷ xs) (removed es up.1 i (omega (arith, lt)))
     ∙ sym (kept_by (eqb e.number (number_at es i)) e (without (number_at es i) es) (unlike_above e.number (number_at es i) (above_at e.number es up.0 i (omega (arith, lt)))))
 
-when_without : (b : Bool) (P : List Entry → Type 0) (x : Entry) (xs : List Entry) → P (x ∷ xs) → P xs → P (cond (not b) (x ∷ xs) xs)
+pub when_without : (b : Bool) (P : List Entry → Type 0) (x : Entry) (xs : List Entry) → P (x ∷ xs) → P xs → P (cond (not b) (x ∷ xs) xs)
 when_without true P x xs stays goes = goes
 when_without false P x xs stays goes = stays
 
@@ -78,9 +78,46 @@ rising_without : (n : ℕ) (es : List Entry) → AreRising es → AreRising (wit
 rising_without n [] up = tt
 rising_without n (e ∷ es) up = when_without (eqb e.number n) AreRising e (without n es) (above_without e.number n es up.0, rising_without n es up.1) (rising_without n es up.1)
 
-shorter : (n : ℕ) (es : List Entry) → length (without n es) ≤ length es
+pub shorter : (n : ℕ) (es : List Entry) → length (without n es) ≤ length es
 shorter n [] = omega arith
 shorter n (e ∷ es) = when_without (eqb e.number n) (λ xs. length xs ≤ suc (length es)) e (without n es) (omega (arith, shorter n es)) (omega (arith, shorter n es))
 
 pub table_without : (n : ℕ) (es : List Entry) → IsTable es → IsTable (without n es)
 table_without n es table = record { few = omega (arith, shorter n es, table.few); rising = rising_without n es table.rising }
+
+-- ---- The key beside a number
+
+key_next : (b : Bool) (k : ℕ) (o : Option ℕ) → b ≡ false → cond b (Some k) o ≡ o
+key_next true k o h = absurd (cc)
+key_next false k o h = refl
+
+key_here : (b : Bool) (k : ℕ) (o : Option ℕ) → b ≡ true → cond b (Some k) o ≡ Some k
+key_here true k o h = refl
+key_here false k o h = absurd (cc)
+
+pub key_found : (es : List Entry) → AreRising es → (n i : ℕ) → i < length es → number_at es i ≡ n → key_of es n ≡ Some (key_at es i)
+key_found [] up n i lt is = absurd (omega (arith, lt))
+key_found (e ∷ es) up n zero lt is = key_here (eqb e.number n) e.key (key_of es n) (eq-eqb e.number n is)
+key_found (e ∷ es) up n (suc i) lt is =
+    let below : e.number < number_at es i = above_at e.number es up.0 i (omega (arith, lt)) in
+    let under : e.number < n = rw is at below in
+    key_next (eqb e.number n) e.key (key_of es n) (unlike_above e.number n under)
+    ∙ key_found es up.1 n i (omega (arith, lt)) is
+
+differ : (a b : ℕ) → a ≢ b → eqb a b ≡ false
+differ a b h = grind (arith, nat_tests, h)
+
+pub key_absent : (es : List Entry) (n : ℕ) → ((i : ℕ) → i < length es → number_at es i ≢ n) → key_of es n ≡ None
+key_absent [] n h = refl
+key_absent (e ∷ es) n h =
+    key_next (eqb e.number n) e.key (key_of es n) (differ e.number n (h zero (omega arith)))
+    ∙ key_absent es n (λ i lt. h (suc i) (omega (arith, lt)))
+
+pub found_key : (es : List Entry) (n : ℕ) (o : Option ℕ) → IsTable es → IfSome o (λ place. (place < length es) × (number_at es place ≡ n))
+    → IfSome o (λ place. (place < length es) × (number_at es place ≡ n) × (key_of es n ≡ Some (key_at es place)))
+found_key es n None table h = tt
+found_key es n (Some i) table h = (h.0, h.1, key_found es table.rising n i h.0 h.1)
+
+pub absent_key : (es : List Entry) (n : ℕ) (o : Option ℕ) → IfNone o ((i : ℕ) → i < length es → number_at es i ≢ n) → IfNone o (key_of es n ≡ None)
+absent_key es n None h = key_absent es n h
+absent_key es n (Some i) h = tt

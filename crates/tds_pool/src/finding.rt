@@ -1,6 +1,6 @@
 //! Finding a number by halves.
-ghost use Rattle.std.specs.Prelude.{◌≡◌, ◌≢◌, ◌+◌, ◌<◌, ◌≤◌, ℕ, length, IfSome, IfNone};
-ghost use Rattle.tds_pool.specs.Table.{number_at};
+ghost use Rattle.std.specs.Prelude.{◌≡◌, ◌≢◌, ◌+◌, ◌<◌, ◌≤◌, ℕ, length, Some, None, IfSome, IfNone};
+ghost use Rattle.tds_pool.specs.Table.{number_at, key_at, key_of, IsTable};
 
 use crate::steps::Steps;
 use crate::numbers::Numbers;
@@ -9,11 +9,14 @@ use std::marker::Brand;
 use std::sync::ledger::{Blank, Ledger};
 
 impl Numbers {
-    /// The place of this number, in at most 7 steps.
+    /// The place of this number, counted from 0, in at most 7 steps.
     pub fn find<L: Ledger>(&self, number: u32, steps: &mut Steps<L>) -> Option<usize>
-        ensures found { IfSome result (λ place. (place < length self.now) × (number_at self.now place ≡ number)) }
-        ensures absent { IfNone result ((place : ℕ) → place < length self.now → number_at self.now place ≢ number) }
+        ensures found { IfSome result (λ place.
+            (place < length self.now) × (number_at self.now place ≡ number)) }
+        ensures absent { IfNone result
+            ((place : ℕ) → place < length self.now → number_at self.now place ≢ number) }
         ensures cost { steps.new ≤ steps.old + 7 }
+        ensures table { IsTable self.now }
     {
         let mut low = 0;
         let mut high = self.len();
@@ -31,8 +34,10 @@ impl Numbers {
 
 /// The place of this number, for a caller that counts nothing.
 pub fn place_of(numbers: &Numbers, number: u32) -> Option<usize>
-    ensures found { IfSome result (λ place. (place < length numbers.now) × (number_at numbers.now place ≡ number)) }
-    ensures absent { IfNone result ((place : ℕ) → place < length numbers.now → number_at numbers.now place ≢ number) }
+    ensures found { IfSome result (λ place.
+        (place < length numbers.now) × (number_at numbers.now place ≡ number)
+        × (key_of numbers.now number ≡ Some (key_at numbers.now place))) }
+    ensures absent { IfNone result (key_of numbers.now number ≡ None) }
 {
     place_counted::<Brand>(numbers, number, Blank::new(1))
 }
@@ -41,8 +46,10 @@ fn place_counted<L: Ledger>(numbers: &Numbers, number: u32, blank: Blank) -> Opt
     requires name { L.name ≡ blank.name }
     requires parts { L.parts ≡ blank.parts }
     requires some { 0 < blank.parts }
-    ensures found { IfSome result (λ place. (place < length numbers.now) × (number_at numbers.now place ≡ number)) }
-    ensures absent { IfNone result ((place : ℕ) → place < length numbers.now → number_at numbers.now place ≢ number) }
+    ensures found { IfSome result (λ place.
+        (place < length numbers.now) × (number_at numbers.now place ≡ number)
+        × (key_of numbers.now number ≡ Some (key_at numbers.now place))) }
+    ensures absent { IfNone result (key_of numbers.now number ≡ None) }
 {
     let mut steps = Steps::<L>::from_blank(blank);
     numbers.find(number, &mut steps)

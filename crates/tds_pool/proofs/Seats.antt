@@ -1,0 +1,156 @@
+-- The slab of a pool, and what is shown of it.
+use Rattle.std.proofs.Common.{◌≡◌, ℕ, zero, suc, Bool, true, false, not, ◌+◌, ◌<◌, ◌≤◌, List, [], ◌∷◌, ◌++◌, length, filter, map, Option, Some, None, refl, sym, ap, ◌∙◌, cond, ⊎_elim, arith}
+use Rattle.std.proofs.Math.Dec.{eqb}
+use Rattle.std.proofs.lemmas.Bool.{eqb-true, eq-eqb}
+use Rattle.std.proofs.lemmas.Bool.Decides.{nat_tests, eqb_tells}
+use Rattle.std.proofs.lemmas.List.{get_or-set_same, get_or-set_other}
+use Rattle.std.specs.Prelude.{slice_index_or, ◌≢◌, option_map, ◌==◌, ◌&&◌}
+use Rattle.std.specs.List.{find}
+use Rattle.slab.specs.Slab.{Slab, get, with_value, Updates}
+use Rattle.tds_pool.specs.declared.numbers.Entry.{Entry}
+use Rattle.tds_pool.specs.declared.seat.Seat.{Seat}
+use Rattle.tds_pool.specs.declared.seat.Place.{Place}
+use Rattle.tds_pool.specs.Calls.{only}
+use Rattle.tds_pool.specs.Connections.{PoolState, Connection, shown, connections, numbered, changed, number_under, seat_or_none, reseated, Agree, IsPool}
+use Rattle.tds_pool.specs.Table.{key_of}
+
+pub some_same : {A : Type 0} (a b : A) → Some a ≡ Some b → a ≡ b
+some_same a b h = ap (seen a) h where
+  seen : {A : Type 0} → A → Option A → A
+  seen a None = a
+  seen a (Some x) = x
+
+-- ---- What a write changes
+
+within : {T : Type 0} (xs : List (Option T)) (k : ℕ) (v : T) → slice_index_or xs k None ≡ Some v → k < length xs
+within [] k v h = absurd (cc)
+within (x ∷ xs) zero v h = omega arith
+within (x ∷ xs) (suc k) v h = omega (arith, within xs k v h)
+
+pub written : (s : Slab Seat) (key : ℕ) (old new : Seat) → get s key ≡ Some old → Updates s (with_value s key new) key (Some new)
+written s key old new h = record {
+  changed = get_or-set_same s.slots key (Some new) None (within s.slots key old h);
+  others = λ other ne. get_or-set_other s.slots key other (Some new) None ne;
+}
+
+number_kept : (s t : Slab Seat) (key : ℕ) (old new : Seat) → Updates s t key (Some new) → get s key ≡ Some old → new.number ≡ old.number → (k : ℕ) → number_under t k ≡ number_under s k
+number_kept s t key old new u h same k = ⊎_elim
+    (λ e. let is : k ≡ key = e.1 in rw is (rw u.changed (rw h (ap Some same))))
+    (λ e. rw (u.others k e.1) refl)
+    (eqb_tells k key)
+
+agree_kept : (s t : Slab Seat) (es : List Entry) → ((k : ℕ) → number_under t k ≡ number_under s k) → Agree s es → Agree t es
+agree_kept s t [] same h = tt
+agree_kept s t (e ∷ es) same h = (same e.key ∙ h.0, agree_kept s t es same h.1)
+
+pub pool_reseated : (p : PoolState) (key : ℕ) (old new : Seat) → IsPool p → get p.seats key ≡ Some old → new.number ≡ old.number → IsPool (reseated p key new)
+pool_reseated p key old new pool h same =
+    let kept = number_kept p.seats (with_value p.seats key new) key old new (written p.seats key old new h) h same in record {
+      agree = agree_kept p.seats (with_value p.seats key new) p.entries kept pool.agree;
+      back = λ k n is. pool.back k n (sym (kept k) ∙ is);
+      used = pool.used;
+      few = pool.few;
+      one = pool.one;
+      most = pool.most;
+    }
+
+-- ---- A connection by its number, and by its key
+
+-- a test that holds, and one that fails
+pub taken : {A : Type 0} (b : Bool) (x y : A) → b ≡ true → cond b x y ≡ x
+taken true x y h = refl
+taken false x y h = absurd (cc)
+
+pub passed : {A : Type 0} (b : Bool) (x y : A) → b ≡ false → cond b x y ≡ y
+passed true x y h = absurd (cc)
+passed false x y h = refl
+
+-- the connection that is shown where the table has this key beside the number
+abbrev entry_of : ℕ → ℕ → Entry
+entry_of number key = record { number = number; key = key }
+
+pub numbered_is : (s : Slab Seat) (n : ℕ) (es : List Entry) → numbered n (map (shown s) es) ≡ option_map (λ k. shown s (entry_of n k)) (key_of es n)
+numbered_is s n [] = refl
+numbered_is s n (e ∷ es) = ⊎_elim
+    (λ t. let is : e.number ≡ n = t.1 in
+    taken (eqb e.number n) (Some (shown s e)) (numbered n (map (shown s) es)) t.0
+    ∙ ap (λ m. Some (shown s (entry_of m e.key))) is
+    ∙ sym (ap (option_map (λ k. shown s (entry_of n k))) (taken (eqb e.number n) (Some e.key) (key_of es n) t.0)))
+    (λ t. passed (eqb e.number n) (Some (shown s e)) (numbered n (map (shown s) es)) t.0
+    ∙ numbered_is s n es
+    ∙ sym (ap (option_map (λ k. shown s (entry_of n k))) (passed (eqb e.number n) (Some e.key) (key_of es n) t.0)))
+    (eqb_tells e.number n)
+
+-- the slab has the number of each key of the table
+pub agree_of : (s : Slab Seat) (n k : ℕ) (es : List Entry) → Agree s es → key_of es n ≡ Some k → number_under s k ≡ Some n
+agree_of s n k [] h is = absurd (cc)
+agree_of s n k (e ∷ es) h is = ⊎_elim
+    (λ t. let same : e.key ≡ k = some_same e.key k (sym (taken (eqb e.number n) (Some e.key) (key_of es n) t.0) ∙ is) in
+    let number : e.number ≡ n = t.1 in
+    rw (← same, ← number) h.0)
+    (λ t. agree_of s n k es h.1 (sym (passed (eqb e.number n) (Some e.key) (key_of es n) t.0) ∙ is))
+    (eqb_tells e.number n)
+
+abbrev pub connection_of : ℕ → ℕ → Seat → Connection
+connection_of number key seat = record { number = number; key = key; place = seat.place; client = seat.client }
+
+module _ (p : PoolState) (pool : IsPool p) where
+  pub numbered_here : (key : ℕ) (seat : Seat) → get p.seats key ≡ Some seat → numbered seat.number (connections p) ≡ Some (connection_of seat.number key seat)
+  numbered_here key seat h =
+      let under : number_under p.seats key ≡ Some seat.number = ap (option_map (λ (s : Seat). s.number)) h in
+      numbered_is p.seats seat.number p.entries
+      ∙ ap (option_map (λ k. shown p.seats (entry_of seat.number k))) (pool.back key seat.number under)
+      ∙ ap (λ o. Some (connection_of seat.number key (seat_or_none o))) h
+
+  pub held_found : (key : ℕ) (seat : Seat) → get p.seats key ≡ Some seat → (test : Place → Bool)
+      → only (λ (c : Connection). (c.key == key) && test c.place) (numbered seat.number (connections p)) ≡ cond (test seat.place) (Some (connection_of seat.number key seat)) None
+  held_found key seat h test =
+      ap (only (λ (c : Connection). (c.key == key) && test c.place)) (numbered_here key seat h)
+      ∙ ap (λ b. cond (b && test seat.place) (Some (connection_of seat.number key seat)) None) (eq-eqb key key refl)
+
+  pub held_unknown : (key number : ℕ) → (number_under p.seats key ≡ Some number → ⊥) → (test : Place → Bool)
+      → only (λ (c : Connection). (c.key == key) && test c.place) (numbered number (connections p)) ≡ None
+  held_unknown key number wrong test = ap (only (λ (c : Connection). (c.key == key) && test c.place)) (numbered_is p.seats number p.entries) ∙ nobody (key_of p.entries number) refl where
+    nobody : (o : Option ℕ) → key_of p.entries number ≡ o → only (λ (c : Connection). (c.key == key) && test c.place) (option_map (λ k. shown p.seats (entry_of number k)) o) ≡ None
+    nobody None is = refl
+    nobody (Some k) is = ⊎_elim
+        (λ t. let same : k ≡ key = t.1 in let under : number_under p.seats k ≡ Some number = agree_of p.seats number k p.entries pool.agree is in absurd (wrong (rw same at under)))
+        (λ t. ap (λ b. cond (b && test (shown p.seats (entry_of number k)).place) (Some (shown p.seats (entry_of number k))) None) t.0)
+        (eqb_tells k key)
+
+-- ---- The connections behind a write
+
+abbrev pub reseat : Seat → Connection → Connection
+reseat seat c = record c { place = seat.place; client = seat.client }
+
+module _ (p : PoolState) (pool : IsPool p) (t : Slab Seat) (key : ℕ) (old new : Seat) (u : Updates p.seats t key (Some new)) (h : get p.seats key ≡ Some old) where
+  entry_reseated : (e : Entry) → number_under p.seats e.key ≡ Some e.number → shown t e ≡ cond (eqb e.number old.number) (reseat new (shown p.seats e)) (shown p.seats e)
+  entry_reseated e is = ⊎_elim
+      (λ (x : (eqb e.key key ≡ true) × (e.key ≡ key)).
+      let same : e.key ≡ key = x.1 in
+      let there : get t e.key ≡ Some new = rw same u.changed in
+      let was : get p.seats e.key ≡ Some old = rw same h in
+      let number : old.number ≡ e.number = some_same old.number e.number (sym (ap (option_map (λ (s : Seat). s.number)) was) ∙ is) in
+      ap (λ o. record { number = e.number; key = e.key; place = (seat_or_none o).place; client = (seat_or_none o).client }) there
+      ∙ sym (taken (eqb e.number old.number) (reseat new (shown p.seats e)) (shown p.seats e) (eq-eqb e.number old.number (sym number))))
+      (λ (x : (eqb e.key key ≡ false) × (e.key ≢ key)).
+      ap (λ o. record { number = e.number; key = e.key; place = (seat_or_none o).place; client = (seat_or_none o).client }) (u.others e.key x.1)
+      ∙ sym (passed (eqb e.number old.number) (reseat new (shown p.seats e)) (shown p.seats e) (unlike e is x.1)))
+      (eqb_tells e.key key)
+    where
+      unlike : (e : Entry) → number_under p.seats e.key ≡ Some e.number → e.key ≢ key → eqb e.number old.number ≡ false
+      unlike e is other = ⊎_elim
+          (λ (x : (eqb e.number old.number ≡ true) × (e.number ≡ old.number)).
+          let number : e.number ≡ old.number = x.1 in
+          let mine : number_under p.seats e.key ≡ Some old.number = rw number at is in
+          let its : number_under p.seats key ≡ Some old.number = ap (option_map (λ (s : Seat). s.number)) h in
+          absurd (other (some_same e.key key (sym (pool.back e.key old.number mine) ∙ pool.back key old.number its))))
+          (λ x. x.0)
+          (eqb_tells e.number old.number)
+
+  all_reseated : (es : List Entry) → Agree p.seats es → map (shown t) es ≡ changed old.number (reseat new) (map (shown p.seats) es)
+  all_reseated [] is = refl
+  all_reseated (e ∷ es) is = ap (λ c. c ∷ map (shown t) es) (entry_reseated e is.0) ∙ ap (λ cs. cond (eqb e.number old.number) (reseat new (shown p.seats e)) (shown p.seats e) ∷ cs) (all_reseated es is.1)
+
+  pub connections_reseated : map (shown t) p.entries ≡ changed old.number (reseat new) (connections p)
+  connections_reseated = all_reseated p.entries pool.agree
