@@ -1,5 +1,5 @@
 -- The slab of a pool, and what is shown of it.
-use Rattle.std.proofs.Common.{◌≡◌, ℕ, zero, suc, Bool, true, false, not, ◌+◌, ◌<◌, ◌≤◌, List, [], ◌∷◌, ◌++◌, length, filter, map, Option, Some, None, refl, sym, ap, ◌∙◌, cond, ⊎_elim, arith}
+use Rattle.std.proofs.Common.{◌≡◌, ℕ, zero, suc, Bool, true, false, not, ◌+◌, ◌<◌, ◌≤◌, List, [], ◌∷◌, ◌++◌, length, filter, map, Option, Some, None, refl, sym, ap, subst, ◌∙◌, cond, ⊎_elim, arith}
 use Rattle.std.proofs.Math.Dec.{eqb}
 use Rattle.std.proofs.lemmas.Bool.{eqb-true, eq-eqb}
 use Rattle.std.proofs.lemmas.Bool.Decides.{nat_tests, eqb_tells}
@@ -10,9 +10,9 @@ use Rattle.slab.specs.Slab.{Slab, get, with_value, Updates}
 use Rattle.tds_pool.specs.declared.numbers.Entry.{Entry}
 use Rattle.tds_pool.specs.declared.seat.Seat.{Seat}
 use Rattle.tds_pool.specs.declared.seat.Place.{Place}
-use Rattle.tds_pool.specs.Calls.{only}
-use Rattle.tds_pool.specs.Connections.{PoolState, Connection, shown, connections, numbered, changed, number_under, seat_or_none, reseated, Agree, IsPool}
-use Rattle.tds_pool.specs.Table.{key_of}
+use Rattle.tds_pool.specs.Calls.{only, standing}
+use Rattle.tds_pool.specs.Connections.{PoolState, Connection, shown, connections, numbered, changed, number_under, connection_of, seat_or_none, reseated, Agree, IsPool}
+use Rattle.tds_pool.specs.Table.{key_of, key_at, number_at}
 
 pub some_same : {A : Type 0} (a b : A) → Some a ≡ Some b → a ≡ b
 some_same a b h = ap (seen a) h where
@@ -91,9 +91,6 @@ agree_of s n k (e ∷ es) h is = ⊎_elim
     (λ t. agree_of s n k es h.1 (sym (passed (eqb e.number n) (Some e.key) (key_of es n) t.0) ∙ is))
     (eqb_tells e.number n)
 
-abbrev pub connection_of : ℕ → ℕ → Seat → Connection
-connection_of number key seat = record { number = number; key = key; place = seat.place; client = seat.client }
-
 module _ (p : PoolState) (pool : IsPool p) where
   pub numbered_here : (key : ℕ) (seat : Seat) → get p.seats key ≡ Some seat → numbered seat.number (connections p) ≡ Some (connection_of seat.number key seat)
   numbered_here key seat h =
@@ -103,13 +100,13 @@ module _ (p : PoolState) (pool : IsPool p) where
       ∙ ap (λ o. Some (connection_of seat.number key (seat_or_none o))) h
 
   pub held_found : (key : ℕ) (seat : Seat) → get p.seats key ≡ Some seat → (test : Place → Bool)
-      → only (λ (c : Connection). (c.key == key) && test c.place) (numbered seat.number (connections p)) ≡ cond (test seat.place) (Some (connection_of seat.number key seat)) None
+      → standing test key seat.number (connections p) ≡ cond (test seat.place) (Some (connection_of seat.number key seat)) None
   held_found key seat h test =
       ap (only (λ (c : Connection). (c.key == key) && test c.place)) (numbered_here key seat h)
       ∙ ap (λ b. cond (b && test seat.place) (Some (connection_of seat.number key seat)) None) (eq-eqb key key refl)
 
   pub held_unknown : (key number : ℕ) → (number_under p.seats key ≡ Some number → ⊥) → (test : Place → Bool)
-      → only (λ (c : Connection). (c.key == key) && test c.place) (numbered number (connections p)) ≡ None
+      → standing test key number (connections p) ≡ None
   held_unknown key number wrong test = ap (only (λ (c : Connection). (c.key == key) && test c.place)) (numbered_is p.seats number p.entries) ∙ nobody (key_of p.entries number) refl where
     nobody : (o : Option ℕ) → key_of p.entries number ≡ o → only (λ (c : Connection). (c.key == key) && test c.place) (option_map (λ k. shown p.seats (entry_of number k)) o) ≡ None
     nobody None is = refl
@@ -120,24 +117,25 @@ module _ (p : PoolState) (pool : IsPool p) where
 
 -- ---- The connections behind a write
 
-abbrev pub reseat : Seat → Connection → Connection
-reseat seat c = record c { place = seat.place; client = seat.client }
-
-module _ (p : PoolState) (pool : IsPool p) (t : Slab Seat) (key : ℕ) (old new : Seat) (u : Updates p.seats t key (Some new)) (h : get p.seats key ≡ Some old) where
-  entry_reseated : (e : Entry) → number_under p.seats e.key ≡ Some e.number → shown t e ≡ cond (eqb e.number old.number) (reseat new (shown p.seats e)) (shown p.seats e)
+-- what was under the key is shown as f makes of it, and the others as they were
+module _ (p : PoolState) (pool : IsPool p) (t : Slab Seat) (key : ℕ) (old new : Seat) (u : Updates p.seats t key (Some new)) (h : get p.seats key ≡ Some old) (f : Connection → Connection) (is_f : f (connection_of old.number key old) ≡ connection_of old.number key new) where
+  entry_reseated : (e : Entry) → number_under p.seats e.key ≡ Some e.number → shown t e ≡ cond (eqb e.number old.number) (f (shown p.seats e)) (shown p.seats e)
   entry_reseated e is = ⊎_elim
       (λ (x : (eqb e.key key ≡ true) × (e.key ≡ key)).
       let same : e.key ≡ key = x.1 in
       let there : get t e.key ≡ Some new = rw same u.changed in
       let was : get p.seats e.key ≡ Some old = rw same h in
-      let number : old.number ≡ e.number = some_same old.number e.number (sym (ap (option_map (λ (s : Seat). s.number)) was) ∙ is) in
-      ap (λ o. record { number = e.number; key = e.key; place = (seat_or_none o).place; client = (seat_or_none o).client }) there
-      ∙ sym (taken (eqb e.number old.number) (reseat new (shown p.seats e)) (shown p.seats e) (eq-eqb e.number old.number (sym number))))
+      let number : e.number ≡ old.number = some_same e.number old.number (sym is ∙ ap (option_map (λ (s : Seat). s.number)) was) in
+      let now : shown t e ≡ connection_of old.number key new = ap (λ o. connection_of e.number e.key (seat_or_none o)) there ∙ moved e.number e.key new number same in
+      let before : shown p.seats e ≡ connection_of old.number key old = ap (λ o. connection_of e.number e.key (seat_or_none o)) was ∙ moved e.number e.key old number same in
+      now ∙ sym (taken (eqb e.number old.number) (f (shown p.seats e)) (shown p.seats e) (eq-eqb e.number old.number number) ∙ ap f before ∙ is_f))
       (λ (x : (eqb e.key key ≡ false) × (e.key ≢ key)).
-      ap (λ o. record { number = e.number; key = e.key; place = (seat_or_none o).place; client = (seat_or_none o).client }) (u.others e.key x.1)
-      ∙ sym (passed (eqb e.number old.number) (reseat new (shown p.seats e)) (shown p.seats e) (unlike e is x.1)))
+      ap (λ o. connection_of e.number e.key (seat_or_none o)) (u.others e.key x.1)
+      ∙ sym (passed (eqb e.number old.number) (f (shown p.seats e)) (shown p.seats e) (unlike e is x.1)))
       (eqb_tells e.key key)
     where
+      moved : (n k : ℕ) (seat : Seat) → n ≡ old.number → k ≡ key → connection_of n k seat ≡ connection_of old.number key seat
+      moved n k seat a b = ap (λ m. connection_of m k seat) a ∙ ap (λ m. connection_of old.number m seat) b
       unlike : (e : Entry) → number_under p.seats e.key ≡ Some e.number → e.key ≢ key → eqb e.number old.number ≡ false
       unlike e is other = ⊎_elim
           (λ (x : (eqb e.number old.number ≡ true) × (e.number ≡ old.number)).
@@ -148,9 +146,51 @@ module _ (p : PoolState) (pool : IsPool p) (t : Slab Seat) (key : ℕ) (old new 
           (λ x. x.0)
           (eqb_tells e.number old.number)
 
-  all_reseated : (es : List Entry) → Agree p.seats es → map (shown t) es ≡ changed old.number (reseat new) (map (shown p.seats) es)
+  all_reseated : (es : List Entry) → Agree p.seats es → map (shown t) es ≡ changed old.number f (map (shown p.seats) es)
   all_reseated [] is = refl
-  all_reseated (e ∷ es) is = ap (λ c. c ∷ map (shown t) es) (entry_reseated e is.0) ∙ ap (λ cs. cond (eqb e.number old.number) (reseat new (shown p.seats e)) (shown p.seats e) ∷ cs) (all_reseated es is.1)
+  all_reseated (e ∷ es) is = ap (λ c. c ∷ map (shown t) es) (entry_reseated e is.0) ∙ ap (λ cs. cond (eqb e.number old.number) (f (shown p.seats e)) (shown p.seats e) ∷ cs) (all_reseated es is.1)
 
-  pub connections_reseated : map (shown t) p.entries ≡ changed old.number (reseat new) (connections p)
-  connections_reseated = all_reseated p.entries pool.agree
+  connections_moved : map (shown t) p.entries ≡ changed old.number f (connections p)
+  connections_moved = all_reseated p.entries pool.agree
+
+-- the same of a write under a key
+pub connections_reseated : (p : PoolState) → IsPool p → (key : ℕ) (old new : Seat) → get p.seats key ≡ Some old → (f : Connection → Connection) → f (connection_of old.number key old) ≡ connection_of old.number key new
+    → connections (reseated p key new) ≡ changed old.number f (connections p)
+connections_reseated p pool key old new h f is_f = connections_moved p pool (with_value p.seats key new) key old new (written p.seats key old new h) h f is_f
+
+-- what stands at a place of the table is under its key
+pub agree_at : (s : Slab Seat) (es : List Entry) → Agree s es → (i : ℕ) → i < length es → number_under s (key_at es i) ≡ Some (number_at es i)
+agree_at s [] h i lt = absurd (omega (arith, lt))
+agree_at s (e ∷ es) h zero lt = h.0
+agree_at s (e ∷ es) h (suc i) lt = agree_at s es h.1 i (omega (arith, lt))
+
+-- ---- What the calls ask
+
+pub none_under : (s : Slab Seat) (key number : ℕ) → get s key ≡ None → number_under s key ≡ Some number → ⊥
+none_under s key number h is = nothing (sym (ap (option_map (λ (x : Seat). x.number)) h) ∙ is) where
+  nothing : None ≡ Some number → ⊥
+  nothing e = absurd (cc)
+
+pub other_under : (s : Slab Seat) (key number : ℕ) (seat : Seat) → get s key ≡ Some seat → seat.number ≢ number → number_under s key ≡ Some number → ⊥
+other_under s key number seat h other is = other (some_same seat.number number (sym (ap (option_map (λ (x : Seat). x.number)) h) ∙ is))
+
+module _ (p : PoolState) (pool : IsPool p) where
+  pub standing_found : (key number : ℕ) (seat : Seat) → get p.seats key ≡ Some seat → seat.number ≡ number → (test : Place → Bool) → test seat.place ≡ true → standing test key number (connections p) ≡ Some (connection_of number key seat)
+  standing_found key number seat h is test good =
+      subst (λ n. standing test key n (connections p) ≡ Some (connection_of n key seat)) is
+      (held_found p pool key seat h test ∙ taken (test seat.place) (Some (connection_of seat.number key seat)) None good)
+
+  pub standing_elsewhere : (key number : ℕ) (seat : Seat) → get p.seats key ≡ Some seat → seat.number ≡ number → (test : Place → Bool) → test seat.place ≡ false → standing test key number (connections p) ≡ None
+  standing_elsewhere key number seat h is test bad =
+      subst (λ n. standing test key n (connections p) ≡ None) is
+      (held_found p pool key seat h test ∙ passed (test seat.place) (Some (connection_of seat.number key seat)) None bad)
+
+  -- at a place of the table
+  pub none_at : (i : ℕ) → i < length p.entries → get p.seats (key_at p.entries i) ≡ None → ⊥
+  none_at i lt h = none_under p.seats (key_at p.entries i) (number_at p.entries i) h (agree_at p.seats p.entries pool.agree i lt)
+
+  pub number_here : (i : ℕ) (seat : Seat) → i < length p.entries → get p.seats (key_at p.entries i) ≡ Some seat → seat.number ≡ number_at p.entries i
+  number_here i seat lt h = some_same seat.number (number_at p.entries i) (sym (ap (option_map (λ (x : Seat). x.number)) h) ∙ agree_at p.seats p.entries pool.agree i lt)
+
+  pub key_here : (i : ℕ) → i < length p.entries → key_of p.entries (number_at p.entries i) ≡ Some (key_at p.entries i)
+  key_here i lt = pool.back (key_at p.entries i) (number_at p.entries i) (agree_at p.seats p.entries pool.agree i lt)

@@ -7,9 +7,9 @@ use Rattle.std.specs.Prelude.{◌≢◌, option_map}
 use Rattle.slab.specs.Slab.{Slab, get, Updates}
 use Rattle.tds_pool.specs.declared.numbers.Entry.{Entry}
 use Rattle.tds_pool.specs.declared.seat.Seat.{Seat}
-use Rattle.tds_pool.specs.Connections.{PoolState, Connection, shown, connections, taken_out, number_under, seat_or_none, Agree, IsPool}
+use Rattle.tds_pool.specs.Connections.{PoolState, Connection, shown, connections, taken_out, number_under, connection_of, seat_or_none, Agree, IsPool}
 use Rattle.tds_pool.specs.Table.{key_of, without, AreBelow}
-use Rattle.tds_pool.proofs.Seats.{some_same, agree_of, taken, passed, connection_of}
+use Rattle.tds_pool.proofs.Seats.{some_same, agree_of, taken, passed}
 use Rattle.tds_pool.proofs.Tables.{shorter, when_without}
 
 -- ---- Taking out

@@ -57,12 +57,16 @@ abbrev pub only : (Connection → Bool) → Option Connection → Option Connect
 only test None = None
 only test (Some c) = if test c then Some c else None
 
+-- the connection of this number, where it has this key and its place meets the test
+abbrev pub standing : (Place → Bool) → ℕ → ℕ → List Connection → Option Connection
+standing test key number cs = only (λ (c : Connection). (c.key == key) && test c.place) (numbered number cs)
+
 -- the connection that a lease, or a ticket, stands for: of its number, under its key, and lent, or kept
 abbrev pub lent_to : Lease → List Connection → Option Connection
-lent_to lease cs = only (λ (c : Connection). (c.key == lease.key) && is_leased c.place) (numbered lease.number cs)
+lent_to lease cs = standing is_leased lease.key lease.number cs
 
 abbrev pub kept_for : Ticket → List Connection → Option Connection
-kept_for ticket cs = only (λ (c : Connection). (c.key == ticket.key) && is_kept c.place) (numbered ticket.number cs)
+kept_for ticket cs = standing is_kept ticket.key ticket.number cs
 
 -- ---- A client's stage
 

@@ -72,6 +72,16 @@ number_under seats key = option_map (λ (seat : Seat). seat.number) (get seats k
 abbrev pub reseated : PoolState → ℕ → Seat → PoolState
 reseated p key seat = record p { seats = with_value p.seats key seat }
 
+-- what the slab keeps under a key is shown so
+abbrev pub connection_of : ℕ → ℕ → Seat → Connection
+connection_of number key seat = record { number = number; key = key; place = seat.place; client = seat.client }
+
+-- what no call but `new` and `lease` changes
+pub record SameRest (old new : PoolState) : Type 0 where
+  pub max : new.max ≡ old.max
+  pub size : new.size ≡ old.size
+  pub last : new.last ≡ old.last
+
 -- each key of the table has its number in the slab
 abbrev pub Agree : Slab Seat → List Entry → Type 0
 Agree seats [] = Unit {0}

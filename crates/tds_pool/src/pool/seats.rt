@@ -1,0 +1,108 @@
+//! The connections of a pool, one by one: each function keeps table and slab at one.
+ghost use Rattle.std.specs.Prelude.{◌≡◌, ◌<◌, length, Bool, Some, None, IfSome, IfNone, OnOk, OnErr};
+ghost use Rattle.slab.specs.Slab.{get};
+ghost use Rattle.tds_client.specs.Session.{marked};
+ghost use Rattle.tds_pool.specs.declared.lease.Lease.{Lease};
+ghost use Rattle.tds_pool.specs.declared.lease.Ticket.{Ticket};
+ghost use Rattle.tds_pool.specs.declared.seat.Place.{Place};
+ghost use Rattle.tds_pool.specs.Table.{key_of, key_at, number_at};
+ghost use Rattle.tds_pool.specs.Connections.{connections, connection_of, numbered, at_place, taken_out, SameRest};
+ghost use Rattle.tds_pool.specs.Calls.{standing, lent_to, kept_for, lent_again};
+
+use crate::finding::place_of;
+use crate::lease::{Lease, Ticket};
+use crate::pool::Pool;
+use crate::seat::{Place, Seat};
+use tds_packet::Reset;
+
+impl Pool {
+    /// What stands under this key, if it has this number.
+    fn held(&self, key: usize, number: u32) -> Option<&Seat>
+        ensures there { IfSome result (λ seat. (get self.now.seats key ≡ Some seat.now)
+            × (seat.now.number ≡ number)) }
+        ensures found { IfSome result (λ seat. (test : Place → Bool) → test seat.now.place ≡ Bool.true
+            → standing test key number (connections self.now) ≡ Some (connection_of number key seat.now)) }
+        ensures elsewhere { IfSome result (λ seat. (test : Place → Bool) → test seat.now.place ≡ Bool.false
+            → standing test key number (connections self.now) ≡ None) }
+        ensures unknown { IfNone result ((test : Place → Bool)
+            → standing test key number (connections self.now) ≡ None) }
+    {
+        let seat = self.seats.get(key)?;
+        if seat.number != number {
+            return None;
+        }
+        Some(seat)
+    }
+
+    /// What a lease stands for.
+    pub(crate) fn leased(&self, lease: &Lease) -> Option<&Seat>
+        ensures there { IfSome result (λ seat. (get self.now.seats lease.now.key ≡ Some seat.now)
+            × (seat.now.number ≡ lease.now.number)) }
+        ensures found { IfSome result (λ seat. lent_to lease.now (connections self.now)
+            ≡ Some (connection_of lease.now.number lease.now.key seat.now)) }
+        ensures unknown { IfNone result (lent_to lease.now (connections self.now) ≡ None) }
+    {
+        let seat = self.held(lease.key, lease.number)?;
+        match seat.place {
+            Place::Leased => Some(seat),
+            Place::Kept => None,
+            Place::Free => None,
+            Place::Draining => None,
+        }
+    }
+
+    /// What a ticket stands for.
+    pub(crate) fn kept(&self, ticket: &Ticket) -> Option<&Seat>
+        ensures there { IfSome result (λ seat. (get self.now.seats ticket.now.key ≡ Some seat.now)
+            × (seat.now.number ≡ ticket.now.number)) }
+        ensures found { IfSome result (λ seat. kept_for ticket.now (connections self.now)
+            ≡ Some (connection_of ticket.now.number ticket.now.key seat.now)) }
+        ensures unknown { IfNone result (kept_for ticket.now (connections self.now) ≡ None) }
+    {
+        let seat = self.held(ticket.key, ticket.number)?;
+        match seat.place {
+            Place::Leased => None,
+            Place::Kept => Some(seat),
+            Place::Free => None,
+            Place::Draining => None,
+        }
+    }
+
+    /// The connection at this place of the table.
+    pub(crate) fn seat_at(&self, place: usize) -> &Seat
+        requires { place < length self.now.entries }
+        ensures there { get self.now.seats (key_at self.now.entries place) ≡ Some result.now }
+        ensures number { result.now.number ≡ number_at self.now.entries place }
+        ensures shown { numbered result.now.number (connections self.now)
+            ≡ Some (connection_of result.now.number (key_at self.now.entries place) result.now) }
+    {
+        match self.seats.get(self.numbers.key(place)) {
+            Some(seat) => seat,
+            None => unreachable!(),
+        }
+    }
+
+    /// Puts what is under this key at another place of the pool.
+    pub(crate) fn stand(&mut self, key: usize, place: Place)
+        ensures shown { IfSome (get self.old.seats key) (λ seat.
+            connections self.new ≡ at_place seat.number place (connections self.old)) }
+        ensures table { self.new.entries ≡ self.old.entries }
+        ensures rest { SameRest self.old self.new }
+    {
+        let Some(seat) = self.seats.get_mut(key) else {
+            return;
+        };
+        seat.place = place;
+    }
+
+    /// Takes out the connection at this place of the table.
+    pub(crate) fn take_out(&mut self, place: usize)
+        requires { place < length self.old.entries }
+        ensures shown { connections self.new
+            ≡ taken_out (number_at self.old.entries place) (connections self.old) }
+        ensures rest { SameRest self.old self.new }
+    {
+        self.seats.try_remove(self.numbers.key(place));
+        self.numbers.remove(place);
+    }
+}
