@@ -2,3 +2,4 @@ pub mod Halves
 pub mod Tables
 pub mod Seats
 pub mod Taken
+pub mod Results

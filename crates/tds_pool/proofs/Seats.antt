@@ -4,7 +4,7 @@ use Rattle.std.proofs.Math.Dec.{eqb}
 use Rattle.std.proofs.lemmas.Bool.{eqb-true, eq-eqb}
 use Rattle.std.proofs.lemmas.Bool.Decides.{nat_tests, eqb_tells}
 use Rattle.std.proofs.lemmas.List.{get_or-set_same, get_or-set_other}
-use Rattle.std.specs.Prelude.{slice_index_or, ◌≢◌, option_map, ◌==◌, ◌&&◌}
+use Rattle.std.specs.Prelude.{slice_index_or, ◌≢◌, option_map, ◌==◌, ◌&&◌, IfNone}
 use Rattle.std.specs.List.{find}
 use Rattle.slab.specs.Slab.{Slab, get, with_value, Updates}
 use Rattle.tds_pool.specs.declared.numbers.Entry.{Entry}
@@ -194,3 +194,8 @@ module _ (p : PoolState) (pool : IsPool p) where
 
   pub key_here : (i : ℕ) → i < length p.entries → key_of p.entries (number_at p.entries i) ≡ Some (key_at p.entries i)
   key_here i lt = pool.back (key_at p.entries i) (number_at p.entries i) (agree_at p.seats p.entries pool.agree i lt)
+
+-- a number that the table lacks is not shown
+pub absent_shown : (p : PoolState) (n : ℕ) (o : Option ℕ) → IfNone o (key_of p.entries n ≡ None) → IfNone o (numbered n (connections p) ≡ None)
+absent_shown p n None h = numbered_is p.seats n p.entries ∙ ap (option_map (λ k. shown p.seats (entry_of n k))) h
+absent_shown p n (Some i) h = tt

@@ -1,10 +1,11 @@
 -- What the calls of a pool do.
-use Rattle.std.specs.Prelude.{ℕ, suc, ◌==◌, ◌&&◌, ◌||◌, ◌++◌, nat_lt, Bool, true, false, List, [], ◌∷◌, length, Option, Some, None, Result, Ok, Err, if◌then◌else◌}
+use Rattle.std.specs.Prelude.{◌≡◌, ℕ, suc, ◌==◌, ◌&&◌, ◌||◌, ◌++◌, nat_lt, Bool, true, false, List, [], ◌∷◌, length, Option, Some, None, Result, Ok, Err, if◌then◌else◌}
 use Rattle.std.specs.List.{find}
 use Rattle.tds_packet.specs.declared.status.Reset.{Reset}
 use Rattle.tds_packet.specs.declared.status.Reset.TheVariants.{Full, KeepTransaction}
 use Rattle.tds_client.specs.declared.fault.ClientRefusal.{ClientRefusal}
 use Rattle.tds_client.specs.declared.state.Cancelled.{Cancelled}
+use Rattle.tds_client.specs.declared.state.Cancelled.TheVariants as asked
 use Rattle.tds_client.specs.Session.{ClientSession, Stage, Idle, Sending, Reading, Cancelling, Broken, new_session, marked}
 use Rattle.tds_client.specs.Sending as sending
 use Rattle.tds_pool.specs.declared.answers.PoolRefusal.{PoolRefusal}
@@ -156,3 +157,68 @@ refuses_resume (Some c) = unless_idle c.client.stage
 abbrev pub lent_again : ℕ → Reset → List Connection → List Connection
 lent_again number reset cs =
     changed number (λ (c : Connection). record c { place = places.Leased; client = marked c.client reset }) cs
+
+-- ---- A connection that nobody holds any more
+
+-- of this number; where there is none, nothing changes
+abbrev pub settled : ℕ → List Connection → Returned
+settled number cs = put_back (numbered number cs) cs
+
+-- the client behind a cancel, and the bytes that go out for it; a broken client stays as it is
+abbrev pub session_behind : Result (sending.Effect Cancelled) ClientRefusal → ClientSession → ClientSession
+session_behind (Ok effect) s = effect.session
+session_behind (Err refusal) s = s
+
+abbrev pub bytes_behind : Result (sending.Effect Cancelled) ClientRefusal → List ℕ
+bytes_behind (Ok effect) = effect.bytes
+bytes_behind (Err refusal) = []
+
+-- whether an attention goes out
+abbrev pub IsAsked : Result (sending.Effect Cancelled) ClientRefusal → Type 0
+IsAsked (Ok effect) = effect.answer ≡ asked.Asked
+IsAsked (Err refusal) = ⊥
+
+-- what is underway on a connection is cancelled
+abbrev pub cancels : ℕ → ClientSession → List Connection → List Connection
+cancels number client cs = with_client number (session_behind (sending.cancelled client) client) cs
+
+-- ---- Giving back a lease
+
+-- what is underway is cancelled, and then nobody holds the connection
+abbrev pub cancelled_and_settled : Option Connection → List Connection → Returned
+cancelled_and_settled None cs = record { answer = given.Unknown; connections = cs }
+cancelled_and_settled (Some c) cs = settled c.number (cancels c.number c.client cs)
+
+abbrev pub cancel_bytes : Option Connection → List ℕ
+cancel_bytes None = []
+cancel_bytes (Some c) = bytes_behind (sending.cancelled c.client)
+
+abbrev pub given_back : Lease → List Connection → Returned
+given_back lease cs = cancelled_and_settled (lent_to lease cs) cs
+
+abbrev pub given_back_bytes : Lease → List Connection → List ℕ
+given_back_bytes lease cs = cancel_bytes (lent_to lease cs)
+
+-- ---- Lending
+
+-- a free connection whose client is idle
+abbrev pub is_lendable : Connection → Bool
+is_lendable c = is_free c.place && is_idle c.client.stage
+
+-- the one that is lent next, if there is any: the first of the rising numbers
+abbrev pub lent_next : List Connection → Option Connection
+lent_next cs = find is_lendable cs
+
+-- why no new connection is opened, if one isn't, want of memory aside
+abbrev pub refuses_new : ℕ → ℕ → ℕ → Option PoolRefusal
+refuses_new count max last =
+    if nat_lt count max then (if nat_lt last 4294967295 then None else Some refusals.NumbersUsedUp) else Some refusals.AllInUse
+
+-- the first refusal, and where there is none, want of memory
+abbrev pub IsRefusal : Option PoolRefusal → PoolRefusal → Type 0
+IsRefusal None refusal = refusal ≡ refusals.Memory
+IsRefusal (Some first) refusal = refusal ≡ first
+
+-- a new connection
+abbrev pub new_connection : ℕ → ℕ → ℕ → Connection
+new_connection number key size = record { number = number; key = key; place = places.Leased; client = new_session size }

@@ -1,10 +1,12 @@
 //! What the pool looks at in a client.
-ghost use Rattle.std.specs.Prelude.{◌≡◌, None, Some, OnOk, IfErr};
-ghost use Rattle.tds_pool.specs.Calls.{is_idle, is_broken, rests_at, unless_idle, unless_open, has_no_transaction};
+ghost use Rattle.std.specs.Prelude.{◌≡◌, None, Some, ◌++◌, OnOk, OnErr, IfErr};
+ghost use Rattle.tds_client.specs.Session.{marked};
+ghost use Rattle.tds_client.specs.Sending.{cancelled};
+ghost use Rattle.tds_pool.specs.Calls.{session_behind, bytes_behind, IsAsked, is_idle, is_broken, rests_at, unless_idle, unless_open, has_no_transaction};
 
 use crate::answers::PoolRefusal;
 use crate::seat::Place;
-use tds_client::{Client, ClientState};
+use tds_client::{Client, ClientRefusal, ClientState};
 use tds_packet::Reset;
 
 /// Whether no request is underway.
@@ -76,5 +78,39 @@ pub(crate) fn check_open(client: &Client) -> Result<(), PoolRefusal>
         ClientState::Reading => Err(PoolRefusal::NotIdle),
         ClientState::Cancelling => Err(PoolRefusal::NotIdle),
         ClientState::Broken(_) => Err(PoolRefusal::Broken),
+    }
+}
+
+/// Marks a client for a reset, unless it is broken or not idle.
+pub(crate) fn mark(client: &mut Client, reset: Reset) -> Result<(), PoolRefusal>
+    ensures ok { OnOk result (unless_idle client.old.stage ≡ None) }
+    ensures marked { OnOk result (client.new ≡ marked client.old reset) }
+    ensures refused { IfErr result (λ refusal. unless_idle client.old.stage ≡ Some refusal) }
+    ensures err { OnErr result (client.new ≡ client.old) }
+{
+    check_idle(client)?;
+    match client.mark_reset(reset) {
+        Ok(()) => Ok(()),
+        Err(_) => unreachable!(),
+    }
+}
+
+/// Cancels what is underway. The only refusal is `Memory`; a broken client stays as it is.
+pub(crate) fn cancel(client: &mut Client, out: &mut Vec<u8>) -> Result<(), PoolRefusal>
+    ensures ok { OnOk result (client.new
+        ≡ session_behind (cancelled client.old) client.old) }
+    ensures bytes { OnOk result (out.new.items
+        ≡ out.old.items ++ bytes_behind (cancelled client.old)) }
+    ensures refused { IfErr result (λ refusal. (refusal ≡ PoolRefusal.Memory)
+        × IsAsked (cancelled client.old)) }
+    ensures err { OnErr result (client.new ≡ client.old) }
+    ensures nothing { OnErr result (out.new.items ≡ out.old.items) }
+{
+    match client.cancel(out) {
+        Ok(_) => Ok(()),
+        Err(ClientRefusal::Memory) => Err(PoolRefusal::Memory),
+        Err(ClientRefusal::Broken) => Ok(()),
+        Err(ClientRefusal::NotIdle) => Ok(()),
+        Err(ClientRefusal::NotSending) => Ok(()),
     }
 }

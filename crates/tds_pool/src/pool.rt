@@ -7,6 +7,7 @@ ghost use Rattle.tds_pool.specs.declared.seat.Seat.{Seat};
 ghost use Rattle.tds_pool.specs.Connections.{connections};
 ghost use Rattle.tds_pool.specs.Lends.{LendsClient};
 
+mod calls;
 mod seats;
 
 use crate::numbers::{MOST, Numbers};

@@ -1,14 +1,17 @@
 //! The connections of a pool, one by one: each function keeps table and slab at one.
-ghost use Rattle.std.specs.Prelude.{◌≡◌, ◌<◌, length, Bool, Some, None, IfSome, IfNone, OnOk, OnErr};
+ghost use Rattle.std.specs.Prelude.{◌≡◌, ◌<◌, length, Bool, Some, None, IfSome, IfNone, ◌++◌, IfErr, OnOk, OnErr};
 ghost use Rattle.slab.specs.Slab.{get};
-ghost use Rattle.tds_client.specs.Session.{marked};
+ghost use Rattle.tds_client.specs.Sending.{cancelled};
 ghost use Rattle.tds_pool.specs.declared.lease.Lease.{Lease};
 ghost use Rattle.tds_pool.specs.declared.lease.Ticket.{Ticket};
 ghost use Rattle.tds_pool.specs.declared.seat.Place.{Place};
 ghost use Rattle.tds_pool.specs.Table.{key_of, key_at, number_at};
 ghost use Rattle.tds_pool.specs.Connections.{connections, connection_of, numbered, at_place, taken_out, SameRest};
-ghost use Rattle.tds_pool.specs.Calls.{standing, lent_to, kept_for, lent_again};
+ghost use Rattle.tds_pool.specs.declared.answers.PoolRefusal.{PoolRefusal};
+ghost use Rattle.tds_pool.specs.Calls.{standing, lent_to, kept_for, lent_again, unless_idle, cancels, bytes_behind, IsAsked, settled};
 
+use crate::answers::{GivenBack, PoolRefusal};
+use crate::clients::{self, mark, resting_place};
 use crate::finding::place_of;
 use crate::lease::{Lease, Ticket};
 use crate::pool::Pool;
@@ -104,5 +107,91 @@ impl Pool {
     {
         self.seats.try_remove(self.numbers.key(place));
         self.numbers.remove(place);
+    }
+
+    /// Lends what is under this key again, its client marked for a reset, unless the client is
+    /// broken or not idle.
+    pub(crate) fn lend_again(&mut self, key: usize, reset: Reset) -> Result<(), PoolRefusal>
+        ensures ok { OnOk result (IfSome (get self.old.seats key) (λ seat.
+            unless_idle seat.client.stage ≡ None)) }
+        ensures shown { OnOk result (IfSome (get self.old.seats key) (λ seat.
+            connections self.new ≡ lent_again seat.number reset (connections self.old))) }
+        ensures refused { IfErr result (λ refusal. IfSome (get self.old.seats key) (λ seat.
+            unless_idle seat.client.stage ≡ Some refusal)) }
+        ensures err { OnErr result (self.new ≡ self.old) }
+        ensures rest { SameRest self.old self.new }
+    {
+        let Some(seat) = self.seats.get_mut(key) else {
+            return Ok(());
+        };
+        mark(&mut seat.client, reset)?;
+        seat.place = Place::Leased;
+        Ok(())
+    }
+
+    /// Cancels what is underway under this key. The only refusal is `Memory`.
+    pub(crate) fn cancel(&mut self, key: usize, out: &mut Vec<u8>) -> Result<(), PoolRefusal>
+        ensures shown { OnOk result (IfSome (get self.old.seats key) (λ seat. connections self.new
+            ≡ cancels seat.number seat.client (connections self.old))) }
+        ensures bytes { OnOk result (IfSome (get self.old.seats key) (λ seat. out.new.items
+            ≡ out.old.items ++ bytes_behind (cancelled seat.client))) }
+        ensures refused { IfErr result (λ refusal. (refusal ≡ PoolRefusal.Memory)
+            × IfSome (get self.old.seats key) (λ seat. IsAsked (cancelled seat.client))) }
+        ensures err { OnErr result ((self.new ≡ self.old) × (out.new.items ≡ out.old.items)) }
+        ensures rest { SameRest self.old self.new }
+    {
+        let Some(seat) = self.seats.get_mut(key) else {
+            return Ok(());
+        };
+        clients::cancel(&mut seat.client, out)
+    }
+
+    /// Nobody holds the connection at this place of the table any more.
+    pub(crate) fn settle_at(&mut self, place: usize) -> GivenBack
+        requires { place < length self.old.entries }
+        ensures answer { result
+            ≡ (settled (number_at self.old.entries place) (connections self.old)).answer }
+        ensures shown { connections self.new
+            ≡ (settled (number_at self.old.entries place) (connections self.old)).connections }
+        ensures rest { SameRest self.old self.new }
+    {
+        let key = self.numbers.key(place);
+        let seat = self.seat_at(place);
+        let number = seat.number;
+        match resting_place(&seat.client) {
+            None => {
+                self.take_out(place);
+                GivenBack::Closed(number)
+            }
+            Some(Place::Draining) => {
+                self.stand(key, Place::Draining);
+                GivenBack::Draining(number)
+            }
+            Some(rest) => {
+                self.stand(key, rest);
+                GivenBack::Free(number)
+            }
+        }
+    }
+
+    /// Nobody holds the connection of this number any more.
+    pub(crate) fn settle(&mut self, number: u32) -> GivenBack
+        ensures answer { result ≡ (settled number (connections self.old)).answer }
+        ensures shown { connections self.new ≡ (settled number (connections self.old)).connections }
+        ensures rest { SameRest self.old self.new }
+    {
+        match self.place_of(number) {
+            Some(place) => self.settle_at(place),
+            None => GivenBack::Unknown,
+        }
+    }
+
+    /// The place of this number in the table.
+    pub(crate) fn place_of(&self, number: u32) -> Option<usize>
+        ensures found { IfSome result (λ place. (place < length self.now.entries)
+            × (number_at self.now.entries place ≡ number)) }
+        ensures unknown { IfNone result (numbered number (connections self.now) ≡ None) }
+    {
+        place_of(&self.numbers, number)
     }
 }
