@@ -4,14 +4,16 @@ use Rattle.std.proofs.Math.Dec.{eqb}
 use Rattle.std.proofs.lemmas.Bool.{eqb-true, eq-eqb}
 use Rattle.std.proofs.lemmas.Bool.Decides.{nat_tests, eqb_tells}
 use Rattle.std.proofs.lemmas.List.{get_or-set_same, get_or-set_other}
-use Rattle.std.specs.Prelude.{slice_index_or, ◌≢◌, option_map, ◌==◌, ◌&&◌, IfNone}
+use Rattle.std.specs.Prelude.{slice_index_or, ◌≢◌, option_map, ◌==◌, ◌&&◌, IfNone, IfSome, is_some, drop}
 use Rattle.std.specs.List.{find}
 use Rattle.slab.specs.Slab.{Slab, get, with_value, Updates}
 use Rattle.tds_pool.specs.declared.numbers.Entry.{Entry}
 use Rattle.tds_pool.specs.declared.seat.Seat.{Seat}
 use Rattle.tds_pool.specs.declared.seat.Place.{Place}
 use Rattle.tds_pool.specs.Calls.{only, standing}
-use Rattle.tds_pool.specs.Connections.{PoolState, Connection, shown, connections, numbered, changed, number_under, connection_of, seat_or_none, reseated, Agree, IsPool}
+use Rattle.tds_pool.specs.Connections.{PoolState, Connection, shown, connections, numbered, changed, taken_out, with_client, number_under, connection_of, seat_or_none, reseated, Agree, IsPool}
+use Rattle.tds_client.specs.Session.{ClientSession}
+use Rattle.tds_pool.specs.Lends.{with_client_under}
 use Rattle.tds_pool.specs.Table.{key_of, key_at, number_at}
 
 pub some_same : {A : Type 0} (a b : A) → Some a ≡ Some b → a ≡ b
@@ -199,3 +201,40 @@ module _ (p : PoolState) (pool : IsPool p) where
 pub absent_shown : (p : PoolState) (n : ℕ) (o : Option ℕ) → IfNone o (key_of p.entries n ≡ None) → IfNone o (numbered n (connections p) ≡ None)
 absent_shown p n None h = numbered_is p.seats n p.entries ∙ ap (option_map (λ k. shown p.seats (entry_of n k))) h
 absent_shown p n (Some i) h = tt
+
+pub found_shown : (p : PoolState) (n : ℕ) (o : Option ℕ) → IfSome o (λ i. (i < length p.entries) × (number_at p.entries i ≡ n) × (key_of p.entries n ≡ Some (key_at p.entries i)))
+    → IfSome o (λ i. (i < length p.entries) × (number_at p.entries i ≡ n) × (is_some (numbered n (connections p)) ≡ true))
+found_shown p n None h = tt
+found_shown p n (Some i) h = (h.0, h.1, ap is_some (numbered_is p.seats n p.entries ∙ ap (option_map (λ k. shown p.seats (entry_of n k))) h.2))
+
+none_taken : (n : ℕ) (cs : List Connection) → numbered n cs ≡ None → taken_out n cs ≡ cs
+none_taken n [] h = refl
+none_taken n (c ∷ cs) h = by (eqb c.number n) h (none_taken n cs) where
+  by : (b : Bool) → cond b (Some c) (numbered n cs) ≡ None → (numbered n cs ≡ None → taken_out n cs ≡ cs) → cond (not b) (c ∷ taken_out n cs) (taken_out n cs) ≡ c ∷ cs
+  by true e rest = absurd (cc)
+  by false e rest = ap (λ ds. c ∷ ds) (rest e)
+
+pub absent_taken : (p : PoolState) (n : ℕ) (o : Option ℕ) → IfNone o (key_of p.entries n ≡ None) → IfNone o (taken_out n (connections p) ≡ connections p)
+absent_taken p n None h = none_taken n (connections p) (absent_shown p n None h)
+absent_taken p n (Some i) h = tt
+
+-- the connections from a place on
+drop_shown : (s : Slab Seat) (es : List Entry) (i : ℕ) → i < length es → drop i (map (shown s) es) ≡ shown s (entry_of (number_at es i) (key_at es i)) ∷ drop (suc i) (map (shown s) es)
+drop_shown s [] i lt = absurd (omega (arith, lt))
+drop_shown s (e ∷ es) zero lt = refl
+drop_shown s (e ∷ es) (suc i) lt = drop_shown s es i (omega (arith, lt))
+
+pub next_shown : (p : PoolState) → IsPool p → (i : ℕ) (seat : Seat) → i < length p.entries → get p.seats (key_at p.entries i) ≡ Some seat
+    → drop i (connections p) ≡ connection_of seat.number (key_at p.entries i) seat ∷ drop (suc i) (connections p)
+next_shown p pool i seat lt h =
+    drop_shown p.seats p.entries i lt
+    ∙ ap (λ o. connection_of (number_at p.entries i) (key_at p.entries i) (seat_or_none o) ∷ drop (suc i) (connections p)) h
+    ∙ ap (λ n. connection_of n (key_at p.entries i) seat ∷ drop (suc i) (connections p)) (sym (number_here p pool i seat lt h))
+
+-- a client that is written under a key
+pub writes_under : (p : PoolState) → IsPool p → (key number : ℕ) (seat : Seat) → get p.seats key ≡ Some seat → seat.number ≡ number → (client : ClientSession)
+    → connections (with_client_under p key client) ≡ with_client number client (connections p)
+writes_under p pool key number seat h is client =
+    ap (λ o. connections (reseated p key (record (seat_or_none o) { client = client }))) h
+    ∙ connections_reseated p pool key seat (record seat { client = client }) h (λ c. record c { client = client }) refl
+    ∙ ap (λ n. with_client n client (connections p)) is

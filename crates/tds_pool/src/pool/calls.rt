@@ -1,5 +1,5 @@
 //! The calls of a pool.
-ghost use Rattle.std.specs.Prelude.{◌≡◌, ◌++◌, Bool, Option, Some, None, IfOk, IfErr, IfSome, OnOk, OnErr, IsSome, is_some, option_map};
+ghost use Rattle.std.specs.Prelude.{◌≡◌, ◌++◌, Bool, Option, Some, None, IfOk, IfErr, IfSome, IfNone, OnOk, OnErr, IsSome, is_some, option_map};
 ghost use Rattle.std.specs.Option.{option_copied, option_copied_mut};
 ghost use Rattle.std.specs.Borrow.{sem};
 ghost use Rattle.slab.specs.Slab.{get};
@@ -8,10 +8,14 @@ ghost use Rattle.tds_client.specs.Sending.{cancelled};
 ghost use Rattle.tds_packet.specs.declared.status.Reset.TheVariants.{KeepTransaction};
 ghost use Rattle.tds_pool.specs.declared.seat.Place.TheVariants.{Kept};
 ghost use Rattle.tds_pool.specs.Connections.{connections, Connection, SameRest, numbered, at_place, taken_out, with_client};
+ghost use Rattle.tds_pool.specs.declared.seat.Seat.{Seat};
+ghost use Rattle.tds_pool.specs.Table.{key_of};
+ghost use Rattle.tds_pool.specs.Lends.{LendsClient, LendsNumbered, with_client_under, with_client_numbered};
 ghost use Rattle.tds_pool.specs.Calls.{lent_to, kept_for, refuses_keep, refuses_resume, lent_again, abandoned, drained, given_back, given_back_bytes, IsAsked};
 
 use crate::answers::{GivenBack, PoolRefusal};
 use crate::clients::check_open;
+use crate::finding::place_of;
 use crate::lease::{Lease, Ticket};
 use crate::pool::Pool;
 use crate::seat::Place;
@@ -26,6 +30,69 @@ impl Pool {
     {
         let seat = self.leased(lease)?;
         Some(&seat.client)
+    }
+
+    /// The client of a lease, to be changed; none if the lease is unknown. The other connections
+    /// stay as they are.
+    pub fn client_mut(&mut self, lease: &Lease) -> Option<&mut Client>
+        ensures* lends { sem 𝓛 (LendsClient self.entry lease.now.key result) }
+        ensures value { option_copied_mut result
+            ≡ option_map (λ (c : Connection). c.client)
+                (lent_to lease.now (connections self.entry.now)) }
+        ensures writes { IsSome (lent_to lease.now (connections self.entry.now))
+            → (client : ClientSession)
+            → connections (with_client_under self.entry.now lease.now.key client)
+                ≡ with_client lease.now.number client (connections self.entry.now) }
+    {
+        let key = self.leased_key(lease)?;
+        self.lend(key)
+    }
+
+    /// The key of a lease; none if the lease is unknown.
+    fn leased_key(&self, lease: &Lease) -> Option<usize>
+        ensures found { IfSome result (λ key. (key ≡ lease.now.key)
+            × (option_map (λ (seat : Seat). seat.client) (get self.now.seats lease.now.key)
+                ≡ option_map (λ (c : Connection). c.client) (lent_to lease.now (connections self.now)))) }
+        ensures unknown { IfNone result (lent_to lease.now (connections self.now) ≡ None) }
+        ensures writes { IsSome (lent_to lease.now (connections self.now))
+            → (client : ClientSession)
+            → connections (with_client_under self.now lease.now.key client)
+                ≡ with_client lease.now.number client (connections self.now) }
+    {
+        self.leased(lease)?;
+        Some(lease.key)
+    }
+
+    /// The client of a connection of this number, wherever it stands, for whoever carries its
+    /// packets; none if there is no such connection. A free one that breaks so is passed over by
+    /// `lease` until `lost` takes it out.
+    pub fn at(&mut self, number: u32) -> Option<&mut Client>
+        ensures* lends { sem 𝓛 (LendsNumbered self.entry number result) }
+        ensures value { option_copied_mut result
+            ≡ option_map (λ (c : Connection). c.client)
+                (numbered number (connections self.entry.now)) }
+        ensures writes { (client : ClientSession)
+            → IsSome (numbered number (connections self.entry.now))
+            → connections (with_client_numbered self.entry.now number client)
+                ≡ with_client number client (connections self.entry.now) }
+    {
+        let key = self.key_of(number)?;
+        self.lend(key)
+    }
+
+    /// The key of this number; none if there is no such connection.
+    fn key_of(&self, number: u32) -> Option<usize>
+        ensures key { result ≡ key_of self.now.entries number }
+        ensures found { IfSome result (λ key. option_map (λ (seat : Seat). seat.client) (get self.now.seats key)
+            ≡ option_map (λ (c : Connection). c.client) (numbered number (connections self.now))) }
+        ensures unknown { IfNone result (numbered number (connections self.now) ≡ None) }
+        ensures writes { (client : ClientSession)
+            → IsSome (numbered number (connections self.now))
+            → connections (with_client_numbered self.now number client)
+                ≡ with_client number client (connections self.now) }
+    {
+        let place = place_of(&self.numbers, number)?;
+        Some(self.numbers.key(place))
     }
 
     /// Keeps a connection with its transaction: the lease ends, and a ticket stands for it.

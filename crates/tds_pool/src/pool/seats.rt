@@ -1,13 +1,15 @@
 //! The connections of a pool, one by one: each function keeps table and slab at one.
-ghost use Rattle.std.specs.Prelude.{◌≡◌, ◌<◌, length, Bool, Some, None, IfSome, IfNone, ◌++◌, IfErr, OnOk, OnErr};
+ghost use Rattle.std.specs.Prelude.{◌∷◌, suc, drop, is_some, ◌≡◌, ◌<◌, length, Bool, Some, None, IfSome, IfNone, ◌++◌, IfErr, OnOk, OnErr};
 ghost use Rattle.slab.specs.Slab.{get};
+ghost use Rattle.tds_client.specs.Session.{ClientSession};
 ghost use Rattle.tds_client.specs.Sending.{cancelled};
 ghost use Rattle.tds_pool.specs.declared.lease.Lease.{Lease};
 ghost use Rattle.tds_pool.specs.declared.lease.Ticket.{Ticket};
 ghost use Rattle.tds_pool.specs.declared.seat.Place.{Place};
 ghost use Rattle.tds_pool.specs.Table.{key_of, key_at, number_at};
-ghost use Rattle.tds_pool.specs.Connections.{connections, connection_of, numbered, at_place, taken_out, SameRest};
+ghost use Rattle.tds_pool.specs.Connections.{connections, connection_of, numbered, at_place, with_client, taken_out, SameRest};
 ghost use Rattle.tds_pool.specs.declared.answers.PoolRefusal.{PoolRefusal};
+ghost use Rattle.tds_pool.specs.Lends.{with_client_under};
 ghost use Rattle.tds_pool.specs.Calls.{standing, lent_to, kept_for, lent_again, unless_idle, cancels, bytes_behind, IsAsked, settled};
 
 use crate::answers::{GivenBack, PoolRefusal};
@@ -27,6 +29,9 @@ impl Pool {
             → standing test key number (connections self.now) ≡ Some (connection_of number key seat.now)) }
         ensures elsewhere { IfSome result (λ seat. (test : Place → Bool) → test seat.now.place ≡ Bool.false
             → standing test key number (connections self.now) ≡ None) }
+        ensures writes { IfSome result (λ seat. (client : ClientSession)
+            → connections (with_client_under self.now key client)
+                ≡ with_client number client (connections self.now)) }
         ensures unknown { IfNone result ((test : Place → Bool)
             → standing test key number (connections self.now) ≡ None) }
     {
@@ -43,6 +48,9 @@ impl Pool {
             × (seat.now.number ≡ lease.now.number)) }
         ensures found { IfSome result (λ seat. lent_to lease.now (connections self.now)
             ≡ Some (connection_of lease.now.number lease.now.key seat.now)) }
+        ensures writes { IfSome result (λ seat. (client : ClientSession)
+            → connections (with_client_under self.now lease.now.key client)
+                ≡ with_client lease.now.number client (connections self.now)) }
         ensures unknown { IfNone result (lent_to lease.now (connections self.now) ≡ None) }
     {
         let seat = self.held(lease.key, lease.number)?;
@@ -76,6 +84,9 @@ impl Pool {
         requires { place < length self.now.entries }
         ensures there { get self.now.seats (key_at self.now.entries place) ≡ Some result.now }
         ensures number { result.now.number ≡ number_at self.now.entries place }
+        ensures next { drop place (connections self.now)
+            ≡ connection_of result.now.number (key_at self.now.entries place) result.now
+                ∷ drop (suc place) (connections self.now) }
         ensures shown { numbered result.now.number (connections self.now)
             ≡ Some (connection_of result.now.number (key_at self.now.entries place) result.now) }
     {
@@ -189,8 +200,11 @@ impl Pool {
     /// The place of this number in the table.
     pub(crate) fn place_of(&self, number: u32) -> Option<usize>
         ensures found { IfSome result (λ place. (place < length self.now.entries)
-            × (number_at self.now.entries place ≡ number)) }
+            × (number_at self.now.entries place ≡ number)
+            × (is_some (numbered number (connections self.now)) ≡ Bool.true)) }
         ensures unknown { IfNone result (numbered number (connections self.now) ≡ None) }
+        ensures unchanged { IfNone result
+            (taken_out number (connections self.now) ≡ connections self.now) }
     {
         place_of(&self.numbers, number)
     }

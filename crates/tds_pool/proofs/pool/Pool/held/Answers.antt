@@ -1,6 +1,6 @@
 use Rattle.std.proofs.Common.{sym}
 use Rattle.tds_pool.specs.Fields.{state_of}
-use Rattle.tds_pool.proofs.Seats.{none_under, other_under, held_unknown, standing_found, standing_elsewhere}
+use Rattle.tds_pool.proofs.Seats.{none_under, other_under, held_unknown, standing_found, standing_elsewhere, writes_under}
 use Rattle.tds_pool.proofs.pool.Pool.held.Goals as goal
 
 pub returns-in_err-seat-clause-unknown : goal.returns-in_err-seat-clause-unknown
@@ -14,3 +14,6 @@ returns-clause-found c = rw (← c.self.view_is) (standing_found (state_of c.sel
 
 pub returns-clause-elsewhere : goal.returns-clause-elsewhere
 returns-clause-elsewhere c = rw (← c.self.view_is) (standing_elsewhere (state_of c.self.inside) c.self.invariant c.args.key c.args.number c.in_ok-seat.seat.now (sym c.in_ok-seat.ensures) c.if-seat-number.false)
+
+pub returns-clause-writes : goal.returns-clause-writes
+returns-clause-writes c = rw (← c.self.view_is) (writes_under (state_of c.self.inside) c.self.invariant c.args.key c.args.number c.in_ok-seat.seat.now (sym c.in_ok-seat.ensures) c.if-seat-number.false)
