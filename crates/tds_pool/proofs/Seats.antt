@@ -4,7 +4,7 @@ use Rattle.std.proofs.Math.Dec.{eqb}
 use Rattle.std.proofs.lemmas.Bool.{eqb-true, eq-eqb}
 use Rattle.std.proofs.lemmas.Bool.Decides.{nat_tests, eqb_tells}
 use Rattle.std.proofs.lemmas.List.{get_or-set_same, get_or-set_other}
-use Rattle.std.specs.Prelude.{slice_index_or, ◌≢◌, option_map, ◌==◌, ◌&&◌, IfNone, IfSome, is_some, drop}
+use Rattle.std.specs.Prelude.{slice_index_or, ◌≢◌, option_map, ◌==◌, ◌&&◌, IfNone, IfSome, IsSome, is_some, drop}
 use Rattle.std.specs.List.{find}
 use Rattle.slab.specs.Slab.{Slab, get, with_value, Updates}
 use Rattle.tds_pool.specs.declared.numbers.Entry.{Entry}
@@ -13,7 +13,7 @@ use Rattle.tds_pool.specs.declared.seat.Place.{Place}
 use Rattle.tds_pool.specs.Calls.{only, standing}
 use Rattle.tds_pool.specs.Connections.{PoolState, Connection, shown, connections, numbered, changed, taken_out, with_client, number_under, connection_of, seat_or_none, reseated, Agree, IsPool}
 use Rattle.tds_client.specs.Session.{ClientSession}
-use Rattle.tds_pool.specs.Lends.{with_client_under}
+use Rattle.tds_pool.specs.Lends.{with_client_under, with_client_numbered, key_or_zero}
 use Rattle.tds_pool.specs.Table.{key_of, key_at, number_at}
 
 pub some_same : {A : Type 0} (a b : A) → Some a ≡ Some b → a ≡ b
@@ -238,3 +238,41 @@ writes_under p pool key number seat h is client =
     ap (λ o. connections (reseated p key (record (seat_or_none o) { client = client }))) h
     ∙ connections_reseated p pool key seat (record seat { client = client }) h (λ c. record c { client = client }) refl
     ∙ ap (λ n. with_client n client (connections p)) is
+
+-- ---- The client of a number
+
+pub seat_under : (s : Slab Seat) (k n : ℕ) → number_under s k ≡ Some n → (seat : Seat) × (get s k ≡ Some seat) × (seat.number ≡ n)
+seat_under s k n h = by (get s k) refl h where
+  by : (o : Option Seat) → get s k ≡ o → option_map (λ (x : Seat). x.number) o ≡ Some n → (seat : Seat) × (get s k ≡ Some seat) × (seat.number ≡ n)
+  by None e i = absurd (cc)
+  by (Some seat) e i = (seat, e, some_same seat.number n i)
+
+module _ (p : PoolState) (pool : IsPool p) (n k : ℕ) (is : key_of p.entries n ≡ Some k) where
+  pub client_numbered : option_map (λ (seat : Seat). seat.client) (get p.seats k) ≡ option_map (λ (c : Connection). c.client) (numbered n (connections p))
+  client_numbered =
+      let u = seat_under p.seats k n (agree_of p.seats n k p.entries pool.agree is) in
+      let it : numbered n (connections p) ≡ Some (connection_of n k u.0) = numbered_is p.seats n p.entries ∙ ap (option_map (λ j. shown p.seats (entry_of n j))) is ∙ ap (λ o. Some (connection_of n k (seat_or_none o))) u.1 in
+      ap (option_map (λ (seat : Seat). seat.client)) u.1 ∙ sym (ap (option_map (λ (c : Connection). c.client)) it)
+
+  pub writes_numbered : (client : ClientSession) → connections (with_client_numbered p n client) ≡ with_client n client (connections p)
+  writes_numbered client =
+      let u = seat_under p.seats k n (agree_of p.seats n k p.entries pool.agree is) in
+      ap (λ o. connections (with_client_under p (key_or_zero o) client)) is ∙ writes_under p pool k n u.0 u.1 u.2 client
+
+pub absent_writes : (p : PoolState) (n : ℕ) → key_of p.entries n ≡ None → IsSome (numbered n (connections p)) → ⊥
+absent_writes p n is some =
+    let none : numbered n (connections p) ≡ None = absent_shown p n None is in
+    let wrong : IsSome {T = Connection} None = rw none at some in
+    absurd (cc)
+
+-- ---- More room in the slab
+
+pub pool_grown : (p : PoolState) (n : ℕ) → IsPool p → IsPool (record p { seats = record p.seats { capacity = n } })
+pool_grown p n pool = record {
+  agree = agree_kept p.seats (record p.seats { capacity = n }) p.entries (λ k. refl) pool.agree;
+  back = λ k m is. pool.back k m is;
+  used = pool.used;
+  few = pool.few;
+  one = pool.one;
+  most = pool.most;
+}

@@ -151,11 +151,11 @@ module _ (p : PoolState) (pool : IsPool p) (t : Slab Seat) (key : ℕ) (new : Se
       (λ x. key_push p.entries added m k (pool.back k m (sym (ap (option_map (λ (s : Seat). s.number)) (u.others k x.1)) ∙ is)))
       (eqb_tells k key)
 
-  pub pool_more : IsPool (record p { last = suc p.last; entries = p.entries ++ added ∷ []; seats = t })
+  pub pool_more : IsPool (record p { last = new.number; entries = p.entries ++ added ∷ []; seats = t })
   pool_more = record {
     agree = agree_more p.entries pool.agree;
     back = back_more;
-    used = below_push (suc p.last) (suc (suc p.last)) p.entries added pool.used (omega arith) (omega (arith, next));
+    used = below_push (suc p.last) (suc new.number) p.entries added pool.used (omega (arith, next)) (omega arith);
     few = omega (arith, room, more p.entries added);
     one = pool.one;
     most = pool.most;

@@ -2,6 +2,8 @@
 ghost use Rattle.std.specs.Prelude.{◌≡◌};
 ghost use Rattle.tds_pool.specs.Calls.{refusal_number};
 
+use std::alloc::AllocError;
+
 /// Which connection a lease has got.
 #[derive(Clone, Copy, PartialEq, Eq, Debug)]
 pub enum Opened {
@@ -60,10 +62,12 @@ impl PoolRefusal {
     }
 }
 
-impl From<std::alloc::AllocError> for PoolRefusal {
-    fn from(_: std::alloc::AllocError) -> PoolRefusal
-        ensures { result ≡ PoolRefusal.Memory }
-    {
+impl From<AllocError> for PoolRefusal {
+    ghost use Rattle.tds_pool.specs.declared.answers.PoolRefusal.TheVariants.{Memory};
+
+    ghost from_gives = { λ _ refusal. refusal ≡ Memory };
+
+    fn from(_: AllocError) -> PoolRefusal {
         PoolRefusal::Memory
     }
 }
