@@ -1,5 +1,5 @@
 -- What the calls of a pool do.
-use Rattle.std.specs.Prelude.{◌≡◌, ℕ, suc, ◌==◌, ◌&&◌, ◌||◌, ◌++◌, nat_lt, Bool, true, false, List, [], ◌∷◌, length, Option, Some, None, Result, Ok, Err, if◌then◌else◌}
+use Rattle.std.specs.Prelude.{◌≡◌, ℕ, suc, ◌==◌, ◌&&◌, ◌||◌, ◌++◌, nat_lt, Bool, true, false, List, [], ◌∷◌, length, map, filter, count_by, Option, Some, None, Result, Ok, Err, if◌then◌else◌}
 use Rattle.std.specs.List.{find}
 use Rattle.tds_packet.specs.declared.status.Reset.{Reset}
 use Rattle.tds_packet.specs.declared.status.Reset.TheVariants.{Full, KeepTransaction}
@@ -222,3 +222,30 @@ IsRefusal (Some first) refusal = refusal ≡ first
 -- a new connection
 abbrev pub new_connection : ℕ → ℕ → ℕ → Connection
 new_connection number key size = record { number = number; key = key; place = places.Leased; client = new_session size }
+
+-- ---- What a service asks
+
+-- whether a place is this one
+abbrev pub stands_at : Place → Place → Bool
+stands_at places.Leased place = is_leased place
+stands_at places.Kept place = is_kept place
+stands_at places.Free place = is_free place
+stands_at places.Draining place = is_draining place
+
+abbrev pub count_at : Place → List Connection → ℕ
+count_at place cs = count_by (λ (c : Connection). stands_at place c.place) cs
+
+abbrev pub numbers_at : Place → List Connection → List ℕ
+numbers_at place cs = map (λ (c : Connection). c.number) (filter (λ (c : Connection). stands_at place c.place) cs)
+
+-- the free connection of this number
+abbrev pub free_one : ℕ → List Connection → Option Connection
+free_one number cs = only (λ (c : Connection). is_free c.place) (numbered number cs)
+
+-- it is taken out
+abbrev pub closed_for : Option Connection → List Connection → List Connection
+closed_for None cs = cs
+closed_for (Some c) cs = taken_out c.number cs
+
+abbrev pub closed : ℕ → List Connection → List Connection
+closed number cs = closed_for (free_one number cs) cs

@@ -10,6 +10,7 @@ ghost use Rattle.tds_pool.specs.Lends.{LendsClient};
 mod calls;
 mod lending;
 mod seats;
+mod service;
 
 use crate::numbers::{MOST, Numbers};
 use crate::seat::Seat;
