@@ -51,4 +51,3 @@ module _ (entries : List Entry) (number : ℕ) (table : IsTable entries) where
             (λ (after : low + (high - low) / 2 < place). lt_trans told (up (low + (high - low) / 2) place after inside))
             (eq-or-lt_of_le le);
       }
-

@@ -1,11 +1,10 @@
 -- The slab of a pool, and what is shown of it.
-use Rattle.std.proofs.Common.{◌≡◌, ℕ, zero, suc, Bool, true, false, not, ◌+◌, ◌<◌, ◌≤◌, List, [], ◌∷◌, ◌++◌, length, filter, map, Option, Some, None, refl, sym, ap, subst, ◌∙◌, cond, ⊎_elim, arith}
+use Rattle.std.proofs.Common.{◌≡◌, ℕ, zero, suc, Bool, true, false, not, ◌<◌, List, [], ◌∷◌, length, map, Option, Some, None, refl, sym, ap, subst, ◌∙◌, cond, ⊎_elim, arith}
 use Rattle.std.proofs.Math.Dec.{eqb}
-use Rattle.std.proofs.lemmas.Bool.{eqb-true, eq-eqb}
-use Rattle.std.proofs.lemmas.Bool.Decides.{nat_tests, eqb_tells}
+use Rattle.std.proofs.lemmas.Bool.{eq-eqb}
+use Rattle.std.proofs.lemmas.Bool.Decides.{eqb_tells}
 use Rattle.std.proofs.lemmas.List.{get_or-set_same, get_or-set_other}
 use Rattle.std.specs.Prelude.{slice_index_or, ◌≢◌, option_map, ◌==◌, ◌&&◌, IfNone, IfSome, IsSome, is_some, drop}
-use Rattle.std.specs.List.{find}
 use Rattle.slab.specs.Slab.{Slab, get, with_value, Updates}
 use Rattle.tds_pool.specs.declared.numbers.Entry.{Entry}
 use Rattle.tds_pool.specs.declared.seat.Seat.{Seat}
@@ -138,6 +137,7 @@ module _ (p : PoolState) (pool : IsPool p) (t : Slab Seat) (key : ℕ) (old new 
     where
       moved : (n k : ℕ) (seat : Seat) → n ≡ old.number → k ≡ key → connection_of n k seat ≡ connection_of old.number key seat
       moved n k seat a b = ap (λ m. connection_of m k seat) a ∙ ap (λ m. connection_of old.number m seat) b
+
       unlike : (e : Entry) → number_under p.seats e.key ≡ Some e.number → e.key ≢ key → eqb e.number old.number ≡ false
       unlike e is other = ⊎_elim
           (λ (x : (eqb e.number old.number ≡ true) × (e.number ≡ old.number)).

@@ -1,5 +1,5 @@
 -- A connection that is taken out of a pool, and a new one.
-use Rattle.std.proofs.Common.{◌≡◌, ℕ, zero, suc, Bool, true, false, not, ◌+◌, ◌<◌, ◌≤◌, List, [], ◌∷◌, ◌++◌, length, filter, map, Option, Some, None, refl, sym, ap, ◌∙◌, cond, ⊎_elim, arith}
+use Rattle.std.proofs.Common.{◌≡◌, ℕ, suc, Bool, true, false, not, ◌<◌, ◌≤◌, List, [], ◌∷◌, ◌++◌, length, map, Some, None, refl, sym, ap, ◌∙◌, cond, ⊎_elim, arith}
 use Rattle.std.proofs.Math.Dec.{eqb}
 use Rattle.std.proofs.lemmas.Bool.{eq-eqb}
 use Rattle.std.proofs.lemmas.Bool.Decides.{nat_tests, eqb_tells}
@@ -7,7 +7,7 @@ use Rattle.std.specs.Prelude.{◌≢◌, option_map}
 use Rattle.slab.specs.Slab.{Slab, get, Updates}
 use Rattle.tds_pool.specs.declared.numbers.Entry.{Entry}
 use Rattle.tds_pool.specs.declared.seat.Seat.{Seat}
-use Rattle.tds_pool.specs.Connections.{PoolState, Connection, shown, connections, taken_out, number_under, connection_of, seat_or_none, Agree, IsPool}
+use Rattle.tds_pool.specs.Connections.{PoolState, shown, connections, taken_out, number_under, connection_of, seat_or_none, Agree, IsPool}
 use Rattle.tds_pool.specs.Table.{key_of, without, AreBelow}
 use Rattle.tds_pool.proofs.Seats.{some_same, agree_of, taken, passed}
 use Rattle.tds_pool.proofs.Tables.{shorter, when_without}
@@ -26,9 +26,11 @@ key_without n m (e ∷ es) other = ⊎_elim
   where
     unlike : (a n m : ℕ) → a ≡ n → m ≢ n → eqb a m ≡ false
     unlike a n m is other = ⊎_elim (λ t. let e : a ≡ m = t.1 in absurd (other (sym e ∙ is))) (λ t. t.0) (eqb_tells a m)
+
     dropped : (b : Bool) → b ≡ true → key_of (cond (not b) (e ∷ without n es) (without n es)) m ≡ key_of (without n es) m
     dropped true h = refl
     dropped false h = absurd (cc)
+
     stays : (b : Bool) → b ≡ false → key_of (cond (not b) (e ∷ without n es) (without n es)) m ≡ cond (eqb e.number m) (Some e.key) (key_of (without n es) m)
     stays true h = absurd (cc)
     stays false h = refl

@@ -1,11 +1,11 @@
 -- What a pool is: its connections, by rising numbers.
-use Rattle.std.specs.Prelude.{◌≡◌, ℕ, suc, ◌==◌, ◌&&◌, ◌≤◌, Bool, true, false, not, List, [], ◌∷◌, map, filter, length, Option, Some, None, option_map, if◌then◌else◌}
+use Rattle.std.specs.Prelude.{◌≡◌, ℕ, suc, ◌==◌, ◌≤◌, not, List, [], ◌∷◌, map, filter, length, Option, Some, None, option_map, if◌then◌else◌}
 use Rattle.std.specs.List.{find}
 use Rattle.slab.specs.Slab.{Slab, get, with_value}
 use Rattle.tds_client.specs.Session.{ClientSession, new_session}
 use Rattle.tds_pool.specs.declared.numbers.Entry.{Entry}
 use Rattle.tds_pool.specs.declared.seat.Place.{Place}
-use Rattle.tds_pool.specs.declared.seat.Place.TheVariants.{Leased, Kept, Free, Draining}
+use Rattle.tds_pool.specs.declared.seat.Place.TheVariants.{Free}
 use Rattle.tds_pool.specs.declared.seat.Seat.{Seat}
 use Rattle.tds_pool.specs.Table.{key_of, AreBelow}
 

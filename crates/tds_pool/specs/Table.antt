@@ -1,5 +1,5 @@
 -- A table of numbers: each connection of a pool by its number, with the key under which the slab keeps it.
-use Rattle.std.specs.Prelude.{ℕ, ◌<◌, ◌≤◌, ◌==◌, Bool, not, List, [], ◌∷◌, length, map, filter, slice_index, Option, Some, None, if◌then◌else◌}
+use Rattle.std.specs.Prelude.{ℕ, ◌<◌, ◌≤◌, ◌==◌, not, List, [], ◌∷◌, length, map, filter, slice_index, Option, Some, None, if◌then◌else◌}
 use Rattle.tds_pool.specs.declared.numbers.Entry.{Entry}
 
 -- the numbers in their order, and the number and the key at a place, counted from 0

@@ -2,8 +2,8 @@
 ghost use Rattle.std.specs.Prelude.{◌≡◌, ◌≢◌, ◌+◌, ◌<◌, ◌≤◌, ℕ, length, Some, None, IfSome, IfNone};
 ghost use Rattle.tds_pool.specs.Table.{number_at, key_at, key_of, IsTable};
 
-use crate::steps::Steps;
 use crate::numbers::Numbers;
+use crate::steps::Steps;
 use std::cmp::Ordering;
 use std::marker::Brand;
 use std::sync::ledger::{Blank, Ledger};

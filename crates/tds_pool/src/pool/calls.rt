@@ -38,11 +38,11 @@ impl Pool {
         ensures* lends { sem 𝓛 (LendsClient self.entry lease.now.key result) }
         ensures value { option_copied_mut result
             ≡ option_map (λ (c : Connection). c.client)
-                (lent_to lease.now (connections self.entry.now)) }
+            (lent_to lease.now (connections self.entry.now)) }
         ensures writes { IsSome (lent_to lease.now (connections self.entry.now))
             → (client : ClientSession)
             → connections (with_client_under self.entry.now lease.now.key client)
-                ≡ with_client lease.now.number client (connections self.entry.now) }
+            ≡ with_client lease.now.number client (connections self.entry.now) }
     {
         let key = self.leased_key(lease)?;
         self.lend(key)
@@ -52,12 +52,12 @@ impl Pool {
     fn leased_key(&self, lease: &Lease) -> Option<usize>
         ensures found { IfSome result (λ key. (key ≡ lease.now.key)
             × (option_map (λ (seat : Seat). seat.client) (get self.now.seats lease.now.key)
-                ≡ option_map (λ (c : Connection). c.client) (lent_to lease.now (connections self.now)))) }
+            ≡ option_map (λ (c : Connection). c.client) (lent_to lease.now (connections self.now)))) }
         ensures unknown { IfNone result (lent_to lease.now (connections self.now) ≡ None) }
         ensures writes { IsSome (lent_to lease.now (connections self.now))
             → (client : ClientSession)
             → connections (with_client_under self.now lease.now.key client)
-                ≡ with_client lease.now.number client (connections self.now) }
+            ≡ with_client lease.now.number client (connections self.now) }
     {
         self.leased(lease)?;
         Some(lease.key)
@@ -70,11 +70,11 @@ impl Pool {
         ensures* lends { sem 𝓛 (LendsNumbered self.entry number result) }
         ensures value { option_copied_mut result
             ≡ option_map (λ (c : Connection). c.client)
-                (numbered number (connections self.entry.now)) }
+            (numbered number (connections self.entry.now)) }
         ensures writes { (client : ClientSession)
             → IsSome (numbered number (connections self.entry.now))
             → connections (with_client_numbered self.entry.now number client)
-                ≡ with_client number client (connections self.entry.now) }
+            ≡ with_client number client (connections self.entry.now) }
     {
         let key = self.key_of(number)?;
         self.lend(key)
@@ -89,7 +89,7 @@ impl Pool {
         ensures writes { (client : ClientSession)
             → IsSome (numbered number (connections self.now))
             → connections (with_client_numbered self.now number client)
-                ≡ with_client number client (connections self.now) }
+            ≡ with_client number client (connections self.now) }
     {
         let place = place_of(&self.numbers, number)?;
         Some(self.numbers.key(place))

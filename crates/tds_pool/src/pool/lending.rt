@@ -45,7 +45,7 @@ impl Pool {
         ensures new { IfOk result (λ given. IfNone (lent_next (connections self.old))
             ((given.0.number ≡ suc self.old.last) × (given.1 ≡ Opened.New (suc self.old.last))
             × (connections self.new ≡ connections self.old
-                ++ new_connection (suc self.old.last) given.0.key self.old.size ∷ []))) }
+            ++ new_connection (suc self.old.last) given.0.key self.old.size ∷ []))) }
         ensures used { OnOk result (IfNone (lent_next (connections self.old))
             ((self.new.last ≡ suc self.old.last) × (self.new.max ≡ self.old.max)
             × (self.new.size ≡ self.old.size))) }
@@ -87,7 +87,7 @@ impl Pool {
         ensures new { IfOk result (λ given. (given.0.number ≡ suc self.old.last)
             × (given.1 ≡ Opened.New (suc self.old.last))
             × (connections self.new ≡ connections self.old
-                ++ new_connection (suc self.old.last) given.0.key self.old.size ∷ [])) }
+            ++ new_connection (suc self.old.last) given.0.key self.old.size ∷ [])) }
         ensures used { OnOk result ((self.new.last ≡ suc self.old.last)
             × (self.new.max ≡ self.old.max) × (self.new.size ≡ self.old.size)) }
         ensures allowed { OnOk result

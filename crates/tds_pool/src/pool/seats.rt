@@ -31,7 +31,7 @@ impl Pool {
             → standing test key number (connections self.now) ≡ None) }
         ensures writes { IfSome result (λ seat. (client : ClientSession)
             → connections (with_client_under self.now key client)
-                ≡ with_client number client (connections self.now)) }
+            ≡ with_client number client (connections self.now)) }
         ensures unknown { IfNone result ((test : Place → Bool)
             → standing test key number (connections self.now) ≡ None) }
     {
@@ -50,7 +50,7 @@ impl Pool {
             ≡ Some (connection_of lease.now.number lease.now.key seat.now)) }
         ensures writes { IfSome result (λ seat. (client : ClientSession)
             → connections (with_client_under self.now lease.now.key client)
-                ≡ with_client lease.now.number client (connections self.now)) }
+            ≡ with_client lease.now.number client (connections self.now)) }
         ensures unknown { IfNone result (lent_to lease.now (connections self.now) ≡ None) }
     {
         let seat = self.held(lease.key, lease.number)?;
@@ -86,7 +86,7 @@ impl Pool {
         ensures number { result.now.number ≡ number_at self.now.entries place }
         ensures next { drop place (connections self.now)
             ≡ connection_of result.now.number (key_at self.now.entries place) result.now
-                ∷ drop (suc place) (connections self.now) }
+            ∷ drop (suc place) (connections self.now) }
         ensures shown { numbered result.now.number (connections self.now)
             ≡ Some (connection_of result.now.number (key_at self.now.entries place) result.now) }
     {

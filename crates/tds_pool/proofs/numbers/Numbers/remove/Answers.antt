@@ -1,5 +1,4 @@
 use Rattle.std.proofs.Common.{◌≡◌, ◌<◌, ◌∙◌, length, subst, sym}
-use Rattle.std.specs.Prelude.{remove}
 use Rattle.tds_pool.specs.Table.{IsTable, number_at, without}
 use Rattle.tds_pool.proofs.Tables.{removed, table_without}
 use Rattle.tds_pool.proofs.numbers.Numbers.remove.Goals as goal

@@ -1,5 +1,5 @@
-use Rattle.std.proofs.Common.{◌≡◌, ◌<◌, ◌∙◌, suc, length, None, Some, ap, sym, refl}
-use Rattle.slab.specs.Slab.{get, Updates}
+use Rattle.std.proofs.Common.{◌≡◌, ◌<◌, ◌∙◌, suc, length, Some, sym, refl}
+use Rattle.slab.specs.Slab.{Updates}
 use Rattle.tds_client.specs.Session.{new_session}
 use Rattle.tds_pool.specs.declared.seat.Place.TheVariants.{Leased}
 use Rattle.tds_pool.specs.declared.seat.Seat.{Seat}

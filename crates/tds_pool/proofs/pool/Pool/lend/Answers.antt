@@ -1,4 +1,4 @@
-use Rattle.std.proofs.Common.{refl, sym, ◌∙◌}
+use Rattle.std.proofs.Common.{refl, sym}
 use Rattle.tds_pool.proofs.Seats.{pool_reseated}
 use Rattle.tds_pool.proofs.pool.Pool.lend.Goals as goal
 

@@ -1,4 +1,4 @@
-use Rattle.std.proofs.Common.{◌≡◌, ◌≤◌, length, drop}
+use Rattle.std.proofs.Common.{◌≡◌, length, drop}
 use Rattle.tds_pool.specs.Connections.{connections}
 use Rattle.tds_pool.specs.Calls.{lent_next}
 use Rattle.tds_pool.proofs.pool.Pool.next_free.Given as goal

@@ -1,8 +1,7 @@
-use Rattle.std.proofs.Common.{◌≡◌, ◌<◌, ◌∙◌, None, length, sym, ap, subst}
+use Rattle.std.proofs.Common.{◌<◌, None, length}
 use Rattle.slab.specs.Slab.{Updates}
-use Rattle.tds_pool.specs.Connections.{PoolState, IsPool, connections}
 use Rattle.tds_pool.specs.Fields.{state_of}
-use Rattle.tds_pool.specs.Table.{key_at, number_at, without}
+use Rattle.tds_pool.specs.Table.{key_at, number_at}
 use Rattle.tds_pool.proofs.Seats.{key_here}
 use Rattle.tds_pool.proofs.Taken.{pool_without, connections_without}
 use Rattle.tds_pool.proofs.pool.Pool.take_out.Goals as goal
