@@ -7,7 +7,7 @@ use Rattle.std.specs.Prelude.{◌≢◌, option_map}
 use Rattle.slab.specs.Slab.{Slab, get, Updates}
 use Rattle.tds_pool.specs.declared.numbers.Entry.{Entry}
 use Rattle.tds_pool.specs.declared.seat.Seat.{Seat}
-use Rattle.tds_pool.specs.Connections.{PoolState, shown, connections, taken_out, number_under, connection_of, seat_or_none, Agree, IsPool}
+use Rattle.tds_pool.specs.Connections.{PoolState, Connection, shown, connections, numbered, taken_out, number_under, connection_of, seat_or_none, Agree, IsPool}
 use Rattle.tds_pool.specs.Table.{key_of, without, AreBelow}
 use Rattle.tds_pool.proofs.Seats.{some_same, agree_of, taken, passed}
 use Rattle.tds_pool.proofs.Tables.{shorter, when_without}
@@ -165,3 +165,12 @@ module _ (p : PoolState) (pool : IsPool p) (t : Slab Seat) (key : ℕ) (new : Se
 
   pub connections_more : map (shown t) (p.entries ++ added ∷ []) ≡ connections p ++ connection_of new.number key new ∷ []
   connections_more = shown_more p.entries pool.agree
+
+-- ---- What was taken out
+
+pub gone : (n : ℕ) (cs : List Connection) → numbered n (taken_out n cs) ≡ None
+gone n [] = refl
+gone n (c ∷ cs) = by (eqb c.number n) refl (gone n cs) where
+  by : (b : Bool) → eqb c.number n ≡ b → numbered n (taken_out n cs) ≡ None → numbered n (cond (not b) (c ∷ taken_out n cs) (taken_out n cs)) ≡ None
+  by true e rest = rest
+  by false e rest = passed (eqb c.number n) (Some c) (numbered n (taken_out n cs)) e ∙ rest

@@ -1,5 +1,5 @@
 //! The calls of a pool.
-ghost use Rattle.std.specs.Prelude.{◌≡◌, ◌++◌, Bool, Option, Some, None, IfOk, IfErr, IfSome, IfNone, OnOk, OnErr, IsSome, is_some, option_map};
+ghost use Rattle.std.specs.Prelude.{◌≡◌, ◌++◌, Bool, Option, Some, None, IfOk, IfErr, IfSome, IsSomeAnd, IfNone, OnOk, OnErr, IsSome, is_some, option_map};
 ghost use Rattle.std.specs.Option.{option_copied, option_copied_mut};
 ghost use Rattle.std.specs.Borrow.{sem};
 ghost use Rattle.slab.specs.Slab.{get};
@@ -202,6 +202,7 @@ impl Pool {
     pub fn lost(&mut self, number: u32) -> bool
         ensures answer { result ≡ is_some (numbered number (connections self.old)) }
         ensures shown { connections self.new ≡ taken_out number (connections self.old) }
+        ensures gone { numbered number (connections self.new) ≡ None }
         ensures rest { SameRest self.old self.new }
     {
         match self.place_of(number) {
@@ -229,7 +230,8 @@ impl Pool {
             ≡ out.old.items ++ given_back_bytes lease (connections self.old)) }
         ensures refused { IfErr result (λ refused. (refused.0 ≡ lease)
             × (refused.1 ≡ PoolRefusal.Memory)
-            × IfSome (lent_to lease (connections self.old)) (λ c. IsAsked (cancelled c.client))) }
+            × IsSomeAnd (lent_to lease (connections self.old))
+                (λ c. IsAsked (cancelled c.client))) }
         ensures err { OnErr result ((self.new ≡ self.old) × (out.new.items ≡ out.old.items)) }
         ensures rest { SameRest self.old self.new }
     {

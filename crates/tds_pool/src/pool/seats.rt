@@ -1,5 +1,5 @@
 //! The connections of a pool, one by one: each function keeps table and slab at one.
-ghost use Rattle.std.specs.Prelude.{◌∷◌, suc, drop, is_some, ◌≡◌, ◌<◌, length, Bool, Some, None, IfSome, IfNone, ◌++◌, IfErr, OnOk, OnErr};
+ghost use Rattle.std.specs.Prelude.{◌≢◌, ◌∷◌, suc, drop, is_some, ◌≡◌, ◌<◌, length, Bool, Some, None, IfSome, IfNone, ◌++◌, IfErr, OnOk, OnErr};
 ghost use Rattle.slab.specs.Slab.{get};
 ghost use Rattle.tds_client.specs.Session.{ClientSession};
 ghost use Rattle.tds_client.specs.Sending.{cancelled};
@@ -20,6 +20,14 @@ use crate::pool::Pool;
 use crate::seat::{Place, Seat};
 use tds_packet::Reset;
 
+/// Whether a connection has this number. A key alone says nothing: the slab gives it out again.
+fn has_number(seat: &Seat, number: u32) -> bool
+    ensures same { result ≡ Bool.true → seat.now.number ≡ number }
+    ensures other { result ≡ Bool.false → seat.now.number ≢ number }
+{
+    seat.number == number
+}
+
 impl Pool {
     /// What stands under this key, if it has this number.
     fn held(&self, key: usize, number: u32) -> Option<&Seat>
@@ -36,10 +44,11 @@ impl Pool {
             → standing test key number (connections self.now) ≡ None) }
     {
         let seat = self.seats.get(key)?;
-        if seat.number != number {
-            return None;
+        let same = has_number(seat, number);
+        if same {
+            return Some(seat);
         }
-        Some(seat)
+        None
     }
 
     /// What a lease stands for.
@@ -114,6 +123,7 @@ impl Pool {
         requires { place < length self.old.entries }
         ensures shown { connections self.new
             ≡ taken_out (number_at self.old.entries place) (connections self.old) }
+        ensures gone { numbered (number_at self.old.entries place) (connections self.new) ≡ None }
         ensures rest { SameRest self.old self.new }
     {
         self.seats.try_remove(self.numbers.key(place));
