@@ -32,3 +32,4 @@ pub mod Reports
 pub mod Rest
 pub mod RestShown
 pub mod Alone
+pub mod AloneShown
