@@ -14,7 +14,6 @@ ghost use Rattle.tds_world.specs.declared.event.Event.{Event};
 ghost use Rattle.tds_world.specs.declared.event.Setup.{Setup};
 
 use crate::carrier::Carrier;
-use crate::memory::MemoryCarrier;
 use crate::player::Player;
 use crate::worlds::worlds_hold;
 use std::alloc::{AllocError, AllocFailed, Global};
@@ -86,11 +85,11 @@ impl<T: Drop> From<AllocFailed<T>> for PlayRefusal {
 /// Where it is refused for its events or its setup, the carrier is as it was. Where memory was
 /// refused, the carrier may have been used, and nothing is said of it. A carrier that was used
 /// serves another play: what it held of a connection is forgotten when that number is opened.
-pub fn play(
+pub fn play<C: Carrier>(
     alloc: Global,
     setup: &Setup,
     events: &[Event],
-    carrier: &mut MemoryCarrier,
+    carrier: &mut C,
 ) -> Result<Report, PlayRefusal>
     // Why nothing is played.
     ensures refused { (why : PlayRefusal) → first_refusal setup.now (length events.now) ≡ Some why
@@ -100,31 +99,41 @@ pub fn play(
     ensures played { OnOk result (first_refusal setup.now (length events.now) ≡ None) }
     ensures named { IfErr result (λ why. why ≢ Memory
         → first_refusal setup.now (length events.now) ≡ Some why) }
-    // The report is the model's, and so are the bytes that were handed over and what is cut.
-    ensures report { IfOk result (λ report. report ≡ observed setup.now script_answers events.now) }
-    ensures bytes { OnOk result (HandsBytesOf (world_of setup.now events.now)
-        (⟦<MemoryCarrier as Carrier>⟧.pipes carrier.new)) }
-    ensures cuts { OnOk result (CutsThoseOf (world_of setup.now events.now)
-        (⟦<MemoryCarrier as Carrier>⟧.pipes carrier.new)) }
+    // Of a carrier that tells its bytes and doesn't fail, as the one in memory is: the report is the
+    // model's, and so are the bytes that were handed over and what is cut.
+    ensures report { C.tells carrier.old → C.steady
+        → IfOk result (λ report. report ≡ observed setup.now script_answers events.now) }
+    ensures bytes { C.tells carrier.old → C.steady
+        → OnOk result (HandsBytesOf (world_of setup.now events.now)
+        (C.pipes carrier.new)) }
+    ensures cuts { C.tells carrier.old → C.steady
+        → OnOk result (CutsThoseOf (world_of setup.now events.now)
+        (C.pipes carrier.new)) }
     // Each caller gets the answer to its own request, run in the transaction that it was in, and
     // nothing of it after a cancel.
-    ensures own_answers { IfOk result (ShowsOwnAnswers script_answers events.now) }
-    ensures own_transaction { IfOk result (ShowsOwnTransaction events.now) }
-    ensures after_cancel { (front later : List Event) → events.now ≡ front ++ later
+    ensures own_answers { C.tells carrier.old → C.steady
+        → IfOk result (ShowsOwnAnswers script_answers events.now) }
+    ensures own_transaction { C.tells carrier.old → C.steady
+        → IfOk result (ShowsOwnTransaction events.now) }
+    ensures after_cancel { C.tells carrier.old → C.steady
+        → (front later : List Event) → events.now ≡ front ++ later
         → IfOk result (GivesNoMoreThan setup.now front) }
     // What one lease did doesn't show in the next, but for the transaction that a ticket keeps.
-    ensures fresh_start { IfOk result ShowsFreshStart }
-    ensures kept_transaction { IfOk result (ShowsKeptTransaction events.now) }
-    ensures lends_idle { IfOk result ShowsLendsIdle }
+    ensures fresh_start { C.tells carrier.old → C.steady → IfOk result ShowsFreshStart }
+    ensures kept_transaction { C.tells carrier.old → C.steady
+        → IfOk result (ShowsKeptTransaction events.now) }
+    ensures lends_idle { C.tells carrier.old → C.steady → IfOk result ShowsLendsIdle }
     // Where nobody waits nothing is underway, and at no time much is. Neither end refuses what
     // comes to it, and no event is lost.
-    ensures idle_is_quiet { IfOk result ShowsIdleQuiet }
-    ensures few_underway { IfOk result ShowsFewUnderway }
-    ensures no_fault { IfOk result ShowsNoFault }
+    ensures idle_is_quiet { C.tells carrier.old → C.steady → IfOk result ShowsIdleQuiet }
+    ensures few_underway { C.tells carrier.old → C.steady → IfOk result ShowsFewUnderway }
+    ensures no_fault { C.tells carrier.old → C.steady → IfOk result ShowsNoFault }
     // In the world whose bytes were handed over at most one attention of a connection is without
     // an acknowledgement that came, and no transaction of a connection begins twice.
-    ensures one_attention { OnOk result (OneAttention (world_of setup.now events.now)) }
-    ensures begins_once { OnOk result (BeginsOnce (world_of setup.now events.now)) }
+    ensures one_attention { C.tells carrier.old → C.steady
+        → OnOk result (OneAttention (world_of setup.now events.now)) }
+    ensures begins_once { C.tells carrier.old → C.steady
+        → OnOk result (BeginsOnce (world_of setup.now events.now)) }
 {
     // The laws of the model, whose report it is.
     script_is_lawful();

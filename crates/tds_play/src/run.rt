@@ -7,7 +7,7 @@ ghost use Rattle.tds_play.specs.Runs.{AreLeft, IsReportOf, IsFaultOf, IsBeforeOu
 ghost use Rattle.tds_play.specs.declared.run.RunFault.{RunFault};
 ghost use Rattle.tds_play.specs.declared.run.RunFault.TheVariants.{Output, Memory};
 
-use crate::memory::MemoryCarrier;
+use crate::carrier::Carrier;
 use crate::playing::{PlayRefusal, play};
 use std::alloc::{AllocError, Global};
 use std::io::{ErrorKind, Read, Write};
@@ -79,18 +79,19 @@ impl RunFault {
 
 /// Reads a schedule, plays it, and prints the report to `output`, or a line about the first fault
 /// to `errors`. It answers the exit status: 0 if the whole report went out, else 1.
-pub fn run_play<R: Read, W: Write, F: Write>(
+pub fn run_play<R: Read, C: Carrier, W: Write, F: Write>(
     alloc: Global,
     reader: &mut R,
-    carrier: &mut MemoryCarrier,
+    carrier: &mut C,
     output: &mut W,
     errors: &mut F,
 ) -> u8
     ensures status { (result ≡ 0) ⊎ (result ≡ 1) }
     ensures fits { result ≡ 0 → FitsFile (R.remaining reader.old) }
-    ensures report { result ≡ 0 → Reports (R.remaining reader.old) (W.contents output.old) (W.contents output.new) }
+    ensures report { C.tells carrier.old → C.steady → result ≡ 0
+        → Reports (R.remaining reader.old) (W.contents output.old) (W.contents output.new) }
     ensures silent { result ≡ 0 → F.contents errors.new ≡ F.contents errors.old }
-    ensures fault { result ≡ 1 → (fault : RunFault)
+    ensures fault { C.tells carrier.old → C.steady → result ≡ 1 → (fault : RunFault)
         × EndsBy fault (R.remaining reader.old) (W.contents output.old) (W.contents output.new)
         × TellsFault (F.contents errors.old) (F.contents errors.new) fault }
 {
@@ -125,15 +126,17 @@ fn write_line<F: Write>(errors: &mut F, line: &str)
 }
 
 #[tactic(auto, using(crate::proofs::Running::leaves_all))]
-fn report_file<R: Read, W: Write>(
+fn report_file<R: Read, C: Carrier, W: Write>(
     alloc: Global,
     reader: &mut R,
-    carrier: &mut MemoryCarrier,
+    carrier: &mut C,
     output: &mut W,
 ) -> Result<(), RunFault>
     ensures fits { OnOk result (FitsFile (R.remaining reader.old)) }
-    ensures report { OnOk result (Reports (R.remaining reader.old) (W.contents output.old) (W.contents output.new)) }
-    ensures fault { IfErr result (λ fault. EndsBy fault (R.remaining reader.old) (W.contents output.old) (W.contents output.new)) }
+    ensures report { C.tells carrier.old → C.steady
+        → OnOk result (Reports (R.remaining reader.old) (W.contents output.old) (W.contents output.new)) }
+    ensures fault { C.tells carrier.old → C.steady
+        → IfErr result (λ fault. EndsBy fault (R.remaining reader.old) (W.contents output.old) (W.contents output.new)) }
 {
     let bytes = read_file(alloc, reader)?;
     let report = play_file(alloc, bytes.as_slice(), carrier)?;
@@ -158,8 +161,13 @@ fn read_file<R: Read>(alloc: Global, reader: &mut R) -> Result<Vec<u8>, RunFault
     }
 }
 
-fn play_file(alloc: Global, bytes: &[u8], carrier: &mut MemoryCarrier) -> Result<Report, RunFault>
-    ensures played { IfOk result (λ report. IsReportOf bytes.now report) }
+fn play_file<C: Carrier>(
+    alloc: Global,
+    bytes: &[u8],
+    carrier: &mut C,
+) -> Result<Report, RunFault>
+    ensures played { C.tells carrier.old → C.steady
+        → IfOk result (λ report. IsReportOf bytes.now report) }
     ensures fault { IfErr result (λ fault. IsFaultOf fault bytes.now × IsBeforeOutput fault) }
 {
     let (setup, events) = read_schedule(alloc, bytes)?;

@@ -2,7 +2,7 @@ use Rattle.tds_play.proofs.Running.{ends_printing}
 use Rattle.tds_play.proofs.run.report_file.Goals as goal
 
 pub returns-clause-fault : goal.returns-clause-fault
-returns-clause-fault g c =
+returns-clause-fault g c tells steady =
     let printed = c.print_report in
     ends_printing printed.result (g.R.Read.remaining c.args.reader.now) (g.W.Write.contents c.args.output.now) (g.W.Write.contents printed.new.output) c.as_slice.result.now c.in_ok-report.report
-    (rw c.as_slice.ensures.value c.in_ok-bytes.ensures.bytes) c.in_ok-report.ensures.played printed.ensures.begun printed.ensures.fault
+    (rw c.as_slice.ensures.value c.in_ok-bytes.ensures.bytes) (c.in_ok-report.ensures.played tells steady) printed.ensures.begun printed.ensures.fault
