@@ -1,6 +1,6 @@
 //! The carrier.
-ghost use Rattle.std.specs.Prelude.{◌≡◌, ◌≢◌, ◌<◌, None, Some, Err, IfOk, IfErr, IfSome, OnOk, ℕ, length};
-ghost use Rattle.tds_play.specs.Pipe.{Changes, new_pipe, sent_on, traffic, IsOpen};
+ghost use Rattle.std.specs.Prelude.{◌≡◌, ◌≢◌, ◌<◌, ◌≤◌, ◌+◌, ◌++◌, None, Some, Err, IfOk, IfErr, IfSome, OnOk, ℕ, length, take, drop};
+ghost use Rattle.tds_play.specs.Pipe.{Changes, new_pipe, sent_on, carried_on, stuck_on, cut_pipe, traffic, IsOpen, IsUncut};
 ghost use Rattle.tds_play.specs.declared.carrier.CarrierError.TheVariants.{Lost, Memory};
 ghost use Rattle.tds_tcp.specs.Accepts.{one_more};
 ghost use Rattle.tds_tcp.specs.Flows.{HasRoom};
@@ -165,20 +165,48 @@ impl<R: Net + Drop> Carrier for TcpCarrier<R, R::Listener, R::Stream> {
         }
     }
 
+    /// The trait's clauses, and that no connection is accepted.
     fn carry(
         &mut self,
         conn: u32,
         direction: Direction,
         most: usize,
         out: &mut Vec<u8>,
-    ) -> Result<usize, CarrierError> {
+    ) -> Result<usize, CarrierError>
+        requires some { 0 < most }
+        requires there { IsOpen (pipe_at self.old.pairs conn) }
+        ensures least { IfOk result (λ n. 0 < n) }
+        ensures most { IfOk result (λ n. n ≤ most) }
+        ensures count { IfOk result (λ n. length out.new.items ≡ length out.old.items + n) }
+        ensures kept { OnOk result (take (length out.old.items) out.new.items ≡ out.old.items) }
+        ensures ok { OnOk result (
+            Changes (pipe_at self.old.pairs) (pipe_at self.new.pairs) conn (carried_on
+            (pipe_at self.old.pairs conn) direction (drop (length out.old.items) out.new.items))) }
+        ensures bytes { IfOk result (λ n. ⊥ → out.new.items ≡ out.old.items ++ take n (drop
+            (length (traffic (pipe_at self.old.pairs conn) direction).came)
+            (traffic (pipe_at self.old.pairs conn) direction).handed)) }
+        ensures lost { result ≡ Err Lost
+            → Changes (pipe_at self.old.pairs) (pipe_at self.new.pairs)
+            conn (stuck_on (pipe_at self.old.pairs conn) direction) }
+        ensures nothing { result ≡ Err Lost → out.new.items ≡ out.old.items }
+        ensures steady { ⊥ → result ≢ Err Lost }
+        ensures tells { result ≢ Err Memory → ⊥ → ⊥ }
+        ensures accepted { self.new.accepted ≡ self.old.accepted }
+    {
         match self.pairs.get_mut(&conn) {
             None => unreachable!(),
             Some(pair) => pair.carry(direction, most, out),
         }
     }
 
-    fn cut(&mut self, conn: u32) {
+    /// The trait's clauses, and that no connection is accepted.
+    fn cut(&mut self, conn: u32)
+        requires { IsUncut (pipe_at self.old.pairs conn) }
+        ensures cut { Changes (pipe_at self.old.pairs) (pipe_at self.new.pairs)
+            conn (cut_pipe (pipe_at self.old.pairs conn)) }
+        ensures tells { ⊥ → ⊥ }
+        ensures accepted { self.new.accepted ≡ self.old.accepted }
+    {
         match self.pairs.get_mut(&conn) {
             None => unreachable!(),
             Some(pair) => pair.cut(),
