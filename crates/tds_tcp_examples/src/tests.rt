@@ -1,0 +1,3 @@
+mod carrying;
+mod opening;
+mod plays;
