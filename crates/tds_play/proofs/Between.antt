@@ -4,8 +4,8 @@ use Rattle.std.proofs.Math.Seq.{take-add, drop-append-add}
 use Rattle.std.proofs.lemmas.Grind.{flat_map-append}
 use Rattle.std.proofs.lemmas.List.{take-append-le}
 use Rattle.tds_world.specs.Deliveries.{IsDelivered}
-use Rattle.tds_world.specs.Lane.{Lane, sent_bytes, underway}
-use Rattle.tds_play.specs.Between.{IsLane, come_bytes}
+use Rattle.tds_world.specs.Lane.{Lane, sent_bytes, underway, come_bytes}
+use Rattle.tds_play.specs.Between.{IsLane}
 use Rattle.tds_play.specs.Pipe.{Traffic, carried, next_of, sent}
 use Rattle.tds_ends.specs.Stands.{Sends}
 

@@ -7,9 +7,9 @@ use Rattle.tds_server.specs.State.{ServerState}
 use Rattle.tds_world.specs.declared.report.Place.{Place}
 use Rattle.tds_world.specs.Connection.{Connection, In, up_underway, down_underway}
 use Rattle.tds_world.specs.Entries.{Up, Down, up_bytes, down_bytes}
-use Rattle.tds_world.specs.Lane.{Lane, sent_bytes}
+use Rattle.tds_world.specs.Lane.{Lane, sent_bytes, come_bytes}
 use Rattle.tds_world.specs.Record as world
-use Rattle.tds_play.specs.Between.{IsLane, come_bytes}
+use Rattle.tds_play.specs.Between.{IsLane}
 use Rattle.tds_play.specs.Lending.{standing_by, standing_of}
 use Rattle.tds_play.specs.Pipe.{Pipe, Traffic, traffic, sent, sent_on, IsOpen}
 use Rattle.tds_play.specs.Plays.{IsPlayed}

@@ -8,13 +8,9 @@ use Rattle.tds_play.specs.Pipe.{Pipe, Traffic, traffic}
 use Rattle.tds_ends.specs.Stands.{MatchesClient, MatchesServer}
 use Rattle.tds_play.specs.declared.link.Link.{Link}
 
--- The bytes of a lane that have come: those of the entries that arrived, and so many of what waits.
-abbrev pub come_bytes : {Entry : Type 0} → (Entry → List ℕ) → Lane Entry → List ℕ
-come_bytes bytes lane = take (length (flat_map bytes lane.arrived) + lane.part) (sent_bytes bytes lane)
-
 -- One direction, at the carrier and in the model: the same bytes were handed over, and as many of them
--- came, in their order; the reader at its end holds what has come of the entry that is cut; and the player counts what
--- is underway.
+-- came, in their order; the reader at its end holds what has come of the entry that is cut; and the
+-- player counts what is underway.
 pub record IsLane {Entry : Type 0} (bytes : Entry → List ℕ) (t : Traffic) (lane : Lane Entry)
     (taken : List ℕ) (count : ℕ) : Type 0 where
   pub handed : t.handed ≡ sent_bytes bytes lane

@@ -6,7 +6,7 @@ use Rattle.tds_session.specs.Answer.{Answers}
 use Rattle.tds_play.specs.declared.link.Done.{Done}
 use Rattle.tds_play.specs.declared.link.Link.{Link}
 use Rattle.tds_play.specs.declared.link.acts.Next.{Next}
-use Rattle.tds_play.specs.Between.{Stands, come_bytes}
+use Rattle.tds_play.specs.Between.{Stands}
 use Rattle.tds_play.specs.Lending.{standing_of}
 use Rattle.tds_play.specs.Pipe.{Pipe, is_cut_at, traffic}
 use Rattle.tds_play.specs.Requests.{AreOlder, IsNewest}
@@ -22,7 +22,7 @@ use Rattle.tds_world.specs.Connection.{Connection, Standing, In, Cut, cut, is_id
 use Rattle.tds_world.specs.Arrivals.{to_server, to_client}
 use Rattle.tds_world.specs.Entries.{up_bytes, down_bytes}
 use Rattle.tds_world.specs.Events.{acts}
-use Rattle.tds_world.specs.Lane.{sent_bytes}
+use Rattle.tds_world.specs.Lane.{sent_bytes, come_bytes}
 use Rattle.tds_world.specs.Losses.{Loss, came_in, loss_by}
 use Rattle.tds_world.specs.Pool.{Acted, Refuses, Does}
 use Rattle.tds_world.specs.World.{World, Holding, next_number}

@@ -16,7 +16,7 @@ use Rattle.tds_world.specs.Losses.{marked, observed_with, world_with}
 use Rattle.tds_world.specs.Observed.{bytes_of, observed}
 use Rattle.tds_world.specs.Reports.{GivesNoMore}
 use Rattle.tds_world.specs.World.{World, new_world, numbered}
-use Rattle.tds_play.specs.Between.{come_bytes}
+use Rattle.tds_world.specs.Lane.{come_bytes}
 use Rattle.tds_play.specs.Pipe.{Pipe, traffic}
 
 -- The world of the model after these events with the losses that their reports mark, where servers

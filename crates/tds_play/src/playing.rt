@@ -7,8 +7,10 @@ ghost use Rattle.tds_play.specs.declared.playing.PlayRefusal.TheVariants.{Memory
 ghost use Rattle.tds_play.specs.declared.playing.PlayRefusal.{PlayRefusal};
 ghost use Rattle.tds_session.specs.Answer.{answer_of, script_answers};
 ghost use Rattle.tds_world.specs.Alone.{AsIfAlone};
+ghost use Rattle.tds_world.specs.AloneShown.{ShowsAsIfAlone};
 ghost use Rattle.tds_world.specs.Bounds.{BeginsOnce, IsEvent, IsSetup, OneAttention};
 ghost use Rattle.tds_world.specs.Rest.{NeverStuck};
+ghost use Rattle.tds_world.specs.RestShown.{ShowsNeverStuck};
 ghost use Rattle.tds_world.specs.Reports.{ShowsFewUnderway, ShowsFreshStart, ShowsIdleQuiet, ShowsKeptTransaction, ShowsLendsIdle, ShowsOwnAnswers, ShowsOwnTransaction};
 ghost use Rattle.tds_world.specs.WithLosses.{ShowsNoEndFaults};
 ghost use Rattle.tds_world.specs.World.{new_world};
@@ -24,6 +26,7 @@ use tds_request::Request;
 use tds_session::{Engine, ScriptEngine};
 use tds_world::laws::{script_hands_out_next, script_is_blind, script_is_lawful};
 use tds_world::losses::{as_if_alone, begins_once, never_stuck, nothing_lost, one_attention};
+use tds_world::report::laws;
 use tds_world::report::losses::{
     few_underway, fresh_start, idle_is_quiet, kept_transaction, lends_idle, no_fault,
     nothing_after_cancel, own_answers, own_transaction,
@@ -147,6 +150,11 @@ pub fn play<C: Carrier>(
         NeverStuck setup.now script_answers (world_of setup.now events.now report.events)) }
     ensures as_if_alone { C.tells carrier.old → IfOk result (λ report.
         AsIfAlone script_answers (world_of setup.now events.now report.events)) }
+    // So the report shows it, where nothing is lost.
+    ensures comes_to_rest { C.tells carrier.old → IfOk result (λ report. IsWhole report
+        → ShowsNeverStuck setup.now script_answers events.now report) }
+    ensures told_alone { C.tells carrier.old → IfOk result (λ report. IsWhole report
+        → ShowsAsIfAlone script_answers events.now report) }
 {
     // The laws of the model, whose report it is.
     script_is_lawful();
@@ -165,6 +173,8 @@ pub fn play<C: Carrier>(
     begins_once();
     never_stuck();
     as_if_alone();
+    laws::never_stuck();
+    laws::as_if_alone();
     play_with(alloc, setup, events, ScriptEngine, carrier)
 }
 

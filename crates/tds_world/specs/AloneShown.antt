@@ -2,7 +2,7 @@
 use Rattle.std.specs.Prelude.{ℕ, ◌≡◌, List, [], ◌∷◌, Bool, true, false, ◌&&◌, ◌==◌, Option, Some, None}
 use Rattle.std.specs.List.{AllByRecursion}
 use Rattle.tds_session.specs.Answer.{Answers}
-use Rattle.tds_session.specs.Session.{SessionState, new_session, no_settings}
+use Rattle.tds_session.specs.Session.{SessionState, new_session, no_settings, is_in_transaction}
 use Rattle.tds_world.specs.declared.event.Event.{Event}
 use Rattle.tds_world.specs.declared.outcome.Opened.{Opened}
 use Rattle.tds_world.specs.declared.outcome.Opened.TheVariants as opened
@@ -51,7 +51,7 @@ ShowsAlone answers lease conn own (a ∷ asks) (r ∷ rs) =
 abbrev pub OwnBy : Opened → SessionState → Type 0
 OwnBy opened.New s = s ≡ new_session
 OwnBy opened.Reused s = s ≡ new_session
-OwnBy opened.Resumed s = s.settings ≡ no_settings
+OwnBy opened.Resumed s = (s.settings ≡ no_settings) × (is_in_transaction s ≡ true)
 
 -- Each lease that is shown is told what it would be told alone.
 abbrev pub AloneIfLeased : Answers → List Ask → List RequestReport → Outcome → Type 0

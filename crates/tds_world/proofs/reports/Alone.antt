@@ -1,11 +1,12 @@
 -- What a lease's requests are told, as reports show it, is what they would be told alone.
-use Rattle.std.proofs.Common.{◌≡◌, ◌<◌, ℕ, suc, List, [], ◌∷◌, ◌++◌, map, Bool, true, false, cond, eqb, refl, sym, ap, subst, ◌∙◌, Option, Some, None, arith}
+use Rattle.std.proofs.Common.{◌≡◌, ◌<◌, ℕ, suc, List, [], ◌∷◌, ◌++◌, map, Bool, true, false, cond, not, eqb, refl, sym, ap, subst, ◌∙◌, Option, Some, None, arith}
 use Rattle.std.proofs.lemmas.Bool.Decides.{nat_tests}
 use Rattle.std.specs.List.{AllByRecursion}
 use Rattle.std.specs.Prelude.{◌==◌, ◌&&◌, filter, find}
 use Rattle.tds_session.specs.Answer.{Answers}
-use Rattle.tds_session.specs.Session.{SessionState, no_settings}
+use Rattle.tds_session.specs.Session.{SessionState, no_settings, is_in_transaction}
 use Rattle.tds_world.specs.declared.event.Event.{Event}
+use Rattle.tds_world.specs.declared.event.Event.TheVariants as event
 use Rattle.tds_world.specs.declared.event.Setup.{Setup}
 use Rattle.tds_world.specs.declared.outcome.Opened.{Opened}
 use Rattle.tds_world.specs.declared.outcome.Opened.TheVariants as opened
@@ -26,13 +27,15 @@ use Rattle.tds_world.specs.Record.{Record}
 use Rattle.tds_world.specs.Reports.{AlwaysTold, Ask, asked_in, ShowsAnswer}
 use Rattle.tds_world.specs.World.{World, Holding, new_world, numbered}
 use Rattle.tds_world.proofs.alone.AsIfAlone.{as_if_alone}
+use Rattle.tds_world.proofs.alone.OpenTickets.{IsOne, FromOpen, from_open}
 use Rattle.tds_world.proofs.events.Adds.{GivenAs, Extends}
 use Rattle.tds_world.proofs.events.Words.{OfSome}
 use Rattle.tds_world.proofs.events.Worlds.{at_number}
 use Rattle.tds_world.proofs.reports.Answered.{reported, same_some}
 use Rattle.tds_world.proofs.reports.Asks.{AreAsked, IsReported, all_asked, found_has, finished_shown}
 use Rattle.tds_world.proofs.reports.FirstRuns.{some_same, find_there, one_lower, behind, one_behind}
-use Rattle.tds_world.proofs.reports.Leased.{CameBy, NotedAs, happens_noted, leases_stay}
+use Rattle.tds_world.proofs.reports.Leased.{CameBy, FromTicket, NotedAs, happens_noted, leases_stay}
+use Rattle.tds_world.proofs.requests.Ready.{OfTicket}
 use Rattle.tds_world.proofs.requests.Order.{requests_in_order}
 
 abbrev of_lease : ℕ → List Record → List Record
@@ -172,46 +175,70 @@ alone_for answers w l m xs (Some c) h o t a =
 
 -- ---- How the lease's own session starts
 
-ticket_empty : (o : Option Holding) → (session_of o).settings ≡ no_settings
-ticket_empty None = refl
-ticket_empty (Some t) = refl
+-- In the transaction that its ticket kept.
+abbrev InKept : SessionState → Type 0
+InKept s = (s.settings ≡ no_settings) × (is_in_transaction s ≡ true)
 
-from_by : (v : World) (e : Event) (o : Opened) (h k : Option ℕ) → CameBy e o h → k ≡ h → OwnBy o (session_from v k)
-from_by v e opened.New h k f i = ap (session_from v) (i ∙ f)
-from_by v e opened.Reused h k f i = ap (session_from v) (i ∙ f)
-from_by v e opened.Resumed h None f i = refl
-from_by v e opened.Resumed h (Some t) f i = ticket_empty (numbered v.tickets t)
+ticket_kept : (o : Option Holding) → OfTicket IsOne o → InKept (session_of o)
+ticket_kept None h = absurd h
+ticket_kept (Some t) h = (refl, ap not h)
 
-own_by : (v : World) (e : Event) (o : Opened) (h : Holding) (k : Option Holding) → CameBy e o h.resumed → GivenAs h k → OwnBy o (own_session v k)
-own_by v e o h None f g = absurd g
-own_by v e o h (Some k) f g = from_by v e o h.resumed k.resumed f g.0
+resumed_by : (v : World) (e : Event) (h k : Option ℕ) → FromTicket e h → k ≡ h → FromOpen v.tickets k → InKept (session_from v k)
+resumed_by v (event.Resume t) h k f i g =
+    subst (λ o. FromOpen v.tickets o → InKept (session_from v o)) (sym (i ∙ f)) (λ x. ticket_kept (numbered v.tickets t) x) g
+resumed_by v event.Lease h k f i g = absurd f
+resumed_by v (event.GiveBack l) h k f i g = absurd f
+resumed_by v (event.Keep l) h k f i g = absurd f
+resumed_by v (event.Abandon t) h k f i g = absurd f
+resumed_by v (event.Ask l q) h k f i g = absurd f
+resumed_by v (event.Send l) h k f i g = absurd f
+resumed_by v (event.Cancel l) h k f i g = absurd f
+resumed_by v (event.Work n) h k f i g = absurd f
+resumed_by v (event.ToServer n m) h k f i g = absurd f
+resumed_by v (event.ToClient n m) h k f i g = absurd f
+resumed_by v (event.Cut n) h k f i g = absurd f
+resumed_by v event.RestartServer h k f i g = absurd f
+resumed_by v event.RestartClient h k f i g = absurd f
+
+from_by : (v : World) (e : Event) (o : Opened) (h k : Option ℕ) → CameBy e o h → k ≡ h → FromOpen v.tickets k → OwnBy o (session_from v k)
+from_by v e opened.New h k f i g = ap (session_from v) (i ∙ f)
+from_by v e opened.Reused h k f i g = ap (session_from v) (i ∙ f)
+from_by v e opened.Resumed h k f i g = resumed_by v e h k f i g
+
+own_by : (v : World) (e : Event) (o : Opened) (h : Holding) (k : Option Holding) → CameBy e o h.resumed → GivenAs h k → ((x : Holding) → k ≡ Some x → FromOpen v.tickets x.resumed) → OwnBy o (own_session v k)
+own_by v e o h None f g x = absurd g
+own_by v e o h (Some k) f g x = from_by v e o h.resumed k.resumed f g.0 (x k refl)
 
 abbrev AllAlone : Answers → World → List Ask → List RequestReport → Type 0
 AllAlone answers v asks rs = (lease conn : ℕ) → ShowsAlone answers lease conn (own_session v (numbered v.leases lease)) asks rs
 
-told_alone : (answers : Answers) (v : World) (e : Event) (what : Outcome) (hs : List Holding) (asks : List Ask) (rs : List RequestReport) → NotedAs e what hs → Extends hs v.leases → AllAlone answers v asks rs → AloneIfLeased answers asks rs what
-told_alone answers v e (outcome.Leased lease n o) hs asks rs f x g =
-    (own_session v (numbered v.leases lease), own_by v e o f.0 (numbered v.leases lease) f.2 (x lease f.0 f.1), g lease n)
-told_alone answers v e (outcome.GivenBack x0) hs asks rs f x g = tt
-told_alone answers v e (outcome.Kept x0) hs asks rs f x g = tt
-told_alone answers v e (outcome.Abandoned x0) hs asks rs f x g = tt
-told_alone answers v e (outcome.Asked x0) hs asks rs f x g = tt
-told_alone answers v e (outcome.Sent x0) hs asks rs f x g = tt
-told_alone answers v e (outcome.Cancel x0) hs asks rs f x g = tt
-told_alone answers v e (outcome.Work x0) hs asks rs f x g = tt
-told_alone answers v e (outcome.ToServer x0) hs asks rs f x g = tt
-told_alone answers v e (outcome.ToClient x0) hs asks rs f x g = tt
-told_alone answers v e outcome.Cut hs asks rs f x g = tt
-told_alone answers v e outcome.RestartedServer hs asks rs f x g = tt
-told_alone answers v e outcome.RestartedClient hs asks rs f x g = tt
-told_alone answers v e (outcome.Refused x0) hs asks rs f x g = tt
-told_alone answers v e (outcome.Fault x0 y z) hs asks rs f x g = tt
+-- Each lease that came from a ticket came from one of a transaction.
+abbrev AllOpen : World → Type 0
+AllOpen v = (l : ℕ) (h : Holding) → numbered v.leases l ≡ Some h → FromOpen v.tickets h.resumed
 
-each_alone : (setup : Setup) (answers : Answers) (events : List Event) (w : World) (asks : List Ask) (rs : List RequestReport) → AllAlone answers (world_after setup answers events w) asks rs → AllByRecursion (λ (r : EventReport). AloneIfLeased answers asks rs r.outcome) (event_reports setup answers events w)
-each_alone setup answers [] w asks rs g = tt
-each_alone setup answers (e ∷ es) w asks rs g = (
-  told_alone answers (world_after setup answers (e ∷ es) w) e (happens setup answers e w).0 (happens setup answers e w).1.leases asks rs (happens_noted setup answers e w) (leases_stay setup answers es (happens setup answers e w).1) g,
-  each_alone setup answers es (happens setup answers e w).1 asks rs g,
+told_alone : (answers : Answers) (v : World) (e : Event) (what : Outcome) (hs : List Holding) (asks : List Ask) (rs : List RequestReport) → NotedAs e what hs → Extends hs v.leases → AllOpen v → AllAlone answers v asks rs → AloneIfLeased answers asks rs what
+told_alone answers v e (outcome.Leased lease n o) hs asks rs f x y g =
+    (own_session v (numbered v.leases lease), own_by v e o f.0 (numbered v.leases lease) f.2 (x lease f.0 f.1) (y lease), g lease n)
+told_alone answers v e (outcome.GivenBack x0) hs asks rs f x y g = tt
+told_alone answers v e (outcome.Kept x0) hs asks rs f x y g = tt
+told_alone answers v e (outcome.Abandoned x0) hs asks rs f x y g = tt
+told_alone answers v e (outcome.Asked x0) hs asks rs f x y g = tt
+told_alone answers v e (outcome.Sent x0) hs asks rs f x y g = tt
+told_alone answers v e (outcome.Cancel x0) hs asks rs f x y g = tt
+told_alone answers v e (outcome.Work x0) hs asks rs f x y g = tt
+told_alone answers v e (outcome.ToServer x0) hs asks rs f x y g = tt
+told_alone answers v e (outcome.ToClient x0) hs asks rs f x y g = tt
+told_alone answers v e outcome.Cut hs asks rs f x y g = tt
+told_alone answers v e outcome.RestartedServer hs asks rs f x y g = tt
+told_alone answers v e outcome.RestartedClient hs asks rs f x y g = tt
+told_alone answers v e (outcome.Refused x0) hs asks rs f x y g = tt
+told_alone answers v e (outcome.Fault x0 x1 x2) hs asks rs f x y g = tt
+
+each_alone : (setup : Setup) (answers : Answers) (events : List Event) (w : World) (asks : List Ask) (rs : List RequestReport) → AllOpen (world_after setup answers events w) → AllAlone answers (world_after setup answers events w) asks rs → AllByRecursion (λ (r : EventReport). AloneIfLeased answers asks rs r.outcome) (event_reports setup answers events w)
+each_alone setup answers [] w asks rs y g = tt
+each_alone setup answers (e ∷ es) w asks rs y g = (
+  told_alone answers (world_after setup answers (e ∷ es) w) e (happens setup answers e w).0 (happens setup answers e w).1.leases asks rs (happens_noted setup answers e w) (leases_stay setup answers es (happens setup answers e w).1) y g,
+  each_alone setup answers es (happens setup answers e w).1 asks rs y g,
 )
 
 pub as_if_alone_is_shown : (setup : Setup) (answers : Answers) → Lawful answers → BlindToNumbers answers → AlwaysTold setup answers (ShowsAsIfAlone answers)
@@ -219,7 +246,7 @@ as_if_alone_is_shown setup answers l b events =
     let v : World = world_after setup answers events new_world in
     let asks : List Ask = asked_in events (event_reports setup answers events new_world) in
     let alone = as_if_alone setup answers l b events in
-    each_alone setup answers events new_world asks (request_reports v 1 v.asked_on)
+    each_alone setup answers events new_world asks (request_reports v 1 v.asked_on) (from_open setup answers events)
     (λ lease conn.
     alone_for answers v lease conn asks (numbered v.connections conn)
     (λ c t.

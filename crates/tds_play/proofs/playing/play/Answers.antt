@@ -1,11 +1,13 @@
-use Rattle.std.proofs.Common.{◌≡◌}
+use Rattle.std.proofs.Common.{◌≡◌, sym, subst}
 use Rattle.std.proofs.lemmas.Result.{IfOk-weaker}
 use Rattle.tds_session.specs.Answer.{script_answers}
 use Rattle.tds_world.specs.Alone.{AsIfAlone}
+use Rattle.tds_world.specs.AloneShown.{ShowsAsIfAlone}
 use Rattle.tds_world.specs.Bounds.{BeginsOnce, OneAttention}
 use Rattle.tds_world.specs.Losses.{marked}
 use Rattle.tds_world.specs.Reports.{ShowsFewUnderway, ShowsFreshStart, ShowsIdleQuiet, ShowsKeptTransaction, ShowsLendsIdle, ShowsOwnAnswers, ShowsOwnTransaction}
 use Rattle.tds_world.specs.Rest.{NeverStuck}
+use Rattle.tds_world.specs.RestShown.{ShowsNeverStuck}
 use Rattle.tds_world.specs.WithLosses.{ShowsNoEndFaults}
 use Rattle.tds_play.specs.WholePlay.{CarriesBytesOf, CutsThoseOf, HandsBytesOf, IsPlayOf, IsWhole, IsWholePlayOf, told_of, world_of}
 use Rattle.tds_play.proofs.Told.{few_ok, no_more_ok, shown_ok, told_ok}
@@ -112,4 +114,20 @@ returns-clause-as_if_alone g c = λ tells.
     IfOk-weaker c.play_with.result (λ report. IsPlayOf c.args.setup.now script_answers c.args.events.now report _)
     (λ report. AsIfAlone script_answers (world_of c.args.setup.now c.args.events.now report.events))
     (λ report is. c.as_if_alone.ensures c.args.setup.now script_answers c.script_is_lawful.ensures c.script_is_blind.ensures (marked c.args.events.now report.events))
+    (c.play_with.ensures.alike tells)
+
+pub returns-clause-comes_to_rest : goal.returns-clause-comes_to_rest
+returns-clause-comes_to_rest g c = λ tells.
+    IfOk-weaker c.play_with.result (λ report. IsPlayOf c.args.setup.now script_answers c.args.events.now report _)
+    (λ report. IsWhole report → ShowsNeverStuck c.args.setup.now script_answers c.args.events.now report)
+    (λ report is whole. subst (ShowsNeverStuck c.args.setup.now script_answers c.args.events.now) (sym (is.plain whole).told)
+    (c.never_stuck-2.ensures c.args.setup.now script_answers is.in_range c.script_is_lawful.ensures c.args.events.now))
+    (c.play_with.ensures.alike tells)
+
+pub returns-clause-told_alone : goal.returns-clause-told_alone
+returns-clause-told_alone g c = λ tells.
+    IfOk-weaker c.play_with.result (λ report. IsPlayOf c.args.setup.now script_answers c.args.events.now report _)
+    (λ report. IsWhole report → ShowsAsIfAlone script_answers c.args.events.now report)
+    (λ report is whole. subst (ShowsAsIfAlone script_answers c.args.events.now) (sym (is.plain whole).told)
+    (c.as_if_alone-2.ensures c.args.setup.now script_answers c.script_is_lawful.ensures c.script_is_blind.ensures c.args.events.now))
     (c.play_with.ensures.alike tells)
