@@ -3,6 +3,7 @@ pub mod Entries
 pub mod Lane
 pub mod Record
 pub mod Phase
+pub mod PhaseTells
 pub mod Connection
 pub mod Arrivals
 pub mod Caller
@@ -29,4 +30,3 @@ pub mod Lending
 pub mod Underway
 pub mod Counts
 pub mod Reports
-pub mod PhaseTells

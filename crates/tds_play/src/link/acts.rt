@@ -110,8 +110,8 @@ impl<E: Engine + Drop> Link<E> {
         ensures ties { OnOk result (KeepsTies self.old.number self.new (C.pipes carrier.old)
             (C.pipes carrier.new) (C.tells carrier.old) (C.tells carrier.new)) }
         ensures steady { C.steady → IfOk result (λ done. done.lost ≡ false) }
-        // A connection that stands for one of the model stands for what the event, as it was met,
-        // makes of it, cut where the carrier failed.
+        // A connection that stands for one of the model stands for what the event, as it was met, makes of
+        // it, cut where the carrier failed.
         ensures alike { (setup : Setup) (w : World) (c : Connection) (engine : E)
             → C.tells carrier.old
             → IsPlayed self.old.number setup.packet_size engine self.old
