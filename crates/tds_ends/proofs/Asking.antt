@@ -1,6 +1,7 @@
 -- A request that is asked, at the client and in the model.
 use Rattle.std.proofs.Common.{◌≡◌, ◌∙◌, ℕ, Bool, refl, sym, ap, subst, Option, Some, None, inl, inr}
 use Rattle.tds_client.specs.declared.fault.ClientRefusal.TheVariants as refused
+use Rattle.std.specs.Prelude.{is_none}
 use Rattle.tds_client.specs.Sending.{started}
 use Rattle.tds_client.specs.Session as client
 use Rattle.tds_client.specs.Session.{ClientSession, unless_idle}
@@ -15,7 +16,14 @@ use Rattle.tds_ends.specs.Alike.{AskAlike}
 use Rattle.tds_ends.specs.Stands.{MatchesClient, stage_in}
 use Rattle.tds_ends.proofs.Phases.{idle_in}
 
-pub asked_matches : (s : ClientSession) (c : Connection) (number lease n : ℕ) (q : Request) → MatchesClient s c → MatchesClient (started s q) (asks number lease n q c)
+pub idle_alike : (s : ClientSession) (c : Connection) → MatchesClient s c → is_none (unless_idle s.stage) ≡ is_idle c
+idle_alike s c m =
+    elim (idle_in c.current) [
+      | inl h ↦ ap (λ x. is_none (unless_idle x)) m.stage ∙ ap is_none h.0 ∙ sym h.1
+      | inr h ↦ ap (λ x. is_none (unless_idle x)) m.stage ∙ ap is_none h.0 ∙ sym h.1
+    ]
+
+asked_matches : (s : ClientSession) (c : Connection) (number lease n : ℕ) (q : Request) → MatchesClient s c → MatchesClient (started s q) (asks number lease n q c)
 asked_matches s c number lease n q m = record {
   stage =
       ap (λ (d : ℕ). client.Sending (packet_kind (kind_of_request q)) (spelling d q) 0)

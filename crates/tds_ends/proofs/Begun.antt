@@ -1,5 +1,5 @@
 -- A connection that is lent: a new one, and one whose next request is to ask for a reset.
-use Rattle.std.proofs.Common.{◌≡◌, ◌∙◌, ℕ, refl, ap, Option, Some, None}
+use Rattle.std.proofs.Common.{◌≡◌, ℕ, refl, ap, Option, Some, None}
 use Rattle.tds_client.specs.Session.{ClientSession, new_session, marked}
 use Rattle.tds_packet.specs.declared.status.Reset.{Reset}
 use Rattle.tds_server.specs.State.{new_server}

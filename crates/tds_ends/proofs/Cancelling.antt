@@ -1,5 +1,5 @@
 -- A request that is cancelled, at the client and in the model.
-use Rattle.std.proofs.Common.{◌≡◌, ◌∙◌, ◌≤◌, ℕ, Bool, true, false, eqb, refl, sym, ap, subst, Option, Some, None, List, [], ◌++◌, append_assoc, flat_map, arith}
+use Rattle.std.proofs.Common.{◌≡◌, ◌∙◌, ◌≤◌, ℕ, false, eqb, refl, sym, ap, subst, Option, Some, None, List, [], ◌++◌, append_assoc, flat_map, arith}
 use Rattle.std.proofs.lemmas.Bool.Decides.{nat_tests}
 use Rattle.std.specs.Prelude.{Ok}
 use Rattle.tds_client.specs.declared.state.Cancelled.{Cancelled}
@@ -19,7 +19,8 @@ use Rattle.tds_world.specs.Record.{Record, Out, NotBegun, Begun, Whole, packets_
 use Rattle.tds_ends.specs.Alike.{CancelAlike, DoesCancel}
 use Rattle.tds_ends.specs.Stands.{MatchesClient, BeginsBy, BeginsIn, Sends, kind_asked, stage_by, stage_in}
 use Rattle.tds_ends.proofs.Lanes.{appended, unsent}
-use Rattle.tds_ends.proofs.Phases.{not_begun, when_asked, when_sending, when_reading}
+use Rattle.tds_world.specs.PhaseTells.{PhaseTells}
+use Rattle.tds_ends.proofs.Phases.{PhasesTell}
 use Rattle.tds_ends.proofs.Picks.{pick_true, pick_false}
 
 sends_two : {Entry : Type 0} {bytes : Entry → List ℕ} {one two : List ℕ} {a b c : Lane Entry} → Sends bytes one a b → Sends bytes two b c → Sends bytes (one ++ two) a c
@@ -30,14 +31,14 @@ sends_two {bytes = bytes} {one = one} {two = two} {a = a} h k = record {
 }
 
 -- Where a request is when it is cancelled.
-from_asked : (fate : record_of.Fate) (out : Out) → phase_by fate out ≡ Asked → phase_by record_of.Cancelled out ≡ Settled
-from_asked fate out = when_asked (λ x o. phase_by record_of.Cancelled o ≡ Settled) refl fate out
+from_asked : (fate : record_of.Fate) (out : Out) → PhaseTells Asked fate out → phase_by record_of.Cancelled out ≡ Settled
+from_asked fate out t = ap (λ (o : Out). phase_by record_of.Cancelled o) t.1
 
-from_sending : (fate : record_of.Fate) (out : Out) → phase_by fate out ≡ Sending → phase_by record_of.Cancelled out ≡ Cancelling
-from_sending fate out = when_sending (λ x o. phase_by record_of.Cancelled o ≡ Cancelling) (λ n. refl) fate out
+from_sending : (fate : record_of.Fate) (out : Out) → PhaseTells Sending fate out → phase_by record_of.Cancelled out ≡ Cancelling
+from_sending fate out t = ap (λ (o : Out). phase_by record_of.Cancelled o) t.2
 
-from_reading : (fate : record_of.Fate) (out : Out) → phase_by fate out ≡ Reading → phase_by record_of.Cancelled out ≡ Cancelling
-from_reading fate out = when_reading (λ x o. phase_by record_of.Cancelled o ≡ Cancelling) (λ n. refl) fate out
+from_reading : (fate : record_of.Fate) (out : Out) → PhaseTells Reading fate out → phase_by record_of.Cancelled out ≡ Cancelling
+from_reading fate out t = ap (λ (o : Out). phase_by record_of.Cancelled o) t.2
 
 -- The client's effect, by how much is out.
 none_out : (s : ClientSession) (q : Record) → q.out ≡ NotBegun → cancelled_sending s (kind_asked q.asking) (packets_of q.out) ≡ record { answer = answered.Unsent; session = with_stage s client.Idle; bytes = [] }
@@ -61,12 +62,12 @@ client_at s c d q p stage m current heard mark phase is begins = record {
       (subst (λ (x : Phase). BeginsBy x (record_of.cancelled q) d.mark) (sym phase) begins);
 }
 
-by_phase : (p : Phase) (s : ClientSession) (c : Connection) (q : Record) → phase_of q ≡ p → MatchesClient s c → BeginsBy p q c.mark → DoesCancel c (cancelled_in s (stage_by p q)) (model.cancel_outcome p) (cancels_by p q c)
+by_phase : (p : Phase) (s : ClientSession) (c : Connection) (q : Record) → PhaseTells p q.fate q.out → MatchesClient s c → BeginsBy p q c.mark → DoesCancel c (cancelled_in s (stage_by p q)) (model.cancel_outcome p) (cancels_by p q c)
 by_phase Settled s c q e m b = (_, refl, refl, m, unsent up_bytes c.to_server)
 by_phase Cancelling s c q e m b = (_, refl, refl, m, unsent up_bytes c.to_server)
 by_phase Asked s c q e m b =
     let d : Connection = cancels_by Asked q c in
-    let out : q.out ≡ NotBegun = not_begun q.fate q.out e in (
+    let out : q.out ≡ NotBegun = e.1 in (
       record { answer = answered.Unsent; session = with_stage s client.Idle; bytes = [] },
       ap (λ (x : Effect Cancelled). Ok x) (none_out s q out),
       refl,
@@ -92,11 +93,11 @@ by_phase Reading s c q e m b =
       appended up_bytes attention (Attention q.number) c.to_server refl,
     )
 
-by_current : (current : Option Record) (s : ClientSession) (c : Connection) → MatchesClient s c → BeginsIn current c.mark → DoesCancel c (cancelled_in s (stage_in current)) (model.cancel_outcome (phase_in current)) (cancels_in current c)
-by_current None s c m b = (_, refl, refl, m, unsent up_bytes c.to_server)
-by_current (Some q) s c m b = by_phase (phase_of q) s c q refl m b
+by_current : PhasesTell → (current : Option Record) (s : ClientSession) (c : Connection) → MatchesClient s c → BeginsIn current c.mark → DoesCancel c (cancelled_in s (stage_in current)) (model.cancel_outcome (phase_in current)) (cancels_in current c)
+by_current tells None s c m b = (_, refl, refl, m, unsent up_bytes c.to_server)
+by_current tells (Some q) s c m b = by_phase (phase_of q) s c q (tells q) m b
 
-pub cancel_alike : (s : ClientSession) (c : Connection) → MatchesClient s c → CancelAlike s c
-cancel_alike s c m =
+pub cancel_alike : PhasesTell → (s : ClientSession) (c : Connection) → MatchesClient s c → CancelAlike s c
+cancel_alike tells s c m =
     subst (λ (stage : client.Stage). DoesCancel c (cancelled_in s stage) (model.cancel_outcome (phase_in c.current)) (cancels c)) (sym m.stage)
-    (by_current c.current s c m m.begins)
+    (by_current tells c.current s c m m.begins)

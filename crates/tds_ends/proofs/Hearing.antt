@@ -1,5 +1,5 @@
 -- An entry that arrives at the client, at the client and in the model.
-use Rattle.std.proofs.Common.{◌≡◌, ◌∙◌, ℕ, Bool, true, false, cond, eqb, refl, sym, ap, subst, Option, Some, None, option_map, unwrap_or, inl, inr, List, [], ◌∷◌, ◌++◌, append-nil, flat_map, arith}
+use Rattle.std.proofs.Common.{◌≡◌, ◌≢◌, ◌∙◌, ℕ, Bool, true, false, cond, eqb, refl, sym, ap, subst, Option, Some, None, option_map, unwrap_or, inl, inr, List, [], ◌∷◌, ◌++◌, append-nil, flat_map, arith}
 use Rattle.std.proofs.lemmas.Bool.Decides.{nat_tests}
 use Rattle.std.specs.Prelude.{◌⊎◌, Ok}
 use Rattle.tds_client.specs.declared.heard.Heard.{Heard}
@@ -33,11 +33,13 @@ use Rattle.tds_world.specs.Sessions.{HasSpelling}
 use Rattle.tds_ends.specs.Hearing.{IsSaid, IsSaidBy, IsAwaited, HearAlike}
 use Rattle.tds_ends.specs.Stands.{MatchesClient, BeginsBy, BeginsIn, stage_by, stage_in}
 use Rattle.tds_ends.proofs.Heard.{at, behind, descriptor_behind, tokens_heard, reset_heard, packet_heard}
-use Rattle.tds_ends.proofs.Phases.{when_reading}
+use Rattle.tds_world.specs.PhaseTells.{PhaseTells}
+use Rattle.tds_ends.proofs.Phases.{PhasesTell, told_at}
 
 -- What is promised of reading: tokens that are spelled where no columns are known are spelled under
--- any, they are read again then, all of them, and columns are known behind them.
+-- any, they are read again then, all of them, and columns are known behind them. And of the model.
 pub record AreRead : Type 0 where
+  pub tells : PhasesTell
   pub contents : (columns : Option ℕ) (ts : List Token) (bytes : List ℕ) (after : Option ℕ) → IsTokens columns ts bytes after → contents_of columns bytes ≡ record { tokens = ts; fault = None; columns = after }
   pub known : (columns : Option ℕ) (ts : List Token) (bytes : List ℕ) (after : Option ℕ) → AreColumns columns → IsTokens columns ts bytes after → AreColumns after
   pub anywhere : (columns : Option ℕ) (ts : List Token) (bytes : List ℕ) (after : Option ℕ) → IsTokens None ts bytes after → (behind : Option ℕ) × IsTokens columns ts bytes behind
@@ -124,8 +126,8 @@ record ReadStep (fate : world.Fate) (out : Out) (last : Bool) : Type 0 where
   uncancelled : world.is_cancelled fate ≡ false
   status : status_by (world.stepped last fate) false (phase_by (world.stepped last fate) out) ≡ cond last shown.Finished (status_by fate false (phase_by fate out))
 
-read_step : (fate : world.Fate) (out : Out) (last : Bool) → phase_by fate out ≡ Reading → ReadStep fate out last
-read_step fate out last = when_reading (λ x o. ReadStep x o last) (λ n. read_by n last) fate out
+read_step : (fate : world.Fate) (out : Out) (last : Bool) → PhaseTells Reading fate out → ReadStep fate out last
+read_step fate out last t = rw (t.0, t.2) (read_by t.1 last)
   where
     read_by : (n : ℕ) (last : Bool) → ReadStep world.Open (Whole n) last
     read_by n true = record { phase = refl; uncancelled = refl; status = refl }
@@ -138,15 +140,13 @@ record SkippedStep (fate : world.Fate) (out : Out) (last : Bool) : Type 0 where
   acknowledged : phase_by world.Acknowledged out ≡ Settled
   ends : status_by world.Acknowledged false (phase_by world.Acknowledged out) ≡ shown.Acknowledged
 
-skipped_step : (fate : world.Fate) (out : Out) (last : Bool) → phase_by fate out ≡ Cancelling → SkippedStep fate out last
-skipped_step world.Finished out last e = absurd (cc)
-skipped_step world.Acknowledged out last e = absurd (cc)
-skipped_step world.Cancelled NotBegun last e = absurd (cc)
-skipped_step world.Cancelled (Begun n) last e = record { phase = refl; stopped = refl; status = refl; acknowledged = refl; ends = refl }
-skipped_step world.Cancelled (Whole n) last e = record { phase = refl; stopped = refl; status = refl; acknowledged = refl; ends = refl }
-skipped_step world.Open NotBegun last e = absurd (cc)
-skipped_step world.Open (Begun n) last e = absurd (cc)
-skipped_step world.Open (Whole n) last e = absurd (cc)
+skipped_step : (fate : world.Fate) (out : Out) (last : Bool) → PhaseTells Cancelling fate out → SkippedStep fate out last
+skipped_step fate out last t = rw t.0 (skipped_by out last t.1)
+  where
+    skipped_by : (out : Out) (last : Bool) → out ≢ NotBegun → SkippedStep world.Cancelled out last
+    skipped_by NotBegun last some = absurd (some refl)
+    skipped_by (Begun n) last some = record { phase = refl; stopped = refl; status = refl; acknowledged = refl; ends = refl }
+    skipped_by (Whole n) last some = record { phase = refl; stopped = refl; status = refl; acknowledged = refl; ends = refl }
 
 -- ---- A step, at the client and in the model
 
@@ -164,7 +164,7 @@ client_is after c q r place step d p is same applies phase begins stage heard kn
           (subst (λ (x : Phase). BeginsBy x (gives step q) (mark_after step.reset c.mark)) (sym phase) begins);
     }
 
-reads_alike : (last : Bool) (s : ClientSession) (c : Connection) (q : Record) (r place : ℕ) (step : answer.Step) → step.last ≡ last → MatchesClient s c → c.current ≡ Some q → r ≡ q.number → s.stage ≡ client.Reading → phase_of q ≡ Reading → (k : IsRead false s c step) → HearAlike c q (Step r place step) (Ok (read s last (behind k.heard.descriptor (mark_after step.reset c.mark) last) (contents_of s.columns (flat_map spelling step.tokens))))
+reads_alike : (last : Bool) (s : ClientSession) (c : Connection) (q : Record) (r place : ℕ) (step : answer.Step) → step.last ≡ last → MatchesClient s c → c.current ≡ Some q → r ≡ q.number → s.stage ≡ client.Reading → PhaseTells Reading q.fate q.out → (k : IsRead false s c step) → HearAlike c q (Step r place step) (Ok (read s last (behind k.heard.descriptor (mark_after step.reset c.mark) last) (contents_of s.columns (flat_map spelling step.tokens))))
 reads_alike true s c q r place step ends m is same stage phase k =
     let one : ReadStep q.fate q.out step.last = read_step q.fate q.out step.last phase in record {
       took = read s true (behind k.heard.descriptor (mark_after step.reset c.mark) true) (contents_of s.columns (flat_map spelling step.tokens));
@@ -202,7 +202,7 @@ reads_alike false s c q r place step ends m is same stage phase k =
       );
     }
 
-skips_alike : (last : Bool) (s : ClientSession) (c : Connection) (q : Record) (r place : ℕ) (step : answer.Step) → step.last ≡ last → MatchesClient s c → c.current ≡ Some q → r ≡ q.number → s.stage ≡ client.Cancelling → phase_of q ≡ Cancelling → (k : IsRead true s c step) → HearAlike c q (Step r place step) (Ok (skipped s last (behind k.heard.descriptor (mark_after step.reset c.mark) last) (contents_of s.columns (flat_map spelling step.tokens))))
+skips_alike : (last : Bool) (s : ClientSession) (c : Connection) (q : Record) (r place : ℕ) (step : answer.Step) → step.last ≡ last → MatchesClient s c → c.current ≡ Some q → r ≡ q.number → s.stage ≡ client.Cancelling → PhaseTells Cancelling q.fate q.out → (k : IsRead true s c step) → HearAlike c q (Step r place step) (Ok (skipped s last (behind k.heard.descriptor (mark_after step.reset c.mark) last) (contents_of s.columns (flat_map spelling step.tokens))))
 skips_alike true s c q r place step ends m is same stage phase k =
     let one : SkippedStep q.fate q.out step.last = skipped_step q.fate q.out step.last phase in record {
       took = skipped s true (behind k.heard.descriptor (mark_after step.reset c.mark) true) (contents_of s.columns (flat_map spelling step.tokens));
@@ -256,12 +256,12 @@ step_alike again s c q r place step m is same phase spelled heard said = elim ph
       let k : IsRead false s c step = step_read again false s c step m spelled (by_reset false step.reset c step refl heard.0.0 heard.0.1 heard.1 said) in
       at_stage s c q (Step r place step) client.Reading step.last (stage_is s c q Reading m is e) (end_bit step.last)
       (subst (λ x. HearAlike c q (Step r place step) x) (sym (reading_is s c step k))
-      (reads_alike step.last s c q r place step refl m is same (stage_is s c q Reading m is e) e k))
+      (reads_alike step.last s c q r place step refl m is same (stage_is s c q Reading m is e) (told_at again.tells Reading q e) k))
   | inr e ↦
       let k : IsRead true s c step = step_read again true s c step m spelled (by_reset true step.reset c step refl heard.0.0 heard.0.1 heard.1 said) in
       at_stage s c q (Step r place step) client.Cancelling step.last (stage_is s c q Cancelling m is e) (end_bit step.last)
       (subst (λ x. HearAlike c q (Step r place step) x) (sym (skipping_is s c step k))
-      (skips_alike step.last s c q r place step refl m is same (stage_is s c q Cancelling m is e) e k))
+      (skips_alike step.last s c q r place step refl m is same (stage_is s c q Cancelling m is e) (told_at again.tells Cancelling q e) k))
 ]
 
 -- ---- An acknowledgement
@@ -300,7 +300,7 @@ acknowledged_is again s e =
 
 acknowledgement_alike : AreRead → (s : ClientSession) (c : Connection) (q : Record) (r place : ℕ) → MatchesClient s c → c.current ≡ Some q → r ≡ q.number → phase_of q ≡ Cancelling → HearAlike c q (Acknowledgement r place) (taken s (has_bit (bits_of (down_packet (Acknowledgement r place)).header.status) 1) (down_packet (Acknowledgement r place)).body)
 acknowledgement_alike again s c q r place m is same phase =
-    let one : SkippedStep q.fate q.out true = skipped_step q.fate q.out true phase in
+    let one : SkippedStep q.fate q.out true = skipped_step q.fate q.out true (told_at again.tells Cancelling q phase) in
     let now : option_map (if_numbered r acknowledges) c.current ≡ Some (acknowledges q) = changed r acknowledges c.current q is same in
     at_stage s c q (Acknowledgement r place) client.Cancelling true (stage_is s c q Cancelling m is phase) refl
     (subst (λ x. HearAlike c q (Acknowledgement r place) x) (sym (acknowledged_is again s m.done)) (record {

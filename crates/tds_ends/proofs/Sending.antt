@@ -9,7 +9,6 @@ use Rattle.tds_client.specs.Sending.{Effect, sent, sent_in, sent_of, room}
 use Rattle.tds_client.specs.Session as client
 use Rattle.tds_client.specs.Session.{ClientSession, with_stage}
 use Rattle.tds_packet.specs.declared.status.Reset.{Reset}
-use Rattle.tds_packet.specs.declared.status.Reset.TheVariants.{Full, KeepTransaction}
 use Rattle.tds_world.specs.Caller.{first_bit, next_packet, sends_by, sends_last}
 use Rattle.tds_packet.specs.Resets.{reset_bit, mark_bit}
 use Rattle.tds_world.specs.Connection.{Connection, phase}
@@ -20,9 +19,10 @@ use Rattle.tds_world.specs.Pool.{Does}
 use Rattle.tds_world.specs.Record.{Record, Out, NotBegun, Begun, Whole, packets_of}
 use Rattle.tds_world.specs.declared.outcome.Outcome.TheVariants as outcome
 use Rattle.tds_ends.specs.Alike.{SendAlike}
-use Rattle.tds_ends.specs.Stands.{is_sending, MatchesClient, BeginsBy, BeginsIn, stage_by, stage_in, kind_asked}
+use Rattle.tds_ends.specs.Stands.{MatchesClient, BeginsBy, BeginsIn, stage_by, stage_in, kind_asked}
 use Rattle.tds_ends.proofs.Lanes.{appended}
-use Rattle.tds_ends.proofs.Phases.{GoesOn, goes_on, not_begun, begun}
+use Rattle.tds_world.specs.PhaseTells.{PhaseTells}
+use Rattle.tds_ends.proofs.Phases.{GoesOn, PhasesTell, goes_on}
 
 -- ---- The mark's bit
 
@@ -43,18 +43,17 @@ record IsGoing (q : Record) (mark : Option Reset) : Type 0 where
   goes : GoesOn q.fate
   first : first_bit q.out q.asking.mark ≡ mark_bit (packets_of q.out) mark
 
-going_asked : (q : Record) (mark : Option Reset) → phase_of q ≡ Asked → q.asking.mark ≡ mark → IsGoing q mark
-going_asked q mark e b = record {
-  goes = goes_on q.fate q.out (ap is_sending e);
-  first = first_asked q.out q.asking.mark mark (not_begun q.fate q.out e) b;
+going_asked : (q : Record) (mark : Option Reset) → PhaseTells Asked q.fate q.out → q.asking.mark ≡ mark → IsGoing q mark
+going_asked q mark t b = record {
+  goes = goes_on q.fate t.0;
+  first = first_asked q.out q.asking.mark mark t.1 b;
 }
 
-going_begun : (q : Record) (mark : Option Reset) → phase_of q ≡ Sending → 1 ≤ packets_of q.out → IsGoing q mark
-going_begun q mark e b =
-    let o : (n : ℕ) × (q.out ≡ Begun n) = begun q.fate q.out e in record {
-      goes = goes_on q.fate q.out (ap is_sending e);
-      first = first_begun q.out o.0 q.asking.mark mark o.1 b;
-    }
+going_begun : (q : Record) (mark : Option Reset) → PhaseTells Sending q.fate q.out → 1 ≤ packets_of q.out → IsGoing q mark
+going_begun q mark t b = record {
+  goes = goes_on q.fate t.0;
+  first = first_begun q.out t.1 q.asking.mark mark t.2 b;
+}
 
 -- ---- One packet
 
@@ -119,18 +118,18 @@ going_alike s c q m g = by_last (sends_last (room s) q) s c q m g
 
 -- ---- By the newest request
 
-by_phase : (p : Phase) (s : ClientSession) (c : Connection) (q : Record) → phase_of q ≡ p → MatchesClient s c → BeginsBy p q c.mark → SendAlike c (sent_in s (stage_by p q)) (sends_in p (room s) (Some q) c)
+by_phase : (p : Phase) (s : ClientSession) (c : Connection) (q : Record) → PhaseTells p q.fate q.out → MatchesClient s c → BeginsBy p q c.mark → SendAlike c (sent_in s (stage_by p q)) (sends_in p (room s) (Some q) c)
 by_phase Settled s c q e m b = (refl, refl)
 by_phase Asked s c q e m b = going_alike s c q m (going_asked q c.mark e b)
 by_phase Sending s c q e m b = going_alike s c q m (going_begun q c.mark e b)
 by_phase Reading s c q e m b = (refl, refl)
 by_phase Cancelling s c q e m b = (refl, refl)
 
-by_current : (current : Option Record) (s : ClientSession) (c : Connection) → MatchesClient s c → BeginsIn current c.mark → SendAlike c (sent_in s (stage_in current)) (sends_in (phase_in current) (room s) current c)
-by_current None s c m b = (refl, refl)
-by_current (Some q) s c m b = by_phase (phase_of q) s c q refl m b
+by_current : PhasesTell → (current : Option Record) (s : ClientSession) (c : Connection) → MatchesClient s c → BeginsIn current c.mark → SendAlike c (sent_in s (stage_in current)) (sends_in (phase_in current) (room s) current c)
+by_current tells None s c m b = (refl, refl)
+by_current tells (Some q) s c m b = by_phase (phase_of q) s c q (tells q) m b
 
-pub send_alike : (s : ClientSession) (c : Connection) → MatchesClient s c → SendAlike c (sent s) (sends_in (phase c) (room s) c.current c)
-send_alike s c m =
+pub send_alike : PhasesTell → (s : ClientSession) (c : Connection) → MatchesClient s c → SendAlike c (sent s) (sends_in (phase c) (room s) c.current c)
+send_alike tells s c m =
     subst (λ (stage : client.Stage). SendAlike c (sent_in s stage) (sends_in (phase c) (room s) c.current c)) (sym m.stage)
-    (by_current c.current s c m m.begins)
+    (by_current tells c.current s c m m.begins)

@@ -1,6 +1,7 @@
 pub mod Feeding
 pub mod Ends
 pub mod Stands
+pub mod Stays
 pub mod Alike
 pub mod Hearing
 pub mod Deliveries

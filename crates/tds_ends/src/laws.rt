@@ -3,7 +3,7 @@
 //! contract of a function without a body, or of one whose body does nothing but name the laws that
 //! it rests on.
 ghost use Rattle.std.specs.List.{AllByRecursion};
-ghost use Rattle.std.specs.Prelude.{◌≡◌, ◌≢◌, ◌≤◌, ◌++◌, ℕ, List, length, drop, None, Some};
+ghost use Rattle.std.specs.Prelude.{◌≡◌, ◌≢◌, ◌≤◌, ◌++◌, ℕ, List, [], length, drop, None, Some};
 ghost use Rattle.std.specs.Prelude.{flat_map, take, Option};
 ghost use Rattle.tds_client.specs.Sending.{started, sent, room};
 ghost use Rattle.tds_client.specs.Session.{ClientSession, marked, new_session, unless_idle};
@@ -16,6 +16,7 @@ ghost use Rattle.tds_ends.specs.Feeding.{Coming, Comes, Spells, Listened, IsList
 ghost use Rattle.tds_ends.specs.Feeding.{Served, IsServed, served};
 ghost use Rattle.tds_ends.specs.Hearing.{HearAlike, IsAwaited, IsSaid};
 ghost use Rattle.tds_ends.specs.Stands.{MatchesClient, MatchesServer, Sends};
+ghost use Rattle.tds_ends.specs.Stays.{ClientStays, ServerStays, PoolIsUnseen, IdleAlike};
 ghost use Rattle.tds_ends.specs.declared.listening.ClientFed.{ClientFed};
 ghost use Rattle.tds_ends.specs.declared.listening.ClientStop.TheVariants as client_stop;
 ghost use Rattle.tds_ends.specs.declared.serving.ServerFed.{ServerFed};
@@ -33,9 +34,9 @@ ghost use Rattle.tds_session.specs.Session.{SessionState};
 ghost use Rattle.tds_packet.specs.Resets.{strongest};
 ghost use Rattle.tds_token.specs.declared.token.Token.{Token};
 ghost use Rattle.tds_world.specs.Arrivals.{server_acts, client_acts, works, reach_server};
-ghost use Rattle.tds_world.specs.Arrivals.{reach_client};
+ghost use Rattle.tds_world.specs.Arrivals.{reach_client, to_client, to_server};
 ghost use Rattle.tds_world.specs.Bounds.{IsSetup, IsEvent};
-ghost use Rattle.tds_world.specs.Caller.{sends};
+ghost use Rattle.tds_world.specs.Caller.{asks, cancels, sends};
 ghost use Rattle.tds_world.specs.Connection.{Connection, Standing, new_connection, phase, is_idle};
 ghost use Rattle.tds_world.specs.Connection.{up_underway};
 ghost use Rattle.tds_world.specs.Entries.{Up, up_bytes, up_packet, Down, down_bytes, down_packet};
@@ -60,7 +61,7 @@ use tds_token::laws::spelled_are_read;
 use tds_world::laws::{
     act_on_newest, all_in_range, all_welcome, changes_are_heard, engine_has_dones,
     engine_is_lawful, engine_stays_in_range, few_underway, messages_are_whole, packets_fit,
-    steps_are_of_answers,
+    phases_tell, steps_are_of_answers,
 };
 
 /// Bytes spell one list of packets and one rest.
@@ -72,7 +73,8 @@ pub fn spelled_once()
 }
 
 /// However bytes are cut, a client makes the same of them: a call that took its whole piece, or
-/// wanted memory, and then one with what is left of it and more, are one call with all of the bytes.
+/// wanted memory, and then one with what is left of it and more, are one call with all of the
+/// bytes.
 pub fn pieces_are_heard()
     ensures { (r mid new : Reading) (piece more : List ℕ) (s between now : ClientSession)
         (told some after : List Token) (first second : ClientFed)
@@ -83,7 +85,8 @@ pub fn pieces_are_heard()
 {}
 
 /// However bytes are cut, a server makes the same of them: a call that took its whole piece, or
-/// wanted memory, and then one with what is left of it and more, are one call with all of the bytes.
+/// wanted memory, and then one with what is left of it and more, are one call with all of the
+/// bytes.
 pub fn pieces_are_served<E: Engine>()
     ensures { (answers : Answers) (r mid new : Reading) (piece more : List ℕ)
         (s between now : ServerState E) (reply some after : List ℕ) (first second : ServerFed)
@@ -132,7 +135,9 @@ pub fn asks_alike()
 pub fn sends_alike()
     ensures { (s : ClientSession) (c : Connection) → MatchesClient s c
         → SendAlike c (sent s) (sends_in (phase c) (room s) c.current c) }
-{}
+{
+    phases_tell();
+}
 
 /// A server works exactly where the model does: it does the same step, and sends the bytes of the
 /// same entry.
@@ -141,8 +146,8 @@ pub fn works_alike<E: Engine>()
         → WorkAlike c (worked s) }
 {}
 
-/// A server takes the packet of each entry that arrives as the model does, without a fault: it holds
-/// the same then, and acknowledges where the model does.
+/// A server takes the packet of each entry that arrives as the model does, without a fault: it
+/// holds the same then, and acknowledges where the model does.
 pub fn arrives_alike<E: Engine>()
     ensures { (answers : Answers) (s : ServerState E) (c : Connection) (q : Record) (e : Up)
         → Lawful answers
@@ -153,8 +158,8 @@ pub fn arrives_alike<E: Engine>()
     spelled_is_read();
 }
 
-/// A client takes the packet of each entry that arrives as the model does, without a fault: it tells
-/// the caller the same tokens, ends the request where the model does, and hears the same.
+/// A client takes the packet of each entry that arrives as the model does, without a fault: it
+/// tells the caller the same tokens, ends the request where the model does, and hears the same.
 pub fn hears_alike()
     ensures { (s : ClientSession) (c : Connection) (q : Record) (e : Down) → MatchesClient s c
         → c.current ≡ Some q
@@ -163,29 +168,48 @@ pub fn hears_alike()
         (has_bit (bits_of (down_packet e).header.status) 1) (down_packet e).body) }
 {
     spelled_are_read();
+    phases_tell();
 }
 
 /// What an end does leaves the other end as it is, and standing for the connection: a client that
-/// sends or hears its server, a server that works or takes an entry its client.
+/// asks, sends, cancels or hears its server, a server that works or takes an entry its client. So
+/// does a whole delivery.
 pub fn the_other_stays<E: Engine>()
+    ensures asks { (number lease n : ℕ) (q : Request) (s : ServerState E) (c : Connection)
+        → c.parts ≡ [] → MatchesServer s c → MatchesServer s (asks number lease n q c) }
     ensures sends { (room : ℕ) (s : ServerState E) (c : Connection) (q : Record)
         → c.current ≡ Some q
         → MatchesServer s c → MatchesServer s (sends room q c) }
+    ensures cancels { ServerStays E cancels }
     ensures hears { (s : ServerState E) (c : Connection) (e : Down) → MatchesServer s c
         → MatchesServer s (client_acts c e) }
+    ensures listens { (most : ℕ) → ServerStays E (to_client most) }
     ensures works { (s : ClientSession) (c : Connection) → MatchesClient s c
         → MatchesClient s (works c) }
     ensures arrives { (answers : Answers) (s : ClientSession) (c : Connection) (e : Up)
         → MatchesClient s c → MatchesClient s (server_acts answers c e) }
+    ensures serves { (answers : Answers) (most : ℕ) → ClientStays (to_server answers most) }
+{}
+
+/// Neither end sees where its connection stands in the pool, and the server doesn't see its mark.
+pub fn pool_is_unseen<E: Engine>()
+    ensures { PoolIsUnseen E }
+{}
+
+/// A client that stands for a connection is idle exactly where nobody waits for an answer there.
+pub fn idle_alike()
+    ensures { IdleAlike }
 {}
 
 /// A client cancels as the model does, in each phase: it sends the bytes of the same entries.
 pub fn cancels_alike()
     ensures { (s : ClientSession) (c : Connection) → MatchesClient s c → CancelAlike s c }
-{}
+{
+    phases_tell();
+}
 
-/// The ends of a new connection stand for a new connection of the model. A client that is marked for
-/// a reset stands for a connection that is lent again.
+/// The ends of a new connection stand for a new connection of the model. A client that is marked
+/// for a reset stands for a connection that is lent again.
 pub fn lends_matching<E: Engine>()
     ensures client { (size : ℕ) (p : Place) → MatchesClient (new_session size) (new_connection p) }
     ensures server { (engine : E) (p : Place)
@@ -207,8 +231,8 @@ pub fn answers_are_said<E: Engine>(engine: &E)
     engine_has_dones(engine);
 }
 
-/// A server that is fed the bytes of entries takes those that come whole as the model does, in order,
-/// and is left with what has come of the next one.
+/// A server that is fed the bytes of entries takes those that come whole as the model does, in
+/// order, and is left with what has come of the next one.
 pub fn serves_alike<E: Engine>()
     ensures { (answers : Answers) (r : Reading) (c : Connection) (es : List Up) (k : ℕ)
         (s : ServerState E) (reply : List ℕ)
@@ -217,9 +241,9 @@ pub fn serves_alike<E: Engine>()
         (reach_server answers c es k) s reply }
 {}
 
-/// All that waits for a server is packets to its reader, and a server that stands for the connection
-/// takes each as the model does, one after the other: where each is the next piece of its message, is
-/// welcome, and fits the packet size.
+/// All that waits for a server is packets to its reader, and a server that stands for the
+/// connection takes each as the model does, one after the other: where each is the next piece of
+/// its message, is welcome, and fits the packet size.
 pub fn all_arrive<E: Engine>()
     ensures { (answers : Answers) (r : Reading) (c : Connection) → Lawful answers
         → r.direction ≡ ToServer → AreWhole c
@@ -230,8 +254,8 @@ pub fn all_arrive<E: Engine>()
     arrives_alike::<E>();
 }
 
-/// A client that is fed the bytes of entries hears those that come whole as the model does, in order,
-/// and is left with what has come of the next one.
+/// A client that is fed the bytes of entries hears those that come whole as the model does, in
+/// order, and is left with what has come of the next one.
 pub fn listens_alike()
     ensures { (r : Reading) (c : Connection) (es : List Down) (k : ℕ) (s : ClientSession)
         (settled : Option RequestStatus) (told : List Token)

@@ -48,8 +48,8 @@ fn settled_by(took: Taken, before: Option<RequestStatus>) -> Option<RequestStatu
 /// whole (MS-TDS 2.2.3), in order, and the tokens that it is told are appended to `told`.
 ///
 /// Call it with what the transport brought, in the order in which it came. It stops behind the last
-/// whole packet, and the reader keeps what has come of the next one; or it stops earlier, for one of
-/// three reasons. At a faulty header: nothing behind it can be read. At a packet that the client
+/// whole packet, and the reader keeps what has come of the next one; or it stops earlier, for one
+/// of three reasons. At a faulty header: nothing behind it can be read. At a packet that the client
 /// refuses: what came before was taken and told. At want of memory: nothing is lost, and the next
 /// call, with the bytes of the piece behind the first `count` (there may be none), takes it up.
 pub fn listen(

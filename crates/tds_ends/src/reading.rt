@@ -6,8 +6,8 @@ ghost use Rattle.tds_packet.specs.declared.fault.PacketFault.{PacketFault};
 
 use tds_packet::laws::{fronts, whatever_follows};
 
-/// Where a reader takes all bytes that there are, and no packet is whole, none begins them; and none
-/// begins bytes whose header has a fault.
+/// Where a reader takes all bytes that there are, and no packet is whole, none begins them; and
+/// none begins bytes whose header has a fault.
 pub(crate) fn reads_packets()
     ensures less { (r : Reading) (bytes : List ℕ) → up_to_end r bytes ≡ bytes
         → ¬ IsWhole (with_taken r bytes) → IsLess r bytes }

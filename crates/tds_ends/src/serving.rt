@@ -34,11 +34,11 @@ pub struct ServerFed {
 /// whole (MS-TDS 2.2.3), in order, and acknowledgements of attentions are appended to `reply`.
 ///
 /// Call it with what the transport brought, in the order in which it came; send what `reply` has
-/// then, and call `work` for the answer. It stops behind the last whole packet, and the reader keeps
-/// what has come of the next one; or it stops earlier, for one of three reasons. At a faulty header:
-/// nothing behind it can be read. At a packet that the server refuses: what came before was taken
-/// and replied to. At want of memory: nothing is lost, and the next call, with the bytes of the
-/// piece behind the first `count` (there may be none), takes it up.
+/// then, and call `work` for the answer. It stops behind the last whole packet, and the reader
+/// keeps what has come of the next one; or it stops earlier, for one of three reasons. At a faulty
+/// header: nothing behind it can be read. At a packet that the server refuses: what came before was
+/// taken and replied to. At want of memory: nothing is lost, and the next call, with the bytes of
+/// the piece behind the first `count` (there may be none), takes it up.
 pub fn serve<E: Engine + Drop>(
     server: &mut Server<E>,
     reader: &mut PacketReader,
@@ -53,8 +53,8 @@ pub fn serve<E: Engine + Drop>(
     ensures within { result.count ≤ length piece.now }
     // Whatever comes: the server takes the packets that the bytes spell, one after the other, up to
     // the first that it refuses or has no memory for, or to a header with a fault.
-    ensures serves { let answers = answer_of (E.statements_of server.old.engine) (E.step_of server.old.engine) in
-        Serves answers reader.old reader.new piece.now server.old server.new
+    ensures serves { Serves (answer_of (E.statements_of server.old.engine)
+        (E.step_of server.old.engine)) reader.old reader.new piece.now server.old server.new
         reply.old.items reply.new.items result }
 {
     reads_packets();

@@ -26,10 +26,11 @@ use Rattle.tds_play.specs.Pipe.{Pipe}
 use Rattle.tds_play.specs.Plays.{DoesAlike, IsPlayed, acts_at, acts_on, after, count_of, delivers_down, delivers_up, loss_of, on_cut, outcome_of}
 use Rattle.tds_ends.specs.Promises.{IsCountable}
 use Rattle.tds_play.specs.Seen.{done_as}
+use Rattle.tds_ends.specs.Stays.{IdleAlike, PoolIsUnseen}
 use Rattle.tds_play.specs.declared.link.Done.{Done}
 use Rattle.tds_play.specs.declared.link.Link.{Link}
 use Rattle.tds_play.proofs.Losing.{down_met, met_ok, plain_met, up_met}
-use Rattle.tds_play.proofs.Placed.{DoesWhole, lent_played, placed_played}
+use Rattle.tds_play.proofs.Placed.{DoesWhole, MarksAlike, lent_played, placed_played}
 
 -- ---- A connection that isn't cut
 
@@ -45,24 +46,24 @@ comes_there c p at = ap (λ (s : Standing). gives_back_at s c) at
 -- ---- Lending and giving up
 
 -- The lease that is told is the number of the model's.
-pub lent_alike : {E S : Type 0} (number size told lease : ℕ) (mark : Reset) (opened : Opened) (engine : E) (link new : Link E S) (pipe : Option Pipe) (c : Connection) (done : Done)
+pub lent_alike : {E S : Type 0} → PoolIsUnseen E → IdleAlike → MarksAlike → (number size told lease : ℕ) (mark : Reset) (opened : Opened) (engine : E) (link new : Link E S) (pipe : Option Pipe) (c : Connection) (done : Done)
     → IsPlayed number size engine link pipe c → link.is_cut ≡ false → is_idle c ≡ true → told ≡ lease
     → done ≡ done_as (Leased told link.number opened)
     → (unless_idle link.client.stage ≡ None → new ≡ lent_as told mark link)
     → DoesWhole number size engine done new pipe (Does (Leased lease number opened) (record c { mark = strongest (Some mark) c.mark; standing = In (place.Leased lease) })) c
-lent_alike {E} {S} number size told lease mark opened engine link new pipe c done i live idle same is lends = (
+lent_alike {E} {S} unseen waits marks number size told lease mark opened engine link new pipe c done i live idle same is lends = (
   is ∙ ap (λ (n : ℕ). done_as (Leased n link.number opened)) same ∙ ap (λ (n : ℕ). done_as (Leased lease n opened)) i.numbered,
   subst (λ (n : ℕ). IsPlayed number size engine new pipe (record c { mark = strongest (Some mark) c.mark; standing = In (place.Leased n) })) same
-      (lent_played number size told mark engine link new pipe c i live idle lends),
+      (lent_played unseen waits marks number size told mark engine link new pipe c i live idle lends),
 )
 
-pub abandoned_alike : {E S : Type 0} (number size : ℕ) (engine : E) (link new : Link E S) (pipe : Option Pipe) (c : Connection) (done : Done)
+pub abandoned_alike : {E S : Type 0} → PoolIsUnseen E → (number size : ℕ) (engine : E) (link new : Link E S) (pipe : Option Pipe) (c : Connection) (done : Done)
     → IsPlayed number size engine link pipe c → link.is_cut ≡ false
     → done ≡ done_as (Abandoned abandoned.Free) → new ≡ placed_at place.Free link
     → DoesWhole number size engine done new pipe (abandons c) c
-abandoned_alike {E} {S} number size engine link new pipe c done i live is at =
+abandoned_alike {E} {S} unseen number size engine link new pipe c done i live is at =
     subst (λ (a : Acted). DoesWhole number size engine done new pipe a c) (sym (ap (λ (s : Standing). abandons_at s c) (stands_in number size engine link pipe c i live)))
-    (is, subst (λ (l : Link E S). IsPlayed number size engine l pipe (record c { standing = In place.Free })) (sym at) (placed_played number size engine link pipe c place.Free i live))
+    (is, subst (λ (l : Link E S). IsPlayed number size engine l pipe (record c { standing = In place.Free })) (sym at) (placed_played unseen number size engine link pipe c place.Free i live))
 
 pub kept_at : {E S : Type 0} (number size told ticket : ℕ) (engine : E) (link new : Link E S) (pipe : Option Pipe) (c : Connection) (done : Done)
     → told ≡ ticket → DoesWhole number size engine done new pipe (keeps told c) c → DoesWhole number size engine done new pipe (keeps ticket c) c

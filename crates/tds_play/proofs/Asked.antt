@@ -1,9 +1,11 @@
 -- A request that is asked on a connection, in a play and in the model.
 use Rattle.std.specs.Prelude.{is_none, IfOk}
 use Rattle.std.proofs.Common.{◌≡◌, ◌∙◌, ℕ, Bool, true, false, refl, sym, ap, subst, Option, Some, None, Result, Ok, Err, List, [], ◌∷◌}
-use Rattle.tds_client.specs.Session.{unless_idle}
+use Rattle.tds_client.specs.Session.{ClientSession, unless_idle}
+use Rattle.tds_client.specs.Sending.{started}
 use Rattle.tds_packet.specs.declared.status.Reset.{Reset}
 use Rattle.tds_request.specs.declared.request.Request.{Request}
+use Rattle.tds_server.specs.State.{ServerState}
 use Rattle.tds_world.specs.declared.outcome.Outcome.TheVariants as outcome
 use Rattle.tds_world.specs.declared.outcome.Refusal.TheVariants.{NotIdle}
 use Rattle.tds_world.specs.Caller.{asks}
@@ -22,13 +24,26 @@ use Rattle.tds_play.specs.Pipe.{Pipe, traffic}
 use Rattle.tds_play.specs.Plays.{IsPlayed}
 use Rattle.tds_play.specs.Requests.{AreOlder, IsNewest}
 use Rattle.tds_play.specs.Seen.{done_as}
+use Rattle.tds_ends.specs.Alike.{AskAlike}
 use Rattle.tds_ends.specs.Stands.{MatchesClient, MatchesServer}
+use Rattle.tds_ends.specs.Stays.{IdleAlike}
 use Rattle.tds_play.specs.declared.link.Done.{Done}
 use Rattle.tds_play.specs.declared.link.Link.{Link}
 use Rattle.tds_play.specs.declared.request.Record.{Record}
-use Rattle.tds_play.proofs.Asking.{asked_matches}
-use Rattle.tds_play.proofs.Matching.{server_still_matches}
-use Rattle.tds_play.proofs.Placed.{DoesWhole, idle_alike, idle_settled}
+use Rattle.tds_play.proofs.Placed.{DoesWhole, idle_settled, idle_unless}
+
+-- ---- The ends
+
+-- What is promised of them: a client takes a request where the model does, and the server stays.
+pub record AsksAlike (E : Type 0) : Type 0 where
+  pub waits : IdleAlike
+  pub takes : (s : ClientSession) (c : Connection) (number lease n : ℕ) (q : Request) → MatchesClient s c → AskAlike number (started s q) (unless_idle s.stage) (asks_by (is_idle c) number lease n q c)
+  pub stays : (number lease n : ℕ) (q : Request) (s : ServerState E) (c : Connection) → c.parts ≡ [] → MatchesServer s c → MatchesServer s (asks number lease n q c)
+
+asked_matches : {E : Type 0} → AsksAlike E → (s : ClientSession) (c : Connection) (number lease n : ℕ) (q : Request) → MatchesClient s c → is_idle c ≡ true → MatchesClient (started s q) (asks number lease n q c)
+asked_matches a s c number lease n q m idle =
+    (subst (λ (b : Bool). AskAlike number (started s q) None (asks_by b number lease n q c)) idle
+    (subst (λ o. AskAlike number (started s q) o (asks_by (is_idle c) number lease n q c)) (idle_unless a.waits s c m idle) (a.takes s c number lease n q m))).1
 
 -- ---- The requests
 
@@ -56,11 +71,11 @@ newest_asked id number lease heard q mark asked (Some r) same h = record {
 
 -- ---- The connection then
 
-asked_played : {E S : Type 0} (number size id lease : ℕ) (engine : E) (q : Request) (link new : Link E S) (pipe : Option Pipe) (c : Connection)
+asked_played : {E S : Type 0} → AsksAlike E → (number size id lease : ℕ) (engine : E) (q : Request) (link new : Link E S) (pipe : Option Pipe) (c : Connection)
     → IsPlayed number size engine link pipe c → link.is_cut ≡ false → is_idle c ≡ true → c.parts ≡ []
     → IsAskedOn lease q link new
     → IsPlayed number size engine new pipe (asks id lease number q c)
-asked_played {E} {S} number size id lease engine q link new pipe c i live idle rests h =
+asked_played {E} {S} alike number size id lease engine q link new pipe c i live idle rests h =
     let d : Connection = asks id lease number q c in
     let v = i.lives live in
     let s = v.stands in
@@ -80,8 +95,8 @@ asked_played {E} {S} number size id lease engine q link new pipe c i live idle r
       came_down = i.came_down;
       lives = λ uncut. record {
         stands = record {
-          client = subst (λ x. MatchesClient x d) (sym h.client) (asked_matches link.client c id lease number q s.client);
-          server = subst (λ (l : Link E S). MatchesServer l.server d) (sym h.rest) (server_still_matches link.server c d refl refl refl refl (λ m some of. absurd (some rests)) s.server);
+          client = subst (λ x. MatchesClient x d) (sym h.client) (asked_matches alike link.client c id lease number q s.client idle);
+          server = subst (λ (l : Link E S). MatchesServer l.server d) (sym h.rest) (alike.stays id lease number q link.server c rests s.server);
           up = subst (λ (l : Link E S). IsLane up_bytes (traffic pipe ToServer) c.to_server l.server_reader.taken l.to_server) (sym h.rest) s.up;
           down = subst (λ (l : Link E S). IsLane down_bytes (traffic pipe ToClient) c.to_client l.client_reader.taken l.to_client) (sym h.rest) s.down;
         };
@@ -95,38 +110,38 @@ asked_played {E} {S} number size id lease engine q link new pipe c i live idle r
       gone = λ cut. i.gone (sym (ap (λ l. l.is_cut) h.rest) ∙ cut);
     }
 
-asked_by : {E S : Type 0} (number size id lease : ℕ) (engine : E) (q : Request) (link new : Link E S) (pipe : Option Pipe) (c : Connection) (done : Done) (idle : Bool)
+asked_by : {E S : Type 0} → AsksAlike E → (number size id lease : ℕ) (engine : E) (q : Request) (link new : Link E S) (pipe : Option Pipe) (c : Connection) (done : Done) (idle : Bool)
     → IsPlayed number size engine link pipe c → link.is_cut ≡ false → is_idle c ≡ idle → (idle ≡ true → c.parts ≡ [])
     → (idle ≡ false → (done ≡ done_as (outcome.Refused NotIdle)) × (new ≡ link))
     → (idle ≡ true → (done ≡ done_as (outcome.Asked id)) × IsAskedOn lease q link new)
     → DoesWhole number size engine done new pipe (asks_by idle id lease number q c) c
-asked_by {E} {S} number size id lease engine q link new pipe c done false i live is rests refused asked =
+asked_by {E} {S} alike number size id lease engine q link new pipe c done false i live is rests refused asked =
     let h = refused refl in (h.0, subst (λ (l : Link E S). IsPlayed number size engine l pipe c) (sym h.1) i)
-asked_by number size id lease engine q link new pipe c done true i live is rests refused asked =
-    let h = asked refl in (h.0, asked_played number size id lease engine q link new pipe c i live is (rests refl) h.1)
+asked_by alike number size id lease engine q link new pipe c done true i live is rests refused asked =
+    let h = asked refl in (h.0, asked_played alike number size id lease engine q link new pipe c i live is (rests refl) h.1)
 
 ok_one : {A B : Type 0} (x y : A) (r : Result A B) → r ≡ Ok x → r ≡ Ok y → x ≡ y
 ok_one x y r e f = let same : Ok x ≡ Ok y = sym e ∙ f in cc
 
-pub asked_alike : {E S B : Type 0} (number size id lease : ℕ) (engine : E) (q : Request) (link new : Link E S) (pipe : Option Pipe) (c : Connection) (done : Done) (r : Result Done B)
+pub asked_alike : {E S B : Type 0} → AsksAlike E → (number size id lease : ℕ) (engine : E) (q : Request) (link new : Link E S) (pipe : Option Pipe) (c : Connection) (done : Done) (r : Result Done B)
     → IsPlayed number size engine link pipe c → link.is_cut ≡ false → (is_idle c ≡ true → c.parts ≡ [])
     → r ≡ Ok done
     → (is_none (unless_idle link.client.stage) ≡ false → (r ≡ Ok (done_as (outcome.Refused NotIdle))) × (new ≡ link))
     → (is_none (unless_idle link.client.stage) ≡ true → IfOk r (λ done. (done ≡ done_as (outcome.Asked id)) × IsAskedOn lease q link new))
     → DoesWhole number size engine done new pipe (asks_by (is_idle c) id lease number q c) c
-asked_alike {E} {S} number size id lease engine q link new pipe c done r i live rests is refused asked =
-    let same = idle_alike link.client c (i.lives live).stands.client in
-    asked_by number size id lease engine q link new pipe c done (is_idle c) i live refl rests
+asked_alike {E} {S} alike number size id lease engine q link new pipe c done r i live rests is refused asked =
+    let same = alike.waits link.client c (i.lives live).stands.client in
+    asked_by alike number size id lease engine q link new pipe c done (is_idle c) i live refl rests
     (λ e. let h = refused (same ∙ e) in (ok_one done _ r is h.0, h.1))
     (λ e. subst (λ x. IfOk x (λ done. (done ≡ done_as (outcome.Asked id)) × IsAskedOn lease q link new)) is (asked (same ∙ e)))
 
 -- So it is where the call had memory.
-pub asked_ok : {E S B : Type 0} (number size told id lease : ℕ) (engine : E) (q : Request) (link new : Link E S) (pipe : Option Pipe) (c : Connection) (r : Result Done B)
+pub asked_ok : {E S B : Type 0} → AsksAlike E → (number size told id lease : ℕ) (engine : E) (q : Request) (link new : Link E S) (pipe : Option Pipe) (c : Connection) (r : Result Done B)
     → IsPlayed number size engine link pipe c → link.is_cut ≡ false → (is_idle c ≡ true → c.parts ≡ []) → told ≡ id
     → (is_none (unless_idle link.client.stage) ≡ false → (r ≡ Ok (done_as (outcome.Refused NotIdle))) × (new ≡ link))
     → (is_none (unless_idle link.client.stage) ≡ true → IfOk r (λ done. (done ≡ done_as (outcome.Asked told)) × IsAskedOn lease q link new))
     → IfOk r (λ done. DoesWhole number size engine done new pipe (asks_by (is_idle c) id lease number q c) c)
-asked_ok {E} {S} number size told id lease engine q link new pipe c (Ok done) i live rests same refused asked =
+asked_ok {E} {S} alike number size told id lease engine q link new pipe c (Ok done) i live rests same refused asked =
     subst (λ (n : ℕ). DoesWhole number size engine done new pipe (asks_by (is_idle c) n lease number q c) c) same
-    (asked_alike number size told lease engine q link new pipe c done (Ok done) i live rests refl refused asked)
-asked_ok number size told id lease engine q link new pipe c (Err why) i live rests same refused asked = tt
+    (asked_alike alike number size told lease engine q link new pipe c done (Ok done) i live rests refl refused asked)
+asked_ok alike number size told id lease engine q link new pipe c (Err why) i live rests same refused asked = tt

@@ -8,7 +8,6 @@ use Rattle.tds_client.specs.Sending.{Effect, cancelled_in, cancelled_sending}
 use Rattle.tds_client.specs.Session as session
 use Rattle.tds_client.specs.Session.{ClientSession, Stage, unless_idle}
 use Rattle.tds_packet.specs.declared.kind.Kind.{Kind}
-use Rattle.tds_server.specs.State.{Message}
 use Rattle.tds_world.specs.declared.outcome.Outcome.TheVariants as outcome
 use Rattle.tds_world.specs.declared.report.Place.{Place}
 use Rattle.tds_world.specs.declared.report.RequestStatus.TheVariants as status
@@ -17,6 +16,7 @@ use Rattle.tds_world.specs.Caller as model
 use Rattle.tds_world.specs.Connection.{Connection, In, is_idle, up_underway}
 use Rattle.tds_world.specs.Entries.{up_bytes}
 use Rattle.tds_world.specs.Phase.{Phase, Settled, Asked, Sending, Reading, Cancelling, phase_by, phase_in, phase_of, status_by}
+use Rattle.tds_world.specs.PhaseTells.{PhaseTells}
 use Rattle.tds_world.specs.Pool.{comes_back, place_back, returned_as}
 use Rattle.tds_world.specs.Record.{Out, NotBegun, Begun, Whole}
 use Rattle.tds_world.specs.Record as world
@@ -28,13 +28,11 @@ use Rattle.tds_play.specs.Links.{placed_at}
 use Rattle.tds_play.specs.Pipe.{Pipe}
 use Rattle.tds_play.specs.Plays.{IsPlayed, after, outcome_of}
 use Rattle.tds_play.specs.Requests.{IsNewest}
-use Rattle.tds_ends.specs.Stands.{IsOf, Sends}
+use Rattle.tds_ends.specs.Stands.{Sends}
+use Rattle.tds_ends.specs.Stays.{IdleAlike, PoolIsUnseen, ServerStays}
 use Rattle.tds_play.specs.declared.link.Link.{Link}
 use Rattle.tds_play.specs.declared.request.Record.{Record}
-use Rattle.tds_play.proofs.Matching.{client_still_matches, server_still_matches}
-use Rattle.tds_play.proofs.Outward.{HandedUp, sent_played}
-use Rattle.tds_play.proofs.Placed.{idle_alike}
-use Rattle.tds_play.proofs.Phases.{when_asked, when_sending, when_reading}
+use Rattle.tds_play.proofs.Outward.{HandedUp, SentMore, sent_played}
 
 -- ---- The client
 
@@ -63,22 +61,17 @@ record Leaves (c d : Connection) : Type 0 where
   standing : d.standing ≡ c.standing
   below : d.to_client ≡ c.to_client
   past : d.past ≡ c.past
-  session : d.session ≡ c.session
-  parts : d.parts ≡ c.parts
-  due : d.due ≡ c.due
-  taken : d.taken ≡ c.taken
-  of : (m : Message) → IsOf m c.current → IsOf m d.current
 
-leaves_by : (p : Phase) (q : world.Record) (c : Connection) → c.current ≡ Some q → Leaves c (cancels_by p q c)
-leaves_by Settled q c is = record { standing = refl; below = refl; past = refl; session = refl; parts = refl; due = refl; taken = refl; of = λ m h. h }
-leaves_by Cancelling q c is = record { standing = refl; below = refl; past = refl; session = refl; parts = refl; due = refl; taken = refl; of = λ m h. h }
-leaves_by Asked q c is = record { standing = refl; below = refl; past = refl; session = refl; parts = refl; due = refl; taken = refl; of = λ m h. subst (IsOf m) is h }
-leaves_by Sending q c is = record { standing = refl; below = refl; past = refl; session = refl; parts = refl; due = refl; taken = refl; of = λ m h. subst (IsOf m) is h }
-leaves_by Reading q c is = record { standing = refl; below = refl; past = refl; session = refl; parts = refl; due = refl; taken = refl; of = λ m h. subst (IsOf m) is h }
+leaves_by : (p : Phase) (q : world.Record) (c : Connection) → Leaves c (cancels_by p q c)
+leaves_by Settled q c = record { standing = refl; below = refl; past = refl }
+leaves_by Cancelling q c = record { standing = refl; below = refl; past = refl }
+leaves_by Asked q c = record { standing = refl; below = refl; past = refl }
+leaves_by Sending q c = record { standing = refl; below = refl; past = refl }
+leaves_by Reading q c = record { standing = refl; below = refl; past = refl }
 
-leaves_in : (current : Option world.Record) (c : Connection) → c.current ≡ current → Leaves c (cancels_in current c)
-leaves_in None c is = record { standing = refl; below = refl; past = refl; session = refl; parts = refl; due = refl; taken = refl; of = λ m h. h }
-leaves_in (Some q) c is = leaves_by (phase_of q) q c is
+leaves_in : (current : Option world.Record) (c : Connection) → Leaves c (cancels_in current c)
+leaves_in None c = record { standing = refl; below = refl; past = refl }
+leaves_in (Some q) c = leaves_by (phase_of q) q c
 
 -- ---- The newest request
 
@@ -102,20 +95,21 @@ link_by client.Unsent s link = refl
 link_by client.Asked s link = refl
 
 -- One of which nothing was out is never sent.
-unsent_is : (fate : world.Fate) (out : Out) → phase_by fate out ≡ Asked → status.Unsent ≡ status_by world.Cancelled false (phase_by world.Cancelled out)
-unsent_is fate out = when_asked (λ x o. status.Unsent ≡ status_by world.Cancelled false (phase_by world.Cancelled o)) refl fate out
+unsent_is : (fate : world.Fate) (out : Out) → PhaseTells Asked fate out → status.Unsent ≡ status_by world.Cancelled false (phase_by world.Cancelled out)
+unsent_is fate out t = rw t.1 refl
 
-sending_is : (fate : world.Fate) (out : Out) → phase_by fate out ≡ Sending → status.Cancelling ≡ status_by world.Cancelled false (phase_by world.Cancelled out)
-sending_is fate out = when_sending (λ x o. status.Cancelling ≡ status_by world.Cancelled false (phase_by world.Cancelled o)) (λ n. refl) fate out
+-- One of which some was out waits for the acknowledgement.
+sending_is : (fate : world.Fate) (out : Out) → PhaseTells Sending fate out → status.Cancelling ≡ status_by world.Cancelled false (phase_by world.Cancelled out)
+sending_is fate out t = rw t.2 refl
 
-reading_is : (fate : world.Fate) (out : Out) → phase_by fate out ≡ Reading → status.Cancelling ≡ status_by world.Cancelled false (phase_by world.Cancelled out)
-reading_is fate out = when_reading (λ x o. status.Cancelling ≡ status_by world.Cancelled false (phase_by world.Cancelled o)) (λ n. refl) fate out
+reading_is : (fate : world.Fate) (out : Out) → PhaseTells Reading fate out → status.Cancelling ≡ status_by world.Cancelled false (phase_by world.Cancelled out)
+reading_is fate out t = rw t.2 refl
 
 with_status_of : (number : ℕ) (r : Option Record) (q : world.Record) (s : _) → s ≡ status_by world.Cancelled false (phase_by world.Cancelled q.out) → IsNewest number false r (Some q) → IsNewest number false (option_map (with_status s) r) (Some (world.cancelled q))
 with_status_of number None q s e h = absurd h
 with_status_of number (Some r) q s e h = record { lease = h.lease; conn = h.conn; mark = h.mark; status = e; ran = h.ran; tokens = h.tokens }
 
-newest_by : (p : Phase) (a : Cancelled) (number : ℕ) (r : Option Record) (q : world.Record) (c : Connection) → c.current ≡ Some q → phase_of q ≡ p → model.cancel_outcome p ≡ cancel_outcome a → IsNewest number false r (Some q) → IsNewest number false (current_behind a r) (cancels_by p q c).current
+newest_by : (p : Phase) (a : Cancelled) (number : ℕ) (r : Option Record) (q : world.Record) (c : Connection) → c.current ≡ Some q → PhaseTells p q.fate q.out → model.cancel_outcome p ≡ cancel_outcome a → IsNewest number false r (Some q) → IsNewest number false (current_behind a r) (cancels_by p q c).current
 newest_by Settled client.Nothing number r q c is at told h = subst (IsNewest number false r) (sym is) h
 newest_by Settled client.Already number r q c is at told h = absurd (cc)
 newest_by Settled client.Unsent number r q c is at told h = absurd (cc)
@@ -137,63 +131,71 @@ newest_by Reading client.Already number r q c is at told h = absurd (cc)
 newest_by Reading client.Unsent number r q c is at told h = absurd (cc)
 newest_by Reading client.Asked number r q c is at told h = with_status_of number r q status.Cancelling (reading_is q.fate q.out at) h
 
-newest_in : (current : Option world.Record) (a : Cancelled) (number : ℕ) (r : Option Record) (c : Connection) → c.current ≡ current → model.cancel_outcome (phase_in current) ≡ cancel_outcome a → IsNewest number false r current → IsNewest number false (current_behind a r) (cancels_in current c).current
-newest_in None client.Nothing number r c is told h = subst (IsNewest number false r) (sym is) h
-newest_in None client.Already number r c is told h = absurd (cc)
-newest_in None client.Unsent number r c is told h = absurd (cc)
-newest_in None client.Asked number r c is told h = absurd (cc)
-newest_in (Some q) a number r c is told h = newest_by (phase_of q) a number r q c is refl told h
+newest_in : ((q : world.Record) → PhaseTells (phase_of q) q.fate q.out) → (current : Option world.Record) (a : Cancelled) (number : ℕ) (r : Option Record) (c : Connection) → c.current ≡ current → model.cancel_outcome (phase_in current) ≡ cancel_outcome a → IsNewest number false r current → IsNewest number false (current_behind a r) (cancels_in current c).current
+newest_in tells None client.Nothing number r c is told h = subst (IsNewest number false r) (sym is) h
+newest_in tells None client.Already number r c is told h = absurd (cc)
+newest_in tells None client.Unsent number r c is told h = absurd (cc)
+newest_in tells None client.Asked number r c is told h = absurd (cc)
+newest_in tells (Some q) a number r c is told h = newest_by (phase_of q) a number r q c is (tells q) told h
 
 -- ---- The connection then
 
+-- What is promised of the ends and of the model: what a client sends is appended, a phase tells what it
+-- does, the server stays, and neither end sees the pool.
+pub record CancelsAlike (E : Type 0) : Type 0 where
+  pub appends : SentMore up_bytes
+  pub tells : (q : world.Record) → PhaseTells (phase_of q) q.fate q.out
+  pub stays : ServerStays E cancels
+  pub unseen : PoolIsUnseen E
+
 -- It was cancelled, and the connection may stand elsewhere then.
-cancelled_at : {E S : Type 0} (number size : ℕ) (engine : E) (link new : Link E S) (p : Place) (pipe then : Option Pipe) (c d : Connection) (bytes : List ℕ)
+cancelled_at : {E S : Type 0} → CancelsAlike E → (number size : ℕ) (engine : E) (link new : Link E S) (p : Place) (pipe then : Option Pipe) (c d : Connection) (bytes : List ℕ)
     → IsPlayed number size engine link pipe c → link.is_cut ≡ false
     → (a : CancelAlike link.client c) → bytes ≡ a.0.bytes
     → d ≡ record (cancels c) { standing = In p }
     → up_underway (cancels c) ≤ 18446744073709551615
     → HandedUp (record link { client = a.0.session; current = current_behind a.0.answer link.current; place = p }) new pipe then bytes
     → IsPlayed number size engine new then d
-cancelled_at {E} {S} number size engine link new p pipe then c d bytes i live a out at few h =
+cancelled_at {E} {S} so number size engine link new p pipe then c d bytes i live a out at few h =
     let e = a.0 in
     let v = (i.lives live).stands in
-    let l = leaves_in c.current c refl in
+    let l = leaves_in c.current c in
     let x : Connection = record (cancels c) { standing = In p } in
     subst (λ (y : Connection). IsPlayed number size engine new then y) (sym at)
-    (sent_played number size engine link new e.session (current_behind e.answer link.current) p pipe then c x bytes i live h refl
+    (sent_played so.appends number size engine link new e.session (current_behind e.answer link.current) p pipe then c x bytes i live h refl
     (size_in link.client.stage link.client e a.1)
-    (client_still_matches e.session (cancels c) x refl refl refl a.3)
-    (server_still_matches link.server c x l.session l.parts l.due l.taken (λ m some of. l.of m of) v.server)
+    (so.unseen.client (In p) e.session (cancels c) a.3)
+    (so.unseen.server (cancels c).mark (In p) link.server (cancels c) (so.stays link.server c v.server))
     (subst (λ (bs : List ℕ). Sends up_bytes bs c.to_server (cancels c).to_server) (sym out) a.4)
     l.below l.past
-    (newest_in c.current e.answer number link.current c refl a.2 (subst (λ (b : Bool). IsNewest number b link.current c.current) live i.newest))
+    (newest_in so.tells c.current e.answer number link.current c refl a.2 (subst (λ (b : Bool). IsNewest number b link.current c.current) live i.newest))
     few)
 
-pub cancelled_played : {E S : Type 0} (number size : ℕ) (engine : E) (link mid new : Link E S) (pipe then : Option Pipe) (c : Connection) (bytes : List ℕ)
+pub cancelled_played : {E S : Type 0} → CancelsAlike E → (number size : ℕ) (engine : E) (link mid new : Link E S) (pipe then : Option Pipe) (c : Connection) (bytes : List ℕ)
     → IsPlayed number size engine link pipe c → link.is_cut ≡ false
     → (a : CancelAlike link.client c) → mid ≡ cancelled_as a.0.answer a.0.session link → bytes ≡ a.0.bytes
     → up_underway (cancels c) ≤ 18446744073709551615
     → HandedUp mid new pipe then bytes
     → IsPlayed number size engine new then (cancels c)
-cancelled_played {E} {S} number size engine link mid new pipe then c bytes i live a is out few h =
-    let l = leaves_in c.current c refl in
-    cancelled_at number size engine link new link.place pipe then c (cancels c) bytes i live a out
+cancelled_played {E} {S} so number size engine link mid new pipe then c bytes i live a is out few h =
+    let l = leaves_in c.current c in
+    cancelled_at so number size engine link new link.place pipe then c (cancels c) bytes i live a out
     (ap (λ s. record (cancels c) { standing = s }) (l.standing ∙ sym i.standing ∙ ap (λ (b : Bool). standing_by b link.place) live))
     few
     (subst (λ (x : Link E S). HandedUp x new pipe then bytes) (is ∙ link_by a.0.answer a.0.session link) h)
 
 -- The lease ends then.
-pub back_played : {E S : Type 0} (number size : ℕ) (engine : E) (link mid new : Link E S) (idle : Bool) (pipe then : Option Pipe) (c : Connection) (bytes : List ℕ)
+pub back_played : {E S : Type 0} → CancelsAlike E → IdleAlike → (number size : ℕ) (engine : E) (link mid new : Link E S) (idle : Bool) (pipe then : Option Pipe) (c : Connection) (bytes : List ℕ)
     → IsPlayed number size engine link pipe c → link.is_cut ≡ false
     → (a : CancelAlike link.client c) → mid ≡ placed_at (place_back idle) (cancelled_as a.0.answer a.0.session link) → bytes ≡ a.0.bytes
     → idle ≡ is_none (unless_idle a.0.session.stage)
     → up_underway (cancels c) ≤ 18446744073709551615
     → HandedUp mid new pipe then bytes
     → (outcome.GivenBack (returned_as idle) ≡ outcome_of (comes_back (cancels c))) × IsPlayed number size engine new then (after (comes_back (cancels c)) c)
-back_played {E} {S} number size engine link mid new idle pipe then c bytes i live a is out waits few h =
-    let same : idle ≡ is_idle (cancels c) = waits ∙ idle_alike a.0.session (cancels c) a.3 in (
+back_played {E} {S} so alike number size engine link mid new idle pipe then c bytes i live a is out waits few h =
+    let same : idle ≡ is_idle (cancels c) = waits ∙ alike a.0.session (cancels c) a.3 in (
       ap (λ (b : Bool). outcome.GivenBack (returned_as b)) same,
-      cancelled_at number size engine link new (place_back idle) pipe then c (after (comes_back (cancels c)) c) bytes i live a out
+      cancelled_at so number size engine link new (place_back idle) pipe then c (after (comes_back (cancels c)) c) bytes i live a out
           (ap (λ (b : Bool). record (cancels c) { standing = In (place_back b) }) (sym same))
           few
           (subst (λ (x : Link E S). HandedUp x new pipe then bytes) (is ∙ ap (placed_at (place_back idle)) (link_by a.0.answer a.0.session link)) h),

@@ -1,14 +1,16 @@
 -- A delivery to the client of a connection that stands for one of the model.
-use Rattle.std.proofs.Common.{◌≡◌, ◌∙◌, ◌+◌, ◌-◌, inl, inr, ℕ, min, Bool, true, false, cond, ltb, refl, sym, ap, subst, Option, Some, None, option_map, List, [], ◌∷◌, ◌++◌, length, take, flat_map}
+use Rattle.std.proofs.Common.{◌≡◌, ◌∙◌, ◌+◌, ◌-◌, ℕ, min, Bool, true, false, cond, ltb, refl, sym, ap, subst, Option, Some, None, option_map, List, [], ◌∷◌, ◌++◌, length, take, flat_map}
 use Rattle.std.specs.Prelude.{is_none}
 use Rattle.tds_client.specs.Session.{ClientSession, unless_idle}
 use Rattle.tds_packet.specs.declared.kind.Direction.TheVariants.{ToServer, ToClient}
-use Rattle.tds_server.specs.State.{ServerState}
+use Rattle.tds_packet.specs.Reading.{Reading}
+use Rattle.tds_token.specs.declared.token.Token.{Token}
 use Rattle.tds_world.specs.Arrivals.{client_acts, reach_client, to_client, drains, drained}
-use Rattle.tds_world.specs.Connection.{Connection, Standing, In, down_underway, is_idle}
+use Rattle.tds_world.specs.Connection.{Connection, In, down_underway, is_idle}
 use Rattle.tds_world.specs.Deliveries.{IsDelivered}
 use Rattle.tds_world.specs.declared.report.Place.{Place}
 use Rattle.tds_world.specs.declared.report.Place.TheVariants as place
+use Rattle.tds_world.specs.declared.report.RequestStatus.{RequestStatus}
 use Rattle.tds_world.specs.Entries.{Up, Down, Step, Acknowledgement, up_bytes, down_bytes}
 use Rattle.tds_world.specs.Lane.{Lane, passed, with_waiting}
 use Rattle.tds_world.specs.Record.{Record, Open, gives, acknowledges, when, if_numbered}
@@ -18,42 +20,25 @@ use Rattle.tds_play.specs.declared.link.Link.{Link}
 use Rattle.tds_play.specs.Links.{drained_at}
 use Rattle.tds_play.specs.Listening.{told_in}
 use Rattle.tds_play.specs.Pipe.{Pipe, traffic, carried, next_of}
-use Rattle.tds_ends.specs.Stands.{MatchesClient, MatchesServer}
+use Rattle.tds_ends.specs.Stands.{MatchesClient}
+use Rattle.tds_ends.specs.Stays.{IdleAlike, PoolIsUnseen, ServerStays}
 use Rattle.tds_play.proofs.Between.{offered_front, lane_delivered, lane_stuck}
-use Rattle.tds_play.proofs.ClientDelivery.{listen_alike}
-use Rattle.tds_play.proofs.Kept.{hears_kept}
-use Rattle.tds_play.proofs.Matching.{client_still_matches, server_still_matches}
-use Rattle.tds_play.proofs.Phases.{idle_in}
 
 -- ---- What comes is heard
 
-pub come_heard : {E S : Type 0} (link : Link E S) (pipe : Option Pipe) (c : Connection) (most n : ℕ) → Stands link pipe c → n ≡ min most link.to_client → AllHeard link.client_reader c c.to_client.waiting → ListensAlike link.client_reader (link.client_reader.taken ++ next_of (traffic pipe ToClient) n) c (reach_client c c.to_client.waiting (c.to_client.part + min most (down_underway c))) link.client None (told_in link.current)
-come_heard link pipe c most n s count all =
+-- A client that is fed the bytes of entries hears those that come whole as the model does.
+abbrev pub ListensAll : Type 0
+ListensAll = (r : Reading) (c : Connection) (es : List Down) (k : ℕ) (s : ClientSession) (settled : Option RequestStatus) (told : List Token) → AllHeard r c es → MatchesClient s c → ListensAlike r (take k (flat_map down_bytes es)) c (reach_client c es k) s settled told
+
+pub come_heard : {E S : Type 0} → ListensAll → (link : Link E S) (pipe : Option Pipe) (c : Connection) (most n : ℕ) → Stands link pipe c → n ≡ min most link.to_client → AllHeard link.client_reader c c.to_client.waiting → ListensAlike link.client_reader (link.client_reader.taken ++ next_of (traffic pipe ToClient) n) c (reach_client c c.to_client.waiting (c.to_client.part + min most (down_underway c))) link.client None (told_in link.current)
+come_heard listens link pipe c most n s count all =
     let k : ℕ = c.to_client.part + min most (down_underway c) in
     let same : c.to_client.part + n ≡ k = ap (λ (x : ℕ). c.to_client.part + x) (count ∙ ap (min most) s.down.counts) in
     let bytes : link.client_reader.taken ++ next_of (traffic pipe ToClient) n ≡ take k (flat_map down_bytes c.to_client.waiting) =
     offered_front down_bytes (traffic pipe ToClient) c.to_client link.client_reader.taken link.to_client n s.down
     ∙ ap (λ (x : ℕ). take x (flat_map down_bytes c.to_client.waiting)) same in
     subst (λ (bs : List ℕ). ListensAlike link.client_reader bs c (reach_client c c.to_client.waiting k) link.client None (told_in link.current)) (sym bytes)
-    (listen_alike link.client_reader c c.to_client.waiting k link.client None (told_in link.current) all s.client)
-
--- ---- The server is as it was
-
--- A server sees nothing of what is underway to the client, nor where the connection stands.
-seen_on : {E : Type 0} (s : ServerState E) (c : Connection) (lane : Lane Down) (standing : Standing) → MatchesServer s c → MatchesServer s (record c { to_client = lane; standing = standing })
-seen_on s c lane standing m = server_still_matches s c (record c { to_client = lane; standing = standing }) refl refl refl refl (λ message some of. of) m
-
-either : {E : Type 0} (b : Bool) (s : ServerState E) (x y : Connection) → MatchesServer s x → MatchesServer s y → MatchesServer s (cond b x y)
-either true s x y f g = f
-either false s x y f g = g
-
-server_stays : {E : Type 0} (s : ServerState E) (c : Connection) (es : List Down) (k : ℕ) → MatchesServer s c → MatchesServer s (reach_client c es k)
-server_stays s c [] k m = seen_on s c (with_waiting [] 0 c.to_client) c.standing m
-server_stays s c (e ∷ es) k m =
-    let d : Connection = client_acts (record c { to_client = passed e c.to_client }) e in
-    either (ltb k (length (down_bytes e))) s (record c { to_client = with_waiting (e ∷ es) k c.to_client }) (reach_client d es (k - length (down_bytes e)))
-    (seen_on s c (with_waiting (e ∷ es) k c.to_client) c.standing m)
-    (server_stays s d es (k - length (down_bytes e)) (hears_kept s (record c { to_client = passed e c.to_client }) e (seen_on s c (passed e c.to_client) c.standing m)))
+    (listens link.client_reader c c.to_client.waiting k link.client None (told_in link.current) all s.client)
 
 -- ---- The requests
 
@@ -96,12 +81,6 @@ reach_beside c (e ∷ es) k =
 
 -- ---- Where it stands
 
-idle_alike : (s : ClientSession) (d : Connection) → MatchesClient s d → is_none (unless_idle s.stage) ≡ is_idle d
-idle_alike s d m = elim (idle_in d.current) [
-  | inl e ↦ ap (λ x. is_none (unless_idle x)) m.stage ∙ ap (λ x. is_none x) e.0 ∙ sym e.1
-  | inr e ↦ ap (λ x. is_none (unless_idle x)) m.stage ∙ ap (λ x. is_none x) e.0 ∙ sym e.1
-]
-
 drained_by : (idle : Bool) (p : Place) → In (drained_at idle p) ≡ drained idle (In p)
 drained_by true (place.Leased lease) = refl
 drained_by true (place.Kept ticket) = refl
@@ -110,10 +89,10 @@ drained_by true place.Draining = refl
 drained_by false p = refl
 
 -- A connection that is drained stands where the model's does.
-pub stands_drained : (s : ClientSession) (d : Connection) (p : Place) → MatchesClient s d → d.standing ≡ In p → In (drained_at (is_none (unless_idle s.stage)) p) ≡ (drains d).standing
-stands_drained s d p m is =
+pub stands_drained : IdleAlike → (s : ClientSession) (d : Connection) (p : Place) → MatchesClient s d → d.standing ≡ In p → In (drained_at (is_none (unless_idle s.stage)) p) ≡ (drains d).standing
+stands_drained waits s d p m is =
     drained_by (is_none (unless_idle s.stage)) p
-    ∙ ap (λ b. drained b (In p)) (idle_alike s d m)
+    ∙ ap (λ b. drained b (In p)) (waits s d m)
     ∙ ap (drained (is_idle d)) (sym is)
 
 -- ---- The connection then
@@ -130,26 +109,25 @@ pub record Heard {E S : Type 0} (old new : Link E S) (pipe after : Option Pipe) 
   pub up : traffic after ToServer ≡ traffic pipe ToServer
   pub down : traffic after ToClient ≡ record (carried (traffic pipe ToClient) (next_of (traffic pipe ToClient) n)) { carry_failures = stuck }
 
-pub heard_alike : {E S : Type 0} (old new : Link E S) (pipe after : Option Pipe) (c : Connection) (most n : ℕ) (session : ClientSession) (left : List ℕ)
+pub heard_alike : {E S : Type 0} → PoolIsUnseen E → ((most : ℕ) → ServerStays E (to_client most)) → (old new : Link E S) (pipe after : Option Pipe) (c : Connection) (most n : ℕ) (session : ClientSession) (left : List ℕ)
     → Stands old pipe c → n ≡ min most old.to_client
     → IsDelivered down_bytes most c.to_client (to_client most c).to_client
     → MatchesClient session (reach_client c c.to_client.waiting (c.to_client.part + min most (down_underway c)))
     → left ≡ take (to_client most c).to_client.part (flat_map down_bytes (to_client most c).to_client.waiting)
     → Heard old new pipe after n session left
     → Stands new after (to_client most c)
-heard_alike old new pipe after c most n session left s count lanes m rest h =
+heard_alike unseen stays old new pipe after c most n session left s count lanes m rest h =
     let k : ℕ = c.to_client.part + min most (down_underway c) in
     let d : Connection = reach_client c c.to_client.waiting k in
     let w : Connection = to_client most c in
     let beside = reach_beside c c.to_client.waiting k in
-    let drained_too : MatchesClient session w = client_still_matches session d w refl refl refl m in
-    let stays : MatchesServer old.server w = seen_on old.server d d.to_client w.standing (server_stays old.server c c.to_client.waiting k s.server) in
+    let drained_too : MatchesClient session w = unseen.client w.standing session d m in
     let up : IsLane up_bytes (traffic pipe ToServer) w.to_server old.server_reader.taken old.to_server = subst (λ (l : Lane Up). IsLane up_bytes (traffic pipe ToServer) l old.server_reader.taken old.to_server) (sym beside.to_server) s.up in
     let down : IsLane down_bytes (record (carried (traffic pipe ToClient) (next_of (traffic pipe ToClient) (min most old.to_client))) { carry_failures = h.stuck }) w.to_client left (old.to_client - min most old.to_client) =
     lane_stuck down_bytes (carried (traffic pipe ToClient) (next_of (traffic pipe ToClient) (min most old.to_client))) h.stuck w.to_client left (old.to_client - min most old.to_client) (lane_delivered down_bytes most (traffic pipe ToClient) c.to_client w.to_client old.client_reader.taken left old.to_client s.down lanes rest) in
     record {
       client = rw h.client drained_too;
-      server = rw h.server stays;
+      server = rw h.server (stays most old.server c s.server);
       up = rw (h.up, h.server_reader, h.to_server) up;
       down = rw (h.down, h.client_reader, h.to_client, count) down;
     }

@@ -2,18 +2,7 @@ pub mod Queues
 pub mod Listed
 pub mod Running
 pub mod Lent
-pub mod Picks
-pub mod Phases
-pub mod Lanes
-pub mod Asking
-pub mod Sending
-pub mod Working
-pub mod Cancelling
-pub mod Begun
-pub mod Kept
-pub mod Cuts
 pub mod CutOff
-pub mod Matching
 pub mod Placed
 pub mod Outward
 pub mod Worked
@@ -23,8 +12,6 @@ pub mod Asked
 pub mod Acting
 pub mod Losing
 pub mod Doing
-pub mod ServerDelivery
-pub mod ClientDelivery
 pub mod Carrying
 pub mod Between
 pub mod ServerEvent

@@ -13,6 +13,7 @@ use Rattle.tds_world.specs.Record as world
 use Rattle.tds_play.specs.declared.link.Link.{Link}
 use Rattle.tds_play.specs.declared.request.Record.{Record}
 use Rattle.tds_play.specs.Between.{Stands}
+use Rattle.tds_ends.specs.Stays.{IdleAlike}
 use Rattle.tds_ends.specs.Deliveries.{ListensAlike, status_under}
 use Rattle.tds_ends.specs.Feeding.{Listened}
 use Rattle.tds_play.specs.Lending.{standing_by}
@@ -148,14 +149,14 @@ listened_by old one two new pipe after n then left lost open_ first h last came 
 
 -- ---- What it stands for
 
-pub listened_on : {E S : Type 0} (number size most n : ℕ) (engine : E) (bytes : List ℕ) (old new : Link E S) (pipe after : Option Pipe) (c : Connection)
+pub listened_on : {E S : Type 0} → IdleAlike → (number size most n : ℕ) (engine : E) (bytes : List ℕ) (old new : Link E S) (pipe after : Option Pipe) (c : Connection)
     → IsPlayed number size engine old pipe c → old.is_cut ≡ false
     → (to_client most c).past ≡ c.past
     → (a : ListensAlike old.client_reader bytes c (reach_client c c.to_client.waiting (c.to_client.part + min most (down_underway c))) old.client None (told_in old.current))
     → ListenedOn old new pipe after n a.then a.rest
     → Stands new after (to_client most c)
     → IsPlayed number size engine new after (to_client most c)
-listened_on number size most n engine bytes old new pipe after c p live past a d s =
+listened_on waits number size most n engine bytes old new pipe after c p live past a d s =
     let k : ℕ = c.to_client.part + min most (down_underway c) in
     let reached : Connection = reach_client c c.to_client.waiting k in
     let beside = reach_beside c c.to_client.waiting k in
@@ -166,7 +167,7 @@ listened_on number size most n engine bytes old new pipe after c p live past a d
       numbered = d.number ∙ p.numbered;
       standing =
           ap (λ b. standing_by b new.place) uncut ∙ ap (λ x. In x) d.place
-          ∙ stands_drained a.then.session reached old.place a.matches stood;
+          ∙ stands_drained waits a.then.session reached old.place a.matches stood;
       older = rw (d.is_cut, d.past, past) p.older;
       newest = rw uncut (newest_heard number a.then old.current new.current c.current reached.current (rw live at p.newest) d.told beside.current a.tells);
       to_server = s.up.handed;

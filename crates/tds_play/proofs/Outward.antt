@@ -19,7 +19,6 @@ use Rattle.tds_play.specs.Ties.{saturated, with_counted}
 use Rattle.tds_play.specs.declared.link.Link.{Link}
 use Rattle.tds_play.specs.declared.request.Record.{Record}
 use Rattle.tds_play.proofs.Between.{lane_came, lane_sent}
-use Rattle.tds_play.proofs.Lanes.{sent_more}
 use Rattle.tds_play.proofs.ServerEvent.{sent_none, count_by}
 
 -- ---- Handing over
@@ -113,8 +112,12 @@ given_down n mid out before after bytes lost at open_ none handed counted =
 
 -- ---- The connection then
 
+-- What is sent is appended to all that was sent on a lane.
+abbrev pub SentMore : {Entry : Type 0} → (Entry → List ℕ) → Type 0
+SentMore {Entry} bytes = (more : List ℕ) (old new : Lane Entry) → Sends bytes more old new → sent_bytes bytes new ≡ sent_bytes bytes old ++ more
+
 -- The client did it: it sent these bytes, and the connection's newest request and place may have changed.
-pub sent_played : {E S : Type 0} (number size : ℕ) (engine : E) (link new : Link E S) (s : ClientSession) (q : Option Record) (p : Place) (pipe after : Option Pipe) (c d : Connection) (bytes : List ℕ)
+pub sent_played : {E S : Type 0} → SentMore up_bytes → (number size : ℕ) (engine : E) (link new : Link E S) (s : ClientSession) (q : Option Record) (p : Place) (pipe after : Option Pipe) (c d : Connection) (bytes : List ℕ)
     → IsPlayed number size engine link pipe c → link.is_cut ≡ false
     → HandedUp (record link { client = s; current = q; place = p }) new pipe after bytes
     → d.standing ≡ In p → s.size ≡ link.client.size
@@ -123,7 +126,7 @@ pub sent_played : {E S : Type 0} (number size : ℕ) (engine : E) (link new : Li
     → d.past ≡ c.past → IsNewest number false q d.current
     → up_underway d ≤ 18446744073709551615
     → IsPlayed number size engine new after d
-sent_played {E} {S} number size engine link new s q p pipe after c d bytes i live h standing sized client server sends below past newest few = record {
+sent_played {E} {S} appends number size engine link new s q p pipe after c d bytes i live h standing sized client server sends below past newest few = record {
   numbered = ap (λ l. l.number) h.link ∙ i.numbered;
   standing = ap standing_of h.link ∙ ap (λ (b : Bool). standing_by b p) live ∙ sym standing;
   older =
@@ -132,7 +135,7 @@ sent_played {E} {S} number size engine link new s q p pipe after c d bytes i liv
   newest =
       subst (λ (l : Link E S). IsNewest number l.is_cut l.current d.current) (sym h.link)
       (subst (λ (b : Bool). IsNewest number b q d.current) (sym live) newest);
-  to_server = ap (λ t. t.handed) h.up ∙ ap (λ (xs : List ℕ). xs ++ bytes) i.to_server ∙ sym (sent_more up_bytes bytes c.to_server d.to_server sends);
+  to_server = ap (λ t. t.handed) h.up ∙ ap (λ (xs : List ℕ). xs ++ bytes) i.to_server ∙ sym (appends bytes c.to_server d.to_server sends);
   to_client = ap (λ t. t.handed) h.down ∙ i.to_client ∙ ap (sent_bytes down_bytes) (sym below);
   came_up =
       ap (λ t. t.came) h.up
@@ -166,7 +169,7 @@ sent_played {E} {S} number size engine link new s q p pipe after c d bytes i liv
 }
 
 -- The server did it: it sent these bytes, and the newest request may have changed.
-pub replied_played : {E S : Type 0} (number size : ℕ) (engine : E) (link new : Link E S) (s : ServerState E) (q : Option Record) (pipe after : Option Pipe) (c d : Connection) (bytes : List ℕ)
+pub replied_played : {E S : Type 0} → SentMore down_bytes → (number size : ℕ) (engine : E) (link new : Link E S) (s : ServerState E) (q : Option Record) (pipe after : Option Pipe) (c d : Connection) (bytes : List ℕ)
     → IsPlayed number size engine link pipe c → link.is_cut ≡ false
     → HandedDown (record link { server = s; current = q }) new pipe after bytes
     → d.standing ≡ c.standing → s.engine ≡ link.server.engine
@@ -175,7 +178,7 @@ pub replied_played : {E S : Type 0} (number size : ℕ) (engine : E) (link new :
     → d.past ≡ c.past → IsNewest number false q d.current
     → down_underway d ≤ 18446744073709551615
     → IsPlayed number size engine new after d
-replied_played {E} {S} number size engine link new s q pipe after c d bytes i live h standing same client server sends above past newest few = record {
+replied_played {E} {S} appends number size engine link new s q pipe after c d bytes i live h standing same client server sends above past newest few = record {
   numbered = ap (λ l. l.number) h.link ∙ i.numbered;
   standing = ap standing_of h.link ∙ i.standing ∙ sym standing;
   older =
@@ -185,7 +188,7 @@ replied_played {E} {S} number size engine link new s q pipe after c d bytes i li
       subst (λ (l : Link E S). IsNewest number l.is_cut l.current d.current) (sym h.link)
       (subst (λ (b : Bool). IsNewest number b q d.current) (sym live) newest);
   to_server = ap (λ t. t.handed) h.up ∙ i.to_server ∙ ap (sent_bytes up_bytes) (sym above);
-  to_client = ap (λ t. t.handed) h.down ∙ ap (λ (xs : List ℕ). xs ++ bytes) i.to_client ∙ sym (sent_more down_bytes bytes c.to_client d.to_client sends);
+  to_client = ap (λ t. t.handed) h.down ∙ ap (λ (xs : List ℕ). xs ++ bytes) i.to_client ∙ sym (appends bytes c.to_client d.to_client sends);
   came_up = ap (λ t. t.came) h.up ∙ i.came_up ∙ ap (come_bytes up_bytes) (sym above);
   came_down =
       ap (λ t. t.came) h.down

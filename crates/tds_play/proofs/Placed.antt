@@ -1,7 +1,7 @@
 -- A connection that is lent, kept or given up, in a play and in the model.
 use Rattle.std.specs.Prelude.{◌==◌, ◌||◌, is_none}
-use Rattle.std.proofs.Common.{◌≡◌, ◌∙◌, ℕ, Bool, true, false, refl, sym, ap, Option, Some, None, inl, inr}
-use Rattle.tds_client.specs.Session.{ClientSession, unless_idle}
+use Rattle.std.proofs.Common.{◌≡◌, ◌∙◌, ℕ, Bool, true, false, refl, ap, Option, Some, None}
+use Rattle.tds_client.specs.Session.{ClientSession, marked, unless_idle}
 use Rattle.tds_packet.specs.declared.status.Reset.{Reset}
 use Rattle.tds_packet.specs.Resets.{strongest}
 use Rattle.tds_world.specs.declared.outcome.Outcome.TheVariants.{Kept, Refused}
@@ -9,7 +9,7 @@ use Rattle.tds_world.specs.declared.outcome.Refusal.{Refusal}
 use Rattle.tds_world.specs.declared.outcome.Refusal.TheVariants.{NotIdle, NothingToKeep}
 use Rattle.tds_world.specs.declared.report.Place.{Place}
 use Rattle.tds_world.specs.declared.report.Place.TheVariants as place
-use Rattle.tds_world.specs.Connection.{Connection, In, is_idle, phase}
+use Rattle.tds_world.specs.Connection.{Connection, Standing, In, is_idle, phase}
 use Rattle.tds_world.specs.Phase.{Phase, Settled, Asked, Sending, Reading, Cancelling, is_settled}
 use Rattle.tds_world.specs.Pool.{Acted, is_full, keeps, keeps_by}
 use Rattle.tds_play.specs.Lending.{standing_by}
@@ -18,11 +18,9 @@ use Rattle.tds_play.specs.Pipe.{Pipe}
 use Rattle.tds_play.specs.Plays.{IsPlayed, after, outcome_of}
 use Rattle.tds_play.specs.Seen.{done_as}
 use Rattle.tds_ends.specs.Stands.{MatchesClient}
+use Rattle.tds_ends.specs.Stays.{IdleAlike, PoolIsUnseen}
 use Rattle.tds_play.specs.declared.link.Done.{Done}
 use Rattle.tds_play.specs.declared.link.Link.{Link}
-use Rattle.tds_play.proofs.Begun.{marked_matches}
-use Rattle.tds_play.proofs.Matching.{server_still_matches, client_still_matches}
-use Rattle.tds_play.proofs.Phases.{idle_in}
 
 -- ---- Who waits
 
@@ -36,26 +34,19 @@ settled_where Cancelling e = absurd (cc)
 pub idle_settled : (c : Connection) → is_idle c ≡ true → phase c ≡ Settled
 idle_settled c e = settled_where (phase c) e
 
-pub idle_alike : (s : ClientSession) (c : Connection) → MatchesClient s c → is_none (unless_idle s.stage) ≡ is_idle c
-idle_alike s c m =
-    elim (idle_in c.current) [
-      | inl h ↦ ap (λ x. is_none (unless_idle x)) m.stage ∙ ap is_none h.0 ∙ sym h.1
-      | inr h ↦ ap (λ x. is_none (unless_idle x)) m.stage ∙ ap is_none h.0 ∙ sym h.1
-    ]
-
 none_where : {A : Type 0} (o : Option A) → is_none o ≡ true → o ≡ None
 none_where None e = refl
 none_where (Some x) e = absurd (cc)
 
-pub idle_unless : (s : ClientSession) (c : Connection) → MatchesClient s c → is_idle c ≡ true → unless_idle s.stage ≡ None
-idle_unless s c m e = none_where (unless_idle s.stage) (idle_alike s c m ∙ e)
+pub idle_unless : IdleAlike → (s : ClientSession) (c : Connection) → MatchesClient s c → is_idle c ≡ true → unless_idle s.stage ≡ None
+idle_unless waits s c m e = none_where (unless_idle s.stage) (waits s c m ∙ e)
 
 -- ---- Elsewhere in the pool
 
-pub placed_played : {E S : Type 0} (number size : ℕ) (engine : E) (link : Link E S) (pipe : Option Pipe) (c : Connection) (p : Place)
+pub placed_played : {E S : Type 0} → PoolIsUnseen E → (number size : ℕ) (engine : E) (link : Link E S) (pipe : Option Pipe) (c : Connection) (p : Place)
     → IsPlayed number size engine link pipe c → link.is_cut ≡ false
     → IsPlayed number size engine (placed_at p link) pipe (record c { standing = In p })
-placed_played number size engine link pipe c p i live = record {
+placed_played unseen number size engine link pipe c p i live = record {
   numbered = i.numbered;
   standing = ap (λ (b : Bool). standing_by b p) live;
   older = i.older;
@@ -69,8 +60,8 @@ placed_played number size engine link pipe c p i live = record {
       let s = v.stands in
       record {
         stands = record {
-          client = client_still_matches link.client c (record c { standing = In p }) refl refl refl s.client;
-          server = server_still_matches link.server c (record c { standing = In p }) refl refl refl refl (λ m some of. of) s.server;
+          client = unseen.client (In p) link.client c s.client;
+          server = unseen.server c.mark (In p) link.server c s.server;
           up = s.up;
           down = s.down;
         };
@@ -84,12 +75,16 @@ placed_played number size engine link pipe c p i live = record {
   gone = i.gone;
 }
 
-pub lent_played : {E S : Type 0} (number size lease : ℕ) (mark : Reset) (engine : E) (link new : Link E S) (pipe : Option Pipe) (c : Connection)
+-- A client that is marked for a reset stands for a connection that is lent again.
+abbrev pub MarksAlike : Type 0
+MarksAlike = (s : ClientSession) (c : Connection) (r : Reset) (standing : Standing) → MatchesClient s c → phase c ≡ Settled → MatchesClient (marked s r) (record c { mark = strongest (Some r) c.mark; standing = standing })
+
+pub lent_played : {E S : Type 0} → PoolIsUnseen E → IdleAlike → MarksAlike → (number size lease : ℕ) (mark : Reset) (engine : E) (link new : Link E S) (pipe : Option Pipe) (c : Connection)
     → IsPlayed number size engine link pipe c → link.is_cut ≡ false → is_idle c ≡ true
     → (unless_idle link.client.stage ≡ None → new ≡ lent_as lease mark link)
     → IsPlayed number size engine new pipe (record c { mark = strongest (Some mark) c.mark; standing = In (place.Leased lease) })
-lent_played {E} {S} number size lease mark engine link new pipe c i live idle is =
-    rw (is (idle_unless link.client c (i.lives live).stands.client idle)) here
+lent_played {E} {S} unseen waits marks number size lease mark engine link new pipe c i live idle is =
+    rw (is (idle_unless waits link.client c (i.lives live).stands.client idle)) here
   where
     d : Connection
     d = record c { mark = strongest (Some mark) c.mark; standing = In (place.Leased lease) }
@@ -109,8 +104,8 @@ lent_played {E} {S} number size lease mark engine link new pipe c i live idle is
           let s = v.stands in
           record {
             stands = record {
-              client = marked_matches link.client c mark (In (place.Leased lease)) s.client (idle_settled c idle);
-              server = server_still_matches link.server c d refl refl refl refl (λ m some of. of) s.server;
+              client = marks link.client c mark (In (place.Leased lease)) s.client (idle_settled c idle);
+              server = unseen.server (strongest (Some mark) c.mark) (In (place.Leased lease)) link.server c s.server;
               up = s.up;
               down = s.down;
             };
@@ -131,28 +126,28 @@ abbrev pub DoesWhole : {E S : Type 0} → ℕ → ℕ → E → Done → Link E 
 DoesWhole number size engine done link pipe a c =
     (done ≡ done_as (outcome_of a)) × IsPlayed number size engine link pipe (after a c)
 
-kept_by : {E S : Type 0} (number size ticket : ℕ) (engine : E) (link new : Link E S) (pipe : Option Pipe) (c : Connection) (done : Done) (idle nothing : Bool)
+kept_by : {E S : Type 0} → PoolIsUnseen E → (number size ticket : ℕ) (engine : E) (link new : Link E S) (pipe : Option Pipe) (c : Connection) (done : Done) (idle nothing : Bool)
     → IsPlayed number size engine link pipe c → link.is_cut ≡ false
     → ((why : Refusal) → unless_kept_by idle nothing ≡ Some why → (done ≡ done_as (Refused why)) × (new ≡ link))
     → (unless_kept_by idle nothing ≡ None → (done ≡ done_as (Kept ticket)) × (new ≡ placed_at (place.Kept ticket) link))
     → DoesWhole number size engine done new pipe (keeps_by idle nothing ticket c) c
-kept_by number size ticket engine link new pipe c done false nothing i live refused kept =
+kept_by unseen number size ticket engine link new pipe c done false nothing i live refused kept =
     let h = refused NotIdle refl in (h.0, rw h.1 i)
-kept_by number size ticket engine link new pipe c done true true i live refused kept =
+kept_by unseen number size ticket engine link new pipe c done true true i live refused kept =
     let h = refused NothingToKeep refl in (h.0, rw h.1 i)
-kept_by number size ticket engine link new pipe c done true false i live refused kept =
-    let h = kept refl in (h.0, rw h.1 (placed_played number size engine link pipe c (place.Kept ticket) i live))
+kept_by unseen number size ticket engine link new pipe c done true false i live refused kept =
+    let h = kept refl in (h.0, rw h.1 (placed_played unseen number size engine link pipe c (place.Kept ticket) i live))
 
-pub kept_alike : {E S : Type 0} (number size ticket : ℕ) (engine : E) (link new : Link E S) (pipe : Option Pipe) (c : Connection) (done : Done)
+pub kept_alike : {E S : Type 0} → PoolIsUnseen E → IdleAlike → (number size ticket : ℕ) (engine : E) (link new : Link E S) (pipe : Option Pipe) (c : Connection) (done : Done)
     → IsPlayed number size engine link pipe c → link.is_cut ≡ false
     → ((why : Refusal) → unless_kept link.client ≡ Some why → (done ≡ done_as (Refused why)) × (new ≡ link))
     → (unless_kept link.client ≡ None → (done ≡ done_as (Kept ticket)) × (new ≡ placed_at (place.Kept ticket) link))
     → DoesWhole number size engine done new pipe (keeps ticket c) c
-kept_alike number size ticket engine link new pipe c done i live refused kept =
+kept_alike unseen waits number size ticket engine link new pipe c done i live refused kept =
     let m = (i.lives live).stands.client in
     let same : unless_kept link.client ≡ unless_kept_by (is_idle c) (c.heard == 0 || is_full c.mark) =
-    ap (λ (b : Bool). unless_kept_by b (link.client.heard.descriptor == 0 || is_full link.client.heard.mark)) (idle_alike link.client c m)
+    ap (λ (b : Bool). unless_kept_by b (link.client.heard.descriptor == 0 || is_full link.client.heard.mark)) (waits link.client c m)
     ∙ ap (λ (n : ℕ). unless_kept_by (is_idle c) (n == 0 || is_full link.client.heard.mark)) m.descriptor
     ∙ ap (λ (r : Option Reset). unless_kept_by (is_idle c) (c.heard == 0 || is_full r)) m.mark in
-    kept_by number size ticket engine link new pipe c done (is_idle c) (c.heard == 0 || is_full c.mark) i live
+    kept_by unseen number size ticket engine link new pipe c done (is_idle c) (c.heard == 0 || is_full c.mark) i live
     (λ why e. refused why (same ∙ e)) (λ e. kept (same ∙ e))

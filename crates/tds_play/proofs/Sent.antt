@@ -11,10 +11,13 @@ use Rattle.tds_world.specs.declared.outcome.Outcome.{Outcome}
 use Rattle.tds_world.specs.declared.outcome.Outcome.TheVariants as outcome
 use Rattle.tds_world.specs.declared.outcome.Refusal.TheVariants.{NotSending}
 use Rattle.tds_world.specs.declared.outcome.SendOutcome.{SendOutcome}
+use Rattle.tds_world.specs.declared.report.RequestStatus.TheVariants as status
 use Rattle.tds_world.specs.Caller.{sends, sends_by, sends_last}
 use Rattle.tds_world.specs.Connection.{Connection, phase, up_underway}
 use Rattle.tds_world.specs.Events.{sends_in}
+use Rattle.tds_world.specs.Entries.{up_bytes}
 use Rattle.tds_world.specs.Phase.{Phase, Settled, Asked, Sending, Reading, Cancelling, phase_by, phase_in, phase_of, status_by}
+use Rattle.tds_world.specs.PhaseTells.{PhaseTells}
 use Rattle.tds_world.specs.Pool.{Acted, Refuses, Does}
 use Rattle.tds_world.specs.Record.{Out, NotBegun, Begun, Whole, packets_of}
 use Rattle.tds_world.specs.Record as world
@@ -27,10 +30,7 @@ use Rattle.tds_play.specs.Requests.{IsNewest}
 use Rattle.tds_ends.specs.Stands.{is_sending, MatchesServer}
 use Rattle.tds_play.specs.declared.link.Link.{Link}
 use Rattle.tds_play.specs.declared.request.Record.{Record}
-use Rattle.tds_play.proofs.Kept.{sends_kept}
-use Rattle.tds_play.proofs.Outward.{HandedUp, sent_played}
-use Rattle.tds_play.proofs.Sending.{send_alike}
-use Rattle.tds_play.proofs.Phases.{when_going}
+use Rattle.tds_play.proofs.Outward.{HandedUp, SentMore, sent_played}
 
 -- ---- The client
 
@@ -91,61 +91,68 @@ past_by_last false room q c = refl
 
 -- ---- The newest request
 
--- It is open before and after.
-begun_open : (fate : world.Fate) (out : Out) (n : ℕ) → is_sending (phase_by fate out) ≡ true → status_by fate false (phase_by fate out) ≡ status_by fate false (phase_by fate (Begun n))
-begun_open fate out n = when_going (λ x o. status_by x false (phase_by x o) ≡ status_by x false (phase_by x (Begun n))) refl (λ k. refl) fate out
+-- One that sends is open, before and after.
+open_at : (p : Phase) (fate : world.Fate) (out : Out) → is_sending p ≡ true → PhaseTells p fate out → (fate ≡ world.Open) × (status_by fate false (phase_by fate out) ≡ status.Open)
+open_at Settled fate out e t = absurd (cc)
+open_at Asked fate out e t = (t.0, rw (t.0, t.1) refl)
+open_at Sending fate out e t = (t.0, rw (t.0, t.2) refl)
+open_at Reading fate out e t = absurd (cc)
+open_at Cancelling fate out e t = absurd (cc)
 
-whole_open : (fate : world.Fate) (out : Out) (n : ℕ) → is_sending (phase_by fate out) ≡ true → status_by fate false (phase_by fate out) ≡ status_by fate false (phase_by fate (Whole n))
-whole_open fate out n = when_going (λ x o. status_by x false (phase_by x o) ≡ status_by x false (phase_by x (Whole n))) refl (λ k. refl) fate out
+still_open : (fate : world.Fate) (out next : Out) → status_by world.Open false (phase_by world.Open next) ≡ status.Open → (fate ≡ world.Open) × (status_by fate false (phase_by fate out) ≡ status.Open) → status_by fate false (phase_by fate out) ≡ status_by fate false (phase_by fate next)
+still_open fate out next then o = o.1 ∙ sym (ap (λ x. status_by x false (phase_by x next)) o.0 ∙ then)
 
-newest_sent : (b : Bool) (room number : ℕ) (r : Option Record) (q : world.Record) (c : Connection) → is_sending (phase_of q) ≡ true → IsNewest number false r (Some q) → IsNewest number false r (sends_by b room q c).current
+newest_sent : (b : Bool) (room number : ℕ) (r : Option Record) (q : world.Record) (c : Connection) → (q.fate ≡ world.Open) × (status_by q.fate false (phase_of q) ≡ status.Open) → IsNewest number false r (Some q) → IsNewest number false r (sends_by b room q c).current
 newest_sent b room number None q c e h = absurd h
-newest_sent true room number (Some r) q c e h = record { lease = h.lease; conn = h.conn; mark = h.mark; status = h.status ∙ whole_open q.fate q.out (packets_of q.out + 1) e; ran = h.ran; tokens = h.tokens }
-newest_sent false room number (Some r) q c e h = record { lease = h.lease; conn = h.conn; mark = h.mark; status = h.status ∙ begun_open q.fate q.out (packets_of q.out + 1) e; ran = h.ran; tokens = h.tokens }
+newest_sent true room number (Some r) q c e h = record { lease = h.lease; conn = h.conn; mark = h.mark; status = h.status ∙ still_open q.fate q.out (Whole (packets_of q.out + 1)) refl e; ran = h.ran; tokens = h.tokens }
+newest_sent false room number (Some r) q c e h = record { lease = h.lease; conn = h.conn; mark = h.mark; status = h.status ∙ still_open q.fate q.out (Begun (packets_of q.out + 1)) refl e; ran = h.ran; tokens = h.tokens }
 
 -- ---- The connection then
 
 -- What the model's sending came to: the newest request sent this.
-next_sent : {E S : Type 0} (number size room : ℕ) (engine : E) (link new : Link E S) (pipe then : Option Pipe) (c : Connection) (e : Effect Sent) (a : Acted)
+next_sent : {E S : Type 0} → SentMore up_bytes → ((q : world.Record) → PhaseTells (phase_of q) q.fate q.out) → (number size room : ℕ) (engine : E) (link new : Link E S) (pipe then : Option Pipe) (c : Connection) (e : Effect Sent) (a : Acted)
     → IsPlayed number size engine link pipe c → link.is_cut ≡ false
+    → ((q : world.Record) → c.current ≡ Some q → MatchesServer link.server (sends room q c))
     → sends_in (phase c) room c.current c ≡ a → SendAlike c (Ok e) a → e.session.size ≡ link.client.size
     → up_underway (after a c) ≤ 18446744073709551615
     → HandedUp (with_client e.session link) new pipe then e.bytes
     → (outcome.Sent (send_outcome e.answer) ≡ outcome_of a) × IsPlayed number size engine new then (after a c)
-next_sent number size room engine link new pipe then c e (Refuses why) i live is alike sized few h = absurd alike
-next_sent number size room engine link new pipe then c e (Does what d) i live is alike sized few h =
+next_sent appends tells number size room engine link new pipe then c e (Refuses why) i live stays is alike sized few h = absurd alike
+next_sent appends tells number size room engine link new pipe then c e (Does what d) i live stays is alike sized few h =
     let w = sent_where (phase c) room c.current c d what is in
     let v = (i.lives live).stands in
     let last : Bool = sends_last room w.request in
     let sending : is_sending (phase_of w.request) ≡ true = ap (λ o. is_sending (phase_in o)) (sym w.newest) ∙ w.sending in (
       sym alike.0,
-      sent_played number size engine link new e.session link.current link.place pipe then c d e.bytes i live h
+      sent_played appends number size engine link new e.session link.current link.place pipe then c d e.bytes i live h
           (ap (λ x. x.standing) w.then ∙ standing_by_last last room w.request c ∙ sym i.standing ∙ ap (λ (b : Bool). standing_by b link.place) live)
           sized alike.1
-          (subst (λ (x : Connection). MatchesServer link.server x) (sym w.then) (sends_kept room link.server c w.request w.newest v.server))
+          (subst (λ (x : Connection). MatchesServer link.server x) (sym w.then) (stays w.request w.newest))
           alike.2
           (ap (λ x. x.to_client) w.then ∙ below_by_last last room w.request c)
           (ap (λ x. x.past) w.then ∙ past_by_last last room w.request c)
           (subst (λ (x : Connection). IsNewest number false link.current x.current) (sym w.then)
-          (newest_sent last room number link.current w.request c sending
+          (newest_sent last room number link.current w.request c (open_at (phase_of w.request) w.request.fate w.request.out sending (tells w.request))
           (subst (λ (o : Option world.Record). IsNewest number false link.current o) w.newest (subst (λ (b : Bool). IsNewest number b link.current c.current) live i.newest))))
           few,
     )
 
-pub packet_played : {E S : Type 0} (number size : ℕ) (engine : E) (link mid new : Link E S) (pipe then : Option Pipe) (c : Connection) (bytes : List ℕ) (e : Effect Sent)
+pub packet_played : {E S : Type 0} → SentMore up_bytes → ((q : world.Record) → PhaseTells (phase_of q) q.fate q.out) → (number size : ℕ) (engine : E) (link mid new : Link E S) (pipe then : Option Pipe) (c : Connection) (bytes : List ℕ) (e : Effect Sent)
     → IsPlayed number size engine link pipe c → link.is_cut ≡ false
+    → SendAlike c (sent link.client) (sends_in (phase c) (room link.client) c.current c)
+    → ((q : world.Record) → c.current ≡ Some q → MatchesServer link.server (sends (size - 8) q c))
     → sent link.client ≡ Ok e
     → up_underway (after (sends_in (phase c) (size - 8) c.current c) c) ≤ 18446744073709551615
     → mid ≡ with_client e.session link → bytes ≡ e.bytes
     → HandedUp mid new pipe then bytes
     → (outcome.Sent (send_outcome e.answer) ≡ outcome_of (sends_in (phase c) (size - 8) c.current c))
     × IsPlayed number size engine new then (after (sends_in (phase c) (size - 8) c.current c) c)
-packet_played {E} {S} number size engine link mid new pipe then c bytes e i live is few at out h =
+packet_played {E} {S} appends tells number size engine link mid new pipe then c bytes e i live goes stays is few at out h =
     let v = i.lives live in
     let alike : SendAlike c (Ok e) (sends_in (phase c) (size - 8) c.current c) =
     subst (λ (n : ℕ). SendAlike c (Ok e) (sends_in (phase c) (n - 8) c.current c)) v.size_is
-    (subst (λ r. SendAlike c r (sends_in (phase c) (room link.client) c.current c)) is (send_alike link.client c v.stands.client)) in
-    next_sent number size (size - 8) engine link new pipe then c e (sends_in (phase c) (size - 8) c.current c) i live refl alike (size_in link.client.stage link.client e is) few
+    (subst (λ r. SendAlike c r (sends_in (phase c) (room link.client) c.current c)) is goes) in
+    next_sent appends tells number size (size - 8) engine link new pipe then c e (sends_in (phase c) (size - 8) c.current c) i live stays refl alike (size_in link.client.stage link.client e is) few
     (subst (λ (l : Link E S). HandedUp l new pipe then e.bytes) at (subst (λ (bs : List ℕ). HandedUp mid new pipe then bs) out h))
 
 -- ---- Refusing
@@ -157,14 +164,15 @@ refuses_alike c (Err why) (Does what d) err h = absurd h
 
 pub packet_refused : {E S : Type 0} (number size : ℕ) (engine : E) (link new : Link E S) (pipe : Option Pipe) (c : Connection)
     → IsPlayed number size engine link pipe c → link.is_cut ≡ false
+    → SendAlike c (sent link.client) (sends_in (phase c) (room link.client) c.current c)
     → is_ok (sent link.client) ≡ false → new ≡ link
     → (outcome.Refused NotSending ≡ outcome_of (sends_in (phase c) (size - 8) c.current c))
     × IsPlayed number size engine new pipe (after (sends_in (phase c) (size - 8) c.current c) c)
-packet_refused {E} {S} number size engine link new pipe c i live err same =
+packet_refused {E} {S} number size engine link new pipe c i live goes err same =
     let v = i.lives live in
     let is : sends_in (phase c) (size - 8) c.current c ≡ Refuses NotSending =
     subst (λ (n : ℕ). sends_in (phase c) (n - 8) c.current c ≡ Refuses NotSending) v.size_is
-    (refuses_alike c (sent link.client) (sends_in (phase c) (room link.client) c.current c) err (send_alike link.client c v.stands.client)) in (
+    (refuses_alike c (sent link.client) (sends_in (phase c) (room link.client) c.current c) err goes) in (
       ap outcome_of (sym is),
       subst (λ (a : Acted). IsPlayed number size engine new pipe (after a c)) (sym is)
           (subst (λ (l : Link E S). IsPlayed number size engine l pipe c) (sym same) i),

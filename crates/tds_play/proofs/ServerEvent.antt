@@ -1,52 +1,39 @@
 -- A delivery to the server of a connection that stands for one of the model.
 use Rattle.std.specs.Prelude.{◌||◌}
-use Rattle.std.proofs.Common.{◌≡◌, ◌≢◌, ◌≤◌, ◌∙◌, ◌+◌, ◌-◌, ℕ, min, Bool, true, false, cond, ltb, refl, sym, ap, subst, Option, Some, None, Result, Ok, List, [], ◌∷◌, ◌++◌, length, take, flat_map, append-nil, arith}
-use Rattle.tds_client.specs.Session.{ClientSession}
+use Rattle.std.proofs.Common.{◌≡◌, ◌≢◌, ◌≤◌, ◌∙◌, ◌+◌, ◌-◌, ℕ, min, Bool, true, false, refl, sym, ap, subst, Option, Some, None, Result, Ok, List, [], ◌∷◌, ◌++◌, length, take, flat_map, append-nil, arith}
 use Rattle.tds_packet.specs.declared.kind.Direction.TheVariants.{ToServer, ToClient}
+use Rattle.tds_packet.specs.Reading.{Reading}
 use Rattle.tds_server.specs.State.{ServerState}
 use Rattle.tds_session.specs.Answer.{Answers}
-use Rattle.tds_world.specs.Arrivals.{server_acts, reach_server, to_server}
+use Rattle.tds_world.specs.Arrivals.{reach_server, to_server}
 use Rattle.tds_world.specs.Connection.{Connection, up_underway, down_underway}
 use Rattle.tds_world.specs.Deliveries.{IsDelivered}
 use Rattle.tds_world.specs.Entries.{Up, up_bytes, down_bytes}
-use Rattle.tds_world.specs.Lane.{passed, with_waiting, underway}
+use Rattle.tds_world.specs.Lane.{underway}
 use Rattle.tds_play.specs.Between.{IsLane, Stands}
 use Rattle.tds_ends.specs.Deliveries.{AllArrive, ServesAlike}
 use Rattle.tds_play.specs.Pipe.{Pipe, Traffic, traffic, brought_on, carried, next_of, sent, sent_on, IsOpen}
-use Rattle.tds_ends.specs.Stands.{MatchesClient}
+use Rattle.tds_ends.specs.Stands.{MatchesServer}
+use Rattle.tds_ends.specs.Stays.{ClientStays}
 use Rattle.tds_play.specs.Ties.{saturated, counted, with_counted}
 use Rattle.tds_play.specs.declared.link.Link.{Link}
 use Rattle.tds_play.proofs.Between.{offered_front, lane_delivered, lane_sent, lane_stuck}
-use Rattle.tds_play.proofs.Kept.{arrives_kept}
-use Rattle.tds_play.proofs.Matching.{client_still_matches}
-use Rattle.tds_play.proofs.ServerDelivery.{serve_alike}
 
 -- ---- What comes is served
 
-pub come_served : {E S : Type 0} (answers : Answers) (link : Link E S) (pipe : Option Pipe) (c : Connection) (most n : ℕ) → Stands link pipe c → n ≡ min most link.to_server → AllArrive E answers link.server_reader c c.to_server.waiting → ServesAlike E answers link.server_reader (link.server_reader.taken ++ next_of (traffic pipe ToServer) n) c (to_server answers most c) link.server []
-come_served {E} answers link pipe c most n s count all =
+-- A server that is fed the bytes of entries takes those that come whole as the model does.
+abbrev pub ServesAll : Type 0 → Type 0
+ServesAll E = (answers : Answers) (r : Reading) (c : Connection) (es : List Up) (k : ℕ) (s : ServerState E) (reply : List ℕ) → AllArrive E answers r c es → MatchesServer s c → ServesAlike E answers r (take k (flat_map up_bytes es)) c (reach_server answers c es k) s reply
+
+pub come_served : {E S : Type 0} → ServesAll E → (answers : Answers) (link : Link E S) (pipe : Option Pipe) (c : Connection) (most n : ℕ) → Stands link pipe c → n ≡ min most link.to_server → AllArrive E answers link.server_reader c c.to_server.waiting → ServesAlike E answers link.server_reader (link.server_reader.taken ++ next_of (traffic pipe ToServer) n) c (to_server answers most c) link.server []
+come_served {E} serves answers link pipe c most n s count all =
     let k : ℕ = c.to_server.part + min most (up_underway c) in
     let same : c.to_server.part + n ≡ k = ap (λ (x : ℕ). c.to_server.part + x) (count ∙ ap (min most) s.up.counts) in
     let bytes : link.server_reader.taken ++ next_of (traffic pipe ToServer) n ≡ take k (flat_map up_bytes c.to_server.waiting) =
     offered_front up_bytes (traffic pipe ToServer) c.to_server link.server_reader.taken link.to_server n s.up
     ∙ ap (λ (x : ℕ). take x (flat_map up_bytes c.to_server.waiting)) same in
     subst (λ (bs : List ℕ). ServesAlike E answers link.server_reader bs c (to_server answers most c) link.server []) (sym bytes)
-    (serve_alike answers link.server_reader c c.to_server.waiting k link.server [] all s.server)
-
--- ---- The client is as it was
-
-either : (b : Bool) (s : ClientSession) (x y : Connection) → MatchesClient s x → MatchesClient s y → MatchesClient s (cond b x y)
-either true s x y f g = f
-either false s x y f g = g
-
-pub client_stays : (answers : Answers) (s : ClientSession) (c : Connection) (es : List Up) (k : ℕ) → MatchesClient s c → MatchesClient s (reach_server answers c es k)
-client_stays answers s c [] k m = client_still_matches s c (record c { to_server = with_waiting [] 0 c.to_server }) refl refl refl m
-client_stays answers s c (e ∷ es) k m =
-    let b : Connection = record c { to_server = passed e c.to_server } in
-    let d : Connection = server_acts answers b e in
-    either (ltb k (length (up_bytes e))) s (record c { to_server = with_waiting (e ∷ es) k c.to_server }) (reach_server answers d es (k - length (up_bytes e)))
-    (client_still_matches s c (record c { to_server = with_waiting (e ∷ es) k c.to_server }) refl refl refl m)
-    (client_stays answers s d es (k - length (up_bytes e)) (arrives_kept answers s b e (client_still_matches s c b refl refl refl m)))
+    (serves answers link.server_reader c c.to_server.waiting k link.server [] all s.server)
 
 -- ---- What the carrier did
 
@@ -117,7 +104,7 @@ count_by old new (b ∷ bs) none some few =
     let e : new ≡ saturated (old + length (b ∷ bs)) = some (λ e. absurd (cc)) in
     e ∙ omega (arith, few)
 
-pub delivered_alike : {E S : Type 0} (answers : Answers) (old new : Link E S) (pipe after : Option Pipe) (c : Connection) (most n : ℕ) (bytes reply : List ℕ)
+pub delivered_alike : {E S : Type 0} (answers : Answers) → ((most : ℕ) → ClientStays (to_server answers most)) → (old new : Link E S) (pipe after : Option Pipe) (c : Connection) (most n : ℕ) (bytes reply : List ℕ)
     → Stands old pipe c → n ≡ min most old.to_server
     → IsDelivered up_bytes most c.to_server (to_server answers most c).to_server
     → down_underway (to_server answers most c) ≤ 18446744073709551615
@@ -125,7 +112,7 @@ pub delivered_alike : {E S : Type 0} (answers : Answers) (old new : Link E S) (p
     → reply ≡ a.then.reply
     → Delivered old new pipe after n a.then.state a.rest reply
     → Stands new after (to_server answers most c)
-delivered_alike {E} answers old new pipe after c most n bytes reply s count lanes few a told d =
+delivered_alike {E} answers stays old new pipe after c most n bytes reply s count lanes few a told d =
     let w : Connection = to_server answers most c in
     let more : List ℕ = a.sends.0 in
     let m = d.moved in
@@ -139,7 +126,7 @@ delivered_alike {E} answers old new pipe after c most n bytes reply s count lane
     let counts : new.to_client ≡ old.to_client + length more = count_by old.to_client new.to_client reply d.to_client.0 d.to_client.1 (omega (arith, few, now, long)) ∙ ap (λ (k : ℕ). old.to_client + k) long in
     let below : traffic after ToClient ≡ sent (traffic pipe ToClient) more m.failures = m.down ∙ ap (λ (bs : List ℕ). sent (traffic pipe ToClient) bs m.failures) same in
     record {
-      client = rw d.client (client_stays answers old.client c c.to_server.waiting (c.to_server.part + min most (up_underway c)) s.client);
+      client = rw d.client (stays most old.client c s.client);
       server = rw d.server_is a.matches;
       up = rw (m.up, d.server_reader, d.to_server, count) up;
       down = rw (below, d.client_reader, counts) down;

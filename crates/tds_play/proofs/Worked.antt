@@ -12,22 +12,21 @@ use Rattle.tds_session.specs.Session.{SessionState}
 use Rattle.tds_world.specs.declared.outcome.WorkOutcome.TheVariants as work
 use Rattle.tds_world.specs.Arrivals.{works, works_on}
 use Rattle.tds_world.specs.Connection.{Connection, down_underway}
+use Rattle.tds_world.specs.Entries.{down_bytes}
 use Rattle.tds_world.specs.Events.{work_outcome}
 use Rattle.tds_world.specs.Record.{ran_in, runs}
 use Rattle.tds_world.specs.Record as world
 use Rattle.tds_play.specs.Acts.{worked_as, worked_by}
-use Rattle.tds_ends.specs.Alike.{worked_outcome}
+use Rattle.tds_ends.specs.Alike.{WorkAlike, worked_outcome}
+use Rattle.tds_ends.specs.Stands.{MatchesClient}
 use Rattle.tds_play.specs.Links.{stepped}
 use Rattle.tds_play.specs.Pipe.{Pipe}
 use Rattle.tds_play.specs.Plays.{IsPlayed}
 use Rattle.tds_world.specs.Newest.{WorksOnNewest}
-use Rattle.tds_world.specs.Steps.{EndsIfDue}
 use Rattle.tds_play.specs.Requests.{MatchesRecord, IsNewest}
 use Rattle.tds_play.specs.declared.link.Link.{Link}
 use Rattle.tds_play.specs.declared.request.Record.{Record}
-use Rattle.tds_play.proofs.Kept.{works_kept}
-use Rattle.tds_play.proofs.Outward.{HandedDown, replied_played}
-use Rattle.tds_play.proofs.Working.{work_alike}
+use Rattle.tds_play.proofs.Outward.{HandedDown, SentMore, replied_played}
 
 -- ---- What the server's work changes
 
@@ -116,23 +115,23 @@ newest_by number (s ∷ ss) server.Finished before after c r e told w from to h 
 
 -- ---- The connection then
 
-pub worked_played : {E S : Type 0} (number size : ℕ) (engine : E) (link mid new : Link E S) (pipe after : Option Pipe) (c : Connection) (bytes : List ℕ)
+pub worked_played : {E S : Type 0} → SentMore down_bytes → (number size : ℕ) (engine : E) (link mid new : Link E S) (pipe after : Option Pipe) (c : Connection) (bytes : List ℕ)
     → IsPlayed number size engine link pipe c → link.is_cut ≡ false
-    → EndsIfDue c.due → WorksOnNewest c c.due → (works c).past ≡ c.past → down_underway (works c) ≤ 18446744073709551615
+    → WorkAlike c (worked link.server) → MatchesClient link.client (works c)
+    → WorksOnNewest c c.due → (works c).past ≡ c.past → down_underway (works c) ≤ 18446744073709551615
     → mid ≡ worked_as (worked link.server) link → bytes ≡ (worked link.server).packet
     → HandedDown mid new pipe after bytes
     → (worked_outcome (worked link.server).answer ≡ work_outcome c.due) × IsPlayed number size engine new after (works c)
-worked_played {E} {S} number size engine link mid new pipe after c bytes i live ends newest past few is sent h =
+worked_played {E} {S} appends number size engine link mid new pipe after c bytes i live a stays newest past few is sent h =
     let w = worked link.server in
     let v = (i.lives live).stands in
-    let a = work_alike link.server c v.server ends in
     let behind : Option Record = current_behind w.answer link.server.session w.state.session link.current in
     let at : mid ≡ record link { server = w.state; current = behind } = is ∙ link_by link.server.phase link in (
       sym a.outcome,
-      replied_played number size engine link new w.state behind pipe after c (works c) w.packet i live
+      replied_played appends number size engine link new w.state behind pipe after c (works c) w.packet i live
           (subst (λ (l : Link E S). HandedDown l new pipe after w.packet) at (subst (λ (bs : List ℕ). HandedDown mid new pipe after bs) sent h))
           (standing_kept c c.due) (engine_by link.server.phase link.server)
-          (works_kept link.client c v.client) a.matches a.sends (above_kept c c.due) past
+          stays a.matches a.sends (above_kept c c.due) past
           (newest_by number c.due w.answer link.server.session w.state.session c link.current refl a.outcome newest v.server.session a.matches.session
           (subst (λ (b : Bool). IsNewest number b link.current c.current) live i.newest))
           few,

@@ -98,12 +98,14 @@ pub(crate) fn feed_server<E: Engine + Drop>(
     ensures reads { reader.new.direction ≡ ToServer }
     ensures engine { server.new.engine ≡ server.old.engine }
     ensures session { server.new.session ≡ server.old.session }
-    // Where packets come that the server takes, it takes them in order, and the reader keeps what is
-    // behind them.
+    // Where packets come that the server takes, it takes them in order, and the reader keeps what
+    // is behind them.
     ensures served { (packets : List Coming) (rest : List ℕ) (then : Served E)
         → Comes reader.old (reader.old.taken ++ piece.now) packets rest
-        → served (answer_of (E.statements_of server.old.engine) (E.step_of server.old.engine)) server.old reply.old.items packets ≡ Some then
-        → OnOk result ((result ≡ Ok None) × IsServed server.new reply.new.items then × (reader.new ≡ with_taken reader.old rest)) }
+        → served (answer_of (E.statements_of server.old.engine) (E.step_of server.old.engine))
+        server.old reply.old.items packets ≡ Some then
+        → OnOk result ((result ≡ Ok None) × IsServed server.new reply.new.items then
+        × (reader.new ≡ with_taken reader.old rest)) }
 {
     whole_packets_are_served::<E>();
     match serve(server, reader, piece, reply).stop {
@@ -121,12 +123,14 @@ pub(crate) fn feed_client(
 ) -> Result<Heard, NoMemory>
     requires { reader.old.direction ≡ ToClient }
     ensures reads { reader.new.direction ≡ ToClient }
-    // Where packets come that the client takes, it takes them in order, and the reader keeps what is
-    // behind them.
+    // Where packets come that the client takes, it takes them in order, and the reader keeps what
+    // is behind them.
     ensures listened { (packets : List Coming) (rest : List ℕ) (then : Listened)
         → Comes reader.old (reader.old.taken ++ piece.now) packets rest
         → listened client.old None told.old.items packets ≡ Some then
-        → IfOk result (λ heard. (heard.fault ≡ None) × IsListened client.new heard.settled told.new.items then × (reader.new ≡ with_taken reader.old rest)) }
+        → IfOk result (λ heard. (heard.fault ≡ None)
+        × IsListened client.new heard.settled told.new.items then
+        × (reader.new ≡ with_taken reader.old rest)) }
 {
     whole_packets_are_heard();
     let fed = listen(client, reader, piece, told);

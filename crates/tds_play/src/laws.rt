@@ -1,5 +1,5 @@
-//! The pool and the model: the connection that the next lease gets. The function does nothing when it
-//! runs: its contract is the law.
+//! The pool and the model: the connection that the next lease gets. The function does nothing when
+//! it runs: its contract is the law.
 ghost use Rattle.std.specs.Prelude.{map};
 ghost use Rattle.tds_play.specs.Lending.{FoundAlike, lent};
 ghost use Rattle.tds_world.specs.Pool.{to_lend};

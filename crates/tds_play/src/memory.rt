@@ -79,8 +79,10 @@ impl Queue {
         requires { length self.old.came + count ≤ length self.old.handed }
         ensures count { OnOk result (length out.new.items ≡ length out.old.items + count) }
         ensures kept { OnOk result (take (length out.old.items) out.new.items ≡ out.old.items) }
-        ensures bytes { OnOk result (out.new.items ≡ out.old.items ++ take count (drop (length self.old.came) self.old.handed)) }
-        ensures queue { OnOk result (self.new ≡ carried self.old (drop (length out.old.items) out.new.items)) }
+        ensures bytes { OnOk result (out.new.items
+            ≡ out.old.items ++ take count (drop (length self.old.came) self.old.handed)) }
+        ensures queue { OnOk result (self.new
+            ≡ carried self.old (drop (length out.old.items) out.new.items)) }
     {
         let end = self.place + count;
         out.extend_from_slice(&self.bytes[self.place..end])?;

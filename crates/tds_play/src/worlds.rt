@@ -19,18 +19,24 @@ use tds_world::laws::{
     few_of_each, few_to_clients, idle_is_quiet, lends_idle, requests_in_order, work_on_newest,
 };
 
-/// What the model promises of each connection of every world, of every world before an event, and of
-/// the order of the requests. A play of 10,000 events, each of which may be lost, stands for up to
+/// What the model promises of each connection of every world, of every world before an event, and
+/// of the order of the requests. A play of 10,000 events, each of which may be lost, stands for up to
 /// 20,000 plain ones.
 pub(crate) fn worlds_hold<E: Engine>(engine: &E)
-    ensures each { (setup : Setup) (events : List Event) → IsSetup setup → AllByRecursion IsEvent events → length events ≤ 20000
-        → OfEachConnection (Promises E (answer_of (E.statements_of engine.now) (E.step_of engine.now)) setup.packet_size)
-        (world_after setup (answer_of (E.statements_of engine.now) (E.step_of engine.now)) events new_world) }
-    ensures before { (setup : Setup) (events : List Event) → IsSetup setup → AllByRecursion IsEvent events → length events < 20000
+    ensures each { (setup : Setup) (events : List Event) → IsSetup setup
+        → AllByRecursion IsEvent events → length events ≤ 20000
+        → OfEachConnection (Promises E
+        (answer_of (E.statements_of engine.now) (E.step_of engine.now)) setup.packet_size)
+        (world_after setup (answer_of (E.statements_of engine.now) (E.step_of engine.now))
+        events new_world) }
+    ensures before { (setup : Setup) (events : List Event) → IsSetup setup
+        → AllByRecursion IsEvent events → length events < 20000
         → PromisesAll E (answer_of (E.statements_of engine.now) (E.step_of engine.now)) setup
-        (world_after setup (answer_of (E.statements_of engine.now) (E.step_of engine.now)) events new_world) }
+        (world_after setup (answer_of (E.statements_of engine.now) (E.step_of engine.now))
+        events new_world) }
     ensures order { (setup : Setup) (events : List Event)
-        → RequestsInOrder (world_after setup (answer_of (E.statements_of engine.now) (E.step_of engine.now)) events new_world) }
+        → RequestsInOrder (world_after setup
+        (answer_of (E.statements_of engine.now) (E.step_of engine.now)) events new_world) }
 {
     engine_is_lawful(engine);
     engine_stays_in_range(engine);

@@ -181,8 +181,8 @@ fn begin_task<E: Engine>(
     session: &mut Session,
 ) -> Result<Done, NoMemory>
     ensures next { IfOk result (λ done. IsNext (E.step_of engine.now)
-        (compared (E.step_of engine.now) session.old answer.now.descriptor answer.now.task) answer.now
-        None done.tokens.items session.new done.next) }
+        (compared (E.step_of engine.now) session.old answer.now.descriptor answer.now.task)
+        answer.now None done.tokens.items session.new done.next) }
     ensures fits { IfOk result (λ done. FitsOnePacket done.tokens.items) }
 {
     if answer.descriptor != session.descriptor() {
@@ -271,8 +271,9 @@ fn run_statement<E: Engine>(
     session: &mut Session,
 ) -> Result<Done, NoMemory>
     ensures next { IfOk result (λ done. IsNext (E.step_of engine.now)
-        (batch_steps (E.step_of engine.now) session.old (drop place (statements_in answer.now.task))) answer.now
-        None done.tokens.items session.new done.next) }
+        (batch_steps (E.step_of engine.now) session.old
+        (drop place (statements_in answer.now.task)))
+        answer.now None done.tokens.items session.new done.next) }
     ensures fits { IfOk result (λ done. FitsOnePacket done.tokens.items) }
 {
     let Some(statement) = answer.task.statement(place) else {

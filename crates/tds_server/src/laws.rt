@@ -1,5 +1,5 @@
-//! What follows from the definitions alone. Each function does nothing when it runs: its contract is
-//! the law.
+//! What follows from the definitions alone. Each function does nothing when it runs: its contract
+//! is the law.
 ghost use Rattle.std.specs.Prelude.{◌≡◌, ℕ, List, [], Option, None, Ok, Err, length, true};
 ghost use Rattle.tds_packet.specs.declared.header.Header.{Header};
 ghost use Rattle.tds_packet.specs.declared.kind.Kind.TheVariants.{Attention};
@@ -34,14 +34,16 @@ pub fn attention_is_acknowledged()
 
 /// A broken server answers its fault to every packet.
 pub fn a_fault_stays()
-    ensures { (answers : Answers) (session : SessionState) (fault : ServerFault) (header : Header) (content : List ℕ)
+    ensures { (answers : Answers) (session : SessionState) (fault : ServerFault)
+        (header : Header) (content : List ℕ)
         → moved answers session (Broken fault) header content ≡ Err fault }
 {}
 
 /// A message that ends with the ignore bit is forgotten, whatever its data are.
 #[tactic(auto, unfolding(crate::specs::Taking::continued, crate::specs::Taking::ignored))]
 pub fn an_ignored_message_is_dropped()
-    ensures { (answers : Answers) (session : SessionState) (phase : Phase) (kind : RequestKind) (status : ℕ) (content : List ℕ) (m : Message)
+    ensures { (answers : Answers) (session : SessionState) (phase : Phase) (kind : RequestKind)
+        (status : ℕ) (content : List ℕ) (m : Message)
         → message_before phase kind status ≡ Ok m → has_bit status 1 ≡ true
         → has_bit status 2 ≡ true
         → part_taken answers session phase kind status content ≡ Ok (goes_on Waiting Dropped) }
@@ -49,7 +51,8 @@ pub fn an_ignored_message_is_dropped()
 
 /// Whatever the engine, the last step of an answer ends its message, and no other one does.
 pub fn the_last_step_ends_an_answer<E: Engine>()
-    ensures { (engine : E) (session : SessionState) (descriptor : ℕ) (reset : Option Reset) (request : Request)
+    ensures { (engine : E) (session : SessionState) (descriptor : ℕ) (reset : Option Reset)
+        (request : Request)
         → EndsOnce (answer_of (E.statements_of engine)
         (E.step_of engine) session descriptor reset request) }
 {}

@@ -23,9 +23,9 @@ use tds_session::{Engine, Session};
 
 /// The server's end of a connection, with the engine that runs its statements.
 ///
-/// It begins logged in, with a fresh session. Packets of a request are taken one by one; the request
-/// is then answered step by step, one packet each. A fault breaks it: each later packet is answered
-/// by the same fault.
+/// It begins logged in, with a fresh session. Packets of a request are taken one by one; the
+/// request is then answered step by step, one packet each. A fault breaks it: each later packet is
+/// answered by the same fault.
 #[derive(Drop)]
 pub struct Server<E: Engine + Drop> {
     alloc: Global,
@@ -54,8 +54,8 @@ impl<E: Engine + Drop> Model for Server<E> {
 impl<E: Engine + Drop> Server<E> {
     /// A server as a connection begins.
     ///
-    /// The packet size is not looked at: an answer's packets have at most 512 bytes, and so fit any,
-    /// and the packets that come have been through a reader of that size.
+    /// The packet size is not looked at: an answer's packets have at most 512 bytes, and so fit
+    /// any, and the packets that come have been through a reader of that size.
     pub fn new(alloc: Global, engine: E, _size: PacketSize) -> Server<E>
         ensures { result ≡ new_server engine }
     {
@@ -91,8 +91,8 @@ impl<E: Engine + Drop> Server<E> {
     ///
     /// A request that is whole is answered from then on, by `work`; the session is never touched
     /// here. An attention ends what was being received or answered, and is acknowledged at once, by
-    /// one packet that is appended to `reply`. A fault breaks the server, which answers the same one
-    /// from then on. At want of memory nothing changes.
+    /// one packet that is appended to `reply`. A fault breaks the server, which answers the same
+    /// one from then on. At want of memory nothing changes.
     pub fn take(
         &mut self,
         packet: PacketRef<'_>,
@@ -106,18 +106,20 @@ impl<E: Engine + Drop> Server<E> {
             (E.step_of self.old.engine)) self.old packet.entry.header packet.entry.data.now).state }
         ensures answer { result ≢ Ok NoMemory
             → result ≡ (taken (answer_of (E.statements_of self.old.engine)
-            (E.step_of self.old.engine)) self.old packet.entry.header packet.entry.data.now).answer }
+            (E.step_of self.old.engine)) self.old
+            packet.entry.header packet.entry.data.now).answer }
         ensures reply { result ≢ Ok NoMemory
             → reply.new.items ≡ reply.old.items
             ++ (taken (answer_of (E.statements_of self.old.engine)
             (E.step_of self.old.engine)) self.old packet.entry.header packet.entry.data.now).reply }
-        // At want of memory nothing changes. It comes only where a growth is needed, so not in place of
-        // a fault, but for one that a message has once all its data have been joined.
+        // At want of memory nothing changes. It comes only where a growth is needed, so not in
+        // place of a fault, but for one that a message has once all its data have been joined.
         ensures memory { result ≡ Ok NoMemory
             → (self.new ≡ self.old) × (reply.new.items ≡ reply.old.items) }
         ensures wanted { result ≡ Ok NoMemory
             → TakesMemory (moved (answer_of (E.statements_of self.old.engine)
-            (E.step_of self.old.engine)) self.old.session self.old.phase packet.entry.header packet.entry.data.now) }
+            (E.step_of self.old.engine)) self.old.session self.old.phase
+            packet.entry.header packet.entry.data.now) }
     {
         match self.take_unbroken(packet, reply) {
             Ok(took) => Ok(took),
@@ -139,16 +141,19 @@ impl<E: Engine + Drop> Server<E> {
         ensures session { self.new.session ≡ self.old.session }
         ensures moved { IfOk result (λ took. took ≢ NoMemory
             → Moves (moved (answer_of (E.statements_of self.old.engine)
-            (E.step_of self.old.engine)) self.old.session self.old.phase packet.entry.header packet.entry.data.now)
+            (E.step_of self.old.engine)) self.old.session self.old.phase
+            packet.entry.header packet.entry.data.now)
             took self.new.phase reply.old.items reply.new.items) }
         ensures memory { result ≡ Ok NoMemory
             → (self.new ≡ self.old) × (reply.new.items ≡ reply.old.items) }
         ensures wanted { result ≡ Ok NoMemory
             → TakesMemory (moved (answer_of (E.statements_of self.old.engine)
-            (E.step_of self.old.engine)) self.old.session self.old.phase packet.entry.header packet.entry.data.now) }
+            (E.step_of self.old.engine)) self.old.session self.old.phase
+            packet.entry.header packet.entry.data.now) }
         ensures fault { IfErr result
             (λ fault. moved (answer_of (E.statements_of self.old.engine)
-            (E.step_of self.old.engine)) self.old.session self.old.phase packet.entry.header packet.entry.data.now ≡ Err fault) }
+            (E.step_of self.old.engine)) self.old.session self.old.phase
+            packet.entry.header packet.entry.data.now ≡ Err fault) }
         ensures quiet { OnErr result (reply.new.items ≡ reply.old.items) }
     {
         if let Some(fault) = self.state.fault() {
@@ -263,8 +268,8 @@ impl<E: Engine + Drop> Server<E> {
 
     /// Does one step of the answer and appends its packet, or neither at want of memory.
     ///
-    /// The PacketIDs of an answer count from 1, modulo 256; end of message is set on the last packet
-    /// alone. Where nothing is being answered, also in a broken server, nothing happens.
+    /// The PacketIDs of an answer count from 1, modulo 256; end of message is set on the last
+    /// packet alone. Where nothing is being answered, also in a broken server, nothing happens.
     pub fn work(&mut self, out: &mut Vec<u8>) -> Result<Worked, AllocError>
         ensures engine { self.new.engine ≡ self.old.engine }
         ensures state { OnOk result (self.new ≡ (worked self.old).state) }

@@ -3,6 +3,7 @@ pub mod Entries
 pub mod Lane
 pub mod Record
 pub mod Phase
+pub mod PhaseTells
 pub mod Connection
 pub mod Arrivals
 pub mod Caller

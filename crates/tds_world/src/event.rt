@@ -3,7 +3,8 @@ use tds_request::Request;
 /// What a play begins with.
 #[derive(Clone, Copy, Debug, PartialEq, Eq)]
 pub struct Setup {
-    /// The greatest length of a packet, in bytes with its header: 512 to 32,767, equal at both ends.
+    /// The greatest length of a packet, in bytes with its header: 512 to 32,767, equal at both
+    /// ends.
     pub packet_size: u16,
     /// How many connections may be open at once: 1 to 64.
     pub max: u8,

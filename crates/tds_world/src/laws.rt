@@ -16,6 +16,9 @@ ghost use Rattle.tds_world.specs.Newest.{ActOnNewest, WorkOnNewest};
 ghost use Rattle.tds_world.specs.Order.{RequestsInOrder};
 ghost use Rattle.tds_world.specs.Messages.{MessagesAreWhole};
 ghost use Rattle.tds_world.specs.Packets.{PacketsFit};
+ghost use Rattle.tds_world.specs.Phase.{phase_of};
+ghost use Rattle.tds_world.specs.PhaseTells.{PhaseTells};
+ghost use Rattle.tds_world.specs.Record.{Record};
 ghost use Rattle.tds_world.specs.Requests.{RequestsAreSpelled};
 ghost use Rattle.tds_world.specs.Sessions.{AllInRange, StayInRange};
 ghost use Rattle.tds_world.specs.Steps.{AnswersEndOnce, MessagesEndOnce, StepsAreOfAnswers};
@@ -30,7 +33,8 @@ use tds_session::Engine;
 /// Where nobody waits for an answer, nothing is underway, the server holds no part of a request and
 /// owes no answer, and both ends hold one transaction descriptor.
 pub fn idle_is_quiet()
-    ensures { (setup : Setup) (answers : Answers) → Lawful answers → Always setup answers IdleIsQuiet }
+    ensures { (setup : Setup) (answers : Answers) → Lawful answers
+        → Always setup answers IdleIsQuiet }
 {}
 
 /// What a server answers is lawful, whatever its engine.
@@ -57,36 +61,42 @@ pub fn nothing_after_cancel()
 
 /// At most one attention of a connection is without an arrived acknowledgement.
 pub fn one_attention()
-    ensures { (setup : Setup) (answers : Answers) → Lawful answers → Always setup answers OneAttention }
+    ensures { (setup : Setup) (answers : Answers) → Lawful answers
+        → Always setup answers OneAttention }
 {}
 
-/// At most 4,094 bytes of a connection are underway to its server, for a setup that a play takes and
-/// requests that have a spelling.
+/// At most 4,094 bytes of a connection are underway to its server, for a setup that a play takes
+/// and requests that have a spelling.
 pub fn few_underway()
-    ensures { (setup : Setup) (answers : Answers) → IsSetup setup → Lawful answers → AlwaysOf IsEvent setup answers FewUnderway }
+    ensures { (setup : Setup) (answers : Answers) → IsSetup setup → Lawful answers
+        → AlwaysOf IsEvent setup answers FewUnderway }
 {}
 
 /// Each packet that waits for a server is as long as its header says, and fits the packet size. It
 /// holds for any answers.
 pub fn packets_fit()
-    ensures { (setup : Setup) (answers : Answers) → IsSetup setup → Always setup answers (PacketsFit setup) }
+    ensures { (setup : Setup) (answers : Answers) → IsSetup setup
+        → Always setup answers (PacketsFit setup) }
 {}
 
 /// A request that ran did so in the transaction that its header names.
 pub fn own_transaction()
-    ensures { (setup : Setup) (answers : Answers) → Lawful answers → Always setup answers OwnTransaction }
+    ensures { (setup : Setup) (answers : Answers) → Lawful answers
+        → Always setup answers OwnTransaction }
 {}
 
 /// The first request of a lease that runs finds a session without settings and outside a
 /// transaction; for a lease that came from a ticket, without settings and in the kept transaction.
 pub fn fresh_start()
-    ensures { (setup : Setup) (answers : Answers) → Lawful answers → Always setup answers FreshStart }
+    ensures { (setup : Setup) (answers : Answers) → Lawful answers
+        → Always setup answers FreshStart }
 {}
 
 /// No two steps of a connection tell that the same transaction began, where the answers hand out
 /// what the session's next descriptor says.
 pub fn begins_once()
-    ensures { (setup : Setup) (answers : Answers) → HandsOutNext answers → Always setup answers BeginsOnce }
+    ensures { (setup : Setup) (answers : Answers) → HandsOutNext answers
+        → Always setup answers BeginsOnce }
 {}
 
 /// A server with the batch language hands out what the session's next descriptor says.
@@ -97,37 +107,43 @@ pub fn script_hands_out_next()
 /// Each caller has a beginning of its own request's answer, in the session that the request ran in,
 /// and all of it where the request is finished; where it did not run, nothing.
 pub fn own_answers()
-    ensures { (setup : Setup) (answers : Answers) → Lawful answers → Always setup answers (OwnAnswers answers) }
+    ensures { (setup : Setup) (answers : Answers) → Lawful answers
+        → Always setup answers (OwnAnswers answers) }
 {}
 
-/// Each entry that waits is welcome where it arrives: no packet of a request comes to a server while
-/// an answer is due, no answer comes to a client that waits for none, each change applies to the
-/// descriptor heard, and the end of a reset meets the mark.
+/// Each entry that waits is welcome where it arrives: no packet of a request comes to a server
+/// while an answer is due, no answer comes to a client that waits for none, each change applies to
+/// the descriptor heard, and the end of a reset meets the mark.
 pub fn all_welcome()
-    ensures { (setup : Setup) (answers : Answers) → Lawful answers → Always setup answers (AllWelcome answers) }
+    ensures { (setup : Setup) (answers : Answers) → Lawful answers
+        → Always setup answers (AllWelcome answers) }
 {}
 
 /// Each message towards a client ends once, with the last step of an answer or an acknowledgement,
 /// and each of its packets stands at its place.
 pub fn messages_end_once()
-    ensures { (setup : Setup) (answers : Answers) → Lawful answers → Always setup answers MessagesEndOnce }
+    ensures { (setup : Setup) (answers : Answers) → Lawful answers
+        → Always setup answers MessagesEndOnce }
 {}
 
 /// Each step that was sent or is due is a step of an answer.
 pub fn steps_are_of_answers()
-    ensures { (setup : Setup) (answers : Answers) → Lawful answers → Always setup answers (StepsAreOfAnswers answers) }
+    ensures { (setup : Setup) (answers : Answers) → Lawful answers
+        → Always setup answers (StepsAreOfAnswers answers) }
 {}
 
-/// What is sent to a server is messages, each a request's spelling cut into packets of one type, or a
-/// beginning of one that is dropped; and attentions between them.
+/// What is sent to a server is messages, each a request's spelling cut into packets of one type, or
+/// a beginning of one that is dropped; and attentions between them.
 pub fn requests_are_spelled()
-    ensures { (setup : Setup) (answers : Answers) → Lawful answers → Always setup answers RequestsAreSpelled }
+    ensures { (setup : Setup) (answers : Answers) → Lawful answers
+        → Always setup answers RequestsAreSpelled }
 {}
 
 /// What came of the newest request's message, what waits and what is left of it are the message: so
 /// each packet is the next piece of it where it arrives.
 pub fn messages_are_whole()
-    ensures { (setup : Setup) (answers : Answers) → IsSetup setup → Lawful answers → StayInRange answers → AlwaysOf IsEvent setup answers MessagesAreWhole }
+    ensures { (setup : Setup) (answers : Answers) → IsSetup setup → Lawful answers
+        → StayInRange answers → AlwaysOf IsEvent setup answers MessagesAreWhole }
 {}
 
 /// Whatever the engine, a server's answer has its final DONE at the end of its last step, and there
@@ -136,10 +152,11 @@ pub fn engine_has_dones<E: Engine>(engine: &E)
     ensures { HaveDones (answer_of (E.statements_of engine.now) (E.step_of engine.now)) }
 {}
 
-/// So it is with each step that was sent: in a message of an answer the final DONE stands at the end
-/// of the packet that ends the message, and there alone.
+/// So it is with each step that was sent: in a message of an answer the final DONE stands at the
+/// end of the packet that ends the message, and there alone.
 pub fn final_done_at_end()
-    ensures { (setup : Setup) (answers : Answers) → Lawful answers → HaveDones answers → Always setup answers FinalDoneAtEnd }
+    ensures { (setup : Setup) (answers : Answers) → Lawful answers → HaveDones answers
+        → Always setup answers FinalDoneAtEnd }
 {}
 
 /// Whatever the engine, from a session of the program on, each step of an answer fits one packet of
@@ -151,24 +168,28 @@ pub fn engine_stays_in_range<E: Engine>(engine: &E)
 /// So it is with each step that was sent or is due, and the session of each connection's server is
 /// one of the program.
 pub fn all_in_range()
-    ensures { (setup : Setup) (answers : Answers) → Lawful answers → StayInRange answers → Always setup answers AllInRange }
+    ensures { (setup : Setup) (answers : Answers) → Lawful answers → StayInRange answers
+        → Always setup answers AllInRange }
 {}
 
 /// What waits for a client and what is due is the newest request's, and no older request changes by
 /// it.
 pub fn act_on_newest()
-    ensures { (setup : Setup) (answers : Answers) → Lawful answers → Always setup answers ActOnNewest }
+    ensures { (setup : Setup) (answers : Answers) → Lawful answers
+        → Always setup answers ActOnNewest }
 {}
 
 /// A step that is due is one of the newest request's answer: the server's work says of this request
 /// that it ran, and where it is the first step, it takes the reset that the request asks for.
 pub fn work_on_newest()
-    ensures { (setup : Setup) (answers : Answers) → Lawful answers → Always setup answers WorkOnNewest }
+    ensures { (setup : Setup) (answers : Answers) → Lawful answers
+        → Always setup answers WorkOnNewest }
 {}
 
 /// What is due, if anything is, has a last step, which alone is marked so.
 pub fn answers_end_once()
-    ensures { (setup : Setup) (answers : Answers) → Lawful answers → Always setup answers AnswersEndOnce }
+    ensures { (setup : Setup) (answers : Answers) → Lawful answers
+        → Always setup answers AnswersEndOnce }
 {}
 
 /// The requests of each connection are just those that were asked on it, in the order in which they
@@ -180,22 +201,31 @@ pub fn requests_in_order()
 /// After so many events few bytes are underway to a client: each sends at most one step.
 pub fn few_to_clients()
     ensures { (setup : Setup) (answers : Answers) → Lawful answers → StayInRange answers
-        → (events : List Event) → FewToClients (length events) (world_after setup answers events new_world) }
+        → (events : List Event)
+        → FewToClients (length events) (world_after setup answers events new_world) }
 {}
 
-/// After so many events there are at most so many connections, leases, tickets and requests. It holds
-/// for any answers.
+/// After so many events there are at most so many connections, leases, tickets and requests. It
+/// holds for any answers.
 pub fn few_of_each()
-    ensures { (setup : Setup) (answers : Answers) (events : List Event) → AreFew (length events) (world_after setup answers events new_world) }
+    ensures { (setup : Setup) (answers : Answers) (events : List Event)
+        → AreFew (length events) (world_after setup answers events new_world) }
 {}
 
 /// Where a step arrives, its changes all apply to the descriptor that the client heard last, and a
 /// reset that it took is the one that the client's mark asks for.
 pub fn changes_are_heard()
-    ensures { (setup : Setup) (answers : Answers) → Lawful answers → Always setup answers ChangesAreHeard }
+    ensures { (setup : Setup) (answers : Answers) → Lawful answers
+        → Always setup answers ChangesAreHeard }
 {}
 
 /// A connection that is lent again is idle.
 pub fn lends_idle()
-    ensures { (setup : Setup) (answers : Answers) → Lawful answers → Always setup answers (LendsIdle setup) }
+    ensures { (setup : Setup) (answers : Answers) → Lawful answers
+        → Always setup answers (LendsIdle setup) }
+{}
+
+/// The phase of a request says what became of it, and how much of it is out.
+pub fn phases_tell()
+    ensures { (q : Record) → PhaseTells (phase_of q) q.fate q.out }
 {}

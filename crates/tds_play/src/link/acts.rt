@@ -34,10 +34,15 @@ use crate::carrier::Carrier;
 use crate::request::Record;
 use std::alloc::{AllocError, Global};
 use tds_client::{Cancelled, ClientRefusal, Sent};
+use tds_ends::laws::{
+    asks_alike, cancels_alike, idle_alike, lends_matching, pool_is_unseen, sends_alike,
+    sends_append, the_other_stays, works_alike,
+};
 use tds_packet::{Direction, Reset};
 use tds_request::Request;
 use tds_server::Worked;
 use tds_session::Engine;
+use tds_world::laws::phases_tell;
 use tds_world::{
     AbandonOutcome, CancelOutcome, Event, GiveBackOutcome, Opened, Outcome, Refusal, SendOutcome,
     WorkOutcome,
@@ -125,6 +130,11 @@ impl<E: Engine + Drop> Link<E> {
             (acts_on setup (answer_of (E.statements_of engine) (E.step_of engine)) w
             (met (loss_of done) event.now) self.old.number c) c) }
     {
+        asks_alike();
+        idle_alike();
+        lends_matching::<E>();
+        pool_is_unseen::<E>();
+        the_other_stays::<E>();
         if self.is_cut {
             return Ok(on_cut(event));
         }
@@ -230,6 +240,10 @@ impl<E: Engine + Drop> Link<E> {
             → IfOk result (λ done. DoesAlike self.old.number size engine done self.new
             (C.pipes carrier.new self.old.number) (sends_in (phase c) (size - 8) c.current c) c) }
     {
+        sends_alike();
+        sends_append();
+        the_other_stays::<E>();
+        phases_tell();
         let mut out = Vec::new(alloc);
         let Some(sent) = self.put_next(&mut out)? else {
             return Ok(refused(Refusal::NotSending));
@@ -276,7 +290,8 @@ impl<E: Engine + Drop> Link<E> {
             (recounted self.new.to_server self.new.to_client
             (cancelled_as e.answer e.session self.old))))) }
         ensures steady { C.steady → IfOk result (λ done. done.lost ≡ false) }
-        // A connection that stands for one of the model stands for what the same cancel makes of it.
+        // A connection that stands for one of the model stands for what the same cancel makes of
+        // it.
         ensures alike { (size : ℕ) (engine : E) (c : Connection)
             → IsPlayed self.old.number size engine self.old (C.pipes carrier.old self.old.number) c
             → up_underway (cancels c) ≤ 18446744073709551615
@@ -284,6 +299,11 @@ impl<E: Engine + Drop> Link<E> {
             (C.pipes carrier.new self.old.number)
             (Does (outcome.Cancel (model.cancel_outcome (phase c))) (cancels c)) c) }
     {
+        cancels_alike();
+        sends_append();
+        the_other_stays::<E>();
+        pool_is_unseen::<E>();
+        phases_tell();
         let mut out = Vec::new(alloc);
         let cancelled = self.cancel_request(&mut out)?;
         let lost = self.hand_over(carrier, Direction::ToServer, out.as_slice())?;
@@ -335,6 +355,9 @@ impl<E: Engine + Drop> Link<E> {
             (C.pipes carrier.new self.old.number)
             (Does (outcome.Work (work_outcome c.due)) (works c)) c) }
     {
+        works_alike::<E>();
+        sends_append();
+        the_other_stays::<E>();
         let mut out = Vec::new(alloc);
         let outcome = self.put_step(&mut out)?;
         let lost = self.hand_over(carrier, Direction::ToClient, out.as_slice())?;

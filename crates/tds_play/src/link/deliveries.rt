@@ -7,11 +7,11 @@ ghost use Rattle.tds_ends.specs.Deliveries.{AllArrive};
 ghost use Rattle.tds_ends.specs.Feeding.{Comes, Coming, Listened, listened};
 ghost use Rattle.tds_play.specs.Links.{drained_at, placed_at};
 ghost use Rattle.tds_play.specs.Listening.{HasListened, told_in};
-ghost use Rattle.tds_play.specs.Pipe.{Pipe, AreSame};
+ghost use Rattle.tds_play.specs.Pipe.{Pipe};
 ghost use Rattle.tds_play.specs.Plays.{DoesAlike, IsPlayed, count_of, delivers_down, delivers_up};
 ghost use Rattle.tds_ends.specs.Promises.{IsCountable, Promises};
 ghost use Rattle.tds_play.specs.Seen.{done_as};
-ghost use Rattle.tds_play.specs.Ties.{IsTied};
+ghost use Rattle.tds_play.specs.Ties.{IsTied, KeepsTies};
 ghost use Rattle.tds_session.specs.Answer.{Answers, answer_of};
 ghost use Rattle.tds_world.specs.Arrivals.{to_client, to_server};
 ghost use Rattle.tds_world.specs.Connection.{Connection, down_underway, up_underway};
@@ -23,6 +23,7 @@ use crate::NoMemory;
 use crate::carrier::Carrier;
 use crate::feeding::{Heard, feed_client, feed_server};
 use std::alloc::Global;
+use tds_ends::laws::{idle_alike, listens_alike, pool_is_unseen, serves_alike, the_other_stays};
 use tds_packet::Direction;
 use tds_session::Engine;
 use tds_world::{Outcome, Place};
@@ -56,20 +57,23 @@ impl<E: Engine + Drop> Link<E> {
         requires live { self.old.is_cut ≡ false }
         requires tied { IsTied self.old (C.pipes carrier.old self.old.number) }
         ensures number { self.new.number ≡ self.old.number }
-        ensures tied { OnOk result (IsTied self.new (C.pipes carrier.new self.old.number)) }
-        ensures others { OnOk result (AreSame (C.pipes carrier.old) (C.pipes carrier.new) self.old.number) }
-        ensures tells { OnOk result (C.tells carrier.old → C.tells carrier.new) }
+        ensures ties { OnOk result (KeepsTies self.old.number self.new (C.pipes carrier.old)
+            (C.pipes carrier.new) (C.tells carrier.old) (C.tells carrier.new)) }
         ensures steady { C.steady → IfOk result (λ done. done.lost ≡ false) }
-        // A connection that stands for one of the model stands for what the delivery of as many bytes as came
-        // makes of it, cut where the carrier failed.
+        // A connection that stands for one of the model stands for what the delivery of as many
+        // bytes as came makes of it, cut where the carrier failed.
         ensures alike { (size : ℕ) (engine : E) (c : Connection) → C.tells carrier.old
             → IsPlayed self.old.number size engine self.old (C.pipes carrier.old self.old.number) c
             → Promises E (answer_of (E.statements_of engine) (E.step_of engine)) size c
-            → ((k : ℕ) → IsCountable (to_server (answer_of (E.statements_of engine) (E.step_of engine)) k c))
+            → ((k : ℕ) → IsCountable (to_server (answer_of (E.statements_of engine)
+            (E.step_of engine)) k c))
             → IfOk result (λ done. DoesAlike self.old.number size engine done self.new
             (C.pipes carrier.new self.old.number)
-            (delivers_up (answer_of (E.statements_of engine) (E.step_of engine)) (count_of done most) c) c) }
+            (delivers_up (answer_of (E.statements_of engine) (E.step_of engine))
+            (count_of done most) c) c) }
     {
+        serves_alike::<E>();
+        the_other_stays::<E>();
         let count = at_most(self.to_server, most);
         let mut piece = Vec::new(alloc);
         let carried = self.carry(carrier, Direction::ToServer, count, &mut piece)?;
@@ -95,16 +99,20 @@ impl<E: Engine + Drop> Link<E> {
         requires live { self.old.is_cut ≡ false }
         requires tied { IsTied self.old (C.pipes carrier.old self.old.number) }
         ensures number { self.new.number ≡ self.old.number }
-        ensures tied { OnOk result (IsTied self.new (C.pipes carrier.new self.old.number)) }
-        ensures others { OnOk result (AreSame (C.pipes carrier.old) (C.pipes carrier.new) self.old.number) }
-        ensures tells { OnOk result (C.tells carrier.old → C.tells carrier.new) }
+        ensures ties { OnOk result (KeepsTies self.old.number self.new (C.pipes carrier.old)
+            (C.pipes carrier.new) (C.tells carrier.old) (C.tells carrier.new)) }
         ensures steady { C.steady → IfOk result (λ done. done.lost ≡ false) }
-        ensures alike { (answers : Answers) (size : ℕ) (engine : E) (c : Connection) → C.tells carrier.old
+        ensures alike { (answers : Answers) (size : ℕ) (engine : E) (c : Connection)
+            → C.tells carrier.old
             → IsPlayed self.old.number size engine self.old (C.pipes carrier.old self.old.number) c
             → Promises E answers size c
             → IfOk result (λ done. DoesAlike self.old.number size engine done self.new
             (C.pipes carrier.new self.old.number) (delivers_down (count_of done most) c) c) }
     {
+        listens_alike();
+        idle_alike();
+        pool_is_unseen::<E>();
+        the_other_stays::<E>();
         let count = at_most(self.to_client, most);
         let mut piece = Vec::new(alloc);
         let carried = self.carry(carrier, Direction::ToClient, count, &mut piece)?;
@@ -118,7 +126,8 @@ impl<E: Engine + Drop> Link<E> {
 
     /// A draining connection is free once its client is idle.
     fn drain(&mut self)
-        ensures { self.new ≡ placed_at (drained_at (is_none (unless_idle self.old.client.stage)) self.old.place) self.old }
+        ensures { self.new ≡ placed_at (drained_at (is_none (unless_idle self.old.client.stage))
+            self.old.place) self.old }
     {
         if self.place == Place::Draining && self.is_idle() {
             self.place = Place::Free;
@@ -130,13 +139,15 @@ impl<E: Engine + Drop> Link<E> {
         requires { self.old.client_reader.direction ≡ ToClient }
         ensures number { self.new.number ≡ self.old.number }
         ensures live { self.new.is_cut ≡ self.old.is_cut }
-        ensures tied { (pipe : Option Pipe) → IsTied self.old pipe → OnOk result (IsTied self.new pipe) }
-        // Where packets come that the client takes, it takes them in order, and tells what they say to
-        // the newest request's caller.
+        ensures tied { (pipe : Option Pipe) → IsTied self.old pipe
+            → OnOk result (IsTied self.new pipe) }
+        // Where packets come that the client takes, it takes them in order, and tells what they say
+        // to the newest request's caller.
         ensures heard { (packets : List Coming) (left : List ℕ) (then : Listened)
             → Comes self.old.client_reader (self.old.client_reader.taken ++ piece.now) packets left
             → listened self.old.client None (told_in self.old.current) packets ≡ Some then
-            → IfOk result (λ heard. (heard.fault ≡ None) × HasListened then left self.old self.new) }
+            → IfOk result (λ heard. (heard.fault ≡ None)
+            × HasListened then left self.old self.new) }
     {
         match &mut self.current {
             None => {

@@ -21,8 +21,10 @@ use super::{Done, Link};
 use crate::NoMemory;
 use crate::carrier::Carrier;
 use std::alloc::Global;
+use tds_ends::laws::{cancels_alike, idle_alike, pool_is_unseen, sends_append, the_other_stays};
 use tds_packet::{Direction, Reset};
 use tds_session::Engine;
+use tds_world::laws::phases_tell;
 use tds_world::{AbandonOutcome, GiveBackOutcome, Opened, Outcome, Place, Refusal};
 
 impl<E: Engine + Drop> Link<E> {
@@ -68,6 +70,12 @@ impl<E: Engine + Drop> Link<E> {
             → IfOk result (λ done. DoesAlike self.old.number size engine done self.new
             (C.pipes carrier.new self.old.number) (comes_back (cancels c)) c) }
     {
+        cancels_alike();
+        idle_alike();
+        sends_append();
+        the_other_stays::<E>();
+        pool_is_unseen::<E>();
+        phases_tell();
         let mut out = Vec::new(alloc);
         let _ = self.cancel_request(&mut out)?;
         let returned = if self.is_idle() {

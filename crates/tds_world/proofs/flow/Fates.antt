@@ -1,6 +1,7 @@
 -- A request's fate: what a phase says of it, and what a step and a cancel leave of it.
 use Rattle.std.proofs.Common.{◌≡◌, ℕ, Bool, true, false, refl}
 use Rattle.tds_world.specs.Phase.{Phase, Settled, Asked, Sending, Reading, Cancelling, phase_by, is_settled}
+use Rattle.tds_world.specs.PhaseTells.{PhaseTells}
 use Rattle.tds_world.specs.Record.{Fate, Open, Finished, Cancelled, Acknowledged, is_cancelled, stepped, Out, NotBegun, Begun, Whole}
 
 -- a request that has something to send
@@ -75,3 +76,15 @@ when_going P h k Cancelled NotBegun e = absurd (cc)
 when_going P h k Cancelled (Begun n) e = absurd (cc)
 when_going P h k Cancelled (Whole n) e = absurd (cc)
 when_going P h k Acknowledged out e = absurd (cc)
+
+-- ---- What a phase says
+
+pub phase_tells : (fate : Fate) (out : Out) → PhaseTells (phase_by fate out) fate out
+phase_tells Open NotBegun = (refl, refl)
+phase_tells Open (Begun n) = (refl, n, refl)
+phase_tells Open (Whole n) = (refl, n, refl)
+phase_tells Finished out = λ e. absurd (cc)
+phase_tells Cancelled NotBegun = λ e. absurd (cc)
+phase_tells Cancelled (Begun n) = (refl, λ e. absurd (cc))
+phase_tells Cancelled (Whole n) = (refl, λ e. absurd (cc))
+phase_tells Acknowledged out = λ e. absurd (cc)

@@ -8,13 +8,15 @@ ghost use Rattle.tds_world.specs.declared.event.Setup.{Setup};
 
 /// In each snapshot whose client is idle both byte counts are 0, and the two descriptors are one.
 pub fn idle_is_quiet()
-    ensures { (setup : Setup) (answers : Answers) → Lawful answers → AlwaysShown setup answers ShowsIdleQuiet }
+    ensures { (setup : Setup) (answers : Answers) → Lawful answers
+        → AlwaysShown setup answers ShowsIdleQuiet }
 {}
 
-/// In each snapshot at most 4,094 bytes are underway to the server, for a setup that a play takes and
-/// requests that have a spelling.
+/// In each snapshot at most 4,094 bytes are underway to the server, for a setup that a play takes
+/// and requests that have a spelling.
 pub fn few_underway()
-    ensures { (setup : Setup) (answers : Answers) → IsSetup setup → Lawful answers → AlwaysShownOf IsEvent setup answers ShowsFewUnderway }
+    ensures { (setup : Setup) (answers : Answers) → IsSetup setup → Lawful answers
+        → AlwaysShownOf IsEvent setup answers ShowsFewUnderway }
 {}
 
 /// In no event an end refuses what comes to it, and none is lost. It holds for any answers.
@@ -22,37 +24,43 @@ pub fn no_fault()
     ensures { (setup : Setup) (answers : Answers) → AlwaysShown setup answers ShowsNoFault }
 {}
 
-/// There is one report for each request that was asked, in their order. It is of the lease that asked,
-/// and its tokens are a beginning of the request's own answer, in the session that it shows, and all
-/// of it where it is finished; where it shows no session, there are none.
+/// There is one report for each request that was asked, in their order. It is of the lease that
+/// asked, and its tokens are a beginning of the request's own answer, in the session that it shows,
+/// and all of it where it is finished; where it shows no session, there are none.
 pub fn own_answers()
-    ensures { (setup : Setup) (answers : Answers) → Lawful answers → AlwaysTold setup answers (ShowsOwnAnswers answers) }
+    ensures { (setup : Setup) (answers : Answers) → Lawful answers
+        → AlwaysTold setup answers (ShowsOwnAnswers answers) }
 {}
 
-/// The first request of a lease that ran, of those reported, ran in a fresh session; for a lease that
-/// came from a ticket, in one without settings.
+/// The first request of a lease that ran, of those reported, ran in a fresh session; for a lease
+/// that came from a ticket, in one without settings.
 pub fn fresh_start()
-    ensures { (setup : Setup) (answers : Answers) → Lawful answers → AlwaysShown setup answers ShowsFreshStart }
+    ensures { (setup : Setup) (answers : Answers) → Lawful answers
+        → AlwaysShown setup answers ShowsFreshStart }
 {}
 
 /// Whatever events follow, a request that is reported as cancelled has the tokens that it had.
 pub fn nothing_after_cancel()
-    ensures { (setup : Setup) (answers : Answers) → Lawful answers → ShowsNothingAfterCancel setup answers }
+    ensures { (setup : Setup) (answers : Answers) → Lawful answers
+        → ShowsNothingAfterCancel setup answers }
 {}
 
 /// A request that ran did so in the transaction that its client was in when it was asked, as the
 /// snapshot after its event shows it; and outside one, where its mark asked for a full reset.
 pub fn own_transaction()
-    ensures { (setup : Setup) (answers : Answers) → Lawful answers → AlwaysTold setup answers ShowsOwnTransaction }
+    ensures { (setup : Setup) (answers : Answers) → Lawful answers
+        → AlwaysTold setup answers ShowsOwnTransaction }
 {}
 
-/// The first request of a resumed lease that ran, of those reported, ran in the transaction that the
-/// ticket kept, as the snapshot after the ticket's event shows it, and without settings.
+/// The first request of a resumed lease that ran, of those reported, ran in the transaction that
+/// the ticket kept, as the snapshot after the ticket's event shows it, and without settings.
 pub fn kept_transaction()
-    ensures { (setup : Setup) (answers : Answers) → Lawful answers → AlwaysTold setup answers ShowsKeptTransaction }
+    ensures { (setup : Setup) (answers : Answers) → Lawful answers
+        → AlwaysTold setup answers ShowsKeptTransaction }
 {}
 
 /// A connection that is lent is idle after the event that lends it, and stands under the lease.
 pub fn lends_idle()
-    ensures { (setup : Setup) (answers : Answers) → Lawful answers → AlwaysShown setup answers ShowsLendsIdle }
+    ensures { (setup : Setup) (answers : Answers) → Lawful answers
+        → AlwaysShown setup answers ShowsLendsIdle }
 {}

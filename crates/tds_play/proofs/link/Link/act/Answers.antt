@@ -33,7 +33,7 @@ returns-in-Lease-clause-alike g c = λ setup w m engine tells played promises fe
     let idle = subst (λ e. IsReady e m) c.in-Lease.is (ready live) in
     whole_alike conn size engine c.lend.result c.lend.new.self pipe (λ e. acts_on setup answers w e conn m) c.args.event.now m
     (by_event conn size engine c.lend.result c.lend.new.self pipe m _ _ at
-    (lent_alike conn size c.args.next.lease (next_number w.leases) Full opened.Reused engine c.args.self.now c.lend.new.self pipe m c.lend.result played live idle next.lease c.lend.ensures.done c.lend.ensures.lent))
+    (lent_alike c.pool_is_unseen.ensures c.idle_alike.ensures c.lends_matching.ensures.marked conn size c.args.next.lease (next_number w.leases) Full opened.Reused engine c.args.self.now c.lend.new.self pipe m c.lend.result played live idle next.lease c.lend.ensures.done c.lend.ensures.lent))
 
 pub returns-in-Resume-clause-alike : goal.returns-in-Resume-clause-alike
 returns-in-Resume-clause-alike g c = λ setup w m engine tells played promises few next ready.
@@ -47,7 +47,7 @@ returns-in-Resume-clause-alike g c = λ setup w m engine tells played promises f
     let idle = subst (λ e. IsReady e m) c.in-Resume.is (ready live) in
     whole_alike conn size engine c.lend-in-Resume.result c.lend-in-Resume.new.self pipe (λ e. acts_on setup answers w e conn m) c.args.event.now m
     (by_event conn size engine c.lend-in-Resume.result c.lend-in-Resume.new.self pipe m _ _ at
-    (lent_alike conn size c.args.next.lease (next_number w.leases) KeepTransaction opened.Resumed engine c.args.self.now c.lend-in-Resume.new.self pipe m c.lend-in-Resume.result played live idle next.lease c.lend-in-Resume.ensures.done c.lend-in-Resume.ensures.lent))
+    (lent_alike c.pool_is_unseen.ensures c.idle_alike.ensures c.lends_matching.ensures.marked conn size c.args.next.lease (next_number w.leases) KeepTransaction opened.Resumed engine c.args.self.now c.lend-in-Resume.new.self pipe m c.lend-in-Resume.result played live idle next.lease c.lend-in-Resume.ensures.done c.lend-in-Resume.ensures.lent))
 
 pub returns-in-GiveBack-clause-alike : goal.returns-in-GiveBack-clause-alike
 returns-in-GiveBack-clause-alike g c = λ setup w m engine tells played promises few next ready.
@@ -74,7 +74,7 @@ returns-in-Keep-clause-alike g c = λ setup w m engine tells played promises few
     whole_alike conn size engine c.keep.result c.keep.new.self pipe (λ e. acts_on setup answers w e conn m) c.args.event.now m
     (by_event conn size engine c.keep.result c.keep.new.self pipe m _ _ at
     (kept_at conn size c.args.next.ticket (next_number w.tickets) engine c.args.self.now c.keep.new.self pipe m c.keep.result next.ticket
-    (kept_alike conn size c.args.next.ticket engine c.args.self.now c.keep.new.self pipe m c.keep.result played live c.keep.ensures.refused c.keep.ensures.kept)))
+    (kept_alike c.pool_is_unseen.ensures c.idle_alike.ensures conn size c.args.next.ticket engine c.args.self.now c.keep.new.self pipe m c.keep.result played live c.keep.ensures.refused c.keep.ensures.kept)))
 
 pub returns-in-Abandon-clause-alike : goal.returns-in-Abandon-clause-alike
 returns-in-Abandon-clause-alike g c = λ setup w m engine tells played promises few next ready.
@@ -87,7 +87,7 @@ returns-in-Abandon-clause-alike g c = λ setup w m engine tells played promises 
     let at = event_at setup answers w c.args.event.now _ conn m c.args.self.now.place in_place c.in-Abandon.is in
     whole_alike conn size engine c.abandon.result c.abandon.new.self pipe (λ e. acts_on setup answers w e conn m) c.args.event.now m
     (by_event conn size engine c.abandon.result c.abandon.new.self pipe m _ _ at
-    (abandoned_alike conn size engine c.args.self.now c.abandon.new.self pipe m c.abandon.result played live c.abandon.ensures.done c.abandon.ensures.value))
+    (abandoned_alike c.pool_is_unseen.ensures conn size engine c.args.self.now c.abandon.new.self pipe m c.abandon.result played live c.abandon.ensures.done c.abandon.ensures.value))
 
 pub returns-in-Ask-clause-alike : goal.returns-in-Ask-clause-alike
 returns-in-Ask-clause-alike g c = λ setup w m engine tells played promises few next ready.
@@ -100,7 +100,7 @@ returns-in-Ask-clause-alike g c = λ setup w m engine tells played promises few 
     let at = event_at setup answers w c.args.event.now _ conn m c.args.self.now.place in_place c.in-Ask.is in
     whole_ok conn size engine c.ask.result c.ask.new.self pipe (λ e. acts_on setup answers w e conn m) c.args.event.now m
     (by_event_ok conn size engine c.ask.result c.ask.new.self pipe m _ _ at
-    (asked_ok conn size c.args.next.request (next_number w.asked_on) _ engine _ c.args.self.now c.ask.new.self pipe m c.ask.result played live promises.rests next.request c.ask.ensures.refused c.ask.ensures.asked))
+    (asked_ok (record { waits = c.idle_alike.ensures; takes = c.asks_alike.ensures; stays = c.the_other_stays.ensures.asks }) conn size c.args.next.request (next_number w.asked_on) _ engine _ c.args.self.now c.ask.new.self pipe m c.ask.result played live promises.rests next.request c.ask.ensures.refused c.ask.ensures.asked))
 
 pub returns-in-Send-clause-alike : goal.returns-in-Send-clause-alike
 returns-in-Send-clause-alike g c = λ setup w m engine tells played promises few next ready.

@@ -3,7 +3,6 @@ use Rattle.tds_client.specs.Sending as client
 use Rattle.tds_world.specs.declared.outcome.Outcome.TheVariants as outcome
 use Rattle.tds_play.specs.Pipe.{Pipe}
 use Rattle.tds_play.proofs.Cancelled.{cancelled_played}
-use Rattle.tds_play.proofs.Cancelling.{cancel_alike}
 use Rattle.tds_play.proofs.Doing.{does_so, ended, ok_so}
 use Rattle.tds_play.proofs.Outward.{given_up}
 use Rattle.tds_play.proofs.link.Link.cancel.Goals as goal
@@ -14,7 +13,7 @@ returns-clause-alike g c = λ size engine d played few.
     let old : ℕ → Option Pipe = g.C.Carrier.pipes c.args.carrier.now in
     let put = c.in_ok-cancelled.ensures in
     let out = c.in_ok-lost.ensures in
-    let a = cancel_alike c.args.self.now.client d (played.lives c.requires.live).stands.client in
+    let a = c.cancels_alike.ensures c.args.self.now.client d (played.lives c.requires.live).stands.client in
     let does = ok_so (client.cancelled c.args.self.now.client) a.0 _ a.1 put.cancelled in
     let bytes = c.as_slice.ensures.value ∙ does.2 ∙ ap (λ (xs : List ℕ). xs ++ a.0.bytes) c.new-out.ensures.items in
     let handed = given_up conn c.cancel_request.new.self c.hand_over.new.self old (g.C.Carrier.pipes c.hand_over.new.carrier) c.as_slice.result.now c.in_ok-lost.lost
@@ -24,5 +23,5 @@ returns-clause-alike g c = λ size engine d played few.
     (ap outcome.Cancel (does.0 ∙ sym a.2))
     (ended conn c.hand_over.new.self.number size engine c.hand_over.new.self c.end.new.self (g.C.Carrier.pipes c.hand_over.new.carrier) (g.C.Carrier.pipes c.end.new.carrier) c.in_ok-lost.lost _
     (out.number ∙ put.number) (c.end.ensures.alike size engine _)
-    (cancelled_played conn size engine c.args.self.now c.cancel_request.new.self c.hand_over.new.self (old conn) (g.C.Carrier.pipes c.hand_over.new.carrier conn) d c.as_slice.result.now
+    (cancelled_played (record { appends = c.sends_append.ensures.to_server; tells = c.phases_tell.ensures; stays = c.the_other_stays.ensures.cancels; unseen = c.pool_is_unseen.ensures }) conn size engine c.args.self.now c.cancel_request.new.self c.hand_over.new.self (old conn) (g.C.Carrier.pipes c.hand_over.new.carrier conn) d c.as_slice.result.now
     played c.requires.live a does.1 bytes few handed))

@@ -25,7 +25,7 @@ returns-clause-alike g c = λ size engine m tells played promises few.
     let k : ℕ = c.in_ok-carried.carried.count in
     let exact : k ≡ min k c.args.self.now.to_server = omega (arith, c.in_ok-carried.ensures.within, c.at_most-count.ensures.within) in
     let all = subst (λ e. AllArrive g.row.E.Denot (answer_of (g.E.Engine.statements_of e) (g.E.Engine.step_of e)) c.args.self.now.server_reader m m.to_server.waiting) at (promises.arrive c.args.self.now.server_reader live.server_reads live.server_size) in
-    let a = come_served answers c.args.self.now pipe m k k live.stands exact all in
+    let a = come_served c.serves_alike.ensures answers c.args.self.now pipe m k k live.stands exact all in
     let brought = c.in_ok-carried.ensures.brought tells in
     let counted = c.in_ok-carried.ensures.counted in
     let piece : c.as_slice-piece.result.now ≡ next_of (traffic pipe ToServer) k = c.as_slice-piece.ensures.value ∙ brought.bytes ∙ ap (λ xs. xs ++ next_of (traffic pipe ToServer) k) c.new-piece.ensures.items in
@@ -48,7 +48,7 @@ returns-in-None-clause-alike g c = λ size engine m tells played promises few.
     let here = live.stands.up.counts in
     let exact : k ≡ min k c.args.self.now.to_server = omega (arith, c.in_ok-carried.ensures.within, c.at_most-count.ensures.within) in
     let all = subst (λ e. AllArrive g.row.E.Denot (answer_of (g.E.Engine.statements_of e) (g.E.Engine.step_of e)) c.args.self.now.server_reader m m.to_server.waiting) at (promises.arrive c.args.self.now.server_reader live.server_reads live.server_size) in
-    let a = come_served answers c.args.self.now pipe m k k live.stands exact all in
+    let a = come_served c.serves_alike.ensures answers c.args.self.now pipe m k k live.stands exact all in
     let brought = c.in_ok-carried.ensures.brought tells in
     let counted = c.in_ok-carried.ensures.counted in
     let piece : c.as_slice-piece.result.now ≡ next_of (traffic pipe ToServer) k = c.as_slice-piece.ensures.value ∙ brought.bytes ∙ ap (λ xs. xs ++ next_of (traffic pipe ToServer) k) c.new-piece.ensures.items in
@@ -67,7 +67,7 @@ returns-in-None-clause-alike g c = λ size engine m tells played promises few.
     let countable = subst (λ e. (k : ℕ) → IsCountable (to_server (answer_of (g.E.Engine.statements_of e) (g.E.Engine.step_of e)) k m)) at few in
     let lanes = subst (λ e. DeliversOn (answer_of (g.E.Engine.statements_of e) (g.E.Engine.step_of e)) m) at promises.delivers in
     let stands : Stands c.hand_over.new.self after (to_server answers k m) =
-    delivered_alike answers c.args.self.now c.hand_over.new.self pipe after m k k _ c.as_slice.result.now live.stands exact (lanes k).0 (countable k).1 a (c.as_slice.ensures.value ∙ fed.1.1) (rw fed.1.0 at by) in
+    delivered_alike answers (c.the_other_stays.ensures.serves answers) c.args.self.now c.hand_over.new.self pipe after m k k _ c.as_slice.result.now live.stands exact (lanes k).0 (countable k).1 a (c.as_slice.ensures.value ∙ fed.1.1) (rw fed.1.0 at by) in
     let last = c.hand_over.ensures.rest in
     let reads = ap (λ l. l.server_reader) last ∙ fed.2 ∙ ap (λ r. with_taken r a.rest) reader in
     let ends : Ends size engine c.hand_over.new.self = record {

@@ -7,7 +7,6 @@ use Rattle.tds_world.specs.Pool.{place_back, returned_as}
 use Rattle.tds_play.specs.Links.{placed_at}
 use Rattle.tds_play.specs.Pipe.{Pipe}
 use Rattle.tds_play.proofs.Cancelled.{back_played, client_behind}
-use Rattle.tds_play.proofs.Cancelling.{cancel_alike}
 use Rattle.tds_play.proofs.Doing.{does_so, ended, ok_so}
 use Rattle.tds_play.proofs.Outward.{given_up}
 use Rattle.tds_play.proofs.link.Link.give_back.Goals.{then-is_idle, else-is_idle}
@@ -20,7 +19,7 @@ returns-clause-alike g c = λ size engine d played few.
     let put = c.in_ok-cancel_request.ensures in
     let out = c.in_ok-lost.ensures in
     let idle : Bool = c.is_idle.result in
-    let a = cancel_alike c.args.self.now.client d (played.lives c.requires.live).stands.client in
+    let a = c.cancels_alike.ensures c.args.self.now.client d (played.lives c.requires.live).stands.client in
     let does = ok_so (client.cancelled c.args.self.now.client) a.0 _ a.1 put.cancelled in
     let bytes = c.as_slice.ensures.value ∙ does.2 ∙ ap (λ (xs : List ℕ). xs ++ a.0.bytes) c.new-out.ensures.items in
     let mid : c.if-is_idle.self ≡ placed_at (place_back idle) c.cancel_request.new.self =
@@ -38,7 +37,7 @@ returns-clause-alike g c = λ size engine d played few.
     let handed = given_up conn c.if-is_idle.self c.hand_over.new.self old (g.C.Carrier.pipes c.hand_over.new.carrier) c.as_slice.result.now c.in_ok-lost.lost
     at (c.requires.tied.holds c.requires.live).is_open
     (λ e. let h = out.nothing e in (h.1, ap g.C.Carrier.pipes h.2)) out.handed out.counted in
-    let then = back_played conn size engine c.args.self.now c.if-is_idle.self c.hand_over.new.self idle (old conn) (g.C.Carrier.pipes c.hand_over.new.carrier conn) d c.as_slice.result.now
+    let then = back_played (record { appends = c.sends_append.ensures.to_server; tells = c.phases_tell.ensures; stays = c.the_other_stays.ensures.cancels; unseen = c.pool_is_unseen.ensures }) c.idle_alike.ensures conn size engine c.args.self.now c.if-is_idle.self c.hand_over.new.self idle (old conn) (g.C.Carrier.pipes c.hand_over.new.carrier conn) d c.as_slice.result.now
     played c.requires.live a (mid ∙ ap (placed_at (place_back idle)) does.1) bytes waits few handed in
     does_so conn size engine c.end.result _ c.in_ok-lost.lost c.end.new.self (g.C.Carrier.pipes c.end.new.carrier conn) _ d c.end.ensures.done
     (ap outcome.GivenBack told ∙ then.0)

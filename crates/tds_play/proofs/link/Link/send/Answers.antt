@@ -1,4 +1,4 @@
-use Rattle.std.proofs.Common.{◌∙◌, ◌++◌, ℕ, List, Option, Ok, ap, false, refl}
+use Rattle.std.proofs.Common.{◌∙◌, ◌++◌, ◌-◌, ℕ, List, Option, Ok, ap, false, refl}
 use Rattle.tds_client.specs.Sending.{sent}
 use Rattle.tds_world.specs.declared.outcome.Outcome.TheVariants as outcome
 use Rattle.tds_play.specs.Pipe.{Pipe}
@@ -19,8 +19,10 @@ returns-clause-alike g c = λ size engine d played few.
     let handed = given_up conn c.put_next.new.self c.hand_over.new.self old (g.C.Carrier.pipes c.hand_over.new.carrier) c.as_slice.result.now c.in_ok-lost.lost
     put.number (c.requires.tied.holds c.requires.live).is_open
     (λ e. let h = out.nothing e in (h.1, ap g.C.Carrier.pipes h.2)) out.handed out.counted in
-    let then = packet_played conn size engine c.args.self.now c.put_next.new.self c.hand_over.new.self (old conn) (g.C.Carrier.pipes c.hand_over.new.carrier conn) d c.as_slice.result.now does.0
-    played c.requires.live does.1 few sends.1 bytes handed in
+    let live = played.lives c.requires.live in
+    let goes = c.sends_alike.ensures c.args.self.now.client d live.stands.client in
+    let then = packet_played c.sends_append.ensures.to_server c.phases_tell.ensures conn size engine c.args.self.now c.put_next.new.self c.hand_over.new.self (old conn) (g.C.Carrier.pipes c.hand_over.new.carrier conn) d c.as_slice.result.now does.0
+    played c.requires.live goes (λ q is. c.the_other_stays.ensures.sends (size - 8) c.args.self.now.server d q is live.stands.server) does.1 few sends.1 bytes handed in
     does_so conn size engine c.end.result _ c.in_ok-lost.lost c.end.new.self (g.C.Carrier.pipes c.end.new.carrier conn) _ d c.end.ensures.done
     (ap outcome.Sent (some_is c.in-Some.sent _ c.in_ok-sent.field-0 c.in-Some.is sends.0) ∙ then.0)
     (ended conn c.hand_over.new.self.number size engine c.hand_over.new.self c.end.new.self (g.C.Carrier.pipes c.hand_over.new.carrier) (g.C.Carrier.pipes c.end.new.carrier) c.in_ok-lost.lost _
@@ -30,5 +32,6 @@ pub returns-in_default-clause-alike : goal.returns-in_default-clause-alike
 returns-in_default-clause-alike g c = λ size engine d played few.
     let put = c.in_ok-sent.ensures in
     let err = none_sent (sent c.args.self.now.client) c.in_ok-sent.field-0 _ (λ e h. h.0) c.in_default.is put.sent in
-    let then = packet_refused c.args.self.now.number size engine c.args.self.now c.put_next.new.self (g.C.Carrier.pipes c.args.carrier.now c.args.self.now.number) d played c.requires.live err (put.refused err).1 in
+    let goes = c.sends_alike.ensures c.args.self.now.client d (played.lives c.requires.live).stands.client in
+    let then = packet_refused c.args.self.now.number size engine c.args.self.now c.put_next.new.self (g.C.Carrier.pipes c.args.carrier.now c.args.self.now.number) d played c.requires.live goes err (put.refused err).1 in
     does_so c.args.self.now.number size engine c.refused.result _ false c.put_next.new.self (g.C.Carrier.pipes c.args.carrier.now c.args.self.now.number) _ d c.refused.ensures then.0 then.1

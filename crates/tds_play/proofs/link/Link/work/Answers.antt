@@ -18,8 +18,9 @@ returns-clause-alike g c = λ size engine d played ends newest past few.
     let handed = given_down conn c.put_step.new.self c.hand_over.new.self old (g.C.Carrier.pipes c.hand_over.new.carrier) c.as_slice.result.now c.in_ok-lost.lost
     step.number (c.requires.tied.holds c.requires.live).is_open
     (λ e. let h = out.nothing e in (h.1, ap g.C.Carrier.pipes h.2)) out.handed out.counted in
-    let then = worked_played conn size engine c.args.self.now c.put_step.new.self c.hand_over.new.self (old conn) (g.C.Carrier.pipes c.hand_over.new.carrier conn) d c.as_slice.result.now
-    played c.requires.live ends newest past few step.value bytes handed in
+    let stands = (played.lives c.requires.live).stands in
+    let then = worked_played c.sends_append.ensures.to_client conn size engine c.args.self.now c.put_step.new.self c.hand_over.new.self (old conn) (g.C.Carrier.pipes c.hand_over.new.carrier conn) d c.as_slice.result.now
+    played c.requires.live (c.works_alike.ensures c.args.self.now.server d stands.server ends) (c.the_other_stays.ensures.works c.args.self.now.client d stands.client) newest past few step.value bytes handed in
     does_so conn size engine c.end.result _ c.in_ok-lost.lost c.end.new.self (g.C.Carrier.pipes c.end.new.carrier conn) _ d c.end.ensures.done
     (ap outcome.Work (step.outcome ∙ then.0))
     (ended conn c.hand_over.new.self.number size engine c.hand_over.new.self c.end.new.self (g.C.Carrier.pipes c.hand_over.new.carrier) (g.C.Carrier.pipes c.end.new.carrier) c.in_ok-lost.lost _
