@@ -27,3 +27,6 @@ pub mod TheLowestNumberIsLentFirst
 pub mod ARestartedClientHasNoTickets
 pub mod ARestartedServerHasNoTransactions
 pub mod EachTransactionBeginsOnce
+pub mod LinksThatFail
+pub mod PartOfAnAnswerComes
+pub mod LostAtACancel

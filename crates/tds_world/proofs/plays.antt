@@ -1,5 +1,7 @@
 -- Plays over links that fail.
 pub mod Worlds
 pub mod Few
+pub mod Marks
 pub mod Told
 pub mod Reports
+pub mod Headline

@@ -114,8 +114,9 @@ loss_by false o = Nothing
 abbrev pub loss_in : EventReport → Loss
 loss_in r = loss_by r.lost r.outcome
 
--- The events with the losses that their report marks.
+-- The events with the losses that their report marks. One that it doesn't tell of lost nothing: so a
+-- report that is the play's which it marks tells of each event.
 abbrev pub marked : List Event → List EventReport → List Played
 marked [] rs = []
-marked (e ∷ es) [] = []
+marked (e ∷ es) [] = record { event = e; loss = Nothing } ∷ marked es []
 marked (e ∷ es) (r ∷ rs) = record { event = e; loss = loss_in r } ∷ marked es rs

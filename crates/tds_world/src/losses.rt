@@ -2,7 +2,7 @@
 //! A play with losses stands for a plain schedule, in which an event that lost its link is followed
 //! by the cut of its connection; so what holds of the world after any events holds of the world
 //! after any play.
-ghost use Rattle.std.specs.Prelude.{◌≡◌, ◌++◌, List, length};
+ghost use Rattle.std.specs.Prelude.{◌≡◌, ◌++◌, List, false, length};
 ghost use Rattle.std.specs.List.{AllByRecursion};
 ghost use Rattle.tds_session.specs.Answer.{Answers};
 ghost use Rattle.tds_world.specs.Begins.{HandsOutNext};
@@ -10,14 +10,17 @@ ghost use Rattle.tds_world.specs.Bounds.{BeginsOnce, IsEvent, OneAttention};
 ghost use Rattle.tds_world.specs.Counts.{AreFew};
 ghost use Rattle.tds_world.specs.Events.{world_after};
 ghost use Rattle.tds_world.specs.Lawful.{Lawful};
-ghost use Rattle.tds_world.specs.Losses.{Played, event_reports_with, observed_with};
+ghost use Rattle.tds_world.specs.Losses.{Played, event_reports_with, marked, observed_with};
 ghost use Rattle.tds_world.specs.Losses.{with_cuts, world_with};
 ghost use Rattle.tds_world.specs.Observed.{observed};
 ghost use Rattle.tds_world.specs.Sessions.{StayInRange};
 ghost use Rattle.tds_world.specs.Underway.{FewToClients};
-ghost use Rattle.tds_world.specs.WithLosses.{AlwaysWith, AreEvents, LosesNothing, events_of};
+ghost use Rattle.tds_world.specs.WithLosses.{AlwaysWith, AreEvents, AreMarked, LosesNothing};
+ghost use Rattle.tds_world.specs.WithLosses.{events_of};
 ghost use Rattle.tds_world.specs.World.{World, new_world};
+ghost use Rattle.tds_world.specs.declared.event.Event.{Event};
 ghost use Rattle.tds_world.specs.declared.event.Setup.{Setup};
+ghost use Rattle.tds_world.specs.declared.report.EventReport.{EventReport};
 
 /// The world after a play is the one after the plain schedule that it stands for.
 pub fn plain_worlds()
@@ -58,6 +61,34 @@ pub fn nothing_lost()
         → LosesNothing ps → with_cuts setup answers ps w ≡ events_of ps }
     ensures report { (setup : Setup) (answers : Answers) (ps : List Played) → LosesNothing ps
         → observed_with setup answers ps ≡ observed setup answers (events_of ps) }
+{}
+
+/// What a report marks as lost is a play of these events, which loses nothing where nothing is
+/// marked; a front of the events is a front of it. A report that is the one of what it marks tells
+/// of each event.
+pub fn marks_of_a_report()
+    ensures events { (es : List Event) (rs : List EventReport) → events_of (marked es rs) ≡ es }
+    ensures each { (setup : Setup) (answers : Answers) (es : List Event) (rs : List EventReport)
+        (w : World) → rs ≡ event_reports_with setup answers (marked es rs) w
+        → length rs ≡ length es }
+    ensures known { (es : List Event) (rs : List EventReport) → AllByRecursion IsEvent es
+        → AreEvents (marked es rs) }
+    ensures unlost { (es : List Event) (rs : List EventReport)
+        → AllByRecursion (λ (r : EventReport). r.lost ≡ false) rs → LosesNothing (marked es rs) }
+    ensures front { (es fs : List Event) (rs : List EventReport)
+        → (qs : List Played) × (marked (es ++ fs) rs ≡ marked es rs ++ qs) }
+    ensures behind { (es fs : List Event) (rs ss : List EventReport) → length es ≡ length rs
+        → marked (es ++ fs) (rs ++ ss) ≡ marked es rs ++ marked fs ss }
+{}
+
+/// The report of a play tells of each event, and it marks just what the play lost, where each loss
+/// is of as many bytes as its outcome says came.
+pub fn marks_of_a_play()
+    ensures count { (setup : Setup) (answers : Answers) (ps : List Played) (w : World)
+        → length (event_reports_with setup answers ps w) ≡ length ps }
+    ensures marks { (setup : Setup) (answers : Answers) (ps : List Played) (w : World)
+        → AreMarked setup answers ps w
+        → marked (events_of ps) (event_reports_with setup answers ps w) ≡ ps }
 {}
 
 /// After a play of so many events there are at most so many connections, leases, tickets and

@@ -1,10 +1,11 @@
 -- What an example shows of a play, and short words for it.
-use Rattle.std.specs.Prelude.{ℕ, ◌≡◌, pos, List, [], map, length, Option, Some, None}
+use Rattle.std.specs.Prelude.{ℕ, ◌≡◌, pos, List, [], map, length, Bool, Option, Some, None}
 use Rattle.tds_packet.specs.declared.status.Reset.{Reset}
 use Rattle.tds_session.specs.Session.{SessionState, no_settings}
 use Rattle.tds_token.specs.declared.message.Message.{Message}
 use Rattle.tds_token.specs.declared.token.Token.{Token}
 use Rattle.tds_token.specs.declared.token.Token.TheVariants as token
+use Rattle.tds_world.specs.declared.event.Event.{Event}
 use Rattle.tds_world.specs.declared.event.Setup.{Setup}
 use Rattle.tds_world.specs.declared.outcome.Outcome.{Outcome}
 use Rattle.tds_world.specs.declared.report.ClientView.{ClientView}
@@ -14,6 +15,8 @@ use Rattle.tds_world.specs.declared.report.Report.{Report}
 use Rattle.tds_world.specs.declared.report.RequestReport.{RequestReport}
 use Rattle.tds_world.specs.declared.report.RequestStatus.{RequestStatus}
 use Rattle.tds_world.specs.declared.report.Snapshot.{Snapshot}
+use Rattle.tds_world.specs.Losses.{Nothing, Failed, Played, marked}
+use Rattle.tds_world.specs.WithLosses.{events_of}
 use Rattle.tds_world.specs.World.{numbered}
 
 -- Packets of 512 bytes, and so many connections.
@@ -32,6 +35,23 @@ connections_after number r = connections_in (numbered r.events number)
 abbrev pub Shows : Report → List Outcome → List RequestReport → List Snapshot → Type 0
 Shows r outcomes requests connections =
     (map (λ e. e.outcome) r.events ≡ outcomes) × (r.requests ≡ requests) × (connections_after (length r.events) r ≡ connections)
+
+-- An event that loses nothing, and one whose link fails when so many bytes have come.
+abbrev pub whole : Event → Played
+whole e = record { event = e; loss = Nothing }
+
+abbrev pub failed : ℕ → Event → Played
+failed came e = record { event = e; loss = Failed came }
+
+-- Of a play over links that fail: the outcomes, which events are lost, how many connections are shown
+-- after each, and the records. Its report marks just what the play lost.
+pub record ShowsLosses (ps : List Played) (r : Report) (outcomes : List Outcome) (lost : List Bool)
+    (shown : List ℕ) (requests : List RequestReport) : Type 0 where
+  pub outcomes_are : map (λ e. e.outcome) r.events ≡ outcomes
+  pub lost_are : map (λ e. e.lost) r.events ≡ lost
+  pub shown_are : map (λ e. length e.snapshots) r.events ≡ shown
+  pub requests_are : r.requests ≡ requests
+  pub marks : marked (events_of ps) r.events ≡ ps
 
 -- A request of a lease on a connection: its status, the session that it ran in, and its tokens.
 abbrev pub asked : ℕ → ℕ → RequestStatus → Option SessionState → List Token → RequestReport

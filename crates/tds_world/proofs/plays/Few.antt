@@ -1,5 +1,5 @@
 -- What each event adds at most, and a cut does not, a play adds at most so often as it has events.
-use Rattle.std.proofs.Common.{◌≡◌, ◌≤◌, ℕ, suc, List, [], ◌∷◌, ◌+◌, length, sym, subst, Option, Some, None, arith}
+use Rattle.std.proofs.Common.{◌≡◌, ℕ, suc, List, [], ◌∷◌, ◌+◌, length, sym, subst, Option, Some, None, arith}
 use Rattle.tds_session.specs.Answer.{Answers}
 use Rattle.tds_world.specs.declared.event.Event.{Event}
 use Rattle.tds_world.specs.declared.event.Event.TheVariants as event

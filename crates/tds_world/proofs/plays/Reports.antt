@@ -1,24 +1,21 @@
 -- The laws of reports hold of the reports of plays with losses.
-use Rattle.std.proofs.Common.{◌≡◌, ℕ, List, ◌++◌, Some, sym, ap, subst, ◌∙◌}
+use Rattle.std.proofs.Common.{◌≡◌, List, ◌++◌, Some, sym, ap, subst, ◌∙◌}
 use Rattle.std.specs.List.{AllByRecursion}
 use Rattle.tds_session.specs.Answer.{Answers}
-use Rattle.tds_session.specs.Session.{SessionState}
 use Rattle.tds_world.specs.declared.event.Event.{Event}
 use Rattle.tds_world.specs.declared.event.Setup.{Setup}
 use Rattle.tds_world.specs.declared.report.EventReport.{EventReport}
-use Rattle.tds_world.specs.declared.report.Report.{Report}
 use Rattle.tds_world.specs.declared.report.RequestReport.{RequestReport}
 use Rattle.tds_world.specs.declared.report.Snapshot.{Snapshot}
 use Rattle.tds_world.specs.Bounds.{IsSetup}
 use Rattle.tds_world.specs.Events.{world_after}
 use Rattle.tds_world.specs.Lawful.{Lawful}
-use Rattle.tds_world.specs.Laws.{StartsUnder}
 use Rattle.tds_world.specs.Losses.{Played, world_with, with_cuts, event_reports_with, observed_with}
 use Rattle.tds_world.specs.Observed.{event_reports, observed, request_reports}
-use Rattle.tds_world.specs.Reports.{Ask, asked_in, first_run, kept_in, GivesNoMore, IsLentIdle, IsNoFault, IsWithoutFault, KeepsIfResumed, OfEachAskFrom, OfEachOutcome, ShowsFewUnderway, ShowsFreshStart, ShowsIdleQuiet, ShowsKeptTransaction, ShowsLendsIdle, ShowsOwnAnswer, ShowsOwnAnswers, ShowsOwnTransaction, ShowsQuietIfIdle, ShowsRunInOwn, StartsIfLeased}
+use Rattle.tds_world.specs.Reports.{Ask, asked_in, first_run, GivesNoMore, IsLentIdle, IsNoFault, IsWithoutFault, OfEachAskFrom, ShowsFewUnderway, ShowsFreshStart, ShowsIdleQuiet, ShowsKeptTransaction, ShowsLendsIdle, ShowsOwnAnswer, ShowsOwnAnswers, ShowsOwnTransaction, ShowsQuietIfIdle, ShowsRunInOwn, StartsIfLeased}
 use Rattle.tds_world.specs.WithLosses.{AlwaysShownOfEvents, AlwaysShownWith, AlwaysToldWith, ShowsNoEndFaults, ShowsNothingAfterCancelWith, events_of}
-use Rattle.tds_world.specs.World.{World, Holding, new_world, numbered}
-use Rattle.tds_world.proofs.plays.Told.{Tells, each_follows, same_asks, same_kept, each_resumes}
+use Rattle.tds_world.specs.World.{World, new_world}
+use Rattle.tds_world.proofs.plays.Told.{each_follows, same_asks, same_kept, each_resumes}
 use Rattle.tds_world.proofs.plays.Worlds.{plain_worlds, plain_events, schedule_fronts}
 use Rattle.tds_world.proofs.reports.Asks.{own_answers_are_shown, own_transactions_are_shown}
 use Rattle.tds_world.proofs.reports.Leased.{fresh_start_is_shown}

@@ -1,5 +1,5 @@
 -- What is told of each event of a play, and what is told of the plain events that it stands for.
-use Rattle.std.proofs.Common.{◌≡◌, ℕ, List, [], ◌∷◌, ◌++◌, cond, true, false, refl, sym, ap, subst, ◌∙◌, Option, Some, None}
+use Rattle.std.proofs.Common.{◌≡◌, ℕ, List, [], ◌∷◌, ◌++◌, cond, false, refl, sym, ap, ◌∙◌, Option, Some, None}
 use Rattle.std.specs.List.{AllByRecursion}
 use Rattle.std.specs.Prelude.{◌-◌}
 use Rattle.tds_request.specs.declared.request.Request.{Request}
@@ -14,7 +14,7 @@ use Rattle.tds_world.specs.declared.report.Report.{Report}
 use Rattle.tds_world.specs.declared.report.Snapshot.{Snapshot}
 use Rattle.tds_world.specs.Connection.{Connection, phase, Standing, In, Cut}
 use Rattle.tds_world.specs.Events.{about, sends_in, settles, happens_at, happens, world_after}
-use Rattle.tds_world.specs.Losses.{Loss, Nothing, Failed, Played, bringing, met, link_of, cuts_after, is_lost, plainly, world_then, with_cuts, report_then, event_reports_with}
+use Rattle.tds_world.specs.Losses.{Loss, Nothing, Failed, Played, bringing, met, link_of, cuts_after, is_lost, world_then, with_cuts, report_then, event_reports_with}
 use Rattle.tds_world.specs.Observed.{snapshots, event_report, event_reports}
 use Rattle.tds_world.specs.Phase.{Phase, Settled, Asked, Sending, Reading, Cancelling}
 use Rattle.tds_world.specs.Pool.{gives_back_at}

@@ -5,10 +5,9 @@ use Rattle.tds_session.specs.Answer.{Answers}
 use Rattle.tds_world.specs.declared.event.Event.{Event}
 use Rattle.tds_world.specs.declared.event.Event.TheVariants as event
 use Rattle.tds_world.specs.declared.event.Setup.{Setup}
-use Rattle.tds_world.specs.declared.report.EventReport.{EventReport}
 use Rattle.tds_world.specs.Bounds.{IsEvent}
 use Rattle.tds_world.specs.Events.{happens, world_after}
-use Rattle.tds_world.specs.Losses.{Loss, Nothing, Failed, Played, bringing, met, link_of, cuts, cuts_after, plainly, world_then, world_with, with_cuts, report_then, event_reports_with, observed_with}
+use Rattle.tds_world.specs.Losses.{Loss, Nothing, Failed, Played, bringing, met, link_of, cuts_after, plainly, world_then, world_with, with_cuts, report_then, event_reports_with, observed_with}
 use Rattle.tds_world.specs.Observed.{event_reports, observed, report_of}
 use Rattle.tds_world.specs.WithLosses.{AreEvents, LosesNothing, AlwaysWith, events_of}
 use Rattle.tds_world.specs.World.{World, new_world}

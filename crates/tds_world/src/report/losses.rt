@@ -1,15 +1,24 @@
 //! What the session laws say of the report of a play over links that fail. Each is the contract of a
 //! function without a body: what holds of `observed_with`, whatever the events, and whichever of
 //! them lose their links.
+ghost use Rattle.std.specs.Prelude.{◌≡◌, ◌++◌, List};
+ghost use Rattle.std.specs.List.{AllByRecursion};
 ghost use Rattle.tds_session.specs.Answer.{Answers};
-ghost use Rattle.tds_world.specs.Bounds.{IsSetup};
+ghost use Rattle.tds_world.specs.Bounds.{IsEvent, IsSetup};
+ghost use Rattle.tds_world.specs.Events.{world_after};
 ghost use Rattle.tds_world.specs.Lawful.{Lawful};
+ghost use Rattle.tds_world.specs.Losses.{marked, world_with};
+ghost use Rattle.tds_world.specs.Observed.{observed};
 ghost use Rattle.tds_world.specs.Reports.{ShowsFewUnderway, ShowsFreshStart, ShowsIdleQuiet};
 ghost use Rattle.tds_world.specs.Reports.{ShowsKeptTransaction, ShowsLendsIdle, ShowsOwnAnswers};
 ghost use Rattle.tds_world.specs.Reports.{ShowsOwnTransaction};
 ghost use Rattle.tds_world.specs.WithLosses.{AlwaysShownOfEvents, AlwaysShownWith, AlwaysToldWith};
+ghost use Rattle.tds_world.specs.WithLosses.{GivesNoMoreWith, IsReportWith, MarksNothing};
 ghost use Rattle.tds_world.specs.WithLosses.{ShowsNoEndFaults, ShowsNothingAfterCancelWith};
+ghost use Rattle.tds_world.specs.World.{new_world};
+ghost use Rattle.tds_world.specs.declared.event.Event.{Event};
 ghost use Rattle.tds_world.specs.declared.event.Setup.{Setup};
+ghost use Rattle.tds_world.specs.declared.report.Report.{Report};
 
 /// In each snapshot whose client is idle both byte counts are 0, and the two descriptors are one.
 pub fn idle_is_quiet()
@@ -69,4 +78,38 @@ pub fn kept_transaction()
 pub fn lends_idle()
     ensures { (setup : Setup) (answers : Answers) → Lawful answers
         → AlwaysShownWith setup answers ShowsLendsIdle }
+{}
+
+/// All this of a report that is the model's of some events, with the losses that it marks itself.
+pub fn of_marked_report()
+    ensures own_answers { (setup : Setup) (answers : Answers) (events : List Event) (r : Report)
+        → Lawful answers → IsReportWith setup answers events r
+        → ShowsOwnAnswers answers events r }
+    ensures own_transaction { (setup : Setup) (answers : Answers) (events : List Event)
+        (r : Report) → Lawful answers → IsReportWith setup answers events r
+        → ShowsOwnTransaction events r }
+    ensures after_cancel { (setup : Setup) (answers : Answers) (front later : List Event)
+        (r : Report) → Lawful answers → IsReportWith setup answers (front ++ later) r
+        → GivesNoMoreWith setup answers front r }
+    ensures fresh_start { (setup : Setup) (answers : Answers) (events : List Event) (r : Report)
+        → Lawful answers → IsReportWith setup answers events r → ShowsFreshStart r }
+    ensures kept_transaction { (setup : Setup) (answers : Answers) (events : List Event)
+        (r : Report) → Lawful answers → IsReportWith setup answers events r
+        → ShowsKeptTransaction events r }
+    ensures lends_idle { (setup : Setup) (answers : Answers) (events : List Event) (r : Report)
+        → Lawful answers → IsReportWith setup answers events r → ShowsLendsIdle r }
+    ensures idle_is_quiet { (setup : Setup) (answers : Answers) (events : List Event) (r : Report)
+        → Lawful answers → IsReportWith setup answers events r → ShowsIdleQuiet r }
+    ensures few_underway { (setup : Setup) (answers : Answers) (events : List Event) (r : Report)
+        → IsSetup setup → Lawful answers → AllByRecursion IsEvent events
+        → IsReportWith setup answers events r → ShowsFewUnderway r }
+    ensures no_fault { (setup : Setup) (answers : Answers) (events : List Event) (r : Report)
+        → IsReportWith setup answers events r → ShowsNoEndFaults r }
+    ensures whole { (setup : Setup) (answers : Answers) (events : List Event) (r : Report)
+        → IsReportWith setup answers events r → MarksNothing r
+        → r ≡ observed setup answers events }
+    ensures plain { (setup : Setup) (answers : Answers) (events : List Event) (r : Report)
+        → MarksNothing r
+        → world_with setup answers (marked events r.events) new_world
+        ≡ world_after setup answers events new_world }
 {}
