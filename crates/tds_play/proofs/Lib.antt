@@ -14,6 +14,8 @@ pub mod Losing
 pub mod Doing
 pub mod Carrying
 pub mod Failing
+pub mod Accounts
+pub mod Marking
 pub mod Between
 pub mod ServerEvent
 pub mod Played

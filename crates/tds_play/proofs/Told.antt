@@ -28,12 +28,12 @@ marked_events (e ∷ es) (r ∷ rs) each = ap (λ (xs : List Event). e ∷ xs) (
 
 marked_known : (es : List Event) (rs : List EventReport) → AllByRecursion IsEvent es → AreEvents (marked es rs)
 marked_known [] rs known = tt
-marked_known (e ∷ es) [] known = tt
+marked_known (e ∷ es) [] known = (known.0, marked_known es [] known.1)
 marked_known (e ∷ es) (r ∷ rs) known = (known.0, marked_known es rs known.1)
 
 loses_nothing : (es : List Event) (rs : List EventReport) → AllByRecursion (λ (r : EventReport). r.lost ≡ false) rs → LosesNothing (marked es rs)
 loses_nothing [] rs whole = tt
-loses_nothing (e ∷ es) [] whole = tt
+loses_nothing (e ∷ es) [] whole = (refl, loses_nothing es [] tt)
 loses_nothing (e ∷ es) (r ∷ rs) whole = (ap (λ (b : Bool). loss_by b r.outcome) whole.0, loses_nothing es rs whole.1)
 
 marked_front : (front later : List Event) (rs : List EventReport) → length rs ≡ length (front ++ later)

@@ -1,5 +1,5 @@
 -- Which calls of a carrier failed, and which events are marked lost for it.
-use Rattle.std.specs.Prelude.{ℕ, ◌≡◌, ◌≢◌, ◌⊎◌, ◌≤◌, ◌<◌, ◌==◌, List, [], ◌∷◌, ◌++◌, length, Bool, true, false, Option, Some, None, if◌then◌else◌}
+use Rattle.std.specs.Prelude.{ℕ, zero, suc, slice_index_or, ◌≡◌, ◌≢◌, ◌⊎◌, ◌≤◌, ◌<◌, ◌==◌, List, [], ◌∷◌, ◌++◌, length, Bool, true, false, Option, Some, None, if◌then◌else◌}
 use Rattle.tds_packet.specs.declared.kind.Direction.{Direction}
 use Rattle.tds_packet.specs.declared.kind.Direction.TheVariants.{ToServer, ToClient}
 use Rattle.tds_session.specs.Answer.{Answers}
@@ -72,6 +72,31 @@ pub record FailsAs {E S : Type 0} (calls : List Call) (done : Done) (link : Link
     : Type 0 where
   pub failed : Fails calls done.lost pipe
   pub cut : done.lost ≡ true → link.is_cut ≡ true
+
+-- ---- All connections
+
+-- A connection that isn't cut has no failure.
+abbrev pub LiveAreSound : {E S : Type 0} → List (Link E S) → (ℕ → Option Pipe) → Type 0
+LiveAreSound {E} {S} links pipes =
+    (i : ℕ) (d : Link E S) → i < length links → (slice_index_or links i d).is_cut ≡ false
+    → HasNoFailure (pipes (suc i))
+
+-- The connection at a place, of so many that were opened.
+abbrev pub known_at : ℕ → ℕ → Option Pipe → Option Pipe
+known_at zero place p = None
+known_at (suc count) zero p = p
+known_at (suc count) (suc place) p = known_at count place p
+
+abbrev pub all_known : ℕ → (ℕ → Option Pipe) → ℕ → Option Pipe
+all_known count pipes place = known_at count place (pipes (suc place))
+
+-- Where an event was lost it is on the connection whose link it uses, which had no failure, and no other
+-- one fails; where it wasn't, none does.
+abbrev pub FailsOn : Event → Bool → Option ℕ → (ℕ → Option Pipe) → (ℕ → Option Pipe) → Type 0
+FailsOn e true link before after =
+    (place : ℕ) × (link ≡ Some (suc place)) × HasNoFailure (before place) × IsFailureOf e (after place)
+    × ((other : ℕ) → other ≢ place → FailsNoMore (before other) (after other))
+FailsOn e false link before after = (place : ℕ) → FailsNoMore (before place) (after place)
 
 -- ---- A play
 

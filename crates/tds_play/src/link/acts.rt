@@ -119,7 +119,7 @@ impl<E: Engine + Drop> Link<E> {
             → IfOk result (λ done. FailsAs (calls_of event.now) done self.new
             (C.pipes carrier.new self.old.number)) }
         ensures gone { self.old.is_cut ≡ true → (carrier.new ≡ carrier.old)
-            × IfOk result (λ done. done.lost ≡ false) }
+            × (self.new ≡ self.old) × IfOk result (λ done. done.lost ≡ false) }
         // Only what hands bytes over or brings some is lost.
         ensures loses { IfOk result (λ done. done.lost ≡ true
             → MayLose self.old.is_cut event.now) }

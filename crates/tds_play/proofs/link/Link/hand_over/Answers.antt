@@ -1,4 +1,4 @@
-use Rattle.std.proofs.Common.{◌∷◌, []}
+use Rattle.std.proofs.Common.{◌∷◌, [], ◌∙◌, Err, ap}
 use Rattle.tds_play.specs.Failures.{Send}
 use Rattle.tds_play.specs.Pipe.{Changes, sent_on}
 use Rattle.tds_play.proofs.Failing.{none_fails, on_ok, sent_fails}
@@ -15,7 +15,7 @@ returns-in-ToServer-clause-failed g c = λ calls before fails.
     (c.requires.tied.holds c.requires.live).is_open
     (elim c.match-send.branch [
       | in-Ok w ↦ rw w.lost-is (on_ok c.send.result tt (Changes (g.C.Carrier.pipes c.args.carrier.now) (g.C.Carrier.pipes c.send.new.self) c.args.self.now.number (sent_on (g.C.Carrier.pipes c.args.carrier.now c.args.self.now.number) c.args.direction c.args.bytes.now 0)) w.in-Ok.is c.send.ensures.ok).here
-      | in-Err-Lost w ↦ rw w.lost-is (c.send.ensures.lost w.in-Err-Lost.is).here
+      | in-Err-Lost w ↦ rw w.lost-is (c.send.ensures.lost (w.in-Err-Lost.is ∙ ap Err w.in-Err-Lost.field-0-is)).here
     ])
     fails
 
@@ -25,6 +25,6 @@ returns-in-ToClient-clause-failed g c = λ calls before fails.
     (c.requires.tied.holds c.requires.live).is_open
     (elim c.match-send.branch [
       | in-Ok w ↦ rw w.lost-is (on_ok c.send.result tt (Changes (g.C.Carrier.pipes c.args.carrier.now) (g.C.Carrier.pipes c.send.new.self) c.args.self.now.number (sent_on (g.C.Carrier.pipes c.args.carrier.now c.args.self.now.number) c.args.direction c.args.bytes.now 0)) w.in-Ok.is c.send.ensures.ok).here
-      | in-Err-Lost w ↦ rw w.lost-is (c.send.ensures.lost w.in-Err-Lost.is).here
+      | in-Err-Lost w ↦ rw w.lost-is (c.send.ensures.lost (w.in-Err-Lost.is ∙ ap Err w.in-Err-Lost.field-0-is)).here
     ])
     fails
