@@ -13,6 +13,9 @@ pub mod Acting
 pub mod Losing
 pub mod Doing
 pub mod Carrying
+pub mod Failing
+pub mod Accounts
+pub mod Marking
 pub mod Between
 pub mod ServerEvent
 pub mod Played

@@ -11,7 +11,7 @@ use Rattle.tds_play.specs.Pipe.{Pipe, AreSame}
 use Rattle.tds_play.specs.Ties.{IsTied, AreTied}
 use Rattle.tds_play.specs.declared.link.Link.{Link}
 
-by_test : (Q : Type 0) (b : Bool) → (b ≡ true → Q) → (b ≡ false → Q) → Q
+pub by_test : (Q : Type 0) (b : Bool) → (b ≡ true → Q) → (b ≡ false → Q) → Q
 by_test Q true f g = f refl
 by_test Q false f g = g refl
 
@@ -21,10 +21,10 @@ is_below i j e = grind (arith, nat_tests)
 is_not_below : (i j : ℕ) → ltb i j ≡ false → j ≤ i
 is_not_below i j e = grind (arith, nat_tests)
 
-is_at : (i j : ℕ) → eqb i j ≡ true → i ≡ j
+pub is_at : (i j : ℕ) → eqb i j ≡ true → i ≡ j
 is_at i j e = eqb_yes (subst T (sym e) tt)
 
-is_other : (i j : ℕ) → eqb i j ≡ false → i ≢ j
+pub is_other : (i j : ℕ) → eqb i j ≡ false → i ≢ j
 is_other i j e = λ z. let bad : false ≡ true = sym e ∙ eq-eqb i j z in absurd (cc)
 
 last_of : {X : Type 0} (xs : List X) (v d : X) → get_or (xs ++ v ∷ []) (length xs) d ≡ v
@@ -45,7 +45,7 @@ opened links new link pipes pipes' is all number tied same = rw is (record {
   tied = push_each (λ k x. IsTied x (pipes' (suc k))) links link (λ k x lt. subst (λ p. IsTied (get_or links k x) p) (sym (same (suc k) (λ z. absurd (omega arith)))) (all.tied k x lt)) tied;
 })
 
-set_each : {X : Type 0} (P : ℕ → X → Type 0) (xs : List X) (i : ℕ) (v : X) → ((j : ℕ) (d : X) → j ≢ i → j < length xs → P j (get_or xs j d)) → i < length xs → P i v → (j : ℕ) (d : X) → j < length (set xs i v) → P j (get_or (set xs i v) j d)
+pub set_each : {X : Type 0} (P : ℕ → X → Type 0) (xs : List X) (i : ℕ) (v : X) → ((j : ℕ) (d : X) → j ≢ i → j < length xs → P j (get_or xs j d)) → i < length xs → P i v → (j : ℕ) (d : X) → j < length (set xs i v) → P j (get_or (set xs i v) j d)
 set_each P xs i v each there is j d less =
     by_test (P j (get_or (set xs i v) j d)) (eqb j i)
     (λ t. let at : j ≡ i = is_at j i t in subst (λ (k : ℕ). P k (get_or (set xs i v) k d)) (sym at) (subst (P i) (sym (get_or-set_same xs i v d there)) is))

@@ -78,7 +78,7 @@ reports_one_more setup answers [] p w = refl
 reports_one_more setup answers (q ∷ qs) p w =
     ap (λ rs. report_then setup answers w q ∷ rs) (reports_one_more setup answers qs p (world_then setup answers w q))
 
-marked_one_more : (es : List Event) (e : Event) (rs : List EventReport) (r : EventReport) → length rs ≡ length es
+pub marked_one_more : (es : List Event) (e : Event) (rs : List EventReport) (r : EventReport) → length rs ≡ length es
     → marked (es ++ e ∷ []) (rs ++ r ∷ []) ≡ marked es rs ++ record { event = e; loss = loss_in r } ∷ []
 marked_one_more [] e [] r same = refl
 marked_one_more [] e (s ∷ ss) r same = absurd (omega (arith, same))
@@ -91,7 +91,7 @@ few_marked [] rs = omega arith
 few_marked (e ∷ es) [] = omega (arith, few_marked es [])
 few_marked (e ∷ es) (r ∷ rs) = omega (arith, few_marked es rs)
 
-one_taken : (es : List Event) (i : ℕ) (e : Event) → i < length es → e ≡ slice_index_or es i e → take (i + 1) es ≡ take i es ++ e ∷ []
+pub one_taken : (es : List Event) (i : ℕ) (e : Event) → i < length es → e ≡ slice_index_or es i e → take (i + 1) es ≡ take i es ++ e ∷ []
 one_taken es i e less is = take_more es i e less ∙ ap (λ x. take i es ++ x ∷ []) (sym is)
 
 pub all_so_far : {A : Type 0} (P : A → Type 0) (xs : List A) (x : A) → AllByRecursion P xs → P x → AllByRecursion P (xs ++ x ∷ [])

@@ -1,4 +1,5 @@
 pub mod Pipe
+pub mod Failures
 pub mod Memory
 pub mod Ties
 pub mod Links

@@ -1,6 +1,7 @@
 //! One connection: both its ends, what is underway between them, and the requests asked on it.
-ghost use Rattle.std.specs.Prelude.{◌≡◌, false, is_none, Some, IfOk, OnOk};
+ghost use Rattle.std.specs.Prelude.{[], ◌∷◌, ◌≡◌, false, is_none, Some, IfOk, OnOk};
 ghost use Rattle.tds_client.specs.Session.{unless_idle};
+ghost use Rattle.tds_play.specs.Failures.{Fails, Open};
 ghost use Rattle.tds_play.specs.Lending.{is_in_pool, standing_of};
 ghost use Rattle.tds_play.specs.Links.{IsNewLink, newest_first};
 ghost use Rattle.tds_play.specs.Seen.{seen_of};
@@ -98,6 +99,9 @@ impl<E: Engine + Drop> Link<E> {
         ensures ties { IfOk result (λ opened. KeepsTies number opened.0 (C.pipes carrier.old)
             (C.pipes carrier.new) (C.tells carrier.old) (C.tells carrier.new)) }
         ensures steady { C.steady → IfOk result (λ opened. opened.1 ≡ false) }
+        ensures failed { IfOk result (λ opened. Fails (Open ∷ []) opened.1
+            (C.pipes carrier.new number)) }
+        ensures uncut { IfOk result (λ opened. opened.0.is_cut ≡ opened.1) }
         // It stands for a new connection of the model, cut where the carrier failed.
         ensures alike { IfOk result (λ opened. IsPlayed number size engine opened.0
             (C.pipes carrier.new number) (cut_where opened.1 (new_connection (Leased lease)))) }

@@ -1,6 +1,7 @@
 //! All connections of a play, and what each event does to them.
 ghost use Rattle.std.specs.Prelude.{◌≡◌, ◌≤◌, ◌<◌, ◌-◌, ℕ, suc, List, [], ◌∷◌, ◌++◌, length, map, slice_get, slice_set, false, Option, Some, IfOk, OnOk};
 ghost use Rattle.std.specs.List.{filter_map};
+ghost use Rattle.tds_play.specs.Failures.{FailsNoMore, FailsOn, LiveAreSound, all_known};
 ghost use Rattle.tds_play.specs.Lending.{standing_of};
 ghost use Rattle.tds_play.specs.Links.{newest_first};
 ghost use Rattle.tds_play.specs.Noted.{about_of, asked_after, held_of, leases_after, tickets_after};
@@ -16,7 +17,7 @@ ghost use Rattle.tds_session.specs.Answer.{Answers, answer_of};
 ghost use Rattle.tds_world.specs.Connection.{Connection, cut};
 ghost use Rattle.tds_world.specs.Events.{happens};
 ghost use Rattle.tds_world.specs.Laws.{OfEachConnection};
-ghost use Rattle.tds_world.specs.Losses.{bringing};
+ghost use Rattle.tds_world.specs.Losses.{bringing, link_of};
 ghost use Rattle.tds_world.specs.Observed.{request_reports};
 ghost use Rattle.tds_world.specs.Order.{RequestsInOrder};
 ghost use Rattle.tds_world.specs.Pool.{to_lend};
@@ -85,6 +86,16 @@ impl<E: Engine + Copy> Player<E> {
         ensures grows { OnOk result (length self.new.links.items ≤ suc (length self.old.links.items)) }
         ensures tells { OnOk result (C.tells carrier.old → C.tells carrier.new) }
         ensures steady { C.steady → IfOk result (λ done. done.lost ≡ false) }
+        ensures sound { LiveAreSound self.old.links.items (C.pipes carrier.old)
+            → OnOk result (LiveAreSound self.new.links.items (C.pipes carrier.new)) }
+        // Where it was lost, calls that it makes failed on the connection whose link it uses.
+        ensures lost { (setup : Setup) (engine : E) (w : World)
+            → LiveAreSound self.old.links.items (C.pipes carrier.old)
+            → IsPlay setup engine self.old (C.pipes carrier.old) w
+            → PromisesAll E (answer_of (E.statements_of engine) (E.step_of engine)) setup w
+            → IfOk result (λ done. FailsOn event.now done.lost (link_of setup w event.now)
+            (all_known (length self.old.links.items) (C.pipes carrier.old))
+            (all_known (length self.new.links.items) (C.pipes carrier.new))) }
         ensures alike { (setup : Setup) (engine : E) (w : World) → C.tells carrier.old
             → IsPlay setup engine self.old (C.pipes carrier.old) w
             → PromisesAll E (answer_of (E.statements_of engine) (E.step_of engine)) setup w
@@ -168,6 +179,16 @@ impl<E: Engine + Copy> Player<E> {
         ensures count { OnOk result (length self.new.links.items ≡ length self.old.links.items) }
         ensures tells { OnOk result (C.tells carrier.old → C.tells carrier.new) }
         ensures steady { C.steady → IfOk result (λ done. done.lost ≡ false) }
+        ensures sound { LiveAreSound self.old.links.items (C.pipes carrier.old)
+            → OnOk result (LiveAreSound self.new.links.items (C.pipes carrier.new)) }
+        ensures lost { (setup : Setup) (engine : E) (w : World) (c : Connection)
+            → LiveAreSound self.old.links.items (C.pipes carrier.old)
+            → IsPlay setup engine self.old (C.pipes carrier.old) w
+            → IsFound setup (answer_of (E.statements_of engine) (E.step_of engine)) w event.now
+            place c
+            → IfOk result (λ done. FailsOn event.now done.lost (link_of setup w event.now)
+            (all_known (length self.old.links.items) (C.pipes carrier.old))
+            (all_known (length self.new.links.items) (C.pipes carrier.new))) }
         ensures alike { (setup : Setup) (engine : E) (w : World) (c : Connection)
             → C.tells carrier.old → IsPlay setup engine self.old (C.pipes carrier.old) w
             → PromisesAll E (answer_of (E.statements_of engine) (E.step_of engine)) setup w
@@ -233,6 +254,14 @@ impl<E: Engine + Copy> Player<E> {
         ensures count { OnOk result (length self.new.links.items ≡ suc (length self.old.links.items)) }
         ensures tells { OnOk result (C.tells carrier.old → C.tells carrier.new) }
         ensures steady { C.steady → IfOk result (λ done. done.lost ≡ false) }
+        ensures sound { LiveAreSound self.old.links.items (C.pipes carrier.old)
+            → OnOk result (LiveAreSound self.new.links.items (C.pipes carrier.new)) }
+        ensures lost { (setup : Setup) (engine : E) (w : World)
+            → IsPlay setup engine self.old (C.pipes carrier.old) w → IsSmall w
+            → to_lend setup w ≡ Opens (next_number w.connections)
+            → IfOk result (λ done. FailsOn event.Lease done.lost (link_of setup w event.Lease)
+            (all_known (length self.old.links.items) (C.pipes carrier.old))
+            (all_known (length self.new.links.items) (C.pipes carrier.new))) }
         ensures alike { (setup : Setup) (engine : E) (answers : Answers) (w : World)
             → IsPlay setup engine self.old (C.pipes carrier.old) w → IsSmall w
             → to_lend setup w ≡ Opens (next_number w.connections)
@@ -259,6 +288,9 @@ impl<E: Engine + Copy> Player<E> {
         ensures count { length self.new.links.items ≡ length self.old.links.items }
         ensures rest { self.new ≡ record self.old { links = self.new.links } }
         ensures tells { C.tells carrier.old → C.tells carrier.new }
+        ensures sound { LiveAreSound self.old.links.items (C.pipes carrier.old)
+            → LiveAreSound self.new.links.items (C.pipes carrier.new) }
+        ensures failed { (n : ℕ) → FailsNoMore (C.pipes carrier.old n) (C.pipes carrier.new n) }
         // What stands for connections of the model stands for them, all cut.
         ensures alike { (size : ℕ) (engine : E) (cs : List Connection) → ArePlayed 1 size engine self.old.links.items (C.pipes carrier.old) cs
             → ArePlayed 1 size engine self.new.links.items (C.pipes carrier.new) (map cut cs) }
@@ -276,6 +308,9 @@ impl<E: Engine + Copy> Player<E> {
         ensures count { length self.new.links.items ≡ length self.old.links.items }
         ensures rest { self.new ≡ record self.old { links = self.new.links } }
         ensures tells { C.tells carrier.old → C.tells carrier.new }
+        ensures sound { LiveAreSound self.old.links.items (C.pipes carrier.old)
+            → LiveAreSound self.new.links.items (C.pipes carrier.new) }
+        ensures failed { (n : ℕ) → FailsNoMore (C.pipes carrier.old n) (C.pipes carrier.new n) }
         ensures alike { (size : ℕ) (engine : E) (cs : List Connection) (c : Connection) → slice_get cs place ≡ Some c
             → ArePlayed 1 size engine self.old.links.items (C.pipes carrier.old) cs
             → ArePlayed 1 size engine self.new.links.items (C.pipes carrier.new) (put place (cut c) cs) }

@@ -1,5 +1,6 @@
 //! A whole play.
 ghost use Rattle.std.specs.Prelude.{◌≡◌, ◌≢◌, ◌≤◌, List, [], ◌++◌, length, None, Some, Err, IfErr, IfOk, OnOk};
+ghost use Rattle.tds_play.specs.Failures.{TellFailures};
 ghost use Rattle.tds_play.specs.Player.{IsPlay};
 ghost use Rattle.tds_play.specs.Refused.{first_refusal, play_refusal_number};
 ghost use Rattle.tds_play.specs.WholePlay.{CarriesBytesOf, CutsThoseOf, HandsBytesOf, IsPlayOf, IsWholePlayOf, world_of};
@@ -119,6 +120,10 @@ pub fn play<C: Carrier>(
     ensures whole { C.tells carrier.old → IfOk result (λ report. MarksNothing report
         → IsWholePlayOf setup.now script_answers events.now report) }
     ensures steady { C.steady → IfOk result MarksNothing }
+    // An event is marked lost exactly where calls that it makes failed on the connection whose link
+    // it uses.
+    ensures lost { C.tells carrier.old → IfOk result (λ report. TellFailures setup.now
+        script_answers (marked events.now report.events) (C.pipes carrier.new)) }
     // Each caller gets the answer to its own request, run in the transaction that it was in, and
     // nothing of it after a cancel.
     ensures own_answers { C.tells carrier.old
@@ -187,6 +192,11 @@ pub fn play_with<E: Engine + Copy, C: Carrier>(
     ensures alike { C.tells carrier.old → IfOk result (λ report. IsPlayOf setup.now
         (answer_of (E.statements_of engine) (E.step_of engine)) events.now report
         (C.pipes carrier.new)) }
+    // An event is marked lost exactly where calls that it makes failed on the connection whose link
+    // it uses.
+    ensures lost { C.tells carrier.old → IfOk result (λ report. TellFailures setup.now
+        (answer_of (E.statements_of engine) (E.step_of engine)) (marked events.now report.events)
+        (C.pipes carrier.new)) }
     ensures steady { C.steady → IfOk result MarksNothing }
 {
     match packet_size(setup, events.len()) {
@@ -249,6 +259,11 @@ fn play_events<E: Engine + Copy, C: Carrier>(
     requires few { length events.now ≤ 10000 }
     ensures memory { IfErr result (λ why. why ≡ Memory) }
     ensures steady { C.steady → IfOk result MarksNothing }
+    ensures lost { (setup : Setup) → IsSetup setup → C.tells carrier.old
+        → IsPlay setup player.engine player (C.pipes carrier.old) new_world
+        → IfOk result (λ report. TellFailures setup
+        (answer_of (E.statements_of player.engine) (E.step_of player.engine))
+        (marked events.now report.events) (C.pipes carrier.new)) }
     ensures alike { (setup : Setup) → IsSetup setup → C.tells carrier.old
         → IsPlay setup player.engine player (C.pipes carrier.old) new_world
         → IfOk result (λ report. IsPlayOf setup

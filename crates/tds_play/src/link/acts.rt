@@ -1,6 +1,8 @@
 //! What each event does on its connection.
-ghost use Rattle.std.specs.Prelude.{◌≡◌, ◌≤◌, ◌-◌, ℕ, true, false, is_none, Option, None, Some, Ok, IfOk, OnOk, ◌++◌, is_ok};
+ghost use Rattle.std.specs.Prelude.{[], ◌∷◌, ◌≡◌, ◌≤◌, ◌-◌, ℕ, true, false, is_none, Option, None, Some, Ok, IfOk, OnOk, ◌++◌, is_ok};
 ghost use Rattle.tds_client.specs.Session.{unless_idle};
+ghost use Rattle.tds_packet.specs.declared.kind.Direction.TheVariants.{ToClient, ToServer};
+ghost use Rattle.tds_play.specs.Failures.{FailsAs, HasNoFailure, Send, calls_of};
 ghost use Rattle.tds_play.specs.Links.{IsAskedOn, IsPutBy, recounted};
 ghost use Rattle.tds_ends.specs.Alike.{cancel_outcome};
 ghost use Rattle.tds_play.specs.Acts.{cancelled_as, unless_lost, with_client, worked_as};
@@ -111,6 +113,13 @@ impl<E: Engine + Drop> Link<E> {
         ensures ties { OnOk result (KeepsTies self.old.number self.new (C.pipes carrier.old)
             (C.pipes carrier.new) (C.tells carrier.old) (C.tells carrier.new)) }
         ensures steady { C.steady → IfOk result (λ done. done.lost ≡ false) }
+        // Where the connection had no failure, one call of this event failed, or more, exactly where it
+        // was lost, and no other one. Where it was cut, nothing changes at the carrier.
+        ensures failed { HasNoFailure (C.pipes carrier.old self.old.number)
+            → IfOk result (λ done. FailsAs (calls_of event.now) done self.new
+            (C.pipes carrier.new self.old.number)) }
+        ensures gone { self.old.is_cut ≡ true → (carrier.new ≡ carrier.old)
+            × (self.new ≡ self.old) × IfOk result (λ done. done.lost ≡ false) }
         // Only what hands bytes over or brings some is lost.
         ensures loses { IfOk result (λ done. done.lost ≡ true
             → MayLose self.old.is_cut event.now) }
@@ -167,6 +176,7 @@ impl<E: Engine + Drop> Link<E> {
     ) -> Result<Done, NoMemory>
         ensures refused { is_none (unless_idle self.old.client.stage) ≡ false
             → (result ≡ Ok (done_as (Refused NotIdle))) × (self.new ≡ self.old) }
+        ensures whole { IfOk result (λ done. done.lost ≡ false) }
         ensures asked { is_none (unless_idle self.old.client.stage) ≡ true → IfOk result (λ done.
             (done ≡ done_as (Asked next.request)) × IsAskedOn lease request.now self.old self.new) }
         ensures number { self.new.number ≡ self.old.number }
@@ -232,6 +242,9 @@ impl<E: Engine + Drop> Link<E> {
             × (self.new ≡ unless_lost done.lost
             (recounted self.new.to_server self.new.to_client (with_client e.session self.old))))) }
         ensures steady { C.steady → IfOk result (λ done. done.lost ≡ false) }
+        ensures failed { HasNoFailure (C.pipes carrier.old self.old.number)
+            → IfOk result (λ done. FailsAs (Send ToServer ∷ []) done self.new
+            (C.pipes carrier.new self.old.number)) }
         // A connection that stands for one of the model stands for what the same send makes of it.
         ensures alike { (size : ℕ) (engine : E) (c : Connection)
             → IsPlayed self.old.number size engine self.old (C.pipes carrier.old self.old.number) c
@@ -290,6 +303,9 @@ impl<E: Engine + Drop> Link<E> {
             (recounted self.new.to_server self.new.to_client
             (cancelled_as e.answer e.session self.old))))) }
         ensures steady { C.steady → IfOk result (λ done. done.lost ≡ false) }
+        ensures failed { HasNoFailure (C.pipes carrier.old self.old.number)
+            → IfOk result (λ done. FailsAs (Send ToServer ∷ []) done self.new
+            (C.pipes carrier.new self.old.number)) }
         // A connection that stands for one of the model stands for what the same cancel makes of
         // it.
         ensures alike { (size : ℕ) (engine : E) (c : Connection)
@@ -346,6 +362,9 @@ impl<E: Engine + Drop> Link<E> {
             (recounted self.new.to_server self.new.to_client
             (worked_as (worked self.old.server) self.old)))) }
         ensures steady { C.steady → IfOk result (λ done. done.lost ≡ false) }
+        ensures failed { HasNoFailure (C.pipes carrier.old self.old.number)
+            → IfOk result (λ done. FailsAs (Send ToClient ∷ []) done self.new
+            (C.pipes carrier.new self.old.number)) }
         // A connection that stands for one of the model stands for what the same work makes of it.
         ensures alike { (size : ℕ) (engine : E) (c : Connection)
             → IsPlayed self.old.number size engine self.old (C.pipes carrier.old self.old.number) c

@@ -1,6 +1,7 @@
 //! What goes to the carrier and what comes from it, on a connection, and how an event ends there.
-ghost use Rattle.std.specs.Prelude.{◌≡◌, ◌≢◌, ◌≤◌, ◌+◌, ◌-◌, ℕ, [], length, true, false, if◌then◌else◌, Ok, IfOk, OnOk};
+ghost use Rattle.std.specs.Prelude.{◌≡◌, ◌≢◌, ◌≤◌, ◌+◌, ◌-◌, ◌++◌, ◌||◌, ◌∷◌, ℕ, Bool, List, [], length, true, false, if◌then◌else◌, Ok, IfOk, OnOk};
 ghost use Rattle.tds_packet.specs.declared.kind.Direction.TheVariants.{ToServer, ToClient};
+ghost use Rattle.tds_play.specs.Failures.{Call, Carry, Fails, FailsAs, FailsNoMore, HasNoFailure, Send};
 ghost use Rattle.tds_play.specs.Links.{cut_of, recounted};
 ghost use Rattle.tds_play.specs.Pipe.{Brings, IsUncut, cut_pipe, sent_on};
 ghost use Rattle.tds_play.specs.Plays.{IsPlayed, cut_where};
@@ -49,6 +50,11 @@ impl<E: Engine + Drop> Link<E> {
         ensures counted { bytes.now ≢ [] → OnOk result (self.new ≡ with_counted self.old direction
             (saturated (counted self.old direction + length bytes.now))) }
         ensures steady { C.steady → IfOk result (λ lost. lost ≡ false) }
+        // To what failed before, a failure of this call is added exactly where it is answered.
+        ensures failed { (calls : List Call) (before : Bool)
+            → Fails calls before (C.pipes carrier.old self.old.number)
+            → IfOk result (λ lost. Fails (calls ++ Send direction ∷ []) (before || lost)
+            (C.pipes carrier.new self.old.number)) }
     {
         if bytes.is_empty() {
             return Ok(false);
@@ -101,6 +107,10 @@ impl<E: Engine + Drop> Link<E> {
             → Brings (C.pipes carrier.old self.old.number) direction carried.count out.old.items
             out.new.items (C.pipes carrier.new self.old.number) carried.lost) }
         ensures steady { C.steady → IfOk result (λ carried. carried.lost ≡ false) }
+        // Where nothing had failed, this call did exactly where that is answered.
+        ensures failed { HasNoFailure (C.pipes carrier.old self.old.number)
+            → IfOk result (λ carried. Fails (Carry direction ∷ []) carried.lost
+            (C.pipes carrier.new self.old.number)) }
     {
         let mut left = count;
         'pieces: while left > 0 {
@@ -132,6 +142,8 @@ impl<E: Engine + Drop> Link<E> {
         ensures value { self.new ≡ cut_of self.old }
         ensures pipe { C.pipes carrier.new self.old.number
             ≡ cut_pipe (C.pipes carrier.old self.old.number) }
+        ensures failed { FailsNoMore (C.pipes carrier.old self.old.number)
+            (C.pipes carrier.new self.old.number) }
         // A connection that stands for one of the model stands for that one, cut.
         ensures alike { (size : ℕ) (engine : E) (c : Connection)
             → IsPlayed self.old.number size engine self.old (C.pipes carrier.old self.old.number) c
@@ -158,6 +170,9 @@ impl<E: Engine + Drop> Link<E> {
         ensures value { self.new ≡ (if lost then cut_of self.old else self.old) }
         ensures done { result ≡ record { outcome = outcome; lost = lost } }
         ensures kept { lost ≡ false → carrier.new ≡ carrier.old }
+        ensures failed { (calls : List Call)
+            → Fails calls lost (C.pipes carrier.old self.old.number)
+            → FailsAs calls result self.new (C.pipes carrier.new self.old.number) }
         // A connection that stands for one of the model stands for that one, cut where the
         // carrier failed.
         ensures alike { (size : ℕ) (engine : E) (c : Connection)
@@ -185,6 +200,9 @@ impl<E: Engine + Drop> Link<E> {
             (C.pipes carrier.new) (C.tells carrier.old) (C.tells carrier.new) }
         ensures value { self.new ≡ cut_of self.old }
         ensures done { result ≡ record { outcome = outcome_of fault; lost = lost } }
+        ensures failed { (calls : List Call)
+            → Fails calls lost (C.pipes carrier.old self.old.number)
+            → FailsAs calls result self.new (C.pipes carrier.new self.old.number) }
     {
         self.cut(carrier);
         Done {

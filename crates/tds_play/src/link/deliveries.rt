@@ -1,7 +1,8 @@
 //! What a delivery does on its connection.
-ghost use Rattle.std.specs.Prelude.{◌≡◌, ◌≤◌, ◌||◌, ◌++◌, ℕ, List, false, is_none, min, None, Option, Some, IfOk, OnOk};
+ghost use Rattle.std.specs.Prelude.{[], ◌∷◌, ◌≡◌, ◌≤◌, ◌||◌, ◌++◌, ℕ, List, false, is_none, min, None, Option, Some, IfOk, OnOk};
 ghost use Rattle.tds_client.specs.Session.{unless_idle};
-ghost use Rattle.tds_packet.specs.declared.kind.Direction.TheVariants.{ToClient};
+ghost use Rattle.tds_packet.specs.declared.kind.Direction.TheVariants.{ToClient, ToServer};
+ghost use Rattle.tds_play.specs.Failures.{Carry, FailsAs, HasNoFailure, Send};
 ghost use Rattle.tds_play.specs.Between.{Stands};
 ghost use Rattle.tds_ends.specs.Deliveries.{AllArrive};
 ghost use Rattle.tds_ends.specs.Feeding.{Comes, Coming, Listened, listened};
@@ -60,6 +61,9 @@ impl<E: Engine + Drop> Link<E> {
         ensures ties { OnOk result (KeepsTies self.old.number self.new (C.pipes carrier.old)
             (C.pipes carrier.new) (C.tells carrier.old) (C.tells carrier.new)) }
         ensures steady { C.steady → IfOk result (λ done. done.lost ≡ false) }
+        ensures failed { HasNoFailure (C.pipes carrier.old self.old.number)
+            → IfOk result (λ done. FailsAs (Carry ToServer ∷ Send ToClient ∷ []) done self.new
+            (C.pipes carrier.new self.old.number)) }
         // A connection that stands for one of the model stands for what the delivery of as many
         // bytes as came makes of it, cut where the carrier failed.
         ensures alike { (size : ℕ) (engine : E) (c : Connection) → C.tells carrier.old
@@ -102,6 +106,9 @@ impl<E: Engine + Drop> Link<E> {
         ensures ties { OnOk result (KeepsTies self.old.number self.new (C.pipes carrier.old)
             (C.pipes carrier.new) (C.tells carrier.old) (C.tells carrier.new)) }
         ensures steady { C.steady → IfOk result (λ done. done.lost ≡ false) }
+        ensures failed { HasNoFailure (C.pipes carrier.old self.old.number)
+            → IfOk result (λ done. FailsAs (Carry ToClient ∷ []) done self.new
+            (C.pipes carrier.new self.old.number)) }
         ensures alike { (answers : Answers) (size : ℕ) (engine : E) (c : Connection)
             → C.tells carrier.old
             → IsPlayed self.old.number size engine self.old (C.pipes carrier.old self.old.number) c

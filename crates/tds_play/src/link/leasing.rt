@@ -1,6 +1,8 @@
 //! What a connection does as the pool lends it, takes it back, and keeps it for a ticket.
-ghost use Rattle.std.specs.Prelude.{◌≡◌, ◌≤◌, ℕ, false, is_none, Option, None, Some, IfOk, OnOk};
+ghost use Rattle.std.specs.Prelude.{[], ◌∷◌, ◌≡◌, ◌≤◌, ℕ, false, is_none, Option, None, Some, IfOk, OnOk};
 ghost use Rattle.tds_client.specs.Session.{unless_idle};
+ghost use Rattle.tds_packet.specs.declared.kind.Direction.TheVariants.{ToServer};
+ghost use Rattle.tds_play.specs.Failures.{FailsAs, HasNoFailure, Send};
 ghost use Rattle.tds_play.specs.Links.{lent_as, placed_at, recounted, unless_kept};
 ghost use Rattle.tds_play.specs.Acts.{cancelled_as, unless_lost};
 ghost use Rattle.tds_play.specs.Plays.{DoesAlike, IsPlayed};
@@ -63,6 +65,9 @@ impl<E: Engine + Drop> Link<E> {
             (placed_at (place_back (is_none (unless_idle e.session.stage)))
             (cancelled_as e.answer e.session self.old)))))) }
         ensures steady { C.steady → IfOk result (λ done. done.lost ≡ false) }
+        ensures failed { HasNoFailure (C.pipes carrier.old self.old.number)
+            → IfOk result (λ done. FailsAs (Send ToServer ∷ []) done self.new
+            (C.pipes carrier.new self.old.number)) }
         // A connection that stands for one of the model stands for what comes back there.
         ensures alike { (size : ℕ) (engine : E) (c : Connection)
             → IsPlayed self.old.number size engine self.old (C.pipes carrier.old self.old.number) c
@@ -93,6 +98,7 @@ impl<E: Engine + Drop> Link<E> {
     pub(super) fn keep(&mut self, next: Next) -> Done
         ensures refused { (why : Refusal) → unless_kept self.old.client ≡ Some why
             → (result ≡ done_as (Refused why)) × (self.new ≡ self.old) }
+        ensures whole { result.lost ≡ false }
         ensures kept { unless_kept self.old.client ≡ None → (result ≡ done_as (Kept next.ticket))
             × (self.new ≡ placed_at (place.Kept next.ticket) self.old) }
         ensures number { self.new.number ≡ self.old.number }

@@ -10,6 +10,9 @@ use Rattle.tds_world.specs.Events.{happens}
 use Rattle.tds_world.specs.World.{World, new_world}
 use Rattle.tds_play.specs.Player.{PromisesAll}
 use Rattle.tds_ends.specs.Promises.{IsCountable, Promises}
+use Rattle.tds_play.specs.Failures.{LiveAreSound}
+use Rattle.tds_play.proofs.Accounts.{told_none}
+use Rattle.tds_play.proofs.Marking.{told_in_the_end, told_one_more}
 use Rattle.tds_play.proofs.Turns.{all_so_far, brought_known, known_so_far, countable_then, of_play, of_play_then, one_event_more, in_the_end, none_tied, so_many, world_is}
 use Rattle.tds_play.proofs.playing.play_events.Goals as goal
 
@@ -21,6 +24,8 @@ events-init g c = record {
   tells = λ t. t;
   count = ap length c.new-reports.ensures.items;
   steady = λ s. subst (AllByRecursion (λ (r : EventReport). r.lost ≡ false)) (sym c.new-reports.ensures.items) tt;
+  sound = subst (λ ls. LiveAreSound ls (g.C.Carrier.pipes c.args.carrier.now)) (sym c.requires.begins) (λ i d less. absurd (omega (arith, less)));
+  lost = λ setup is tells play. rw (c.requires.begins) (told_none setup _ (g.C.Carrier.pipes c.args.carrier.now));
   alike = λ setup is tells play. record { play = play; told = c.new-reports.ensures.items };
 }
 
@@ -44,6 +49,13 @@ events-preserved g c =
       tells = λ t. said.tells (inv.tells t);
       count = ap length c.in_ok-push.ensures.items ∙ length-append rs _ ∙ omega (arith, inv.count);
       steady = λ s. subst (AllByRecursion (λ (r : EventReport). r.lost ≡ false)) (sym c.in_ok-push.ensures.items) (all_so_far (λ (r : EventReport). r.lost ≡ false) rs _ (inv.steady s) (said.steady s));
+      sound = said.sound inv.sound;
+      lost = λ setup is tells play.
+          let far = inv.alike setup is tells play in
+          let w : World = world_with setup answers (marked (take i es) rs) new_world in
+          let before : PromisesAll g.row.E.Denot answers setup w = of_play (PromisesAll g.row.E.Denot answers setup) 20000 setup answers (take i es) rs so_far inv.known (λ fs all few. c.worlds_hold.ensures.before setup fs is all few) in
+          told_one_more setup answers es i c.event-item.result rs _ c.in_ok-done.done c.new.result _ _ c.events-test.true c.event-item.is inv.count c.in_ok-push.ensures.items
+          (said.lost setup engine w inv.sound far.play before) (inv.lost setup is tells play);
       alike = λ setup is tells play.
           let far = inv.alike setup is tells play in
           let w : World = world_with setup answers (marked (take i es) rs) new_world in
@@ -75,3 +87,13 @@ returns-clause-alike g c = λ setup is tells play.
     is c.events.invariant.known c.events.invariant.tied (omega (arith, c.events-test.false)) far c.new-2.ensures
     (c.new-3.ensures ∙ c.in_ok-into_requests.ensures setup engine _ w far.play order)
     (laws.whole setup answers es) (laws.plain setup answers es)
+
+pub returns-clause-lost : goal.returns-clause-lost
+returns-clause-lost g c = λ setup is tells play.
+    let i : ℕ = c.events.event-index in
+    let es = c.args.events.now in
+    let rs = c.events.reports.items in
+    let engine = c.args.player.engine in
+    let answers : Answers = answer_of (g.E.Engine.statements_of engine) (g.E.Engine.step_of engine) in
+    let far = c.events.invariant.alike setup is tells play in
+    told_in_the_end setup answers engine es i c.events.player (g.C.Carrier.pipes c.events.carrier) rs c.new-2.result (omega (arith, c.events-test.false)) c.new-2.ensures far.play (c.events.invariant.lost setup is tells play)

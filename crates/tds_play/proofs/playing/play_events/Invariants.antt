@@ -4,6 +4,9 @@ use Rattle.tds_session.specs.Answer.{answer_of}
 use Rattle.tds_world.specs.Bounds.{IsEvent, IsSetup}
 use Rattle.tds_world.specs.World.{new_world}
 use Rattle.tds_world.specs.declared.event.Setup.{Setup}
+use Rattle.tds_world.specs.Losses.{marked}
+use Rattle.tds_play.specs.Failures.{LiveAreSound, all_known}
+use Rattle.tds_play.proofs.Accounts.{AreTold}
 use Rattle.tds_play.specs.Player.{IsPlay}
 use Rattle.tds_play.specs.Ties.{AreTied}
 use Rattle.tds_play.proofs.Turns.{IsSoFar}
@@ -20,6 +23,11 @@ invariant-events g l =
       tells : g.C.Carrier.tells l.fn.carrier → g.C.Carrier.tells l.carrier;
       count : length l.reports.items ≡ l.event-index;
       steady : g.C.Carrier.steady → AllByRecursion (λ r. r.lost ≡ false) l.reports.items;
+      sound : LiveAreSound l.player.links.items (pipes l.carrier);
+      lost : (setup : Setup) → IsSetup setup → g.C.Carrier.tells l.fn.carrier
+          → IsPlay setup engine l.fn.player (pipes l.fn.carrier) new_world
+          → AreTold setup (answer_of (g.E.Engine.statements_of engine) (g.E.Engine.step_of engine)) (marked (take l.event-index l.events) l.reports.items)
+          (all_known (length l.player.links.items) (pipes l.carrier));
       alike : (setup : Setup) → IsSetup setup → g.C.Carrier.tells l.fn.carrier
           → IsPlay setup engine l.fn.player (pipes l.fn.carrier) new_world
           → IsSoFar setup (answer_of (g.E.Engine.statements_of engine) (g.E.Engine.step_of engine)) engine (take l.event-index l.events) l.player (pipes l.carrier) l.reports.items;

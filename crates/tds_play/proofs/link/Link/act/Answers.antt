@@ -1,4 +1,4 @@
-use Rattle.std.proofs.Common.{ℕ, Option, refl, subst, inl, inr}
+use Rattle.std.proofs.Common.{◌∙◌, ap, ℕ, Option, refl, subst, inl, inr}
 use Rattle.tds_packet.specs.declared.status.Reset.TheVariants.{Full, KeepTransaction}
 use Rattle.tds_session.specs.Answer.{Answers, answer_of}
 use Rattle.tds_world.specs.declared.event.Event.TheVariants as event
@@ -12,6 +12,9 @@ use Rattle.tds_play.proofs.Acting.{abandoned_alike, by_event, by_event_ok, comes
 use Rattle.tds_play.proofs.Losing.{met_ok, whole_alike, whole_ok}
 use Rattle.tds_play.proofs.Asked.{asked_ok}
 use Rattle.tds_play.proofs.Placed.{kept_alike}
+use Rattle.tds_play.specs.Failures.{calls_of}
+use Rattle.tds_play.proofs.Failing.{whole_as}
+use Rattle.tds_play.proofs.Failing as failing
 use Rattle.tds_play.proofs.link.Link.act.Goals as goal
 
 pub returns-then-self-clause-alike : goal.returns-then-self-clause-alike
@@ -178,3 +181,44 @@ returns-in-Cut-clause-alike g c = λ setup w m engine tells played promises few 
             | inr e ↦ subst (λ x. IsReady x m) e (ready live)
           ])
     ]
+
+pub returns-then-self-clause-failed : goal.returns-then-self-clause-failed
+returns-then-self-clause-failed g c = whole_as (calls_of c.args.event.now) c.on_cut.result c.args.self.now (g.C.Carrier.pipes c.args.carrier.now c.args.self.now.number) c.on_cut.ensures.whole
+
+pub returns-in-Lease-clause-failed : goal.returns-in-Lease-clause-failed
+returns-in-Lease-clause-failed g c = whole_as (calls_of c.args.event.now) c.lend.result c.lend.new.self (g.C.Carrier.pipes c.args.carrier.now c.args.self.now.number) (ap (λ d. d.lost) c.lend.ensures.done)
+
+pub returns-in-Resume-clause-failed : goal.returns-in-Resume-clause-failed
+returns-in-Resume-clause-failed g c = whole_as (calls_of c.args.event.now) c.lend-in-Resume.result c.lend-in-Resume.new.self (g.C.Carrier.pipes c.args.carrier.now c.args.self.now.number) (ap (λ d. d.lost) c.lend-in-Resume.ensures.done)
+
+pub returns-in-Keep-clause-failed : goal.returns-in-Keep-clause-failed
+returns-in-Keep-clause-failed g c = whole_as (calls_of c.args.event.now) c.keep.result c.keep.new.self (g.C.Carrier.pipes c.args.carrier.now c.args.self.now.number) c.keep.ensures.whole
+
+pub returns-in-Abandon-clause-failed : goal.returns-in-Abandon-clause-failed
+returns-in-Abandon-clause-failed g c = whole_as (calls_of c.args.event.now) c.abandon.result c.abandon.new.self (g.C.Carrier.pipes c.args.carrier.now c.args.self.now.number) (ap (λ d. d.lost) c.abandon.ensures.done)
+
+pub returns-in-Ask-clause-failed : goal.returns-in-Ask-clause-failed
+returns-in-Ask-clause-failed g c = failing.whole_ok (calls_of c.args.event.now) c.ask.result c.ask.new.self (g.C.Carrier.pipes c.args.carrier.now c.args.self.now.number) c.ask.ensures.whole
+
+pub returns-in-GiveBack-clause-failed : goal.returns-in-GiveBack-clause-failed
+returns-in-GiveBack-clause-failed g c = rw c.in-GiveBack.is c.give_back.ensures.failed
+
+pub returns-in-Send-clause-failed : goal.returns-in-Send-clause-failed
+returns-in-Send-clause-failed g c = rw c.in-Send.is c.send.ensures.failed
+
+pub returns-in-Cancel-clause-failed : goal.returns-in-Cancel-clause-failed
+returns-in-Cancel-clause-failed g c = rw c.in-Cancel.is c.cancel.ensures.failed
+
+pub returns-in-Work-clause-failed : goal.returns-in-Work-clause-failed
+returns-in-Work-clause-failed g c = rw c.in-Work.is c.work.ensures.failed
+
+pub returns-in-ToServer-clause-failed : goal.returns-in-ToServer-clause-failed
+returns-in-ToServer-clause-failed g c = rw c.in-ToServer.is c.deliver_to_server.ensures.failed
+
+pub returns-in-ToClient-clause-failed : goal.returns-in-ToClient-clause-failed
+returns-in-ToClient-clause-failed g c = rw c.in-ToClient.is c.deliver_to_client.ensures.failed
+
+pub returns-in-Cut-clause-failed : goal.returns-in-Cut-clause-failed
+returns-in-Cut-clause-failed g c = λ fine.
+    whole_as (calls_of c.args.event.now) c.done.result c.cut.new.self (g.C.Carrier.pipes c.cut.new.carrier c.args.self.now.number) (ap (λ d. d.lost) c.done.ensures)
+    (λ call. c.cut.ensures.failed call ∙ fine call)

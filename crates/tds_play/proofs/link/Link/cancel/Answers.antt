@@ -1,10 +1,13 @@
-use Rattle.std.proofs.Common.{◌∙◌, ◌++◌, ℕ, List, Option, sym, ap}
+use Rattle.std.proofs.Common.{false, [], ◌∷◌, ◌∙◌, ◌++◌, ℕ, List, Option, sym, ap}
 use Rattle.tds_client.specs.Sending as client
 use Rattle.tds_world.specs.declared.outcome.Outcome.TheVariants as outcome
 use Rattle.tds_play.specs.Pipe.{Pipe}
 use Rattle.tds_play.proofs.Cancelled.{cancelled_played}
 use Rattle.tds_play.proofs.Doing.{does_so, ended, ok_so}
 use Rattle.tds_play.proofs.Outward.{given_up}
+use Rattle.tds_play.specs.Failures.{Send}
+use Rattle.tds_packet.specs.declared.kind.Direction.TheVariants.{ToServer}
+use Rattle.tds_play.proofs.Failing.{sent_as}
 use Rattle.tds_play.proofs.link.Link.cancel.Goals as goal
 
 pub returns-clause-alike : goal.returns-clause-alike
@@ -25,3 +28,10 @@ returns-clause-alike g c = λ size engine d played few.
     (out.number ∙ put.number) (c.end.ensures.alike size engine _)
     (cancelled_played (record { appends = c.sends_append.ensures.to_server; tells = c.phases_tell.ensures; stays = c.the_other_stays.ensures.cancels; unseen = c.pool_is_unseen.ensures }) conn size engine c.args.self.now c.cancel_request.new.self c.hand_over.new.self (old conn) (g.C.Carrier.pipes c.hand_over.new.carrier conn) d c.as_slice.result.now
     played c.requires.live a does.1 bytes few handed))
+
+pub returns-clause-failed : goal.returns-clause-failed
+returns-clause-failed g c =
+    let out = c.in_ok-lost.ensures in
+    sent_as c.args.self.now.number c.cancel_request.new.self.number c.hand_over.new.self.number (Send ToServer ∷ []) c.end.result c.in_ok-lost.lost c.end.new.self
+    (g.C.Carrier.pipes c.args.carrier.now) (g.C.Carrier.pipes c.hand_over.new.carrier) (g.C.Carrier.pipes c.end.new.carrier)
+    c.in_ok-cancelled.ensures.number out.number (out.failed [] false) (c.end.ensures.failed (Send ToServer ∷ []))

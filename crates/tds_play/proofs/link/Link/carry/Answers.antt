@@ -1,5 +1,7 @@
-use Rattle.std.proofs.Common.{◌≡◌, ◌∙◌, ◌+◌, ◌-◌, ◌≤◌, ◌++◌, ℕ, List, Option, false, sym, ap, arith, subst, length, take, drop}
-use Rattle.tds_play.specs.Pipe.{Pipe, Brings, Changes, carried_on, traffic}
+use Rattle.std.proofs.Common.{Err, ◌≡◌, ◌∙◌, ◌+◌, ◌-◌, ◌≤◌, ◌++◌, ◌∷◌, [], ℕ, List, Option, false, sym, ap, arith, subst, length, take, drop}
+use Rattle.tds_play.specs.Failures.{Carry, HasFailed, failures}
+use Rattle.tds_play.proofs.Failing.{carried_no_more, fails_no_more, stuck_fails}
+use Rattle.tds_play.specs.Pipe.{Pipe, Brings, Changes, carried_on, stuck_on, traffic}
 use Rattle.tds_play.specs.declared.carrier.CarrierError.TheVariants.{Memory}
 use Rattle.tds_play.specs.Ties.{counted, with_counted}
 use Rattle.tds_play.proofs.Carrying.{count_is, count_twice, number_same, cut_same, tied_after, brought_more, long_tail, no_error}
@@ -38,4 +40,21 @@ pieces-preserved g c =
       tells = λ told. brings.tells (λ e. no_error piece Memory c.carry.result c.in-Ok.is (c.in-Ok.is ∙ e)) (i.tells told);
       brought = λ told. subst (λ (n : ℕ). Brings (g.C.Carrier.pipes c.args.carrier.now conn) d n c.args.out.now.items after (new conn) false) (sym left)
           (brought_more c.args.self.now _ (old conn) (new conn) d (c.args.count - c.pieces.left) piece c.args.out.now.items before after (c.requires.tied.holds c.requires.live) (omega (arith, c.requires.underway)) (i.brought told) (bytes (i.tells told)) ok.here);
+      failed = λ call. ap (λ p. failures p call) ok.here ∙ carried_no_more (old conn) d (drop (length before) after) call ∙ i.failed call;
     }
+
+pub returns-clause-failed : goal.returns-clause-failed
+returns-clause-failed g c = λ fine.
+    let conn : ℕ = c.args.self.now.number in
+    fails_no_more (Carry c.args.direction ∷ []) false (g.C.Carrier.pipes c.args.carrier.now conn) (g.C.Carrier.pipes c.pieces.carrier conn) c.pieces.invariant.failed fine
+
+
+pub returns-in-Err-Lost-clause-failed : goal.returns-in-Err-Lost-clause-failed
+returns-in-Err-Lost-clause-failed g c = λ fine.
+    let i = c.pieces.invariant in
+    let d = c.args.direction in
+    let conn : ℕ = c.args.self.now.number in
+    let old : ℕ → Option Pipe = g.C.Carrier.pipes c.pieces.carrier in
+    let new : ℕ → Option Pipe = g.C.Carrier.pipes c.carry.new.self in
+    let lost : Changes old new conn (stuck_on (old conn) d) = subst (λ (k : ℕ). Changes old new k (stuck_on (old k) d)) i.number (c.carry.ensures.lost (c.in-Err-Lost.is ∙ ap Err c.in-Err-Lost.field-0-is)) in
+    subst (HasFailed (Carry d ∷ [])) (sym lost.here) (stuck_fails (old conn) d (i.tied.holds i.live).is_open (λ call. i.failed call ∙ fine call))

@@ -1,6 +1,8 @@
 use Rattle.std.proofs.Common.{◌∙◌, sym, ap, refl, Some, option_map}
 use Rattle.tds_play.specs.Links.{lost_record}
 use Rattle.tds_play.proofs.CutOff.{cut_played}
+use Rattle.tds_play.specs.Failures.{failures}
+use Rattle.tds_play.proofs.Failing.{cut_no_more}
 use Rattle.tds_play.proofs.link.Link.cut.Goals as goal
 
 pub returns-in-Some-clause-alike : goal.returns-in-Some-clause-alike
@@ -12,3 +14,11 @@ pub returns-in_default-clause-alike : goal.returns-in_default-clause-alike
 returns-in_default-clause-alike g c = λ size engine d p live.
     cut_played c.args.self.now.number size engine c.args.self.now _ (g.C.Carrier.pipes c.args.carrier.now c.args.self.now.number) _ d p live refl refl refl
     (c.in_default.is ∙ sym (ap (option_map lost_record) c.in_default.is)) c.requires.uncut c.cut.ensures.cut.here
+
+pub returns-in-Some-clause-failed : goal.returns-in-Some-clause-failed
+returns-in-Some-clause-failed g c = λ call.
+    ap (λ p. failures p call) c.cut.ensures.cut.here ∙ cut_no_more (g.C.Carrier.pipes c.args.carrier.now c.args.self.now.number) call
+
+pub returns-in_default-clause-failed : goal.returns-in_default-clause-failed
+returns-in_default-clause-failed g c = λ call.
+    ap (λ p. failures p call) c.cut.ensures.cut.here ∙ cut_no_more (g.C.Carrier.pipes c.args.carrier.now c.args.self.now.number) call

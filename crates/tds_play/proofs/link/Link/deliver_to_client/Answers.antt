@@ -1,4 +1,4 @@
-use Rattle.std.proofs.Common.{◌≡◌, ◌∙◌, ◌++◌, ℕ, Option, sym, ap, min, arith}
+use Rattle.std.proofs.Common.{[], ◌∷◌, ◌≡◌, ◌∙◌, ◌++◌, ℕ, Option, sym, ap, min, arith}
 use Rattle.tds_packet.specs.declared.kind.Direction.TheVariants.{ToClient}
 use Rattle.tds_world.specs.Arrivals.{to_client}
 use Rattle.tds_play.specs.Pipe.{Pipe, traffic, next_of}
@@ -7,6 +7,8 @@ use Rattle.tds_play.proofs.ClientEvent.{come_heard, heard_alike}
 use Rattle.tds_play.proofs.Doing.{ended}
 use Rattle.tds_play.proofs.Listening.{listened_by, listened_on}
 use Rattle.tds_play.proofs.Losing.{delivered_down}
+use Rattle.tds_play.specs.Failures.{Carry}
+use Rattle.tds_play.proofs.Failing.{brought_as}
 use Rattle.tds_play.proofs.link.Link.deliver_to_client.Goals as goal
 
 -- The client takes all that came, so it finds no fault.
@@ -54,3 +56,15 @@ returns-clause-alike g c = λ answers size engine m tells played promises.
     (omega (arith, c.in_ok-carried.ensures.within, c.at_most-count.ensures.within, here))
     (ended conn c.drain.new.self.number size engine c.drain.new.self c.end.new.self (g.C.Carrier.pipes c.carry.new.carrier) (g.C.Carrier.pipes c.end.new.carrier) c.in_ok-carried.carried.lost (to_client k m)
     (then.number) (c.end.ensures.alike size engine _) listened)
+
+pub returns-in-Some-clause-failed : goal.returns-in-Some-clause-failed
+returns-in-Some-clause-failed g c = λ fine.
+    brought_as c.args.self.now.number c.hear.new.self.number (Carry ToClient ∷ []) c.end_by_fault.result c.in_ok-carried.carried.lost c.end_by_fault.new.self
+    (g.C.Carrier.pipes c.carry.new.carrier) (g.C.Carrier.pipes c.end_by_fault.new.carrier)
+    (c.in_ok-heard.ensures.number ∙ c.in_ok-carried.ensures.number) (c.end_by_fault.ensures.failed (Carry ToClient ∷ [])) (c.in_ok-carried.ensures.failed fine)
+
+pub returns-clause-failed : goal.returns-clause-failed
+returns-clause-failed g c = λ fine.
+    brought_as c.args.self.now.number c.drain.new.self.number (Carry ToClient ∷ []) c.end.result c.in_ok-carried.carried.lost c.end.new.self
+    (g.C.Carrier.pipes c.carry.new.carrier) (g.C.Carrier.pipes c.end.new.carrier)
+    (ap (λ l. l.number) c.drain.ensures ∙ c.in_ok-heard.ensures.number ∙ c.in_ok-carried.ensures.number) (c.end.ensures.failed (Carry ToClient ∷ [])) (c.in_ok-carried.ensures.failed fine)

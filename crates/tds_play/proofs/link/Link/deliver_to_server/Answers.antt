@@ -1,4 +1,4 @@
-use Rattle.std.proofs.Common.{◌≡◌, ◌∙◌, ◌++◌, ℕ, Option, sym, ap, refl, subst, min, cond, arith}
+use Rattle.std.proofs.Common.{[], ◌∷◌, ◌||◌, Bool, ◌≡◌, ◌∙◌, ◌++◌, ℕ, Option, sym, ap, refl, subst, min, cond, arith}
 use Rattle.tds_packet.specs.declared.kind.Direction.TheVariants.{ToServer, ToClient}
 use Rattle.tds_packet.specs.Reading.{with_taken}
 use Rattle.tds_session.specs.Answer.{Answers, answer_of}
@@ -13,6 +13,8 @@ use Rattle.tds_play.proofs.Doing.{ended}
 use Rattle.tds_play.proofs.Losing.{delivered_up}
 use Rattle.tds_play.proofs.Played.{Ends, served_on, stays_by}
 use Rattle.tds_play.proofs.ServerEvent.{come_served, delivered_alike, none_told, both_false, delivered_by}
+use Rattle.tds_play.specs.Failures.{Carry, Fails, Send}
+use Rattle.tds_play.proofs.Failing.{brought_as, fails_numbered, fails_of_more}
 use Rattle.tds_play.proofs.link.Link.deliver_to_server.Goals as goal
 
 -- The server takes all that came, so it finds no fault.
@@ -85,3 +87,26 @@ returns-in-None-clause-alike g c = λ size engine m tells played promises few.
     (omega (arith, c.in_ok-carried.ensures.within, c.at_most-count.ensures.within, here))
     (ended conn c.hand_over.new.self.number size engine c.hand_over.new.self c.end.new.self (g.C.Carrier.pipes c.hand_over.new.carrier) (g.C.Carrier.pipes c.end.new.carrier) c.either.result (to_server same k m)
     (out.number ∙ c.in_ok-carried.ensures.number) (c.end.ensures.alike size engine _) served)
+
+pub returns-clause-failed : goal.returns-clause-failed
+returns-clause-failed g c = λ fine.
+    let calls = Carry ToServer ∷ Send ToClient ∷ [] in
+    brought_as c.args.self.now.number c.carry.new.self.number calls c.end_by_fault.result c.in_ok-carried.carried.lost c.end_by_fault.new.self
+    (g.C.Carrier.pipes c.carry.new.carrier) (g.C.Carrier.pipes c.end_by_fault.new.carrier)
+    c.in_ok-carried.ensures.number (c.end_by_fault.ensures.failed calls)
+    (fails_of_more (Carry ToServer ∷ []) (Send ToClient ∷ []) c.in_ok-carried.carried.lost (g.C.Carrier.pipes c.carry.new.carrier c.args.self.now.number) (c.in_ok-carried.ensures.failed fine))
+
+pub returns-in-None-clause-failed : goal.returns-in-None-clause-failed
+returns-in-None-clause-failed g c = λ fine.
+    let calls = Carry ToServer ∷ Send ToClient ∷ [] in
+    let conn : ℕ = c.args.self.now.number in
+    let out = c.in_ok-lost-in-None.ensures in
+    let here = c.in_ok-carried.ensures.number in
+    let pipes = g.C.Carrier.pipes c.hand_over.new.carrier in
+    let both : Bool = c.in_ok-carried.carried.lost || c.in_ok-lost-in-None.lost in
+    let handed : Fails calls both (pipes c.carry.new.self.number) =
+    out.failed (Carry ToServer ∷ []) c.in_ok-carried.carried.lost
+    (fails_numbered conn c.carry.new.self.number (Carry ToServer ∷ []) c.in_ok-carried.carried.lost (g.C.Carrier.pipes c.carry.new.carrier) (sym here) (c.in_ok-carried.ensures.failed fine)) in
+    brought_as conn c.hand_over.new.self.number calls c.end.result c.either.result c.end.new.self pipes (g.C.Carrier.pipes c.end.new.carrier)
+    (out.number ∙ here) (c.end.ensures.failed calls)
+    (subst (λ b. Fails calls b (pipes conn)) (sym c.either.ensures) (fails_numbered c.carry.new.self.number conn calls both pipes here handed))

@@ -1,5 +1,6 @@
-use Rattle.std.proofs.Common.{sym, subst}
+use Rattle.std.proofs.Common.{ap, refl, sym, subst}
 use Rattle.tds_play.specs.Plays.{IsPlayed, cut_where}
+use Rattle.tds_play.proofs.Failing.{ended_as}
 use Rattle.tds_play.proofs.link.Link.end.Goals as goal
 
 pub returns-then-lost-clause-alike : goal.returns-then-lost-clause-alike
@@ -7,3 +8,16 @@ returns-then-lost-clause-alike g c = λ size engine d played.
     let conn = c.args.self.now.number in
     subst (λ b. IsPlayed conn size engine c.cut.new.self (g.C.Carrier.pipes c.cut.new.carrier conn) (cut_where b d)) (sym c.if-lost.true)
     (c.cut.ensures.alike size engine d played c.requires.live)
+
+pub returns-then-lost-clause-failed : goal.returns-then-lost-clause-failed
+returns-then-lost-clause-failed g c = λ calls fails.
+    let conn = c.args.self.now.number in
+    ended_as calls _ c.args.outcome c.args.lost c.cut.new.self (g.C.Carrier.pipes c.args.carrier.now conn) (g.C.Carrier.pipes c.cut.new.carrier conn) refl
+    (λ lost. ap (λ l. l.is_cut) c.cut.ensures.value) c.cut.ensures.failed fails
+
+pub returns-else-lost-clause-failed : goal.returns-else-lost-clause-failed
+returns-else-lost-clause-failed g c = λ calls fails.
+    let conn = c.args.self.now.number in
+    let whole = c.if-lost.false in
+    ended_as calls _ c.args.outcome c.args.lost c.args.self.now (g.C.Carrier.pipes c.args.carrier.now conn) (g.C.Carrier.pipes c.args.carrier.now conn) refl
+    (λ lost. absurd (cc)) (λ call. refl) fails

@@ -1,5 +1,5 @@
 use Rattle.std.specs.Prelude.{is_none}
-use Rattle.std.proofs.Common.{◌≡◌, ◌∙◌, ◌++◌, ℕ, List, Bool, Option, sym, ap}
+use Rattle.std.proofs.Common.{false, [], ◌∷◌, ◌≡◌, ◌∙◌, ◌++◌, ℕ, List, Bool, Option, sym, ap}
 use Rattle.tds_client.specs.Sending as client
 use Rattle.tds_client.specs.Session.{unless_idle}
 use Rattle.tds_world.specs.declared.outcome.Outcome.TheVariants as outcome
@@ -9,6 +9,9 @@ use Rattle.tds_play.specs.Pipe.{Pipe}
 use Rattle.tds_play.proofs.Cancelled.{back_played, client_behind}
 use Rattle.tds_play.proofs.Doing.{does_so, ended, ok_so}
 use Rattle.tds_play.proofs.Outward.{given_up}
+use Rattle.tds_play.specs.Failures.{Send}
+use Rattle.tds_packet.specs.declared.kind.Direction.TheVariants.{ToServer}
+use Rattle.tds_play.proofs.Failing.{sent_as}
 use Rattle.tds_play.proofs.link.Link.give_back.Goals.{then-is_idle, else-is_idle}
 use Rattle.tds_play.proofs.link.Link.give_back.Goals as goal
 
@@ -43,3 +46,16 @@ returns-clause-alike g c = λ size engine d played few.
     (ap outcome.GivenBack told ∙ then.0)
     (ended conn c.hand_over.new.self.number size engine c.hand_over.new.self c.end.new.self (g.C.Carrier.pipes c.hand_over.new.carrier) (g.C.Carrier.pipes c.end.new.carrier) c.in_ok-lost.lost _
     (out.number ∙ at) (c.end.ensures.alike size engine _) then.1)
+
+pub returns-clause-failed : goal.returns-clause-failed
+returns-clause-failed g c =
+    let put = c.in_ok-cancel_request.ensures in
+    let out = c.in_ok-lost.ensures in
+    let mid : c.if-is_idle.self.number ≡ c.cancel_request.new.self.number =
+    elim c.if-is_idle.branch [
+      | then-is_idle w ↦ ap (λ l. l.number) w.self-is
+      | else-is_idle w ↦ ap (λ l. l.number) w.self-is
+    ] in
+    sent_as c.args.self.now.number c.if-is_idle.self.number c.hand_over.new.self.number (Send ToServer ∷ []) c.end.result c.in_ok-lost.lost c.end.new.self
+    (g.C.Carrier.pipes c.args.carrier.now) (g.C.Carrier.pipes c.hand_over.new.carrier) (g.C.Carrier.pipes c.end.new.carrier)
+    (mid ∙ put.number) out.number (out.failed [] false) (c.end.ensures.failed (Send ToServer ∷ []))

@@ -1,10 +1,13 @@
-use Rattle.std.proofs.Common.{◌∙◌, ◌++◌, ◌-◌, ℕ, List, Option, Ok, ap, false, refl}
+use Rattle.std.proofs.Common.{[], ◌∷◌, ◌∙◌, ◌++◌, ◌-◌, ℕ, List, Option, Ok, ap, false, refl}
 use Rattle.tds_client.specs.Sending.{sent}
 use Rattle.tds_world.specs.declared.outcome.Outcome.TheVariants as outcome
 use Rattle.tds_play.specs.Pipe.{Pipe}
 use Rattle.tds_play.proofs.Doing.{does_so, ended, ok_so, some_is, some_told}
 use Rattle.tds_play.proofs.Outward.{given_up}
 use Rattle.tds_play.proofs.Sent.{packet_played, packet_refused, none_sent, some_sent}
+use Rattle.tds_play.specs.Failures.{Send}
+use Rattle.tds_packet.specs.declared.kind.Direction.TheVariants.{ToServer}
+use Rattle.tds_play.proofs.Failing.{sent_as, whole_as}
 use Rattle.tds_play.proofs.link.Link.send.Goals as goal
 
 pub returns-clause-alike : goal.returns-clause-alike
@@ -35,3 +38,13 @@ returns-in_default-clause-alike g c = λ size engine d played few.
     let goes = c.sends_alike.ensures c.args.self.now.client d (played.lives c.requires.live).stands.client in
     let then = packet_refused c.args.self.now.number size engine c.args.self.now c.put_next.new.self (g.C.Carrier.pipes c.args.carrier.now c.args.self.now.number) d played c.requires.live goes err (put.refused err).1 in
     does_so c.args.self.now.number size engine c.refused.result _ false c.put_next.new.self (g.C.Carrier.pipes c.args.carrier.now c.args.self.now.number) _ d c.refused.ensures then.0 then.1
+
+pub returns-clause-failed : goal.returns-clause-failed
+returns-clause-failed g c =
+    let out = c.in_ok-lost.ensures in
+    sent_as c.args.self.now.number c.put_next.new.self.number c.hand_over.new.self.number (Send ToServer ∷ []) c.end.result c.in_ok-lost.lost c.end.new.self
+    (g.C.Carrier.pipes c.args.carrier.now) (g.C.Carrier.pipes c.hand_over.new.carrier) (g.C.Carrier.pipes c.end.new.carrier)
+    c.in_ok-sent.ensures.number out.number (out.failed [] false) (c.end.ensures.failed (Send ToServer ∷ []))
+
+pub returns-in_default-clause-failed : goal.returns-in_default-clause-failed
+returns-in_default-clause-failed g c = whole_as (Send ToServer ∷ []) c.refused.result c.put_next.new.self (g.C.Carrier.pipes c.args.carrier.now c.args.self.now.number) (ap (λ d. d.lost) c.refused.ensures)

@@ -1,10 +1,13 @@
-use Rattle.std.proofs.Common.{◌∙◌, ◌++◌, ℕ, List, Option, ap}
+use Rattle.std.proofs.Common.{false, [], ◌∷◌, ◌∙◌, ◌++◌, ℕ, List, Option, ap}
 use Rattle.tds_server.specs.Working.{worked}
 use Rattle.tds_world.specs.declared.outcome.Outcome.TheVariants as outcome
 use Rattle.tds_play.specs.Pipe.{Pipe}
 use Rattle.tds_play.proofs.Doing.{does_so, ended}
 use Rattle.tds_play.proofs.Outward.{given_down}
 use Rattle.tds_play.proofs.Worked.{worked_played}
+use Rattle.tds_play.specs.Failures.{Send}
+use Rattle.tds_packet.specs.declared.kind.Direction.TheVariants.{ToClient}
+use Rattle.tds_play.proofs.Failing.{sent_as}
 use Rattle.tds_play.proofs.link.Link.work.Goals as goal
 
 pub returns-clause-alike : goal.returns-clause-alike
@@ -25,3 +28,10 @@ returns-clause-alike g c = λ size engine d played ends newest past few.
     (ap outcome.Work (step.outcome ∙ then.0))
     (ended conn c.hand_over.new.self.number size engine c.hand_over.new.self c.end.new.self (g.C.Carrier.pipes c.hand_over.new.carrier) (g.C.Carrier.pipes c.end.new.carrier) c.in_ok-lost.lost _
     (out.number ∙ step.number) (c.end.ensures.alike size engine _) then.1)
+
+pub returns-clause-failed : goal.returns-clause-failed
+returns-clause-failed g c =
+    let out = c.in_ok-lost.ensures in
+    sent_as c.args.self.now.number c.put_step.new.self.number c.hand_over.new.self.number (Send ToClient ∷ []) c.end.result c.in_ok-lost.lost c.end.new.self
+    (g.C.Carrier.pipes c.args.carrier.now) (g.C.Carrier.pipes c.hand_over.new.carrier) (g.C.Carrier.pipes c.end.new.carrier)
+    c.in_ok-outcome.ensures.number out.number (out.failed [] false) (c.end.ensures.failed (Send ToClient ∷ []))

@@ -1,5 +1,6 @@
 use Rattle.std.proofs.Common.{◌≡◌, ℕ, List, length}
 use Rattle.tds_world.specs.Connection.{Connection}
+use Rattle.tds_play.specs.Failures.{FailsNoMore, LiveAreSound}
 use Rattle.tds_play.specs.Plays.{ArePlayed}
 use Rattle.tds_play.specs.Ties.{AreTied}
 use Rattle.tds_play.proofs.AllCut.{cut_front}
@@ -12,6 +13,8 @@ invariant-links g l =
       tied : AreTied l.self.links.items (pipes l.carrier);
       count : length l.self.links.items ≡ length l.fn.self.links.items;
       rest : l.self ≡ record l.fn.self { links = l.self.links };
+      sound : LiveAreSound l.fn.self.links.items (pipes l.fn.carrier) → LiveAreSound l.self.links.items (pipes l.carrier);
+      failed : (n : ℕ) → FailsNoMore (pipes l.fn.carrier n) (pipes l.carrier n);
       tells : g.C.Carrier.tells l.fn.carrier → g.C.Carrier.tells l.carrier;
       alike : (size : ℕ) (engine : g.row.E.Denot) (cs : List Connection) → ArePlayed 1 size engine l.fn.self.links.items (pipes l.fn.carrier) cs
           → ArePlayed 1 size engine l.self.links.items (pipes l.carrier) (cut_front l.place cs);

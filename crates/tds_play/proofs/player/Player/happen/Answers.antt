@@ -1,4 +1,4 @@
-use Rattle.std.proofs.Common.{refl, sym, subst, IfOk}
+use Rattle.std.proofs.Common.{length, ap, refl, sym, subst, IfOk}
 use Rattle.tds_session.specs.Answer.{Answers, answer_of}
 use Rattle.tds_world.specs.declared.event.Event.{Event}
 use Rattle.tds_world.specs.Events.{happens}
@@ -7,6 +7,9 @@ use Rattle.tds_play.specs.declared.pool.Found.TheVariants.{Missing, Opens}
 use Rattle.tds_play.specs.Player.{HappensAlike}
 use Rattle.tds_play.proofs.Found.{HappensBy}
 use Rattle.tds_play.proofs.PlayerFinds.{FoundHere, about_one, client_restarts, found_alike, found_here, missing_alike, server_restarts}
+use Rattle.tds_play.specs.Failures.{FailsOn, all_known}
+use Rattle.tds_world.specs.Losses.{link_of}
+use Rattle.tds_play.proofs.Accounts.{none_lost}
 use Rattle.tds_play.proofs.player.Player.happen.Goals as goal
 
 pub returns-in-RestartServer-clause-tells : goal.returns-in-RestartServer-clause-tells
@@ -52,3 +55,32 @@ returns-in-Opens-clause-alike g c = λ setup engine w tells is promised countabl
     (about_one c.args.event.now c.in_default.not-RestartServer c.in_default.not-RestartClient) c.in-Opens.ensures.value in
     subst (λ (e : Event). IfOk c.open.result (λ (done : Done). HappensAlike setup engine answers done c.open.new.self (g.C.Carrier.pipes c.open.new.carrier) e w)) (sym found.0)
     (c.open.ensures.alike setup engine answers w is promised.small found.1)
+
+pub returns-in-RestartServer-clause-lost : goal.returns-in-RestartServer-clause-lost
+returns-in-RestartServer-clause-lost g c = λ setup engine w sound is promised.
+    none_lost c.args.event.now _ (link_of setup w c.args.event.now) (length c.args.self.now.links.items) (length c.cut_all.new.self.links.items) (g.C.Carrier.pipes c.args.carrier.now) (g.C.Carrier.pipes c.cut_all.new.carrier) refl c.cut_all.ensures.count c.cut_all.ensures.failed
+
+pub returns-in-RestartClient-clause-lost : goal.returns-in-RestartClient-clause-lost
+returns-in-RestartClient-clause-lost g c = λ setup engine w sound is promised.
+    none_lost c.args.event.now _ (link_of setup w c.args.event.now) (length c.args.self.now.links.items) (length c.cut_all-in-RestartClient.new.self.links.items) (g.C.Carrier.pipes c.args.carrier.now) (g.C.Carrier.pipes c.cut_all-in-RestartClient.new.carrier) refl c.cut_all-in-RestartClient.ensures.count c.cut_all-in-RestartClient.ensures.failed
+
+pub returns-in-Missing-clause-lost : goal.returns-in-Missing-clause-lost
+returns-in-Missing-clause-lost g c = λ setup engine w sound is promised.
+    none_lost c.args.event.now c.refused.result (link_of setup w c.args.event.now) (length c.args.self.now.links.items) (length c.args.self.now.links.items) (g.C.Carrier.pipes c.args.carrier.now) (g.C.Carrier.pipes c.args.carrier.now) (ap (λ d. d.lost) c.refused.ensures) refl (λ n call. refl)
+
+pub returns-in-Here-clause-lost : goal.returns-in-Here-clause-lost
+returns-in-Here-clause-lost g c = λ setup engine w sound is promised.
+    let answers : Answers = answer_of (g.E.Engine.statements_of engine) (g.E.Engine.step_of engine) in
+    let found : FoundHere setup answers w c.args.event.now c.in-Here.place =
+    found_here setup engine answers w c.args.event.now c.args.self.now (g.C.Carrier.pipes c.args.carrier.now) c.in-Here.place is promised.idle
+    (about_one c.args.event.now c.in_default.not-RestartServer c.in_default.not-RestartClient) c.in-Here.ensures.value in
+    c.act_at.ensures.lost setup engine w found.connection sound is found.is
+
+pub returns-in-Opens-clause-lost : goal.returns-in-Opens-clause-lost
+returns-in-Opens-clause-lost g c = λ setup engine w sound is promised.
+    let answers : Answers = answer_of (g.E.Engine.statements_of engine) (g.E.Engine.step_of engine) in
+    let found : HappensBy setup answers w c.args.event.now Opens (happens setup answers c.args.event.now w) =
+    found_alike setup engine answers w c.args.event.now c.args.self.now (g.C.Carrier.pipes c.args.carrier.now) Opens is promised.idle
+    (about_one c.args.event.now c.in_default.not-RestartServer c.in_default.not-RestartClient) c.in-Opens.ensures.value in
+    subst (λ (e : Event). IfOk c.open.result (λ (done : Done). FailsOn e done.lost (link_of setup w e) (all_known (length c.args.self.now.links.items) (g.C.Carrier.pipes c.args.carrier.now)) (all_known (length c.open.new.self.links.items) (g.C.Carrier.pipes c.open.new.carrier)))) (sym found.0)
+    (c.open.ensures.lost setup engine w is promised.small found.1)

@@ -1,4 +1,4 @@
-use Rattle.std.proofs.Common.{◌≡◌, ◌∙◌, ℕ, suc, length, ap, arith, refl, subst}
+use Rattle.std.proofs.Common.{length-append, ◌≡◌, ◌∙◌, ℕ, suc, length, ap, arith, refl, subst}
 use Rattle.tds_play.specs.Pipe.{AreSame}
 use Rattle.tds_play.specs.Ties.{IsTied}
 use Rattle.std.proofs.lemmas.List.{length-map}
@@ -6,6 +6,11 @@ use Rattle.tds_play.specs.Plays.{held_by}
 use Rattle.tds_play.proofs.AllPlayed.{as_many}
 use Rattle.tds_play.proofs.Listed.{opened}
 use Rattle.tds_play.proofs.PlayerOpens.{opens_alike}
+use Rattle.std.proofs.Common.{false, List, Bool, sym, Some, Option, [], ◌∷◌, ◌++◌}
+use Rattle.tds_play.specs.Failures.{Fails, HasNoFailure, LiveAreSound, Open}
+use Rattle.tds_play.specs.declared.link.Link.{Link}
+use Rattle.tds_play.proofs.Accounts.{opens_lost, sound_push}
+use Rattle.tds_world.specs.Losses.{number_of}
 use Rattle.tds_play.proofs.player.Player.open.Goals as goal
 
 pub returns-clause-tied : goal.returns-clause-tied
@@ -31,3 +36,33 @@ returns-clause-alike g c = λ setup engine answers w is small lends.
     (c.next-lease.ensures ∙ omega (arith, leases, small.leases))
     (c.next_number-conn.ensures.few (omega (arith, count, small.connections)) ∙ ap suc count)
     c.in_ok-link.ensures.alike c.in_ok-link.ensures.ties.others c.in_ok-push.ensures.items c.in_ok-give.ensures.ok refl
+
+pub returns-clause-sound : goal.returns-clause-sound
+returns-clause-sound g c = λ sound.
+    let pipes = g.C.Carrier.pipes in
+    let links = c.args.self.now.links.items in
+    let count : c.len.result ≡ length links = omega (arith, c.len.ensures, c.args.self.now.links.ok.0) in
+    let conn : c.next_number-conn.result ≡ suc (length links) =
+    c.next_number-conn.ensures.few (omega (arith, count, c.requires.few)) ∙ ap suc count in
+    let said = c.in_ok-link.ensures in
+    subst (λ (ls : List (Link g.row.E.Denot g.row.E-Stmt.Denot)). LiveAreSound ls (pipes c.open.new.carrier)) (sym c.in_ok-push.ensures.items)
+    (sound_push links c.in_ok-link.link (pipes c.args.carrier.now) (pipes c.open.new.carrier) sound
+    (subst (λ (n : ℕ). AreSame (pipes c.args.carrier.now) (pipes c.open.new.carrier) n) conn said.ties.others)
+    (λ live. subst (λ (n : ℕ). HasNoFailure (pipes c.open.new.carrier n)) conn
+    (subst (λ (b : Bool). Fails (Open ∷ []) b (pipes c.open.new.carrier c.next_number-conn.result)) (sym said.uncut ∙ live) said.failed)))
+
+pub returns-clause-lost : goal.returns-clause-lost
+returns-clause-lost g c = λ setup engine w is small lends.
+    let pipes = g.C.Carrier.pipes in
+    let links = c.args.self.now.links.items in
+    let count : c.len.result ≡ length links = omega (arith, c.len.ensures, c.args.self.now.links.ok.0) in
+    let conn : c.next_number-conn.result ≡ suc (length links) =
+    c.next_number-conn.ensures.few (omega (arith, count, c.requires.few)) ∙ ap suc count in
+    let said = c.in_ok-link.ensures in
+    let many : length links ≡ length w.connections = as_many 1 setup.packet_size engine links (pipes c.args.carrier.now) w.connections is.connections in
+    let more : length c.push.new.self.items ≡ suc (length links) = ap length c.in_ok-push.ensures.items ∙ omega (arith, length-append links (c.in_ok-link.link ∷ [])) in
+    rw more
+    (opens_lost c.in_ok-link.lost _ (length links) (pipes c.args.carrier.now) (pipes c.open.new.carrier)
+    (subst (λ (n : ℕ). AreSame (pipes c.args.carrier.now) (pipes c.open.new.carrier) n) conn said.ties.others)
+    (ap number_of lends ∙ ap (λ (n : ℕ). Some (suc n)) (sym many))
+    (subst (λ (n : ℕ). Fails (Open ∷ []) c.in_ok-link.lost (pipes c.open.new.carrier n)) conn said.failed))

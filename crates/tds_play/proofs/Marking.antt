@@ -1,0 +1,48 @@
+-- A play tells its carrier's failures, event by event.
+use Rattle.std.proofs.Common.{◌≡◌, ◌∙◌, ◌<◌, ◌≤◌, ◌+◌, ◌++◌, ℕ, Bool, true, false, List, [], ◌∷◌, length, take, slice_index_or, Option, refl, sym, ap, subst, arith}
+use Rattle.std.proofs.lemmas.List.{take_all}
+use Rattle.tds_session.specs.Answer.{Answers}
+use Rattle.tds_world.specs.declared.event.Event.{Event}
+use Rattle.tds_world.specs.declared.event.Setup.{Setup}
+use Rattle.tds_world.specs.declared.outcome.Outcome.{Outcome}
+use Rattle.tds_world.specs.declared.report.EventReport.{EventReport}
+use Rattle.tds_world.specs.declared.report.Snapshot.{Snapshot}
+use Rattle.tds_world.specs.Losses.{Played, is_lost, link_of, loss_by, marked, world_with}
+use Rattle.tds_world.specs.World.{new_world}
+use Rattle.tds_play.specs.declared.link.Done.{Done}
+use Rattle.tds_play.specs.declared.player.Player.{Player}
+use Rattle.tds_play.specs.Failures.{FailsOn, TellFailures, all_known}
+use Rattle.tds_play.specs.Pipe.{Pipe}
+use Rattle.tds_play.specs.Player.{IsPlay}
+use Rattle.tds_play.specs.Plays.{loss_of}
+use Rattle.tds_play.proofs.Accounts.{AreTold, told_all, told_more}
+use Rattle.tds_play.proofs.AllPlayed.{as_many}
+use Rattle.tds_play.proofs.Turns.{marked_one_more, one_taken, so_many}
+
+marks_lost : (b : Bool) (o : Outcome) → b ≡ is_lost (loss_by b o)
+marks_lost true o = refl
+marks_lost false o = refl
+
+pub told_one_more : (setup : Setup) (answers : Answers) (es : List Event) (i : ℕ) (e : Event) (reports told : List EventReport) (done : Done) (seen : List Snapshot) (before after : ℕ → Option Pipe)
+    → i < length es → e ≡ slice_index_or es i e → length reports ≡ i
+    → told ≡ reports ++ record { outcome = done.outcome; lost = done.lost; snapshots = seen } ∷ []
+    → FailsOn e done.lost (link_of setup (world_with setup answers (marked (take i es) reports) new_world) e) before after
+    → AreTold setup answers (marked (take i es) reports) before → AreTold setup answers (marked (take (i + 1) es) told) after
+told_one_more setup answers es i e reports told done seen before after less is count more fails far =
+    let p : Played = record { event = e; loss = loss_of done } in
+    let r : EventReport = record { outcome = done.outcome; lost = done.lost; snapshots = seen } in
+    let ps : marked (take (i + 1) es) told ≡ marked (take i es) reports ++ p ∷ [] =
+    ap (λ xs. marked xs told) (one_taken es i e less is) ∙ ap (marked (take i es ++ e ∷ [])) more
+    ∙ marked_one_more (take i es) e reports r (omega (arith, count, so_many i es (omega (arith, less)))) in
+    subst (λ (xs : List Played). AreTold setup answers xs after) (sym ps)
+    (told_more setup answers (marked (take i es) reports) p before after
+    (subst (λ (b : Bool). FailsOn e b (link_of setup (world_with setup answers (marked (take i es) reports) new_world) e) before after) (marks_lost done.lost done.outcome) fails) far)
+
+pub told_in_the_end : {E S : Type 0} (setup : Setup) (answers : Answers) (engine : E) (es : List Event) (i : ℕ) (player : Player E S) (pipes : ℕ → Option Pipe) (so_far reports : List EventReport)
+    → length es ≤ i → reports ≡ so_far → IsPlay setup engine player pipes (world_with setup answers (marked (take i es) so_far) new_world)
+    → AreTold setup answers (marked (take i es) so_far) (all_known (length player.links.items) pipes) → TellFailures setup answers (marked es reports) pipes
+told_in_the_end setup answers engine es i player pipes so_far reports over same play told =
+    let ps : marked (take i es) so_far ≡ marked es reports = ap (λ xs. marked xs so_far) (take_all i es over) ∙ ap (marked es) (sym same) in
+    subst (λ (xs : List Played). TellFailures setup answers xs pipes) ps
+    (told_all setup answers (marked (take i es) so_far) (length player.links.items) pipes
+    (as_many 1 setup.packet_size engine player.links.items pipes (world_with setup answers (marked (take i es) so_far) new_world).connections play.connections) told)
