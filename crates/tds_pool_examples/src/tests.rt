@@ -7,8 +7,8 @@ use tds_pool::{GivenBack, Lease, Opened, Pool};
 use tds_request::{Isolation, Request};
 
 mod leases;
-mod refusals;
 mod many;
+mod refusals;
 
 /// The answer to a begin: descriptor 1 has begun (ENVCHANGE 8), and a final DONE.
 const BEGUN: [u8; 35] = [
@@ -101,8 +101,7 @@ fn hears(alloc: Global, client: &mut Client, bytes: &[u8]) -> bool {
     let mut told = Vec::new(alloc);
     match reader.packet() {
         Some(packet) => {
-            packet.header.kind == tds_packet::Kind::Answer
-                && client.take(packet, &mut told).is_ok()
+            packet.header.kind == tds_packet::Kind::Answer && client.take(packet, &mut told).is_ok()
         }
         None => false,
     }

@@ -231,7 +231,7 @@ impl Pool {
         ensures refused { IfErr result (λ refused. (refused.0 ≡ lease)
             × (refused.1 ≡ PoolRefusal.Memory)
             × IsSomeAnd (lent_to lease (connections self.old))
-                (λ c. IsAsked (cancelled c.client))) }
+            (λ c. IsAsked (cancelled c.client))) }
         ensures err { OnErr result ((self.new ≡ self.old) × (out.new.items ≡ out.old.items)) }
         ensures rest { SameRest self.old self.new }
     {
