@@ -3,3 +3,4 @@ pub mod Tables
 pub mod Seats
 pub mod Taken
 pub mod Results
+pub mod Promises

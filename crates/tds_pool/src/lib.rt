@@ -5,6 +5,7 @@
 mod answers;
 mod clients;
 mod finding;
+pub mod laws;
 mod lease;
 mod numbers;
 mod pool;

@@ -1,5 +1,5 @@
 //! The pool.
-ghost use Rattle.std.specs.Prelude.{◌≡◌, ◌≤◌, [], Some, None, IfSome, IfNone, option_map};
+ghost use Rattle.std.specs.Prelude.{◌≡◌, ◌≤◌, [], Some, None, IfSome, IfNone, IsSome, option_map};
 ghost use Rattle.std.specs.Option.{option_copied, option_copied_mut};
 ghost use Rattle.std.specs.Borrow.{sem};
 ghost use Rattle.slab.specs.Slab.{get};
@@ -46,6 +46,8 @@ impl Model for Pool {
 impl Pool {
     /// A pool for at most `max` connections, from 1 to 64. It takes no memory.
     pub fn new(alloc: Global, max: u8, size: PacketSize) -> Option<Pool>
+        ensures given { 1 ≤ max → max ≤ 64 → IsSome result }
+        ensures lawful { IsSome result → (1 ≤ max) × (max ≤ 64) }
         ensures value { IfSome result (λ pool. (connections pool ≡ []) × (pool.max ≡ max)
             × (pool.size ≡ size) × (pool.last ≡ 0)) }
     {
@@ -71,7 +73,8 @@ impl Pool {
     /// Lends the client under this key.
     fn lend(&mut self, key: usize) -> Option<&mut Client>
         ensures* lends { sem 𝓛 (LendsClient self.entry key result) }
-        ensures value { option_copied_mut result ≡ option_map (λ (seat : Seat). seat.client) (get self.entry.now.seats key) }
+        ensures value { option_copied_mut result
+            ≡ option_map (λ (seat : Seat). seat.client) (get self.entry.now.seats key) }
     {
         let seat = self.seats.get_mut(key)?;
         Some(&mut seat.client)
