@@ -161,11 +161,7 @@ fn read_file<R: Read>(alloc: Global, reader: &mut R) -> Result<Vec<u8>, RunFault
     }
 }
 
-fn play_file<C: Carrier>(
-    alloc: Global,
-    bytes: &[u8],
-    carrier: &mut C,
-) -> Result<Report, RunFault>
+fn play_file<C: Carrier>(alloc: Global, bytes: &[u8], carrier: &mut C) -> Result<Report, RunFault>
     ensures played { C.tells carrier.old → C.steady
         → IfOk result (λ report. IsReportOf bytes.now report) }
     ensures fault { IfErr result (λ fault. IsFaultOf fault bytes.now × IsBeforeOutput fault) }
