@@ -1,3 +1,4 @@
 mod carrying;
 mod opening;
 mod plays;
+mod strangers;
