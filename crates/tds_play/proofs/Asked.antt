@@ -91,6 +91,8 @@ asked_played {E} {S} alike number size id lease engine q link new pipe c i live 
           (newest_asked id number lease c.heard q link.client.heard.mark c.mark new.current s.client.mark h.current);
       to_server = i.to_server;
       to_client = i.to_client;
+      came_up = i.came_up;
+      came_down = i.came_down;
       lives = λ uncut. record {
         stands = record {
           client = subst (λ x. MatchesClient x d) (sym h.client) (asked_matches alike link.client c id lease number q s.client idle);

@@ -4,7 +4,7 @@ use Rattle.std.proofs.Math.Seq.{take-add, drop-append-add}
 use Rattle.std.proofs.lemmas.Grind.{flat_map-append}
 use Rattle.std.proofs.lemmas.List.{take-append-le}
 use Rattle.tds_world.specs.Deliveries.{IsDelivered}
-use Rattle.tds_world.specs.Lane.{Lane, sent_bytes, underway}
+use Rattle.tds_world.specs.Lane.{Lane, sent_bytes, underway, come_bytes}
 use Rattle.tds_play.specs.Between.{IsLane}
 use Rattle.tds_play.specs.Pipe.{Traffic, carried, next_of, sent}
 use Rattle.tds_ends.specs.Stands.{Sends}
@@ -59,6 +59,10 @@ lane_delivered bytes n t old new taken rest count is d left =
       came =
           length-append t.came (next_of t some)
           ∙ omega (arith, is.came, long_next bytes t old taken count some is less, part, now);
+      order =
+          ap (λ (xs : List ℕ). xs ++ next_of t some) is.order
+          ∙ sym (take-add (length t.came) some t.handed)
+          ∙ ap (λ (k : ℕ). take k t.handed) (sym (length-append t.came (next_of t some) ∙ ap (λ (k : ℕ). length t.came + k) (long_next bytes t old taken count some is less)));
       within = omega (arith, part, long, is.counts, is.within, less);
       left = left;
       counts = omega (arith, part, long, is.counts, is.within, less);
@@ -69,6 +73,7 @@ pub lane_stuck : {Entry : Type 0} (bytes : Entry → List ℕ) (t : Traffic) (fa
 lane_stuck bytes t failures lane taken count is = record {
   handed = is.handed;
   came = is.came;
+  order = is.order;
   within = is.within;
   left = is.left;
   counts = is.counts;
@@ -79,6 +84,18 @@ lane_stuck bytes t failures lane taken count is = record {
 take_same : (a b : ℕ) (xs more ys : List ℕ) → a ≤ length xs → ys ≡ xs ++ more → b ≡ a → take a xs ≡ take b ys
 take_same a b xs more ys within e same =
     sym (take-append-le a xs more within) ∙ ap (take a) (sym e) ∙ ap (λ (k : ℕ). take k ys) (sym same)
+
+-- No more came than was handed over.
+come_within : {Entry : Type 0} (bytes : Entry → List ℕ) (t : Traffic) (lane : Lane Entry) (taken : List ℕ) (count : ℕ) → IsLane bytes t lane taken count → length t.came ≤ length t.handed
+come_within bytes t lane taken count is =
+    let all : length t.handed ≡ length (flat_map bytes lane.arrived) + length (flat_map bytes lane.waiting) =
+    ap length (is.handed ∙ flat_map-append bytes lane.arrived lane.waiting) ∙ length-append (flat_map bytes lane.arrived) (flat_map bytes lane.waiting) in
+    omega (arith, is.came, all, is.within)
+
+-- What came is what the lane says.
+pub lane_came : {Entry : Type 0} (bytes : Entry → List ℕ) (t : Traffic) (lane : Lane Entry) (taken : List ℕ) (count : ℕ) → IsLane bytes t lane taken count → t.came ≡ come_bytes bytes lane
+lane_came bytes t lane taken count is =
+    is.order ∙ ap (λ (k : ℕ). take k t.handed) is.came ∙ ap (take (length (flat_map bytes lane.arrived) + lane.part)) is.handed
 
 pub lane_sent : {Entry : Type 0} (bytes : Entry → List ℕ) (more : List ℕ) (failures : ℕ) (t : Traffic) (old new : Lane Entry) (taken : List ℕ) (count now : ℕ) → IsLane bytes t old taken count → Sends bytes more old new → now ≡ count + length more → IsLane bytes (sent t more failures) new taken now
 lane_sent {Entry} bytes more failures t old new taken count now is s e =
@@ -93,6 +110,7 @@ lane_sent {Entry} bytes more failures t old new taken count now is s e =
     record {
       handed = ap (λ (xs : List ℕ). xs ++ more) is.handed ∙ sym all;
       came = is.came ∙ omega (arith, ap (λ (es : List Entry). length (flat_map bytes es)) s.arrived, s.part);
+      order = is.order ∙ sym (take-append-le (length t.came) t.handed more (come_within bytes t old taken count is));
       within = omega (arith, long, s.part, is.within);
       left = is.left ∙ take_same old.part new.part waiting more (flat_map bytes new.waiting) is.within s.waiting s.part;
       counts = e ∙ omega (arith, is.counts, long, s.part, is.within);

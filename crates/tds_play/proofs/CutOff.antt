@@ -85,6 +85,11 @@ handed_stays None d = refl
 handed_stays (Some p) ToServer = refl
 handed_stays (Some p) ToClient = refl
 
+came_stays : (p : Option Pipe) (d : Direction) → (traffic (cut_pipe p) d).came ≡ (traffic p d).came
+came_stays None d = refl
+came_stays (Some p) ToServer = refl
+came_stays (Some p) ToClient = refl
+
 cut_off : (p : Option Pipe) → IsUncut p → is_cut_at (cut_pipe p) ≡ true
 cut_off None known = absurd known
 cut_off (Some p) known = refl
@@ -101,6 +106,8 @@ cut_played number size engine link new pipe after c p live same is past current 
   newest = rw (is, current) (newest_cut number link.current c.current (subst (λ (b : Bool). IsNewest number b link.current c.current) live p.newest));
   to_server = rw off (handed_stays pipe ToServer ∙ p.to_server);
   to_client = rw off (handed_stays pipe ToClient ∙ p.to_client);
+  came_up = rw off (came_stays pipe ToServer ∙ p.came_up);
+  came_down = rw off (came_stays pipe ToClient ∙ p.came_down);
   lives = λ uncut. let no : true ≡ false = sym is ∙ uncut in absurd (cc);
   gone = λ cut. ap is_cut_at off ∙ cut_off pipe known;
 }

@@ -31,7 +31,6 @@ pub mod Requested
 pub mod AllCut
 pub mod PlayerOpens
 pub mod LossWorld
-pub mod Told
 pub mod Turns
 pub mod PlayerActs
 pub mod PlayerFinds

@@ -7,6 +7,7 @@ use Rattle.tds_token.specs.declared.token.Token.{Token}
 use Rattle.tds_world.specs.declared.report.RequestStatus.{RequestStatus}
 use Rattle.tds_world.specs.Arrivals.{reach_client, to_client}
 use Rattle.tds_world.specs.Connection.{Connection, In, down_underway}
+use Rattle.tds_world.specs.Entries.{up_bytes, down_bytes}
 use Rattle.tds_world.specs.Phase.{status_of}
 use Rattle.tds_world.specs.Record as world
 use Rattle.tds_play.specs.declared.link.Link.{Link}
@@ -22,6 +23,7 @@ use Rattle.tds_play.specs.Pipe.{Pipe, traffic, brought_on, carried, next_of, IsO
 use Rattle.tds_play.specs.Plays.{IsPlayed}
 use Rattle.tds_play.specs.Requests.{IsNewest, MatchesRecord}
 use Rattle.tds_play.specs.Ties.{with_counted}
+use Rattle.tds_play.proofs.Between.{lane_came}
 use Rattle.tds_play.proofs.ClientEvent.{Heard, bare, reach_beside, stands_drained}
 use Rattle.tds_play.proofs.ClientSizes.{listened_size}
 
@@ -170,6 +172,8 @@ listened_on waits number size most n engine bytes old new pipe after c p live pa
       newest = rw uncut (newest_heard number a.then old.current new.current c.current reached.current (rw live at p.newest) d.told beside.current a.tells);
       to_server = s.up.handed;
       to_client = s.down.handed;
+      came_up = lane_came up_bytes (traffic after ToServer) (to_client most c).to_server new.server_reader.taken new.to_server s.up;
+      came_down = lane_came down_bytes (traffic after ToClient) (to_client most c).to_client new.client_reader.taken new.to_client s.down;
       lives = λ whole. record {
         stands = s;
         engine_is = d.engine ∙ l.engine_is;

@@ -1,5 +1,5 @@
 -- The world after an event with its loss: the event's own, and its connection is cut.
-use Rattle.std.proofs.Common.{◌≡◌, ◌∙◌, ℕ, zero, suc, ◌≤◌, Bool, true, false, cond, List, [], ◌∷◌, length, Option, Some, None, refl, sym, ap, subst, arith}
+use Rattle.std.proofs.Common.{◌≡◌, ◌∙◌, ℕ, zero, suc, ◌≤◌, Bool, true, false, cond, List, [], ◌∷◌, length, Option, Some, refl, sym, ap, subst, arith}
 use Rattle.std.proofs.lemmas.Option.{slice_get_within}
 use Rattle.std.specs.List.{slice_get}
 use Rattle.tds_session.specs.Answer.{Answers}
@@ -13,7 +13,7 @@ use Rattle.tds_world.specs.declared.outcome.Refusal.TheVariants as refusal
 use Rattle.tds_world.specs.declared.report.Place.TheVariants.{Leased}
 use Rattle.tds_world.specs.Connection.{Connection, Standing, In, Cut, is_cut, cut, new_connection}
 use Rattle.tds_world.specs.Events.{happens, happens_at, settles, world_after}
-use Rattle.tds_world.specs.Losses.{Played, bringing, came_in, cuts, link_of, loss_by, met, number_of, world_then}
+use Rattle.tds_world.specs.Losses.{bringing, came_in, cuts, link_of, loss_by, met, number_of, world_then}
 use Rattle.tds_world.specs.Pool.{Acted, Refuses, Does, opens, to_lend}
 use Rattle.tds_world.specs.World.{World, Holding, next_number, put, uncut_in}
 use Rattle.tds_world.specs.World as world

@@ -7,7 +7,7 @@ use Rattle.tds_server.specs.State.{ServerState}
 use Rattle.tds_world.specs.declared.report.Place.{Place}
 use Rattle.tds_world.specs.Connection.{Connection, In, up_underway, down_underway}
 use Rattle.tds_world.specs.Entries.{Up, Down, up_bytes, down_bytes}
-use Rattle.tds_world.specs.Lane.{Lane, sent_bytes}
+use Rattle.tds_world.specs.Lane.{Lane, sent_bytes, come_bytes}
 use Rattle.tds_world.specs.Record as world
 use Rattle.tds_play.specs.Between.{IsLane}
 use Rattle.tds_play.specs.Lending.{standing_by, standing_of}
@@ -18,7 +18,7 @@ use Rattle.tds_ends.specs.Stands.{MatchesClient, MatchesServer, Sends}
 use Rattle.tds_play.specs.Ties.{saturated, with_counted}
 use Rattle.tds_play.specs.declared.link.Link.{Link}
 use Rattle.tds_play.specs.declared.request.Record.{Record}
-use Rattle.tds_play.proofs.Between.{lane_sent}
+use Rattle.tds_play.proofs.Between.{lane_came, lane_sent}
 use Rattle.tds_play.proofs.ServerEvent.{sent_none, count_by}
 
 -- ---- Handing over
@@ -137,6 +137,11 @@ sent_played {E} {S} appends number size engine link new s q p pipe after c d byt
       (subst (λ (b : Bool). IsNewest number b q d.current) (sym live) newest);
   to_server = ap (λ t. t.handed) h.up ∙ ap (λ (xs : List ℕ). xs ++ bytes) i.to_server ∙ sym (appends bytes c.to_server d.to_server sends);
   to_client = ap (λ t. t.handed) h.down ∙ i.to_client ∙ ap (sent_bytes down_bytes) (sym below);
+  came_up =
+      ap (λ t. t.came) h.up
+      ∙ lane_came up_bytes (sent (traffic pipe ToServer) bytes h.failures) d.to_server link.server_reader.taken (link.to_server + length bytes)
+      (lane_sent up_bytes bytes h.failures (traffic pipe ToServer) c.to_server d.to_server link.server_reader.taken link.to_server (link.to_server + length bytes) (i.lives live).stands.up sends refl);
+  came_down = ap (λ t. t.came) h.down ∙ i.came_down ∙ ap (come_bytes down_bytes) (sym below);
   lives = λ uncut.
       let v = i.lives live in
       let lane : (now : ℕ) → now ≡ link.to_server + length bytes → IsLane up_bytes (sent (traffic pipe ToServer) bytes h.failures) d.to_server link.server_reader.taken now = λ now e. lane_sent up_bytes bytes h.failures (traffic pipe ToServer) c.to_server d.to_server link.server_reader.taken link.to_server now v.stands.up sends e in
@@ -184,6 +189,11 @@ replied_played {E} {S} appends number size engine link new s q pipe after c d by
       (subst (λ (b : Bool). IsNewest number b q d.current) (sym live) newest);
   to_server = ap (λ t. t.handed) h.up ∙ i.to_server ∙ ap (sent_bytes up_bytes) (sym above);
   to_client = ap (λ t. t.handed) h.down ∙ ap (λ (xs : List ℕ). xs ++ bytes) i.to_client ∙ sym (appends bytes c.to_client d.to_client sends);
+  came_up = ap (λ t. t.came) h.up ∙ i.came_up ∙ ap (come_bytes up_bytes) (sym above);
+  came_down =
+      ap (λ t. t.came) h.down
+      ∙ lane_came down_bytes (sent (traffic pipe ToClient) bytes h.failures) d.to_client link.client_reader.taken (link.to_client + length bytes)
+      (lane_sent down_bytes bytes h.failures (traffic pipe ToClient) c.to_client d.to_client link.client_reader.taken link.to_client (link.to_client + length bytes) (i.lives live).stands.down sends refl);
   lives = λ uncut.
       let v = i.lives live in
       let lane : (now : ℕ) → now ≡ link.to_client + length bytes → IsLane down_bytes (sent (traffic pipe ToClient) bytes h.failures) d.to_client link.client_reader.taken now = λ now e. lane_sent down_bytes bytes h.failures (traffic pipe ToClient) c.to_client d.to_client link.client_reader.taken link.to_client now v.stands.down sends e in

@@ -53,6 +53,8 @@ placed_played unseen number size engine link pipe c p i live = record {
   newest = i.newest;
   to_server = i.to_server;
   to_client = i.to_client;
+  came_up = i.came_up;
+  came_down = i.came_down;
   lives = λ uncut.
       let v = i.lives uncut in
       let s = v.stands in
@@ -95,6 +97,8 @@ lent_played {E} {S} unseen waits marks number size lease mark engine link new pi
       newest = i.newest;
       to_server = i.to_server;
       to_client = i.to_client;
+      came_up = i.came_up;
+      came_down = i.came_down;
       lives = λ uncut.
           let v = i.lives uncut in
           let s = v.stands in

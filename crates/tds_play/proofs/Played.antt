@@ -1,21 +1,22 @@
 -- What a delivery leaves of a connection as it was, and so what the connection stands for then.
 use Rattle.std.proofs.Common.{◌≡◌, ◌∙◌, ◌-◌, ℕ, Bool, true, false, cond, ltb, refl, sym, ap, Option, List, [], ◌∷◌, length}
-use Rattle.tds_packet.specs.declared.kind.Direction.TheVariants.{ToServer}
+use Rattle.tds_packet.specs.declared.kind.Direction.TheVariants.{ToServer, ToClient}
 use Rattle.tds_session.specs.Answer.{Answers}
 use Rattle.tds_world.specs.declared.outcome.Outcome.{Outcome}
 use Rattle.tds_world.specs.Arrivals.{server_acts, reach_server, to_server}
 use Rattle.tds_world.specs.Connection.{Connection}
-use Rattle.tds_world.specs.Entries.{Up, Part, End, Drop, Attention, up_bytes}
+use Rattle.tds_world.specs.Entries.{Up, Part, End, Drop, Attention, up_bytes, down_bytes}
 use Rattle.tds_world.specs.Lane.{passed, with_waiting}
 use Rattle.tds_play.specs.declared.link.Done.{Done}
 use Rattle.tds_play.specs.declared.link.Link.{Link}
 use Rattle.tds_play.specs.Between.{Stands}
 use Rattle.tds_play.specs.Lending.{standing_by}
 use Rattle.tds_play.specs.Links.{recounted}
-use Rattle.tds_play.specs.Pipe.{Pipe}
+use Rattle.tds_play.specs.Pipe.{Pipe, traffic}
 use Rattle.tds_play.specs.Plays.{IsPlayed}
 use Rattle.tds_play.specs.Seen.{done_as}
 use Rattle.tds_play.specs.Ties.{with_counted}
+use Rattle.tds_play.proofs.Between.{lane_came}
 
 -- ---- The outcome
 
@@ -100,6 +101,8 @@ served_on answers number size most engine old new pipe after c p live stays ends
       newest = rw (stays.is_cut, stays.current, same.current) p.newest;
       to_server = s.up.handed;
       to_client = s.down.handed;
+      came_up = lane_came up_bytes (traffic after ToServer) (to_server answers most c).to_server new.server_reader.taken new.to_server s.up;
+      came_down = lane_came down_bytes (traffic after ToClient) (to_server answers most c).to_client new.client_reader.taken new.to_client s.down;
       lives = λ uncut. record {
         stands = s;
         engine_is = ends.engine_is;

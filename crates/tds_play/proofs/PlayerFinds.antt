@@ -1,5 +1,4 @@
 -- A play finds the connection of an event where its world does, and is cut as its world is.
-use Rattle.std.specs.List.{slice_get}
 use Rattle.std.proofs.Common.{◌≡◌, ◌∙◌, ℕ, suc, List, map, Option, Some, refl, sym, ap, subst}
 use Rattle.tds_session.specs.Answer.{Answers}
 use Rattle.tds_world.specs.declared.event.Event.{Event}

@@ -13,6 +13,7 @@ use Rattle.tds_world.specs.declared.event.Setup.{Setup}
 use Rattle.tds_world.specs.declared.outcome.Outcome.{Outcome}
 use Rattle.tds_world.specs.declared.report.EventReport.{EventReport}
 use Rattle.tds_world.specs.declared.report.Place.{Place}
+use Rattle.tds_world.specs.declared.report.Report.{Report}
 use Rattle.tds_world.specs.declared.report.RequestReport.{RequestReport}
 use Rattle.tds_world.specs.declared.report.Snapshot.{Snapshot}
 use Rattle.tds_world.specs.Bounds.{IsEvent, IsSetup}
@@ -20,7 +21,7 @@ use Rattle.tds_world.specs.Connection.{Connection, Standing, is_cut}
 use Rattle.tds_world.specs.Events.{happens, world_after}
 use Rattle.tds_world.specs.Laws.{OfEachConnection}
 use Rattle.tds_world.specs.Losses.{Loss, Nothing, Failed, Played, bringing, cuts_after, event_reports_with, is_lost, link_of, loss_by, loss_in, marked, met, observed_with, plainly, report_then, with_cuts, world_then, world_with}
-use Rattle.tds_world.specs.WithLosses.{LosesNothing, events_of}
+use Rattle.tds_world.specs.WithLosses.{IsReportWith, MarksNothing}
 use Rattle.tds_world.specs.Observed.{observed, snapshots, request_reports, bytes_in, bytes_of}
 use Rattle.tds_world.specs.World.{World, new_world, numbered}
 use Rattle.tds_play.specs.declared.link.Done.{Done}
@@ -33,10 +34,9 @@ use Rattle.tds_play.specs.Plays.{ArePlayed, IsPlayed, loss_of}
 use Rattle.tds_ends.specs.Promises.{Promises, IsCountable}
 use Rattle.tds_play.specs.Seen.{seen_of}
 use Rattle.tds_play.specs.Ties.{AreTied, IsTied}
-use Rattle.tds_play.specs.WholePlay.{IsCutAs, IsPlayOf}
+use Rattle.tds_play.specs.WholePlay.{IsCutAs, IsPlayOf, come_on}
 use Rattle.tds_play.proofs.AllPlayed.{as_many, played_at}
 use Rattle.tds_play.proofs.Snapshots.{all_seen_alike}
-use Rattle.tds_play.proofs.Told.{whole_play}
 
 -- ---- The plain schedule
 
@@ -140,7 +140,10 @@ all_joined P (x ∷ xs) ys h k = (h.0, all_joined P xs ys h.1 k)
 plain_known : (setup : Setup) (answers : Answers) (es : List Event) (rs : List EventReport) (w : World) → AllByRecursion IsEvent es
     → AllByRecursion IsEvent (with_cuts setup answers (marked es rs) w)
 plain_known setup answers [] rs w known = tt
-plain_known setup answers (e ∷ es) [] w known = (known.0, plain_known setup answers es [] (happens setup answers e w).1 known.1)
+plain_known setup answers (e ∷ es) [] w known =
+    let p : Played = record { event = e; loss = Nothing } in
+    all_joined IsEvent (plainly setup w p) (with_cuts setup answers (marked es []) (world_then setup answers w p))
+    (known.0, tt) (plain_known setup answers es [] (world_then setup answers w p) known.1)
 plain_known setup answers (e ∷ es) (r ∷ rs) w known =
     let p : Played = record { event = e; loss = loss_in r } in
     all_joined IsEvent (plainly setup w p) (with_cuts setup answers (marked es rs) (world_then setup answers w p))
@@ -259,6 +262,22 @@ bytes_handed size engine links pipes w zero direction all some most = absurd (om
 bytes_handed size engine links pipes w (suc i) direction all some most =
     bytes_at 1 (suc i) i size engine links pipes w.connections direction all (omega (arith, most)) (omega arith)
 
+-- ---- What came
+
+came_on : {E S : Type 0} (number size : ℕ) (engine : E) (link : Link E S) (p : Option Pipe) (c : Connection) (direction : Direction)
+    → IsPlayed number size engine link p c → (traffic p direction).came ≡ come_on direction c
+came_on number size engine link p c ToServer is = is.came_up
+came_on number size engine link p c ToClient is = is.came_down
+
+bytes_carried : {E S : Type 0} (size : ℕ) (engine : E) (links : List (Link E S)) (pipes : ℕ → Option Pipe) (cs : List Connection) (n : ℕ) (c : Connection) (direction : Direction)
+    → ArePlayed 1 size engine links pipes cs → numbered cs n ≡ Some c → (traffic (pipes n) direction).came ≡ come_on direction c
+bytes_carried size engine links pipes cs zero c direction all at = absurd (cc)
+bytes_carried size engine [] pipes [] (suc i) c direction all at = absurd (cc)
+bytes_carried size engine [] pipes (d ∷ cs) (suc i) c direction all at = absurd all
+bytes_carried size engine (l ∷ ls) pipes cs (suc i) c direction all at =
+    came_on (suc i) size engine (slice_index_or (l ∷ ls) i l) (pipes (suc i)) c direction
+    (played_at 1 (suc i) size engine (l ∷ ls) pipes cs i l c all at (omega arith))
+
 -- ---- What is cut
 
 cut_by : (b : Bool) (place : Place) (s : Standing) (p : Option Pipe) → standing_by b place ≡ s
@@ -287,12 +306,12 @@ all_cut size engine (l ∷ ls) pipes cs (suc i) c all tied at =
 pub in_the_end : {E S : Type 0} (setup : Setup) (answers : Answers) (engine : E) (es : List Event) (i : ℕ) (player : Player E S)
     (pipes : ℕ → Option Pipe) (so_far reports : List EventReport) (requests : List RequestReport)
     → IsSetup setup → AllByRecursion IsEvent (take i es) → AreTied player.links.items pipes
-    → length es ≤ i → length so_far ≡ i → i ≤ length es → IsSoFar setup answers engine (take i es) player pipes so_far → reports ≡ so_far
+    → length es ≤ i → IsSoFar setup answers engine (take i es) player pipes so_far → reports ≡ so_far
     → requests ≡ request_reports (world_with setup answers (marked (take i es) so_far) new_world) 1 (world_with setup answers (marked (take i es) so_far) new_world).asked_on
-    → ((ps : List Played) → LosesNothing ps → world_with setup answers ps new_world ≡ world_after setup answers (events_of ps) new_world)
-    → ((ps : List Played) → LosesNothing ps → observed_with setup answers ps ≡ observed setup answers (events_of ps))
+    → ((r : Report) → IsReportWith setup answers es r → MarksNothing r → r ≡ observed setup answers es)
+    → ((r : Report) → MarksNothing r → world_with setup answers (marked es r.events) new_world ≡ world_after setup answers es new_world)
     → IsPlayOf setup answers es (record { events = reports; requests = requests }) pipes
-in_the_end setup answers engine es i player pipes so_far reports requests in_range known tied over count most far same asked plain_world plain_report =
+in_the_end setup answers engine es i player pipes so_far reports requests in_range known tied over far same asked plain_report plain_world =
     let whole : take i es ≡ es = take_all i es over in
     let ps : marked (take i es) so_far ≡ marked es reports = ap (λ xs. marked xs so_far) whole ∙ ap (marked es) (sym same) in
     let w : World = world_with setup answers (marked es reports) new_world in
@@ -302,13 +321,15 @@ in_the_end setup answers engine es i player pipes so_far reports requests in_ran
     ap (λ (rs : List EventReport). record { events = rs; requests = requests }) (same ∙ far.told ∙ ap (λ xs. event_reports_with setup answers xs new_world) ps)
     ∙ ap (λ (qs : List RequestReport). record { events = event_reports_with setup answers (marked es reports) new_world; requests = qs })
     (asked ∙ ap (λ xs. request_reports (world_with setup answers xs new_world) 1 (world_with setup answers xs new_world).asked_on) ps) in
-    let each : length reports ≡ length es = omega (arith, ap length same, count, over, most) in
     record {
       in_range = in_range;
       known = subst (AllByRecursion IsEvent) whole known;
-      each = each;
       told = told;
       bytes = λ n direction some most. bytes_handed setup.packet_size engine player.links.items pipes w n direction all some most;
+      carried = λ n c direction at. bytes_carried setup.packet_size engine player.links.items pipes w.connections n c direction all at;
       cuts = λ n c at. all_cut setup.packet_size engine player.links.items pipes w.connections n c all tied at;
-      plain = whole_play setup answers es (record { events = reports; requests = requests }) plain_world plain_report each told;
+      plain = λ nothing. record {
+        told = plain_report (record { events = reports; requests = requests }) told nothing;
+        world = plain_world (record { events = reports; requests = requests }) nothing;
+      };
     }

@@ -9,12 +9,13 @@ use Rattle.tds_ends.specs.Stands.{MatchesClient, MatchesServer}
 use Rattle.tds_play.specs.declared.link.Link.{Link}
 
 -- One direction, at the carrier and in the model: the same bytes were handed over, and as many of them
--- came; the reader at its end holds what has come of the entry that is cut; and the player counts what
--- is underway.
+-- came, in their order; the reader at its end holds what has come of the entry that is cut; and the
+-- player counts what is underway.
 pub record IsLane {Entry : Type 0} (bytes : Entry → List ℕ) (t : Traffic) (lane : Lane Entry)
     (taken : List ℕ) (count : ℕ) : Type 0 where
   pub handed : t.handed ≡ sent_bytes bytes lane
   pub came : length t.came ≡ length (flat_map bytes lane.arrived) + lane.part
+  pub order : t.came ≡ take (length t.came) t.handed
   pub within : lane.part ≤ length (flat_map bytes lane.waiting)
   pub left : taken ≡ take lane.part (flat_map bytes lane.waiting)
   pub counts : count ≡ underway bytes lane

@@ -22,7 +22,7 @@ use Rattle.tds_world.specs.Connection.{Connection, Standing, In, Cut, cut, is_id
 use Rattle.tds_world.specs.Arrivals.{to_server, to_client}
 use Rattle.tds_world.specs.Entries.{up_bytes, down_bytes}
 use Rattle.tds_world.specs.Events.{acts}
-use Rattle.tds_world.specs.Lane.{sent_bytes}
+use Rattle.tds_world.specs.Lane.{sent_bytes, come_bytes}
 use Rattle.tds_world.specs.Losses.{Loss, came_in, loss_by}
 use Rattle.tds_world.specs.Pool.{Acted, Refuses, Does}
 use Rattle.tds_world.specs.World.{World, Holding, next_number}
@@ -50,6 +50,8 @@ pub record IsPlayed {E S : Type 0} (number size : ℕ) (engine : E) (link : Link
   pub newest : IsNewest number link.is_cut link.current c.current
   pub to_server : (traffic pipe ToServer).handed ≡ sent_bytes up_bytes c.to_server
   pub to_client : (traffic pipe ToClient).handed ≡ sent_bytes down_bytes c.to_client
+  pub came_up : (traffic pipe ToServer).came ≡ come_bytes up_bytes c.to_server
+  pub came_down : (traffic pipe ToClient).came ≡ come_bytes down_bytes c.to_client
   pub lives : link.is_cut ≡ false → Lives size engine link pipe c
   pub gone : link.is_cut ≡ true → is_cut_at pipe ≡ true
 

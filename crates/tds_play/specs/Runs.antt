@@ -10,7 +10,7 @@ use Rattle.tds_text.specs.Texts.{line_feed}
 use Rattle.tds_text.specs.Lines.{text_of}
 use Rattle.tds_text.specs.Written.{WritesBeginning}
 use Rattle.tds_text.specs.Files.{Spells, IsWrongAt, IsNoJson}
-use Rattle.tds_play.specs.WholePlay.{IsWhole, told_of}
+use Rattle.tds_world.specs.WithLosses.{IsReportWith, MarksNothing}
 use Rattle.tds_play.specs.Refused.{first_refusal, play_refusal_number}
 use Rattle.tds_text.specs.declared.schedule.fault.ScheduleFault.{ScheduleFault}
 use Rattle.tds_text.specs.declared.schedule.fault.ScheduleFault.TheVariants as schedule
@@ -38,9 +38,9 @@ IsRefused bytes why = (setup : Setup) × (events : List Event) × Spells bytes s
 -- The report of a play of these events: the model's, with the losses that it marks. Where it marks
 -- none, it is the model's of the events as they are; and so it is where the carrier is steady.
 pub record IsTold (steady : Type 0) (setup : Setup) (events : List Event) (report : Report) : Type 0 where
-  pub told : report ≡ told_of setup script_answers events report.events
-  pub plain : IsWhole report → report ≡ observed setup script_answers events
-  pub whole : steady → IsWhole report
+  pub told : IsReportWith setup script_answers events report
+  pub plain : MarksNothing report → report ≡ observed setup script_answers events
+  pub whole : steady → MarksNothing report
 
 -- These bytes are a schedule file of what is played, and this is its report.
 abbrev pub IsReportOf : Type 0 → List ℕ → Report → Type 0

@@ -1,7 +1,8 @@
 -- A whole play: what is told of it, and what its carrier was handed.
-use Rattle.std.specs.Prelude.{ℕ, ◌≡◌, ◌<◌, ◌≤◌, List, length, Bool, false, Option, Some, None}
+use Rattle.std.specs.Prelude.{ℕ, ◌≡◌, ◌<◌, ◌≤◌, List, length, Bool, Option, Some, None}
 use Rattle.std.specs.List.{AllByRecursion}
 use Rattle.tds_packet.specs.declared.kind.Direction.{Direction}
+use Rattle.tds_packet.specs.declared.kind.Direction.TheVariants.{ToServer, ToClient}
 use Rattle.tds_session.specs.Answer.{Answers, script_answers}
 use Rattle.tds_world.specs.declared.event.Event.{Event}
 use Rattle.tds_world.specs.declared.event.Setup.{Setup}
@@ -9,11 +10,13 @@ use Rattle.tds_world.specs.declared.report.EventReport.{EventReport}
 use Rattle.tds_world.specs.declared.report.Report.{Report}
 use Rattle.tds_world.specs.Bounds.{IsEvent, IsSetup}
 use Rattle.tds_world.specs.Connection.{Connection, is_cut}
+use Rattle.tds_world.specs.Entries.{up_bytes, down_bytes}
 use Rattle.tds_world.specs.Events.{world_after}
-use Rattle.tds_world.specs.Losses.{marked, observed_with, world_with}
+use Rattle.tds_world.specs.Losses.{marked, world_with}
 use Rattle.tds_world.specs.Observed.{bytes_of, observed}
-use Rattle.tds_world.specs.Reports.{GivesNoMore}
+use Rattle.tds_world.specs.WithLosses.{IsReportWith, MarksNothing}
 use Rattle.tds_world.specs.World.{World, new_world, numbered}
+use Rattle.tds_world.specs.Lane.{come_bytes}
 use Rattle.tds_play.specs.Pipe.{Pipe, traffic}
 
 -- The world of the model after these events with the losses that their reports mark, where servers
@@ -21,19 +24,23 @@ use Rattle.tds_play.specs.Pipe.{Pipe, traffic}
 abbrev pub world_of : Setup → List Event → List EventReport → World
 world_of setup events reports = world_with setup script_answers (marked events reports) new_world
 
--- What the model tells of these events with the losses that their reports mark.
-abbrev pub told_of : Setup → Answers → List Event → List EventReport → Report
-told_of setup answers events reports = observed_with setup answers (marked events reports)
-
--- No event of it was lost.
-abbrev pub IsWhole : Report → Type 0
-IsWhole report = AllByRecursion (λ (r : EventReport). r.lost ≡ false) report.events
-
 -- What was handed over on each connection, each way, is what was sent there in the model.
 abbrev pub HandsBytesOf : World → (ℕ → Option Pipe) → Type 0
 HandsBytesOf w pipes =
     (n : ℕ) (direction : Direction) → 0 < n → n ≤ length w.connections
     → (traffic (pipes n) direction).handed ≡ bytes_of w n direction
+
+-- The bytes that have come to an end of a connection of the model.
+abbrev pub come_on : Direction → Connection → List ℕ
+come_on ToServer c = come_bytes up_bytes c.to_server
+come_on ToClient c = come_bytes down_bytes c.to_client
+
+-- What the carrier brought on each connection, each way, is what came there in the model: the bytes of
+-- the entries that arrived, and those that had come of the next one.
+abbrev pub CarriesBytesOf : World → (ℕ → Option Pipe) → Type 0
+CarriesBytesOf w pipes =
+    (n : ℕ) (c : Connection) (direction : Direction) → numbered w.connections n ≡ Some c
+    → (traffic (pipes n) direction).came ≡ come_on direction c
 
 -- A connection that was opened at the carrier, and is cut there or not.
 abbrev pub IsCutAs : Bool → Option Pipe → Type 0
@@ -46,26 +53,20 @@ CutsThoseOf w pipes =
     (n : ℕ) (c : Connection) → numbered w.connections n ≡ Some c
     → IsCutAs (is_cut c.standing) (pipes n)
 
--- The callers of requests that the report of the first events, with the same losses, shows as
--- cancelled are given no more than it shows, in all events.
-abbrev pub GivesNoMoreThan : Setup → List Event → Report → Type 0
-GivesNoMoreThan setup front report =
-    GivesNoMore (told_of setup script_answers front report.events).requests report.requests
-
 -- Where no event was lost, the play is the model's of the events as they are.
 pub record IsWholePlayOf (setup : Setup) (answers : Answers) (events : List Event) (report : Report) : Type 0 where
   pub told : report ≡ observed setup answers events
   pub world : world_with setup answers (marked events report.events) new_world ≡ world_after setup answers events new_world
 
 -- The play of these events from nothing: its report is the model's with the losses that it marks, and
--- so are the bytes and what is cut. It is one that is played: its setup is in range, and its requests
--- have a spelling.
+-- so are the bytes that were handed over, those that came, and what is cut. It is one that is played:
+-- its setup is in range, and its requests have a spelling.
 pub record IsPlayOf (setup : Setup) (answers : Answers) (events : List Event) (report : Report)
     (pipes : ℕ → Option Pipe) : Type 0 where
   pub in_range : IsSetup setup
   pub known : AllByRecursion IsEvent events
-  pub each : length report.events ≡ length events  -- each event is told
-  pub told : report ≡ told_of setup answers events report.events
+  pub told : IsReportWith setup answers events report
   pub bytes : HandsBytesOf (world_with setup answers (marked events report.events) new_world) pipes
+  pub carried : CarriesBytesOf (world_with setup answers (marked events report.events) new_world) pipes
   pub cuts : CutsThoseOf (world_with setup answers (marked events report.events) new_world) pipes
-  pub plain : IsWhole report → IsWholePlayOf setup answers events report
+  pub plain : MarksNothing report → IsWholePlayOf setup answers events report

@@ -3,16 +3,18 @@ ghost use Rattle.std.specs.Prelude.{◌≡◌, ◌≢◌, ◌≤◌, List, [], �
 ghost use Rattle.tds_play.specs.Failures.{TellFailures};
 ghost use Rattle.tds_play.specs.Player.{IsPlay};
 ghost use Rattle.tds_play.specs.Refused.{first_refusal, play_refusal_number};
-ghost use Rattle.tds_play.specs.WholePlay.{CutsThoseOf, GivesNoMoreThan, HandsBytesOf, IsPlayOf, IsWhole, IsWholePlayOf, told_of, world_of};
+ghost use Rattle.tds_play.specs.WholePlay.{CarriesBytesOf, CutsThoseOf, HandsBytesOf, IsPlayOf, IsWholePlayOf, world_of};
 ghost use Rattle.tds_play.specs.declared.playing.PlayRefusal.TheVariants.{Memory};
 ghost use Rattle.tds_play.specs.declared.playing.PlayRefusal.{PlayRefusal};
 ghost use Rattle.tds_session.specs.Answer.{answer_of, script_answers};
 ghost use Rattle.tds_world.specs.Losses.{marked};
 ghost use Rattle.tds_world.specs.Alone.{AsIfAlone};
+ghost use Rattle.tds_world.specs.AloneShown.{ShowsAsIfAlone};
 ghost use Rattle.tds_world.specs.Bounds.{BeginsOnce, IsEvent, IsSetup, OneAttention};
 ghost use Rattle.tds_world.specs.Rest.{NeverStuck};
+ghost use Rattle.tds_world.specs.RestShown.{ShowsNeverStuck};
 ghost use Rattle.tds_world.specs.Reports.{ShowsFewUnderway, ShowsFreshStart, ShowsIdleQuiet, ShowsKeptTransaction, ShowsLendsIdle, ShowsOwnAnswers, ShowsOwnTransaction};
-ghost use Rattle.tds_world.specs.WithLosses.{ShowsNoEndFaults};
+ghost use Rattle.tds_world.specs.WithLosses.{GivesNoMoreWith, IsReportWith, MarksNothing, ShowsNoEndFaults};
 ghost use Rattle.tds_world.specs.World.{new_world};
 ghost use Rattle.tds_world.specs.declared.event.Event.{Event};
 ghost use Rattle.tds_world.specs.declared.event.Setup.{Setup};
@@ -25,11 +27,9 @@ use tds_packet::PacketSize;
 use tds_request::Request;
 use tds_session::{Engine, ScriptEngine};
 use tds_world::laws::{script_hands_out_next, script_is_blind, script_is_lawful};
-use tds_world::losses::{as_if_alone, begins_once, never_stuck, nothing_lost, one_attention};
-use tds_world::report::losses::{
-    few_underway, fresh_start, idle_is_quiet, kept_transaction, lends_idle, no_fault,
-    nothing_after_cancel, own_answers, own_transaction,
-};
+use tds_world::losses::{as_if_alone, begins_once, never_stuck, one_attention};
+use tds_world::report::laws;
+use tds_world::report::losses::of_marked_report;
 use tds_world::{Event, EventReport, Report, Sequence, Setup};
 
 /// How many events a schedule may have.
@@ -106,18 +106,21 @@ pub fn play<C: Carrier>(
     ensures named { IfErr result (λ why. why ≢ Memory
         → first_refusal setup.now (length events.now) ≡ Some why) }
     // Where the carrier brings the bytes that it was handed, the report is the model's of the events
-    // with the losses that it marks, and so are the bytes that were handed over and what is cut.
-    ensures report { C.tells carrier.old → IfOk result (λ report.
-        report ≡ told_of setup.now script_answers events.now report.events) }
+    // with the losses that it marks, and so are the bytes that were handed over, the bytes that
+    // came, and what is cut.
+    ensures report { C.tells carrier.old
+        → IfOk result (IsReportWith setup.now script_answers events.now) }
     ensures bytes { C.tells carrier.old → IfOk result (λ report.
         HandsBytesOf (world_of setup.now events.now report.events) (C.pipes carrier.new)) }
+    ensures carried { C.tells carrier.old → IfOk result (λ report.
+        CarriesBytesOf (world_of setup.now events.now report.events) (C.pipes carrier.new)) }
     ensures cuts { C.tells carrier.old → IfOk result (λ report.
         CutsThoseOf (world_of setup.now events.now report.events) (C.pipes carrier.new)) }
     // Where no event is lost both are the model's of the events as they are. A carrier of which no
     // connection fails loses none.
-    ensures whole { C.tells carrier.old → IfOk result (λ report. IsWhole report
+    ensures whole { C.tells carrier.old → IfOk result (λ report. MarksNothing report
         → IsWholePlayOf setup.now script_answers events.now report) }
-    ensures steady { C.steady → IfOk result IsWhole }
+    ensures steady { C.steady → IfOk result MarksNothing }
     // An event is marked lost exactly where calls that it makes failed on the connection whose link
     // it uses.
     ensures lost { C.tells carrier.old → IfOk result (λ report. TellFailures setup.now
@@ -128,7 +131,7 @@ pub fn play<C: Carrier>(
         → IfOk result (ShowsOwnAnswers script_answers events.now) }
     ensures own_transaction { C.tells carrier.old → IfOk result (ShowsOwnTransaction events.now) }
     ensures after_cancel { (front later : List Event) → events.now ≡ front ++ later
-        → C.tells carrier.old → IfOk result (GivesNoMoreThan setup.now front) }
+        → C.tells carrier.old → IfOk result (GivesNoMoreWith setup.now script_answers front) }
     // What one lease did doesn't show in the next, but for the transaction that a ticket keeps.
     ensures fresh_start { C.tells carrier.old → IfOk result ShowsFreshStart }
     ensures kept_transaction { C.tells carrier.old
@@ -150,24 +153,23 @@ pub fn play<C: Carrier>(
         NeverStuck setup.now script_answers (world_of setup.now events.now report.events)) }
     ensures as_if_alone { C.tells carrier.old → IfOk result (λ report.
         AsIfAlone script_answers (world_of setup.now events.now report.events)) }
+    // So the report shows it, where nothing is lost.
+    ensures comes_to_rest { C.tells carrier.old → IfOk result (λ report. MarksNothing report
+        → ShowsNeverStuck setup.now script_answers events.now report) }
+    ensures told_alone { C.tells carrier.old → IfOk result (λ report. MarksNothing report
+        → ShowsAsIfAlone script_answers events.now report) }
 {
     // The laws of the model, whose report it is.
     script_is_lawful();
     script_hands_out_next();
     script_is_blind();
-    own_answers();
-    own_transaction();
-    nothing_after_cancel();
-    fresh_start();
-    kept_transaction();
-    lends_idle();
-    idle_is_quiet();
-    few_underway();
-    no_fault();
+    of_marked_report();
     one_attention();
     begins_once();
     never_stuck();
     as_if_alone();
+    laws::never_stuck();
+    laws::as_if_alone();
     play_with(alloc, setup, events, ScriptEngine, carrier)
 }
 
@@ -187,7 +189,7 @@ pub fn play_with<E: Engine + Copy, C: Carrier>(
     ensures named { IfErr result (λ why. why ≢ Memory
         → first_refusal setup.now (length events.now) ≡ Some why) }
     // Where the carrier brings the bytes that it was handed, the play is the model's with the losses
-    // that its report marks: what is told, what was handed over, and what is cut.
+    // that its report marks: what is told, what was handed over, what came, and what is cut.
     ensures alike { C.tells carrier.old → IfOk result (λ report. IsPlayOf setup.now
         (answer_of (E.statements_of engine) (E.step_of engine)) events.now report
         (C.pipes carrier.new)) }
@@ -196,7 +198,7 @@ pub fn play_with<E: Engine + Copy, C: Carrier>(
     ensures lost { C.tells carrier.old → IfOk result (λ report. TellFailures setup.now
         (answer_of (E.statements_of engine) (E.step_of engine)) (marked events.now report.events)
         (C.pipes carrier.new)) }
-    ensures steady { C.steady → IfOk result IsWhole }
+    ensures steady { C.steady → IfOk result MarksNothing }
 {
     match packet_size(setup, events.len()) {
         Ok(size) => {
@@ -257,7 +259,7 @@ fn play_events<E: Engine + Copy, C: Carrier>(
     requires begins { player.links.items ≡ [] }
     requires few { length events.now ≤ 10000 }
     ensures memory { IfErr result (λ why. why ≡ Memory) }
-    ensures steady { C.steady → IfOk result IsWhole }
+    ensures steady { C.steady → IfOk result MarksNothing }
     ensures lost { (setup : Setup) → IsSetup setup → C.tells carrier.old
         → IsPlay setup player.engine player (C.pipes carrier.old) new_world
         → IfOk result (λ report. TellFailures setup
@@ -270,7 +272,7 @@ fn play_events<E: Engine + Copy, C: Carrier>(
         (C.pipes carrier.new)) }
 {
     worlds_hold(&player.engine);
-    nothing_lost();
+    of_marked_report();
     let mut reports = Vec::new(alloc);
     'events: for event in events {
         known(event);

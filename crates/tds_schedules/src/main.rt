@@ -1,5 +1,5 @@
-//! Plays each schedule of a folder over memory, and compares what is printed with the text that
-//! stands beside it.
+//! Plays each schedule of a folder over memory and over sockets of this machine, and compares what is
+//! printed with the text that stands beside it.
 #![tactic(auto)]
 
 mod folder;

@@ -11,6 +11,8 @@ use std::alloc::{AllocError, Global};
 pub enum Command {
     /// To play the schedule in this file over memory.
     Play(String),
+    /// To play it over sockets of this machine.
+    Loopback(String),
     /// To show the packets that this word spells.
     Show(String),
     /// To check the vectors.
@@ -63,6 +65,7 @@ pub fn read_words(alloc: Global, words: &[String]) -> Result<Command, LineFault>
     let matches = commands.try_get_matches_from(words)?;
     match matches.subcommand() {
         Some(("play", used)) => Ok(Command::Play(word_of(alloc, used)?)),
+        Some(("loopback", used)) => Ok(Command::Loopback(word_of(alloc, used)?)),
         Some(("show", used)) => Ok(Command::Show(word_of(alloc, used)?)),
         Some(("vectors", _)) => Ok(Command::Vectors),
         _ => Err(LineFault::Usage),
@@ -80,6 +83,7 @@ fn word_of(alloc: Global, used: &ArgMatches<'_>) -> Result<String, LineFault> {
 /// The commands that there are. A call for help names none of them.
 fn commands<'a>(alloc: Global) -> Result<clap::Command<'a>, AllocError> {
     let play = clap::Command::new(alloc, "play").arg(one_word(alloc))?;
+    let loopback = clap::Command::new(alloc, "loopback").arg(one_word(alloc))?;
     // Whether the word is one of digits is for `show` to say, also where it begins with a dash.
     let digits = one_word(alloc).allow_hyphen_values(true);
     let show = clap::Command::new(alloc, "show").arg(digits)?;
@@ -90,6 +94,7 @@ fn commands<'a>(alloc: Global) -> Result<clap::Command<'a>, AllocError> {
         .disable_help_subcommand(true)
         .subcommand_required(true)
         .subcommand(play)?
+        .subcommand(loopback)?
         .subcommand(show)?
         .subcommand(vectors)
 }

@@ -3,4 +3,5 @@ pub mod Blind
 pub mod Thread
 pub mod Tenants
 pub mod Tenancy
+pub mod OpenTickets
 pub mod AsIfAlone

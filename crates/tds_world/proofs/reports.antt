@@ -10,3 +10,4 @@ pub mod Tickets
 pub mod Lends
 pub mod Answered
 pub mod Rest
+pub mod Alone

@@ -1,5 +1,5 @@
 -- One direction of a connection: a list of entries, and how far they were delivered.
-use Rattle.std.specs.Prelude.{ℕ, ◌≡◌, ◌+◌, ◌-◌, ◌<◌, ◌≤◌, List, [], ◌∷◌, ◌++◌, length, flat_map}
+use Rattle.std.specs.Prelude.{ℕ, ◌≡◌, ◌+◌, ◌-◌, ◌<◌, ◌≤◌, List, [], ◌∷◌, ◌++◌, length, take, flat_map}
 
 -- The entries that arrived, those that wait, and how many bytes of those that wait have come.
 pub record Lane (Entry : Type 0) : Type 0 where
@@ -26,6 +26,11 @@ with_waiting entries come lane = record lane { waiting = entries; part = come }
 -- All bytes that were sent on a lane.
 abbrev pub sent_bytes : {Entry : Type 0} → (Entry → List ℕ) → Lane Entry → List ℕ
 sent_bytes bytes lane = flat_map bytes (lane.arrived ++ lane.waiting)
+
+-- Those that have come: the bytes of the entries that arrived, and so many of what waits.
+abbrev pub come_bytes : {Entry : Type 0} → (Entry → List ℕ) → Lane Entry → List ℕ
+come_bytes bytes lane =
+    take (length (flat_map bytes lane.arrived) + lane.part) (sent_bytes bytes lane)
 
 -- How many bytes of a lane are underway: sent, and not come.
 abbrev pub underway : {Entry : Type 0} → (Entry → List ℕ) → Lane Entry → ℕ

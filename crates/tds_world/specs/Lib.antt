@@ -35,3 +35,4 @@ pub mod PhaseTells
 pub mod Rest
 pub mod RestShown
 pub mod Alone
+pub mod AloneShown

@@ -1,5 +1,5 @@
-//! Plays schedules of pooled sessions of the Tabular Data Stream, and prints what each caller is
-//! told; shows the bytes of packets; and checks the vectors.
+//! Plays schedules of pooled sessions of the Tabular Data Stream, over memory or over sockets, and
+//! prints what each caller is told; shows the bytes of packets; and checks the vectors.
 #![tactic(auto)]
 
 mod fault;
@@ -9,6 +9,7 @@ use std::fs::File;
 use std::process::ExitCode;
 use std::{env, fs};
 use tds_play::{Command, MemoryCarrier, read_words, run_play, run_show, run_vectors};
+use tds_tcp::run_loopback;
 
 fn main(rt: HostRuntime) -> ExitCode {
     match run(&rt) {
@@ -32,6 +33,10 @@ fn run(rt: &HostRuntime) -> Result<u8, ProgramFault> {
             let mut carrier = MemoryCarrier::new(alloc);
             let output = &mut output;
             Ok(run_play(alloc, &mut file, &mut carrier, output, &mut errors))
+        }
+        Command::Loopback(name) => {
+            let mut file = open(rt, name.as_str())?;
+            Ok(run_loopback(alloc, rt, &mut file, &mut output, &mut errors))
         }
         Command::Show(word) => Ok(run_show(alloc, word.as_str(), &mut output, &mut errors)),
         Command::Vectors => Ok(run_vectors(alloc, &mut output, &mut errors)),

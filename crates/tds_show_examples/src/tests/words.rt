@@ -12,6 +12,7 @@ fn asked(alloc: Global, words: &[&str]) -> Result<String, Fail> {
     }
     let text = match read_words(alloc, owned.as_slice()) {
         Ok(Command::Play(file)) => format!(in alloc; "play {}", file.as_str())?,
+        Ok(Command::Loopback(file)) => format!(in alloc; "loopback {}", file.as_str())?,
         Ok(Command::Show(word)) => format!(in alloc; "show {}", word.as_str())?,
         Ok(Command::Vectors) => String::from_str(alloc, "vectors")?,
         Err(fault) => format!(in alloc; "fault {}", fault.number())?,
@@ -19,8 +20,9 @@ fn asked(alloc: Global, words: &[&str]) -> Result<String, Fail> {
     Ok(text)
 }
 
-const WORDS: [(&[&str], &str); 29] = [
+const WORDS: [(&[&str], &str); 36] = [
     (&["play", "row.json"], "play row.json"),
+    (&["loopback", "row.json"], "loopback row.json"),
     (&["show", "00"], "show 00"),
     (&["show", "no digits"], "show no digits"),
     (&["show", ""], "show "),
@@ -34,6 +36,7 @@ const WORDS: [(&[&str], &str); 29] = [
     (&["vectors"], "vectors"),
     // A word `--` stands for none; a word behind it is taken as it is.
     (&["play", "--", "-x"], "play -x"),
+    (&["loopback", "--", "-x"], "loopback -x"),
     (&["show", "--", "--"], "show --"),
     (&["show", "--", "00"], "show 00"),
     // All else is the usage error.
@@ -48,7 +51,12 @@ const WORDS: [(&[&str], &str); 29] = [
     (&["show", "--"], "fault 1"),
     (&["vectors", "00"], "fault 1"),
     (&["vectors", "--help"], "fault 1"),
-    (&["loopback", "x"], "fault 1"),
+    (&["loopback"], "fault 1"),
+    (&["loopback", "row.json", "row.json"], "fault 1"),
+    (&["loopback", "--help"], "fault 1"),
+    (&["loopback", "-x"], "fault 1"),
+    (&["loopback", "--"], "fault 1"),
+    (&["Loopback", "row.json"], "fault 1"),
     (&["help"], "fault 1"),
     (&["--help"], "fault 1"),
     (&["--version"], "fault 1"),

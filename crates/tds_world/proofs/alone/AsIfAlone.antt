@@ -112,11 +112,15 @@ goes_on answers w c l q qs m m2 end own (Some ran) b ih k mark a e f h t = λ r 
     let same : ran ≡ m = f.0 ∙ ap (λ x. runs_in x m) mark in
     let alike : AreAlike ran own = subst (λ s. AreAlike s own) (sym same) a in
     let left : m2 ≡ session_after ran f.1.0 (own_steps answers ran q.asking.request) = f.1.1 ∙ left_own answers c q ran f.1.0 k.transaction e in
-    let next : SessionState = session_after own f.1.0 (own_steps answers own q.asking.request) in
-    (told_alone answers own ran q b alike r o h,
-      (f.1.0, ih m2 end next
-        (subst (λ s. AreAlike s next) (sym left)
-        (after_alike f.1.0 ran own (own_steps answers ran q.asking.request) (own_steps answers own q.asking.request) alike (b ran own q.asking.request alike r o))) t))
+    let next : SessionState = session_after own f.1.0 (own_steps answers own q.asking.request) in (
+      told_alone answers own ran q b alike r o h,
+      (
+        f.1.0,
+        ih m2 end next
+            (subst (λ s. AreAlike s next) (sym left)
+            (after_alike f.1.0 ran own (own_steps answers ran q.asking.request) (own_steps answers own q.asking.request) alike (b ran own q.asking.request alike r o))) t,
+      ),
+    )
 
 -- All that follow are of later leases.
 all_later : (l : ℕ) (q : Record) (qs : List Record) → l < q.lease → AllByRecursion (Behind (core_of q)) (map core_of qs) → AllByRecursion (λ (p : Record). l < p.lease) qs
@@ -168,11 +172,15 @@ starts_on answers w c l q qs m m2 end (Some ran) b ih go k is g before e f h t =
     let first : AllByRecursion (NotRun q.lease q.number) (records c) = subst (λ x. AllByRecursion (NotRun x q.number) (records c)) (sym is) none in
     let alike : AreAlike ran own = subst (λ x. AreAlike ran (own_session w (numbered w.leases x))) is (starts_alike w ran (numbered w.leases q.lease) (k.fresh ran e first)) in
     let left : m2 ≡ session_after ran f.1.0 (own_steps answers ran q.asking.request) = f.1.1 ∙ left_own answers c q ran f.1.0 k.transaction e in
-    let next : SessionState = session_after own f.1.0 (own_steps answers own q.asking.request) in
-    (told_alone answers own ran q b alike r o h,
-      (f.1.0, go (subst IsRan (sym e) tt) m2 end next
-        (subst (λ s. AreAlike s next) (sym left)
-        (after_alike f.1.0 ran own (own_steps answers ran q.asking.request) (own_steps answers own q.asking.request) alike (b ran own q.asking.request alike r o))) t))
+    let next : SessionState = session_after own f.1.0 (own_steps answers own q.asking.request) in (
+      told_alone answers own ran q b alike r o h,
+      (
+        f.1.0,
+        go (subst IsRan (sym e) tt) m2 end next
+            (subst (λ s. AreAlike s next) (sym left)
+            (after_alike f.1.0 ran own (own_steps answers ran q.asking.request) (own_steps answers own q.asking.request) alike (b ran own q.asking.request alike r o))) t,
+      ),
+    )
 
 starts_by : (answers : Answers) (w : World) (c : Connection) (l : ℕ) (q : Record) (qs : List Record) (test : Bool) (m end : SessionState) → eqb q.lease l ≡ test → BlindToNumbers answers → Starts answers w c l qs → (q.lease ≡ l → IsRan q.ran → Goes answers l qs) → Knows answers w c q → AllByRecursion (Behind (core_of q)) (map core_of qs) → Before c l (q ∷ qs) → Thread answers m (map core_of (q ∷ qs)) end → RunsAlone answers (own_session w (numbered w.leases l)) (cond test (q ∷ of_lease l qs) (of_lease l qs))
 starts_by answers w c l q qs true m end e b ih go k g before t =

@@ -192,10 +192,16 @@ cleared_more mark xs ys h = elim h [
 ]
 
 pub holder_then : (k : ℕ) (s : Standing) (xs : List Core) (mark new : Option Reset) (downs more : List Down) → (Cleared mark downs → Cleared new more) → HolderOf k s xs mark downs → HolderOf k s xs new more
-holder_then k (In (place.Leased l)) xs mark new downs more f h = (h.0, (h.1.0, elim h.1.1 [
-  | inl n ↦ inl n
-  | inr g ↦ inr (f g)
-]))
+holder_then k (In (place.Leased l)) xs mark new downs more f h = (
+  h.0,
+  (
+    h.1.0,
+    elim h.1.1 [
+      | inl n ↦ inl n
+      | inr g ↦ inr (f g)
+    ],
+  ),
+)
 holder_then k (In (place.Kept t)) xs mark new downs more f h = tt
 holder_then k (In place.Free) xs mark new downs more f h = tt
 holder_then k (In place.Draining) xs mark new downs more f h = tt

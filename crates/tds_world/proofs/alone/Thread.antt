@@ -147,13 +147,15 @@ works_chain_in : (answers : Answers) (count : ℕ) (c : Connection) (o : Option 
 works_chain_in answers count c None t ss l e a b f m h g z = absurd (z refl)
 works_chain_in answers count c (Some q) t ss l e a b f m h g z =
     let stays : map (if_numbered c.answering (runs c.session t)) c.past ≡ c.past =
-    subst (λ n. map (if_numbered n (runs c.session t)) c.past ≡ c.past) (sym a) (past_stays q.number (runs c.session t) c.past b.1) in
-    (m, (
-      subst (λ qs. Thread answers new_session (map core_of qs) m) (sym stays) h,
-      of_changed (λ x. Going answers m x.asking x.ran t.after ss) (eqb q.number c.answering) (runs c.session t) q
-          (same_number c.answering q.number a)
-          (works_going answers c m q.asking q.ran t ss c.to_server.waiting c.to_client.waiting (phase_of q) l e f g),
-    ))
+    subst (λ n. map (if_numbered n (runs c.session t)) c.past ≡ c.past) (sym a) (past_stays q.number (runs c.session t) c.past b.1) in (
+      m,
+      (
+        subst (λ qs. Thread answers new_session (map core_of qs) m) (sym stays) h,
+        of_changed (λ x. Going answers m x.asking x.ran t.after ss) (eqb q.number c.answering) (runs c.session t) q
+            (same_number c.answering q.number a)
+            (works_going answers c m q.asking q.ran t ss c.to_server.waiting c.to_client.waiting (phase_of q) l e f g),
+      ),
+    )
 
 not_none : (c : Connection) → is_settled (phase c) ≡ false → c.current ≡ None → ⊥
 not_none c e f = let z : true ≡ false = sym (ap (λ o. is_settled (phase_in o)) f) ∙ e in absurd (cc)

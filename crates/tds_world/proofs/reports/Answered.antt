@@ -109,7 +109,7 @@ pub record Then (setup : Setup) (answers : Answers) (w v : World) (n : ℕ) (c d
   pub finished : (q : Record) → c.current ≡ Some q → is_cancelled q.fate ≡ false → Became d q.number Finished
   pub acknowledged : (q : Record) → c.current ≡ Some q → phase_of q ≡ Cancelling → Became d q.number Acknowledged
 
-same_some : {A : Type 0} (o : Option A) (x y : A) → o ≡ Some x → o ≡ Some y → x ≡ y
+pub same_some : {A : Type 0} (o : Option A) (x y : A) → o ≡ Some x → o ≡ Some y → x ≡ y
 same_some o x y e f = let z : Some x ≡ Some y = sym e ∙ f in cc
 
 became_of : (d : Connection) (k m : ℕ) (fate : Fate) (p : Record) → AreBefore d.current d.past → Became d m fate → record_on k d ≡ Some p → p.number ≡ m → p.fate ≡ fate
@@ -131,7 +131,7 @@ answered_on setup answers w v n k c d q p cut t e f m =
 
 -- ---- All of them
 
-reported : (w : World) (k m : ℕ) (q : Record) → request_in k (numbered w.connections m) ≡ Some q → IsReported (λ c x. Unit {0}) k (numbered w.connections m) q
+pub reported : (w : World) (k m : ℕ) (q : Record) → request_in k (numbered w.connections m) ≡ Some q → IsReported (λ c x. Unit {0}) k (numbered w.connections m) q
 reported w k m q e = on_some (λ c x. Unit {0}) k (numbered w.connections m) q (at_number (λ c. AllByRecursion (λ (x : Record). Unit {0}) (records c)) w.connections m (all_any w.connections)) e
 
 one_answered : (setup : Setup) (answers : Answers) (w v : World) (n k m : ℕ) (c d : Connection) (q : Record) (r : IsReported (λ c x. Unit {0}) k (numbered w.connections m) q) (s : StillReported v m k q) → RequestsInOrder w → Then setup answers w v n c d → q.conn ≡ n → BecomesOf (request_report (is_cut r.on.standing) q).status (request_report (is_cut s.1.on.standing) s.0).status

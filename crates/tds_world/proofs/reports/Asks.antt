@@ -298,7 +298,7 @@ each_reported P R w number (n ∷ ns) (a ∷ xs) f p h =
 
 -- ---- Own answers
 
-finished_shown : (fate : Fate) (c : Bool) (p : Phase) → status_by fate c p ≡ status.Finished → is_finished fate ≡ true
+pub finished_shown : (fate : Fate) (c : Bool) (p : Phase) → status_by fate c p ≡ status.Finished → is_finished fate ≡ true
 finished_shown Finished c p e = refl
 finished_shown Acknowledged c p e = absurd (cc)
 finished_shown Open c Settled e = absurd (cc)

@@ -27,20 +27,20 @@ pub record Halves (lease k m : ℕ) (ns : List ℕ) (c : Connection) : Type 0 wh
 abbrev pub AllHalves : World → ℕ → ℕ → List ℕ → Type 0
 AllHalves w lease k ns = (m : ℕ) (c : Connection) → numbered w.connections m ≡ Some c → Halves lease k m ns c
 
-one_lower : (k : ℕ) (ps : List Record) → AllByRecursion (λ (p : Record). p.number < k) ps → AllByRecursion (λ (p : Record). p.number < suc k) ps
+pub one_lower : (k : ℕ) (ps : List Record) → AllByRecursion (λ (p : Record). p.number < k) ps → AllByRecursion (λ (p : Record). p.number < suc k) ps
 one_lower k [] h = tt
 one_lower k (p ∷ ps) h = (let a : p.number < k = h.0 in omega arith, one_lower k ps h.1)
 
-behind : (P : Record → Type 0) (ps : List Record) (q : Record) → AllByRecursion P ps → P q → AllByRecursion P (ps ++ q ∷ [])
+pub behind : (P : Record → Type 0) (ps : List Record) (q : Record) → AllByRecursion P ps → P q → AllByRecursion P (ps ++ q ∷ [])
 behind P [] q h x = (x, tt)
 behind P (p ∷ ps) q h x = (h.0, behind P ps q h.1 x)
 
-one_behind : (ps : List Record) (q : Record) (rs : List Record) → (ps ++ q ∷ []) ++ rs ≡ ps ++ q ∷ rs
+pub one_behind : (ps : List Record) (q : Record) (rs : List Record) → (ps ++ q ∷ []) ++ rs ≡ ps ++ q ∷ rs
 one_behind [] q rs = refl
 one_behind (p ∷ ps) q rs = ap (λ xs. p ∷ xs) (one_behind ps q rs)
 
 -- The first of the rest is the one of number k.
-find_there : (k : ℕ) (ps : List Record) (q : Record) (rs : List Record) → AllByRecursion (λ (p : Record). p.number < k) ps → q.number ≡ k → find (λ (p : Record). p.number == k) (ps ++ q ∷ rs) ≡ Some q
+pub find_there : (k : ℕ) (ps : List Record) (q : Record) (rs : List Record) → AllByRecursion (λ (p : Record). p.number < k) ps → q.number ≡ k → find (λ (p : Record). p.number == k) (ps ++ q ∷ rs) ≡ Some q
 find_there k [] q rs h e = then_is (eqb q.number k) (Some q) (find (λ (x : Record). x.number == k) rs) (ap (λ n. eqb n k) e ∙ same_number k)
 find_there k (p ∷ ps) q rs h e =
     else_is (eqb p.number k) (Some p) (find (λ (x : Record). x.number == k) (ps ++ q ∷ rs)) (other_number p.number k h.0)
@@ -56,7 +56,7 @@ pub record Passed (lease k m : ℕ) (ns : List ℕ) (c : Connection) (q : Record
   pub is : q.number ≡ k
   pub numbers : map (λ (q : Record). q.number) rest ≡ numbers_on m (suc k) ns
 
-some_same : {A : Type 0} (x y : A) → Some x ≡ Some y → x ≡ y
+pub some_same : {A : Type 0} (x y : A) → Some x ≡ Some y → x ≡ y
 some_same x y e = cc
 
 passes : (lease k m : ℕ) (ns : List ℕ) (c : Connection) (q : Record) (before rest : List Record) → before ++ rest ≡ records c → AllByRecursion (λ (p : Record). p.number < k) before → AllByRecursion (λ (p : Record). p.lease ≡ lease → p.ran ≡ None) before → map (λ (q : Record). q.number) rest ≡ k ∷ numbers_on m (suc k) ns → find (λ (p : Record). p.number == k) (records c) ≡ Some q → Passed lease k m ns c q

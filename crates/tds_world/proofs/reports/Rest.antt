@@ -82,15 +82,17 @@ one_stops setup answers events n c p l h t s g up down m k =
 one_finishes : (setup : Setup) (answers : Answers) (events : List Event) (n : ℕ) (c : Connection) (p : Place) → IsSetup setup → Lawful answers → NeverStuck setup answers (world_after setup answers events new_world) → numbered (world_after setup answers events new_world).connections n ≡ Some c → c.standing ≡ In p → IsGood c → CanBeFinished setup answers events (snapshot_of n c p)
 one_finishes setup answers events n c p u l h t s g =
     let w : World = world_after setup answers events new_world in
-    let enough = finish_counts setup answers c u l g in
-    (enough.0, λ packets up steps down i j k m.
-      let f : Finishes setup answers w n c (finishing (In p) n packets up steps down) =
-      subst (λ x. Finishes setup answers w n c (finishing x n packets up steps down)) s
-      (h.finishes n c packets up steps down (number_finds w n c t (whole_in p c.standing s)) (enough.1 packets up steps down i j k m)) in
-      record {
-        rest = shown_at_rest setup answers events (finishing (In p) n packets up steps down) n c p s f.brings;
-        requests = are_answered setup answers events (finishing (In p) n packets up steps down) n c l t (whole_in p c.standing s) f;
-      })
+    let enough = finish_counts setup answers c u l g in (
+      enough.0,
+      λ packets up steps down i j k m.
+          let f : Finishes setup answers w n c (finishing (In p) n packets up steps down) =
+          subst (λ x. Finishes setup answers w n c (finishing x n packets up steps down)) s
+          (h.finishes n c packets up steps down (number_finds w n c t (whole_in p c.standing s)) (enough.1 packets up steps down i j k m)) in
+          record {
+            rest = shown_at_rest setup answers events (finishing (In p) n packets up steps down) n c p s f.brings;
+            requests = are_answered setup answers events (finishing (In p) n packets up steps down) n c l t (whole_in p c.standing s) f;
+          },
+    )
 
 pub never_stuck_is_shown : (setup : Setup) (answers : Answers) → IsSetup setup → Lawful answers → AlwaysTold setup answers (ShowsNeverStuck setup answers)
 never_stuck_is_shown setup answers u l events =

@@ -263,7 +263,7 @@ pub all_worked : (setup : Setup) (answers : Answers) (n : ℕ) (c : Connection) 
 all_worked setup answers zero c l g m = record { good = g; phase = refl; waiting = refl; due = none_of answer.Step c.due m }
 all_worked setup answers (suc n) c l g m =
     let later = all_worked setup answers n (works c) l (works_good setup answers c l g)
-        (subst (λ ss. length ss ≤ n) (sym (works_due c c.due refl)) (drop_one answer.Step c.due n m)) in
+    (subst (λ ss. length ss ≤ n) (sym (works_due c c.due refl)) (drop_one answer.Step c.due n m)) in
     record {
       good = later.good;
       phase = later.phase ∙ works_phase c c.due;

@@ -48,9 +48,11 @@ enough setup answers c h =
     let some : 512 ≤ setup.packet_size = packet_least setup h in
     let sent : Connection = times (packets_for c.current) (sends_next room) c in
     let come : Connection = to_server answers (up_underway sent) sent in
-    let worked : Connection = times (length come.due) works come in
-    (
-      packets_for c.current, up_underway sent, length come.due, down_underway worked,
+    let worked : Connection = times (length come.due) works come in (
+      packets_for c.current,
+      up_underway sent,
+      length come.due,
+      down_underway worked,
       record {
         packets_all = holds_in room (phase c) c.current (let z : 1 ≤ room = omega arith in z);
         up_all = same (up_underway sent);

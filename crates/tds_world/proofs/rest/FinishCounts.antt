@@ -73,20 +73,21 @@ finish_counts setup answers c s l g =
     let out : Sent c sent = all_sent room enough c g (left_fits room enough (phase c) c.current refl held) in
     let come : Connection = to_server answers (up_underway sent) sent in
     let worked : Connection = times (length come.due) works come in
-    let done : Worked come worked = all_worked setup answers (length come.due) come l (server_good setup answers (up_underway sent) sent l out.good) (omega arith) in
-    (enough + (up_underway sent + (length come.due + down_underway worked)),
+    let done : Worked come worked = all_worked setup answers (length come.due) come l (server_good setup answers (up_underway sent) sent l out.good) (omega arith) in (
+      enough + (up_underway sent + (length come.due + down_underway worked)),
       λ packets up steps down h i j k.
-      let send : times packets (sends_next room) c ≡ sent = enough_times (sends_next room) enough packets c (omega arith) (sends_not (phase sent) room sent.current sent out.nothing) in
-      let up_all : up_underway sent ≤ up = omega arith in
-      let comes : to_server answers up sent ≡ come = all_bytes answers up sent up_all in
-      let works_all : length come.due ≤ steps = omega arith in
-      let work : times steps works come ≡ worked = enough_times works (length come.due) steps come works_all (nothing_due worked worked.due done.due) in
-      let down_all : down_underway worked ≤ down = omega arith in
-      record {
-        packets_all = more_hold room enough packets (phase c) c.current (omega arith) held;
-        up_all = subst (λ d. up_underway d ≤ up) (sym send) up_all;
-        steps_all = subst (λ d. length (to_server answers up d).due ≤ steps) (sym send) (subst (λ d. length d.due ≤ steps) (sym comes) works_all);
-        down_all = subst (λ d. down_underway (times steps works (to_server answers up d)) ≤ down) (sym send)
-            (subst (λ d. down_underway (times steps works d) ≤ down) (sym comes)
-            (subst (λ d. down_underway d ≤ down) (sym work) down_all));
-      })
+          let send : times packets (sends_next room) c ≡ sent = enough_times (sends_next room) enough packets c (omega arith) (sends_not (phase sent) room sent.current sent out.nothing) in
+          let up_all : up_underway sent ≤ up = omega arith in
+          let comes : to_server answers up sent ≡ come = all_bytes answers up sent up_all in
+          let works_all : length come.due ≤ steps = omega arith in
+          let work : times steps works come ≡ worked = enough_times works (length come.due) steps come works_all (nothing_due worked worked.due done.due) in
+          let down_all : down_underway worked ≤ down = omega arith in
+          record {
+            packets_all = more_hold room enough packets (phase c) c.current (omega arith) held;
+            up_all = subst (λ d. up_underway d ≤ up) (sym send) up_all;
+            steps_all = subst (λ d. length (to_server answers up d).due ≤ steps) (sym send) (subst (λ d. length d.due ≤ steps) (sym comes) works_all);
+            down_all = subst (λ d. down_underway (times steps works (to_server answers up d)) ≤ down) (sym send)
+                (subst (λ d. down_underway (times steps works d) ≤ down) (sym comes)
+                (subst (λ d. down_underway d ≤ down) (sym work) down_all));
+          },
+    )

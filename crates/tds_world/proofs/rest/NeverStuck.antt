@@ -180,8 +180,8 @@ stops_by setup answers w n up down c (In (place.Leased k)) l g t e s f i j m =
     let v : World = (happens setup answers (event.Cancel k) w).1 in
     let stand : (cancels c).standing ≡ c.standing = cancels_stand_in c.current c in
     let calm = arrives setup answers v n up down c (cancels c) l
-        (then_there setup answers (event.Cancel k) w n c (about setup w (event.Cancel k)) (lease_about w n c k g t e) t)
-        (ap is_cut stand ∙ s) stand (cancels_good setup answers c l f) (cancels_stop c) m in
+    (then_there setup answers (event.Cancel k) w n c (about setup w (event.Cancel k)) (lease_about w n c k g t e) t)
+    (ap is_cut stand ∙ s) stand (cancels_good setup answers c l f) (cancels_stop c) m in
     record { after = calm.after; there = calm.there; rests = calm.rests }
 stops_by setup answers w n up down c Cut l g t e s f i j m = let z : true ≡ false = sym (ap is_cut e) ∙ s in absurd (cc)
 
@@ -220,7 +220,7 @@ finishes_leased setup answers w n k packets up steps down c l g t e s f m =
     let sent : Sent c d = all_sent room packets c f (left_fits room packets (phase c) c.current refl m.packets_all) in
     let v : World = world_after setup answers (replicate packets (event.Send k)) w in
     let did = answers_all setup answers v n up steps down c d l (all_sends setup answers packets w n c k g t e)
-        (ap is_cut sent.stands ∙ s) sent.stands sent.good sent.nothing m.up_all m.steps_all m.down_all (all_sends_follow room packets c) in
+    (ap is_cut sent.stands ∙ s) sent.stands sent.good sent.nothing m.up_all m.steps_all m.down_all (all_sends_follow room packets c) in
     record {
       brings = record {
         after = did.brings.after;

@@ -1,6 +1,8 @@
 //! What the session laws say of a report. Each is the contract of a function without a body: what
 //! holds of the report of the model, `observed`, whatever the events.
 ghost use Rattle.tds_session.specs.Answer.{Answers};
+ghost use Rattle.tds_world.specs.Alone.{BlindToNumbers};
+ghost use Rattle.tds_world.specs.AloneShown.{ShowsAsIfAlone};
 ghost use Rattle.tds_world.specs.Bounds.{IsEvent, IsSetup};
 ghost use Rattle.tds_world.specs.Lawful.{Lawful};
 ghost use Rattle.tds_world.specs.Reports.{AlwaysShown, AlwaysShownOf, AlwaysTold, ShowsFewUnderway, ShowsFreshStart, ShowsIdleQuiet, ShowsKeptTransaction, ShowsLendsIdle, ShowsNoFault, ShowsNothingAfterCancel, ShowsOwnAnswers, ShowsOwnTransaction};
@@ -72,4 +74,12 @@ pub fn lends_idle()
 /// that a play takes.
 pub fn never_stuck()
     ensures { (setup : Setup) (answers : Answers) → IsSetup setup → Lawful answers → AlwaysTold setup answers (ShowsNeverStuck setup answers) }
+{}
+
+/// Each lease that is shown was told what it would be told alone: each of its requests that ran did so
+/// in a session alike to that of a server which nobody else ever had, and its tokens are a beginning
+/// of what is told there, all of it where it is finished; as long as descriptors are left. It holds
+/// for answers that are blind to the numbers of transactions.
+pub fn as_if_alone()
+    ensures { (setup : Setup) (answers : Answers) → Lawful answers → BlindToNumbers answers → AlwaysTold setup answers (ShowsAsIfAlone answers) }
 {}

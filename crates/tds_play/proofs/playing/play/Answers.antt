@@ -1,20 +1,21 @@
-use Rattle.std.proofs.Common.{◌≡◌}
+use Rattle.std.proofs.Common.{sym, subst}
 use Rattle.std.proofs.lemmas.Result.{IfOk-weaker}
 use Rattle.tds_session.specs.Answer.{script_answers}
 use Rattle.tds_world.specs.Alone.{AsIfAlone}
+use Rattle.tds_world.specs.AloneShown.{ShowsAsIfAlone}
 use Rattle.tds_world.specs.Bounds.{BeginsOnce, OneAttention}
 use Rattle.tds_world.specs.Losses.{marked}
 use Rattle.tds_world.specs.Reports.{ShowsFewUnderway, ShowsFreshStart, ShowsIdleQuiet, ShowsKeptTransaction, ShowsLendsIdle, ShowsOwnAnswers, ShowsOwnTransaction}
 use Rattle.tds_world.specs.Rest.{NeverStuck}
-use Rattle.tds_world.specs.WithLosses.{ShowsNoEndFaults}
-use Rattle.tds_play.specs.WholePlay.{CutsThoseOf, HandsBytesOf, IsPlayOf, IsWhole, IsWholePlayOf, told_of, world_of}
-use Rattle.tds_play.proofs.Told.{few_ok, no_more_ok, shown_ok, told_ok}
+use Rattle.tds_world.specs.RestShown.{ShowsNeverStuck}
+use Rattle.tds_world.specs.WithLosses.{GivesNoMoreWith, IsReportWith, MarksNothing, ShowsNoEndFaults}
+use Rattle.tds_play.specs.WholePlay.{CarriesBytesOf, CutsThoseOf, HandsBytesOf, IsPlayOf, IsWholePlayOf, world_of}
 use Rattle.tds_play.proofs.playing.play.Goals as goal
 
 pub returns-clause-report : goal.returns-clause-report
 returns-clause-report g c = λ tells.
-    IfOk-weaker c.play_with.result (λ report. IsPlayOf c.args.setup.now script_answers c.args.events.now report _)
-    (λ report. report ≡ told_of c.args.setup.now script_answers c.args.events.now report.events)
+    IfOk-weaker c.play_with.result (λ report. IsPlayOf c.args.setup.now script_answers c.args.events.now report (g.C.Carrier.pipes c.play_with.new.carrier))
+    (IsReportWith c.args.setup.now script_answers c.args.events.now)
     (λ report is. is.told) (c.play_with.ensures.alike tells)
 
 pub returns-clause-bytes : goal.returns-clause-bytes
@@ -22,6 +23,12 @@ returns-clause-bytes g c = λ tells.
     IfOk-weaker c.play_with.result (λ report. IsPlayOf c.args.setup.now script_answers c.args.events.now report (g.C.Carrier.pipes c.play_with.new.carrier))
     (λ report. HandsBytesOf (world_of c.args.setup.now c.args.events.now report.events) (g.C.Carrier.pipes c.play_with.new.carrier))
     (λ report is. is.bytes) (c.play_with.ensures.alike tells)
+
+pub returns-clause-carried : goal.returns-clause-carried
+returns-clause-carried g c = λ tells.
+    IfOk-weaker c.play_with.result (λ report. IsPlayOf c.args.setup.now script_answers c.args.events.now report (g.C.Carrier.pipes c.play_with.new.carrier))
+    (λ report. CarriesBytesOf (world_of c.args.setup.now c.args.events.now report.events) (g.C.Carrier.pipes c.play_with.new.carrier))
+    (λ report is. is.carried) (c.play_with.ensures.alike tells)
 
 pub returns-clause-cuts : goal.returns-clause-cuts
 returns-clause-cuts g c = λ tells.
@@ -31,79 +38,103 @@ returns-clause-cuts g c = λ tells.
 
 pub returns-clause-whole : goal.returns-clause-whole
 returns-clause-whole g c = λ tells.
-    IfOk-weaker c.play_with.result (λ report. IsPlayOf c.args.setup.now script_answers c.args.events.now report _)
-    (λ report. IsWhole report → IsWholePlayOf c.args.setup.now script_answers c.args.events.now report)
+    IfOk-weaker c.play_with.result (λ report. IsPlayOf c.args.setup.now script_answers c.args.events.now report (g.C.Carrier.pipes c.play_with.new.carrier))
+    (λ report. MarksNothing report → IsWholePlayOf c.args.setup.now script_answers c.args.events.now report)
     (λ report is. is.plain) (c.play_with.ensures.alike tells)
 
 pub returns-clause-own_answers : goal.returns-clause-own_answers
 returns-clause-own_answers g c = λ tells.
-    told_ok (ShowsOwnAnswers script_answers) c.play_with.result c.args.setup.now script_answers c.args.events.now _
-    (c.own_answers.ensures c.args.setup.now script_answers c.script_is_lawful.ensures) (c.play_with.ensures.alike tells)
+    IfOk-weaker c.play_with.result (λ report. IsPlayOf c.args.setup.now script_answers c.args.events.now report (g.C.Carrier.pipes c.play_with.new.carrier))
+    (ShowsOwnAnswers script_answers c.args.events.now)
+    (λ report is. c.of_marked_report.ensures.own_answers c.args.setup.now script_answers c.args.events.now report c.script_is_lawful.ensures is.told) (c.play_with.ensures.alike tells)
 
 pub returns-clause-own_transaction : goal.returns-clause-own_transaction
 returns-clause-own_transaction g c = λ tells.
-    told_ok ShowsOwnTransaction c.play_with.result c.args.setup.now script_answers c.args.events.now _
-    (c.own_transaction.ensures c.args.setup.now script_answers c.script_is_lawful.ensures) (c.play_with.ensures.alike tells)
+    IfOk-weaker c.play_with.result (λ report. IsPlayOf c.args.setup.now script_answers c.args.events.now report (g.C.Carrier.pipes c.play_with.new.carrier))
+    (ShowsOwnTransaction c.args.events.now)
+    (λ report is. c.of_marked_report.ensures.own_transaction c.args.setup.now script_answers c.args.events.now report c.script_is_lawful.ensures is.told) (c.play_with.ensures.alike tells)
 
 pub returns-clause-after_cancel : goal.returns-clause-after_cancel
 returns-clause-after_cancel g c = λ front later parts tells.
-    no_more_ok c.play_with.result c.args.setup.now c.args.events.now front later _
-    (c.nothing_after_cancel.ensures c.args.setup.now script_answers c.script_is_lawful.ensures) parts (c.play_with.ensures.alike tells)
+    IfOk-weaker c.play_with.result (λ report. IsPlayOf c.args.setup.now script_answers c.args.events.now report (g.C.Carrier.pipes c.play_with.new.carrier))
+    (GivesNoMoreWith c.args.setup.now script_answers front)
+    (λ report is. c.of_marked_report.ensures.after_cancel c.args.setup.now script_answers front later report c.script_is_lawful.ensures (subst (λ es. IsReportWith c.args.setup.now script_answers es report) parts is.told)) (c.play_with.ensures.alike tells)
 
 pub returns-clause-fresh_start : goal.returns-clause-fresh_start
 returns-clause-fresh_start g c = λ tells.
-    shown_ok ShowsFreshStart c.play_with.result c.args.setup.now script_answers c.args.events.now _
-    (c.fresh_start.ensures c.args.setup.now script_answers c.script_is_lawful.ensures) (c.play_with.ensures.alike tells)
-
-pub returns-clause-kept_transaction : goal.returns-clause-kept_transaction
-returns-clause-kept_transaction g c = λ tells.
-    told_ok ShowsKeptTransaction c.play_with.result c.args.setup.now script_answers c.args.events.now _
-    (c.kept_transaction.ensures c.args.setup.now script_answers c.script_is_lawful.ensures) (c.play_with.ensures.alike tells)
+    IfOk-weaker c.play_with.result (λ report. IsPlayOf c.args.setup.now script_answers c.args.events.now report (g.C.Carrier.pipes c.play_with.new.carrier))
+    ShowsFreshStart
+    (λ report is. c.of_marked_report.ensures.fresh_start c.args.setup.now script_answers c.args.events.now report c.script_is_lawful.ensures is.told) (c.play_with.ensures.alike tells)
 
 pub returns-clause-lends_idle : goal.returns-clause-lends_idle
 returns-clause-lends_idle g c = λ tells.
-    shown_ok ShowsLendsIdle c.play_with.result c.args.setup.now script_answers c.args.events.now _
-    (c.lends_idle.ensures c.args.setup.now script_answers c.script_is_lawful.ensures) (c.play_with.ensures.alike tells)
+    IfOk-weaker c.play_with.result (λ report. IsPlayOf c.args.setup.now script_answers c.args.events.now report (g.C.Carrier.pipes c.play_with.new.carrier))
+    ShowsLendsIdle
+    (λ report is. c.of_marked_report.ensures.lends_idle c.args.setup.now script_answers c.args.events.now report c.script_is_lawful.ensures is.told) (c.play_with.ensures.alike tells)
 
 pub returns-clause-idle_is_quiet : goal.returns-clause-idle_is_quiet
 returns-clause-idle_is_quiet g c = λ tells.
-    shown_ok ShowsIdleQuiet c.play_with.result c.args.setup.now script_answers c.args.events.now _
-    (c.idle_is_quiet.ensures c.args.setup.now script_answers c.script_is_lawful.ensures) (c.play_with.ensures.alike tells)
+    IfOk-weaker c.play_with.result (λ report. IsPlayOf c.args.setup.now script_answers c.args.events.now report (g.C.Carrier.pipes c.play_with.new.carrier))
+    ShowsIdleQuiet
+    (λ report is. c.of_marked_report.ensures.idle_is_quiet c.args.setup.now script_answers c.args.events.now report c.script_is_lawful.ensures is.told) (c.play_with.ensures.alike tells)
+
+pub returns-clause-kept_transaction : goal.returns-clause-kept_transaction
+returns-clause-kept_transaction g c = λ tells.
+    IfOk-weaker c.play_with.result (λ report. IsPlayOf c.args.setup.now script_answers c.args.events.now report (g.C.Carrier.pipes c.play_with.new.carrier))
+    (ShowsKeptTransaction c.args.events.now)
+    (λ report is. c.of_marked_report.ensures.kept_transaction c.args.setup.now script_answers c.args.events.now report c.script_is_lawful.ensures is.told) (c.play_with.ensures.alike tells)
 
 pub returns-clause-few_underway : goal.returns-clause-few_underway
 returns-clause-few_underway g c = λ tells.
-    few_ok ShowsFewUnderway c.play_with.result c.args.setup.now script_answers c.args.events.now _
-    (λ in_range. c.few_underway.ensures c.args.setup.now script_answers in_range c.script_is_lawful.ensures) (c.play_with.ensures.alike tells)
+    IfOk-weaker c.play_with.result (λ report. IsPlayOf c.args.setup.now script_answers c.args.events.now report (g.C.Carrier.pipes c.play_with.new.carrier))
+    ShowsFewUnderway
+    (λ report is. c.of_marked_report.ensures.few_underway c.args.setup.now script_answers c.args.events.now report is.in_range c.script_is_lawful.ensures is.known is.told) (c.play_with.ensures.alike tells)
 
 pub returns-clause-no_fault : goal.returns-clause-no_fault
 returns-clause-no_fault g c = λ tells.
-    shown_ok ShowsNoEndFaults c.play_with.result c.args.setup.now script_answers c.args.events.now _
-    (c.no_fault.ensures c.args.setup.now script_answers) (c.play_with.ensures.alike tells)
+    IfOk-weaker c.play_with.result (λ report. IsPlayOf c.args.setup.now script_answers c.args.events.now report (g.C.Carrier.pipes c.play_with.new.carrier))
+    ShowsNoEndFaults
+    (λ report is. c.of_marked_report.ensures.no_fault c.args.setup.now script_answers c.args.events.now report is.told) (c.play_with.ensures.alike tells)
 
 pub returns-clause-one_attention : goal.returns-clause-one_attention
 returns-clause-one_attention g c = λ tells.
-    IfOk-weaker c.play_with.result (λ report. IsPlayOf c.args.setup.now script_answers c.args.events.now report _)
+    IfOk-weaker c.play_with.result (λ report. IsPlayOf c.args.setup.now script_answers c.args.events.now report (g.C.Carrier.pipes c.play_with.new.carrier))
     (λ report. OneAttention (world_of c.args.setup.now c.args.events.now report.events))
-    (λ report is. c.one_attention.ensures c.args.setup.now script_answers c.script_is_lawful.ensures (marked c.args.events.now report.events))
-    (c.play_with.ensures.alike tells)
+    (λ report is. c.one_attention.ensures c.args.setup.now script_answers c.script_is_lawful.ensures (marked c.args.events.now report.events)) (c.play_with.ensures.alike tells)
 
 pub returns-clause-begins_once : goal.returns-clause-begins_once
 returns-clause-begins_once g c = λ tells.
-    IfOk-weaker c.play_with.result (λ report. IsPlayOf c.args.setup.now script_answers c.args.events.now report _)
+    IfOk-weaker c.play_with.result (λ report. IsPlayOf c.args.setup.now script_answers c.args.events.now report (g.C.Carrier.pipes c.play_with.new.carrier))
     (λ report. BeginsOnce (world_of c.args.setup.now c.args.events.now report.events))
     (λ report is. c.begins_once.ensures c.args.setup.now script_answers c.script_hands_out_next.ensures (marked c.args.events.now report.events))
     (c.play_with.ensures.alike tells)
 
 pub returns-clause-never_stuck : goal.returns-clause-never_stuck
 returns-clause-never_stuck g c = λ tells.
-    IfOk-weaker c.play_with.result (λ report. IsPlayOf c.args.setup.now script_answers c.args.events.now report _)
+    IfOk-weaker c.play_with.result (λ report. IsPlayOf c.args.setup.now script_answers c.args.events.now report (g.C.Carrier.pipes c.play_with.new.carrier))
     (λ report. NeverStuck c.args.setup.now script_answers (world_of c.args.setup.now c.args.events.now report.events))
     (λ report is. c.never_stuck.ensures c.args.setup.now script_answers c.script_is_lawful.ensures (marked c.args.events.now report.events))
     (c.play_with.ensures.alike tells)
 
 pub returns-clause-as_if_alone : goal.returns-clause-as_if_alone
 returns-clause-as_if_alone g c = λ tells.
-    IfOk-weaker c.play_with.result (λ report. IsPlayOf c.args.setup.now script_answers c.args.events.now report _)
+    IfOk-weaker c.play_with.result (λ report. IsPlayOf c.args.setup.now script_answers c.args.events.now report (g.C.Carrier.pipes c.play_with.new.carrier))
     (λ report. AsIfAlone script_answers (world_of c.args.setup.now c.args.events.now report.events))
     (λ report is. c.as_if_alone.ensures c.args.setup.now script_answers c.script_is_lawful.ensures c.script_is_blind.ensures (marked c.args.events.now report.events))
+    (c.play_with.ensures.alike tells)
+
+pub returns-clause-comes_to_rest : goal.returns-clause-comes_to_rest
+returns-clause-comes_to_rest g c = λ tells.
+    IfOk-weaker c.play_with.result (λ report. IsPlayOf c.args.setup.now script_answers c.args.events.now report (g.C.Carrier.pipes c.play_with.new.carrier))
+    (λ report. MarksNothing report → ShowsNeverStuck c.args.setup.now script_answers c.args.events.now report)
+    (λ report is whole. subst (ShowsNeverStuck c.args.setup.now script_answers c.args.events.now) (sym (is.plain whole).told)
+    (c.never_stuck-2.ensures c.args.setup.now script_answers is.in_range c.script_is_lawful.ensures c.args.events.now))
+    (c.play_with.ensures.alike tells)
+
+pub returns-clause-told_alone : goal.returns-clause-told_alone
+returns-clause-told_alone g c = λ tells.
+    IfOk-weaker c.play_with.result (λ report. IsPlayOf c.args.setup.now script_answers c.args.events.now report (g.C.Carrier.pipes c.play_with.new.carrier))
+    (λ report. MarksNothing report → ShowsAsIfAlone script_answers c.args.events.now report)
+    (λ report is whole. subst (ShowsAsIfAlone script_answers c.args.events.now) (sym (is.plain whole).told)
+    (c.as_if_alone-2.ensures c.args.setup.now script_answers c.script_is_lawful.ensures c.script_is_blind.ensures c.args.events.now))
     (c.play_with.ensures.alike tells)

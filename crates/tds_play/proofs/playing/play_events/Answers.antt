@@ -1,4 +1,4 @@
-use Rattle.std.proofs.Common.{◌≡◌, ◌∙◌, ◌+◌, ◌<◌, ℕ, suc, false, length, take, ap, subst, sym, arith, length-append}
+use Rattle.std.proofs.Common.{◌≡◌, ◌∙◌, ◌+◌, ◌<◌, ℕ, false, length, take, ap, subst, sym, arith, length-append}
 use Rattle.tds_world.specs.declared.report.EventReport.{EventReport}
 use Rattle.tds_world.specs.Laws.{OfEachConnection}
 use Rattle.tds_world.specs.Losses.{bringing, marked, with_cuts, world_with}
@@ -82,11 +82,11 @@ returns-clause-alike g c = λ setup is tells play.
     let far = c.events.invariant.alike setup is tells play in
     let w : World = world_with setup answers (marked (take i es) rs) new_world in
     let order : RequestsInOrder w = subst RequestsInOrder (sym (world_is setup answers (marked (take i es) rs) new_world)) (c.worlds_hold.ensures.order setup (with_cuts setup answers (marked (take i es) rs) new_world)) in
-    let nothing = c.nothing_lost.ensures in
+    let laws = c.of_marked_report.ensures in
     in_the_end setup answers engine es i c.events.player _ rs c.new-2.result c.new-3.result
-    is c.events.invariant.known c.events.invariant.tied (omega (arith, c.events-test.false)) c.events.invariant.count c.events.auto.event-index-end far c.new-2.ensures
+    is c.events.invariant.known c.events.invariant.tied (omega (arith, c.events-test.false)) far c.new-2.ensures
     (c.new-3.ensures ∙ c.in_ok-into_requests.ensures setup engine _ w far.play order)
-    (λ ps. nothing.world setup answers ps new_world) (nothing.report setup answers)
+    (laws.whole setup answers es) (laws.plain setup answers es)
 
 pub returns-clause-lost : goal.returns-clause-lost
 returns-clause-lost g c = λ setup is tells play.

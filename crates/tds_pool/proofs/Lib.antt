@@ -1,0 +1,6 @@
+pub mod Halves
+pub mod Tables
+pub mod Seats
+pub mod Taken
+pub mod Results
+pub mod Promises

@@ -1,0 +1,82 @@
+//! The pool.
+ghost use Rattle.std.specs.Prelude.{◌≡◌, ◌≤◌, [], Some, None, IfSome, IfNone, IsSome, option_map};
+ghost use Rattle.std.specs.Option.{option_copied, option_copied_mut};
+ghost use Rattle.std.specs.Borrow.{sem};
+ghost use Rattle.slab.specs.Slab.{get};
+ghost use Rattle.tds_pool.specs.declared.seat.Seat.{Seat};
+ghost use Rattle.tds_pool.specs.Connections.{connections};
+ghost use Rattle.tds_pool.specs.Lends.{LendsClient};
+
+mod calls;
+mod lending;
+mod seats;
+mod service;
+
+use crate::numbers::{MOST, Numbers};
+use crate::seat::Seat;
+use slab::Slab;
+use std::alloc::Global;
+use std::marker::Model;
+use tds_client::Client;
+use tds_packet::PacketSize;
+
+/// The connections that a program shares: at most `max`, each with a number from 1 upward that is
+/// never used again.
+#[derive(Drop)]
+pub struct Pool {
+    max: u8,
+    size: PacketSize,
+    /// The last number that was used, 0 for none.
+    last: u32,
+    numbers: Numbers,
+    seats: Slab<Seat>,
+}
+
+impl Model for Pool {
+    ghost use Rattle.tds_pool.specs.Connections.{PoolState, IsPool};
+    ghost use Rattle.tds_pool.specs.Fields.{state_of};
+
+    ghost Value = { PoolState };
+
+    ghost view = { state_of };
+
+    ghost invariant = { λ a. IsPool (state_of a) };
+}
+
+impl Pool {
+    /// A pool for at most `max` connections, from 1 to 64. It takes no memory.
+    pub fn new(alloc: Global, max: u8, size: PacketSize) -> Option<Pool>
+        ensures given { 1 ≤ max → max ≤ 64 → IsSome result }
+        ensures lawful { IsSome result → (1 ≤ max) × (max ≤ 64) }
+        ensures value { IfSome result (λ pool. (connections pool ≡ []) × (pool.max ≡ max)
+            × (pool.size ≡ size) × (pool.last ≡ 0)) }
+    {
+        if max < 1 || max > MOST {
+            return None;
+        }
+        Some(Pool {
+            max,
+            size,
+            last: 0,
+            numbers: Numbers::new(alloc),
+            seats: Slab::new(alloc),
+        })
+    }
+
+    /// What stands under this key.
+    fn seat(&self, key: usize) -> Option<&Seat>
+        ensures { option_copied result ≡ get self.now.seats key }
+    {
+        self.seats.get(key)
+    }
+
+    /// Lends the client under this key.
+    fn lend(&mut self, key: usize) -> Option<&mut Client>
+        ensures* lends { sem 𝓛 (LendsClient self.entry key result) }
+        ensures value { option_copied_mut result
+            ≡ option_map (λ (seat : Seat). seat.client) (get self.entry.now.seats key) }
+    {
+        let seat = self.seats.get_mut(key)?;
+        Some(&mut seat.client)
+    }
+}

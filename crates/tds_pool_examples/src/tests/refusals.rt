@@ -1,0 +1,128 @@
+//! Each refusal of a lease that is to be kept, and of a ticket, in its order.
+use super::*;
+
+/// The number of the refusal to keep this lease; 0 for none. The lease is spent.
+fn refused_keep(alloc: Global, pool: &mut Pool, lease: Lease) -> u8 {
+    match pool.keep(lease) {
+        Ok(ticket) => {
+            let _ = pool.abandon(ticket);
+            0
+        }
+        Err((lease, refusal)) => {
+            spend(alloc, pool, lease);
+            refusal.number()
+        }
+    }
+}
+
+/// What is done on a connection before its lease is kept.
+#[derive(Clone, Copy)]
+enum Before {
+    Nothing,
+    Begun,
+    Asked,
+    AskedAndBroken,
+    Lost,
+}
+
+fn keeps(alloc: Global, pool: &mut Pool, number: u32, before: Before) -> u8 {
+    let Some(lease) = lease(alloc, pool, Opened::New(number)) else {
+        return 100;
+    };
+    let done = match before {
+        Before::Nothing => true,
+        Before::Begun => begin(alloc, pool, number),
+        Before::Asked => busy(alloc, pool, number),
+        Before::AskedAndBroken => busy(alloc, pool, number) && breaks(pool, number),
+        Before::Lost => pool.lost(number),
+    };
+    let refused = refused_keep(alloc, pool, lease);
+    let _ = pool.lost(number);
+    if done { refused } else { 101 }
+}
+
+#[test]
+fn keep_is_refused_in_order(rt: HostRuntime) -> Result<(), Fail> {
+    let alloc = rt.alloc();
+    let mut pool = pool(alloc, 1)?;
+    assert_eq!(rt; keeps(alloc, &mut pool, 1, Before::Nothing), 4);
+    assert_eq!(rt; keeps(alloc, &mut pool, 2, Before::Begun), 0);
+    assert_eq!(rt; keeps(alloc, &mut pool, 3, Before::Asked), 3);
+    assert_eq!(rt; keeps(alloc, &mut pool, 4, Before::AskedAndBroken), 5);
+    assert_eq!(rt; keeps(alloc, &mut pool, 5, Before::Lost), 2);
+    Ok(())
+}
+
+/// A transaction that a full reset is about to end isn't kept.
+fn under_full_mark(alloc: Global, pool: &mut Pool) -> u8 {
+    let Some(first) = lease(alloc, pool, Opened::New(1)) else {
+        return 100;
+    };
+    let begun = begin(alloc, pool, 1);
+    if back(alloc, pool, first) != (Some(GivenBack::Free(1)), 0) || !begun {
+        return 101;
+    }
+    match lease(alloc, pool, Opened::Reused(1)) {
+        Some(second) => refused_keep(alloc, pool, second),
+        None => 102,
+    }
+}
+
+#[test]
+fn nothing_is_kept_under_a_full_reset(rt: HostRuntime) -> Result<(), Fail> {
+    let alloc = rt.alloc();
+    assert_eq!(rt; under_full_mark(alloc, &mut pool(alloc, 1)?), 4);
+    Ok(())
+}
+
+/// Keeps a transaction, does something, and resumes it: the refusal's number, or 0 for none.
+fn resumes(alloc: Global, pool: &mut Pool, number: u32, before: Before) -> u8 {
+    let Some(lease) = lease(alloc, pool, Opened::New(number)) else {
+        return 100;
+    };
+    let begun = begin(alloc, pool, number);
+    let ticket = match pool.keep(lease) {
+        Ok(ticket) => ticket,
+        Err((lease, _)) => {
+            spend(alloc, pool, lease);
+            return 101;
+        }
+    };
+    let done = match before {
+        Before::Nothing => true,
+        Before::Begun => begun,
+        Before::Asked => busy(alloc, pool, number),
+        Before::AskedAndBroken => busy(alloc, pool, number) && breaks(pool, number),
+        Before::Lost => pool.lost(number),
+    };
+    let answer = match pool.resume(ticket) {
+        Ok(lease) => {
+            let marked = match pool.client_mut(&lease) {
+                Some(client) => {
+                    client.reset_mark() == Some(tds_packet::Reset::KeepTransaction)
+                        && client.descriptor() == 1
+                }
+                None => false,
+            };
+            spend(alloc, pool, lease);
+            if marked { 0 } else { 102 }
+        }
+        Err((ticket, refusal)) => {
+            let _ = pool.abandon(ticket);
+            refusal.number()
+        }
+    };
+    let _ = pool.lost(number);
+    if done && begun { answer } else { 103 }
+}
+
+#[test]
+fn resume_is_refused_in_order(rt: HostRuntime) -> Result<(), Fail> {
+    let alloc = rt.alloc();
+    let mut pool = pool(alloc, 1)?;
+    assert_eq!(rt; resumes(alloc, &mut pool, 1, Before::Nothing), 0);
+    assert_eq!(rt; resumes(alloc, &mut pool, 2, Before::Asked), 3);
+    assert_eq!(rt; resumes(alloc, &mut pool, 3, Before::AskedAndBroken), 5);
+    assert_eq!(rt; resumes(alloc, &mut pool, 4, Before::Lost), 2);
+    Ok(())
+}

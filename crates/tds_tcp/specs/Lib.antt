@@ -1,0 +1,4 @@
+pub mod Accepts
+pub mod Flows
+pub mod Pairs
+pub mod Pasts

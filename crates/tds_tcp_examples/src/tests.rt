@@ -1,0 +1,4 @@
+mod carrying;
+mod opening;
+mod plays;
+mod strangers;
