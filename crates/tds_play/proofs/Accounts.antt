@@ -1,5 +1,5 @@
 -- The failures of all connections, as events happen on them.
-use Rattle.std.proofs.Common.{◌≡◌, ◌≢◌, ◌∙◌, ◌<◌, ◌≤◌, ◌++◌, ◌==◌, ℕ, zero, suc, Bool, true, false, List, [], ◌∷◌, length, get_or, set, Option, Some, None, eqb, refl, sym, ap, subst, arith, append_assoc}
+use Rattle.std.proofs.Common.{◌≡◌, ◌≢◌, ◌∙◌, ◌<◌, ◌≤◌, ◌++◌, ◌==◌, ℕ, zero, suc, Bool, true, false, List, [], ◌∷◌, length, get_or, set, Option, Some, None, eqb, refl, sym, ap, subst, arith, append_assoc, append-nil, cond}
 use Rattle.tds_session.specs.Answer.{Answers}
 use Rattle.tds_world.specs.declared.event.Event.{Event}
 use Rattle.tds_world.specs.declared.event.Event.TheVariants as event
@@ -61,8 +61,8 @@ sound_push {E} {S} links new pipes pipes' sound same here =
 
 -- What the event came to there.
 fine_then : {E S : Type 0} (calls : List Call) (done : Done) (new : Link E S) (pipe : Option Pipe) (b : Bool) → done.lost ≡ b → FailsAs calls done new pipe → new.is_cut ≡ false → HasNoFailure pipe
-fine_then calls done new pipe true is as live = let cut = as.cut is in absurd (cc)
-fine_then calls done new pipe false is as live = subst (λ (x : Bool). Fails calls x pipe) is as.failed
+fine_then calls done new pipe true is fails live = let cut = fails.cut is in absurd (cc)
+fine_then calls done new pipe false is fails live = subst (λ (x : Bool). Fails calls x pipe) is fails.failed
 
 pub act_sound : {E S : Type 0} (calls : List Call) (done : Done) (link new : Link E S) (before after : Option Pipe) (b : Bool) → link.is_cut ≡ b
     → (link.is_cut ≡ false → HasNoFailure before) → (HasNoFailure before → FailsAs calls done new after) → (link.is_cut ≡ true → new ≡ link)
@@ -143,11 +143,12 @@ pub record AreTold (setup : Setup) (answers : Answers) (ps : List Played) (known
   pub failures : (place : ℕ) → AccountFor (lost_on setup answers (suc place) ps new_world) (known place)
 
 on_one_more : (setup : Setup) (answers : Answers) (n : ℕ) (ps : List Played) (p : Played) (w : World)
-    → lost_on setup answers n (ps ++ p ∷ []) w ≡ lost_on setup answers n ps w ++ lost_by p.loss (link_of setup (world_with setup answers ps w) p.event) n p.event ++ []
+    → lost_on setup answers n (ps ++ p ∷ []) w ≡ lost_on setup answers n ps w ++ (lost_by p.loss (link_of setup (world_with setup answers ps w) p.event) n p.event ++ [])
 on_one_more setup answers n [] p w = refl
 on_one_more setup answers n (q ∷ qs) p w =
     ap (λ (es : List Event). lost_by q.loss (link_of setup w q.event) n q.event ++ es) (on_one_more setup answers n qs p (world_then setup answers w q))
-    ∙ sym (append_assoc (lost_by q.loss (link_of setup w q.event) n q.event) (lost_on setup answers n qs (world_then setup answers w q)) _)
+    ∙ sym (append_assoc (lost_by q.loss (link_of setup w q.event) n q.event) (lost_on setup answers n qs (world_then setup answers w q))
+    (lost_by p.loss (link_of setup (world_with setup answers qs (world_then setup answers w q)) p.event) n p.event ++ []))
 
 links_one_more : (setup : Setup) (answers : Answers) (ps : List Played) (p : Played) (w : World) → UseLinks setup answers ps w
     → UsesLink p.loss (link_of setup (world_with setup answers ps w) p.event) → UseLinks setup answers (ps ++ p ∷ []) w
@@ -156,7 +157,7 @@ links_one_more setup answers (q ∷ qs) p w before one = (before.0, links_one_mo
 
 uses_by : (l : Loss) (link : Option ℕ) (e : Event) (before after : ℕ → Option Pipe) → FailsOn e (is_lost l) link before after → UsesLink l link
 uses_by Nothing link e before after fails = tt
-uses_by (Failed k) None e before after fails = let at = fails.1.0 in absurd (cc)
+uses_by (Failed k) None e before after fails = let at = fails.1 in absurd (cc)
 uses_by (Failed k) (Some n) e before after fails = tt
 
 account_same : (es : List Event) (before after : Option Pipe) → FailsNoMore before after → AccountFor es before → AccountFor (es ++ []) after
@@ -170,27 +171,34 @@ account_first [] e before after fine told fails = fails
 account_first (d ∷ []) e before after fine told fails = absurd (told.some.1 (fine told.some.0))
 account_first (d ∷ f ∷ es) e before after fine told fails = absurd told
 
-here_by : (k n : ℕ) (e : Event) → lost_by (Failed k) (Some n) n e ≡ e ∷ []
-here_by k n e = let same : (n == n) ≡ true = omega arith in rw same refl
+here_by : (k m n : ℕ) (e : Event) → (m == n) ≡ true → lost_by (Failed k) (Some m) n e ≡ e ∷ []
+here_by k m n e t = ap (λ (b : Bool). cond b (e ∷ []) []) t
 
-not_here : (k m n : ℕ) (e : Event) → m ≢ n → lost_by (Failed k) (Some m) n e ≡ []
-not_here k m n e other = let differs : (m == n) ≡ false = omega (arith, other) in rw differs refl
+not_here : (k m n : ℕ) (e : Event) → (m == n) ≡ false → lost_by (Failed k) (Some m) n e ≡ []
+not_here k m n e t = ap (λ (b : Bool). cond b (e ∷ []) []) t
+
+none_here : (link : Option ℕ) (n : ℕ) (e : Event) → lost_by Nothing link n e ≡ []
+none_here None n e = refl
+none_here (Some m) n e = refl
+
+account_with : (es xs ys : List Event) (p : Option Pipe) → ys ≡ xs → AccountFor (es ++ xs) p → AccountFor (es ++ (ys ++ [])) p
+account_with es xs ys p is told = subst (λ (zs : List Event). AccountFor (es ++ zs) p) (sym (append-nil ys ∙ is)) told
 
 account_more : (l : Loss) (link : Option ℕ) (e : Event) (before after : ℕ → Option Pipe) (place : ℕ) (es : List Event) → FailsOn e (is_lost l) link before after
-    → AccountFor es (before place) → AccountFor (es ++ lost_by l link (suc place) e ++ []) (after place)
-account_more Nothing link e before after place es fails told = account_same es (before place) (after place) (fails place) told
+    → AccountFor es (before place) → AccountFor (es ++ (lost_by l link (suc place) e ++ [])) (after place)
+account_more Nothing link e before after place es fails told =
+    account_with es [] (lost_by Nothing link (suc place) e) (after place) (none_here link (suc place) e) (account_same es (before place) (after place) (fails place) told)
 account_more (Failed k) link e before after place es fails told =
-    subst (λ (o : Option ℕ). AccountFor (es ++ lost_by (Failed k) o (suc place) e ++ []) (after place)) (sym fails.1.0)
-    (by_test (AccountFor (es ++ lost_by (Failed k) (Some (suc fails.0)) (suc place) e ++ []) (after place)) (eqb place fails.0)
-    (λ t. let at : place ≡ fails.0 = is_at place fails.0 t in
-    subst (λ (m : ℕ). AccountFor (es ++ lost_by (Failed k) (Some (suc m)) (suc place) e ++ []) (after place)) at
-    (subst (λ (xs : List Event). AccountFor (es ++ xs ++ []) (after place)) (sym (here_by k (suc place) e))
+    subst (λ (o : Option ℕ). AccountFor (es ++ (lost_by (Failed k) o (suc place) e ++ [])) (after place)) (sym fails.1)
+    (by_test (AccountFor (es ++ (lost_by (Failed k) (Some (suc fails.0)) (suc place) e ++ [])) (after place)) (suc fails.0 == suc place)
+    (λ t. let at : place ≡ fails.0 = omega (arith, is_at (suc fails.0) (suc place) t) in
+    account_with es (e ∷ []) (lost_by (Failed k) (Some (suc fails.0)) (suc place) e) (after place) (here_by k (suc fails.0) (suc place) e t)
     (account_first es e (before place) (after place)
-    (subst (λ (m : ℕ). HasNoFailure (before m)) (sym at) fails.1.1.0) told
-    (subst (λ (m : ℕ). IsFailureOf e (after m)) (sym at) fails.1.1.1.0))))
-    (λ t. let other : place ≢ fails.0 = is_other place fails.0 t in
-    subst (λ (xs : List Event). AccountFor (es ++ xs ++ []) (after place)) (sym (not_here k (suc fails.0) (suc place) e (λ z. other (omega (arith, z)))))
-    (account_same es (before place) (after place) (fails.1.1.1.1 place other) told)))
+    (subst (λ (m : ℕ). HasNoFailure (before m)) (sym at) fails.2) told
+    (subst (λ (m : ℕ). IsFailureOf e (after m)) (sym at) fails.3)))
+    (λ t. let other : place ≢ fails.0 = λ z. is_other (suc fails.0) (suc place) t (omega (arith, z)) in
+    account_with es [] (lost_by (Failed k) (Some (suc fails.0)) (suc place) e) (after place) (not_here k (suc fails.0) (suc place) e t)
+    (account_same es (before place) (after place) (fails.4 place other) told)))
 
 pub told_more : (setup : Setup) (answers : Answers) (ps : List Played) (p : Played) (before after : ℕ → Option Pipe)
     → FailsOn p.event (is_lost p.loss) (link_of setup (world_with setup answers ps new_world) p.event) before after

@@ -7,6 +7,7 @@ ghost use Rattle.tds_play.specs.WholePlay.{CarriesBytesOf, CutsThoseOf, HandsByt
 ghost use Rattle.tds_play.specs.declared.playing.PlayRefusal.TheVariants.{Memory};
 ghost use Rattle.tds_play.specs.declared.playing.PlayRefusal.{PlayRefusal};
 ghost use Rattle.tds_session.specs.Answer.{answer_of, script_answers};
+ghost use Rattle.tds_world.specs.Losses.{marked};
 ghost use Rattle.tds_world.specs.Alone.{AsIfAlone};
 ghost use Rattle.tds_world.specs.AloneShown.{ShowsAsIfAlone};
 ghost use Rattle.tds_world.specs.Bounds.{BeginsOnce, IsEvent, IsSetup, OneAttention};

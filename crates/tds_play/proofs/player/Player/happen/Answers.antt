@@ -7,6 +7,8 @@ use Rattle.tds_play.specs.declared.pool.Found.TheVariants.{Missing, Opens}
 use Rattle.tds_play.specs.Player.{HappensAlike}
 use Rattle.tds_play.proofs.Found.{HappensBy}
 use Rattle.tds_play.proofs.PlayerFinds.{FoundHere, about_one, client_restarts, found_alike, found_here, missing_alike, server_restarts}
+use Rattle.tds_world.specs.declared.outcome.Outcome.TheVariants as outcome
+use Rattle.tds_play.specs.Seen.{done_as}
 use Rattle.tds_play.specs.Failures.{FailsOn, all_known}
 use Rattle.tds_world.specs.Losses.{link_of}
 use Rattle.tds_play.proofs.Accounts.{none_lost}
@@ -58,11 +60,11 @@ returns-in-Opens-clause-alike g c = λ setup engine w tells is promised countabl
 
 pub returns-in-RestartServer-clause-lost : goal.returns-in-RestartServer-clause-lost
 returns-in-RestartServer-clause-lost g c = λ setup engine w sound is promised.
-    none_lost c.args.event.now _ (link_of setup w c.args.event.now) (length c.args.self.now.links.items) (length c.cut_all.new.self.links.items) (g.C.Carrier.pipes c.args.carrier.now) (g.C.Carrier.pipes c.cut_all.new.carrier) refl c.cut_all.ensures.count c.cut_all.ensures.failed
+    none_lost c.args.event.now (done_as outcome.RestartedServer) (link_of setup w c.args.event.now) (length c.args.self.now.links.items) (length c.cut_all.new.self.links.items) (g.C.Carrier.pipes c.args.carrier.now) (g.C.Carrier.pipes c.cut_all.new.carrier) refl c.cut_all.ensures.count c.cut_all.ensures.failed
 
 pub returns-in-RestartClient-clause-lost : goal.returns-in-RestartClient-clause-lost
 returns-in-RestartClient-clause-lost g c = λ setup engine w sound is promised.
-    none_lost c.args.event.now _ (link_of setup w c.args.event.now) (length c.args.self.now.links.items) (length c.cut_all-in-RestartClient.new.self.links.items) (g.C.Carrier.pipes c.args.carrier.now) (g.C.Carrier.pipes c.cut_all-in-RestartClient.new.carrier) refl c.cut_all-in-RestartClient.ensures.count c.cut_all-in-RestartClient.ensures.failed
+    none_lost c.args.event.now (done_as outcome.RestartedClient) (link_of setup w c.args.event.now) (length c.args.self.now.links.items) (length c.cut_all-in-RestartClient.new.self.links.items) (g.C.Carrier.pipes c.args.carrier.now) (g.C.Carrier.pipes c.cut_all-in-RestartClient.new.carrier) refl c.cut_all-in-RestartClient.ensures.count c.cut_all-in-RestartClient.ensures.failed
 
 pub returns-in-Missing-clause-lost : goal.returns-in-Missing-clause-lost
 returns-in-Missing-clause-lost g c = λ setup engine w sound is promised.
