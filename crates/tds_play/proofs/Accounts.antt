@@ -79,12 +79,12 @@ acts_by : (e : Event) (b : Bool) (link : Option ℕ) (count place : ℕ) (pipes 
     → HasNoFailure (pipes (suc place)) → Fails (calls_of e) b (pipes' (suc place)) → (b ≡ true → link ≡ Some (suc place))
     → FailsOn e b link (all_known count pipes) (all_known count pipes')
 acts_by e true link count place pipes pipes' less same fine fails at = (
-      place,
-      at refl,
-      subst HasNoFailure (sym (known_is count place (pipes (suc place)) less)) fine,
-      subst (HasFailed (calls_of e)) (sym (known_is count place (pipes' (suc place)) less)) fails,
-      other_known count place pipes pipes' same,
-    )
+  place,
+  at refl,
+  subst HasNoFailure (sym (known_is count place (pipes (suc place)) less)) fine,
+  subst (HasFailed (calls_of e)) (sym (known_is count place (pipes' (suc place)) less)) fails,
+  other_known count place pipes pipes' same,
+)
 acts_by e false link count place pipes pipes' less same fine fails at = λ other.
     by_test (FailsNoMore (all_known count pipes other) (all_known count pipes' other)) (eqb other place)
     (λ t. subst (λ (k : ℕ). FailsNoMore (all_known count pipes k) (all_known count pipes' k)) (sym (is_at other place t))
@@ -115,12 +115,12 @@ pub opens_lost : (lost : Bool) (link : Option ℕ) (count : ℕ) (pipes pipes' :
     → link ≡ Some (suc count) → Fails (Open ∷ []) lost (pipes' (suc count))
     → FailsOn event.Lease lost link (all_known count pipes) (all_known (suc count) pipes')
 opens_lost true link count pipes pipes' same at fails = (
-      count,
-      at,
-      subst HasNoFailure (sym (not_yet count (pipes (suc count)))) (λ call. refl),
-      subst (HasFailed (Open ∷ [])) (sym (known_then count (pipes' (suc count)))) fails,
-      opened_other count pipes pipes' same,
-    )
+  count,
+  at,
+  subst HasNoFailure (sym (not_yet count (pipes (suc count)))) (λ call. refl),
+  subst (HasFailed (Open ∷ [])) (sym (known_then count (pipes' (suc count)))) fails,
+  opened_other count pipes pipes' same,
+)
 opens_lost false link count pipes pipes' same at fails = λ other.
     by_test (FailsNoMore (all_known count pipes other) (all_known (suc count) pipes' other)) (eqb other count)
     (λ t. subst (λ (k : ℕ). FailsNoMore (all_known count pipes k) (all_known (suc count) pipes' k)) (sym (is_at other count t))

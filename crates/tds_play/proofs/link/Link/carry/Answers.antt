@@ -48,7 +48,6 @@ returns-clause-failed g c = λ fine.
     let conn : ℕ = c.args.self.now.number in
     fails_no_more (Carry c.args.direction ∷ []) false (g.C.Carrier.pipes c.args.carrier.now conn) (g.C.Carrier.pipes c.pieces.carrier conn) c.pieces.invariant.failed fine
 
-
 pub returns-in-Err-Lost-clause-failed : goal.returns-in-Err-Lost-clause-failed
 returns-in-Err-Lost-clause-failed g c = λ fine.
     let i = c.pieces.invariant in
