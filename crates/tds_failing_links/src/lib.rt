@@ -1,4 +1,4 @@
-//! A carrier whose links fail, bring little at a time, or change bytes on the way, as it is told to.
+//! A carrier whose links fail, bring little at a time, or change a byte on the way, by a plan.
 #![tactic(auto)]
 
 mod carrier;

@@ -66,7 +66,8 @@ impl Link {
         ensures kept { OnOk result (take (length out.old.items) out.new.items ≡ out.old.items) }
         ensures ok { OnOk result (
             Some (pipe_of self.new)
-            ≡ carried_on (Some (pipe_of self.old)) direction (drop (length out.old.items) out.new.items)) }
+            ≡ carried_on (Some (pipe_of self.old)) direction
+            (drop (length out.old.items) out.new.items)) }
         ensures found { result ≢ Err Lost }
     {
         match direction {
