@@ -1,7 +1,9 @@
-//! Plays each schedule of a folder over memory and over sockets of this machine, and compares what is
-//! printed with the text that stands beside it.
+//! Plays each schedule of a folder over memory, over sockets of this machine and over links that bring
+//! a byte at a time, and compares what is printed with the text that stands beside it. Then each call
+//! of its links fails in turn.
 #![tactic(auto)]
 
+mod failing;
 mod folder;
 mod playing;
 

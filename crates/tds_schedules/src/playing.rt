@@ -1,5 +1,6 @@
 //! One schedule and its text.
 
+use crate::failing::difference_with_failures;
 use std::alloc::{AllocError, Global};
 use std::{fs, io};
 use tds_play::{Carrier, MemoryCarrier, run_play};
@@ -29,11 +30,11 @@ pub(crate) fn difference(rt: &HostRuntime, folder: &str, name: &str) -> io::Resu
         );
         return Ok(Some(what?));
     }
-    Ok(None)
+    difference_with_failures(rt, file.as_str(), text.as_slice())
 }
 
 /// What of the run over this carrier is not as the text has it.
-fn difference_over<C: Carrier>(
+pub(crate) fn difference_over<C: Carrier>(
     rt: &HostRuntime,
     file: &str,
     carrier: &mut C,
