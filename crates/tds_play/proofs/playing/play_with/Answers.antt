@@ -1,6 +1,6 @@
 use Rattle.std.proofs.Common.{◌≡◌, ℕ, List, [], subst, sym, refl, ◌∙◌}
 use Rattle.std.specs.Prelude.{IfOk, Option}
-use Rattle.tds_play.specs.Failures.{FailNowhere, TellFailures}
+use Rattle.tds_play.specs.Failures.{TellFailures}
 use Rattle.tds_play.specs.Pipe.{Pipe}
 use Rattle.tds_play.specs.Player.{IsPlay}
 use Rattle.tds_play.specs.Plays.{ArePlayed}
