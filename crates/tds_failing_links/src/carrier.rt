@@ -88,8 +88,6 @@ impl Carrier for FailingCarrier {
 
     ghost tells = { λ _. ⊥ };
 
-    ghost steady = { ⊥ };
-
     fn open(&mut self, conn: u32) -> Result<(), CarrierError> {
         let fails = self.fails(conn)?;
         let link = Link::new(self.alloc, fails);

@@ -1,10 +1,12 @@
 -- The failures of all connections, as events happen on them.
 use Rattle.std.proofs.Common.{◌≡◌, ◌≢◌, ◌∙◌, ◌<◌, ◌≤◌, ◌++◌, ◌==◌, ℕ, zero, suc, Bool, true, false, List, [], ◌∷◌, length, get_or, set, Option, Some, None, eqb, refl, sym, ap, subst, arith, append_assoc, append-nil, cond}
+use Rattle.std.specs.List.{AllByRecursion}
 use Rattle.tds_session.specs.Answer.{Answers}
 use Rattle.tds_world.specs.declared.event.Event.{Event}
 use Rattle.tds_world.specs.declared.event.Event.TheVariants as event
 use Rattle.tds_world.specs.declared.event.Setup.{Setup}
 use Rattle.tds_world.specs.Losses.{Loss, Nothing, Failed, Played, is_lost, link_of, world_then, world_with}
+use Rattle.tds_world.specs.WithLosses.{LosesNothing}
 use Rattle.tds_world.specs.World.{World, new_world}
 use Rattle.tds_play.specs.declared.link.Done.{Done}
 use Rattle.tds_play.specs.declared.link.Link.{Link}
@@ -141,6 +143,7 @@ none_lost e done link count count' pipes pipes' whole many same =
 pub record AreTold (setup : Setup) (answers : Answers) (ps : List Played) (known : ℕ → Option Pipe) : Type 0 where
   pub links : UseLinks setup answers ps new_world
   pub failures : (place : ℕ) → AccountFor (lost_on setup answers (suc place) ps new_world) (known place)
+  pub unfailing : ((place : ℕ) → HasNoFailure (known place)) → LosesNothing ps
 
 on_one_more : (setup : Setup) (answers : Answers) (n : ℕ) (ps : List Played) (p : Played) (w : World)
     → lost_on setup answers n (ps ++ p ∷ []) w ≡ lost_on setup answers n ps w ++ (lost_by p.loss (link_of setup (world_with setup answers ps w) p.event) n p.event ++ [])
@@ -159,6 +162,10 @@ uses_by : (l : Loss) (link : Option ℕ) (e : Event) (before after : ℕ → Opt
 uses_by Nothing link e before after fails = tt
 uses_by (Failed k) None e before after fails = let at = fails.1 in absurd (cc)
 uses_by (Failed k) (Some n) e before after fails = tt
+
+all_then : {A : Type 0} (P : A → Type 0) (xs : List A) (x : A) → AllByRecursion P xs → P x → AllByRecursion P (xs ++ x ∷ [])
+all_then P [] x h p = (p, tt)
+all_then P (y ∷ ys) x h p = (h.0, all_then P ys x h.1 p)
 
 account_same : (es : List Event) (before after : Option Pipe) → FailsNoMore before after → AccountFor es before → AccountFor (es ++ []) after
 account_same [] before after same told = fails_no_more [] false before after same told
@@ -200,6 +207,19 @@ account_more (Failed k) link e before after place es fails told =
     account_with es [] (lost_by (Failed k) (Some (suc fails.0)) (suc place) e) (after place) (not_here k (suc fails.0) (suc place) e t)
     (account_same es (before place) (after place) (fails.4 place other) told)))
 
+-- Where nothing has failed after an event, nothing had before it, and it wasn't lost.
+fine_before : (p : Played) (link : Option ℕ) (before after : ℕ → Option Pipe) (ps : List Played) → FailsOn p.event (is_lost p.loss) link before after
+    → (((place : ℕ) → HasNoFailure (before place)) → LosesNothing ps) → ((place : ℕ) → HasNoFailure (after place)) → LosesNothing (ps ++ p ∷ [])
+fine_before p link before after ps fails earlier fine = by_loss p.loss refl
+  where
+    by_loss : (l : Loss) → p.loss ≡ l → LosesNothing (ps ++ p ∷ [])
+    by_loss Nothing is =
+        let same : (place : ℕ) → FailsNoMore (before place) (after place) = subst (λ (l : Loss). FailsOn p.event (is_lost l) link before after) is fails in
+        all_then (λ (q : Played). q.loss ≡ Nothing) ps p (earlier (λ place call. sym (same place call) ∙ fine place call)) is
+    by_loss (Failed came) is =
+        let lost : FailsOn p.event true link before after = subst (λ (l : Loss). FailsOn p.event (is_lost l) link before after) is fails in
+        absurd (lost.3.some.1 (fine lost.0 lost.3.some.0))
+
 pub told_more : (setup : Setup) (answers : Answers) (ps : List Played) (p : Played) (before after : ℕ → Option Pipe)
     → FailsOn p.event (is_lost p.loss) (link_of setup (world_with setup answers ps new_world) p.event) before after
     → AreTold setup answers ps before → AreTold setup answers (ps ++ p ∷ []) after
@@ -209,10 +229,11 @@ told_more setup answers ps p before after fails told =
       links = links_one_more setup answers ps p new_world told.links (uses_by p.loss link p.event before after fails);
       failures = λ place. subst (λ (es : List Event). AccountFor es (after place)) (sym (on_one_more setup answers (suc place) ps p new_world))
           (account_more p.loss link p.event before after place (lost_on setup answers (suc place) ps new_world) fails (told.failures place));
+      unfailing = fine_before p link before after ps fails told.unfailing;
     }
 
 pub told_none : (setup : Setup) (answers : Answers) (pipes : ℕ → Option Pipe) → AreTold setup answers [] (all_known 0 pipes)
-told_none setup answers pipes = record { links = tt; failures = λ place call. refl }
+told_none setup answers pipes = record { links = tt; failures = λ place call. refl; unfailing = λ fine. tt }
 
 pub told_all : (setup : Setup) (answers : Answers) (ps : List Played) (count : ℕ) (pipes : ℕ → Option Pipe)
     → count ≡ length (world_with setup answers ps new_world).connections → AreTold setup answers ps (all_known count pipes) → TellFailures setup answers ps pipes
@@ -224,6 +245,12 @@ told_all setup answers ps count pipes many told = record {
     at : (n : ℕ) → 0 < n → n ≤ length (world_with setup answers ps new_world).connections → AccountFor (lost_on setup answers n ps new_world) (pipes n)
     at zero some most = absurd (omega (arith, some))
     at (suc place) some most = subst (AccountFor (lost_on setup answers (suc place) ps new_world)) (known_is count place (pipes (suc place)) (omega (arith, most, many))) (told.failures place)
+
+-- A connection that isn't known has no failure.
+pub known_fine : (count place : ℕ) (p : Option Pipe) → HasNoFailure p → HasNoFailure (known_at count place p)
+known_fine zero place p fine = λ call. refl
+known_fine (suc count) zero p fine = fine
+known_fine (suc count) (suc place) p fine = known_fine count place p fine
 
 -- ---- An event on the connection at a place
 

@@ -1,4 +1,5 @@
 pub mod Queues
+pub mod MemoryFails
 pub mod Listed
 pub mod Running
 pub mod Lent

@@ -1,6 +1,6 @@
 -- What a run leaves and tells.
 use Rattle.std.proofs.Common.{◌≡◌, ap, arith, inl, inr, List, ℕ, [], Option, Some, None, refl, sym, suc, ◌∙◌, subst, append-nil}
-use Rattle.std.specs.Prelude.{◌⊎◌, Result, Ok, Err, IfErr, IfSome, option_map, take, length, min, ◌≤◌, ◌++◌}
+use Rattle.std.specs.Prelude.{◌⊎◌, Result, Ok, Err, IfErr, IfSome, OnOk, option_map, take, length, min, ◌≤◌, ◌++◌}
 use Rattle.std.proofs.lemmas.List.{length-take, take_all}
 use Rattle.std.specs.Io.KnownBytes.{Appends, Keeps}
 use Rattle.std.specs.Io.Take.{take_limit, take_inner, take_remaining}
@@ -8,7 +8,8 @@ use Rattle.std.specs.declared.io.traits.Take.{Take}
 use Rattle.tds_world.specs.declared.report.Report.{Report}
 use Rattle.tds_text.specs.Lines.{text_of}
 use Rattle.tds_text.specs.Written.{WritesBeginning}
-use Rattle.tds_play.specs.Runs.{file_limit, AreLeft, FitsFile, IsReportOf, IsUnread, IsBeforeOutput, LeavesOutput, EndsBy}
+use Rattle.tds_play.specs.Pipe.{Pipe}
+use Rattle.tds_play.specs.Runs.{file_limit, AreLeft, FitsFile, IsReportOf, IsUnread, IsBeforeOutput, LeavesOutput, EndsBy, Reports}
 use Rattle.tds_play.specs.declared.run.RunFault.{RunFault}
 use Rattle.tds_play.specs.declared.run.RunFault.TheVariants as run
 
@@ -66,22 +67,28 @@ pub memory_unread : (left : Option (List ℕ)) → IsUnread run.Memory left
 memory_unread left = let some = some_left left in ((some.0, some.1, tt), λ e. let bad : 0 ≡ 1 = ap is_output e in absurd (omega arith))
 
 -- nothing is printed before a fault that comes first
-pub leaves_all : (steady : Type 0) (fault : RunFault) (bytes : List ℕ) (a : Option (List ℕ)) → IsBeforeOutput fault → LeavesOutput steady fault bytes a a
-leaves_all steady run.File bytes a h = keeps_same a
-leaves_all steady run.Json bytes a h = keeps_same a
-leaves_all steady (run.Schedule place) bytes a h = keeps_same a
-leaves_all steady (run.Play refusal) bytes a h = keeps_same a
-leaves_all steady run.Output bytes a h = absurd (h refl)
-leaves_all steady run.Memory bytes a h = inl (keeps_same a)
+pub leaves_all : (pipes : ℕ → Option Pipe) (fault : RunFault) (bytes : List ℕ) (a : Option (List ℕ)) → IsBeforeOutput fault → LeavesOutput pipes fault bytes a a
+leaves_all pipes run.File bytes a h = keeps_same a
+leaves_all pipes run.Json bytes a h = keeps_same a
+leaves_all pipes (run.Schedule place) bytes a h = keeps_same a
+leaves_all pipes (run.Play refusal) bytes a h = keeps_same a
+leaves_all pipes run.Output bytes a h = absurd (h refl)
+leaves_all pipes run.Memory bytes a h = inl (keeps_same a)
 
 -- printing that fails leaves a beginning of the report's text
-ends_by : (steady : Type 0) (fault : RunFault) (left old new : Option (List ℕ)) (bytes : List ℕ) (report : Report) → AreLeft left bytes → IsReportOf steady bytes report
-    → WritesBeginning old new (text_of report) → (fault ≡ run.Output) ⊎ (fault ≡ run.Memory) → EndsBy steady fault left old new
-ends_by steady fault left old new bytes report all is begun (inl e) = rw e (bytes, all, (is.0, is.1, is.2, is.3), (report, is, begun))
-ends_by steady fault left old new bytes report all is begun (inr e) = rw e (bytes, all, tt, inr (report, is, begun))
+ends_by : (pipes : ℕ → Option Pipe) (fault : RunFault) (left old new : Option (List ℕ)) (bytes : List ℕ) (report : Report) → AreLeft left bytes → IsReportOf pipes bytes report
+    → WritesBeginning old new (text_of report) → (fault ≡ run.Output) ⊎ (fault ≡ run.Memory) → EndsBy pipes fault left old new
+ends_by pipes fault left old new bytes report all is begun (inl e) = rw e (bytes, all, (is.0, is.1, is.2, is.3), (report, is, begun))
+ends_by pipes fault left old new bytes report all is begun (inr e) = rw e (bytes, all, tt, inr (report, is, begun))
 
 -- so it does, if it fails
-pub ends_printing : {A : Type 0} (steady : Type 0) (r : Result A RunFault) (left old new : Option (List ℕ)) (bytes : List ℕ) (report : Report) → AreLeft left bytes → IsReportOf steady bytes report
-    → IfErr r (λ fault. WritesBeginning old new (text_of report)) → IfErr r (λ fault. (fault ≡ run.Output) ⊎ (fault ≡ run.Memory)) → IfErr r (λ fault. EndsBy steady fault left old new)
-ends_printing steady (Ok x) left old new bytes report all is begun which = tt
-ends_printing steady (Err fault) left old new bytes report all is begun which = ends_by steady fault left old new bytes report all is begun which
+pub ends_printing : {A : Type 0} (pipes : ℕ → Option Pipe) (r : Result A RunFault) (left old new : Option (List ℕ)) (bytes : List ℕ) (report : Report) → AreLeft left bytes → IsReportOf pipes bytes report
+    → IfErr r (λ fault. WritesBeginning old new (text_of report)) → IfErr r (λ fault. (fault ≡ run.Output) ⊎ (fault ≡ run.Memory)) → IfErr r (λ fault. EndsBy pipes fault left old new)
+ends_printing pipes (Ok x) left old new bytes report all is begun which = tt
+ends_printing pipes (Err fault) left old new bytes report all is begun which = ends_by pipes fault left old new bytes report all is begun which
+
+-- where it doesn't, the whole text went out
+pub reports_printing : {A B : Type 0} (pipes : ℕ → Option Pipe) (r : Result A B) (left old new : Option (List ℕ)) (bytes : List ℕ) (report : Report) → AreLeft left bytes → IsReportOf pipes bytes report
+    → OnOk r (Appends old new (text_of report)) → OnOk r (Reports pipes left old new)
+reports_printing pipes (Ok x) left old new bytes report all is whole = (bytes, all, report, is, whole)
+reports_printing pipes (Err fault) left old new bytes report all is whole = tt

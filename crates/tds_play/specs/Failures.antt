@@ -31,6 +31,10 @@ failures (Some p) (Carry d) = (traffic_of p d).carry_failures
 abbrev pub HasNoFailure : Option Pipe → Type 0
 HasNoFailure pipe = (call : Call) → failures pipe call ≡ 0
 
+-- No call failed on any connection.
+abbrev pub FailNowhere : (ℕ → Option Pipe) → Type 0
+FailNowhere pipes = (n : ℕ) → HasNoFailure (pipes n)
+
 -- As many failed of each.
 abbrev pub FailsNoMore : Option Pipe → Option Pipe → Type 0
 FailsNoMore before after = (call : Call) → failures after call ≡ failures before call

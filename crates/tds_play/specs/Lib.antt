@@ -1,5 +1,6 @@
 pub mod Pipe
 pub mod Failures
+pub mod Kept
 pub mod Memory
 pub mod Ties
 pub mod Links

@@ -11,6 +11,8 @@ use Rattle.tds_text.specs.Lines.{text_of}
 use Rattle.tds_text.specs.Written.{WritesBeginning}
 use Rattle.tds_text.specs.Files.{Spells, IsWrongAt, IsNoJson}
 use Rattle.tds_world.specs.WithLosses.{IsReportWith, MarksNothing}
+use Rattle.tds_play.specs.Failures.{FailNowhere}
+use Rattle.tds_play.specs.Pipe.{Pipe}
 use Rattle.tds_play.specs.Refused.{first_refusal, play_refusal_number}
 use Rattle.tds_text.specs.declared.schedule.fault.ScheduleFault.{ScheduleFault}
 use Rattle.tds_text.specs.declared.schedule.fault.ScheduleFault.TheVariants as schedule
@@ -36,16 +38,17 @@ abbrev pub IsRefused : List ℕ → Option PlayRefusal → Type 0
 IsRefused bytes why = (setup : Setup) × (events : List Event) × Spells bytes setup events × (first_refusal setup (length events) ≡ why)
 
 -- The report of a play of these events: the model's, with the losses that it marks. Where it marks
--- none, it is the model's of the events as they are; and so it is where the carrier is steady.
-pub record IsTold (steady : Type 0) (setup : Setup) (events : List Event) (report : Report) : Type 0 where
+-- none, it is the model's of the events as they are; and it marks none where the carrier, which holds
+-- these connections in the end, counts no failed call.
+pub record IsTold (pipes : ℕ → Option Pipe) (setup : Setup) (events : List Event) (report : Report) : Type 0 where
   pub told : IsReportWith setup script_answers events report
   pub plain : MarksNothing report → report ≡ observed setup script_answers events
-  pub whole : steady → MarksNothing report
+  pub whole : FailNowhere pipes → MarksNothing report
 
 -- These bytes are a schedule file of what is played, and this is its report.
-abbrev pub IsReportOf : Type 0 → List ℕ → Report → Type 0
-IsReportOf steady bytes report = (setup : Setup) × (events : List Event) × Spells bytes setup events
-    × (first_refusal setup (length events) ≡ None) × IsTold steady setup events report
+abbrev pub IsReportOf : (ℕ → Option Pipe) → List ℕ → Report → Type 0
+IsReportOf pipes bytes report = (setup : Setup) × (events : List Event) × Spells bytes setup events
+    × (first_refusal setup (length events) ≡ None) × IsTold pipes setup events report
 
 -- What a fault says of the bytes that were read. That reading failed, that a write failed and that
 -- memory was refused can't be seen in them; a report is printed only of what is played.
@@ -66,18 +69,18 @@ abbrev pub IsUnread : RunFault → Option (List ℕ) → Type 0
 IsUnread fault left = ((bytes : List ℕ) × AreLeft left bytes × IsFaultOf fault bytes) × IsBeforeOutput fault
 
 -- A beginning of the text of the report of these bytes went out.
-abbrev pub BeginsReport : Type 0 → List ℕ → Option (List ℕ) → Option (List ℕ) → Type 0
-BeginsReport steady bytes old new = (report : Report) × IsReportOf steady bytes report × WritesBeginning old new (text_of report)
+abbrev pub BeginsReport : (ℕ → Option Pipe) → List ℕ → Option (List ℕ) → Option (List ℕ) → Type 0
+BeginsReport pipes bytes old new = (report : Report) × IsReportOf pipes bytes report × WritesBeginning old new (text_of report)
 
 -- What went to the output before a fault: a beginning of the report's text where it was printed then,
 -- else nothing.
-abbrev pub LeavesOutput : Type 0 → RunFault → List ℕ → Option (List ℕ) → Option (List ℕ) → Type 0
-LeavesOutput steady run.Output bytes old new = BeginsReport steady bytes old new
-LeavesOutput steady run.Memory bytes old new = Keeps old new ⊎ BeginsReport steady bytes old new
-LeavesOutput steady run.File bytes old new = Keeps old new
-LeavesOutput steady run.Json bytes old new = Keeps old new
-LeavesOutput steady (run.Schedule place) bytes old new = Keeps old new
-LeavesOutput steady (run.Play refusal) bytes old new = Keeps old new
+abbrev pub LeavesOutput : (ℕ → Option Pipe) → RunFault → List ℕ → Option (List ℕ) → Option (List ℕ) → Type 0
+LeavesOutput pipes run.Output bytes old new = BeginsReport pipes bytes old new
+LeavesOutput pipes run.Memory bytes old new = Keeps old new ⊎ BeginsReport pipes bytes old new
+LeavesOutput pipes run.File bytes old new = Keeps old new
+LeavesOutput pipes run.Json bytes old new = Keeps old new
+LeavesOutput pipes (run.Schedule place) bytes old new = Keeps old new
+LeavesOutput pipes (run.Play refusal) bytes old new = Keeps old new
 
 -- The line of a fault.
 abbrev pub fault_line : RunFault → List ℕ
@@ -94,13 +97,13 @@ abbrev pub TellsFault : Option (List ℕ) → Option (List ℕ) → RunFault →
 TellsFault old new fault = WritesBeginning old new (fault_line fault) ⊎ WritesBeginning old new (fault_line run.Memory)
 
 -- The bytes that were left are a schedule that is played, and the text of its report went out.
-abbrev pub Reports : Type 0 → Option (List ℕ) → Option (List ℕ) → Option (List ℕ) → Type 0
-Reports steady left old new = (bytes : List ℕ) × AreLeft left bytes
-    × (report : Report) × IsReportOf steady bytes report × Appends old new (text_of report)
+abbrev pub Reports : (ℕ → Option Pipe) → Option (List ℕ) → Option (List ℕ) → Option (List ℕ) → Type 0
+Reports pipes left old new = (bytes : List ℕ) × AreLeft left bytes
+    × (report : Report) × IsReportOf pipes bytes report × Appends old new (text_of report)
 
 -- A run ended by this fault.
-abbrev pub EndsBy : Type 0 → RunFault → Option (List ℕ) → Option (List ℕ) → Option (List ℕ) → Type 0
-EndsBy steady fault left old new = (bytes : List ℕ) × AreLeft left bytes × IsFaultOf fault bytes × LeavesOutput steady fault bytes old new
+abbrev pub EndsBy : (ℕ → Option Pipe) → RunFault → Option (List ℕ) → Option (List ℕ) → Option (List ℕ) → Type 0
+EndsBy pipes fault left old new = (bytes : List ℕ) × AreLeft left bytes × IsFaultOf fault bytes × LeavesOutput pipes fault bytes old new
 
 -- The fault of a run, by the one of the schedule.
 abbrev pub of_schedule : ScheduleFault → RunFault

@@ -23,14 +23,10 @@ pub trait Carrier {
     /// The bytes that come are those that were handed over.
     ghost tells: { Self → Type 0 };
 
-    /// No connection fails.
-    ghost steady: { Type 0 };
-
     /// Opens this connection.
     fn open(&mut self, conn: u32) -> Result<(), CarrierError>
         ensures ok { OnOk result (Changes (pipes self.old) (pipes self.new) conn (Some (new_pipe 0))) }
         ensures lost { result ≡ Err Lost → Changes (pipes self.old) (pipes self.new) conn (Some (new_pipe 1)) }
-        ensures steady { steady → result ≢ Err Lost }
         ensures tells { result ≢ Err Memory → tells self.old → tells self.new };
 
     /// Hands bytes over. They are underway then, also where the connection failed.
@@ -39,7 +35,6 @@ pub trait Carrier {
         requires there { IsOpen (pipes self.old conn) }
         ensures ok { OnOk result (Changes (pipes self.old) (pipes self.new) conn (sent_on (pipes self.old conn) direction bytes.now 0)) }
         ensures lost { result ≡ Err Lost → Changes (pipes self.old) (pipes self.new) conn (sent_on (pipes self.old conn) direction bytes.now 1) }
-        ensures steady { steady → result ≢ Err Lost }
         ensures tells { result ≢ Err Memory → tells self.old → tells self.new };
 
     /// Takes bytes out, at least one and `most` at most, and appends them to `out`. It answers how
@@ -62,7 +57,6 @@ pub trait Carrier {
         ensures bytes { IfOk result (λ n. tells self.old → out.new.items ≡ out.old.items ++ take n (drop (length (traffic (pipes self.old conn) direction).came) (traffic (pipes self.old conn) direction).handed)) }
         ensures lost { result ≡ Err Lost → Changes (pipes self.old) (pipes self.new) conn (stuck_on (pipes self.old conn) direction) }
         ensures nothing { result ≡ Err Lost → out.new.items ≡ out.old.items }
-        ensures steady { steady → result ≢ Err Lost }
         ensures tells { result ≢ Err Memory → tells self.old → tells self.new };
 
     /// Cuts this connection.

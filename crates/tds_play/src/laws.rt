@@ -1,14 +1,24 @@
-//! The pool and the model: the connection that the next lease gets. The function does nothing when
-//! it runs: its contract is the law.
+//! The pool and the model: the connection that the next lease gets. The carrier in memory: it never
+//! fails. The functions do nothing when they run: their contracts are the laws.
 ghost use Rattle.std.specs.Prelude.{map};
+ghost use Rattle.tds_play.specs.Failures.{FailNowhere};
 ghost use Rattle.tds_play.specs.Lending.{FoundAlike, lent};
+ghost use Rattle.tds_play.specs.declared.memory.MemoryCarrier.{MemoryCarrier};
 ghost use Rattle.tds_world.specs.Pool.{to_lend};
 ghost use Rattle.tds_world.specs.World.{World};
 ghost use Rattle.tds_world.specs.declared.event.Setup.{Setup};
+
+use crate::carrier::Carrier;
+use crate::memory::MemoryCarrier;
 
 /// The next lease gets the same connection as in the model: the free one with the lowest number, or
 /// else a new one, or none, by where each connection stands.
 pub fn lends_alike()
     ensures { (setup : Setup) (w : World)
         → FoundAlike w (lent (map (λ c. c.standing) w.connections) setup.max) (to_lend setup w) }
+{}
+
+/// No call of a carrier in memory has failed on any connection, whatever it was asked.
+pub fn memory_never_fails()
+    ensures { (carrier : MemoryCarrier) → FailNowhere (⟦<MemoryCarrier as Carrier>⟧.pipes carrier) }
 {}

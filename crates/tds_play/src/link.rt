@@ -98,7 +98,6 @@ impl<E: Engine + Drop> Link<E> {
         ensures number { IfOk result (λ opened. opened.0.number ≡ number) }
         ensures ties { IfOk result (λ opened. KeepsTies number opened.0 (C.pipes carrier.old)
             (C.pipes carrier.new) (C.tells carrier.old) (C.tells carrier.new)) }
-        ensures steady { C.steady → IfOk result (λ opened. opened.1 ≡ false) }
         ensures failed { IfOk result (λ opened. Fails (Open ∷ []) opened.1
             (C.pipes carrier.new number)) }
         ensures uncut { IfOk result (λ opened. opened.0.is_cut ≡ opened.1) }

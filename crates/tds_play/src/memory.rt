@@ -1,7 +1,8 @@
 //! A carrier in memory.
 ghost use Rattle.std.specs.Prelude.{[], ◌≡◌, ◌≤◌, ◌<◌, ◌+◌, ◌++◌, ◌≢◌, ℕ, List, length, take, drop, None, Some, Ok, Err, IfOk, OnOk, OnErr};
+ghost use Rattle.tds_play.specs.Kept.{kept_after, kept_with, nothing_kept};
 ghost use Rattle.tds_play.specs.Memory.{pipe_at};
-ghost use Rattle.tds_play.specs.Pipe.{Pipe, Changes, no_traffic, new_pipe, sent, sent_on, carried, carried_on, stuck_on, cut_pipe, traffic, IsOpen, IsUncut};
+ghost use Rattle.tds_play.specs.Pipe.{Pipe, Changes, new_pipe, sent_on, carried_on, stuck_on, cut_pipe, traffic, IsOpen, IsUncut};
 ghost use Rattle.tds_play.specs.declared.carrier.CarrierError.TheVariants.{Lost, Memory};
 
 use crate::carrier::{Carrier, CarrierError};
@@ -45,20 +46,20 @@ impl MemoryCarrier {
 }
 
 impl Model for Queue {
-    ghost use Rattle.tds_play.specs.Pipe.{Traffic};
+    ghost use Rattle.tds_play.specs.Kept.{Kept};
 
-    ghost Value = { Traffic };
+    ghost Value = { Kept };
 
-    ghost use Rattle.tds_play.specs.Memory.{traffic_in, IsQueue};
+    ghost use Rattle.tds_play.specs.Memory.{kept_in, IsQueue};
 
-    ghost view = { traffic_in };
+    ghost view = { kept_in };
 
     ghost invariant = { IsQueue };
 }
 
 impl Queue {
     fn new(alloc: Global) -> Queue
-        ensures { result ≡ no_traffic }
+        ensures { result ≡ nothing_kept }
     {
         Queue {
             bytes: Vec::new(alloc),
@@ -68,7 +69,7 @@ impl Queue {
 
     /// Puts bytes behind the others.
     fn put(&mut self, bytes: &[u8]) -> Result<(), AllocError>
-        ensures { OnOk result (self.new ≡ sent self.old bytes.now 0) }
+        ensures { OnOk result (self.new ≡ kept_with self.old bytes.now) }
     {
         self.bytes.extend_from_slice(bytes)?;
         Ok(())
@@ -82,7 +83,7 @@ impl Queue {
         ensures bytes { OnOk result (out.new.items
             ≡ out.old.items ++ take count (drop (length self.old.came) self.old.handed)) }
         ensures queue { OnOk result (self.new
-            ≡ carried self.old (drop (length out.old.items) out.new.items)) }
+            ≡ kept_after self.old (drop (length out.old.items) out.new.items)) }
     {
         let end = self.place + count;
         out.extend_from_slice(&self.bytes[self.place..end])?;
@@ -105,8 +106,6 @@ impl Carrier for MemoryCarrier {
     ghost pipes = { λ m. pipe_at m.pipes };
 
     ghost tells = { λ _. Unit {0} };
-
-    ghost steady = { Unit {0} };
 
     fn open(&mut self, conn: u32) -> Result<(), CarrierError> {
         let pipe = MemoryPipe {

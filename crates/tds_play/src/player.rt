@@ -85,7 +85,6 @@ impl<E: Engine + Copy> Player<E> {
         ensures tied { OnOk result (AreTied self.new.links.items (C.pipes carrier.new)) }
         ensures grows { OnOk result (length self.new.links.items ≤ suc (length self.old.links.items)) }
         ensures tells { OnOk result (C.tells carrier.old → C.tells carrier.new) }
-        ensures steady { C.steady → IfOk result (λ done. done.lost ≡ false) }
         ensures sound { LiveAreSound self.old.links.items (C.pipes carrier.old)
             → OnOk result (LiveAreSound self.new.links.items (C.pipes carrier.new)) }
         // Where it was lost, calls that it makes failed on the connection whose link it uses.
@@ -178,7 +177,6 @@ impl<E: Engine + Copy> Player<E> {
         ensures tied { OnOk result (AreTied self.new.links.items (C.pipes carrier.new)) }
         ensures count { OnOk result (length self.new.links.items ≡ length self.old.links.items) }
         ensures tells { OnOk result (C.tells carrier.old → C.tells carrier.new) }
-        ensures steady { C.steady → IfOk result (λ done. done.lost ≡ false) }
         ensures sound { LiveAreSound self.old.links.items (C.pipes carrier.old)
             → OnOk result (LiveAreSound self.new.links.items (C.pipes carrier.new)) }
         ensures lost { (setup : Setup) (engine : E) (w : World) (c : Connection)
@@ -253,7 +251,6 @@ impl<E: Engine + Copy> Player<E> {
         ensures tied { OnOk result (AreTied self.new.links.items (C.pipes carrier.new)) }
         ensures count { OnOk result (length self.new.links.items ≡ suc (length self.old.links.items)) }
         ensures tells { OnOk result (C.tells carrier.old → C.tells carrier.new) }
-        ensures steady { C.steady → IfOk result (λ done. done.lost ≡ false) }
         ensures sound { LiveAreSound self.old.links.items (C.pipes carrier.old)
             → OnOk result (LiveAreSound self.new.links.items (C.pipes carrier.new)) }
         ensures lost { (setup : Setup) (engine : E) (w : World)

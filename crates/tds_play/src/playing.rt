@@ -1,6 +1,6 @@
 //! A whole play.
 ghost use Rattle.std.specs.Prelude.{◌≡◌, ◌≢◌, ◌≤◌, List, [], ◌++◌, length, None, Some, Err, IfErr, IfOk, OnOk};
-ghost use Rattle.tds_play.specs.Failures.{TellFailures};
+ghost use Rattle.tds_play.specs.Failures.{FailNowhere, TellFailures};
 ghost use Rattle.tds_play.specs.Player.{IsPlay};
 ghost use Rattle.tds_play.specs.Refused.{first_refusal, play_refusal_number};
 ghost use Rattle.tds_play.specs.WholePlay.{CarriesBytesOf, CutsThoseOf, HandsBytesOf, IsPlayOf, IsWholePlayOf, world_of};
@@ -116,15 +116,15 @@ pub fn play<C: Carrier>(
         CarriesBytesOf (world_of setup.now events.now report.events) (C.pipes carrier.new)) }
     ensures cuts { C.tells carrier.old → IfOk result (λ report.
         CutsThoseOf (world_of setup.now events.now report.events) (C.pipes carrier.new)) }
-    // Where no event is lost both are the model's of the events as they are. A carrier of which no
-    // connection fails loses none.
+    // Where no event is lost both are the model's of the events as they are.
     ensures whole { C.tells carrier.old → IfOk result (λ report. MarksNothing report
         → IsWholePlayOf setup.now script_answers events.now report) }
-    ensures steady { C.steady → IfOk result MarksNothing }
     // An event is marked lost exactly where calls that it makes failed on the connection whose link
-    // it uses.
+    // it uses. Where no call failed, none is.
     ensures lost { C.tells carrier.old → IfOk result (λ report. TellFailures setup.now
         script_answers (marked events.now report.events) (C.pipes carrier.new)) }
+    ensures unfailing { C.tells carrier.old → FailNowhere (C.pipes carrier.new)
+        → IfOk result MarksNothing }
     // Each caller gets the answer to its own request, run in the transaction that it was in, and
     // nothing of it after a cancel.
     ensures own_answers { C.tells carrier.old
@@ -194,11 +194,12 @@ pub fn play_with<E: Engine + Copy, C: Carrier>(
         (answer_of (E.statements_of engine) (E.step_of engine)) events.now report
         (C.pipes carrier.new)) }
     // An event is marked lost exactly where calls that it makes failed on the connection whose link
-    // it uses.
+    // it uses. Where no call failed, none is.
     ensures lost { C.tells carrier.old → IfOk result (λ report. TellFailures setup.now
         (answer_of (E.statements_of engine) (E.step_of engine)) (marked events.now report.events)
         (C.pipes carrier.new)) }
-    ensures steady { C.steady → IfOk result MarksNothing }
+    ensures unfailing { C.tells carrier.old → FailNowhere (C.pipes carrier.new)
+        → IfOk result MarksNothing }
 {
     match packet_size(setup, events.len()) {
         Ok(size) => {
@@ -259,7 +260,9 @@ fn play_events<E: Engine + Copy, C: Carrier>(
     requires begins { player.links.items ≡ [] }
     requires few { length events.now ≤ 10000 }
     ensures memory { IfErr result (λ why. why ≡ Memory) }
-    ensures steady { C.steady → IfOk result MarksNothing }
+    ensures unfailing { (setup : Setup) → IsSetup setup → C.tells carrier.old
+        → IsPlay setup player.engine player (C.pipes carrier.old) new_world
+        → FailNowhere (C.pipes carrier.new) → IfOk result MarksNothing }
     ensures lost { (setup : Setup) → IsSetup setup → C.tells carrier.old
         → IsPlay setup player.engine player (C.pipes carrier.old) new_world
         → IfOk result (λ report. TellFailures setup

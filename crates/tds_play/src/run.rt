@@ -91,11 +91,12 @@ pub fn run_play<R: Read, C: Carrier, W: Write, F: Write>(
     ensures fits { result ≡ 0 → FitsFile (R.remaining reader.old) }
     // Where the carrier brings what it was handed, what is printed is the report of a play of the
     // schedule that was read.
-    ensures report { C.tells carrier.old → result ≡ 0 → Reports C.steady (R.remaining reader.old)
-        (W.contents output.old) (W.contents output.new) }
+    ensures report { C.tells carrier.old → result ≡ 0 → Reports (C.pipes carrier.new)
+        (R.remaining reader.old) (W.contents output.old) (W.contents output.new) }
     ensures silent { result ≡ 0 → F.contents errors.new ≡ F.contents errors.old }
     ensures fault { C.tells carrier.old → result ≡ 1 → (fault : RunFault)
-        × EndsBy C.steady fault (R.remaining reader.old) (W.contents output.old) (W.contents output.new)
+        × EndsBy (C.pipes carrier.new) fault (R.remaining reader.old) (W.contents output.old)
+        (W.contents output.new)
         × TellsFault (F.contents errors.old) (F.contents errors.new) fault }
 {
     match report_file(alloc, reader, carrier, output) {
@@ -136,9 +137,9 @@ fn report_file<R: Read, C: Carrier, W: Write>(
     output: &mut W,
 ) -> Result<(), RunFault>
     ensures fits { OnOk result (FitsFile (R.remaining reader.old)) }
-    ensures report { C.tells carrier.old → OnOk result (Reports C.steady
+    ensures report { C.tells carrier.old → OnOk result (Reports (C.pipes carrier.new)
         (R.remaining reader.old) (W.contents output.old) (W.contents output.new)) }
-    ensures fault { C.tells carrier.old → IfErr result (λ fault. EndsBy C.steady fault
+    ensures fault { C.tells carrier.old → IfErr result (λ fault. EndsBy (C.pipes carrier.new) fault
         (R.remaining reader.old) (W.contents output.old) (W.contents output.new)) }
 {
     let bytes = read_file(alloc, reader)?;
@@ -166,7 +167,7 @@ fn read_file<R: Read>(alloc: Global, reader: &mut R) -> Result<Vec<u8>, RunFault
 
 fn play_file<C: Carrier>(alloc: Global, bytes: &[u8], carrier: &mut C) -> Result<Report, RunFault>
     ensures played { C.tells carrier.old
-        → IfOk result (λ report. IsReportOf C.steady bytes.now report) }
+        → IfOk result (λ report. IsReportOf (C.pipes carrier.new) bytes.now report) }
     ensures fault { IfErr result (λ fault. IsFaultOf fault bytes.now × IsBeforeOutput fault) }
 {
     let (setup, events) = read_schedule(alloc, bytes)?;

@@ -115,15 +115,12 @@ impl<R: Net + Drop> Carrier for TcpCarrier<R, R::Listener, R::Stream> {
 
     ghost tells = { λ _. ⊥ };
 
-    ghost steady = { ⊥ };
-
     /// The trait's clauses, and how many were accepted.
     fn open(&mut self, conn: u32) -> Result<(), CarrierError>
         ensures ok { OnOk result (
             Changes (pipe_at self.old.pairs) (pipe_at self.new.pairs) conn (Some (new_pipe 0))) }
         ensures lost { result ≡ Err Lost
             → Changes (pipe_at self.old.pairs) (pipe_at self.new.pairs) conn (Some (new_pipe 1)) }
-        ensures steady { ⊥ → result ≢ Err Lost }
         ensures tells { result ≢ Err Memory → ⊥ → ⊥ }
         ensures accepted { OnOk result (self.new.accepted ≡ one_more self.old.accepted) }
         ensures none_more { result ≡ Err Lost → self.new.accepted ≡ self.old.accepted }
@@ -153,7 +150,6 @@ impl<R: Net + Drop> Carrier for TcpCarrier<R, R::Listener, R::Stream> {
         ensures lost { result ≡ Err Lost
             → Changes (pipe_at self.old.pairs) (pipe_at self.new.pairs)
             conn (sent_on (pipe_at self.old.pairs conn) direction bytes.now 1) }
-        ensures steady { ⊥ → result ≢ Err Lost }
         ensures tells { result ≢ Err Memory → ⊥ → ⊥ }
         ensures room { OnOk result (
             HasRoom (traffic (pipe_at self.old.pairs conn) direction) (length bytes.now)) }
@@ -189,7 +185,6 @@ impl<R: Net + Drop> Carrier for TcpCarrier<R, R::Listener, R::Stream> {
             → Changes (pipe_at self.old.pairs) (pipe_at self.new.pairs)
             conn (stuck_on (pipe_at self.old.pairs conn) direction) }
         ensures nothing { result ≡ Err Lost → out.new.items ≡ out.old.items }
-        ensures steady { ⊥ → result ≢ Err Lost }
         ensures tells { result ≢ Err Memory → ⊥ → ⊥ }
         ensures accepted { self.new.accepted ≡ self.old.accepted }
     {

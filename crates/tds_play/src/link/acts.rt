@@ -112,7 +112,6 @@ impl<E: Engine + Drop> Link<E> {
         ensures number { self.new.number ≡ self.old.number }
         ensures ties { OnOk result (KeepsTies self.old.number self.new (C.pipes carrier.old)
             (C.pipes carrier.new) (C.tells carrier.old) (C.tells carrier.new)) }
-        ensures steady { C.steady → IfOk result (λ done. done.lost ≡ false) }
         // Where the connection had no failure, one call of this event failed, or more, exactly where it
         // was lost, and no other one. Where it was cut, nothing changes at the carrier.
         ensures failed { HasNoFailure (C.pipes carrier.old self.old.number)
@@ -241,7 +240,6 @@ impl<E: Engine + Drop> Link<E> {
             (done.outcome ≡ outcome.Sent (send_outcome e.answer))
             × (self.new ≡ unless_lost done.lost
             (recounted self.new.to_server self.new.to_client (with_client e.session self.old))))) }
-        ensures steady { C.steady → IfOk result (λ done. done.lost ≡ false) }
         ensures failed { HasNoFailure (C.pipes carrier.old self.old.number)
             → IfOk result (λ done. FailsAs (Send ToServer ∷ []) done self.new
             (C.pipes carrier.new self.old.number)) }
@@ -302,7 +300,6 @@ impl<E: Engine + Drop> Link<E> {
             × (self.new ≡ unless_lost done.lost
             (recounted self.new.to_server self.new.to_client
             (cancelled_as e.answer e.session self.old))))) }
-        ensures steady { C.steady → IfOk result (λ done. done.lost ≡ false) }
         ensures failed { HasNoFailure (C.pipes carrier.old self.old.number)
             → IfOk result (λ done. FailsAs (Send ToServer ∷ []) done self.new
             (C.pipes carrier.new self.old.number)) }
@@ -361,7 +358,6 @@ impl<E: Engine + Drop> Link<E> {
             × (self.new ≡ unless_lost done.lost
             (recounted self.new.to_server self.new.to_client
             (worked_as (worked self.old.server) self.old)))) }
-        ensures steady { C.steady → IfOk result (λ done. done.lost ≡ false) }
         ensures failed { HasNoFailure (C.pipes carrier.old self.old.number)
             → IfOk result (λ done. FailsAs (Send ToClient ∷ []) done self.new
             (C.pipes carrier.new self.old.number)) }

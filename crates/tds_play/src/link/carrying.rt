@@ -49,7 +49,6 @@ impl<E: Engine + Drop> Link<E> {
             (if lost then 1 else 0)) }
         ensures counted { bytes.now ≢ [] → OnOk result (self.new ≡ with_counted self.old direction
             (saturated (counted self.old direction + length bytes.now))) }
-        ensures steady { C.steady → IfOk result (λ lost. lost ≡ false) }
         // To what failed before, a failure of this call is added exactly where it is answered.
         ensures failed { (calls : List Call) (before : Bool)
             → Fails calls before (C.pipes carrier.old self.old.number)
@@ -106,7 +105,6 @@ impl<E: Engine + Drop> Link<E> {
         ensures brought { IfOk result (λ carried. C.tells carrier.old
             → Brings (C.pipes carrier.old self.old.number) direction carried.count out.old.items
             out.new.items (C.pipes carrier.new self.old.number) carried.lost) }
-        ensures steady { C.steady → IfOk result (λ carried. carried.lost ≡ false) }
         // Where nothing had failed, this call did exactly where that is answered.
         ensures failed { HasNoFailure (C.pipes carrier.old self.old.number)
             → IfOk result (λ carried. Fails (Carry direction ∷ []) carried.lost

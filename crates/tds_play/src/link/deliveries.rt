@@ -60,7 +60,6 @@ impl<E: Engine + Drop> Link<E> {
         ensures number { self.new.number ≡ self.old.number }
         ensures ties { OnOk result (KeepsTies self.old.number self.new (C.pipes carrier.old)
             (C.pipes carrier.new) (C.tells carrier.old) (C.tells carrier.new)) }
-        ensures steady { C.steady → IfOk result (λ done. done.lost ≡ false) }
         ensures failed { HasNoFailure (C.pipes carrier.old self.old.number)
             → IfOk result (λ done. FailsAs (Carry ToServer ∷ Send ToClient ∷ []) done self.new
             (C.pipes carrier.new self.old.number)) }
@@ -105,7 +104,6 @@ impl<E: Engine + Drop> Link<E> {
         ensures number { self.new.number ≡ self.old.number }
         ensures ties { OnOk result (KeepsTies self.old.number self.new (C.pipes carrier.old)
             (C.pipes carrier.new) (C.tells carrier.old) (C.tells carrier.new)) }
-        ensures steady { C.steady → IfOk result (λ done. done.lost ≡ false) }
         ensures failed { HasNoFailure (C.pipes carrier.old self.old.number)
             → IfOk result (λ done. FailsAs (Carry ToClient ∷ []) done self.new
             (C.pipes carrier.new self.old.number)) }

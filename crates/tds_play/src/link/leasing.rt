@@ -64,7 +64,6 @@ impl<E: Engine + Drop> Link<E> {
             × (self.new ≡ unless_lost done.lost (recounted self.new.to_server self.new.to_client
             (placed_at (place_back (is_none (unless_idle e.session.stage)))
             (cancelled_as e.answer e.session self.old)))))) }
-        ensures steady { C.steady → IfOk result (λ done. done.lost ≡ false) }
         ensures failed { HasNoFailure (C.pipes carrier.old self.old.number)
             → IfOk result (λ done. FailsAs (Send ToServer ∷ []) done self.new
             (C.pipes carrier.new self.old.number)) }

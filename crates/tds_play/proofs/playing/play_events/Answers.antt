@@ -1,9 +1,7 @@
-use Rattle.std.proofs.Common.{◌≡◌, ◌∙◌, ◌+◌, ◌<◌, ℕ, false, length, take, ap, subst, sym, arith, length-append}
-use Rattle.tds_world.specs.declared.report.EventReport.{EventReport}
+use Rattle.std.proofs.Common.{◌≡◌, ◌∙◌, ◌+◌, ◌<◌, ℕ, length, take, ap, subst, sym, arith, length-append}
 use Rattle.tds_world.specs.Laws.{OfEachConnection}
 use Rattle.tds_world.specs.Losses.{bringing, marked, with_cuts, world_with}
 use Rattle.tds_world.specs.Order.{RequestsInOrder}
-use Rattle.std.specs.List.{AllByRecursion}
 use Rattle.tds_session.specs.Answer.{Answers, answer_of}
 use Rattle.tds_world.specs.Bounds.{IsEvent}
 use Rattle.tds_world.specs.Events.{happens}
@@ -12,8 +10,8 @@ use Rattle.tds_play.specs.Player.{PromisesAll}
 use Rattle.tds_ends.specs.Promises.{IsCountable, Promises}
 use Rattle.tds_play.specs.Failures.{LiveAreSound}
 use Rattle.tds_play.proofs.Accounts.{told_none}
-use Rattle.tds_play.proofs.Marking.{told_in_the_end, told_one_more}
-use Rattle.tds_play.proofs.Turns.{all_so_far, brought_known, known_so_far, countable_then, of_play, of_play_then, one_event_more, in_the_end, none_tied, so_many, world_is}
+use Rattle.tds_play.proofs.Marking.{told_in_the_end, told_one_more, unfailing_in_the_end}
+use Rattle.tds_play.proofs.Turns.{brought_known, known_so_far, countable_then, of_play, of_play_then, one_event_more, in_the_end, none_tied, so_many, world_is}
 use Rattle.tds_play.proofs.playing.play_events.Goals as goal
 
 pub events-init : goal.events-init
@@ -23,7 +21,7 @@ events-init g c = record {
   known = tt;
   tells = λ t. t;
   count = ap length c.new-reports.ensures.items;
-  steady = λ s. subst (AllByRecursion (λ (r : EventReport). r.lost ≡ false)) (sym c.new-reports.ensures.items) tt;
+  within = omega (arith, ap length c.new-reports.ensures.items);
   sound = subst (λ ls. LiveAreSound ls (g.C.Carrier.pipes c.args.carrier.now)) (sym c.requires.begins) (λ i d less. absurd (omega (arith, less)));
   lost = λ setup is tells play. rw (c.requires.begins) (told_none setup _ (g.C.Carrier.pipes c.args.carrier.now));
   alike = λ setup is tells play. record { play = play; told = c.new-reports.ensures.items };
@@ -48,7 +46,7 @@ events-preserved g c =
       known = known;
       tells = λ t. said.tells (inv.tells t);
       count = ap length c.in_ok-push.ensures.items ∙ length-append rs _ ∙ omega (arith, inv.count);
-      steady = λ s. subst (AllByRecursion (λ (r : EventReport). r.lost ≡ false)) (sym c.in_ok-push.ensures.items) (all_so_far (λ (r : EventReport). r.lost ≡ false) rs _ (inv.steady s) (said.steady s));
+      within = omega (arith, c.events-test.true, inv.count, ap length c.in_ok-push.ensures.items ∙ length-append rs _);
       sound = said.sound inv.sound;
       lost = λ setup is tells play.
           let far = inv.alike setup is tells play in
@@ -69,8 +67,15 @@ events-preserved g c =
           (c.new.ensures ∙ c.in_ok-snapshots.ensures) c.in_ok-push.ensures.items far;
     }
 
-pub returns-clause-steady : goal.returns-clause-steady
-returns-clause-steady g c = λ steady. subst (AllByRecursion (λ (r : EventReport). r.lost ≡ false)) (sym c.new-2.ensures) (c.events.invariant.steady steady)
+pub returns-clause-unfailing : goal.returns-clause-unfailing
+returns-clause-unfailing g c = λ setup is tells play fine.
+    let i : ℕ = c.events.event-index in
+    let es = c.args.events.now in
+    let rs = c.events.reports.items in
+    let engine = c.args.player.engine in
+    let answers : Answers = answer_of (g.E.Engine.statements_of engine) (g.E.Engine.step_of engine) in
+    unfailing_in_the_end setup answers es i (length c.events.player.links.items) (g.C.Carrier.pipes c.events.carrier) rs c.new-2.result
+    (omega (arith, c.events-test.false)) c.events.invariant.within c.new-2.ensures (c.events.invariant.lost setup is tells play) fine
 
 pub returns-clause-alike : goal.returns-clause-alike
 returns-clause-alike g c = λ setup is tells play.

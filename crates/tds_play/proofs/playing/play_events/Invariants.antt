@@ -1,4 +1,4 @@
-use Rattle.std.proofs.Common.{◌≡◌, ◌≤◌, length, take, false}
+use Rattle.std.proofs.Common.{◌≡◌, ◌≤◌, length, take}
 use Rattle.std.specs.List.{AllByRecursion}
 use Rattle.tds_session.specs.Answer.{answer_of}
 use Rattle.tds_world.specs.Bounds.{IsEvent, IsSetup}
@@ -22,7 +22,7 @@ invariant-events g l =
       known : AllByRecursion IsEvent (take l.event-index l.events);
       tells : g.C.Carrier.tells l.fn.carrier → g.C.Carrier.tells l.carrier;
       count : length l.reports.items ≡ l.event-index;
-      steady : g.C.Carrier.steady → AllByRecursion (λ r. r.lost ≡ false) l.reports.items;
+      within : length l.reports.items ≤ length l.events;
       sound : LiveAreSound l.player.links.items (pipes l.carrier);
       lost : (setup : Setup) → IsSetup setup → g.C.Carrier.tells l.fn.carrier
           → IsPlay setup engine l.fn.player (pipes l.fn.carrier) new_world

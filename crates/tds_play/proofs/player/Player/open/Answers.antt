@@ -6,7 +6,7 @@ use Rattle.tds_play.specs.Plays.{held_by}
 use Rattle.tds_play.proofs.AllPlayed.{as_many}
 use Rattle.tds_play.proofs.Listed.{opened}
 use Rattle.tds_play.proofs.PlayerOpens.{opens_alike}
-use Rattle.std.proofs.Common.{false, List, Bool, sym, Some, Option, [], ◌∷◌, ◌++◌}
+use Rattle.std.proofs.Common.{List, Bool, sym, Some, [], ◌∷◌}
 use Rattle.tds_play.specs.Failures.{Fails, HasNoFailure, LiveAreSound, Open}
 use Rattle.tds_play.specs.declared.link.Link.{Link}
 use Rattle.tds_play.proofs.Accounts.{opens_lost, sound_push}
