@@ -1,5 +1,7 @@
 -- A lease can't tell that it shares its connection.
 pub mod Blind
+pub mod Spending
+pub mod Descriptors
 pub mod Thread
 pub mod Tenants
 pub mod Tenancy

@@ -4,4 +4,5 @@ pub mod Few
 pub mod Marks
 pub mod Told
 pub mod Reports
+pub mod Alone
 pub mod Headline

@@ -35,4 +35,5 @@ pub mod PhaseTells
 pub mod Rest
 pub mod RestShown
 pub mod Alone
+pub mod Descriptors
 pub mod AloneShown

@@ -198,7 +198,7 @@ steps_alike (request.Begin isolation) s t a h k m n =
 steps_alike request.Commit s t a h k m n = last_alike s t (ends change.Commit s) (ends change.Commit t) (ends_alike change.Commit s t a).0
 steps_alike request.Rollback s t a h k m n = last_alike s t (ends change.Rollback s) (ends change.Rollback t) (ends_alike change.Rollback s t a).0
 
-own_is : (s : SessionState) (q : Request) → own_steps script_answers s q ≡ steps_of statements_of step_of s q
+pub own_is : (s : SessionState) (q : Request) → own_steps script_answers s q ≡ steps_of statements_of step_of s q
 own_is s q = then_is (eqb s.descriptor s.descriptor) (steps_of statements_of step_of s q) (wrong_descriptor s q) (same_number s.descriptor)
 
 pub script_is_blind : BlindToNumbers script_answers

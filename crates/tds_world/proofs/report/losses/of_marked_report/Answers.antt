@@ -28,6 +28,9 @@ returns-clause-few_underway c = headline.few_underway
 pub returns-clause-no_fault : goal.returns-clause-no_fault
 returns-clause-no_fault c = headline.no_fault
 
+pub returns-clause-told_alone : goal.returns-clause-told_alone
+returns-clause-told_alone c = headline.told_alone
+
 pub returns-clause-whole : goal.returns-clause-whole
 returns-clause-whole c = headline.whole
 
