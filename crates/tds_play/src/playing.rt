@@ -12,7 +12,7 @@ ghost use Rattle.tds_world.specs.Alone.{AsIfAlone};
 ghost use Rattle.tds_world.specs.AloneShown.{ShowsAsIfAlone, steps_in};
 ghost use Rattle.tds_world.specs.Bounds.{BeginsOnce, IsEvent, IsSetup, OneAttention};
 ghost use Rattle.tds_world.specs.Rest.{NeverStuck};
-ghost use Rattle.tds_world.specs.RestShown.{ShowsNeverStuck};
+ghost use Rattle.tds_world.specs.RestShown.{ShowsNeverStuckWith};
 ghost use Rattle.tds_world.specs.Reports.{ShowsFewUnderway, ShowsFreshStart, ShowsIdleQuiet, ShowsKeptTransaction, ShowsLendsIdle, ShowsOwnAnswers, ShowsOwnTransaction};
 ghost use Rattle.tds_world.specs.WithLosses.{GivesNoMoreWith, IsReportWith, MarksNothing, ShowsNoEndFaults};
 ghost use Rattle.tds_world.specs.World.{new_world};
@@ -28,7 +28,6 @@ use tds_request::Request;
 use tds_session::{Engine, ScriptEngine};
 use tds_world::laws::{script_hands_out_next, script_is_blind, script_is_lawful, script_uses_few};
 use tds_world::losses::{as_if_alone, begins_once, marks_of_a_report, never_stuck, one_attention};
-use tds_world::report::laws;
 use tds_world::report::losses::of_marked_report;
 use tds_world::{Event, EventReport, Report, Sequence, Setup};
 
@@ -157,9 +156,9 @@ pub fn play<C: Carrier>(
     ensures told_alone { C.tells carrier.old → IfOk result (λ report.
         ShowsAsIfAlone script_answers
         (steps_in (world_of setup.now events.now report.events)) events.now report) }
-    // Where nothing is lost, the report shows each connection at rest.
-    ensures comes_to_rest { C.tells carrier.old → IfOk result (λ report. MarksNothing report
-        → ShowsNeverStuck setup.now script_answers events.now report) }
+    // With the events behind it that bring a connection to rest, the report shows it at rest.
+    ensures comes_to_rest { C.tells carrier.old
+        → IfOk result (ShowsNeverStuckWith setup.now script_answers events.now) }
 {
     // The laws of the model, whose report it is.
     script_is_lawful();
@@ -172,7 +171,6 @@ pub fn play<C: Carrier>(
     begins_once();
     never_stuck();
     as_if_alone();
-    laws::never_stuck();
     play_with(alloc, setup, events, ScriptEngine, carrier)
 }
 

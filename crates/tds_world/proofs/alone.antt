@@ -7,3 +7,4 @@ pub mod Tenants
 pub mod Tenancy
 pub mod OpenTickets
 pub mod AsIfAlone
+pub mod TwoPlays

@@ -5,4 +5,5 @@ pub mod Marks
 pub mod Told
 pub mod Reports
 pub mod Alone
+pub mod Rest
 pub mod Headline

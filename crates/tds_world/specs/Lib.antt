@@ -37,3 +37,4 @@ pub mod RestShown
 pub mod Alone
 pub mod Descriptors
 pub mod AloneShown
+pub mod TwoPlays

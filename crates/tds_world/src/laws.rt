@@ -26,6 +26,7 @@ ghost use Rattle.tds_world.specs.Requests.{RequestsAreSpelled};
 ghost use Rattle.tds_world.specs.Rest.{AreThere, NeverStuck};
 ghost use Rattle.tds_world.specs.Sessions.{AllInRange, StayInRange};
 ghost use Rattle.tds_world.specs.Steps.{AnswersEndOnce, MessagesEndOnce, StepsAreOfAnswers};
+ghost use Rattle.tds_world.specs.TwoPlays.{GiveAlike};
 ghost use Rattle.tds_world.specs.Underway.{FewToClients};
 ghost use Rattle.tds_world.specs.Welcome.{AllWelcome};
 ghost use Rattle.tds_world.specs.World.{new_world};
@@ -266,4 +267,15 @@ pub fn as_if_alone()
     ensures { (setup : Setup) (answers : Answers) → Lawful answers → BlindToNumbers answers
         → UseFewDescriptors answers → (events : List Event) → AreFewEvents events
         → AsIfAlone answers (world_after setup answers events new_world) }
+{}
+
+/// A lease in each of two plays, both from a ticket or neither: as long as they asked the same requests
+/// and as many steps were done of each, what is given in one and in the other is the same as far as
+/// both go, whatever else happens in the two plays.
+pub fn given_alike()
+    ensures { (setup there : Setup) (answers : Answers) → Lawful answers → BlindToNumbers answers
+        → UseFewDescriptors answers → (events events_there : List Event) → AreFewEvents events
+        → AreFewEvents events_there
+        → GiveAlike (world_after setup answers events new_world)
+        (world_after there answers events_there new_world) }
 {}

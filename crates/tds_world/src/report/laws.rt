@@ -3,7 +3,7 @@
 ghost use Rattle.std.specs.Prelude.{List};
 ghost use Rattle.tds_session.specs.Answer.{Answers};
 ghost use Rattle.tds_world.specs.Alone.{BlindToNumbers};
-ghost use Rattle.tds_world.specs.AloneShown.{ShowsAsIfAlone, steps_in};
+ghost use Rattle.tds_world.specs.AloneShown.{ShowsAsIfAlone, StepsDone, steps_in};
 ghost use Rattle.tds_world.specs.Bounds.{IsEvent, IsSetup};
 ghost use Rattle.tds_world.specs.Descriptors.{AreFewEvents, UseFewDescriptors};
 ghost use Rattle.tds_world.specs.Events.{world_after};
@@ -11,9 +11,11 @@ ghost use Rattle.tds_world.specs.Lawful.{Lawful};
 ghost use Rattle.tds_world.specs.Observed.{observed};
 ghost use Rattle.tds_world.specs.Reports.{AlwaysShown, AlwaysShownOf, AlwaysTold, ShowsFewUnderway, ShowsFreshStart, ShowsIdleQuiet, ShowsKeptTransaction, ShowsLendsIdle, ShowsNoFault, ShowsNothingAfterCancel, ShowsOwnAnswers, ShowsOwnTransaction};
 ghost use Rattle.tds_world.specs.RestShown.{ShowsNeverStuck};
+ghost use Rattle.tds_world.specs.TwoPlays.{ShowGivenAlike};
 ghost use Rattle.tds_world.specs.World.{new_world};
 ghost use Rattle.tds_world.specs.declared.event.Event.{Event};
 ghost use Rattle.tds_world.specs.declared.event.Setup.{Setup};
+ghost use Rattle.tds_world.specs.declared.report.Report.{Report};
 
 /// In each snapshot whose client is idle both byte counts are 0, and the two descriptors are one.
 pub fn idle_is_quiet()
@@ -92,4 +94,14 @@ pub fn as_if_alone()
         → UseFewDescriptors answers → (events : List Event) → AreFewEvents events
         → ShowsAsIfAlone answers (steps_in (world_after setup answers events new_world)) events
         (observed setup answers events) }
+{}
+
+/// Two reports that show each lease to be told what it would be told alone, as those of any two plays
+/// do: a lease of each, both resumed or neither, is given the same as far as both go, as long as they
+/// asked the same requests and as many steps were done of each.
+pub fn given_alike()
+    ensures { (answers : Answers) (done done_there : StepsDone) (events events_there : List Event)
+        (r there : Report) → ShowsAsIfAlone answers done events r
+        → ShowsAsIfAlone answers done_there events_there there
+        → ShowGivenAlike done events r done_there events_there there }
 {}

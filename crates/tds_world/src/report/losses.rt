@@ -15,6 +15,7 @@ ghost use Rattle.tds_world.specs.Observed.{observed};
 ghost use Rattle.tds_world.specs.Reports.{ShowsFewUnderway, ShowsFreshStart, ShowsIdleQuiet};
 ghost use Rattle.tds_world.specs.Reports.{ShowsKeptTransaction, ShowsLendsIdle, ShowsOwnAnswers};
 ghost use Rattle.tds_world.specs.Reports.{ShowsOwnTransaction};
+ghost use Rattle.tds_world.specs.RestShown.{ShowsNeverStuckWith};
 ghost use Rattle.tds_world.specs.WithLosses.{AlwaysShownOfEvents, AlwaysShownWith, AlwaysToldWith};
 ghost use Rattle.tds_world.specs.WithLosses.{GivesNoMoreWith, IsReportWith, MarksNothing, events_of};
 ghost use Rattle.tds_world.specs.WithLosses.{ShowsNoEndFaults, ShowsNothingAfterCancelWith};
@@ -117,6 +118,9 @@ pub fn of_marked_report()
         → IsReportWith setup answers events r → ShowsFewUnderway r }
     ensures no_fault { (setup : Setup) (answers : Answers) (events : List Event) (r : Report)
         → IsReportWith setup answers events r → ShowsNoEndFaults r }
+    ensures comes_to_rest { (setup : Setup) (answers : Answers) (events : List Event)
+        (r : Report) → IsSetup setup → Lawful answers → IsReportWith setup answers events r
+        → ShowsNeverStuckWith setup answers events r }
     ensures told_alone { (setup : Setup) (answers : Answers) (events : List Event) (r : Report)
         → Lawful answers → BlindToNumbers answers → UseFewDescriptors answers
         → AreFewEvents events → IsReportWith setup answers events r

@@ -10,7 +10,7 @@ use Rattle.tds_world.specs.Descriptors.{AreFewEvents}
 use Rattle.tds_world.specs.Losses.{marked}
 use Rattle.tds_world.specs.Reports.{ShowsFewUnderway, ShowsFreshStart, ShowsIdleQuiet, ShowsKeptTransaction, ShowsLendsIdle, ShowsOwnAnswers, ShowsOwnTransaction}
 use Rattle.tds_world.specs.Rest.{NeverStuck}
-use Rattle.tds_world.specs.RestShown.{ShowsNeverStuck}
+use Rattle.tds_world.specs.RestShown.{ShowsNeverStuckWith}
 use Rattle.tds_world.specs.WithLosses.{GivesNoMoreWith, IsReportWith, MarksNothing, ShowsNoEndFaults}
 use Rattle.tds_play.specs.WholePlay.{CarriesBytesOf, CutsThoseOf, HandsBytesOf, IsPlayOf, IsWholePlayOf, world_of}
 use Rattle.tds_play.proofs.playing.play.Goals as goal
@@ -134,9 +134,8 @@ returns-clause-as_if_alone g c = λ tells.
 pub returns-clause-comes_to_rest : goal.returns-clause-comes_to_rest
 returns-clause-comes_to_rest g c = λ tells.
     IfOk-weaker c.play_with.result (λ report. IsPlayOf c.args.setup.now script_answers c.args.events.now report (g.C.Carrier.pipes c.play_with.new.carrier))
-    (λ report. MarksNothing report → ShowsNeverStuck c.args.setup.now script_answers c.args.events.now report)
-    (λ report is whole. subst (ShowsNeverStuck c.args.setup.now script_answers c.args.events.now) (sym (is.plain whole).told)
-    (c.never_stuck-2.ensures c.args.setup.now script_answers is.in_range c.script_is_lawful.ensures c.args.events.now))
+    (ShowsNeverStuckWith c.args.setup.now script_answers c.args.events.now)
+    (λ report is. c.of_marked_report.ensures.comes_to_rest c.args.setup.now script_answers c.args.events.now report is.in_range c.script_is_lawful.ensures is.told)
     (c.play_with.ensures.alike tells)
 
 pub returns-clause-told_alone : goal.returns-clause-told_alone
