@@ -1,11 +1,11 @@
-ghost use Rattle.std.specs.Prelude.{◌≡◌, ◌⊎◌, ℕ, Ok, Err, Some, None, None, IfOk, IfErr};
+ghost use Rattle.std.specs.Prelude.{◌≡◌, ◌⊎◌, ℕ, Ok, Err, Some, None, IfOk, IfErr};
 ghost use Rattle.tds_request.specs.declared.fault.RequestFault.{RequestFault};
 ghost use Rattle.tds_request.specs.declared.fault.RequestFault.TheVariants.{Memory};
 ghost use Rattle.tds_request.specs.declared.request.Request.{Request};
 ghost use Rattle.tds_request.specs.Layout.{IsRequest};
 ghost use Rattle.tds_request.specs.Reading.{Answers, Gives, read_request, wrong_request};
 ghost use Rattle.tds_request.specs.Reading.{headers_at, header_fields_at, is_text_length, batch_in};
-ghost use Rattle.tds_request.specs.Reading.{transaction_in, begun_in, begun_anew_in, end_in, ended};
+ghost use Rattle.tds_request.specs.Reading.{transaction_in, begun_in, begun_anew_in, end_in, ended as ended_at};
 ghost use Rattle.tds_request.specs.Reading.{isolation_of};
 
 use crate::fault::RequestFault;
@@ -118,9 +118,7 @@ fn begun(payload: &[u8]) -> Result<Isolation, RequestFault>
     let (number, rest) = byte(payload)?;
     let level = isolation(number)?;
     let rest = byte_is(rest, 0, RequestFault::WrongName)?;
-    if !rest.is_empty() {
-        return Err(RequestFault::BytesLeftOver);
-    }
+    ended(rest)?;
     Ok(level)
 }
 
@@ -140,20 +138,23 @@ fn begun_anew(flags: u8, rest: &[u8]) -> Result<Option<Isolation>, RequestFault>
     ensures { Gives (λ x. x) result (begun_anew_in flags rest.now) }
 {
     match flags {
-        0 => nothing_anew(rest),
+        0 => {
+            ended(rest)?;
+            Ok(None)
+        }
         1 => Ok(Some(begun(rest)?)),
         _ => Err(RequestFault::WrongFlags),
     }
 }
 
-/// Nothing begins, and nothing stands behind the flags.
-fn nothing_anew(rest: &[u8]) -> Result<Option<Isolation>, RequestFault>
-    ensures { Gives (λ x. x) result (ended None rest.now) }
+/// Nothing stands behind the last field.
+fn ended(rest: &[u8]) -> Result<(), RequestFault>
+    ensures { Gives (λ x. x) result (ended_at tt rest.now) }
 {
     if !rest.is_empty() {
         return Err(RequestFault::BytesLeftOver);
     }
-    Ok(None)
+    Ok(())
 }
 
 /// The isolation level of this number.

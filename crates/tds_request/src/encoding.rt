@@ -1,6 +1,7 @@
-ghost use Rattle.std.specs.Prelude.{◌≡◌, ◌∷◌, ◌++◌, ◌+◌, ◌*◌, ◌≤◌, IsOk, OnOk, OnErr, length};
+ghost use Rattle.std.specs.Prelude.{◌≡◌, ◌∷◌, ◌++◌, ◌+◌, ◌*◌, ◌≤◌, IsOk, OnOk, OnErr, IfSome, length};
 ghost use Rattle.std.specs.Vec.{vec_len, vec_capacity};
 ghost use Rattle.tds_request.specs.Layout.{IsRequest, kind_of_request, spelling};
+ghost use Rattle.tds_request.specs.Values.{IsIsolation};
 ghost use Rattle.tds_request.specs.Layout.{all_headers, begun_anew, no_name, text_bytes};
 
 use crate::NoMemory;
@@ -38,6 +39,7 @@ fn put_end(
 ) -> Result<(), NoMemory>
     ensures appended { OnOk result (out.new.items ≡ out.old.items ++ (all_headers descriptor
         ++ (request_type ∷ 0 ∷ (no_name ++ begun_anew anew)))) }
+    ensures range { IfSome anew IsIsolation }
     ensures unchanged { OnErr result (out.new.items ≡ out.old.items) }
 {
     match anew {
