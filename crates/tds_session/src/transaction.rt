@@ -1,8 +1,6 @@
 //! How transactions begin and end, and the token that tells it.
-ghost use Rattle.std.specs.Prelude.{◌≡◌, ◌++◌, [], ◌∷◌, OnErr, IfOk, OnOk, false};
+ghost use Rattle.std.specs.Prelude.{◌≡◌, ◌++◌, [], ◌∷◌, OnErr, IfOk, OnOk};
 ghost use Rattle.tds_session.specs.Effects.{begins, ends, renews, told_by};
-ghost use Rattle.tds_session.specs.Session.{can_renew};
-ghost use Rattle.tds_session.specs.declared.transaction.Ending.{Ending};
 ghost use Rattle.tds_token.specs.declared.env_change.EnvChange.TheVariants as change;
 
 use crate::NoMemory;
@@ -114,31 +112,22 @@ pub fn renew_transaction(
     Ok(())
 }
 
-/// The tokens of a renewal, in their order.
+/// The tokens of a renewal: both ENVCHANGEs, the end's first, or an ERROR.
 fn renew(alloc: Global, session: &mut Session, ending: Ending) -> Result<Vec<Token>, NoMemory>
     ensures tokens { IfOk result (λ tokens. tokens.items ≡ (renews ending session.old).tokens) }
     ensures session { OnOk result (session.new ≡ (renews ending session.old).after) }
 {
+    if session.descriptor() == 0 {
+        return Ok(vec![in alloc; error_token(alloc, 50003, b"no transaction")?]?);
+    }
     match session.renew() {
         Some((ended, begun)) => {
             let end = Token::Env(ending.change(ended));
             let begin = Token::Env(EnvChange::Begin(begun));
             Ok(vec![in alloc; end, begin]?)
         }
-        None => Ok(vec![in alloc; refused_renewal(alloc, session)?]?),
+        None => Ok(vec![in alloc; error_token(alloc, 50004, b"no descriptor")?]?),
     }
-}
-
-/// The ERROR where there is no transaction to end, or no descriptor for the next one.
-fn refused_renewal(alloc: Global, session: &Session) -> Result<Token, NoMemory>
-    requires { can_renew session.now ≡ false }
-    ensures { (ending : Ending)
-        → IfOk result (λ token. (renews ending session.now).tokens ≡ token ∷ []) }
-{
-    if session.descriptor() == 0 {
-        return error_token(alloc, 50003, b"no transaction");
-    }
-    error_token(alloc, 50004, b"no descriptor")
 }
 
 /// The one token of a begin.
