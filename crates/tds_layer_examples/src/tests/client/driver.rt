@@ -15,6 +15,8 @@ pub enum Ask {
     /// A batch of this many letters.
     LongBatch(usize),
     Commit,
+    /// A commit, behind which the next transaction begins at this isolation level.
+    CommitThenBegin(u8),
     Rollback,
 }
 
@@ -178,8 +180,12 @@ fn request(alloc: Global, ask: Ask) -> Result<Request, Fail> {
         Ask::Begin(level) => Ok(Request::Begin(Isolation::new(level).ok_or("level")?)),
         Ask::Batch(text) => batch(alloc, text),
         Ask::LongBatch(count) => long_batch(alloc, count),
-        Ask::Commit => Ok(Request::Commit),
-        Ask::Rollback => Ok(Request::Rollback),
+        Ask::Commit => Ok(Request::Commit(None)),
+        Ask::CommitThenBegin(level) => {
+            let level = Isolation::new(level).ok_or("level")?;
+            Ok(Request::Commit(Some(level)))
+        }
+        Ask::Rollback => Ok(Request::Rollback(None)),
     }
 }
 
