@@ -174,36 +174,6 @@ const A_CANCELLED_BEGIN_HAS_BEGUN: [Step; 6] = [
     Step::Told(b""),
 ];
 
-/// A commit of transaction 1, behind which the next one begins at isolation level 2.
-const COMMIT_THEN_BEGIN: [u8; 36] = [
-    0x0E, 0x01, 0x00, 0x24, 0x00, 0x00, 0x01, 0x00, 0x16, 0x00, 0x00, 0x00, 0x12, 0x00, 0x00, 0x00,
-    0x02, 0x00, 0x01, 0x00, 0x00, 0x00, 0x00, 0x00, 0x00, 0x00, 0x01, 0x00, 0x00, 0x00, 0x07, 0x00,
-    0x00, 0x01, 0x02, 0x00,
-];
-
-/// Its answer: descriptor 1 is committed, 2 has begun, and the final DONE.
-const COMMITTED_THEN_BEGUN: [u8; 49] = [
-    0x04, 0x01, 0x00, 0x31, 0x00, 0x00, 0x01, 0x00, 0xE3, 0x0B, 0x00, 0x09, 0x00, 0x08, 0x01, 0x00,
-    0x00, 0x00, 0x00, 0x00, 0x00, 0x00, 0xE3, 0x0B, 0x00, 0x08, 0x08, 0x02, 0x00, 0x00, 0x00, 0x00,
-    0x00, 0x00, 0x00, 0x00, 0xFD, 0x00, 0x00, 0x00, 0x00, 0x00, 0x00, 0x00, 0x00, 0x00, 0x00, 0x00,
-    0x00,
-];
-
-/// An end and a begin in one packet are heard as one, also when it is cancelled.
-const AN_END_AND_A_BEGIN: [Step; 11] = [
-    Step::Asks(Ask::Begin(0)),
-    Step::Take(&BEGUN, Taken::Finished),
-    Step::Start(Ask::CommitThenBegin(2)),
-    Step::Send(Sent::Last, Out::Is(&COMMIT_THEN_BEGIN)),
-    Step::Descriptor(1),
-    Step::Cancel(Cancelled::Asked, &ATTENTION),
-    Step::Take(&COMMITTED_THEN_BEGUN, Taken::More),
-    Step::Descriptor(2),
-    Step::Take(&ACKNOWLEDGED, Taken::Acknowledged),
-    Step::Descriptor(2),
-    Step::Told(&FINAL_DONE),
-];
-
 /// A reset that is cancelled before it is done is asked for again ..
 const A_RESET_CANCELLED_BEFORE_IT_IS_DONE: [Step; 6] = [
     Step::Mark(Reset::Full),
@@ -225,7 +195,7 @@ const A_RESET_CANCELLED_WHEN_IT_IS_DONE: [Step; 7] = [
     Step::Told(b""),
 ];
 
-const ANSWERS: [Script; 12] = [
+const ANSWERS: [Script; 13] = [
     ("an answer in parts", &AN_ANSWER_IN_PARTS),
     ("rows in two packets", &ROWS_IN_TWO_PACKETS),
     ("rows in one packet", &ROWS_IN_ONE_PACKET),
@@ -238,7 +208,6 @@ const ANSWERS: [Script; 12] = [
     ("cancelled in the middle", &CANCELLED_IN_THE_MIDDLE),
     ("answer and attention cross", &ANSWER_AND_ATTENTION_CROSS),
     ("a cancelled begin has begun", &A_CANCELLED_BEGIN_HAS_BEGUN),
-    ("an end and a begin in one packet", &AN_END_AND_A_BEGIN),
     (
         "a reset cancelled before it is done",
         &A_RESET_CANCELLED_BEFORE_IT_IS_DONE,
@@ -247,6 +216,8 @@ const ANSWERS: [Script; 12] = [
         "a reset cancelled when it is done",
         &A_RESET_CANCELLED_WHEN_IT_IS_DONE,
     ),
+    ("a commit that begins anew", &renewals::HEARD),
+    ("a cancelled commit has begun anew", &renewals::CANCELLED),
 ];
 
 #[test]

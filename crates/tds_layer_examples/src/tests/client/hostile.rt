@@ -101,23 +101,6 @@ const A_WRONG_CHANGE: [Step; 11] = [
     Step::Fault(&COMMITTED, 4),
 ];
 
-/// A begin of transaction 2 before the end of transaction 1, and a final DONE.
-const BEGUN_THEN_COMMITTED: [u8; 49] = [
-    0x04, 0x01, 0x00, 0x31, 0x00, 0x00, 0x01, 0x00, 0xE3, 0x0B, 0x00, 0x08, 0x08, 0x02, 0x00, 0x00,
-    0x00, 0x00, 0x00, 0x00, 0x00, 0x00, 0xE3, 0x0B, 0x00, 0x09, 0x00, 0x08, 0x01, 0x00, 0x00, 0x00,
-    0x00, 0x00, 0x00, 0x00, 0xFD, 0x00, 0x00, 0x00, 0x00, 0x00, 0x00, 0x00, 0x00, 0x00, 0x00, 0x00,
-    0x00,
-];
-
-/// The end must stand before the begin.
-const A_BEGIN_BEFORE_AN_END: [Step; 5] = [
-    Step::Asks(Ask::Begin(0)),
-    Step::Take(&BEGUN, Taken::Finished),
-    Step::Asks(Ask::CommitThenBegin(2)),
-    Step::Fault(&BEGUN_THEN_COMMITTED, 4),
-    Step::Descriptor(1),
-];
-
 const AN_UNASKED_RESET: [Step; 11] = [
     Step::Asks(Ask::Batch(b"get x")),
     Step::Fault(&RESET, 5),
@@ -178,7 +161,6 @@ const HOSTILE: [Script; 14] = [
     ("a row behind the final done", &A_ROW_BEHIND_THE_FINAL_DONE),
     ("an unasked acknowledgement", &AN_UNASKED_ACKNOWLEDGEMENT),
     ("a wrong change", &A_WRONG_CHANGE),
-    ("a begin before an end", &A_BEGIN_BEFORE_AN_END),
     ("an unasked reset", &AN_UNASKED_RESET),
     ("an end without a final done", &AN_END_WITHOUT_A_FINAL_DONE),
     (
@@ -197,6 +179,10 @@ const HOSTILE: [Script; 14] = [
         &AN_ACKNOWLEDGEMENT_IN_CANCELLING,
     ),
     ("a fault behind a change", &A_FAULT_BEHIND_A_CHANGE),
+    (
+        "a begin before the end of the transaction",
+        &renewals::BEGUN_BEFORE_ITS_END,
+    ),
     ("refusals", &REFUSALS),
 ];
 

@@ -83,28 +83,6 @@ const NO_TRANSACTION: [u8; 66] = [
     0x00, 0x00,
 ];
 
-/// A commit of transaction 1, behind which the next one begins at isolation level 2.
-const COMMIT_THEN_BEGIN: [u8; 36] = [
-    0x0E, 0x01, 0x00, 0x24, 0x00, 0x00, 0x01, 0x00, 0x16, 0x00, 0x00, 0x00, 0x12, 0x00, 0x00, 0x00,
-    0x02, 0x00, 0x01, 0x00, 0x00, 0x00, 0x00, 0x00, 0x00, 0x00, 0x01, 0x00, 0x00, 0x00, 0x07, 0x00,
-    0x00, 0x01, 0x02, 0x00,
-];
-
-/// Its answer in one packet: descriptor 1 is committed, 2 has begun, and the final DONE.
-const COMMITTED_THEN_BEGUN: [u8; 49] = [
-    0x04, 0x01, 0x00, 0x31, 0x00, 0x00, 0x01, 0x00, 0xE3, 0x0B, 0x00, 0x09, 0x00, 0x08, 0x01, 0x00,
-    0x00, 0x00, 0x00, 0x00, 0x00, 0x00, 0xE3, 0x0B, 0x00, 0x08, 0x08, 0x02, 0x00, 0x00, 0x00, 0x00,
-    0x00, 0x00, 0x00, 0x00, 0xFD, 0x00, 0x00, 0x00, 0x00, 0x00, 0x00, 0x00, 0x00, 0x00, 0x00, 0x00,
-    0x00,
-];
-
-/// A rollback outside a transaction, behind which one would begin.
-const ROLLBACK_THEN_BEGIN: [u8; 36] = [
-    0x0E, 0x01, 0x00, 0x24, 0x00, 0x00, 0x01, 0x00, 0x16, 0x00, 0x00, 0x00, 0x12, 0x00, 0x00, 0x00,
-    0x02, 0x00, 0x00, 0x00, 0x00, 0x00, 0x00, 0x00, 0x00, 0x00, 0x01, 0x00, 0x00, 0x00, 0x08, 0x00,
-    0x00, 0x01, 0x00, 0x00,
-];
-
 /// The batch `fail 1;say a`.
 const FAIL_THEN_SAY: [u8; 54] = [
     0x01, 0x01, 0x00, 0x36, 0x00, 0x00, 0x01, 0x00, 0x16, 0x00, 0x00, 0x00, 0x12, 0x00, 0x00, 0x00,
@@ -184,7 +162,7 @@ const ROLLED_BACK: [u8; 35] = [
 
 /// Requests to a new server, with each packet of their answers. The last step, and no step before
 /// it, ends an answer; behind it there is nothing to do.
-const ANSWERS: [(&str, &[Call]); 13] = [
+const ANSWERS: [(&str, &[Call]); 11] = [
     // A new server has nothing to do.
     ("nothing", &[Call::NewSession, IDLE]),
     // A request that is taken changes no session; its step does.
@@ -288,32 +266,6 @@ const ANSWERS: [(&str, &[Call]); 13] = [
         &[
             Call::Take(&COMMIT, ServerTook::Request, &[]),
             Call::Work(Worked::Finished, &NO_TRANSACTION),
-            IDLE,
-        ],
-    ),
-    // One step ends a transaction and begins the next one ..
-    (
-        "commit, and the next transaction",
-        &[
-            Call::Take(&BEGIN, ServerTook::Request, &[]),
-            Call::Work(Worked::Finished, &BEGUN),
-            Call::Take(&COMMIT_THEN_BEGIN, ServerTook::Request, &[]),
-            Call::Descriptor(1),
-            Call::Work(Worked::Finished, &COMMITTED_THEN_BEGUN),
-            Call::Descriptor(2),
-            IDLE,
-        ],
-    ),
-    // .. and outside of one nothing begins.
-    (
-        "rollback, and no transaction before or behind it",
-        &[
-            Call::Take(&ROLLBACK_THEN_BEGIN, ServerTook::Request, &[]),
-            Call::Work(Worked::Finished, &NO_TRANSACTION),
-            Call::Descriptor(0),
-            Call::Take(&BEGIN, ServerTook::Request, &[]),
-            Call::Work(Worked::Finished, &BEGUN),
-            Call::Descriptor(1),
             IDLE,
         ],
     ),
