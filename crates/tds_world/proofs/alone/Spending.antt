@@ -6,15 +6,15 @@ use Rattle.tds_request.specs.declared.request.Request.TheVariants as request
 use Rattle.tds_request.specs.Layout.{Fits}
 use Rattle.tds_session.specs.Answer as answer
 use Rattle.tds_session.specs.Answer.{script_answers, steps_of, steps_in, batch_steps, and_then, final_step, last_step}
-use Rattle.tds_session.specs.declared.transaction.Ending.{Ending}
-use Rattle.tds_session.specs.declared.transaction.Ending.TheVariants as ending
-use Rattle.tds_session.specs.Effects.{Effect, has_error, begins, begin_by, ends, end_by, told_by, renew_by, completes}
+use Rattle.tds_session.specs.Effects.{Effect, has_error, begins, begin_by, ends, end_by, told_by, renew_by, renews, completes}
 use Rattle.tds_session.specs.Language.{statements_of, statement_of, each_of, with_first}
 use Rattle.tds_session.specs.Script.{step_of, with_more}
 use Rattle.tds_session.specs.Session.{SessionState, last_descriptor}
 use Rattle.tds_session.specs.Words.{pieces, piece_on}
 use Rattle.tds_session.specs.declared.statement.Statement.{Statement}
 use Rattle.tds_session.specs.declared.statement.Statement.TheVariants as statement
+use Rattle.tds_session.specs.declared.transaction.Ending.{Ending}
+use Rattle.tds_session.specs.declared.transaction.Ending.TheVariants as ending
 use Rattle.tds_token.specs.declared.env_change.EnvChange.{EnvChange}
 use Rattle.tds_token.specs.declared.env_change.EnvChange.TheVariants as change
 use Rattle.tds_world.specs.Alone.{own_steps}
