@@ -29,6 +29,7 @@ pub mod ARestartedServerHasNoTransactions
 pub mod EachTransactionBeginsOnce
 pub mod BegunAnew
 pub mod BegunAnewAndCancelled
+pub mod AtTheLastDescriptor
 pub mod LinksThatFail
 pub mod PartOfAnAnswerComes
 pub mod LostAtACancel
