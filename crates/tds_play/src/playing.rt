@@ -152,12 +152,13 @@ pub fn play<C: Carrier>(
     ensures never_stuck { C.tells carrier.old → IfOk result (λ report.
         NeverStuck setup.now script_answers (world_of setup.now events.now report.events)) }
     ensures as_if_alone { C.tells carrier.old → IfOk result (λ report.
-        AsIfAlone script_answers (world_of setup.now events.now report.events)) }
+        AsIfAlone setup.now.on_attention script_answers
+        (world_of setup.now events.now report.events)) }
     // So the report shows it, where nothing is lost.
     ensures comes_to_rest { C.tells carrier.old → IfOk result (λ report. MarksNothing report
         → ShowsNeverStuck setup.now script_answers events.now report) }
     ensures told_alone { C.tells carrier.old → IfOk result (λ report. MarksNothing report
-        → ShowsAsIfAlone script_answers events.now report) }
+        → ShowsAsIfAlone setup.now.on_attention script_answers events.now report) }
 {
     // The laws of the model, whose report it is.
     script_is_lawful();
@@ -203,7 +204,7 @@ pub fn play_with<E: Engine + Copy, C: Carrier>(
 {
     match packet_size(setup, events.len()) {
         Ok(size) => {
-            let player = Player::new(alloc, engine, size, setup.max);
+            let player = Player::new(alloc, engine, size, setup.max, setup.on_attention);
             play_events(alloc, player, events, carrier)
         }
         Err(refusal) => Err(refusal),

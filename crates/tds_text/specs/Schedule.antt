@@ -4,6 +4,7 @@ use Rattle.serde_json.specs.Data.{Data, Items, no_items, item, Members}
 use Rattle.serde_json.specs.Events.{members_len}
 use Rattle.serde_json.specs.Find.{get, as_array, as_object}
 use Rattle.serde_json.specs.Read.{read}
+use Rattle.tds_session.specs.declared.attention.OnAttention.TheVariants.{Keep}
 use Rattle.tds_world.specs.declared.event.Setup.{Setup}
 use Rattle.tds_world.specs.declared.event.Event.{Event}
 use Rattle.tds_text.specs.Fields.{both, whole_number, number_below}
@@ -32,9 +33,10 @@ is_one (Some n) = n == 1
 abbrev pub is_version_one : Data → Bool
 is_version_one value = has_four_keys value && is_one (option_and_then whole_number (get (codes "version") value))
 
--- A setup of its two parts.
+-- A setup of its two parts. Servers keep transactions at an attention.
 abbrev pub setup_from : Option ℕ → Option ℕ → Option Setup
-setup_from packet_size max = option_map (λ p. record { packet_size = p.0; max = p.1 }) (both packet_size max)
+setup_from packet_size max =
+    option_map (λ p. record { packet_size = p.0; max = p.1; on_attention = Keep }) (both packet_size max)
 
 -- `packet_size` fits 16 bits, and `max` 8.
 abbrev pub setup_of : Data → Option Setup

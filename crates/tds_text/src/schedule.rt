@@ -15,6 +15,7 @@ pub use fault::ScheduleFault;
 pub use laws::right_or_wrong_somewhere;
 use serde_json::Value;
 use std::alloc::Global;
+use tds_session::OnAttention;
 use tds_world::{Event, Setup};
 
 /// Reads a schedule file of version 1: a JSON object with the keys `version`, `packet_size`, `max`
@@ -81,6 +82,7 @@ fn read_setup(value: &Value) -> Option<Setup>
     Some(Setup {
         packet_size: u16::try_from(packet_size).ok()?,
         max: u8::try_from(max).ok()?,
+        on_attention: OnAttention::Keep,
     })
 }
 
