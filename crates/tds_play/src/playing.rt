@@ -246,7 +246,10 @@ fn known(event: &Event)
             Request::Begin(level) => {
                 let _number = level.get();
             }
-            Request::Commit | Request::Rollback => {}
+            Request::Commit(Some(level)) | Request::Rollback(Some(level)) => {
+                let _number = level.get();
+            }
+            Request::Commit(None) | Request::Rollback(None) => {}
         }
     }
 }

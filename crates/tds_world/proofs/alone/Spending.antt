@@ -6,13 +6,15 @@ use Rattle.tds_request.specs.declared.request.Request.TheVariants as request
 use Rattle.tds_request.specs.Layout.{Fits}
 use Rattle.tds_session.specs.Answer as answer
 use Rattle.tds_session.specs.Answer.{script_answers, steps_of, steps_in, batch_steps, and_then, final_step, last_step}
-use Rattle.tds_session.specs.Effects.{Effect, has_error, begins, begin_by, ends, end_by}
+use Rattle.tds_session.specs.Effects.{Effect, has_error, begins, begin_by, ends, end_by, told_by, renew_by, renews, completes}
 use Rattle.tds_session.specs.Language.{statements_of, statement_of, each_of, with_first}
 use Rattle.tds_session.specs.Script.{step_of, with_more}
 use Rattle.tds_session.specs.Session.{SessionState, last_descriptor}
 use Rattle.tds_session.specs.Words.{pieces, piece_on}
 use Rattle.tds_session.specs.declared.statement.Statement.{Statement}
 use Rattle.tds_session.specs.declared.statement.Statement.TheVariants as statement
+use Rattle.tds_session.specs.declared.transaction.Ending.{Ending}
+use Rattle.tds_session.specs.declared.transaction.Ending.TheVariants as ending
 use Rattle.tds_token.specs.declared.env_change.EnvChange.{EnvChange}
 use Rattle.tds_token.specs.declared.env_change.EnvChange.TheVariants as change
 use Rattle.tds_world.specs.Alone.{own_steps}
@@ -43,6 +45,15 @@ end_uses false x s = uses_none s _ refl
 
 ends_use : (x : ℕ → EnvChange) (s : SessionState) → UsesOne s (ends x s).after
 ends_use x s = end_uses (eqb s.descriptor 0) x s
+
+renewal_uses : (b u : Bool) (how : Ending) (s : SessionState) → UsesOne s (renew_by b u how s).after
+renewal_uses true u how s = uses_none s s refl
+renewal_uses false true how s = uses_none s s refl
+renewal_uses false false how s = record { next = (let z : s.next_descriptor ≤ s.next_descriptor + 1 = omega arith in z); most = (let z : s.next_descriptor + 1 ≤ suc s.next_descriptor = omega arith in z) }
+
+completes_use : (how : Ending) (anew : Option ℕ) (s : SessionState) → UsesOne s (completes how anew s).after
+completes_use how None s = ends_use (told_by how) s
+completes_use how (Some isolation) s = renewal_uses (eqb s.descriptor 0) (eqb s.next_descriptor last_descriptor) how s
 
 statement_uses : (s : SessionState) (q : Statement) → UsesOne s (step_of s q).after
 statement_uses s (statement.Say word) = uses_none s s refl
@@ -75,8 +86,8 @@ one_uses s e h = (h.next, h.most, tt)
 steps_use : (q : Request) (s : SessionState) → UseOneEach s (steps_of statements_of step_of s q)
 steps_use (request.Batch text) s = in_uses (statements_of text) s
 steps_use (request.Begin isolation) s = one_uses s (begins s) (begins_use s)
-steps_use request.Commit s = one_uses s (ends change.Commit s) (ends_use change.Commit s)
-steps_use request.Rollback s = one_uses s (ends change.Rollback s) (ends_use change.Rollback s)
+steps_use (request.Commit anew) s = one_uses s (completes ending.Commit anew s) (completes_use ending.Commit anew s)
+steps_use (request.Rollback anew) s = one_uses s (completes ending.Rollback anew s) (completes_use ending.Rollback anew s)
 
 -- ---- Few steps
 
@@ -132,8 +143,8 @@ few_steps (request.Batch text) s f =
     let most : length text ≤ 2000 = f.most in
     omega arith
 few_steps (request.Begin isolation) s f = let z : 1 ≤ most_steps = omega arith in z
-few_steps request.Commit s f = let z : 1 ≤ most_steps = omega arith in z
-few_steps request.Rollback s f = let z : 1 ≤ most_steps = omega arith in z
+few_steps (request.Commit anew) s f = let z : 1 ≤ most_steps = omega arith in z
+few_steps (request.Rollback anew) s f = let z : 1 ≤ most_steps = omega arith in z
 
 pub script_uses_few : UseFewDescriptors script_answers
 script_uses_few = record {
