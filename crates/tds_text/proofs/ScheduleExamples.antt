@@ -3,6 +3,7 @@ use Rattle.std.specs.Prelude.{◌≡◌, refl, ℕ, ◌^◌, ◌-◌, negsuc, Li
 use Rattle.std.specs.Str.{chars}
 use Rattle.serde_json.specs.Data.{Data, null, string, number, array, object, unsigned, negative, Items, no_items, item, no_members, member}
 use Rattle.tds_request.specs.declared.request.Request.TheVariants as request
+use Rattle.tds_session.specs.declared.attention.OnAttention.TheVariants.{Keep}
 use Rattle.tds_world.specs.declared.event.Event.TheVariants as event
 use Rattle.tds_text.specs.declared.schedule.version.Version.TheVariants.{One, Two}
 use Rattle.tds_text.specs.Events.{event_of}
@@ -57,7 +58,7 @@ unfolding chars
 empty_text = refl
 
 -- the first run
-first_run : outer_of (file 1 512 []) ≡ Some (One, (record { packet_size = 512; max = 1 }, no_items))
+first_run : outer_of (file 1 512 []) ≡ Some (One, (record { packet_size = 512; max = 1; on_attention = Keep }, no_items))
 first_run = refl
 
 first_events : events_of One (values (called (codes "lease") [] ∷ called (codes "begin") (whole 1 ∷ whole 0 ∷ []) ∷ called (codes "send") (whole 1 ∷ [])

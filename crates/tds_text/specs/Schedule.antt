@@ -4,6 +4,7 @@ use Rattle.serde_json.specs.Data.{Data, Items, no_items, item, Members}
 use Rattle.serde_json.specs.Events.{members_len}
 use Rattle.serde_json.specs.Find.{get, as_array, as_object}
 use Rattle.serde_json.specs.Read.{read}
+use Rattle.tds_session.specs.declared.attention.OnAttention.TheVariants.{Keep}
 use Rattle.tds_world.specs.declared.event.Setup.{Setup}
 use Rattle.tds_world.specs.declared.event.Event.{Event}
 use Rattle.tds_text.specs.Fields.{both, such, whole_number, number_below}
@@ -33,9 +34,10 @@ version_named value = option_and_then version_numbered (option_and_then whole_nu
 abbrev pub version_of : Data → Option Version
 version_of value = such (λ version. has_keys (keys_of version) value) (version_named value)
 
--- A setup of its two parts.
+-- A setup of its two parts. Servers keep transactions at an attention.
 abbrev pub setup_from : Option ℕ → Option ℕ → Option Setup
-setup_from packet_size max = option_map (λ p. record { packet_size = p.0; max = p.1 }) (both packet_size max)
+setup_from packet_size max =
+    option_map (λ p. record { packet_size = p.0; max = p.1; on_attention = Keep }) (both packet_size max)
 
 -- `packet_size` fits 16 bits, and `max` 8.
 abbrev pub setup_of : Data → Option Setup

@@ -17,6 +17,7 @@ pub use fault::ScheduleFault;
 pub use laws::right_or_wrong_somewhere;
 use serde_json::Value;
 use std::alloc::Global;
+use tds_session::OnAttention;
 use tds_world::{Event, Setup};
 use version::Version;
 
@@ -89,6 +90,7 @@ fn read_setup(value: &Value) -> Option<Setup>
     Some(Setup {
         packet_size: u16::try_from(packet_size).ok()?,
         max: u8::try_from(max).ok()?,
+        on_attention: OnAttention::Keep,
     })
 }
 
