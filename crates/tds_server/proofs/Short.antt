@@ -44,6 +44,10 @@ pub acknowledging : FitsOnePacket (token.Done 32 0 0 ∷ [])
 unfolding is_done_status
 acknowledging = one _ (short_done 32 refl)
 
+pub rolling_back : (d : ℕ) → 0 < d → FitsOnePacket (token.Env (change.Rollback d) ∷ token.Done 32 0 0 ∷ [])
+unfolding is_done_status
+rolling_back d some = two (token.Env (change.Rollback d)) 32 (record { fits = some; short = search rules }) refl
+
 pub finished : (failed : Bool) → FitsOnePacket (final failed ∷ [])
 finished failed = one _ (short_done _ (is_lawful_final failed))
 

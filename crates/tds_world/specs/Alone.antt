@@ -1,9 +1,12 @@
 -- A lease can't tell that it shares its connection: what is told to its requests, and how they are
 -- answered, is what a server of its own would have told them.
-use Rattle.std.specs.Prelude.{ℕ, zero, suc, ◌+◌, ◌≤◌, ◌≡◌, length, List, [], ◌∷◌, ◌==◌, Option, Some, None, filter}
+use Rattle.std.specs.Prelude.{ℕ, zero, suc, ◌+◌, ◌≤◌, ◌≡◌, length, List, [], ◌∷◌, Bool, false, ◌==◌, Option, Some, None, filter}
 use Rattle.tds_request.specs.declared.request.Request.{Request}
+use Rattle.tds_session.specs.declared.attention.OnAttention.{OnAttention}
+use Rattle.tds_session.specs.declared.attention.OnAttention.TheVariants as on_attention
 use Rattle.tds_session.specs.Answer as answer
 use Rattle.tds_session.specs.Answer.{Answers}
+use Rattle.tds_session.specs.Attention.{stop_by}
 use Rattle.tds_session.specs.Session.{SessionState, new_session, no_settings, is_in_transaction, last_descriptor}
 use Rattle.tds_token.specs.Told.{told}
 use Rattle.tds_world.specs.Connection.{Connection, records}
@@ -63,30 +66,43 @@ pub record IsToldAlone (answers : Answers) (own ran : SessionState) (q : Record)
   pub alike : AreAlike ran own
   pub told : IsAnswer q.given (whole_answer answers own q.asking.request) q
 
+-- Whether an attention may have rolled the transaction back behind the last step that was done.
+abbrev pub MayRollBack : OnAttention → Bool → Type 0
+MayRollBack on_attention.Keep rolled = rolled ≡ false
+MayRollBack on_attention.RollBack rolled = Unit {0}
+
+-- The session behind a request, then.
+abbrev pub left_by : Bool → SessionState → SessionState
+left_by rolled s = (stop_by rolled s).after
+
 -- One request on a server of its lease's own, and those behind it. One that did not run leaves the
 -- session as it is; of the answer to one that ran some steps were done.
 abbrev pub RunsOne :
-    Answers → SessionState → Record → Option SessionState → (SessionState → Type 0) → Type 0
-RunsOne answers own q None Behind = Behind own
-RunsOne answers own q (Some ran) Behind =
+    OnAttention → Answers → SessionState → Record → Option SessionState → (SessionState → Type 0)
+    → Type 0
+RunsOne attention answers own q None Behind = Behind own
+RunsOne attention answers own q (Some ran) Behind =
     HasRoom answers ran q.asking.request → HasRoom answers own q.asking.request
     → IsToldAlone answers own ran q
-    × ((done : ℕ) × Behind (session_after own done (own_steps answers own q.asking.request)))
+    × ((done : ℕ) × (rolled : Bool) × MayRollBack attention rolled
+    × Behind (left_by rolled (session_after own done (own_steps answers own q.asking.request))))
 
 -- A lease's requests, one after the other, on a server of its own, as long as descriptors are left.
-abbrev pub RunsAlone : Answers → SessionState → List Record → Type 0
-RunsAlone answers own [] = Unit {0}
-RunsAlone answers own (q ∷ qs) = RunsOne answers own q q.ran (λ next. RunsAlone answers next qs)
+abbrev pub RunsAlone : OnAttention → Answers → SessionState → List Record → Type 0
+RunsAlone attention answers own [] = Unit {0}
+RunsAlone attention answers own (q ∷ qs) =
+    RunsOne attention answers own q q.ran (λ next. RunsAlone attention answers next qs)
 
 -- The requests of a lease on a connection.
 abbrev pub requests_of : ℕ → Connection → List Record
 requests_of lease c = filter (λ (q : Record). q.lease == lease) (records c)
 
 -- Each lease's requests are told what they would be told alone.
-abbrev pub AsIfAlone : Answers → World → Type 0
-AsIfAlone answers w =
+abbrev pub AsIfAlone : OnAttention → Answers → World → Type 0
+AsIfAlone attention answers w =
     OfEachConnection (λ c.
-    (lease : ℕ) → RunsAlone answers (own_session w (numbered w.leases lease)) (requests_of lease c)) w
+    (lease : ℕ)
+    → RunsAlone attention answers (own_session w (numbered w.leases lease)) (requests_of lease c)) w
 
 -- ---- Answers that are blind to the numbers of transactions
 

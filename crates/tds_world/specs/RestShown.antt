@@ -2,6 +2,8 @@
 -- play with the events behind it that bring a connection to rest.
 use Rattle.std.specs.Prelude.{ℕ, ◌≡◌, ◌+◌, ◌≤◌, List, [], ◌∷◌, ◌++◌, Some}
 use Rattle.std.specs.List.{AllByRecursion}
+use Rattle.tds_session.specs.declared.attention.OnAttention.{OnAttention}
+use Rattle.tds_session.specs.declared.attention.OnAttention.TheVariants.{Keep, RollBack}
 use Rattle.tds_session.specs.Answer.{Answers}
 use Rattle.tds_world.specs.declared.event.Event.{Event}
 use Rattle.tds_world.specs.declared.event.Setup.{Setup}
@@ -34,12 +36,19 @@ pub record IsAtRest (s : Snapshot) (r : Report) : Type 0 where
   pub quiet : ShowsQuiet after
   pub place : after.place ≡ rested_at s.place
 
+-- How many bytes acknowledge an attention at most: a packet with a DONE, and with an ENVCHANGE before
+-- it where the server rolls back (MS-TDS 2.2.7.6, 2.2.7.9).
+abbrev pub acknowledgement_most : OnAttention → ℕ
+acknowledgement_most Keep = 21
+acknowledgement_most RollBack = 35
+
 -- With a cancel: for all bytes that are shown underway to the server, and 16 for the word to drop the
--- request and the attention; and all that are shown underway to the client, and 21 for the
+-- request and the attention; and all that are shown underway to the client, and those of the
 -- acknowledgement. More do no harm.
 abbrev pub CanBeStopped : Setup → Answers → List Event → Snapshot → Type 0
 CanBeStopped setup answers events s =
-    (up down : ℕ) → s.to_server + 16 ≤ up → s.to_client + 21 ≤ down
+    (up down : ℕ) → s.to_server + 16 ≤ up
+    → s.to_client + acknowledgement_most setup.on_attention ≤ down
     → IsAtRest s (observed setup answers (events ++ stopping (In s.place) s.conn up down))
 
 -- What becomes of a request that is answered.

@@ -256,5 +256,5 @@ pub fn script_is_blind()
 /// alike to that of a server which nobody else ever had, and was told what is told there, as long as
 /// descriptors are left. It holds for answers that are blind to the numbers of transactions.
 pub fn as_if_alone()
-    ensures { (setup : Setup) (answers : Answers) → Lawful answers → BlindToNumbers answers → Always setup answers (AsIfAlone answers) }
+    ensures { (setup : Setup) (answers : Answers) → Lawful answers → BlindToNumbers answers → Always setup answers (AsIfAlone setup.on_attention answers) }
 {}

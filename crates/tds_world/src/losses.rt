@@ -131,5 +131,5 @@ pub fn never_stuck()
 /// transactions.
 pub fn as_if_alone()
     ensures { (setup : Setup) (answers : Answers) → Lawful answers → BlindToNumbers answers
-        → AlwaysWith setup answers (AsIfAlone answers) }
+        → AlwaysWith setup answers (AsIfAlone setup.on_attention answers) }
 {}

@@ -1,6 +1,7 @@
 -- Two leases share a connection. The second one is told what it would be told alone.
 use Rattle.std.specs.Prelude.{ℕ, ◌≡◌, refl, List, [], ◌∷◌, ◌++◌, map, filter, ◌==◌, Option, Some, None, codes}
 use Rattle.tds_request.specs.declared.request.Request.TheVariants.{Batch}
+use Rattle.tds_session.specs.declared.attention.OnAttention.TheVariants.{Keep}
 use Rattle.tds_session.specs.Answer.{script_answers}
 use Rattle.tds_session.specs.Session.{SessionState}
 use Rattle.tds_token.specs.declared.token.Token.{Token}
@@ -73,7 +74,7 @@ abbrev world : World
 world = world_after (with_max 1) script_answers shared new_world
 
 abbrev of : Option Connection → Connection
-of None = new_connection Free
+of None = new_connection Keep Free
 of (Some c) = c
 
 abbrev connection : Connection

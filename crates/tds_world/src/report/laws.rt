@@ -81,5 +81,5 @@ pub fn never_stuck()
 /// of what is told there, all of it where it is finished; as long as descriptors are left. It holds
 /// for answers that are blind to the numbers of transactions.
 pub fn as_if_alone()
-    ensures { (setup : Setup) (answers : Answers) → Lawful answers → BlindToNumbers answers → AlwaysTold setup answers (ShowsAsIfAlone answers) }
+    ensures { (setup : Setup) (answers : Answers) → Lawful answers → BlindToNumbers answers → AlwaysTold setup answers (ShowsAsIfAlone setup.on_attention answers) }
 {}

@@ -5,4 +5,4 @@ use Rattle.tds_world.proofs.losses.as_if_alone.Goals as goal
 
 pub returns : goal.returns
 returns c setup answers l blind =
-    worlds.always_with (AsIfAlone answers) setup answers (alone.as_if_alone setup answers l blind)
+    worlds.always_with (AsIfAlone setup.on_attention answers) setup answers (alone.as_if_alone setup answers l blind)
