@@ -3,7 +3,6 @@ use Rattle.std.specs.Prelude.{◌≡◌, refl, ℕ, ◌^◌, ◌-◌, negsuc, tr
 use Rattle.std.specs.Str.{chars}
 use Rattle.serde_json.specs.Data.{Data, null, boolean, string, number, array, object, unsigned, negative, Items, no_items, item, no_members, member}
 use Rattle.tds_request.specs.declared.request.Request.TheVariants as request
-use Rattle.tds_session.specs.declared.attention.OnAttention.TheVariants.{Keep}
 use Rattle.tds_world.specs.declared.event.Event.TheVariants as event
 use Rattle.tds_session.specs.declared.attention.OnAttention.TheVariants.{Keep, RollBack}
 use Rattle.tds_text.specs.declared.schedule.version.Version.TheVariants.{One, Two, Three}
