@@ -6,6 +6,8 @@ pub mod RefusedEvents
 pub mod CommitAndRollback
 pub mod AnErrorEndsTheBatch
 pub mod AttentionInTheMiddle
+pub mod RolledBackAtAnAttention
+pub mod KeptBeforeTheFirstStep
 pub mod AnswerAndAttentionCross
 pub mod CancelledBeforeItsFirstPacket
 pub mod CancelledInTheMiddleOfItsPackets
