@@ -16,6 +16,7 @@ use Rattle.tds_packet.specs.declared.kind.Direction.TheVariants.{ToServer, ToCli
 use Rattle.tds_packet.specs.Reading as reader
 use Rattle.tds_token.specs.declared.token.Token.{Token}
 use Rattle.tds_ends.specs.AllBytes.{AreToldBy, AreWhole, ClientHasRead, HasRead, ServerHasRead, new_reader}
+use Rattle.tds_session.specs.declared.attention.OnAttention.{OnAttention}
 use Rattle.tds_play.specs.Links.{IsNewLink, behind, cut_of, lost_record, placed_at, recounted}
 use Rattle.tds_world.specs.declared.report.Place.{Place}
 use Rattle.tds_play.specs.Listening.{told_in}
@@ -238,10 +239,10 @@ given_behind past (Some r) = tokens_and past (r ∷ []) ∙ ap (λ (ts : List To
 
 -- ---- A new connection
 
-pub new_reads : {E S : Type 0} (size number lease : ℕ) (engine : E) (link : Link E S) (pipe : Option Pipe)
-    → ((d : Direction) → HasRead (new_reader d size) (new_reader d size) [] []) → IsNewLink number lease size engine link
+pub new_reads : {E S : Type 0} (size number lease : ℕ) (engine : E) (on_attention : OnAttention) (link : Link E S) (pipe : Option Pipe)
+    → ((d : Direction) → HasRead (new_reader d size) (new_reader d size) [] []) → IsNewLink number lease size engine on_attention link
     → ((d : Direction) → (traffic pipe d).came ≡ []) → IsReading size link pipe
-new_reads size number lease engine link pipe nothing new none =
+new_reads size number lease engine on_attention link pipe nothing new none =
     let given : given_by link ≡ [] = ap (λ (rs : List Record). flat_map tokens_of rs ++ told_in link.current) new.past ∙ ap told_in new.current in
     let whole : AreWhole (new_reader ToClient size) (traffic pipe ToClient).came [] [] = subst (λ (bytes : List ℕ). AreWhole (new_reader ToClient size) bytes [] []) (sym (none ToClient)) (nothing ToClient).whole in
     record {
