@@ -240,13 +240,15 @@ pub fn phases_tell()
 /// comes to rest too: what is left is sent and arrives, the server works off what is due, and that
 /// arrives. Then its newest request is finished, or acknowledged if it was cancelled before.
 pub fn never_stuck()
-    ensures { (setup : Setup) (answers : Answers) → Lawful answers → Always setup answers (NeverStuck setup answers) }
+    ensures { (setup : Setup) (answers : Answers) → Lawful answers
+        → Always setup answers (NeverStuck setup answers) }
 {}
 
 /// There are bytes enough for a connection to come to rest by a cancel, and packets, bytes and steps
 /// enough for it to come to rest without one, for a setup that a play takes.
 pub fn enough_there()
-    ensures { (setup : Setup) (answers : Answers) (c : Connection) → IsSetup setup → AreThere setup answers c }
+    ensures { (setup : Setup) (answers : Answers) (c : Connection) → IsSetup setup
+        → AreThere setup answers c }
 {}
 
 /// From alike sessions with descriptors left, a server with the batch language answers alike.
@@ -259,19 +261,19 @@ pub fn script_uses_few()
     ensures { UseFewDescriptors script_answers }
 {}
 
-/// A lease can't tell that it shares its connection: each of its requests that ran did so in a session
-/// alike to that of a server which nobody else ever had, where as many steps were done of each, and was
-/// told what is told there. It holds for answers that are blind to the numbers of transactions and use
-/// few of them, after up to 4,294,967,295 events: so many leave descriptors.
+/// A lease can't tell that it shares its connection: each of its requests that ran did so in a
+/// session alike to that of a server which nobody else ever had, where each got as far, and was told
+/// what is told there. It holds for answers that are blind to the numbers of transactions and use few
+/// of them, after up to 4,294,967,295 events: so many leave descriptors.
 pub fn as_if_alone()
     ensures { (setup : Setup) (answers : Answers) → Lawful answers → BlindToNumbers answers
         → UseFewDescriptors answers → (events : List Event) → AreFewEvents events
         → AsIfAlone setup.on_attention answers (world_after setup answers events new_world) }
 {}
 
-/// A lease in each of two plays, both from a ticket or neither: as long as they asked the same requests
-/// and as many steps were done of each, what is given in one and in the other is the same as far as
-/// both go, whatever else happens in the two plays.
+/// A lease in each of two plays, both from a ticket or neither: as long as they asked the same
+/// requests and each got as far, what is given in one and in the other is the same as far as both go,
+/// whatever else happens in the two plays.
 pub fn given_alike()
     ensures { (setup there : Setup) (answers : Answers) → Lawful answers → BlindToNumbers answers
         → UseFewDescriptors answers → (events events_there : List Event) → AreFewEvents events
