@@ -34,5 +34,6 @@ pub mod WithLosses
 pub mod PhaseTells
 pub mod Rest
 pub mod RestShown
+pub mod Rollback
 pub mod Alone
 pub mod AloneShown
