@@ -36,4 +36,6 @@ pub mod Rest
 pub mod RestShown
 pub mod Rollback
 pub mod Alone
+pub mod Descriptors
 pub mod AloneShown
+pub mod TwoPlays

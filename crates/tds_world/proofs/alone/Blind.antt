@@ -229,7 +229,7 @@ steps_alike (request.Begin isolation) s t a h k m n =
 steps_alike (request.Commit anew) s t a h k m n = completion_alike ending.Commit anew s t a h k m n
 steps_alike (request.Rollback anew) s t a h k m n = completion_alike ending.Rollback anew s t a h k m n
 
-own_is : (s : SessionState) (q : Request) → own_steps script_answers s q ≡ steps_of statements_of step_of s q
+pub own_is : (s : SessionState) (q : Request) → own_steps script_answers s q ≡ steps_of statements_of step_of s q
 own_is s q = then_is (eqb s.descriptor s.descriptor) (steps_of statements_of step_of s q) (wrong_descriptor s q) (same_number s.descriptor)
 
 pub script_is_blind : BlindToNumbers script_answers

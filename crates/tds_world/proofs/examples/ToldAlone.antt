@@ -1,5 +1,5 @@
 -- Two leases share a connection. The second one is told what it would be told alone.
-use Rattle.std.specs.Prelude.{ℕ, ◌≡◌, refl, List, [], ◌∷◌, ◌++◌, map, filter, ◌==◌, Option, Some, None, codes}
+use Rattle.std.specs.Prelude.{ℕ, ◌≡◌, refl, List, [], ◌∷◌, ◌++◌, map, false, filter, ◌==◌, Option, Some, None, codes}
 use Rattle.tds_request.specs.declared.request.Request.TheVariants.{Batch}
 use Rattle.tds_session.specs.declared.attention.OnAttention.TheVariants.{Keep}
 use Rattle.tds_session.specs.Answer.{script_answers}
@@ -10,12 +10,11 @@ use Rattle.tds_world.specs.declared.event.Event.TheVariants as event
 use Rattle.tds_world.specs.declared.report.Place.TheVariants.{Free}
 use Rattle.tds_world.specs.declared.report.RequestStatus.{RequestStatus}
 use Rattle.tds_world.specs.declared.report.RequestStatus.TheVariants as status
-use Rattle.tds_world.specs.Alone.{requests_of, own_session, own_steps, session_after}
+use Rattle.tds_world.specs.Alone.{Exchange, Progress, exchanges_of, left_alone, own_session}
 use Rattle.tds_world.specs.Connection.{Connection, new_connection}
 use Rattle.tds_world.specs.Events.{world_after}
 use Rattle.tds_world.specs.Laws.{whole_answer}
 use Rattle.tds_world.specs.Observed.{observed}
-use Rattle.tds_world.specs.Record.{Record}
 use Rattle.tds_world.specs.World.{World, new_world, numbered}
 use Rattle.tds_world.proofs.examples.Shown.{with_max, session, value, done}
 
@@ -80,16 +79,23 @@ of (Some c) = c
 abbrev connection : Connection
 connection = of (numbered world.connections 1)
 
--- The same requests on a server of the lease's own, with two steps of the first one done and three of
--- the second: the session that each finds there, and all that it would be told.
-abbrev run_alone : SessionState → List Record → List ℕ → List (SessionState × List Token)
-run_alone own [] steps = []
-run_alone own (q ∷ qs) [] = []
-run_alone own (q ∷ qs) (n ∷ steps) =
-    (own, whole_answer script_answers own q.asking.request)
-    ∷ run_alone (session_after own n (own_steps script_answers own q.asking.request)) qs steps
+abbrev so_far : ℕ → Progress
+so_far steps = record { done = steps; rolled = false }
 
-pub runs_alone : run_alone (own_session world (numbered world.leases 2)) (requests_of 2 connection) (2 ∷ 3 ∷ []) ≡
+-- What came of the lease's requests: of the first one two steps were done, its reset apart, and of the
+-- second three.
+pub done_shared : map (λ (x : Exchange). x.got) (exchanges_of 2 connection) ≡ so_far 2 ∷ so_far 3 ∷ []
+done_shared = refl
+
+-- The same requests on a server of the lease's own, with as many steps done of each: the session that
+-- each finds there, and all that it would be told.
+abbrev run_alone : SessionState → List Exchange → List (SessionState × List Token)
+run_alone own [] = []
+run_alone own (x ∷ xs) =
+    (own, whole_answer script_answers own x.request)
+    ∷ run_alone (left_alone script_answers own x) xs
+
+pub runs_alone : run_alone (own_session (numbered world.leases 2)) (exchanges_of 2 connection) ≡
     (session 0 1, value 0 ∷ done 1 0 ∷ done 1 0 ∷ value 0 ∷ done 1 0 ∷ done 0 0 ∷ []) ∷
     (session 1 2, value 0 ∷ done 1 0 ∷ done 1 0 ∷ done 0 0 ∷ []) ∷ []
 runs_alone = refl
