@@ -132,12 +132,12 @@ attention_stops c r i (Some q) e h = by_ran q.ran h
 
 -- With its end a request's answer becomes due; it did not run.
 end_stops : (answers : Answers) (c : Connection) (e : Up) (es : List Up) (r : ℕ) (o : Option Record) (sent : List Down) (due : List answer.Step) (descriptor taken : ℕ) → ((p : Phase) (q : Record) (x : SessionState) → ByRan answers c (e ∷ es) c.to_client.waiting p q.asking (Some x) → ⊥) → Newest answers c (e ∷ es) c.to_client.waiting o → MidwayIn sent due descriptor taken o
-end_stops answers c e es r None sent due descriptor taken no h = tt
-end_stops answers c e es r (Some q) sent due descriptor taken no h = by_ran q.ran h
+end_stops answers c e es r None sent due descriptor taken never h = tt
+end_stops answers c e es r (Some q) sent due descriptor taken never h = by_ran q.ran h
   where
     by_ran : (ran : Option SessionState) → ByRan answers c (e ∷ es) c.to_client.waiting (phase_of q) q.asking ran → Midway q.number sent due descriptor taken ran
     by_ran None g = tt
-    by_ran (Some x) g = absurd (no (phase_of q) q x g)
+    by_ran (Some x) g = absurd (never (phase_of q) q x g)
 
 server_stops : (answers : Answers) (c : Connection) (e : Up) (es : List Up) → Lawful answers → NewestWith answers c (e ∷ es) c.to_client.waiting → StopsWith c (e ∷ es) c.to_client.waiting → StopsWith (server_acts answers (record c { to_server = passed e c.to_server }) e) es (server_acts answers (record c { to_server = passed e c.to_server }) e).to_client.waiting
 server_stops answers c (Part r p) es l f h = h
@@ -145,7 +145,7 @@ server_stops answers c (Drop r p) es l f h = h
 server_stops answers c (End r a p) es l f h = (
   h.0,
   if_due (answers c.session a.descriptor a.mark a.request) (l.ends c.session a.descriptor a.mark a.request),
-  end_stops answers c (End r a p) es r c.current _ _ _ _ (λ s q x g. g.ends) f,
+  end_stops answers c (End r a p) es r c.current (c.to_client.arrived ++ c.to_client.waiting) (answers c.session a.descriptor a.mark a.request) c.session.descriptor 0 (λ s q x g. g.ends) f,
 )
 server_stops answers c (Attention r) es l f h = (h.0, tt, attention_stops c r _ c.current h.0 h.2)
 
@@ -165,13 +165,13 @@ client_stops : (c : Connection) (e : Down) (es : List Down) → StopsWith c c.to
 client_stops c (Step r i s) es h = (
   h.0,
   h.1,
-  client_stops_by _ c.due c.session.descriptor c.taken r (gives s) c.current (λ q. (refl, refl))
+  client_stops_by ((c.to_client.arrived ++ Step r i s ∷ []) ++ es) c.due c.session.descriptor c.taken r (gives s) c.current (λ q. (refl, refl))
       (subst (λ xs. MidwayIn xs c.due c.session.descriptor c.taken c.current) (sym (append_assoc c.to_client.arrived (Step r i s ∷ []) es)) h.2),
 )
 client_stops c (Acknowledgement r i changes) es h = (
   h.0,
   h.1,
-  client_stops_by _ c.due c.session.descriptor c.taken r acknowledges c.current (λ q. (refl, refl))
+  client_stops_by ((c.to_client.arrived ++ Acknowledgement r i changes ∷ []) ++ es) c.due c.session.descriptor c.taken r acknowledges c.current (λ q. (refl, refl))
       (subst (λ xs. MidwayIn xs c.due c.session.descriptor c.taken c.current) (sym (append_assoc c.to_client.arrived (Acknowledgement r i changes ∷ []) es)) h.2),
 )
 
@@ -183,13 +183,13 @@ of_newest sent due descriptor taken q o e h = subst (MidwayIn sent due descripto
 cancels_stops : (p : Phase) (q : Record) (c : Connection) → c.current ≡ Some q → Stops c → Stops (cancels_by p q c)
 cancels_stops Settled q c e h = h
 cancels_stops Cancelling q c e h = h
-cancels_stops Asked q c e h = (h.0, h.1, of_newest _ c.due c.session.descriptor c.taken q c.current e h.2)
-cancels_stops Sending q c e h = (h.0, h.1, of_newest _ c.due c.session.descriptor c.taken q c.current e h.2)
-cancels_stops Reading q c e h = (h.0, h.1, of_newest _ c.due c.session.descriptor c.taken q c.current e h.2)
+cancels_stops Asked q c e h = (h.0, h.1, of_newest (c.to_client.arrived ++ c.to_client.waiting) c.due c.session.descriptor c.taken q c.current e h.2)
+cancels_stops Sending q c e h = (h.0, h.1, of_newest (c.to_client.arrived ++ c.to_client.waiting) c.due c.session.descriptor c.taken q c.current e h.2)
+cancels_stops Reading q c e h = (h.0, h.1, of_newest (c.to_client.arrived ++ c.to_client.waiting) c.due c.session.descriptor c.taken q c.current e h.2)
 
 sends_stops : (b : Bool) (room : ℕ) (q : Record) (c : Connection) → c.current ≡ Some q → Stops c → Stops (sends_by b room q c)
-sends_stops true room q c e h = (h.0, h.1, of_newest _ c.due c.session.descriptor c.taken q c.current e h.2)
-sends_stops false room q c e h = (h.0, h.1, of_newest _ c.due c.session.descriptor c.taken q c.current e h.2)
+sends_stops true room q c e h = (h.0, h.1, of_newest (c.to_client.arrived ++ c.to_client.waiting) c.due c.session.descriptor c.taken q c.current e h.2)
+sends_stops false room q c e h = (h.0, h.1, of_newest (c.to_client.arrived ++ c.to_client.waiting) c.due c.session.descriptor c.taken q c.current e h.2)
 
 -- ---- Each move
 
@@ -240,7 +240,7 @@ is_outside answers w c f h k =
 pub stopped_is_outside : (setup : Setup) (answers : Answers) → setup.on_attention ≡ RollBack → Lawful answers → Always setup answers StoppedIsOutside
 stopped_is_outside setup answers e l events =
     let w : World = world_after setup answers events new_world in
-    each_follows (λ c. WellMarked answers w c × Stops c) (λ c. IsStopped c → IsOutside c) w.connections (λ c h. is_outside answers w c h.0.0.0 h.1)
+    each_follows (λ c. WellMarked answers w c × Stops c) (λ c. IsStopped c → IsOutside c) w.connections (λ c h. is_outside answers w c h.0.0.0.0 h.1)
     (always_in setup answers (λ v c. WellMarked answers v c × Stops c) events (stops_kept setup answers e l))
 
 -- ---- Until a request of the lease runs
