@@ -24,7 +24,7 @@ use std::alloc::{AllocError, Global};
 use tds_client::{Client, ClientState};
 use tds_packet::{Direction, PacketReader, PacketSize};
 use tds_server::Server;
-use tds_session::Engine;
+use tds_session::{Engine, OnAttention};
 use tds_world::{ClientView, Outcome, Place, Snapshot};
 
 /// What an event came to on its connection.
@@ -64,18 +64,19 @@ impl<E: Engine + Drop> Link<E> {
         lease: u32,
         engine: E,
         size: PacketSize,
+        on_attention: OnAttention,
     ) -> Result<Link<E>, NoMemory>
         ensures number { IfOk result (λ link. link.number ≡ number) }
         ensures tied { IfOk result (λ link. IsTied link (Some (new_pipe 0))) }
         ensures live { IfOk result (λ link. link.is_cut ≡ false) }
-        ensures value { IfOk result (IsNewLink number lease size engine) }
+        ensures value { IfOk result (IsNewLink number lease size engine on_attention) }
     {
         Ok(Link {
             number,
             is_cut: false,
             place: Place::Leased(lease),
             client: Client::new(alloc, size),
-            server: Server::new(alloc, engine, size),
+            server: Server::with_attention(alloc, engine, size, on_attention),
             client_reader: PacketReader::new(alloc, size, Direction::ToClient)?,
             server_reader: PacketReader::new(alloc, size, Direction::ToServer)?,
             to_server: 0,
@@ -94,6 +95,7 @@ impl<E: Engine + Drop> Link<E> {
         lease: u32,
         engine: E,
         size: PacketSize,
+        on_attention: OnAttention,
     ) -> Result<(Link<E>, bool), NoMemory>
         ensures number { IfOk result (λ opened. opened.0.number ≡ number) }
         ensures ties { IfOk result (λ opened. KeepsTies number opened.0 (C.pipes carrier.old)
@@ -103,9 +105,10 @@ impl<E: Engine + Drop> Link<E> {
         ensures uncut { IfOk result (λ opened. opened.0.is_cut ≡ opened.1) }
         // It stands for a new connection of the model, cut where the carrier failed.
         ensures alike { IfOk result (λ opened. IsPlayed number size engine opened.0
-            (C.pipes carrier.new number) (cut_where opened.1 (new_connection (Leased lease)))) }
+            (C.pipes carrier.new number)
+            (cut_where opened.1 (new_connection on_attention (Leased lease)))) }
     {
-        let mut link = Link::new(alloc, number, lease, engine, size)?;
+        let mut link = Link::new(alloc, number, lease, engine, size, on_attention)?;
         match carrier.open(number) {
             Ok(()) => Ok((link, false)),
             Err(CarrierError::Lost) => {

@@ -1,5 +1,5 @@
 -- The steps that a server makes itself fit into a packet.
-use Rattle.std.proofs.Common.{rules, ℕ, ◌≤◌, ◌<◌, List, [], ◌∷◌, ◌++◌, length, arith, refl, ap, subst, sym, codes, ◌==◌, Bool, true, false, if◌then◌else◌, ◌≡◌, length-append, Option, Some, None}
+use Rattle.std.proofs.Common.{rules, ℕ, ◌≤◌, ◌<◌, List, [], ◌∷◌, ◌++◌, length, arith, refl, ap, subst, sym, codes, ◌==◌, Bool, true, false, if◌then◌else◌, ◌≡◌, length-append, Option, Some, None, lit≤}
 use Rattle.std.specs.List.{flat_map}
 use Rattle.std.proofs.lemmas.Bool.Decides.{nat_tests}
 use Rattle.std.proofs.lemmas.Grind.{flat_map-append}
@@ -45,8 +45,10 @@ unfolding is_done_status
 acknowledging = one _ (short_done 32 refl)
 
 pub rolling_back : (d : ℕ) → 0 < d → FitsOnePacket (token.Env (change.Rollback d) ∷ token.Done 32 0 0 ∷ [])
-unfolding is_done_status
-rolling_back d some = two (token.Env (change.Rollback d)) 32 (record { fits = some; short = search rules }) refl
+rolling_back d some = record {
+  fit = All-cons Fits (token.Env (change.Rollback d)) (token.Done 32 0 0 ∷ []) some acknowledging.fit;
+  short = lit≤ tt;
+}
 
 pub finished : (failed : Bool) → FitsOnePacket (final failed ∷ [])
 finished failed = one _ (short_done _ (is_lawful_final failed))

@@ -1,5 +1,5 @@
 //! What is left of an answer, and how its next step is done.
-ghost use Rattle.std.specs.Prelude.{◌≡◌, ℕ, ◌∷◌, ◌+◌, ◌++◌, [], drop, IfOk, OnOk, IfNone, IfSome, None, Some};
+ghost use Rattle.std.specs.Prelude.{◌≡◌, ℕ, false, ◌∷◌, ◌+◌, ◌++◌, [], drop, IfOk, OnOk, IfNone, IfSome, None, Some};
 ghost use Rattle.std.specs.List.{list_any};
 ghost use Rattle.tds_server.specs.declared.answer.Answer.{Answer};
 ghost use Rattle.tds_server.specs.declared.answer.Due.TheVariants as due;

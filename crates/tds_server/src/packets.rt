@@ -3,8 +3,6 @@ ghost use Rattle.std.specs.Prelude.{◌≡◌, ◌<◌, ◌≤◌, ◌++◌, len
 ghost use Rattle.std.specs.List.{All, flat_map};
 ghost use Rattle.tds_server.specs.Packets.{answer_packet, acknowledgement, FitsOnePacket};
 ghost use Rattle.tds_session.specs.Attention.{rollback_of};
-ghost use Rattle.tds_token.specs.declared.token.Token.TheVariants as token;
-ghost use Rattle.tds_token.specs.DoneStatus as done_status;
 ghost use Rattle.tds_token.specs.Layout.{Fits, spelling};
 
 use crate::NoMemory;
@@ -52,6 +50,7 @@ pub(crate) fn put_answer(
 
 /// Appends what acknowledges an attention, and tells of the transaction that it rolled back, if it
 /// did. At want of memory nothing is appended.
+#[tactic(auto, using(crate::proofs::Short::acknowledging, crate::proofs::Short::rolling_back))]
 pub(crate) fn put_acknowledgement(
     alloc: Global,
     out: &mut Vec<u8>,
@@ -63,22 +62,16 @@ pub(crate) fn put_acknowledgement(
         ≡ out.old.items ++ acknowledgement packet_id (rollback_of rolled_back)) }
     ensures err { OnErr result (out.new.items ≡ out.old.items) }
 {
-    match rolled_back {
-        None => put_answer(alloc, out, packet_id, true, &[acknowledging_done()]),
-        Some(descriptor) => {
-            let rollback = Token::Env(EnvChange::Rollback(descriptor));
-            put_answer(alloc, out, packet_id, true, &[rollback, acknowledging_done()])
-        }
-    }
-}
-
-/// The DONE that acknowledges an attention (MS-TDS 2.2.7.6).
-fn acknowledging_done() -> Token
-    ensures { result ≡ token.Done done_status.attention 0 0 }
-{
-    Token::Done {
+    let done = Token::Done {
         status: ATTENTION,
         cur_cmd: 0,
         rows: 0,
+    };
+    match rolled_back {
+        None => put_answer(alloc, out, packet_id, true, &[done]),
+        Some(descriptor) => {
+            let rollback = Token::Env(EnvChange::Rollback(descriptor));
+            put_answer(alloc, out, packet_id, true, &[rollback, done])
+        }
     }
 }

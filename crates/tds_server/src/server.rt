@@ -119,7 +119,8 @@ impl<E: Engine + Drop> Server<E> {
         requires { direction_of packet.header.kind ≡ ToServer }
         ensures engine { self.new.engine ≡ self.old.engine }
         ensures on_attention { self.new.on_attention ≡ self.old.on_attention }
-        ensures session { packet.header.kind ≢ Attention → self.new.session ≡ self.old.session }
+        ensures session { packet.entry.header.kind ≢ Attention
+            → self.new.session ≡ self.old.session }
         ensures state { result ≢ Ok NoMemory
             → self.new ≡ (taken (answer_of (E.statements_of self.old.engine)
             (E.step_of self.old.engine)) self.old packet.entry.header packet.entry.data.now).state }
@@ -158,7 +159,9 @@ impl<E: Engine + Drop> Server<E> {
         requires { direction_of packet.header.kind ≡ ToServer }
         ensures engine { self.new.engine ≡ self.old.engine }
         ensures on_attention { self.new.on_attention ≡ self.old.on_attention }
-        ensures session { packet.header.kind ≢ Attention → self.new.session ≡ self.old.session }
+        ensures session { packet.entry.header.kind ≢ Attention
+            → self.new.session ≡ self.old.session }
+        ensures kept { OnErr result (self.new.session ≡ self.old.session) }
         ensures moved { IfOk result (λ took. took ≢ NoMemory
             → Moves (moved (answer_of (E.statements_of self.old.engine)
             (E.step_of self.old.engine)) self.old.on_attention self.old.session self.old.phase
@@ -257,6 +260,7 @@ impl<E: Engine + Drop> Server<E> {
     ) -> Result<ServerTook, ServerFault>
         ensures engine { self.new.engine ≡ self.old.engine }
         ensures on_attention { self.new.on_attention ≡ self.old.on_attention }
+        ensures kept { OnErr result (self.new.session ≡ self.old.session) }
         ensures moved { IfOk result (λ took. took ≢ NoMemory
             → Moves (attended self.old.on_attention self.old.session self.old.phase
             (bits_of status) «data».now)
@@ -275,12 +279,12 @@ impl<E: Engine + Drop> Server<E> {
             return Err(ServerFault::WrongAttention);
         }
         let packet_id = self.state.acknowledging_id();
-        let mut session = self.session;
-        let rolled_back = self.on_attention.stop(self.state.is_midway(), &mut session);
+        let mut left = self.session;
+        let rolled_back = self.on_attention.stop(self.state.is_midway(), &mut left);
         if put_acknowledgement(self.alloc, reply, packet_id, rolled_back).is_err() {
             return Ok(ServerTook::NoMemory);
         }
-        self.session = session;
+        self.session = left;
         self.state = State::Waiting;
         Ok(ServerTook::Acknowledged)
     }

@@ -1,6 +1,7 @@
 //! The session laws. Each is the contract of a function without a body: what holds of the model
 //! after any events, whatever their order, and whatever the sizes of the deliveries.
-ghost use Rattle.std.specs.Prelude.{List, length};
+ghost use Rattle.std.specs.Prelude.{◌≡◌, List, length};
+ghost use Rattle.tds_session.specs.declared.attention.OnAttention.TheVariants.{RollBack};
 ghost use Rattle.tds_session.specs.Answer.{Answers, answer_of, script_answers};
 ghost use Rattle.tds_world.specs.Alone.{AsIfAlone, BlindToNumbers};
 ghost use Rattle.tds_world.specs.Begins.{HandsOutNext};
@@ -24,6 +25,7 @@ ghost use Rattle.tds_world.specs.PhaseTells.{PhaseTells};
 ghost use Rattle.tds_world.specs.Record.{Record};
 ghost use Rattle.tds_world.specs.Requests.{RequestsAreSpelled};
 ghost use Rattle.tds_world.specs.Rest.{AreThere, NeverStuck};
+ghost use Rattle.tds_world.specs.Rollback.{KeptUntilRun, StoppedIsOutside};
 ghost use Rattle.tds_world.specs.Sessions.{AllInRange, StayInRange};
 ghost use Rattle.tds_world.specs.Steps.{AnswersEndOnce, MessagesEndOnce, StepsAreOfAnswers};
 ghost use Rattle.tds_world.specs.TwoPlays.{GiveAlike};
@@ -95,6 +97,20 @@ pub fn own_transaction()
 pub fn fresh_start()
     ensures { (setup : Setup) (answers : Answers) → Lawful answers
         → Always setup answers FreshStart }
+{}
+
+/// Where servers roll back, a request that was stopped in the middle of its answer leaves no
+/// transaction: once its cancel is acknowledged, both ends are outside one.
+pub fn stopped_is_outside()
+    ensures { (setup : Setup) (answers : Answers) → setup.on_attention ≡ RollBack → Lawful answers
+        → Always setup answers StoppedIsOutside }
+{}
+
+/// Until a request of a lease that came from a ticket runs, its server is in the transaction that
+/// the ticket kept, whatever of its requests was cancelled, and whatever servers do at an attention.
+pub fn kept_until_run()
+    ensures { (setup : Setup) (answers : Answers) → Lawful answers
+        → Always setup answers KeptUntilRun }
 {}
 
 /// No two steps of a connection tell that the same transaction began, where the answers hand out
