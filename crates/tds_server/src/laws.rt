@@ -44,7 +44,7 @@ pub fn an_ignored_message_is_dropped()
         (status : ℕ) (content : List ℕ) (m : Message)
         → message_before phase kind status ≡ Ok m → has_bit status 1 ≡ true
         → has_bit status 2 ≡ true
-        → part_taken answers session phase kind status content 
+        → part_taken answers session phase kind status content
         ≡ Ok (goes_on session Waiting Dropped) }
 {}
 

@@ -24,15 +24,12 @@ impl OnAttention {
         ensures session { session.new ≡ (stopped self midway session.old).after }
         ensures some { IfSome result (λ descriptor. 0 < descriptor) }
     {
+        if !midway {
+            return None;
+        }
         match self {
             OnAttention::Keep => None,
-            OnAttention::RollBack => {
-                if midway {
-                    session.end()
-                } else {
-                    None
-                }
-            }
+            OnAttention::RollBack => session.end(),
         }
     }
 }

@@ -2,6 +2,8 @@
 pub mod Blind
 pub mod Spending
 pub mod Descriptors
+pub mod Progress
+pub mod Found
 pub mod Thread
 pub mod Tenants
 pub mod Tenancy

@@ -9,6 +9,7 @@ pub mod OwnTransactions
 pub mod Ready
 pub mod ReadySteps
 pub mod FreshStarts
+pub mod Stopped
 pub mod Given
 pub mod Own
 pub mod OwnActs

@@ -34,6 +34,7 @@ pub mod WithLosses
 pub mod PhaseTells
 pub mod Rest
 pub mod RestShown
+pub mod Rollback
 pub mod Alone
 pub mod Descriptors
 pub mod AloneShown

@@ -1,6 +1,7 @@
 //! The session laws. Each is the contract of a function without a body: what holds of the model
 //! after any events, whatever their order, and whatever the sizes of the deliveries.
-ghost use Rattle.std.specs.Prelude.{List, length};
+ghost use Rattle.std.specs.Prelude.{◌≡◌, List, length};
+ghost use Rattle.tds_session.specs.declared.attention.OnAttention.TheVariants.{RollBack};
 ghost use Rattle.tds_session.specs.Answer.{Answers, answer_of, script_answers};
 ghost use Rattle.tds_world.specs.Alone.{AsIfAlone, BlindToNumbers};
 ghost use Rattle.tds_world.specs.Begins.{HandsOutNext};
@@ -24,6 +25,7 @@ ghost use Rattle.tds_world.specs.PhaseTells.{PhaseTells};
 ghost use Rattle.tds_world.specs.Record.{Record};
 ghost use Rattle.tds_world.specs.Requests.{RequestsAreSpelled};
 ghost use Rattle.tds_world.specs.Rest.{AreThere, NeverStuck};
+ghost use Rattle.tds_world.specs.Rollback.{KeptUntilRun, StoppedIsOutside};
 ghost use Rattle.tds_world.specs.Sessions.{AllInRange, StayInRange};
 ghost use Rattle.tds_world.specs.Steps.{AnswersEndOnce, MessagesEndOnce, StepsAreOfAnswers};
 ghost use Rattle.tds_world.specs.TwoPlays.{GiveAlike};
@@ -95,6 +97,20 @@ pub fn own_transaction()
 pub fn fresh_start()
     ensures { (setup : Setup) (answers : Answers) → Lawful answers
         → Always setup answers FreshStart }
+{}
+
+/// Where servers roll back, a request that was stopped in the middle of its answer leaves no
+/// transaction: once its cancel is acknowledged, both ends are outside one.
+pub fn stopped_is_outside()
+    ensures { (setup : Setup) (answers : Answers) → setup.on_attention ≡ RollBack → Lawful answers
+        → Always setup answers StoppedIsOutside }
+{}
+
+/// Until a request of a lease that came from a ticket runs, its server is in the transaction that
+/// the ticket kept, whatever of its requests was cancelled, and whatever servers do at an attention.
+pub fn kept_until_run()
+    ensures { (setup : Setup) (answers : Answers) → Lawful answers
+        → Always setup answers KeptUntilRun }
 {}
 
 /// No two steps of a connection tell that the same transaction began, where the answers hand out
@@ -240,13 +256,15 @@ pub fn phases_tell()
 /// comes to rest too: what is left is sent and arrives, the server works off what is due, and that
 /// arrives. Then its newest request is finished, or acknowledged if it was cancelled before.
 pub fn never_stuck()
-    ensures { (setup : Setup) (answers : Answers) → Lawful answers → Always setup answers (NeverStuck setup answers) }
+    ensures { (setup : Setup) (answers : Answers) → Lawful answers
+        → Always setup answers (NeverStuck setup answers) }
 {}
 
 /// There are bytes enough for a connection to come to rest by a cancel, and packets, bytes and steps
 /// enough for it to come to rest without one, for a setup that a play takes.
 pub fn enough_there()
-    ensures { (setup : Setup) (answers : Answers) (c : Connection) → IsSetup setup → AreThere setup answers c }
+    ensures { (setup : Setup) (answers : Answers) (c : Connection) → IsSetup setup
+        → AreThere setup answers c }
 {}
 
 /// From alike sessions with descriptors left, a server with the batch language answers alike.
@@ -259,19 +277,19 @@ pub fn script_uses_few()
     ensures { UseFewDescriptors script_answers }
 {}
 
-/// A lease can't tell that it shares its connection: each of its requests that ran did so in a session
-/// alike to that of a server which nobody else ever had, where as many steps were done of each, and was
-/// told what is told there. It holds for answers that are blind to the numbers of transactions and use
-/// few of them, after up to 4,294,967,295 events: so many leave descriptors.
+/// A lease can't tell that it shares its connection: each of its requests that ran did so in a
+/// session alike to that of a server which nobody else ever had, where each got as far, and was told
+/// what is told there. It holds for answers that are blind to the numbers of transactions and use few
+/// of them, after up to 4,294,967,295 events: so many leave descriptors.
 pub fn as_if_alone()
     ensures { (setup : Setup) (answers : Answers) → Lawful answers → BlindToNumbers answers
         → UseFewDescriptors answers → (events : List Event) → AreFewEvents events
         → AsIfAlone setup.on_attention answers (world_after setup answers events new_world) }
 {}
 
-/// A lease in each of two plays, both from a ticket or neither: as long as they asked the same requests
-/// and as many steps were done of each, what is given in one and in the other is the same as far as
-/// both go, whatever else happens in the two plays.
+/// A lease in each of two plays, both from a ticket or neither: as long as they asked the same
+/// requests and each got as far, what is given in one and in the other is the same as far as both go,
+/// whatever else happens in the two plays.
 pub fn given_alike()
     ensures { (setup there : Setup) (answers : Answers) → Lawful answers → BlindToNumbers answers
         → UseFewDescriptors answers → (events events_there : List Event) → AreFewEvents events

@@ -14,6 +14,7 @@ mod engines;
 mod faults;
 mod messages;
 mod renewals;
+mod rollbacks;
 
 /// A begin at isolation level 0, with descriptor 0.
 const BEGIN: [u8; 34] = [
@@ -120,8 +121,17 @@ fn plays<E: Engine + Drop>(
     calls: &[Call<'_>],
 ) -> Result<Option<usize>, Fail> {
     let mut server = Server::new(alloc, engine, size()?);
+    plays_on(alloc, &mut server, calls)
+}
+
+/// Plays a script on this server.
+fn plays_on<E: Engine + Drop>(
+    alloc: Global,
+    server: &mut Server<E>,
+    calls: &[Call<'_>],
+) -> Result<Option<usize>, Fail> {
     for (place, call) in calls.iter().enumerate() {
-        if !goes(alloc, &mut server, *call)? {
+        if !goes(alloc, server, *call)? {
             return Ok(Some(place));
         }
     }

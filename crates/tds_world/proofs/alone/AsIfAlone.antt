@@ -26,7 +26,8 @@ use Rattle.tds_world.proofs.alone.Descriptors.{HasLeft, less_left, has_room, beh
 use Rattle.tds_world.proofs.alone.OpenTickets.{IsOne, FromOpen, from_open}
 use Rattle.tds_world.proofs.alone.Tenancy.{all_in_turn}
 use Rattle.tds_world.proofs.alone.Tenants.{Behind, InTurn, IsRan}
-use Rattle.tds_world.proofs.alone.Thread.{whole_of, Found, Thread, Threaded, all_threaded}
+use Rattle.tds_world.proofs.alone.Found.{Found, Thread}
+use Rattle.tds_world.proofs.alone.Thread.{Threaded, all_threaded}
 use Rattle.tds_world.proofs.events.Words.{OfSome}
 use Rattle.tds_world.proofs.events.Worlds.{at_number}
 use Rattle.tds_world.proofs.reports.Asks.{else_is}

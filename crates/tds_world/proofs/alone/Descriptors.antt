@@ -1,11 +1,10 @@
 -- Descriptors are left for each request that was asked: each step uses one at most, and the answers are
 -- short and few.
-use Rattle.std.proofs.Common.{◌≡◌, ◌≤◌, ◌-◌, ◌+◌, ◌*◌, ℕ, zero, suc, List, [], ◌∷◌, ◌++◌, map, length, Bool, true, false, cond, eqb, refl, sym, ap, subst, ◌∙◌, Option, Some, None, option_map, arith}
+use Rattle.std.proofs.Common.{◌≡◌, ◌≤◌, ◌-◌, ◌+◌, ◌*◌, ℕ, zero, suc, List, [], ◌∷◌, ◌++◌, map, length, Bool, true, false, eqb, refl, sym, ap, subst, ◌∙◌, Option, Some, None, option_map, arith}
 use Rattle.std.proofs.lemmas.List.{length-map}
 use Rattle.std.specs.List.{AllByRecursion}
 use Rattle.tds_packet.specs.declared.status.Reset.{Reset}
 use Rattle.tds_packet.specs.declared.status.Reset.TheVariants.{Full, KeepTransaction}
-use Rattle.tds_request.specs.declared.request.Request.{Request}
 use Rattle.tds_request.specs.Layout.{Fits}
 use Rattle.tds_session.specs.Answer as answer
 use Rattle.tds_session.specs.Answer.{Answers}
@@ -13,21 +12,20 @@ use Rattle.tds_session.specs.Session.{SessionState, new_session, begun, last_des
 use Rattle.tds_world.specs.declared.event.Event.{Event}
 use Rattle.tds_world.specs.declared.event.Setup.{Setup}
 use Rattle.tds_world.specs.Alone.{HasRoom, Progress, left_by, own_steps, session_after}
-use Rattle.tds_world.specs.Arrivals.{server_acts, client_acts, works_on}
+use Rattle.tds_world.specs.Arrivals.{server_acts, client_acts}
 use Rattle.tds_world.specs.Bounds.{IsEvent}
-use Rattle.tds_world.specs.Caller.{asks, cancels_by, sends_by}
+use Rattle.tds_world.specs.Caller.{cancels_by, sends_by}
 use Rattle.tds_world.specs.Connection.{Connection, records}
 use Rattle.tds_world.specs.Descriptors.{UseOneEach, UseFewDescriptors, most_steps, most_events}
 use Rattle.tds_world.specs.Events.{world_after}
 use Rattle.tds_world.specs.Lane.{passed}
 use Rattle.tds_world.specs.Laws.{OfEachConnection}
-use Rattle.tds_world.specs.Order.{number_if, numbers_on, IsInOrder, RequestsInOrder}
+use Rattle.tds_world.specs.Order.{number_if, numbers_on, RequestsInOrder}
 use Rattle.tds_world.specs.Record.{Record, runs, when, if_numbered}
 use Rattle.tds_world.specs.World.{World, new_world, numbered}
 use Rattle.tds_world.proofs.events.Moves.{Free, KeptOver, by_moves_of}
-use Rattle.tds_world.proofs.events.Worlds.{Kept, always_such, each_follows}
+use Rattle.tds_world.proofs.events.Worlds.{always_such, each_follows}
 use Rattle.tds_world.proofs.requests.Cores.{Core, core_of, past_of, newest_of, SameCores, all_of, joined_cores, client_same, server_same, cancels_same_by, sends_same}
-use Rattle.tds_world.proofs.requests.Ready.{cores}
 use Rattle.tds_world.proofs.requests.Runs.{runs_in}
 
 -- ---- What is left behind so many steps

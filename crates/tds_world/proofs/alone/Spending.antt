@@ -1,14 +1,14 @@
 -- A server with the batch language uses at most one descriptor a step, and answers in few steps.
-use Rattle.std.proofs.Common.{◌≡◌, ◌≤◌, ◌+◌, ℕ, zero, suc, List, [], ◌∷◌, map, length, Bool, true, false, cond, eqb, refl, sym, ap, subst, ◌∙◌, arith, Option, Some, None}
+use Rattle.std.proofs.Common.{◌≡◌, ◌≤◌, ◌+◌, ℕ, suc, List, [], ◌∷◌, map, length, Bool, true, false, eqb, refl, sym, ap, subst, ◌∙◌, arith, Option, Some, None}
 use Rattle.std.proofs.lemmas.List.{length-map}
 use Rattle.tds_request.specs.declared.request.Request.{Request}
 use Rattle.tds_request.specs.declared.request.Request.TheVariants as request
 use Rattle.tds_request.specs.Layout.{Fits}
 use Rattle.tds_session.specs.Answer as answer
 use Rattle.tds_session.specs.Answer.{script_answers, steps_of, steps_in, batch_steps, and_then, final_step, last_step}
-use Rattle.tds_session.specs.Effects.{Effect, has_error, begins, begin_by, ends, end_by, told_by, renew_by, renews, completes}
+use Rattle.tds_session.specs.Effects.{Effect, has_error, begins, begin_by, ends, end_by, told_by, renew_by, completes}
 use Rattle.tds_session.specs.Language.{statements_of, statement_of, each_of, with_first}
-use Rattle.tds_session.specs.Script.{step_of, with_more}
+use Rattle.tds_session.specs.Script.{step_of}
 use Rattle.tds_session.specs.Session.{SessionState, last_descriptor}
 use Rattle.tds_session.specs.Words.{pieces, piece_on}
 use Rattle.tds_session.specs.declared.statement.Statement.{Statement}
@@ -17,7 +17,6 @@ use Rattle.tds_session.specs.declared.transaction.Ending.{Ending}
 use Rattle.tds_session.specs.declared.transaction.Ending.TheVariants as ending
 use Rattle.tds_token.specs.declared.env_change.EnvChange.{EnvChange}
 use Rattle.tds_token.specs.declared.env_change.EnvChange.TheVariants as change
-use Rattle.tds_world.specs.Alone.{own_steps}
 use Rattle.tds_world.specs.Descriptors.{UseOneEach, UseFewDescriptors, most_steps}
 use Rattle.tds_world.proofs.alone.Blind.{own_is}
 

@@ -1,10 +1,9 @@
 -- What is given to a lease in two plays is the same as far as both go.
-use Rattle.std.proofs.Common.{◌≡◌, ◌⊎◌, ℕ, List, [], ◌∷◌, ◌++◌, inl, inr, Bool, true, false, eqb, not, refl, sym, ap, subst, ◌∙◌, Option, Some, None}
+use Rattle.std.proofs.Common.{◌≡◌, ℕ, List, [], ◌∷◌, ◌++◌, inl, inr, Bool, true, false, refl, sym, ap, subst, ◌∙◌, Option, Some, None}
 use Rattle.std.specs.List.{AllByRecursion}
-use Rattle.tds_request.specs.declared.request.Request.{Request}
 use Rattle.tds_session.specs.declared.attention.OnAttention.{OnAttention}
 use Rattle.tds_session.specs.Answer.{Answers}
-use Rattle.tds_session.specs.Session.{SessionState, new_session, begun, is_in_transaction}
+use Rattle.tds_session.specs.Session.{SessionState, new_session, begun}
 use Rattle.tds_token.specs.declared.token.Token.{Token}
 use Rattle.tds_world.specs.declared.event.Event.{Event}
 use Rattle.tds_world.specs.declared.outcome.Opened.{Opened}

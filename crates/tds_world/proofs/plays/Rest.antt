@@ -1,19 +1,16 @@
 -- No connection that the report of a play shows is ever stuck, whatever links failed before.
-use Rattle.std.proofs.Common.{◌≡◌, List, [], ◌∷◌, ◌++◌, map, refl, sym, ap, subst, ◌∙◌}
+use Rattle.std.proofs.Common.{◌≡◌, List, [], ◌∷◌, ◌++◌, refl, sym, ap, subst, ◌∙◌}
 use Rattle.std.specs.List.{AllByRecursion}
 use Rattle.tds_session.specs.declared.attention.OnAttention.{OnAttention}
 use Rattle.tds_session.specs.Answer.{Answers}
 use Rattle.tds_world.specs.declared.event.Event.{Event}
 use Rattle.tds_world.specs.declared.event.Setup.{Setup}
-use Rattle.tds_world.specs.declared.report.EventReport.{EventReport}
 use Rattle.tds_world.specs.declared.report.Report.{Report}
-use Rattle.tds_world.specs.declared.report.RequestReport.{RequestReport}
 use Rattle.tds_world.specs.declared.report.Snapshot.{Snapshot}
 use Rattle.tds_world.specs.Bounds.{IsSetup}
 use Rattle.tds_world.specs.Connection.{In}
-use Rattle.tds_world.specs.Events.{world_after}
 use Rattle.tds_world.specs.Lawful.{Lawful}
-use Rattle.tds_world.specs.Losses.{Played, Nothing, marked, with_cuts, world_then, world_with, event_reports_with, observed_with}
+use Rattle.tds_world.specs.Losses.{Played, marked, with_cuts, world_then, world_with, event_reports_with, observed_with}
 use Rattle.tds_world.specs.Observed.{observed, request_reports, snapshots}
 use Rattle.tds_world.specs.Reports.{snapshot_in}
 use Rattle.tds_world.specs.Rest.{finishing, stopping}

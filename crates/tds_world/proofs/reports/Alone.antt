@@ -1,5 +1,5 @@
 -- What a lease's requests are told, as reports show it, is what they would be told alone.
-use Rattle.std.proofs.Common.{◌≡◌, ◌≤◌, ◌<◌, ℕ, suc, List, [], ◌∷◌, ◌++◌, map, length, Bool, true, false, cond, eqb, refl, sym, ap, subst, ◌∙◌, Option, Some, None, arith}
+use Rattle.std.proofs.Common.{◌≡◌, ◌<◌, ℕ, suc, List, [], ◌∷◌, ◌++◌, map, Bool, true, false, cond, eqb, refl, sym, ap, subst, ◌∙◌, Option, Some, None, arith}
 use Rattle.std.proofs.lemmas.Bool.Decides.{nat_tests}
 use Rattle.std.specs.List.{AllByRecursion}
 use Rattle.std.specs.Prelude.{◌==◌, ◌&&◌, filter, find}
@@ -14,11 +14,10 @@ use Rattle.tds_world.specs.declared.outcome.Outcome.{Outcome}
 use Rattle.tds_world.specs.declared.outcome.Outcome.TheVariants as outcome
 use Rattle.tds_world.specs.declared.report.EventReport.{EventReport}
 use Rattle.tds_world.specs.declared.report.RequestReport.{RequestReport}
-use Rattle.tds_world.specs.Alone.{BlindToNumbers, Exchange, exchange_of, exchanges_of, Progress, progress_of, RunsAlone, AsIfAlone, own_session, session_from}
-use Rattle.tds_world.specs.AloneShown.{far_on, far_in, is_shown_finished, exchange_shown, exchanges_shown, LeaseShown, lease_in, OfEachLease, own_by, ShowsAsIfAlone}
-use Rattle.tds_world.specs.Bounds.{IsEvent}
+use Rattle.tds_world.specs.Alone.{BlindToNumbers, Exchange, exchange_of, exchanges_of, progress_of, RunsAlone, AsIfAlone, own_session, session_from}
+use Rattle.tds_world.specs.AloneShown.{far_on, far_in, is_shown_finished, exchange_shown, exchanges_shown, LeaseShown, lease_in, own_by, ShowsAsIfAlone}
 use Rattle.tds_world.specs.Connection.{Connection, records, is_cut}
-use Rattle.tds_world.specs.Descriptors.{UseFewDescriptors, AreFewEvents, most_events}
+use Rattle.tds_world.specs.Descriptors.{UseFewDescriptors, AreFewEvents}
 use Rattle.tds_world.specs.Events.{happens, world_after}
 use Rattle.tds_world.specs.Lawful.{Lawful}
 use Rattle.tds_world.specs.Observed.{event_reports, observed, request_report, request_reports}
@@ -32,7 +31,7 @@ use Rattle.tds_world.proofs.events.Adds.{GivenAs, Extends}
 use Rattle.tds_world.proofs.events.Words.{OfSome}
 use Rattle.tds_world.proofs.events.Worlds.{at_number}
 use Rattle.tds_world.proofs.reports.Answered.{reported, same_some}
-use Rattle.tds_world.proofs.reports.Asks.{AreAsked, IsAsked, IsReported, all_asked, found_has}
+use Rattle.tds_world.proofs.reports.Asks.{AreAsked, IsReported, all_asked, found_has}
 use Rattle.tds_world.proofs.reports.FirstRuns.{some_same, find_there, one_lower, behind, one_behind}
 use Rattle.tds_world.proofs.reports.Leased.{CameBy, FromTicket, NotedAs, happens_noted, leases_stay}
 use Rattle.tds_world.proofs.requests.Order.{requests_in_order}

@@ -171,10 +171,10 @@ opened_ready setup w n =
     let c : Connection = new_connection setup.on_attention (place.Leased (next_number w.leases)) in
     lent (world_with event.Lease n w c) [] None c.session (next_number w.leases) None (holding n 0 None) refl (last_numbered w.leases (holding n 0 None)) (inr (refl, (refl, refl))) tt
 
-abbrev ReadyAndMarked : Answers → World → Connection → Type 0
+abbrev pub ReadyAndMarked : Answers → World → Connection → Type 0
 ReadyAndMarked answers w c = WellMarked answers w c × IsReady w c
 
-ready_kept : (setup : Setup) (answers : Answers) → Lawful answers → KeptIn setup answers (ReadyAndMarked answers)
+pub ready_kept : (setup : Setup) (answers : Answers) → Lawful answers → KeptIn setup answers (ReadyAndMarked answers)
 ready_kept setup answers l =
     by_noted_moves setup answers (BothIn (WellMarkedWith answers) ReadyWith)
     (noted_on_top setup answers AnyAt (WellMarkedWith answers) ReadyWith (marked_noted setup answers l)

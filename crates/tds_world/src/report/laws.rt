@@ -82,14 +82,15 @@ pub fn lends_idle()
 /// to do, and its request finished, or acknowledged if it was cancelled before. It holds for a setup
 /// that a play takes.
 pub fn never_stuck()
-    ensures { (setup : Setup) (answers : Answers) → IsSetup setup → Lawful answers → AlwaysTold setup answers (ShowsNeverStuck setup answers) }
+    ensures { (setup : Setup) (answers : Answers) → IsSetup setup → Lawful answers
+        → AlwaysTold setup answers (ShowsNeverStuck setup answers) }
 {}
 
-/// Each lease that is shown was told what it would be told alone: each of its requests that ran did so
-/// in a session alike to that of a server which nobody else ever had, where as many steps were done of
-/// each, and its tokens are a beginning of what is told there, all of it where it is finished. How many
-/// steps were done is read off the world. It holds for answers that are blind to the numbers of
-/// transactions and use few of them.
+/// Each lease that is shown was told what it would be told alone: each of its requests that ran did
+/// so in a session alike to that of a server which nobody else ever had, where each got as far, and
+/// its tokens are a beginning of what is told there, all of it where it is finished. How far each got
+/// is read off the world. It holds for answers that are blind to the numbers of transactions and use
+/// few of them.
 pub fn as_if_alone()
     ensures { (setup : Setup) (answers : Answers) → Lawful answers → BlindToNumbers answers
         → UseFewDescriptors answers → (events : List Event) → AreFewEvents events
@@ -97,9 +98,9 @@ pub fn as_if_alone()
         (far_in (world_after setup answers events new_world)) events (observed setup answers events) }
 {}
 
-/// Two reports that show each lease to be told what it would be told alone, as those of any two plays
-/// do: a lease of each, both resumed or neither, is given the same as far as both go, as long as they
-/// asked the same requests and as many steps were done of each.
+/// Two reports that show each lease to be told what it would be told alone, as those of any two
+/// plays do: a lease of each, both resumed or neither, is given the same as far as both go, as long
+/// as they asked the same requests and each got as far.
 pub fn given_alike()
     ensures { (attention attention_there : OnAttention) (answers : Answers)
         (far far_there : HowFar) (events events_there : List Event) (r there : Report)

@@ -85,7 +85,7 @@ pub fn lends_idle()
 {}
 
 /// Each lease that is shown was told what it would be told alone, whatever others did and whatever was
-/// lost. How many steps were done of each request is read off the world.
+/// lost. How far each request got is read off the world.
 pub fn as_if_alone()
     ensures { (setup : Setup) (answers : Answers) → Lawful answers → BlindToNumbers answers
         → UseFewDescriptors answers → (ps : List Played) → AreFewEvents (events_of ps)

@@ -4,7 +4,7 @@ use super::answers::SAID;
 use super::*;
 
 /// An acknowledgement that ends an answer of which one packet went out.
-const ENDS_ANSWER: [u8; 21] = [
+pub(super) const ENDS_ANSWER: [u8; 21] = [
     0x04, 0x01, 0x00, 0x15, 0x00, 0x00, 0x02, 0x00, 0xFD, 0x20, 0x00, 0x00, 0x00, 0, 0, 0, 0, 0, 0,
     0, 0,
 ];
