@@ -6,7 +6,9 @@ ghost use Rattle.tds_play.specs.Lending.{is_in_pool, standing_of};
 ghost use Rattle.tds_play.specs.Links.{IsNewLink, newest_first};
 ghost use Rattle.tds_play.specs.Seen.{seen_of};
 ghost use Rattle.tds_play.specs.Plays.{IsPlayed, cut_where};
-ghost use Rattle.tds_play.specs.Pipe.{new_pipe};
+ghost use Rattle.tds_packet.specs.declared.kind.Direction.{Direction};
+ghost use Rattle.tds_play.specs.Pipe.{new_pipe, traffic};
+ghost use Rattle.tds_play.specs.Reads.{IsReading};
 ghost use Rattle.tds_play.specs.Ties.{IsTied, KeepsTies};
 ghost use Rattle.tds_world.specs.Connection.{new_connection};
 ghost use Rattle.tds_world.specs.Pool.{is_free};
@@ -22,6 +24,7 @@ use crate::carrier::{Carrier, CarrierError};
 use crate::request::Record;
 use std::alloc::{AllocError, Global};
 use tds_client::{Client, ClientState};
+use tds_ends::all_bytes::nothing_is_read;
 use tds_packet::{Direction, PacketReader, PacketSize};
 use tds_server::Server;
 use tds_session::{Engine, OnAttention};
@@ -103,11 +106,15 @@ impl<E: Engine + Drop> Link<E> {
         ensures failed { IfOk result (λ opened. Fails (Open ∷ []) opened.1
             (C.pipes carrier.new number)) }
         ensures uncut { IfOk result (λ opened. opened.0.is_cut ≡ opened.1) }
+        // Nothing has come, and nothing was read.
+        ensures reads { IfOk result (λ opened. IsReading size opened.0 (C.pipes carrier.new number)
+            × ((d : Direction) → (traffic (C.pipes carrier.new number) d).came ≡ [])) }
         // It stands for a new connection of the model, cut where the carrier failed.
         ensures alike { IfOk result (λ opened. IsPlayed number size engine opened.0
             (C.pipes carrier.new number)
             (cut_where opened.1 (new_connection on_attention (Leased lease)))) }
     {
+        nothing_is_read();
         let mut link = Link::new(alloc, number, lease, engine, size, on_attention)?;
         match carrier.open(number) {
             Ok(()) => Ok((link, false)),

@@ -31,6 +31,7 @@ pub mod ARestartedServerHasNoTransactions
 pub mod EachTransactionBeginsOnce
 pub mod BegunAnew
 pub mod BegunAnewAndCancelled
+pub mod AtTheLastDescriptor
 pub mod LinksThatFail
 pub mod PartOfAnAnswerComes
 pub mod LostAtACancel

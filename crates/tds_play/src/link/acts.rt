@@ -28,6 +28,7 @@ ghost use Rattle.tds_world.specs.declared.event.Setup.{Setup};
 ghost use Rattle.tds_world.specs.World.{World};
 ghost use Rattle.tds_session.specs.Answer.{answer_of};
 ghost use Rattle.tds_play.specs.Pipe.{Pipe};
+ghost use Rattle.tds_play.specs.Reads.{IsReading, ReadsNoMore, ReadsOn};
 ghost use Rattle.tds_play.specs.Ties.{IsTied, KeepsTies};
 
 use super::{Done, Link};
@@ -122,6 +123,11 @@ impl<E: Engine + Drop> Link<E> {
         // Only what hands bytes over or brings some is lost.
         ensures loses { IfOk result (λ done. done.lost ≡ true
             → MayLose self.old.is_cut event.now) }
+        // Its ends read what comes, whatever it is.
+        ensures reads { (size : ℕ)
+            → IsReading size self.old (C.pipes carrier.old self.old.number)
+            → IfOk result (λ done. ReadsOn size event.now done.outcome self.new
+            (C.pipes carrier.old self.old.number) (C.pipes carrier.new self.old.number)) }
         // A connection that stands for one of the model stands for what the event, as it was met,
         // makes of it, cut where the carrier failed.
         ensures alike { (setup : Setup) (w : World) (c : Connection) (engine : E)
@@ -180,6 +186,8 @@ impl<E: Engine + Drop> Link<E> {
             (done ≡ done_as (Asked next.request)) × IsAskedOn lease request.now self.old self.new) }
         ensures number { self.new.number ≡ self.old.number }
         ensures tied { (pipe : Option Pipe) → IsTied self.old pipe → IsTied self.new pipe }
+        ensures still { (pipe : Option Pipe)
+            → OnOk result (ReadsNoMore self.old self.new pipe pipe) }
     {
         if !self.is_idle() {
             return Ok(refused(Refusal::NotIdle));
@@ -199,6 +207,8 @@ impl<E: Engine + Drop> Link<E> {
         ensures value { OnOk result (IsPutBy self.old self.new) }
         ensures number { self.new.number ≡ self.old.number }
         ensures tied { (pipe : Option Pipe) → IsTied self.old pipe → IsTied self.new pipe }
+        ensures still { (pipe : Option Pipe)
+            → OnOk result (ReadsNoMore self.old self.new pipe pipe) }
     {
         if let Some(settled) = self.current.take() {
             self.past.push(settled)?;
@@ -217,6 +227,8 @@ impl<E: Engine + Drop> Link<E> {
         ensures number { self.new.number ≡ self.old.number }
         ensures live { self.new.is_cut ≡ self.old.is_cut }
         ensures tied { (pipe : Option Pipe) → IsTied self.old pipe → IsTied self.new pipe }
+        ensures still { (pipe : Option Pipe)
+            → OnOk result (ReadsNoMore self.old self.new pipe pipe) }
     {
         match self.client.send(out) {
             Ok(Sent::More) => Ok(Some(SendOutcome::More)),
@@ -233,6 +245,8 @@ impl<E: Engine + Drop> Link<E> {
         ensures number { self.new.number ≡ self.old.number }
         ensures ties { OnOk result (KeepsTies self.old.number self.new (C.pipes carrier.old)
             (C.pipes carrier.new) (C.tells carrier.old) (C.tells carrier.new)) }
+        ensures still { OnOk result (ReadsNoMore self.old self.new
+            (C.pipes carrier.old self.old.number) (C.pipes carrier.new self.old.number)) }
         ensures refused { is_ok (sent self.old.client) ≡ false
             → (result ≡ Ok (done_as (Refused NotSending))) × (self.new ≡ self.old)
             × (carrier.new ≡ carrier.old) }
@@ -267,6 +281,8 @@ impl<E: Engine + Drop> Link<E> {
     pub(super) fn cancel_request(&mut self, out: &mut Vec<u8>) -> Result<CancelOutcome, NoMemory>
         ensures number { self.new.number ≡ self.old.number }
         ensures tied { (pipe : Option Pipe) → IsTied self.old pipe → IsTied self.new pipe }
+        ensures still { (pipe : Option Pipe)
+            → OnOk result (ReadsNoMore self.old self.new pipe pipe) }
         ensures live { self.new.is_cut ≡ self.old.is_cut }
         ensures cancelled { IfOk (cancelled self.old.client) (λ e. IfOk result (λ outcome.
             (outcome ≡ cancel_outcome e.answer)
@@ -295,6 +311,8 @@ impl<E: Engine + Drop> Link<E> {
         ensures number { self.new.number ≡ self.old.number }
         ensures ties { OnOk result (KeepsTies self.old.number self.new (C.pipes carrier.old)
             (C.pipes carrier.new) (C.tells carrier.old) (C.tells carrier.new)) }
+        ensures still { OnOk result (ReadsNoMore self.old self.new
+            (C.pipes carrier.old self.old.number) (C.pipes carrier.new self.old.number)) }
         ensures cancelled { IfOk (cancelled self.old.client) (λ e. IfOk result (λ done.
             (done.outcome ≡ outcome.Cancel (cancel_outcome e.answer))
             × (self.new ≡ unless_lost done.lost
@@ -332,6 +350,8 @@ impl<E: Engine + Drop> Link<E> {
         ensures number { self.new.number ≡ self.old.number }
         ensures live { self.new.is_cut ≡ self.old.is_cut }
         ensures tied { (pipe : Option Pipe) → IsTied self.old pipe → IsTied self.new pipe }
+        ensures still { (pipe : Option Pipe)
+            → OnOk result (ReadsNoMore self.old self.new pipe pipe) }
     {
         let before = *self.server.session();
         let outcome = match self.server.work(out)? {
@@ -353,6 +373,8 @@ impl<E: Engine + Drop> Link<E> {
         ensures number { self.new.number ≡ self.old.number }
         ensures ties { OnOk result (KeepsTies self.old.number self.new (C.pipes carrier.old)
             (C.pipes carrier.new) (C.tells carrier.old) (C.tells carrier.new)) }
+        ensures still { OnOk result (ReadsNoMore self.old self.new
+            (C.pipes carrier.old self.old.number) (C.pipes carrier.new self.old.number)) }
         ensures worked { IfOk result (λ done.
             (done.outcome ≡ outcome.Work (worked_outcome (worked self.old.server).answer))
             × (self.new ≡ unless_lost done.lost

@@ -16,6 +16,7 @@ ghost use Rattle.tds_world.specs.declared.outcome.Outcome.TheVariants.{Abandoned
 ghost use Rattle.tds_world.specs.declared.outcome.Outcome.TheVariants as outcome;
 ghost use Rattle.tds_world.specs.declared.report.Place.TheVariants as place;
 ghost use Rattle.tds_play.specs.Pipe.{Pipe};
+ghost use Rattle.tds_play.specs.Reads.{ReadsNoMore};
 ghost use Rattle.tds_play.specs.Ties.{IsTied, KeepsTies};
 
 use super::acts::{Next, done, refused};
@@ -37,6 +38,7 @@ impl<E: Engine + Drop> Link<E> {
         ensures done { result ≡ done_as (Leased next.lease self.old.number opened) }
         ensures number { self.new.number ≡ self.old.number }
         ensures tied { (pipe : Option Pipe) → IsTied self.old pipe → IsTied self.new pipe }
+        ensures still { (pipe : Option Pipe) → ReadsNoMore self.old self.new pipe pipe }
     {
         // A connection that is lent is idle, so this is not refused.
         let _ = self.client.mark_reset(mark);
@@ -59,6 +61,8 @@ impl<E: Engine + Drop> Link<E> {
         ensures number { self.new.number ≡ self.old.number }
         ensures ties { OnOk result (KeepsTies self.old.number self.new (C.pipes carrier.old)
             (C.pipes carrier.new) (C.tells carrier.old) (C.tells carrier.new)) }
+        ensures still { OnOk result (ReadsNoMore self.old self.new
+            (C.pipes carrier.old self.old.number) (C.pipes carrier.new self.old.number)) }
         ensures back { IfOk (cancelled self.old.client) (λ e. IfOk result (λ done.
             (done.outcome ≡ outcome.GivenBack (returned_as (is_none (unless_idle e.session.stage))))
             × (self.new ≡ unless_lost done.lost (recounted self.new.to_server self.new.to_client
@@ -102,6 +106,7 @@ impl<E: Engine + Drop> Link<E> {
             × (self.new ≡ placed_at (place.Kept next.ticket) self.old) }
         ensures number { self.new.number ≡ self.old.number }
         ensures tied { (pipe : Option Pipe) → IsTied self.old pipe → IsTied self.new pipe }
+        ensures still { (pipe : Option Pipe) → ReadsNoMore self.old self.new pipe pipe }
     {
         if !self.is_idle() {
             return refused(Refusal::NotIdle);
@@ -119,6 +124,7 @@ impl<E: Engine + Drop> Link<E> {
         ensures done { result ≡ done_as (Abandoned abandoned.Free) }
         ensures number { self.new.number ≡ self.old.number }
         ensures tied { (pipe : Option Pipe) → IsTied self.old pipe → IsTied self.new pipe }
+        ensures still { (pipe : Option Pipe) → ReadsNoMore self.old self.new pipe pipe }
     {
         self.place = Place::Free;
         done(Outcome::Abandoned(AbandonOutcome::Free))

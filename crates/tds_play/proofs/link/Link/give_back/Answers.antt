@@ -13,6 +13,8 @@ use Rattle.tds_play.specs.Failures.{Send}
 use Rattle.tds_packet.specs.declared.kind.Direction.TheVariants.{ToServer}
 use Rattle.tds_play.proofs.Failing.{sent_as}
 use Rattle.tds_play.proofs.link.Link.give_back.Goals.{then-is_idle, else-is_idle}
+use Rattle.tds_play.specs.Reads.{ReadsNoMore}
+use Rattle.tds_play.proofs.Stays.{placed_stays, stays_numbered, stays_twice}
 use Rattle.tds_play.proofs.link.Link.give_back.Goals as goal
 
 pub returns-clause-alike : goal.returns-clause-alike
@@ -59,3 +61,24 @@ returns-clause-failed g c =
     sent_as c.args.self.now.number c.if-is_idle.self.number c.hand_over.new.self.number (Send ToServer ∷ []) c.end.result c.in_ok-lost.lost c.end.new.self
     (g.C.Carrier.pipes c.args.carrier.now) (g.C.Carrier.pipes c.hand_over.new.carrier) (g.C.Carrier.pipes c.end.new.carrier)
     (mid ∙ put.number) out.number (out.failed [] false) (c.end.ensures.failed (Send ToServer ∷ []))
+
+pub returns-clause-still : goal.returns-clause-still
+returns-clause-still g c =
+    let conn : ℕ = c.args.self.now.number in
+    let pipe : Option Pipe = g.C.Carrier.pipes c.args.carrier.now conn in
+    let put = c.in_ok-cancel_request.ensures in
+    let out = c.in_ok-lost.ensures in
+    let placed : ReadsNoMore c.cancel_request.new.self c.if-is_idle.self pipe pipe = elim c.if-is_idle.branch [
+      | then-is_idle w ↦ placed_stays c.cancel_request.new.self c.if-is_idle.self _ pipe w.self-is
+      | else-is_idle w ↦ placed_stays c.cancel_request.new.self c.if-is_idle.self _ pipe w.self-is
+    ] in
+    let same : c.if-is_idle.self.number ≡ c.cancel_request.new.self.number = elim c.if-is_idle.branch [
+      | then-is_idle w ↦ ap (λ l. l.number) w.self-is
+      | else-is_idle w ↦ ap (λ l. l.number) w.self-is
+    ] in
+    let number = same ∙ put.number in
+    let first = stays_twice c.args.self.now c.cancel_request.new.self c.if-is_idle.self pipe pipe pipe (put.still pipe) placed in
+    let handed = stays_numbered c.if-is_idle.self.number conn c.if-is_idle.self c.hand_over.new.self (g.C.Carrier.pipes c.args.carrier.now) (g.C.Carrier.pipes c.hand_over.new.carrier) number out.still in
+    let ended = stays_numbered c.hand_over.new.self.number conn c.hand_over.new.self c.end.new.self (g.C.Carrier.pipes c.hand_over.new.carrier) (g.C.Carrier.pipes c.end.new.carrier) (out.number ∙ number) c.end.ensures.still in
+    stays_twice c.args.self.now c.if-is_idle.self c.end.new.self pipe pipe (g.C.Carrier.pipes c.end.new.carrier conn) first
+    (stays_twice c.if-is_idle.self c.hand_over.new.self c.end.new.self pipe (g.C.Carrier.pipes c.hand_over.new.carrier conn) (g.C.Carrier.pipes c.end.new.carrier conn) handed ended)
