@@ -9,6 +9,7 @@ use Rattle.tds_client.specs.declared.state.Sent.{Sent}
 use Rattle.tds_client.specs.Sending.{Does, Effect, cancelled, cancelled_in, cancelled_sending, room, sent, sent_in, sent_of}
 use Rattle.tds_client.specs.Session.{ClientSession, Stage, Idle, Sending, Reading, Cancelling, Broken}
 use Rattle.tds_packet.specs.declared.kind.Kind.{Kind}
+use Rattle.tds_session.specs.declared.attention.OnAttention.{OnAttention}
 use Rattle.tds_world.specs.declared.report.RequestStatus.{RequestStatus}
 use Rattle.tds_play.specs.Acts.{with_client, with_status}
 use Rattle.tds_packet.specs.declared.kind.Direction.{Direction}
@@ -238,10 +239,10 @@ given_behind past (Some r) = tokens_and past (r ∷ []) ∙ ap (λ (ts : List To
 
 -- ---- A new connection
 
-pub new_reads : {E S : Type 0} (size number lease : ℕ) (engine : E) (link : Link E S) (pipe : Option Pipe)
-    → ((d : Direction) → HasRead (new_reader d size) (new_reader d size) [] []) → IsNewLink number lease size engine link
+pub new_reads : {E S : Type 0} (size number lease : ℕ) (engine : E) (on_attention : OnAttention) (link : Link E S) (pipe : Option Pipe)
+    → ((d : Direction) → HasRead (new_reader d size) (new_reader d size) [] []) → IsNewLink number lease size engine on_attention link
     → ((d : Direction) → (traffic pipe d).came ≡ []) → IsReading size link pipe
-new_reads size number lease engine link pipe nothing new none =
+new_reads size number lease engine on_attention link pipe nothing new none =
     let given : given_by link ≡ [] = ap (λ (rs : List Record). flat_map tokens_of rs ++ told_in link.current) new.past ∙ ap told_in new.current in
     let whole : AreWhole (new_reader ToClient size) (traffic pipe ToClient).came [] [] = subst (λ (bytes : List ℕ). AreWhole (new_reader ToClient size) bytes [] []) (sym (none ToClient)) (nothing ToClient).whole in
     record {
