@@ -9,6 +9,7 @@ use Rattle.tds_client.specs.declared.state.Sent.{Sent}
 use Rattle.tds_client.specs.Sending.{Does, Effect, cancelled, cancelled_in, cancelled_sending, room, sent, sent_in, sent_of}
 use Rattle.tds_client.specs.Session.{ClientSession, Stage, Idle, Sending, Reading, Cancelling, Broken}
 use Rattle.tds_packet.specs.declared.kind.Kind.{Kind}
+use Rattle.tds_session.specs.declared.attention.OnAttention.{OnAttention}
 use Rattle.tds_world.specs.declared.report.RequestStatus.{RequestStatus}
 use Rattle.tds_play.specs.Acts.{with_client, with_status}
 use Rattle.tds_packet.specs.declared.kind.Direction.{Direction}
