@@ -1,0 +1,116 @@
+//! The exports that take a request. Each is the client's `start` with that request.
+
+ghost use Rattle.std.specs.Prelude.{◌≡◌, Result};
+ghost use Rattle.tds_request.specs.Values.{IsBatchText, IsIsolation};
+ghost use Rattle.tds_request.specs.declared.request.Request.TheVariants as requests;
+ghost use Rattle.tds_c.specs.declared.answers.Stop.{Stop};
+ghost use Rattle.tds_c.specs.Answers.{done_number, number_of};
+ghost use Rattle.tds_c.specs.Calls.{Buffer, StartsIf, Writes, none_out, starts};
+
+use crate::answers::{Stop, done_code};
+use crate::calls;
+use crate::client::TdsClient;
+use std::alloc::Global;
+use tds_request::{BatchText, Isolation, Request};
+
+/// Takes a batch of 1 to 2,000 units (MS-TDS 2.2.6.7). Its message is written to `message`, which
+/// needs room for 22 bytes and two a unit.
+#[unsafe(no_mangle)]
+pub extern "C" fn tds_client_start_batch(
+    alloc: Global,
+    client: &mut TdsClient,
+    text: &[u16],
+    message: &mut [u8],
+    count: &mut usize,
+) -> u8
+    ensures { (answer : Result (Unit {0}) Stop) × (result ≡ number_of done_number answer)
+        × StartsIf (IsBatchText text.now) (starts client.old (requests.Batch text.now))
+        client.old client.new
+        (record { before = message.old; after = message.new; count = count.new }) answer }
+{
+    done_code(start_batch(alloc, client, text, message, count))
+}
+
+fn start_batch(
+    alloc: Global,
+    client: &mut TdsClient,
+    text: &[u16],
+    message: &mut [u8],
+    count: &mut usize,
+) -> Result<(), Stop>
+    ensures { StartsIf (IsBatchText text.now) (starts client.old (requests.Batch text.now))
+        client.old client.new
+        (record { before = message.old; after = message.new; count = count.new }) result }
+{
+    *count = 0;
+    let Some(text) = BatchText::new(text.to_vec(alloc)?) else {
+        return Err(Stop::OutOfRange);
+    };
+    calls::start(alloc, client, &Request::Batch(text), message, count)
+}
+
+/// Takes the request to begin a transaction at an isolation level of 0 to 5 (MS-TDS 2.2.6.9). Its
+/// message has 26 bytes.
+#[unsafe(no_mangle)]
+pub extern "C" fn tds_client_start_begin(
+    alloc: Global,
+    client: &mut TdsClient,
+    isolation: u8,
+    message: &mut [u8],
+    count: &mut usize,
+) -> u8
+    ensures { (answer : Result (Unit {0}) Stop) × (result ≡ number_of done_number answer)
+        × StartsIf (IsIsolation isolation) (starts client.old (requests.Begin isolation))
+        client.old client.new
+        (record { before = message.old; after = message.new; count = count.new }) answer }
+{
+    done_code(start_begin(alloc, client, isolation, message, count))
+}
+
+fn start_begin(
+    alloc: Global,
+    client: &mut TdsClient,
+    isolation: u8,
+    message: &mut [u8],
+    count: &mut usize,
+) -> Result<(), Stop>
+    ensures { StartsIf (IsIsolation isolation) (starts client.old (requests.Begin isolation))
+        client.old client.new
+        (record { before = message.old; after = message.new; count = count.new }) result }
+{
+    *count = 0;
+    let Some(isolation) = Isolation::new(isolation) else {
+        return Err(Stop::OutOfRange);
+    };
+    calls::start(alloc, client, &Request::Begin(isolation), message, count)
+}
+
+/// Takes the request to commit the transaction (MS-TDS 2.2.6.9). Its message has 26 bytes.
+#[unsafe(no_mangle)]
+pub extern "C" fn tds_client_start_commit(
+    alloc: Global,
+    client: &mut TdsClient,
+    message: &mut [u8],
+    count: &mut usize,
+) -> u8
+    ensures { (answer : Result (Unit {0}) Stop) × (result ≡ number_of done_number answer)
+        × Writes (starts client.old requests.Commit) none_out client.old client.new
+        (record { before = message.old; after = message.new; count = count.new }) answer }
+{
+    done_code(calls::start(alloc, client, &Request::Commit, message, count))
+}
+
+/// Takes the request to roll the transaction back (MS-TDS 2.2.6.9). Its message has 26 bytes.
+#[unsafe(no_mangle)]
+pub extern "C" fn tds_client_start_rollback(
+    alloc: Global,
+    client: &mut TdsClient,
+    message: &mut [u8],
+    count: &mut usize,
+) -> u8
+    ensures { (answer : Result (Unit {0}) Stop) × (result ≡ number_of done_number answer)
+        × Writes (starts client.old requests.Rollback) none_out client.old client.new
+        (record { before = message.old; after = message.new; count = count.new }) answer }
+{
+    done_code(calls::start(alloc, client, &Request::Rollback, message, count))
+}
