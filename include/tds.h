@@ -152,10 +152,14 @@ uint8_t tds_client_start_batch(struct tds_client *client, const uint16_t *text, 
                                uint8_t *message, size_t room, size_t *count);
 uint8_t tds_client_start_begin(struct tds_client *client, uint8_t isolation, uint8_t *message,
                                size_t room, size_t *count);
-uint8_t tds_client_start_commit(struct tds_client *client, uint8_t *message, size_t room,
-                                size_t *count);
-uint8_t tds_client_start_rollback(struct tds_client *client, uint8_t *message, size_t room,
-                                  size_t *count);
+
+/* The same of a commit and of a rollback. `next` is the isolation level of the transaction that it
+ * begins at once, or TDS_NO_NEXT. */
+#define TDS_NO_NEXT 255
+uint8_t tds_client_start_commit(struct tds_client *client, uint8_t next, uint8_t *message,
+                                size_t room, size_t *count);
+uint8_t tds_client_start_rollback(struct tds_client *client, uint8_t next, uint8_t *message,
+                                  size_t room, size_t *count);
 
 /* In sending: writes the request's next packet to `out`, which needs room for the packet size at
  * most. TDS_MORE or TDS_LAST. */

@@ -69,6 +69,6 @@ is_whole direction size bytes h law all spelled none room =
 
 pub is_front : (direction : Direction) (size : ℕ) (bytes content : List ℕ) (h : Header) → Law → AreBytes bytes → header_bytes h ≡ take 8 bytes → header_fault direction size (take 8 bytes) ≡ None → h.length ≤ length bytes
     → content ≡ drop 8 (take h.length bytes) → IsFront direction size bytes h content
-is_front direction size bytes content h law all spelled none room behind = 
+is_front direction size bytes content h law all spelled none room behind =
     let whole = is_whole direction size bytes h law all spelled none room in
     (room, spelled, behind, whole)

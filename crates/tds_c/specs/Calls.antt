@@ -1,5 +1,5 @@
 -- What each export does to the client that is handed to it.
-use Rattle.std.specs.Prelude.{◌≡◌, ℕ, ◌-◌, ◌<◌, nat_le, List, [], ◌++◌, length, drop, Option, Some, None, Result, Ok, Err, if◌then◌else◌}
+use Rattle.std.specs.Prelude.{◌≡◌, ℕ, ◌-◌, ◌<◌, ◌==◌, nat_le, nat_lt, List, [], ◌++◌, length, drop, Option, Some, None, Result, Ok, Err, if◌then◌else◌}
 use Rattle.tds_packet.specs.declared.status.Reset.{Reset}
 use Rattle.tds_packet.specs.Size.{IsPacketSize}
 use Rattle.tds_request.specs.declared.request.Request.{Request}
@@ -146,3 +146,13 @@ MarksIf reset old new result = MarksBy (mark_from reset) old new result
 abbrev pub IsNew : ℕ → TdsClient → TdsClient → Result (Unit {0}) Stop → Type 0
 IsNew size old new (Ok done) = IsPacketSize size × (new ≡ value_of (new_session size) 0)
 IsNew size old new (Err stop) = (¬ IsPacketSize size) × (stop ≡ stops.OutOfRange) × (new ≡ old)
+
+-- ---- A commit or rollback, and the transaction that it begins at once
+
+-- 0 to 5 is an isolation level, and 255 none.
+unfoldable pub next_from : ℕ → Option (Option ℕ)
+next_from n = if n == 255 then Some None else if nat_lt 5 n then None else Some (Some n)
+
+abbrev pub StartsNext : Option (Option ℕ) → TdsClient → (Option ℕ → Request) → TdsClient → Buffer → Result (Unit {0}) Stop → Type 0
+StartsNext None old request new buffer result = (result ≡ Err stops.OutOfRange) × (buffer.count ≡ 0) × Kept old new buffer
+StartsNext (Some next) old request new buffer result = Writes (starts old (request next)) none_out old new buffer result

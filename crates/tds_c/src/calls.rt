@@ -1,13 +1,13 @@
 //! The client's calls that write bytes, and those that change it alone.
 
-ghost use Rattle.std.specs.Prelude.{◌≡◌, ◌<◌, true, false, length};
-ghost use Rattle.tds_c.specs.Calls.{Changes, Writes, cancels, loses, marks, none_out, out_of};
+ghost use Rattle.std.specs.Prelude.{◌≡◌, ◌<◌, true, false, length, Some, Ok, IfOk, IfErr};
+ghost use Rattle.tds_c.specs.Calls.{Buffer, Changes, Stops, Writes, cancels, loses, marks, none_out, out_of};
 ghost use Rattle.tds_c.specs.Calls.{sends, starts, with_front};
 
 use crate::answers::Stop;
 use crate::client::TdsClient;
 use std::alloc::Global;
-use tds_client::{Cancelled, Sent};
+use tds_client::{Cancelled, Client, Sent};
 use tds_packet::Reset;
 use tds_request::Request;
 
@@ -25,6 +25,30 @@ fn put(bytes: &[u8], out: &mut [u8], count: &mut usize) -> bool
     true
 }
 
+/// The request's next packet, apart from the caller's buffer.
+fn next_packet(
+    alloc: Global,
+    client: &TdsClient,
+    message: &[u8],
+) -> Result<(Sent, Client, Vec<u8>), Stop>
+    ensures done { IfOk result (λ x. sends client.now message.now
+        ≡ Some (Ok (record { answer = x.0; session = x.1; bytes = x.2.items }))) }
+    ensures stop { (buffer : Buffer) → buffer.count ≡ 0
+        → IfErr result (λ stop. Stops (sends client.now message.now) buffer stop) }
+{
+    if client.sent > message.len() {
+        return Err(Stop::NoClient);
+    }
+    let mut left = Vec::new(alloc);
+    left.extend_from_slice(&message[client.sent..])?;
+    let Some(mut held) = client.client(left) else {
+        return Err(Stop::NoClient);
+    };
+    let mut bytes = Vec::new(alloc);
+    let answer = held.send(&mut bytes)?;
+    Ok((answer, held, bytes))
+}
+
 pub(crate) fn send(
     alloc: Global,
     client: &mut TdsClient,
@@ -36,15 +60,10 @@ pub(crate) fn send(
         (record { before = out.old; after = out.new; count = count.new }) result }
 {
     *count = 0;
-    if client.sent > message.len() {
-        return Err(Stop::NoClient);
-    }
-    let left = message[client.sent..].to_vec(alloc)?;
-    let Some(mut held) = client.client(left) else {
-        return Err(Stop::NoClient);
+    let (answer, held, bytes) = match next_packet(alloc, client, message) {
+        Ok(next) => next,
+        Err(stop) => return Err(stop),
     };
-    let mut bytes = Vec::new(alloc);
-    let answer = held.send(&mut bytes)?;
     if !put(bytes.as_slice(), out, count) {
         return Err(Stop::NoRoom);
     }

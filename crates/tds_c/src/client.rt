@@ -4,8 +4,10 @@ ghost use Rattle.std.specs.Prelude.{◌≡◌, Some, None, if◌then◌else◌, 
 ghost use Rattle.tds_c.specs.Plain.{client_of, have_room, parts_from, plain_of, stage_from_number};
 ghost use Rattle.tds_client.specs.Parts.{parts_of, session_from};
 
-use crate::numbers::{columns_from, columns_number, done_from, done_number, fault_from};
-use crate::numbers::{mark_from, mark_number, size_from, token_fault_number};
+use crate::numbers::{
+    columns_from, columns_number, done_from, done_number, fault_from, mark_from, mark_number,
+    size_from, token_fault_number,
+};
 use tds_client::{Client, ClientParts, Heard, StageParts};
 use tds_packet::Kind;
 

@@ -5,7 +5,7 @@ ghost use Rattle.tds_request.specs.Values.{IsBatchText, IsIsolation};
 ghost use Rattle.tds_request.specs.declared.request.Request.TheVariants as requests;
 ghost use Rattle.tds_c.specs.declared.answers.Stop.{Stop};
 ghost use Rattle.tds_c.specs.Answers.{done_number, number_of};
-ghost use Rattle.tds_c.specs.Calls.{Buffer, StartsIf, Writes, none_out, starts};
+ghost use Rattle.tds_c.specs.Calls.{StartsIf, StartsNext, next_from, starts};
 
 use crate::answers::{Stop, done_code};
 use crate::calls;
@@ -85,32 +85,87 @@ fn start_begin(
     calls::start(alloc, client, &Request::Begin(isolation), message, count)
 }
 
-/// Takes the request to commit the transaction (MS-TDS 2.2.6.9). Its message has 26 bytes.
+/// The level at which the next transaction begins, if one does. None where it is no such number.
+#[tactic(auto, unfolding(crate::specs::Calls::next_from))]
+fn next(number: u8) -> Option<Option<Isolation>>
+    ensures { result ≡ next_from number }
+{
+    if number == 255 {
+        return Some(None);
+    }
+    if number > 5 {
+        return None;
+    }
+    let isolation = Isolation::new(number)?;
+    Some(Some(isolation))
+}
+
+/// Takes the request to commit the transaction (MS-TDS 2.2.6.9) and, where `next` is an
+/// isolation level of 0 to 5, to begin the next one at once. 255 is none. Its message has 26 bytes
+/// or, with a level, 28.
 #[unsafe(no_mangle)]
 pub extern "C" fn tds_client_start_commit(
     alloc: Global,
     client: &mut TdsClient,
+    next: u8,
     message: &mut [u8],
     count: &mut usize,
 ) -> u8
     ensures { (answer : Result (Unit {0}) Stop) × (result ≡ number_of done_number answer)
-        × Writes (starts client.old requests.Commit) none_out client.old client.new
+        × StartsNext (next_from next) client.old requests.Commit client.new
         (record { before = message.old; after = message.new; count = count.new }) answer }
 {
-    done_code(calls::start(alloc, client, &Request::Commit, message, count))
+    done_code(start_commit(alloc, client, next, message, count))
 }
 
-/// Takes the request to roll the transaction back (MS-TDS 2.2.6.9). Its message has 26 bytes.
+fn start_commit(
+    alloc: Global,
+    client: &mut TdsClient,
+    number: u8,
+    message: &mut [u8],
+    count: &mut usize,
+) -> Result<(), Stop>
+    ensures { StartsNext (next_from number) client.old requests.Commit client.new
+        (record { before = message.old; after = message.new; count = count.new }) result }
+{
+    *count = 0;
+    let Some(next) = next(number) else {
+        return Err(Stop::OutOfRange);
+    };
+    calls::start(alloc, client, &Request::Commit(next), message, count)
+}
+
+/// Takes the request to roll the transaction back (MS-TDS 2.2.6.9) and, where `next` is an
+/// isolation level of 0 to 5, to begin the next one at once. 255 is none. Its message has 26 bytes
+/// or, with a level, 28.
 #[unsafe(no_mangle)]
 pub extern "C" fn tds_client_start_rollback(
     alloc: Global,
     client: &mut TdsClient,
+    next: u8,
     message: &mut [u8],
     count: &mut usize,
 ) -> u8
     ensures { (answer : Result (Unit {0}) Stop) × (result ≡ number_of done_number answer)
-        × Writes (starts client.old requests.Rollback) none_out client.old client.new
+        × StartsNext (next_from next) client.old requests.Rollback client.new
         (record { before = message.old; after = message.new; count = count.new }) answer }
 {
-    done_code(calls::start(alloc, client, &Request::Rollback, message, count))
+    done_code(start_rollback(alloc, client, next, message, count))
+}
+
+fn start_rollback(
+    alloc: Global,
+    client: &mut TdsClient,
+    number: u8,
+    message: &mut [u8],
+    count: &mut usize,
+) -> Result<(), Stop>
+    ensures { StartsNext (next_from number) client.old requests.Rollback client.new
+        (record { before = message.old; after = message.new; count = count.new }) result }
+{
+    *count = 0;
+    let Some(next) = next(number) else {
+        return Err(Stop::OutOfRange);
+    };
+    calls::start(alloc, client, &Request::Rollback(next), message, count)
 }

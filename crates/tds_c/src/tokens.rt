@@ -55,8 +55,19 @@ pub(crate) enum Found {
 }
 
 fn blank(kind: u8, start: usize) -> TdsToken
-    ensures { result ≡ record { value = 0; start = start; number = pos 0; line = pos 0;
-        status = 0; cur_cmd = 0; kind = kind; state = 0; severity = 0; change = 0; count = 0 } }
+    ensures { result ≡ record {
+      value = 0;
+      start = start;
+      number = pos 0;
+      line = pos 0;
+      status = 0;
+      cur_cmd = 0;
+      kind = kind;
+      state = 0;
+      severity = 0;
+      change = 0;
+      count = 0;
+    } }
 {
     TdsToken {
         value: 0,
@@ -161,11 +172,7 @@ fn next(data: &[u8], cursor: &mut TdsCursor, token: &mut TdsToken) -> Result<Fou
 /// Reads the token at the cursor, and goes on behind it. 0 where it is a token, 9 at the end of the
 /// data.
 #[unsafe(no_mangle)]
-pub extern "C" fn tds_token_next(
-    data: &[u8],
-    cursor: &mut TdsCursor,
-    token: &mut TdsToken,
-) -> u8
+pub extern "C" fn tds_token_next(data: &[u8], cursor: &mut TdsCursor, token: &mut TdsToken) -> u8
     ensures { (answer : Result Found Stop) × (result ≡ number_of found_number answer)
         × Reads data.now cursor.old cursor.new token.new answer }
 {

@@ -11,12 +11,7 @@ use tds_play::{MemoryCarrier, run_play};
 /// 0 where it was played. 1 where not: the line that says why is in `out`. 2 where `out` has no
 /// room: `count` says how much is wanted.
 #[unsafe(no_mangle)]
-pub extern "C" fn tds_play(
-    alloc: Global,
-    schedule: &[u8],
-    out: &mut [u8],
-    count: &mut usize,
-) -> u8
+pub extern "C" fn tds_play(alloc: Global, schedule: &[u8], out: &mut [u8], count: &mut usize) -> u8
     ensures played { result ≡ 0 → IsPlayed schedule.now out.old out.new count.new }
     ensures room { result ≡ 2 → (out.new ≡ out.old) × (length out.old < count.new) }
     ensures within { (result ≡ 2 → ⊥) → count.new ≤ length out.old }

@@ -48,12 +48,16 @@ pub enum Taken {
 pub enum Request<'a> {
     Batch(&'a str),
     Begin(u8),
-    Commit,
-    Rollback,
+    /// With the level of the transaction that is begun at once, if one is.
+    Commit(Option<u8>),
+    Rollback(Option<u8>),
 }
 
 /// The longest message: 2,000 units behind 22 bytes.
 const MESSAGE_MOST: usize = 4022;
+
+/// No transaction is begun behind a commit or a rollback.
+const NO_NEXT: u8 = 255;
 
 /// The client's end of one connection, with the message of the request that goes out.
 pub struct Client {
@@ -115,8 +119,8 @@ impl Client {
                 unsafe { raw::tds_client_start_batch(raw, text.as_ptr(), text.len(), at, room, &mut count) }
             }
             Request::Begin(isolation) => unsafe { raw::tds_client_start_begin(raw, isolation, at, room, &mut count) },
-            Request::Commit => unsafe { raw::tds_client_start_commit(raw, at, room, &mut count) },
-            Request::Rollback => unsafe { raw::tds_client_start_rollback(raw, at, room, &mut count) },
+            Request::Commit(next) => unsafe { raw::tds_client_start_commit(raw, next.unwrap_or(NO_NEXT), at, room, &mut count) },
+            Request::Rollback(next) => unsafe { raw::tds_client_start_rollback(raw, next.unwrap_or(NO_NEXT), at, room, &mut count) },
         })?;
         message.truncate(count);
         self.message = message;

@@ -76,7 +76,7 @@ fn connection() -> Result<(), Box<dyn Error>> {
     assert_eq!(receive(&mut client, ENDED), Err(Fault::Peer(1)));
     client.lost();
     assert_eq!(client.state(), State::Broken(Fault::Peer(1)));
-    let refused = client.start(Request::Commit).expect_err("it is broken");
+    let refused = client.start(Request::Commit(None)).expect_err("it is broken");
     assert_eq!(refused.to_string(), "the client is broken");
     assert_eq!(client.start(Request::Begin(9)), Err(Fault::OutOfRange));
     Ok(())

@@ -53,8 +53,8 @@ extern "C" {
     pub fn tds_client_mark_reset(client: &mut Client, reset: u8) -> u8;
     pub fn tds_client_start_batch(client: &mut Client, text: *const u16, units: usize, message: *mut u8, room: usize, count: &mut usize) -> u8;
     pub fn tds_client_start_begin(client: &mut Client, isolation: u8, message: *mut u8, room: usize, count: &mut usize) -> u8;
-    pub fn tds_client_start_commit(client: &mut Client, message: *mut u8, room: usize, count: &mut usize) -> u8;
-    pub fn tds_client_start_rollback(client: &mut Client, message: *mut u8, room: usize, count: &mut usize) -> u8;
+    pub fn tds_client_start_commit(client: &mut Client, next: u8, message: *mut u8, room: usize, count: &mut usize) -> u8;
+    pub fn tds_client_start_rollback(client: &mut Client, next: u8, message: *mut u8, room: usize, count: &mut usize) -> u8;
     pub fn tds_client_send(client: &mut Client, message: *const u8, length: usize, out: *mut u8, room: usize, count: &mut usize) -> u8;
     pub fn tds_client_cancel(client: &mut Client, out: *mut u8, room: usize, count: &mut usize) -> u8;
     pub fn tds_client_take(client: &mut Client, packet: *const u8, length: usize) -> u8;

@@ -9,4 +9,4 @@ data_of-data-requires-clause-least c =
 
 pub returns-else-bytes-length-clause-packet : goal.returns-else-bytes-length-clause-packet
 returns-else-bytes-length-clause-packet c =
-    is_front c.args.direction c.args.size c.args.bytes.now c.data_of-data.result.now c.in-Ok.header c.no_fault_is_a_packet.ensures c.type_inv.bytes (c.in-Ok.ensures.spelled ∙ c.in-Some.ensures.cases.same) (search rules) (search rules) (search rules)
+    is_front c.args.direction c.args.size c.args.bytes.now c.data_of-data.result.now c.in-Ok.header c.no_fault_is_a_packet.ensures (let x = c.type_inv.bytes in search rules) (c.in-Ok.ensures.spelled ∙ c.in-Some.ensures.cases.same) (search rules) (search rules) (search rules)
