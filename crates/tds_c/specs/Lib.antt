@@ -1,0 +1,5 @@
+pub mod Plain
+pub mod Answers
+pub mod Calls
+pub mod Packets
+pub mod Tokens

@@ -1,0 +1,80 @@
+-- A token as a plain value, and a cursor that goes from one to the next.
+use Rattle.std.specs.Prelude.{◌≡◌, ℕ, ◌-◌, ◌<◌, ◌⊎◌, List, [], ◌++◌, length, drop, Option, Some, None, Result, Ok, Err}
+use Rattle.tds_token.specs.declared.env_change.EnvChange.{EnvChange}
+use Rattle.tds_token.specs.declared.env_change.EnvChange.TheVariants.{Begin, Commit, Rollback, ResetDone}
+use Rattle.tds_token.specs.declared.message.Message.{Message}
+use Rattle.tds_token.specs.declared.token.Token.{Token}
+use Rattle.tds_token.specs.declared.token.Token.TheVariants as tokens
+use Rattle.tds_token.specs.Layout.{IsToken}
+use Rattle.tds_token.specs.Reading.{wrong_token}
+use Rattle.tds_c.specs.declared.answers.Stop.{Stop}
+use Rattle.tds_c.specs.declared.answers.Stop.TheVariants as stops
+use Rattle.tds_c.specs.declared.tokens.Found.{Found}
+use Rattle.tds_c.specs.declared.tokens.Found.TheVariants as found
+use Rattle.tds_c.specs.declared.tokens.TdsCursor.{TdsCursor}
+use Rattle.tds_c.specs.declared.tokens.TdsToken.{TdsToken}
+use Rattle.tds_c.specs.Plain.{columns_from, columns_number}
+
+abbrev pub found_number : Found → ℕ
+found_number found.Token = 0
+found_number found.End = 9
+
+-- The token's byte, and where it begins.
+abbrev pub Begins : TdsToken → ℕ → ℕ → Type 0
+Begins t kind start = (t.kind ≡ kind) × (t.start ≡ start)
+
+abbrev pub ShowsMessage : TdsToken → ℕ → ℕ → Message → Type 0
+ShowsMessage t kind start m =
+    Begins t kind start × (t.number ≡ m.number) × (t.state ≡ m.state) × (t.severity ≡ m.class) × (t.line ≡ m.line)
+
+abbrev pub ShowsChange : TdsToken → ℕ → EnvChange → Type 0
+ShowsChange t start (Begin d) = Begins t 0xE3 start × (t.change ≡ 8) × (t.value ≡ d)
+ShowsChange t start (Commit d) = Begins t 0xE3 start × (t.change ≡ 9) × (t.value ≡ d)
+ShowsChange t start (Rollback d) = Begins t 0xE3 start × (t.change ≡ 10) × (t.value ≡ d)
+ShowsChange t start ResetDone = Begins t 0xE3 start × (t.change ≡ 18)
+
+-- The value shows this token, but for what lies in the data alone: texts, names of columns, values of a row.
+abbrev pub Shows : TdsToken → ℕ → ℕ → Token → Type 0
+Shows t start columns (tokens.Info m) = ShowsMessage t 0xAB start m
+Shows t start columns (tokens.Error m) = ShowsMessage t 0xAA start m
+Shows t start columns (tokens.ReturnStatus v) = Begins t 0x79 start × (t.number ≡ v)
+Shows t start columns (tokens.Columns cs) = Begins t 0x81 start × (t.count ≡ length cs)
+Shows t start columns (tokens.Row vs) = Begins t 0xD1 start × (t.count ≡ columns)
+Shows t start columns (tokens.Env e) = ShowsChange t start e
+Shows t start columns (tokens.Done status cur_cmd rows) =
+    Begins t 0xFD start × (t.status ≡ status) × (t.cur_cmd ≡ cur_cmd) × (t.value ≡ rows)
+
+-- The cursor stands behind these bytes, which are left, with these columns known.
+abbrev pub StandsAt : TdsCursor → List ℕ → List ℕ → Option ℕ → Type 0
+StandsAt c content left columns = (c.at ≡ length content - length left) × (c.columns ≡ columns_number columns)
+
+-- A token is spelled at the cursor, and the cursor goes behind it.
+abbrev pub ReadsToken : List ℕ → TdsCursor → TdsCursor → TdsToken → Option ℕ → Type 0
+ReadsToken content old new t columns =
+    (token : Token) × (front : List ℕ) × (left : List ℕ) × (after : Option ℕ)
+    × (drop old.at content ≡ front ++ left) × IsToken columns token front after
+    × Shows t old.at old.columns token × StandsAt new content left after
+
+-- What comes of reading where these columns are known.
+abbrev pub ReadsUnder : Option ℕ → List ℕ → TdsCursor → TdsCursor → TdsToken → Result Found Stop → Type 0
+ReadsUnder columns content old new t (Ok found.Token) = ReadsToken content old new t columns
+ReadsUnder columns content old new t (Ok found.End) = (drop old.at content ≡ []) × (new ≡ old)
+ReadsUnder columns content old new t (Err (stops.Token fault)) =
+    (wrong_token columns (drop old.at content) ≡ Some fault) × (new.at ≡ length content) × (new.columns ≡ old.columns)
+ReadsUnder columns content old new t (Err stops.NoPlace) = (length content < old.at) × (new ≡ old)
+ReadsUnder columns content old new t (Err stops.NoClient) = ⊥
+ReadsUnder columns content old new t (Err stops.NoRoom) = ⊥
+ReadsUnder columns content old new t (Err stops.NoMemory) = ⊥
+ReadsUnder columns content old new t (Err stops.OutOfRange) = ⊥
+ReadsUnder columns content old new t (Err stops.WantsBytes) = ⊥
+ReadsUnder columns content old new t (Err stops.NoPacket) = ⊥
+ReadsUnder columns content old new t (Err (stops.Refused refusal)) = ⊥
+ReadsUnder columns content old new t (Err (stops.Packet fault)) = ⊥
+ReadsUnder columns content old new t (Err (stops.Client fault)) = ⊥
+
+abbrev pub ReadsBy : Option (Option ℕ) → List ℕ → TdsCursor → TdsCursor → TdsToken → Result Found Stop → Type 0
+ReadsBy None content old new t result = (result ≡ Err stops.NoPlace) × (new ≡ old)
+ReadsBy (Some columns) content old new t result = ReadsUnder columns content old new t result
+
+abbrev pub Reads : List ℕ → TdsCursor → TdsCursor → TdsToken → Result Found Stop → Type 0
+Reads content old new t result = ReadsBy (columns_from old.columns) content old new t result

@@ -1,0 +1,14 @@
+//! The client's end of a connection for C, and for whatever can call C: packets, the client and
+//! tokens. Nothing is kept between two calls: a client is a plain value in the caller's memory.
+//!
+//! `include/tds.h` declares the exports, says what a caller owes, and names each number.
+#![tactic(auto)]
+
+mod answers;
+mod calls;
+mod client;
+mod exports;
+mod numbers;
+mod packets;
+mod requests;
+mod tokens;

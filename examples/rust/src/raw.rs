@@ -1,0 +1,64 @@
+//! The declarations of `include/tds.h` and `include/tds_play.h`.
+
+#[repr(C)]
+#[derive(Clone, Copy, Default, Debug)]
+pub struct Packet {
+    pub length: usize,
+    pub kind: u8,
+    pub status: u8,
+}
+
+#[repr(C)]
+#[derive(Clone, Copy, Default, PartialEq, Eq, Debug)]
+pub struct Client {
+    pub descriptor: u64,
+    pub sent: usize,
+    pub packets: usize,
+    pub size: u16,
+    pub stage: u8,
+    pub kind: u8,
+    pub fault: u8,
+    pub token_fault: u8,
+    pub mark: u8,
+    pub done: u8,
+    pub columns: u8,
+}
+
+#[repr(C)]
+#[derive(Clone, Copy, Default, Debug)]
+pub struct Cursor {
+    pub at: usize,
+    pub columns: u8,
+}
+
+#[repr(C)]
+#[derive(Clone, Copy, Default, Debug)]
+pub struct Token {
+    pub value: u64,
+    pub start: usize,
+    pub number: i32,
+    pub line: i32,
+    pub status: u16,
+    pub cur_cmd: u16,
+    pub kind: u8,
+    pub state: u8,
+    pub severity: u8,
+    pub change: u8,
+    pub count: u8,
+}
+
+extern "C" {
+    pub fn tds_packet_read(bytes: *const u8, length: usize, size: u16, direction: u8, packet: &mut Packet) -> u8;
+    pub fn tds_client_new(size: u16, client: &mut Client) -> u8;
+    pub fn tds_client_mark_reset(client: &mut Client, reset: u8) -> u8;
+    pub fn tds_client_start_batch(client: &mut Client, text: *const u16, units: usize, message: *mut u8, room: usize, count: &mut usize) -> u8;
+    pub fn tds_client_start_begin(client: &mut Client, isolation: u8, message: *mut u8, room: usize, count: &mut usize) -> u8;
+    pub fn tds_client_start_commit(client: &mut Client, next: u8, message: *mut u8, room: usize, count: &mut usize) -> u8;
+    pub fn tds_client_start_rollback(client: &mut Client, next: u8, message: *mut u8, room: usize, count: &mut usize) -> u8;
+    pub fn tds_client_send(client: &mut Client, message: *const u8, length: usize, out: *mut u8, room: usize, count: &mut usize) -> u8;
+    pub fn tds_client_cancel(client: &mut Client, out: *mut u8, room: usize, count: &mut usize) -> u8;
+    pub fn tds_client_take(client: &mut Client, packet: *const u8, length: usize) -> u8;
+    pub fn tds_client_lost(client: &mut Client) -> u8;
+    pub fn tds_token_next(data: *const u8, length: usize, cursor: &mut Cursor, token: &mut Token) -> u8;
+    pub fn tds_play(schedule: *const u8, length: usize, out: *mut u8, room: usize, count: &mut usize) -> u8;
+}

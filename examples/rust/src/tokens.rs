@@ -1,0 +1,142 @@
+//! Packets out of bytes, and tokens out of a packet's data.
+
+use crate::fault::Fault;
+use crate::raw;
+
+/// The packets at the front of some bytes that come from a server, one behind the other. It ends
+/// where less than a packet is left, which `rest` has.
+pub struct Packets<'a> {
+    bytes: &'a [u8],
+    size: u16,
+}
+
+impl<'a> Packets<'a> {
+    pub fn new(bytes: &'a [u8], size: u16) -> Packets<'a> {
+        Packets { bytes, size }
+    }
+
+    /// What no packet was made of yet: more bytes are put behind these.
+    pub fn rest(&self) -> &'a [u8] {
+        self.bytes
+    }
+}
+
+impl<'a> Iterator for Packets<'a> {
+    type Item = Result<&'a [u8], Fault>;
+
+    fn next(&mut self) -> Option<Result<&'a [u8], Fault>> {
+        let mut packet = raw::Packet::default();
+        // SAFETY: the pointer and the length are those of one slice.
+        match unsafe { raw::tds_packet_read(self.bytes.as_ptr(), self.bytes.len(), self.size, 1, &mut packet) } {
+            0 => {
+                let (front, rest) = self.bytes.split_at(packet.length);
+                self.bytes = rest;
+                Some(Ok(front))
+            }
+            24 => None,
+            number => Some(Err(Fault::of(number))),
+        }
+    }
+}
+
+/// What an INFO or an ERROR says.
+#[derive(Clone, PartialEq, Eq, Debug)]
+pub struct Message {
+    pub number: i32,
+    pub state: u8,
+    pub severity: u8,
+    pub line: i32,
+    pub text: String,
+}
+
+/// A change of the session, with the transaction's descriptor.
+#[derive(Clone, Copy, PartialEq, Eq, Debug)]
+pub enum Change {
+    Begin(u64),
+    Commit(u64),
+    Rollback(u64),
+    ResetDone,
+}
+
+/// A token.
+#[derive(Clone, PartialEq, Eq, Debug)]
+pub enum Token {
+    Info(Message),
+    Error(Message),
+    ReturnStatus(i32),
+    /// So many columns.
+    Columns(u8),
+    Row(Vec<i32>),
+    Change(Change),
+    Done { status: u16, cur_cmd: u16, rows: u64 },
+}
+
+/// The tokens of a packet's data, one behind the other. A fault is the last thing that it gives.
+pub struct Tokens<'a> {
+    data: &'a [u8],
+    cursor: raw::Cursor,
+    changes: bool,
+}
+
+impl<'a> Tokens<'a> {
+    /// All tokens of these data, where so many columns are known, 0 for none.
+    pub fn new(data: &'a [u8], columns: u8) -> Tokens<'a> {
+        Tokens { data, cursor: raw::Cursor { at: 0, columns }, changes: true }
+    }
+
+    /// Those that a client tells: all but the ENVCHANGEs.
+    pub(crate) fn told(data: &'a [u8], columns: u8) -> Tokens<'a> {
+        Tokens { changes: false, ..Tokens::new(data, columns) }
+    }
+
+    fn token(&self, token: &raw::Token) -> Token {
+        let bytes = &self.data[token.start..self.cursor.at];
+        let message = || Message {
+            number: token.number,
+            state: token.state,
+            severity: token.severity,
+            line: token.line,
+            text: text(&bytes[11..], usize::from(u16::from_le_bytes([bytes[9], bytes[10]]))),
+        };
+        match token.kind {
+            0xAB => Token::Info(message()),
+            0xAA => Token::Error(message()),
+            0x79 => Token::ReturnStatus(token.number),
+            0x81 => Token::Columns(token.count),
+            0xD1 => Token::Row(bytes[1..].chunks_exact(4).map(int).collect()),
+            0xE3 => Token::Change(match token.change {
+                8 => Change::Begin(token.value),
+                9 => Change::Commit(token.value),
+                10 => Change::Rollback(token.value),
+                _ => Change::ResetDone,
+            }),
+            _ => Token::Done { status: token.status, cur_cmd: token.cur_cmd, rows: token.value },
+        }
+    }
+}
+
+fn int(bytes: &[u8]) -> i32 {
+    i32::from_le_bytes([bytes[0], bytes[1], bytes[2], bytes[3]])
+}
+
+fn text(bytes: &[u8], count: usize) -> String {
+    let units: Vec<u16> = bytes.chunks_exact(2).take(count).map(|b| u16::from_le_bytes([b[0], b[1]])).collect();
+    String::from_utf16_lossy(&units)
+}
+
+impl Iterator for Tokens<'_> {
+    type Item = Result<Token, Fault>;
+
+    fn next(&mut self) -> Option<Result<Token, Fault>> {
+        loop {
+            let mut token = raw::Token::default();
+            // SAFETY: the pointer and the length are those of one slice.
+            match unsafe { raw::tds_token_next(self.data.as_ptr(), self.data.len(), &mut self.cursor, &mut token) } {
+                0 if token.kind == 0xE3 && !self.changes => {}
+                0 => return Some(Ok(self.token(&token))),
+                9 => return None,
+                number => return Some(Err(Fault::of(number))),
+            }
+        }
+    }
+}
