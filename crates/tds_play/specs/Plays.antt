@@ -32,8 +32,8 @@ use Rattle.tds_world.specs.World.{World, Holding, next_number}
 -- ---- A connection
 
 -- A connection that isn't cut: both ends, with this engine and this greatest size of packets.
-pub record Lives {E S : Type 0} (size : ℕ) (engine : E) (link : Link E S) (seat : Seat) (pipe : Option Pipe)
-    (c : Connection) : Type 0 where
+pub record Lives {E S : Type 0} (size : ℕ) (engine : E) (link : Link E S) (seat : Seat)
+    (pipe : Option Pipe) (c : Connection) : Type 0 where
   pub stands : Stands link seat pipe c
   pub engine_is : link.server.engine ≡ engine
   pub size_is : seat.client.size ≡ size

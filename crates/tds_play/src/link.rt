@@ -94,9 +94,10 @@ impl<E: Engine + Drop> Link<E> {
         ensures failed { IfOk result (λ opened. Fails (Open ∷ []) opened.1
             (C.pipes carrier.new number)) }
         ensures uncut { IfOk result (λ opened. opened.0.is_cut ≡ opened.1) }
-        // With a new seat it stands for a new connection of the model, cut where the carrier failed.
-        ensures alike { (lease : ℕ) → IfOk result (λ opened. IsPlayed number size engine opened.0
-            (seated (Leased lease) (new_session size)) (C.pipes carrier.new number)
+        // With a new seat it stands for a new connection of the model, cut where the carrier
+        // failed.
+        ensures alike { (lease : ℕ) → IfOk result (λ opened. IsPlayed number size engine
+            opened.0 (seated (Leased lease) (new_session size)) (C.pipes carrier.new number)
             (cut_where opened.1 (new_connection (Leased lease)))) }
     {
         let mut link = Link::new(alloc, number, engine, size)?;

@@ -134,8 +134,8 @@ impl<E: Engine + Drop> Link<E> {
         ensures number { self.new.number ≡ self.old.number }
         ensures ties { OnOk result (KeepsTies self.old.number self.new (C.pipes carrier.old)
             (C.pipes carrier.new) (C.tells carrier.old) (C.tells carrier.new)) }
-        // Where the connection had no failure, one call of this event failed, or more, exactly where it
-        // was lost, and no other one. Where it was cut, nothing changes at the carrier.
+        // Where the connection had no failure, one call of this event failed, or more, exactly where
+        // it was lost, and no other one. Where it was cut, nothing changes at the carrier.
         ensures failed { HasNoFailure (C.pipes carrier.old self.old.number)
             → IfOk result (λ done. FailsAs (calls_of event.now) done self.new
             (C.pipes carrier.new self.old.number)) }

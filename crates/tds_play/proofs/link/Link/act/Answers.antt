@@ -10,7 +10,9 @@ use Rattle.tds_play.specs.Pipe.{Pipe}
 use Rattle.tds_play.specs.Plays.{IsReady, acts_on}
 use Rattle.tds_play.proofs.Acting.{abandoned_alike, by_event, by_event_ok, comes_there, cut_alike, down_ok, event_at, few_back, kept_at, lent_alike, plain_few, plain_ok, stands_in, up_few, up_ok}
 use Rattle.tds_play.proofs.Losing.{met_ok, whole_alike, whole_ok}
+use Rattle.tds_client.specs.Session.{ClientSession}
 use Rattle.tds_play.proofs.Asked.{asked_ok}
+use Rattle.tds_play.proofs.Listening.{if_ok}
 use Rattle.tds_play.proofs.Placed.{kept_alike}
 use Rattle.tds_play.specs.Failures.{calls_of}
 use Rattle.tds_play.proofs.Failing.{whole_as}
@@ -21,8 +23,8 @@ pub returns-then-self-clause-alike : goal.returns-then-self-clause-alike
 returns-then-self-clause-alike g c = λ setup w m engine tells played promises few next ready.
     let conn : ℕ = c.args.self.now.number in
     let answers : Answers = answer_of (g.E.Engine.statements_of engine) (g.E.Engine.step_of engine) in
-    whole_alike conn setup.packet_size engine c.on_cut.result c.args.self.now (g.C.Carrier.pipes c.args.carrier.now conn) (λ e. acts_on setup answers w e conn m) c.args.event.now m
-    (cut_alike conn setup.packet_size engine c.args.self.now (g.C.Carrier.pipes c.args.carrier.now conn) setup answers w c.args.event.now m c.on_cut.result played c.if-self.true (c.on_cut.ensures.value m))
+    whole_alike conn setup.packet_size engine c.on_cut.result c.args.self.now c.args.seat.now (g.C.Carrier.pipes c.args.carrier.now conn) (λ e. acts_on setup answers w e conn m) c.args.event.now m
+    (cut_alike conn setup.packet_size engine c.args.self.now c.args.seat.now (g.C.Carrier.pipes c.args.carrier.now conn) setup answers w c.args.event.now m c.on_cut.result played c.if-self.true (c.on_cut.ensures.value m))
 
 pub returns-in-Lease-clause-alike : goal.returns-in-Lease-clause-alike
 returns-in-Lease-clause-alike g c = λ setup w m engine tells played promises few next ready.
@@ -31,12 +33,12 @@ returns-in-Lease-clause-alike g c = λ setup w m engine tells played promises fe
     let pipe : Option Pipe = g.C.Carrier.pipes c.args.carrier.now conn in
     let answers : Answers = answer_of (g.E.Engine.statements_of engine) (g.E.Engine.step_of engine) in
     let live = c.if-self.false in
-    let in_place = stands_in conn size engine c.args.self.now pipe m played live in
-    let at = event_at setup answers w c.args.event.now _ conn m c.args.self.now.place in_place c.in-Lease.is in
+    let in_place = stands_in conn size engine c.args.self.now c.args.seat.now pipe m played live in
+    let at = event_at setup answers w c.args.event.now _ conn m c.args.seat.now.place in_place c.in-Lease.is in
     let idle = subst (λ e. IsReady e m) c.in-Lease.is (ready live) in
-    whole_alike conn size engine c.lend.result c.lend.new.self pipe (λ e. acts_on setup answers w e conn m) c.args.event.now m
-    (by_event conn size engine c.lend.result c.lend.new.self pipe m _ _ at
-    (lent_alike c.pool_is_unseen.ensures c.idle_alike.ensures c.lends_matching.ensures.marked conn size c.args.next.lease (next_number w.leases) Full opened.Reused engine c.args.self.now c.lend.new.self pipe m c.lend.result played live idle next.lease c.lend.ensures.done c.lend.ensures.lent))
+    whole_alike conn size engine c.lend.result c.args.self.now c.lend.new.self pipe (λ e. acts_on setup answers w e conn m) c.args.event.now m
+    (by_event conn size engine c.lend.result c.args.self.now c.lend.new.self pipe m _ _ at
+    (lent_alike c.pool_is_unseen.ensures c.idle_alike.ensures c.lends_matching.ensures.marked conn size c.args.next.lease (next_number w.leases) Full opened.Reused engine c.args.self.now c.args.seat.now c.lend.new.self pipe m c.lend.result played live idle next.lease c.lend.ensures.done c.lend.ensures.lent))
 
 pub returns-in-Resume-clause-alike : goal.returns-in-Resume-clause-alike
 returns-in-Resume-clause-alike g c = λ setup w m engine tells played promises few next ready.
@@ -45,12 +47,12 @@ returns-in-Resume-clause-alike g c = λ setup w m engine tells played promises f
     let pipe : Option Pipe = g.C.Carrier.pipes c.args.carrier.now conn in
     let answers : Answers = answer_of (g.E.Engine.statements_of engine) (g.E.Engine.step_of engine) in
     let live = c.if-self.false in
-    let in_place = stands_in conn size engine c.args.self.now pipe m played live in
-    let at = event_at setup answers w c.args.event.now _ conn m c.args.self.now.place in_place c.in-Resume.is in
+    let in_place = stands_in conn size engine c.args.self.now c.args.seat.now pipe m played live in
+    let at = event_at setup answers w c.args.event.now _ conn m c.args.seat.now.place in_place c.in-Resume.is in
     let idle = subst (λ e. IsReady e m) c.in-Resume.is (ready live) in
-    whole_alike conn size engine c.lend-in-Resume.result c.lend-in-Resume.new.self pipe (λ e. acts_on setup answers w e conn m) c.args.event.now m
-    (by_event conn size engine c.lend-in-Resume.result c.lend-in-Resume.new.self pipe m _ _ at
-    (lent_alike c.pool_is_unseen.ensures c.idle_alike.ensures c.lends_matching.ensures.marked conn size c.args.next.lease (next_number w.leases) KeepTransaction opened.Resumed engine c.args.self.now c.lend-in-Resume.new.self pipe m c.lend-in-Resume.result played live idle next.lease c.lend-in-Resume.ensures.done c.lend-in-Resume.ensures.lent))
+    whole_alike conn size engine c.lend-in-Resume.result c.args.self.now c.lend-in-Resume.new.self pipe (λ e. acts_on setup answers w e conn m) c.args.event.now m
+    (by_event conn size engine c.lend-in-Resume.result c.args.self.now c.lend-in-Resume.new.self pipe m _ _ at
+    (lent_alike c.pool_is_unseen.ensures c.idle_alike.ensures c.lends_matching.ensures.marked conn size c.args.next.lease (next_number w.leases) KeepTransaction opened.Resumed engine c.args.self.now c.args.seat.now c.lend-in-Resume.new.self pipe m c.lend-in-Resume.result played live idle next.lease c.lend-in-Resume.ensures.done c.lend-in-Resume.ensures.lent))
 
 pub returns-in-GiveBack-clause-alike : goal.returns-in-GiveBack-clause-alike
 returns-in-GiveBack-clause-alike g c = λ setup w m engine tells played promises few next ready.
@@ -59,11 +61,11 @@ returns-in-GiveBack-clause-alike g c = λ setup w m engine tells played promises
     let pipe : Option Pipe = g.C.Carrier.pipes c.args.carrier.now conn in
     let answers : Answers = answer_of (g.E.Engine.statements_of engine) (g.E.Engine.step_of engine) in
     let live = c.if-self.false in
-    let in_place = stands_in conn size engine c.args.self.now pipe m played live in
-    let back = comes_there m c.args.self.now.place in_place in
-    plain_ok conn size engine c.give_back.result c.give_back.new.self (g.C.Carrier.pipes c.give_back.new.carrier conn) setup answers w c.args.event.now _ m c.args.self.now.place in_place c.in-GiveBack.is (λ k. refl)
-    (met_ok conn size engine c.give_back.result c.give_back.new.self (g.C.Carrier.pipes c.give_back.new.carrier conn) m (λ done. gives_back m) (λ done. comes_back (cancels m)) (λ done. back)
-    (c.give_back.ensures.alike size engine m played (few_back m c.args.self.now.place in_place (plain_few setup answers w c.args.event.now _ conn m c.args.self.now.place in_place c.in-GiveBack.is (λ k. refl) few))))
+    let in_place = stands_in conn size engine c.args.self.now c.args.seat.now pipe m played live in
+    let back = comes_there m c.args.seat.now.place in_place in
+    plain_ok conn size engine c.give_back.result c.give_back.new.self c.give_back.new.seat (g.C.Carrier.pipes c.give_back.new.carrier conn) setup answers w c.args.event.now _ m c.args.seat.now.place in_place c.in-GiveBack.is (λ k. refl)
+    (met_ok conn size engine c.give_back.result c.give_back.new.self c.give_back.new.seat (g.C.Carrier.pipes c.give_back.new.carrier conn) m (λ done. gives_back m) (λ done. comes_back (cancels m)) (λ done. back)
+    (c.give_back.ensures.alike size engine m played (few_back m c.args.seat.now.place in_place (plain_few setup answers w c.args.event.now _ conn m c.args.seat.now.place in_place c.in-GiveBack.is (λ k. refl) few))))
 
 pub returns-in-Keep-clause-alike : goal.returns-in-Keep-clause-alike
 returns-in-Keep-clause-alike g c = λ setup w m engine tells played promises few next ready.
@@ -72,12 +74,12 @@ returns-in-Keep-clause-alike g c = λ setup w m engine tells played promises few
     let pipe : Option Pipe = g.C.Carrier.pipes c.args.carrier.now conn in
     let answers : Answers = answer_of (g.E.Engine.statements_of engine) (g.E.Engine.step_of engine) in
     let live = c.if-self.false in
-    let in_place = stands_in conn size engine c.args.self.now pipe m played live in
-    let at = event_at setup answers w c.args.event.now _ conn m c.args.self.now.place in_place c.in-Keep.is in
-    whole_alike conn size engine c.keep.result c.keep.new.self pipe (λ e. acts_on setup answers w e conn m) c.args.event.now m
-    (by_event conn size engine c.keep.result c.keep.new.self pipe m _ _ at
+    let in_place = stands_in conn size engine c.args.self.now c.args.seat.now pipe m played live in
+    let at = event_at setup answers w c.args.event.now _ conn m c.args.seat.now.place in_place c.in-Keep.is in
+    whole_alike conn size engine c.keep.result c.args.self.now c.keep.new.self pipe (λ e. acts_on setup answers w e conn m) c.args.event.now m
+    (by_event conn size engine c.keep.result c.args.self.now c.keep.new.self pipe m _ _ at
     (kept_at conn size c.args.next.ticket (next_number w.tickets) engine c.args.self.now c.keep.new.self pipe m c.keep.result next.ticket
-    (kept_alike c.pool_is_unseen.ensures c.idle_alike.ensures conn size c.args.next.ticket engine c.args.self.now c.keep.new.self pipe m c.keep.result played live c.keep.ensures.refused c.keep.ensures.kept)))
+    (kept_alike c.pool_is_unseen.ensures c.idle_alike.ensures conn size c.args.next.ticket engine c.args.self.now c.args.seat.now c.keep.new.self pipe m c.keep.result played live c.keep.ensures.refused c.keep.ensures.kept)))
 
 pub returns-in-Abandon-clause-alike : goal.returns-in-Abandon-clause-alike
 returns-in-Abandon-clause-alike g c = λ setup w m engine tells played promises few next ready.
@@ -86,11 +88,11 @@ returns-in-Abandon-clause-alike g c = λ setup w m engine tells played promises 
     let pipe : Option Pipe = g.C.Carrier.pipes c.args.carrier.now conn in
     let answers : Answers = answer_of (g.E.Engine.statements_of engine) (g.E.Engine.step_of engine) in
     let live = c.if-self.false in
-    let in_place = stands_in conn size engine c.args.self.now pipe m played live in
-    let at = event_at setup answers w c.args.event.now _ conn m c.args.self.now.place in_place c.in-Abandon.is in
-    whole_alike conn size engine c.abandon.result c.abandon.new.self pipe (λ e. acts_on setup answers w e conn m) c.args.event.now m
-    (by_event conn size engine c.abandon.result c.abandon.new.self pipe m _ _ at
-    (abandoned_alike c.pool_is_unseen.ensures conn size engine c.args.self.now c.abandon.new.self pipe m c.abandon.result played live c.abandon.ensures.done c.abandon.ensures.value))
+    let in_place = stands_in conn size engine c.args.self.now c.args.seat.now pipe m played live in
+    let at = event_at setup answers w c.args.event.now _ conn m c.args.seat.now.place in_place c.in-Abandon.is in
+    whole_alike conn size engine c.abandon.result c.args.self.now c.abandon.new.self pipe (λ e. acts_on setup answers w e conn m) c.args.event.now m
+    (by_event conn size engine c.abandon.result c.args.self.now c.abandon.new.self pipe m _ _ at
+    (abandoned_alike c.pool_is_unseen.ensures conn size engine c.args.self.now c.args.seat.now c.abandon.new.self pipe m c.abandon.result played live c.abandon.ensures.done c.abandon.ensures.value))
 
 pub returns-in-Ask-clause-alike : goal.returns-in-Ask-clause-alike
 returns-in-Ask-clause-alike g c = λ setup w m engine tells played promises few next ready.
@@ -99,11 +101,11 @@ returns-in-Ask-clause-alike g c = λ setup w m engine tells played promises few 
     let pipe : Option Pipe = g.C.Carrier.pipes c.args.carrier.now conn in
     let answers : Answers = answer_of (g.E.Engine.statements_of engine) (g.E.Engine.step_of engine) in
     let live = c.if-self.false in
-    let in_place = stands_in conn size engine c.args.self.now pipe m played live in
-    let at = event_at setup answers w c.args.event.now _ conn m c.args.self.now.place in_place c.in-Ask.is in
-    whole_ok conn size engine c.ask.result c.ask.new.self pipe (λ e. acts_on setup answers w e conn m) c.args.event.now m
-    (by_event_ok conn size engine c.ask.result c.ask.new.self pipe m _ _ at
-    (asked_ok (record { waits = c.idle_alike.ensures; takes = c.asks_alike.ensures; stays = c.the_other_stays.ensures.asks }) conn size c.args.next.request (next_number w.asked_on) _ engine _ c.args.self.now c.ask.new.self pipe m c.ask.result played live promises.rests next.request c.ask.ensures.refused c.ask.ensures.asked))
+    let in_place = stands_in conn size engine c.args.self.now c.args.seat.now pipe m played live in
+    let at = event_at setup answers w c.args.event.now _ conn m c.args.seat.now.place in_place c.in-Ask.is in
+    whole_ok conn size engine c.ask.result c.ask.new.self (record c.args.seat.now { client = c.ask.new.client }) pipe (λ e. acts_on setup answers w e conn m) c.args.event.now m
+    (by_event_ok conn size engine c.ask.result c.ask.new.self (record c.args.seat.now { client = c.ask.new.client }) pipe m _ _ at
+    (asked_ok (record { waits = c.idle_alike.ensures; takes = c.asks_alike.ensures; stays = c.the_other_stays.ensures.asks }) conn size c.args.next.request (next_number w.asked_on) _ engine _ c.args.self.now c.ask.new.self c.args.seat.now (record c.args.seat.now { client = c.ask.new.client }) pipe m c.ask.result played live promises.rests next.request (λ e. let h = c.ask.ensures.refused e in (h.0, h.1, ap (λ (s : ClientSession). record c.args.seat.now { client = s }) h.2)) (λ e. if_ok c.ask.result _ _ (λ done h. (h.0, ap (λ (s : ClientSession). record c.args.seat.now { client = s }) h.1, h.2)) (c.ask.ensures.asked e))))
 
 pub returns-in-Send-clause-alike : goal.returns-in-Send-clause-alike
 returns-in-Send-clause-alike g c = λ setup w m engine tells played promises few next ready.
@@ -112,9 +114,9 @@ returns-in-Send-clause-alike g c = λ setup w m engine tells played promises few
     let pipe : Option Pipe = g.C.Carrier.pipes c.args.carrier.now conn in
     let answers : Answers = answer_of (g.E.Engine.statements_of engine) (g.E.Engine.step_of engine) in
     let live = c.if-self.false in
-    let in_place = stands_in conn size engine c.args.self.now pipe m played live in
-    plain_ok conn size engine c.send.result c.send.new.self (g.C.Carrier.pipes c.send.new.carrier conn) setup answers w c.args.event.now _ m c.args.self.now.place in_place c.in-Send.is (λ k. refl)
-    (c.send.ensures.alike size engine m played (plain_few setup answers w c.args.event.now _ conn m c.args.self.now.place in_place c.in-Send.is (λ k. refl) few).0)
+    let in_place = stands_in conn size engine c.args.self.now c.args.seat.now pipe m played live in
+    plain_ok conn size engine c.send.result c.send.new.self (record c.args.seat.now { client = c.send.new.client }) (g.C.Carrier.pipes c.send.new.carrier conn) setup answers w c.args.event.now _ m c.args.seat.now.place in_place c.in-Send.is (λ k. refl)
+    (c.send.ensures.alike size engine c.args.seat.now.place m played (plain_few setup answers w c.args.event.now _ conn m c.args.seat.now.place in_place c.in-Send.is (λ k. refl) few).0)
 
 pub returns-in-Cancel-clause-alike : goal.returns-in-Cancel-clause-alike
 returns-in-Cancel-clause-alike g c = λ setup w m engine tells played promises few next ready.
@@ -123,9 +125,9 @@ returns-in-Cancel-clause-alike g c = λ setup w m engine tells played promises f
     let pipe : Option Pipe = g.C.Carrier.pipes c.args.carrier.now conn in
     let answers : Answers = answer_of (g.E.Engine.statements_of engine) (g.E.Engine.step_of engine) in
     let live = c.if-self.false in
-    let in_place = stands_in conn size engine c.args.self.now pipe m played live in
-    plain_ok conn size engine c.cancel.result c.cancel.new.self (g.C.Carrier.pipes c.cancel.new.carrier conn) setup answers w c.args.event.now _ m c.args.self.now.place in_place c.in-Cancel.is (λ k. refl)
-    (c.cancel.ensures.alike size engine m played (plain_few setup answers w c.args.event.now _ conn m c.args.self.now.place in_place c.in-Cancel.is (λ k. refl) few).0)
+    let in_place = stands_in conn size engine c.args.self.now c.args.seat.now pipe m played live in
+    plain_ok conn size engine c.cancel.result c.cancel.new.self (record c.args.seat.now { client = c.cancel.new.client }) (g.C.Carrier.pipes c.cancel.new.carrier conn) setup answers w c.args.event.now _ m c.args.seat.now.place in_place c.in-Cancel.is (λ k. refl)
+    (c.cancel.ensures.alike size engine c.args.seat.now.place m played (plain_few setup answers w c.args.event.now _ conn m c.args.seat.now.place in_place c.in-Cancel.is (λ k. refl) few).0)
 
 pub returns-in-Work-clause-alike : goal.returns-in-Work-clause-alike
 returns-in-Work-clause-alike g c = λ setup w m engine tells played promises few next ready.
@@ -134,9 +136,9 @@ returns-in-Work-clause-alike g c = λ setup w m engine tells played promises few
     let pipe : Option Pipe = g.C.Carrier.pipes c.args.carrier.now conn in
     let answers : Answers = answer_of (g.E.Engine.statements_of engine) (g.E.Engine.step_of engine) in
     let live = c.if-self.false in
-    let in_place = stands_in conn size engine c.args.self.now pipe m played live in
-    plain_ok conn size engine c.work.result c.work.new.self (g.C.Carrier.pipes c.work.new.carrier conn) setup answers w c.args.event.now _ m c.args.self.now.place in_place c.in-Work.is (λ k. refl)
-    (c.work.ensures.alike size engine m played promises.ends promises.newest promises.works_past (plain_few setup answers w c.args.event.now _ conn m c.args.self.now.place in_place c.in-Work.is (λ k. refl) few).1)
+    let in_place = stands_in conn size engine c.args.self.now c.args.seat.now pipe m played live in
+    plain_ok conn size engine c.work.result c.work.new.self c.args.seat.now (g.C.Carrier.pipes c.work.new.carrier conn) setup answers w c.args.event.now _ m c.args.seat.now.place in_place c.in-Work.is (λ k. refl)
+    (c.work.ensures.alike size engine c.args.seat.now m played promises.ends promises.newest promises.works_past (plain_few setup answers w c.args.event.now _ conn m c.args.seat.now.place in_place c.in-Work.is (λ k. refl) few).1)
 
 pub returns-in-ToServer-clause-alike : goal.returns-in-ToServer-clause-alike
 returns-in-ToServer-clause-alike g c = λ setup w m engine tells played promises few next ready.
@@ -145,9 +147,9 @@ returns-in-ToServer-clause-alike g c = λ setup w m engine tells played promises
     let pipe : Option Pipe = g.C.Carrier.pipes c.args.carrier.now conn in
     let answers : Answers = answer_of (g.E.Engine.statements_of engine) (g.E.Engine.step_of engine) in
     let live = c.if-self.false in
-    let in_place = stands_in conn size engine c.args.self.now pipe m played live in
-    up_ok conn size engine c.deliver_to_server.result c.deliver_to_server.new.self (g.C.Carrier.pipes c.deliver_to_server.new.carrier conn) setup answers w c.args.event.now _ _ m c.args.self.now.place in_place c.in-ToServer.is
-    (c.deliver_to_server.ensures.alike size engine m tells played promises (up_few setup answers w c.args.event.now conn _ _ m c.args.self.now.place in_place c.in-ToServer.is few))
+    let in_place = stands_in conn size engine c.args.self.now c.args.seat.now pipe m played live in
+    up_ok conn size engine c.deliver_to_server.result c.deliver_to_server.new.self c.args.seat.now (g.C.Carrier.pipes c.deliver_to_server.new.carrier conn) setup answers w c.args.event.now _ _ m c.args.seat.now.place in_place c.in-ToServer.is
+    (c.deliver_to_server.ensures.alike size engine c.args.seat.now m tells played promises (up_few setup answers w c.args.event.now conn _ _ m c.args.seat.now.place in_place c.in-ToServer.is few))
 
 pub returns-in-ToClient-clause-alike : goal.returns-in-ToClient-clause-alike
 returns-in-ToClient-clause-alike g c = λ setup w m engine tells played promises few next ready.
@@ -156,8 +158,8 @@ returns-in-ToClient-clause-alike g c = λ setup w m engine tells played promises
     let pipe : Option Pipe = g.C.Carrier.pipes c.args.carrier.now conn in
     let answers : Answers = answer_of (g.E.Engine.statements_of engine) (g.E.Engine.step_of engine) in
     let live = c.if-self.false in
-    let in_place = stands_in conn size engine c.args.self.now pipe m played live in
-    down_ok conn size engine c.deliver_to_client.result c.deliver_to_client.new.self (g.C.Carrier.pipes c.deliver_to_client.new.carrier conn) setup answers w c.args.event.now _ _ m c.args.self.now.place in_place c.in-ToClient.is
+    let in_place = stands_in conn size engine c.args.self.now c.args.seat.now pipe m played live in
+    down_ok conn size engine c.deliver_to_client.result c.deliver_to_client.new.self c.deliver_to_client.new.seat (g.C.Carrier.pipes c.deliver_to_client.new.carrier conn) setup answers w c.args.event.now _ _ m c.args.seat.now.place in_place c.in-ToClient.is
     (c.deliver_to_client.ensures.alike answers size engine m tells played promises)
 
 -- A restart is about no connection alone.
@@ -168,13 +170,13 @@ returns-in-Cut-clause-alike g c = λ setup w m engine tells played promises few 
     let pipe : Option Pipe = g.C.Carrier.pipes c.args.carrier.now conn in
     let answers : Answers = answer_of (g.E.Engine.statements_of engine) (g.E.Engine.step_of engine) in
     let live = c.if-self.false in
-    let in_place = stands_in conn size engine c.args.self.now pipe m played live in
+    let in_place = stands_in conn size engine c.args.self.now c.args.seat.now pipe m played live in
     elim c.in-Cut.is [
       | inl h ↦
-          whole_alike conn size engine c.done.result c.cut.new.self (g.C.Carrier.pipes c.cut.new.carrier conn) (λ e. acts_on setup answers w e conn m) c.args.event.now m
-          (by_event conn size engine c.done.result c.cut.new.self (g.C.Carrier.pipes c.cut.new.carrier conn) m _ _
-          (event_at setup answers w c.args.event.now (event.Cut h.0) conn m c.args.self.now.place in_place h.1)
-          (c.done.ensures, c.cut.ensures.alike size engine m played live))
+          whole_alike conn size engine c.done.result c.cut.new.self c.args.seat.now (g.C.Carrier.pipes c.cut.new.carrier conn) (λ e. acts_on setup answers w e conn m) c.args.event.now m
+          (by_event conn size engine c.done.result c.cut.new.self c.args.seat.now (g.C.Carrier.pipes c.cut.new.carrier conn) m _ _
+          (event_at setup answers w c.args.event.now (event.Cut h.0) conn m c.args.seat.now.place in_place h.1)
+          (c.done.ensures, c.cut.ensures.alike size engine c.args.seat.now m played live))
       | inr r ↦
           absurd (elim r [
             | inl e ↦ subst (λ x. IsReady x m) e (ready live)
@@ -186,16 +188,16 @@ pub returns-then-self-clause-failed : goal.returns-then-self-clause-failed
 returns-then-self-clause-failed g c = whole_as (calls_of c.args.event.now) c.on_cut.result c.args.self.now (g.C.Carrier.pipes c.args.carrier.now c.args.self.now.number) c.on_cut.ensures.whole
 
 pub returns-in-Lease-clause-failed : goal.returns-in-Lease-clause-failed
-returns-in-Lease-clause-failed g c = whole_as (calls_of c.args.event.now) c.lend.result c.lend.new.self (g.C.Carrier.pipes c.args.carrier.now c.args.self.now.number) (ap (λ d. d.lost) c.lend.ensures.done)
+returns-in-Lease-clause-failed g c = whole_as (calls_of c.args.event.now) c.lend.result c.args.self.now (g.C.Carrier.pipes c.args.carrier.now c.args.self.now.number) (ap (λ d. d.lost) c.lend.ensures.done)
 
 pub returns-in-Resume-clause-failed : goal.returns-in-Resume-clause-failed
-returns-in-Resume-clause-failed g c = whole_as (calls_of c.args.event.now) c.lend-in-Resume.result c.lend-in-Resume.new.self (g.C.Carrier.pipes c.args.carrier.now c.args.self.now.number) (ap (λ d. d.lost) c.lend-in-Resume.ensures.done)
+returns-in-Resume-clause-failed g c = whole_as (calls_of c.args.event.now) c.lend-in-Resume.result c.args.self.now (g.C.Carrier.pipes c.args.carrier.now c.args.self.now.number) (ap (λ d. d.lost) c.lend-in-Resume.ensures.done)
 
 pub returns-in-Keep-clause-failed : goal.returns-in-Keep-clause-failed
-returns-in-Keep-clause-failed g c = whole_as (calls_of c.args.event.now) c.keep.result c.keep.new.self (g.C.Carrier.pipes c.args.carrier.now c.args.self.now.number) c.keep.ensures.whole
+returns-in-Keep-clause-failed g c = whole_as (calls_of c.args.event.now) c.keep.result c.args.self.now (g.C.Carrier.pipes c.args.carrier.now c.args.self.now.number) c.keep.ensures.whole
 
 pub returns-in-Abandon-clause-failed : goal.returns-in-Abandon-clause-failed
-returns-in-Abandon-clause-failed g c = whole_as (calls_of c.args.event.now) c.abandon.result c.abandon.new.self (g.C.Carrier.pipes c.args.carrier.now c.args.self.now.number) (ap (λ d. d.lost) c.abandon.ensures.done)
+returns-in-Abandon-clause-failed g c = whole_as (calls_of c.args.event.now) c.abandon.result c.args.self.now (g.C.Carrier.pipes c.args.carrier.now c.args.self.now.number) (ap (λ d. d.lost) c.abandon.ensures.done)
 
 pub returns-in-Ask-clause-failed : goal.returns-in-Ask-clause-failed
 returns-in-Ask-clause-failed g c = failing.whole_ok (calls_of c.args.event.now) c.ask.result c.ask.new.self (g.C.Carrier.pipes c.args.carrier.now c.args.self.now.number) c.ask.ensures.whole

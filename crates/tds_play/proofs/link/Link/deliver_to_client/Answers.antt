@@ -18,14 +18,13 @@ returns-in-Some-clause-alike g c = λ answers size engine m tells played promise
     let pipe : Option Pipe = g.C.Carrier.pipes c.args.carrier.now c.args.self.now.number in
     let k : ℕ = c.in_ok-carried.carried.count in
     let exact : k ≡ min k c.args.self.now.to_client = omega (arith, c.in_ok-carried.ensures.within, c.at_most-count.ensures.within) in
-    let a = come_heard c.listens_alike.ensures c.args.self.now pipe m k k live.stands exact (promises.heard c.args.self.now.client_reader live.client_reads live.client_size) in
+    let a = come_heard c.listens_alike.ensures c.args.self.now c.args.seat.now pipe m k k live.stands exact (promises.heard c.args.self.now.client_reader live.client_reads live.client_size) in
     let brought = c.in_ok-carried.ensures.brought tells in
     let counted = c.in_ok-carried.ensures.counted in
     let piece : c.as_slice.result.now ≡ next_of (traffic pipe ToClient) k = c.as_slice.ensures.value ∙ brought.bytes ∙ ap (λ xs. xs ++ next_of (traffic pipe ToClient) k) c.new-piece.ensures.items in
     let reader = ap (λ l. l.client_reader) counted in
-    let client = ap (λ l. l.client) counted in
     let current = ap (λ l. l.current) counted in
-    let heard = c.in_ok-heard.ensures.heard a.packets a.rest a.then (rw (reader, piece) a.comes) (rw (client, current) a.listens) in
+    let heard = c.in_ok-heard.ensures.heard a.packets a.rest a.then (rw (reader, piece) a.comes) (rw current a.listens) in
     let none = sym c.in-Some.is ∙ heard.0 in
     absurd (cc)
 
@@ -38,24 +37,23 @@ returns-clause-alike g c = λ answers size engine m tells played promises.
     let k : ℕ = c.in_ok-carried.carried.count in
     let here = live.stands.down.counts in
     let exact : k ≡ min k c.args.self.now.to_client = omega (arith, c.in_ok-carried.ensures.within, c.at_most-count.ensures.within) in
-    let a = come_heard c.listens_alike.ensures c.args.self.now pipe m k k live.stands exact (promises.heard c.args.self.now.client_reader live.client_reads live.client_size) in
+    let a = come_heard c.listens_alike.ensures c.args.self.now c.args.seat.now pipe m k k live.stands exact (promises.heard c.args.self.now.client_reader live.client_reads live.client_size) in
     let brought = c.in_ok-carried.ensures.brought tells in
     let counted = c.in_ok-carried.ensures.counted in
     let piece : c.as_slice.result.now ≡ next_of (traffic pipe ToClient) k = c.as_slice.ensures.value ∙ brought.bytes ∙ ap (λ xs. xs ++ next_of (traffic pipe ToClient) k) c.new-piece.ensures.items in
     let reader = ap (λ l. l.client_reader) counted in
-    let client = ap (λ l. l.client) counted in
     let current = ap (λ l. l.current) counted in
-    let heard = c.in_ok-heard.ensures.heard a.packets a.rest a.then (rw (reader, piece) a.comes) (rw (client, current) a.listens) in
-    let then = listened_by c.args.self.now c.carry.new.self c.hear.new.self c.drain.new.self pipe after k a.then a.rest c.in_ok-carried.carried.lost
-    (c.requires.tied.holds c.requires.live).is_open counted heard.1 c.drain.ensures brought.pipe in
-    let stands = heard_alike c.pool_is_unseen.ensures c.the_other_stays.ensures.listens c.args.self.now c.drain.new.self pipe after m k k a.then.session a.rest live.stands exact (promises.delivers k).1 a.matches a.left then.heard in
-    let listened : IsPlayed conn size engine c.drain.new.self after (to_client k m) =
-    listened_on c.idle_alike.ensures conn size k k engine _ c.args.self.now c.drain.new.self pipe after m played c.requires.live (promises.hears_past k) a then stands in
-    delivered_down conn size c.args.most k engine c.end.result c.in_ok-carried.carried.lost c.end.new.self (g.C.Carrier.pipes c.end.new.carrier conn) m c.end.ensures.done
+    let heard = c.in_ok-heard.ensures.heard a.packets a.rest a.then (rw (reader, piece) a.comes) (rw current a.listens) in
+    let then = listened_by c.args.self.now c.carry.new.self c.hear.new.self c.args.seat.now c.drain.new.self c.hear.new.client pipe after k a.then a.rest c.in_ok-carried.carried.lost
+    (c.requires.tied.holds c.requires.live).is_open counted heard.1 heard.2 c.drain.ensures brought.pipe in
+    let stands = heard_alike c.pool_is_unseen.ensures c.the_other_stays.ensures.listens c.args.self.now c.hear.new.self c.args.seat.now c.drain.new.self pipe after m k k a.then.session a.rest live.stands exact (promises.delivers k).1 a.matches a.left then.heard then.client in
+    let listened : IsPlayed conn size engine c.hear.new.self c.drain.new.self after (to_client k m) =
+    listened_on c.idle_alike.ensures conn size k k engine _ c.args.self.now c.hear.new.self c.args.seat.now c.drain.new.self pipe after m played c.requires.live (promises.hears_past k) a then stands in
+    delivered_down conn size c.args.most k engine c.end.result c.in_ok-carried.carried.lost c.end.new.self c.drain.new.self (g.C.Carrier.pipes c.end.new.carrier conn) m c.end.ensures.done
     (λ whole. c.in_ok-carried.ensures.all whole ∙ c.at_most-count.ensures.value ∙ ap (min c.args.most) here)
     (omega (arith, c.in_ok-carried.ensures.within, c.at_most-count.ensures.within, here))
-    (ended conn c.drain.new.self.number size engine c.drain.new.self c.end.new.self (g.C.Carrier.pipes c.carry.new.carrier) (g.C.Carrier.pipes c.end.new.carrier) c.in_ok-carried.carried.lost (to_client k m)
-    (then.number) (c.end.ensures.alike size engine _) listened)
+    (ended conn c.hear.new.self.number size engine c.hear.new.self c.end.new.self c.drain.new.self (g.C.Carrier.pipes c.carry.new.carrier) (g.C.Carrier.pipes c.end.new.carrier) c.in_ok-carried.carried.lost (to_client k m)
+    (then.number) (c.end.ensures.alike size engine c.drain.new.self _) listened)
 
 pub returns-in-Some-clause-failed : goal.returns-in-Some-clause-failed
 returns-in-Some-clause-failed g c = λ fine.
@@ -65,6 +63,6 @@ returns-in-Some-clause-failed g c = λ fine.
 
 pub returns-clause-failed : goal.returns-clause-failed
 returns-clause-failed g c = λ fine.
-    brought_as c.args.self.now.number c.drain.new.self.number (Carry ToClient ∷ []) c.end.result c.in_ok-carried.carried.lost c.end.new.self
+    brought_as c.args.self.now.number c.hear.new.self.number (Carry ToClient ∷ []) c.end.result c.in_ok-carried.carried.lost c.end.new.self
     (g.C.Carrier.pipes c.carry.new.carrier) (g.C.Carrier.pipes c.end.new.carrier)
-    (ap (λ l. l.number) c.drain.ensures ∙ c.in_ok-heard.ensures.number ∙ c.in_ok-carried.ensures.number) (c.end.ensures.failed (Carry ToClient ∷ [])) (c.in_ok-carried.ensures.failed fine)
+    (c.in_ok-heard.ensures.number ∙ c.in_ok-carried.ensures.number) (c.end.ensures.failed (Carry ToClient ∷ [])) (c.in_ok-carried.ensures.failed fine)

@@ -9,4 +9,4 @@ returns-in-None-clause-heard g c = λ packets left then comes is.
     let none : c.args.self.now.current ≡ None = c.in-None.is in
     let told = c.new-nobody.ensures.items ∙ sym (ap told_in none) in
     let heard = c.feed_client.ensures.listened packets left then comes (ap (λ ts. listened c.args.self.now.client None ts packets) told ∙ is) in
-    if_ok c.feed_client.result _ _ (λ h p. (p.0, record { client = p.1.0; reader = p.2; told = nobody_told then c.args.self.now.current none; rest = refl })) heard
+    if_ok c.feed_client.result _ _ (λ h p. (p.0, p.1.0, record { reader = p.2; told = nobody_told then c.args.self.now.current none; rest = refl })) heard
