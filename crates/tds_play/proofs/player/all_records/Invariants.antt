@@ -3,4 +3,4 @@ use Rattle.tds_play.specs.Links.{newest_first}
 use Rattle.tds_play.proofs.player.all_records.Given as goal
 
 abbrev pub invariant-links : goal.invariant-links
-invariant-links g l = map (λ v. v.items) l.records.items ≡ map newest_first l.yielded
+invariant-links g l = map (λ v. v.items) l.records.items ≡ map (λ x. newest_first x.link) l.yielded

@@ -3,7 +3,9 @@ use Rattle.tds_client.specs.Sending.{sent}
 use Rattle.tds_world.specs.declared.outcome.Outcome.TheVariants as outcome
 use Rattle.tds_client.specs.Session.{ClientSession}
 use Rattle.tds_play.specs.Pipe.{Pipe}
-use Rattle.tds_play.specs.Plays.{IsPlayed}
+use Rattle.tds_play.specs.Plays.{IsPlayed, after}
+use Rattle.tds_world.specs.Connection.{Connection, phase}
+use Rattle.tds_world.specs.Events.{sends_in}
 use Rattle.tds_play.specs.Seats.{seated}
 use Rattle.tds_play.proofs.Doing.{does_so, ended, ok_so, some_is, some_told}
 use Rattle.tds_play.proofs.Outward.{given_up}
@@ -29,11 +31,12 @@ returns-clause-alike g c = λ size engine p d played few.
     let goes = c.sends_alike.ensures c.args.client.now d live.stands.client in
     let then = packet_played c.sends_append.ensures.to_server c.phases_tell.ensures conn size engine c.args.self.now c.args.self.now c.hand_over.new.self (seated p c.args.client.now) (old conn) (g.C.Carrier.pipes c.hand_over.new.carrier conn) d c.as_slice.result.now does.0
     played c.requires.live goes (λ q is. c.the_other_stays.ensures.sends (size - 8) c.args.self.now.server d q is live.stands.server) does.1 few refl bytes handed in
+    let then_is : Connection = after (sends_in (phase d) (size - 8) d.current d) d in
     does_so conn size engine c.end.result _ c.in_ok-lost.lost c.end.new.self (seated p c.put_next.new.client) (g.C.Carrier.pipes c.end.new.carrier conn) _ d c.end.ensures.done
     (ap outcome.Sent (some_is c.in-Some.sent _ c.in_ok-sent.field-0 c.in-Some.is sends.0) ∙ then.0)
-    (ended conn c.hand_over.new.self.number size engine c.hand_over.new.self c.end.new.self (seated p c.put_next.new.client) (g.C.Carrier.pipes c.hand_over.new.carrier) (g.C.Carrier.pipes c.end.new.carrier) c.in_ok-lost.lost _
-    out.number (c.end.ensures.alike size engine (seated p c.put_next.new.client) _)
-    (subst (λ (s : ClientSession). IsPlayed conn size engine c.hand_over.new.self (seated p s) (g.C.Carrier.pipes c.hand_over.new.carrier conn) _) (sym sends.1) then.1))
+    (ended conn c.hand_over.new.self.number size engine c.hand_over.new.self c.end.new.self (seated p c.put_next.new.client) (g.C.Carrier.pipes c.hand_over.new.carrier) (g.C.Carrier.pipes c.end.new.carrier) c.in_ok-lost.lost then_is
+    out.number (c.end.ensures.alike size engine (seated p c.put_next.new.client) then_is)
+    (subst (λ (s : ClientSession). IsPlayed conn size engine c.hand_over.new.self (seated p s) (g.C.Carrier.pipes c.hand_over.new.carrier conn) then_is) (sym sends.1) then.1))
 
 pub returns-in_default-clause-alike : goal.returns-in_default-clause-alike
 returns-in_default-clause-alike g c = λ size engine p d played few.
