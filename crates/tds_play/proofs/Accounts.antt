@@ -256,7 +256,7 @@ known_fine (suc count) (suc place) p fine = known_fine count place p fine
 -- ---- An event on the connection at a place
 
 there_number : {E S : Type 0} (links : List (Seated E S)) (place : ℕ) (x : Seated E S) (pipes : ℕ → Option Pipe) → AreTied links pipes → place < length links → x ≡ get_or links place x → x.link.number ≡ suc place
-there_number {E} {S} links place x pipes tied there is = ap (λ (l : Seated E S). l.link.number) is ∙ tied.numbered place link there
+there_number {E} {S} links place x pipes tied there is = ap (λ (l : Seated E S). l.link.number) is ∙ tied.numbered place x there
 
 there_sound : {E S : Type 0} (links : List (Seated E S)) (place : ℕ) (x : Seated E S) (pipes : ℕ → Option Pipe) → LiveAreSound links pipes → place < length links → x ≡ get_or links place x → x.link.is_cut ≡ false → HasNoFailure (pipes (suc place))
 there_sound {E} {S} links place x pipes sound there is live = sound place x there (sym (ap (λ (l : Seated E S). l.link.is_cut) is) ∙ live)

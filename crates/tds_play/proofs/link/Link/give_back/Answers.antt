@@ -3,8 +3,10 @@ use Rattle.std.proofs.Common.{false, [], ◌∷◌, ◌≡◌, ◌∙◌, ◌++�
 use Rattle.tds_client.specs.Sending as client
 use Rattle.tds_client.specs.Session.{ClientSession, unless_idle}
 use Rattle.tds_world.specs.declared.outcome.Outcome.TheVariants as outcome
-use Rattle.tds_world.specs.Pool.{place_back}
-use Rattle.tds_play.specs.Plays.{IsPlayed}
+use Rattle.tds_world.specs.Caller.{cancels}
+use Rattle.tds_world.specs.Connection.{Connection}
+use Rattle.tds_world.specs.Pool.{comes_back, place_back}
+use Rattle.tds_play.specs.Plays.{IsPlayed, after}
 use Rattle.tds_play.specs.Seats.{seated}
 use Rattle.tds_play.specs.declared.seat.Seat.{Seat}
 use Rattle.tds_play.specs.Pipe.{Pipe}
@@ -33,11 +35,12 @@ returns-clause-alike g c = λ size engine d played few.
     (λ e. let h = out.nothing e in (h.1, ap g.C.Carrier.pipes h.2)) out.handed out.counted in
     let then = back_played (record { appends = c.sends_append.ensures.to_server; tells = c.phases_tell.ensures; stays = c.the_other_stays.ensures.cancels; unseen = c.pool_is_unseen.ensures }) c.idle_alike.ensures conn size engine c.args.self.now c.cancel_request.new.self c.hand_over.new.self c.args.seat.now idle (old conn) (g.C.Carrier.pipes c.hand_over.new.carrier conn) d c.as_slice.result.now
     played c.requires.live a does.2 bytes waits few handed in
+    let back : Connection = after (comes_back (cancels d)) d in
     does_so conn size engine c.end.result _ c.in_ok-lost.lost c.end.new.self c.come_back-returned.new.self (g.C.Carrier.pipes c.end.new.carrier conn) _ d c.end.ensures.done
     (ap outcome.GivenBack c.come_back-returned.ensures.outcome ∙ then.0)
-    (ended conn c.hand_over.new.self.number size engine c.hand_over.new.self c.end.new.self c.come_back-returned.new.self (g.C.Carrier.pipes c.hand_over.new.carrier) (g.C.Carrier.pipes c.end.new.carrier) c.in_ok-lost.lost _
-    (out.number ∙ at) (c.end.ensures.alike size engine c.come_back-returned.new.self _)
-    (subst (λ (s : Seat). IsPlayed conn size engine c.hand_over.new.self s (g.C.Carrier.pipes c.hand_over.new.carrier conn) _)
+    (ended conn c.hand_over.new.self.number size engine c.hand_over.new.self c.end.new.self c.come_back-returned.new.self (g.C.Carrier.pipes c.hand_over.new.carrier) (g.C.Carrier.pipes c.end.new.carrier) c.in_ok-lost.lost back
+    (out.number ∙ at) (c.end.ensures.alike size engine c.come_back-returned.new.self back)
+    (subst (λ (s : Seat). IsPlayed conn size engine c.hand_over.new.self s (g.C.Carrier.pipes c.hand_over.new.carrier conn) back)
     (ap (λ (s : ClientSession). seated (place_back idle) s) (sym does.1) ∙ sym c.come_back-returned.ensures.value) then.1))
 
 pub returns-clause-failed : goal.returns-clause-failed

@@ -111,7 +111,7 @@ returns-in_ok-note-clause-lost g c = λ setup engine w c' sound is found.
     let pipes = g.C.Carrier.pipes in
     let links : c.note.new.self.links.items ≡ set c.args.self.now.links.items c.args.place (record c.index_mut.result.now { link = c.act.new.self; seat = c.act.new.seat }) = ap (λ (p : Player g.row.E.Denot g.row.E-Stmt.Denot). p.links.items) c.in_ok-note.ensures.rest ∙ refl in
     acted_lost c.args.self.now.links.items c.args.place (length c.note.new.self.links.items) c.index_mut.result.now (record c.index_mut.result.now { link = c.act.new.self; seat = c.act.new.seat }) (pipes c.args.carrier.now) (pipes c.act.new.carrier) c.args.event.now c.in_ok-done.done _
-    c.requires.tied c.requires.there c.index_mut.ensures.value said.ties.others said.failed (λ cut. (ap pipes (said.gone cut).0, (said.gone cut).2))
+    c.requires.tied c.requires.there c.index_mut.ensures.value said.ties.others said.failed (λ cut. (ap pipes (said.gone cut).0, (said.gone cut).3))
     (lost_there setup engine (answer_of (g.E.Engine.statements_of engine) (g.E.Engine.step_of engine)) w c.args.event.now c.args.place c' c.args.self.now (pipes c.args.carrier.now) c.index_mut.result.now c.in_ok-done.done.lost
     is c.index_mut.ensures.value found said.loses)
     (ap length links ∙ length-set c.args.self.now.links.items c.args.place (record c.index_mut.result.now { link = c.act.new.self; seat = c.act.new.seat })) sound
@@ -121,7 +121,7 @@ returns-else-not-matches-clause-lost g c = λ setup engine w c' sound is found.
     let said = c.in_ok-done.ensures in
     let pipes = g.C.Carrier.pipes in
     acted_lost c.args.self.now.links.items c.args.place _ c.index_mut.result.now (record c.index_mut.result.now { link = c.act.new.self; seat = c.act.new.seat }) (pipes c.args.carrier.now) (pipes c.act.new.carrier) c.args.event.now c.in_ok-done.done _
-    c.requires.tied c.requires.there c.index_mut.ensures.value said.ties.others said.failed (λ cut. (ap pipes (said.gone cut).0, (said.gone cut).2))
+    c.requires.tied c.requires.there c.index_mut.ensures.value said.ties.others said.failed (λ cut. (ap pipes (said.gone cut).0, (said.gone cut).3))
     (lost_there setup engine (answer_of (g.E.Engine.statements_of engine) (g.E.Engine.step_of engine)) w c.args.event.now c.args.place c' c.args.self.now (pipes c.args.carrier.now) c.index_mut.result.now c.in_ok-done.done.lost
     is c.index_mut.ensures.value found said.loses)
     (length-set c.args.self.now.links.items c.args.place (record c.index_mut.result.now { link = c.act.new.self; seat = c.act.new.seat })) sound

@@ -21,7 +21,7 @@ returns-clause-tied g c =
     let conn : c.next_number-conn.result ≡ suc (length links) =
     c.next_number-conn.ensures.few (omega (arith, count, c.requires.few)) ∙ ap suc count in
     let said = c.in_ok-link.ensures in
-    opened links c.push.new.self.items (record { link = c.in_ok-link.link; seat = c.new.result }) (pipes c.args.carrier.now) (pipes c.open.new.carrier)
+    opened links c.push.new.self.items (record { link = c.in_ok-link.link; seat = c.new-seat.result }) (pipes c.args.carrier.now) (pipes c.open.new.carrier)
     c.in_ok-push.ensures.items c.requires.tied (said.number ∙ conn)
     (subst (λ (n : ℕ). IsTied c.in_ok-link.link (pipes c.open.new.carrier n)) conn said.ties.tied)
     (subst (λ (n : ℕ). AreSame (pipes c.args.carrier.now) (pipes c.open.new.carrier) n) conn said.ties.others)
@@ -31,11 +31,11 @@ returns-clause-alike g c = λ setup engine answers w is small lends.
     let links : length c.args.self.now.links.items ≡ length w.connections = as_many 1 setup.packet_size engine c.args.self.now.links.items (g.C.Carrier.pipes c.args.carrier.now) w.connections is.connections in
     let leases : length c.args.self.now.leases ≡ length w.leases = ap length is.leases ∙ length-map w.leases held_by in
     let count : c.len.result ≡ length w.connections = omega (arith, c.len.ensures, c.args.self.now.links.ok.0, links) in
-    opens_alike setup engine answers w c.args.self.now (record c.args.self.now { links = c.push.new.self; leases = c.give.new.self }) (g.C.Carrier.pipes c.args.carrier.now) (g.C.Carrier.pipes c.open.new.carrier) (record { link = c.in_ok-link.link; seat = c.new.result }) c.next-lease.result c.next_number-conn.result c.in_ok-link.lost
+    opens_alike setup engine answers w c.args.self.now (record c.args.self.now { links = c.push.new.self; leases = c.give.new.self }) (g.C.Carrier.pipes c.args.carrier.now) (g.C.Carrier.pipes c.open.new.carrier) (record { link = c.in_ok-link.link; seat = c.new-seat.result }) c.next-lease.result c.next_number-conn.result c.in_ok-link.lost
     is lends
     (c.next-lease.ensures ∙ omega (arith, leases, small.leases))
     (c.next_number-conn.ensures.few (omega (arith, count, small.connections)) ∙ ap suc count)
-    (rw c.new.ensures (c.in_ok-link.ensures.alike c.next-lease.result)) c.in_ok-link.ensures.ties.others c.in_ok-push.ensures.items c.in_ok-give.ensures.ok refl
+    (rw c.new-seat.ensures (c.in_ok-link.ensures.alike c.next-lease.result)) c.in_ok-link.ensures.ties.others c.in_ok-push.ensures.items c.in_ok-give.ensures.ok refl
 
 pub returns-clause-sound : goal.returns-clause-sound
 returns-clause-sound g c = λ sound.
@@ -46,7 +46,7 @@ returns-clause-sound g c = λ sound.
     c.next_number-conn.ensures.few (omega (arith, count, c.requires.few)) ∙ ap suc count in
     let said = c.in_ok-link.ensures in
     subst (λ (ls : List (Seated g.row.E.Denot g.row.E-Stmt.Denot)). LiveAreSound ls (pipes c.open.new.carrier)) (sym c.in_ok-push.ensures.items)
-    (sound_push links (record { link = c.in_ok-link.link; seat = c.new.result }) (pipes c.args.carrier.now) (pipes c.open.new.carrier) sound
+    (sound_push links (record { link = c.in_ok-link.link; seat = c.new-seat.result }) (pipes c.args.carrier.now) (pipes c.open.new.carrier) sound
     (subst (λ (n : ℕ). AreSame (pipes c.args.carrier.now) (pipes c.open.new.carrier) n) conn said.ties.others)
     (λ live. subst (λ (n : ℕ). HasNoFailure (pipes c.open.new.carrier n)) conn
     (subst (λ (b : Bool). Fails (Open ∷ []) b (pipes c.open.new.carrier c.next_number-conn.result)) (sym said.uncut ∙ live) said.failed)))
@@ -60,7 +60,7 @@ returns-clause-lost g c = λ setup engine w is small lends.
     c.next_number-conn.ensures.few (omega (arith, count, c.requires.few)) ∙ ap suc count in
     let said = c.in_ok-link.ensures in
     let many : length links ≡ length w.connections = as_many 1 setup.packet_size engine links (pipes c.args.carrier.now) w.connections is.connections in
-    let more : length c.push.new.self.items ≡ suc (length links) = ap length c.in_ok-push.ensures.items ∙ omega (arith, length-append links ((record { link = c.in_ok-link.link; seat = c.new.result }) ∷ [])) in
+    let more : length c.push.new.self.items ≡ suc (length links) = ap length c.in_ok-push.ensures.items ∙ omega (arith, length-append links ((record { link = c.in_ok-link.link; seat = c.new-seat.result }) ∷ [])) in
     rw more
     (opens_lost c.in_ok-link.lost _ (length links) (pipes c.args.carrier.now) (pipes c.open.new.carrier)
     (subst (λ (n : ℕ). AreSame (pipes c.args.carrier.now) (pipes c.open.new.carrier) n) conn said.ties.others)
