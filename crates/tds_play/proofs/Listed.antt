@@ -7,6 +7,9 @@ use Rattle.std.proofs.Math.Facts.{eqb_yes}
 use Rattle.std.proofs.Math.Seq.{get_or-append_seam}
 use Rattle.std.proofs.Math.ListN.{get_or-append}
 use Rattle.std.proofs.lemmas.Bool.Decides.{nat_tests}
+use Rattle.std.specs.Iterator.{Yields}
+use Rattle.std.specs.Vec.Iter.{into_iter_items, into_iter_len, into_iter_steps}
+use Rattle.std.specs.declared.vec.IntoIter.{IntoIter}
 use Rattle.tds_play.specs.Pipe.{Pipe, AreSame}
 use Rattle.tds_play.specs.Ties.{IsTied, AreTied}
 use Rattle.tds_play.specs.declared.seat.Seated.{Seated}
@@ -60,3 +63,15 @@ changed {E} {S} links place link new pipes pipes' all there is kept tied same =
       tied = set_each (λ k x. IsTied x.link (pipes' (suc k))) links place new
           (λ k x other less. subst (IsTied (get_or links k x).link) (sym (same (suc k) (λ z. other (omega (arith, z, number))))) (all.tied k x less)) there (subst (λ (k : ℕ). IsTied new.link (pipes' k)) number tied);
     }
+
+-- ---- What the iterator of a vector gave
+
+none_left : {X : Type 0} (xs : List X) → length xs ≡ 0 → xs ≡ []
+none_left [] e = refl
+none_left (x ∷ xs) e = absurd (omega (arith, e))
+
+-- It gave all of them, once none is left.
+pub all_yielded : {X A : Type 0} (s : IntoIter X A) (xs : List X) (t : IntoIter X A) → Yields into_iter_steps s xs t → into_iter_len t ≡ 0 → xs ≡ into_iter_items s
+all_yielded s [] t y none =
+    sym (none_left (into_iter_items t) (sym t.rest.ok.0 ∙ none)) ∙ sym (ap into_iter_items y)
+all_yielded s (x ∷ xs) t y none = ap (λ ys. x ∷ ys) (all_yielded y.0 xs t y.2 none) ∙ sym y.1.0

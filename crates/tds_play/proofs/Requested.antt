@@ -14,7 +14,7 @@ use Rattle.tds_world.specs.Observed.{request_report, record_on, report_if, repor
 use Rattle.tds_world.specs.Record as world
 use Rattle.tds_world.specs.World.{World, numbered}
 use Rattle.tds_play.specs.Lending.{standing_by}
-use Rattle.tds_play.specs.Links.{behind, newest_first, report_of}
+use Rattle.tds_play.specs.Links.{behind, newest_first, newest_there, report_of}
 use Rattle.tds_world.specs.Order.{number_if, numbers_on, IsInOrder, RequestsInOrder}
 use Rattle.tds_play.specs.Pipe.{Pipe}
 use Rattle.tds_play.specs.Plays.{IsPlayed, ArePlayed}
@@ -96,7 +96,7 @@ left_at_first n size engine link seat pipe c asked_on p o =
 all_at_first : {E S : Type 0} (n size : ℕ) (engine : E) (links : List (Seated E S)) (pipes : ℕ → Option Pipe) (cs : List Connection) (asked_on : List ℕ)
     → ArePlayed n size engine links pipes cs
     → ((i m : ℕ) (c : Connection) → m ≡ n + i → slice_get cs i ≡ Some c → IsInOrder m asked_on c)
-    → AllLeft n 1 asked_on (map (λ x. newest_first x.link) links) cs
+    → AllLeft n 1 asked_on (map newest_there links) cs
 all_at_first n size engine [] pipes [] asked_on p o = tt
 all_at_first n size engine [] pipes (c ∷ cs) asked_on p o = absurd p
 all_at_first n size engine (l ∷ ls) pipes [] asked_on p o = absurd p
@@ -280,7 +280,7 @@ tells_next w number zero ms stacks reports t = let none = t.known.0.1 in absurd 
 tells_next w number (suc i) ms stacks reports t = tells_known w number i ms stacks reports t.known.0.0 t.known.0.1 t
 
 pub telling_at_first : {E S : Type 0} (size : ℕ) (engine : E) (links : List (Seated E S)) (pipes : ℕ → Option Pipe) (w : World)
-    → ArePlayed 1 size engine links pipes w.connections → RequestsInOrder w → Telling w 1 w.asked_on (map (λ x. newest_first x.link) links) []
+    → ArePlayed 1 size engine links pipes w.connections → RequestsInOrder w → Telling w 1 w.asked_on (map newest_there links) []
 telling_at_first size engine links pipes w p o = record {
   left = all_at_first 1 size engine links pipes w.connections w.asked_on p
       (λ i m c e at.

@@ -10,6 +10,7 @@ use Rattle.tds_world.specs.declared.report.RequestStatus.TheVariants as status
 use Rattle.tds_world.specs.Record.{ran_in}
 use Rattle.tds_play.specs.declared.link.Link.{Link}
 use Rattle.tds_play.specs.declared.request.Record.{Record}
+use Rattle.tds_play.specs.declared.seat.Seated.{Seated}
 
 -- ---- Requests
 
@@ -81,6 +82,10 @@ behind past (Some r) = past ++ r ∷ []
 -- All requests of a connection, the newest first.
 abbrev pub newest_first : {E S : Type 0} → Link E S → List Record
 newest_first link = reverse (behind link.past.items link.current)
+
+-- The same of one that has its seat beside it.
+abbrev pub newest_there : {E S : Type 0} → Seated E S → List Record
+newest_there x = newest_first x.link
 
 -- The newest request is asked now.
 abbrev pub IsNewest : ℕ → Option Reset → Option Record → Type 0

@@ -55,12 +55,7 @@ pub(crate) struct Link<E: Engine + Drop> {
 
 impl<E: Engine + Drop> Link<E> {
     /// A connection as it begins.
-    fn new(
-        alloc: Global,
-        number: u32,
-        engine: E,
-        size: PacketSize,
-    ) -> Result<Link<E>, NoMemory>
+    fn new(alloc: Global, number: u32, engine: E, size: PacketSize) -> Result<Link<E>, NoMemory>
         ensures number { IfOk result (λ link. link.number ≡ number) }
         ensures tied { IfOk result (λ link. IsTied link (Some (new_pipe 0))) }
         ensures live { IfOk result (λ link. link.is_cut ≡ false) }

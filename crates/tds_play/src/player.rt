@@ -3,7 +3,7 @@ ghost use Rattle.std.specs.Prelude.{◌≡◌, ◌≤◌, ◌<◌, ◌-◌, ℕ,
 ghost use Rattle.std.specs.List.{filter_map};
 ghost use Rattle.tds_play.specs.Failures.{FailsNoMore, FailsOn, LiveAreSound, all_known};
 ghost use Rattle.tds_play.specs.Lending.{standing_of};
-ghost use Rattle.tds_play.specs.Links.{newest_first};
+ghost use Rattle.tds_play.specs.Links.{newest_there};
 ghost use Rattle.tds_play.specs.Noted.{about_of, asked_after, held_of, leases_after, tickets_after};
 ghost use Rattle.tds_play.specs.Pipe.{Pipe};
 ghost use Rattle.tds_play.specs.Player.{HappensAlike, IsFound, IsPlay, IsSmall, PromisesAll};
@@ -217,8 +217,11 @@ impl<E: Engine + Copy> Player<E> {
 
     /// Notes an event that applied, on this connection.
     fn note(&mut self, event: &Event, conn: u32) -> Result<(), NoMemory>
-        ensures rest { OnOk result (self.new ≡ record self.old { leases = self.new.leases;
-            tickets = self.new.tickets; asked_on = self.new.asked_on }) }
+        ensures rest { OnOk result (self.new ≡ record self.old {
+          leases = self.new.leases;
+          tickets = self.new.tickets;
+          asked_on = self.new.asked_on;
+        }) }
         ensures links { self.new.links ≡ self.old.links }
         ensures leases { OnOk result
             (self.new.leases ≡ leases_after event.now conn self.old.leases) }
@@ -376,7 +379,7 @@ fn all_records<E: Engine + Copy>(
     links: Vec<Seated<E>>,
 ) -> Result<Vec<Vec<Record>>, NoMemory>
     ensures { IfOk result (λ records. map (λ v. v.items) records.items
-        ≡ map (λ x. newest_first x.link) links.items) }
+        ≡ map newest_there links.items) }
 {
     let mut records = Vec::new(alloc);
     'links: for seated in links {
@@ -391,7 +394,7 @@ fn next_of(records: &mut [Vec<Record>], conn: u32) -> Option<Record>
     ensures next { (left : List Record) (r : Record)
         → numbered (map (λ v. v.items) records.old) conn ≡ Some (left ++ r ∷ [])
         → (result ≡ Some r) × (map (λ v. v.items) records.new
-            ≡ slice_set (map (λ v. v.items) records.old) (conn - 1) left) }
+        ≡ slice_set (map (λ v. v.items) records.old) (conn - 1) left) }
 {
     if conn == 0 || conn as usize > records.len() {
         return None;

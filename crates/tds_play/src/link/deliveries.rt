@@ -134,12 +134,7 @@ impl<E: Engine + Drop> Link<E> {
     }
 
     /// The client takes what came, for the newest request.
-    fn hear(
-        &mut self,
-        alloc: Global,
-        client: &mut Client,
-        piece: &[u8],
-    ) -> Result<Heard, NoMemory>
+    fn hear(&mut self, alloc: Global, client: &mut Client, piece: &[u8]) -> Result<Heard, NoMemory>
         requires { self.old.client_reader.direction ≡ ToClient }
         ensures number { self.new.number ≡ self.old.number }
         ensures live { self.new.is_cut ≡ self.old.is_cut }

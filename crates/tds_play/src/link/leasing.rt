@@ -22,8 +22,8 @@ use std::alloc::Global;
 use tds_ends::laws::{cancels_alike, idle_alike, pool_is_unseen, sends_append, the_other_stays};
 use tds_packet::Direction;
 use tds_session::Engine;
-use tds_world::laws::phases_tell;
 use tds_world::Outcome;
+use tds_world::laws::phases_tell;
 
 impl<E: Engine + Drop> Link<E> {
     /// The lease ends. What is underway is cancelled first.

@@ -1,5 +1,5 @@
 use Rattle.std.proofs.Common.{◌∙◌, List, [], ◌∷◌, ◌++◌, map, length, subst, sym, ap, arith, Vec, Global}
-use Rattle.tds_play.specs.Links.{newest_first}
+use Rattle.tds_play.specs.Links.{newest_there}
 use Rattle.tds_play.specs.declared.request.Record.{Record}
 use Rattle.tds_play.proofs.Requested.{Telling, telling_at_first, tells_one_more, one_is_left, all_told, written_back}
 use Rattle.tds_world.specs.declared.report.RequestReport.{RequestReport}
@@ -9,7 +9,7 @@ use Rattle.tds_play.proofs.player.Player.into_requests.Goals.{in-Some+in_ok-push
 pub asked-init : goal.asked-init
 asked-init g c = λ setup engine pipes w p o.
     subst (λ (xs : List (List Record)). Telling w 1 w.asked_on xs c.new-reports.result.items) (sym c.in_ok-records.ensures)
-    (subst (λ (xs : List RequestReport). Telling w 1 w.asked_on (map (λ x. newest_first x.link) c.args.self.links.items) xs) (sym c.new-reports.ensures.items)
+    (subst (λ (xs : List RequestReport). Telling w 1 w.asked_on (map newest_there c.args.self.links.items) xs) (sym c.new-reports.ensures.items)
     (telling_at_first setup.packet_size engine c.args.self.links.items pipes w p.connections o))
 
 pub asked-preserved : goal.asked-preserved
