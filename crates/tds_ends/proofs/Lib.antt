@@ -25,3 +25,6 @@ pub mod Cuts
 pub mod ServerDelivery
 pub mod ClientDelivery
 pub mod Coming
+pub mod SomeOf
+pub mod AllBytes
+pub mod AllHeard

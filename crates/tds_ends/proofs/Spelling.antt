@@ -59,7 +59,7 @@ spelled_once law r bytes one other ps qs s t =
 
 -- ---- Packets, and then less than one
 
-no_packet : (r : Reading) (packet more : List ℕ) → [] ≡ packet ++ more → ¬ IsOnePacket r packet
+pub no_packet : (r : Reading) (packet more : List ℕ) → [] ≡ packet ++ more → ¬ IsOnePacket r packet
 no_packet r [] more e one =
     let header : Header = one.0 in
     let s : [] ≡ header_bytes header ++ one.1 = one.2.spelled in

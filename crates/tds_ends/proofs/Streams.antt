@@ -37,7 +37,7 @@ less follows r bytes all not packet more e one =
 same_at : (n : ℕ) (xs : List ℕ) (i : ℕ) → 8 ≤ n → i < 8 → slice_index (take n xs) i ≡ slice_index xs i
 same_at n xs i long small = get_or-take n xs i 0 (omega (arith, long, small))
 
-same_fault : (r : Reading) (n : ℕ) (xs : List ℕ) → 8 ≤ n → header_fault r.direction r.size (take n xs) ≡ header_fault r.direction r.size xs
+pub same_fault : (r : Reading) (n : ℕ) (xs : List ℕ) → 8 ≤ n → header_fault r.direction r.size (take n xs) ≡ header_fault r.direction r.size xs
 same_fault r n xs long =
     rw (same_at n xs 0 long (omega arith), same_at n xs 1 long (omega arith), same_at n xs 2 long (omega arith), same_at n xs 3 long (omega arith)) refl
 
@@ -45,7 +45,7 @@ short : (r : Reading) (bytes : List ℕ) → length bytes < 8 → fault_of r byt
 unfolding fault_of
 short r bytes h = let t : nat_lt (length bytes) 8 ≡ true = grind (arith, nat_tests, h) in rw t refl
 
-long : (r : Reading) (bytes : List ℕ) → 8 ≤ length bytes → fault_of r bytes ≡ header_fault r.direction r.size bytes
+pub long : (r : Reading) (bytes : List ℕ) → 8 ≤ length bytes → fault_of r bytes ≡ header_fault r.direction r.size bytes
 unfolding fault_of
 long r bytes h = let t : nat_lt (length bytes) 8 ≡ false = grind (arith, nat_tests, h) in rw t refl
 

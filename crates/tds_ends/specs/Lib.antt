@@ -1,5 +1,6 @@
 pub mod Feeding
 pub mod Ends
+pub mod AllBytes
 pub mod Stands
 pub mod Stays
 pub mod Alike

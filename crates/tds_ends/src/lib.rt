@@ -2,6 +2,7 @@
 //! pieces of any size.
 #![tactic(auto)]
 
+pub mod all_bytes;
 mod ends;
 pub mod laws;
 mod listening;

@@ -1,5 +1,6 @@
 //! Plays over links that fail, and over links that change a byte.
 
+mod breaking;
 mod changing;
 mod losing;
 

@@ -17,4 +17,6 @@ pub mod Between
 pub mod Requests
 pub mod Plays
 pub mod Player
+pub mod AnyBytes
+pub mod Reads
 pub mod WholePlay

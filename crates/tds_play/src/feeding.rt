@@ -5,12 +5,16 @@ ghost use Rattle.tds_ends.specs.declared.serving.ServerStop.TheVariants as serve
 ghost use Rattle.tds_packet.specs.Reading.{with_taken};
 ghost use Rattle.tds_packet.specs.declared.kind.Direction.TheVariants.{ToServer, ToClient};
 ghost use Rattle.tds_ends.specs.Feeding.{Coming, Comes, IsServed, Served, served, IsListened, Listened, listened};
+ghost use Rattle.tds_ends.specs.AllBytes.{ClientHasRead, ServerHasRead, new_reader};
+ghost use Rattle.tds_play.specs.Reads.{ClientIsFed, IsClientFault, IsServerFault, ServerIsFed};
 ghost use Rattle.tds_play.specs.Seen.{outcome_of};
+ghost use Rattle.tds_token.specs.declared.token.Token.{Token};
 ghost use Rattle.tds_session.specs.Answer.{answer_of};
 
 use crate::NoMemory;
 use std::alloc::AllocError;
 use tds_client::Client;
+use tds_ends::all_bytes::{all_bytes_are_heard, all_bytes_are_served};
 use tds_ends::laws::{whole_packets_are_heard, whole_packets_are_served};
 use tds_ends::{ClientStop, ServerStop, listen, serve};
 use tds_packet::PacketReader;
@@ -30,7 +34,8 @@ pub(crate) struct Fault {
 impl Fault {
     /// What a server stopped at; an error where that is want of memory.
     fn at_server(stop: ServerStop) -> Result<Fault, NoMemory>
-        ensures { OnOk result (stop ≢ server_stop.NoMemory) }
+        ensures some { OnOk result (stop ≢ server_stop.NoMemory) }
+        ensures fault { IfOk result (IsServerFault stop) }
     {
         match stop {
             ServerStop::Packet(fault) => Ok(Fault {
@@ -49,7 +54,8 @@ impl Fault {
 
     /// What a client stopped at; an error where that is want of memory.
     fn at_client(stop: ClientStop) -> Result<Fault, NoMemory>
-        ensures { OnOk result (stop ≢ client_stop.NoMemory) }
+        ensures some { OnOk result (stop ≢ client_stop.NoMemory) }
+        ensures fault { IfOk result (IsClientFault stop) }
     {
         match stop {
             ClientStop::Packet(fault) => Ok(Fault {
@@ -98,6 +104,10 @@ pub(crate) fn feed_server<E: Engine + Drop>(
     ensures reads { reader.new.direction ≡ ToServer }
     ensures engine { server.new.engine ≡ server.old.engine }
     ensures session { server.new.session ≡ server.old.session }
+    // Whatever comes, the reader has read all of it, or a fault of it is answered.
+    ensures any { (size : ℕ) (bytes : List ℕ)
+        → ServerHasRead (new_reader ToServer size) reader.old bytes
+        → IfOk result (ServerIsFed size reader.new (bytes ++ piece.now)) }
     // Where packets come that the server takes, it takes them in order, and the reader keeps what
     // is behind them.
     ensures served { (packets : List Coming) (rest : List ℕ) (then : Served E)
@@ -108,6 +118,7 @@ pub(crate) fn feed_server<E: Engine + Drop>(
         × (reader.new ≡ with_taken reader.old rest)) }
 {
     whole_packets_are_served::<E>();
+    all_bytes_are_served::<E>();
     match serve(server, reader, piece, reply).stop {
         None => Ok(None),
         Some(stop) => Ok(Some(Fault::at_server(stop)?)),
@@ -123,6 +134,13 @@ pub(crate) fn feed_client(
 ) -> Result<Heard, NoMemory>
     requires { reader.old.direction ≡ ToClient }
     ensures reads { reader.new.direction ≡ ToClient }
+    // Whatever comes, the reader has read all of it, or a fault of it is answered; what was given
+    // and what is told now is told by the packets that came.
+    ensures any { (size : ℕ) (bytes : List ℕ) (given : List Token)
+        → ClientHasRead (new_reader ToClient size) reader.old client.old.columns bytes
+        (given ++ told.old.items)
+        → IfOk result (λ heard. ClientIsFed size reader.new client.new.columns (bytes ++ piece.now)
+        (given ++ told.new.items) heard.fault) }
     // Where packets come that the client takes, it takes them in order, and the reader keeps what
     // is behind them.
     ensures listened { (packets : List Coming) (rest : List ℕ) (then : Listened)
@@ -133,6 +151,7 @@ pub(crate) fn feed_client(
         × (reader.new ≡ with_taken reader.old rest)) }
 {
     whole_packets_are_heard();
+    all_bytes_are_heard();
     let fed = listen(client, reader, piece, told);
     let settled = fed.settled;
     match fed.stop {

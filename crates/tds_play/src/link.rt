@@ -1,12 +1,14 @@
 //! One connection: both its ends, what is underway between them, and the requests asked on it.
-ghost use Rattle.std.specs.Prelude.{[], ◌∷◌, ◌≡◌, ℕ, false, Some, IfOk, OnOk};
+ghost use Rattle.std.specs.Prelude.{[], ◌∷◌, ◌≡◌, ℕ, false, Some, IfOk, OnOk, None};
 ghost use Rattle.tds_client.specs.Session.{new_session};
 ghost use Rattle.tds_play.specs.Failures.{Fails, Open};
 ghost use Rattle.tds_play.specs.Links.{IsNewLink, newest_first};
 ghost use Rattle.tds_play.specs.Seats.{seated};
 ghost use Rattle.tds_play.specs.Seen.{seen_in};
 ghost use Rattle.tds_play.specs.Plays.{IsPlayed, cut_where};
-ghost use Rattle.tds_play.specs.Pipe.{new_pipe};
+ghost use Rattle.tds_packet.specs.declared.kind.Direction.{Direction};
+ghost use Rattle.tds_play.specs.Pipe.{new_pipe, traffic};
+ghost use Rattle.tds_play.specs.Reads.{IsReading};
 ghost use Rattle.tds_play.specs.Ties.{IsTied, KeepsTies};
 ghost use Rattle.tds_world.specs.Connection.{new_connection};
 ghost use Rattle.tds_world.specs.declared.report.Place.TheVariants.{Leased};
@@ -22,6 +24,7 @@ use crate::request::Record;
 use crate::seat::Seat;
 use std::alloc::{AllocError, Global};
 use tds_client::ClientState;
+use tds_ends::all_bytes::nothing_is_read;
 use tds_packet::{Direction, PacketReader, PacketSize};
 use tds_server::Server;
 use tds_session::Engine;
@@ -89,12 +92,16 @@ impl<E: Engine + Drop> Link<E> {
         ensures failed { IfOk result (λ opened. Fails (Open ∷ []) opened.1
             (C.pipes carrier.new number)) }
         ensures uncut { IfOk result (λ opened. opened.0.is_cut ≡ opened.1) }
+        // Nothing has come, and nothing was read.
+        ensures reads { IfOk result (λ opened. IsReading size opened.0 None
+            (C.pipes carrier.new number) × ((d : Direction) → (traffic (C.pipes carrier.new number) d).came ≡ [])) }
         // With a new seat it stands for a new connection of the model, cut where the carrier
         // failed.
         ensures alike { (lease : ℕ) → IfOk result (λ opened. IsPlayed number size engine
             opened.0 (seated (Leased lease) (new_session size)) (C.pipes carrier.new number)
             (cut_where opened.1 (new_connection (Leased lease)))) }
     {
+        nothing_is_read();
         let mut link = Link::new(alloc, number, engine, size)?;
         match carrier.open(number) {
             Ok(()) => Ok((link, false)),

@@ -9,6 +9,7 @@ ghost use Rattle.tds_play.specs.Pipe.{Pipe};
 ghost use Rattle.tds_play.specs.Player.{HappensAlike, IsFound, IsPlay, IsSmall, PromisesAll};
 ghost use Rattle.tds_play.specs.Plays.{ArePlayed};
 ghost use Rattle.tds_ends.specs.Promises.{IsCountable};
+ghost use Rattle.tds_play.specs.Reads.{AllRead, Answers as Answered, IsAbout, TakesLast, TellsGiven, answers_then};
 ghost use Rattle.tds_play.specs.Seen.{seen_of};
 ghost use Rattle.tds_play.specs.Ties.{AreTied};
 ghost use Rattle.tds_play.specs.declared.request.Record.{Record};
@@ -89,6 +90,12 @@ impl<E: Engine + Copy> Player<E> {
         ensures tells { OnOk result (C.tells carrier.old → C.tells carrier.new) }
         ensures sound { LiveAreSound self.old.links.items (C.pipes carrier.old)
             → OnOk result (LiveAreSound self.new.links.items (C.pipes carrier.new)) }
+        ensures size { OnOk result (self.new.size ≡ self.old.size) }
+        // Both ends of each connection read what comes, whatever it is.
+        ensures reads { (answers : Answered)
+            → AllRead self.old.size self.old.links.items (C.pipes carrier.old) answers
+            → IfOk result (λ done. AllRead self.old.size self.new.links.items
+            (C.pipes carrier.new) (answers_then event.now done.outcome answers)) }
         // Where it was lost, calls that it makes failed on the connection whose link it uses.
         ensures lost { (setup : Setup) (engine : E) (w : World)
             → LiveAreSound self.old.links.items (C.pipes carrier.old)
@@ -183,6 +190,11 @@ impl<E: Engine + Copy> Player<E> {
         ensures tells { OnOk result (C.tells carrier.old → C.tells carrier.new) }
         ensures sound { LiveAreSound self.old.links.items (C.pipes carrier.old)
             → OnOk result (LiveAreSound self.new.links.items (C.pipes carrier.new)) }
+        ensures size { OnOk result (self.new.size ≡ self.old.size) }
+        ensures reads { (size : ℕ) (answers : Answered) → IsAbout event.now place
+            → AllRead size self.old.links.items (C.pipes carrier.old) answers
+            → IfOk result (λ done. AllRead size self.new.links.items
+            (C.pipes carrier.new) (answers_then event.now done.outcome answers)) }
         ensures lost { (setup : Setup) (engine : E) (w : World) (c : Connection)
             → LiveAreSound self.old.links.items (C.pipes carrier.old)
             → IsPlay setup engine self.old (C.pipes carrier.old) w
@@ -266,6 +278,11 @@ impl<E: Engine + Copy> Player<E> {
         ensures tells { OnOk result (C.tells carrier.old → C.tells carrier.new) }
         ensures sound { LiveAreSound self.old.links.items (C.pipes carrier.old)
             → OnOk result (LiveAreSound self.new.links.items (C.pipes carrier.new)) }
+        ensures size { OnOk result (self.new.size ≡ self.old.size) }
+        ensures reads { (answers : Answered)
+            → AllRead self.old.size self.old.links.items (C.pipes carrier.old) answers
+            → IfOk result (λ done. AllRead self.old.size self.new.links.items
+            (C.pipes carrier.new) answers) }
         ensures lost { (setup : Setup) (engine : E) (w : World)
             → IsPlay setup engine self.old (C.pipes carrier.old) w → IsSmall w
             → to_lend setup w ≡ Opens (next_number w.connections)
@@ -301,6 +318,9 @@ impl<E: Engine + Copy> Player<E> {
         ensures tells { C.tells carrier.old → C.tells carrier.new }
         ensures sound { LiveAreSound self.old.links.items (C.pipes carrier.old)
             → LiveAreSound self.new.links.items (C.pipes carrier.new) }
+        ensures reads { (size : ℕ) (answers : Answered)
+            → AllRead size self.old.links.items (C.pipes carrier.old) answers
+            → AllRead size self.new.links.items (C.pipes carrier.new) answers }
         ensures failed { (n : ℕ) → FailsNoMore (C.pipes carrier.old n) (C.pipes carrier.new n) }
         // What stands for connections of the model stands for them, all cut.
         ensures alike { (size : ℕ) (engine : E) (cs : List Connection)
@@ -322,6 +342,9 @@ impl<E: Engine + Copy> Player<E> {
         ensures tells { C.tells carrier.old → C.tells carrier.new }
         ensures sound { LiveAreSound self.old.links.items (C.pipes carrier.old)
             → LiveAreSound self.new.links.items (C.pipes carrier.new) }
+        ensures reads { (size : ℕ) (answers : Answered)
+            → AllRead size self.old.links.items (C.pipes carrier.old) answers
+            → AllRead size self.new.links.items (C.pipes carrier.new) answers }
         ensures failed { (n : ℕ) → FailsNoMore (C.pipes carrier.old n) (C.pipes carrier.new n) }
         ensures alike { (size : ℕ) (engine : E) (cs : List Connection) (c : Connection)
             → slice_get cs place ≡ Some c
@@ -352,7 +375,10 @@ impl<E: Engine + Copy> Player<E> {
 
     /// What is told of each request in the end, in the order in which they were asked.
     pub(crate) fn into_requests(self) -> Result<Vec<RequestReport>, NoMemory>
-        ensures { (setup : Setup) (engine : E) (pipes : ℕ → Option Pipe) (w : World)
+        // The callers of each connection were given what is told of its requests, and maybe more.
+        ensures given { IfOk result (λ reports. (n : ℕ)
+            → TellsGiven self.links.items reports.items n) }
+        ensures told { (setup : Setup) (engine : E) (pipes : ℕ → Option Pipe) (w : World)
             → IsPlay setup engine self pipes w → RequestsInOrder w
             → IfOk result (λ reports. reports.items ≡ request_reports w 1 w.asked_on) }
     {
@@ -391,6 +417,8 @@ fn all_records<E: Engine + Copy>(
 /// The oldest request of this connection that is left, which is taken away.
 fn next_of(records: &mut [Vec<Record>], conn: u32) -> Option<Record>
     ensures count { length records.new ≡ length records.old }
+    ensures takes { TakesLast (map (λ v. v.items) records.old) (map (λ v. v.items) records.new)
+        conn result }
     ensures next { (left : List Record) (r : Record)
         → numbered (map (λ v. v.items) records.old) conn ≡ Some (left ++ r ∷ [])
         → (result ≡ Some r) × (map (λ v. v.items) records.new

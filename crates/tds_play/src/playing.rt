@@ -1,5 +1,6 @@
 //! A whole play.
 ghost use Rattle.std.specs.Prelude.{◌≡◌, ◌≢◌, ◌≤◌, List, [], ◌++◌, length, None, Some, Err, IfErr, IfOk, OnOk};
+ghost use Rattle.tds_play.specs.AnyBytes.{ReadsBytes};
 ghost use Rattle.tds_play.specs.Failures.{FailNowhere, TellFailures};
 ghost use Rattle.tds_play.specs.Player.{IsPlay};
 ghost use Rattle.tds_play.specs.Refused.{first_refusal, play_refusal_number};
@@ -104,6 +105,10 @@ pub fn play<C: Carrier>(
     ensures played { OnOk result (first_refusal setup.now (length events.now) ≡ None) }
     ensures named { IfErr result (λ why. why ≢ Memory
         → first_refusal setup.now (length events.now) ≡ Some why) }
+    // Whatever bytes the carrier brings: a delivery answers a fault of the packet reader exactly where
+    // the bytes that came by then have one, and the callers are given some of the tokens that come.
+    ensures reads { IfOk result (λ report. ReadsBytes setup.now.packet_size events.now report
+        (C.pipes carrier.new)) }
     // Where the carrier brings the bytes that it was handed, the report is the model's of the events
     // with the losses that it marks, and so are the bytes that were handed over, the bytes that
     // came, and what is cut.
@@ -189,6 +194,10 @@ pub fn play_with<E: Engine + Copy, C: Carrier>(
     ensures played { OnOk result (first_refusal setup.now (length events.now) ≡ None) }
     ensures named { IfErr result (λ why. why ≢ Memory
         → first_refusal setup.now (length events.now) ≡ Some why) }
+    // Whatever bytes the carrier brings: a delivery answers a fault of the packet reader exactly where
+    // the bytes that came by then have one, and the callers are given some of the tokens that come.
+    ensures reads { IfOk result (λ report. ReadsBytes setup.now.packet_size events.now report
+        (C.pipes carrier.new)) }
     // Where the carrier brings the bytes that it was handed, the play is the model's with the losses
     // that its report marks: what is told, what was handed over, what came, and what is cut.
     ensures alike { C.tells carrier.old → IfOk result (λ report. IsPlayOf setup.now
@@ -272,6 +281,8 @@ fn play_events<E: Engine + Copy, C: Carrier>(
         → IfOk result (λ report. TellFailures setup
         (answer_of (E.statements_of player.engine) (E.step_of player.engine))
         (marked events.now report.events) (C.pipes carrier.new)) }
+    ensures reads { IfOk result (λ report. ReadsBytes player.size events.now report
+        (C.pipes carrier.new)) }
     ensures alike { (setup : Setup) → IsSetup setup → C.tells carrier.old
         → IsPlay setup player.engine player (C.pipes carrier.old) new_world
         → IfOk result (λ report. IsPlayOf setup

@@ -55,6 +55,7 @@ impl Seat {
         ensures lent { unless_idle self.old.client.stage ≡ None
             → self.new ≡ lent_as next.lease mark self.old }
         ensures done { result ≡ done_as (Leased next.lease conn opened) }
+        ensures columns { self.new.client.columns ≡ self.old.client.columns }
     {
         // A connection that is lent is idle, so this is not refused.
         let _ = self.client.mark_reset(mark);
@@ -71,6 +72,7 @@ impl Seat {
         ensures value { self.new
             ≡ placed_at (place_back (is_none (unless_idle self.old.client.stage))) self.old }
         ensures outcome { result ≡ returned_as (is_none (unless_idle self.old.client.stage)) }
+        ensures columns { self.new.client.columns ≡ self.old.client.columns }
     {
         if self.is_idle() {
             self.place = Place::Free;
@@ -88,6 +90,7 @@ impl Seat {
         ensures whole { result.lost ≡ false }
         ensures kept { unless_kept self.old.client ≡ None → (result ≡ done_as (Kept next.ticket))
             × (self.new ≡ placed_at (place.Kept next.ticket) self.old) }
+        ensures columns { self.new.client.columns ≡ self.old.client.columns }
     {
         if !self.is_idle() {
             return refused(Refusal::NotIdle);
@@ -103,6 +106,7 @@ impl Seat {
     pub(crate) fn abandon(&mut self) -> Done
         ensures value { self.new ≡ placed_at place.Free self.old }
         ensures done { result ≡ done_as (Abandoned abandoned.Free) }
+        ensures columns { self.new.client.columns ≡ self.old.client.columns }
     {
         self.place = Place::Free;
         done(Outcome::Abandoned(AbandonOutcome::Free))

@@ -31,6 +31,7 @@ ghost use Rattle.tds_world.specs.declared.event.Setup.{Setup};
 ghost use Rattle.tds_world.specs.World.{World};
 ghost use Rattle.tds_session.specs.Answer.{answer_of};
 ghost use Rattle.tds_play.specs.Pipe.{Pipe};
+ghost use Rattle.tds_play.specs.Reads.{IsReading, ReadsNoMore, ReadsOn};
 ghost use Rattle.tds_play.specs.Ties.{IsTied, KeepsTies};
 
 use super::{Done, Link};
@@ -111,6 +112,7 @@ fn put_next(client: &mut Client, out: &mut Vec<u8>) -> Result<Option<SendOutcome
         (o ≡ Some (send_outcome e.answer))
         × (client.new ≡ e.session)
         × (out.new.items ≡ out.old.items ++ e.bytes))) }
+    ensures columns { client.new.columns ≡ client.old.columns }
 {
     match client.send(out) {
         Ok(Sent::More) => Ok(Some(SendOutcome::More)),
@@ -145,6 +147,12 @@ impl<E: Engine + Drop> Link<E> {
         // Only what hands bytes over or brings some is lost.
         ensures loses { IfOk result (λ done. done.lost ≡ true
             → MayLose self.old.is_cut event.now) }
+        // Its ends read what comes, whatever it is.
+        ensures reads { (size : ℕ)
+            → IsReading size self.old seat.old.client.columns
+            (C.pipes carrier.old self.old.number)
+            → IfOk result (λ done. ReadsOn size event.now done.outcome self.new
+            seat.new.client.columns (C.pipes carrier.old self.old.number) (C.pipes carrier.new self.old.number)) }
         // A connection that stands for one of the model stands for what the event, as it was met,
         // makes of it, cut where the carrier failed.
         ensures alike { (setup : Setup) (w : World) (c : Connection) (engine : E)
@@ -210,6 +218,9 @@ impl<E: Engine + Drop> Link<E> {
             × IsAskedOn lease client.old.heard.mark self.old self.new) }
         ensures number { self.new.number ≡ self.old.number }
         ensures tied { (pipe : Option Pipe) → IsTied self.old pipe → IsTied self.new pipe }
+        ensures still { (pipe : Option Pipe)
+            → OnOk result (ReadsNoMore self.old self.new pipe pipe) }
+        ensures columns { client.new.columns ≡ client.old.columns }
     {
         if !matches!(client.state(), ClientState::Idle) {
             return Ok(refused(Refusal::NotIdle));
@@ -229,6 +240,8 @@ impl<E: Engine + Drop> Link<E> {
         ensures value { OnOk result (IsPutBy self.old self.new) }
         ensures number { self.new.number ≡ self.old.number }
         ensures tied { (pipe : Option Pipe) → IsTied self.old pipe → IsTied self.new pipe }
+        ensures still { (pipe : Option Pipe)
+            → OnOk result (ReadsNoMore self.old self.new pipe pipe) }
     {
         if let Some(settled) = self.current.take() {
             self.past.push(settled)?;
@@ -248,6 +261,9 @@ impl<E: Engine + Drop> Link<E> {
         ensures number { self.new.number ≡ self.old.number }
         ensures ties { OnOk result (KeepsTies self.old.number self.new (C.pipes carrier.old)
             (C.pipes carrier.new) (C.tells carrier.old) (C.tells carrier.new)) }
+        ensures still { OnOk result (ReadsNoMore self.old self.new
+            (C.pipes carrier.old self.old.number) (C.pipes carrier.new self.old.number)) }
+        ensures columns { client.new.columns ≡ client.old.columns }
         ensures refused { is_ok (sent client.old) ≡ false
             → (result ≡ Ok (done_as (Refused NotSending))) × (self.new ≡ self.old)
             × (client.new ≡ client.old) × (carrier.new ≡ carrier.old) }
@@ -287,6 +303,9 @@ impl<E: Engine + Drop> Link<E> {
     ) -> Result<CancelOutcome, NoMemory>
         ensures number { self.new.number ≡ self.old.number }
         ensures tied { (pipe : Option Pipe) → IsTied self.old pipe → IsTied self.new pipe }
+        ensures still { (pipe : Option Pipe)
+            → OnOk result (ReadsNoMore self.old self.new pipe pipe) }
+        ensures columns { client.new.columns ≡ client.old.columns }
         ensures live { self.new.is_cut ≡ self.old.is_cut }
         ensures cancelled { IfOk (cancelled client.old) (λ e. IfOk result (λ outcome.
             (outcome ≡ cancel_outcome e.answer) × (client.new ≡ e.session)
@@ -320,6 +339,9 @@ impl<E: Engine + Drop> Link<E> {
         ensures number { self.new.number ≡ self.old.number }
         ensures ties { OnOk result (KeepsTies self.old.number self.new (C.pipes carrier.old)
             (C.pipes carrier.new) (C.tells carrier.old) (C.tells carrier.new)) }
+        ensures still { OnOk result (ReadsNoMore self.old self.new
+            (C.pipes carrier.old self.old.number) (C.pipes carrier.new self.old.number)) }
+        ensures columns { client.new.columns ≡ client.old.columns }
         ensures cancelled { IfOk (cancelled client.old) (λ e. IfOk result (λ done.
             (done.outcome ≡ outcome.Cancel (cancel_outcome e.answer)) × (client.new ≡ e.session)
             × (self.new ≡ unless_lost done.lost
@@ -358,6 +380,8 @@ impl<E: Engine + Drop> Link<E> {
         ensures number { self.new.number ≡ self.old.number }
         ensures live { self.new.is_cut ≡ self.old.is_cut }
         ensures tied { (pipe : Option Pipe) → IsTied self.old pipe → IsTied self.new pipe }
+        ensures still { (pipe : Option Pipe)
+            → OnOk result (ReadsNoMore self.old self.new pipe pipe) }
     {
         let before = *self.server.session();
         let outcome = match self.server.work(out)? {
@@ -379,6 +403,8 @@ impl<E: Engine + Drop> Link<E> {
         ensures number { self.new.number ≡ self.old.number }
         ensures ties { OnOk result (KeepsTies self.old.number self.new (C.pipes carrier.old)
             (C.pipes carrier.new) (C.tells carrier.old) (C.tells carrier.new)) }
+        ensures still { OnOk result (ReadsNoMore self.old self.new
+            (C.pipes carrier.old self.old.number) (C.pipes carrier.new self.old.number)) }
         ensures worked { IfOk result (λ done.
             (done.outcome ≡ outcome.Work (worked_outcome (worked self.old.server).answer))
             × (self.new ≡ unless_lost done.lost

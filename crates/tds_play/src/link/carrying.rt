@@ -5,6 +5,7 @@ ghost use Rattle.tds_play.specs.Failures.{Call, Carry, Fails, FailsAs, FailsNoMo
 ghost use Rattle.tds_play.specs.Links.{cut_of, recounted};
 ghost use Rattle.tds_play.specs.Pipe.{Brings, IsUncut, cut_pipe, sent_on};
 ghost use Rattle.tds_play.specs.Plays.{IsPlayed, cut_where};
+ghost use Rattle.tds_play.specs.Reads.{BringsAny, ReadsNoMore};
 ghost use Rattle.tds_play.specs.Seen.{outcome_of};
 ghost use Rattle.tds_play.specs.declared.seat.Seat.{Seat};
 ghost use Rattle.tds_play.specs.Ties.{IsTied, KeepsTies, counted, with_counted, saturated};
@@ -50,6 +51,8 @@ impl<E: Engine + Drop> Link<E> {
             (if lost then 1 else 0)) }
         ensures counted { bytes.now ≢ [] → OnOk result (self.new ≡ with_counted self.old direction
             (saturated (counted self.old direction + length bytes.now))) }
+        ensures still { OnOk result (ReadsNoMore self.old self.new
+            (C.pipes carrier.old self.old.number) (C.pipes carrier.new self.old.number)) }
         // To what failed before, a failure of this call is added exactly where it is answered.
         ensures failed { (calls : List Call) (before : Bool)
             → Fails calls before (C.pipes carrier.old self.old.number)
@@ -106,6 +109,9 @@ impl<E: Engine + Drop> Link<E> {
         ensures brought { IfOk result (λ carried. C.tells carrier.old
             → Brings (C.pipes carrier.old self.old.number) direction carried.count out.old.items
             out.new.items (C.pipes carrier.new self.old.number) carried.lost) }
+        ensures any { IfOk result (λ carried. BringsAny direction carried.count out.old.items
+            out.new.items (C.pipes carrier.old self.old.number)
+            (C.pipes carrier.new self.old.number)) }
         // Where nothing had failed, this call did exactly where that is answered.
         ensures failed { HasNoFailure (C.pipes carrier.old self.old.number)
             → IfOk result (λ carried. Fails (Carry direction ∷ []) carried.lost
@@ -139,6 +145,8 @@ impl<E: Engine + Drop> Link<E> {
         ensures ties { KeepsTies self.old.number self.new (C.pipes carrier.old)
             (C.pipes carrier.new) (C.tells carrier.old) (C.tells carrier.new) }
         ensures value { self.new ≡ cut_of self.old }
+        ensures still { ReadsNoMore self.old self.new (C.pipes carrier.old self.old.number)
+            (C.pipes carrier.new self.old.number) }
         ensures pipe { C.pipes carrier.new self.old.number
             ≡ cut_pipe (C.pipes carrier.old self.old.number) }
         ensures failed { FailsNoMore (C.pipes carrier.old self.old.number)
@@ -167,6 +175,8 @@ impl<E: Engine + Drop> Link<E> {
         ensures ties { KeepsTies self.old.number self.new (C.pipes carrier.old)
             (C.pipes carrier.new) (C.tells carrier.old) (C.tells carrier.new) }
         ensures value { self.new ≡ (if lost then cut_of self.old else self.old) }
+        ensures still { ReadsNoMore self.old self.new (C.pipes carrier.old self.old.number)
+            (C.pipes carrier.new self.old.number) }
         ensures done { result ≡ record { outcome = outcome; lost = lost } }
         ensures kept { lost ≡ false → carrier.new ≡ carrier.old }
         ensures failed { (calls : List Call)
@@ -199,6 +209,8 @@ impl<E: Engine + Drop> Link<E> {
         ensures ties { KeepsTies self.old.number self.new (C.pipes carrier.old)
             (C.pipes carrier.new) (C.tells carrier.old) (C.tells carrier.new) }
         ensures value { self.new ≡ cut_of self.old }
+        ensures still { ReadsNoMore self.old self.new (C.pipes carrier.old self.old.number)
+            (C.pipes carrier.new self.old.number) }
         ensures done { result ≡ record { outcome = outcome_of fault; lost = lost } }
         ensures failed { (calls : List Call)
             → Fails calls lost (C.pipes carrier.old self.old.number)

@@ -10,6 +10,9 @@ ghost use Rattle.tds_play.specs.Pipe.{Pipe};
 ghost use Rattle.tds_play.specs.Plays.{DoesAlike, IsPlayed, count_of, delivers_down, delivers_up};
 ghost use Rattle.tds_ends.specs.Promises.{IsCountable, Promises};
 ghost use Rattle.tds_play.specs.declared.seat.Seat.{Seat};
+ghost use Rattle.tds_ends.specs.AllBytes.{ClientHasRead, new_reader};
+ghost use Rattle.tds_play.specs.Reads.{ClientIsFed, IsReading, ReadsOn, given_by};
+ghost use Rattle.tds_world.specs.declared.event.Event.TheVariants as event;
 ghost use Rattle.tds_play.specs.Ties.{IsTied, KeepsTies};
 ghost use Rattle.tds_session.specs.Answer.{Answers, answer_of};
 ghost use Rattle.tds_world.specs.Arrivals.{to_client, to_server};
@@ -24,6 +27,7 @@ use crate::feeding::{Heard, feed_client, feed_server};
 use crate::seat::Seat;
 use std::alloc::Global;
 use tds_client::Client;
+use tds_ends::all_bytes::{given_are_told, no_fault_is_read};
 use tds_ends::laws::{idle_alike, listens_alike, pool_is_unseen, serves_alike, the_other_stays};
 use tds_packet::Direction;
 use tds_session::Engine;
@@ -63,6 +67,11 @@ impl<E: Engine + Drop> Link<E> {
         ensures failed { HasNoFailure (C.pipes carrier.old self.old.number)
             → IfOk result (λ done. FailsAs (Carry ToServer ∷ Send ToClient ∷ []) done self.new
             (C.pipes carrier.new self.old.number)) }
+        // The server reads what comes, whatever it is.
+        ensures reads { (size n : ℕ) (columns : Option ℕ)
+            → IsReading size self.old columns (C.pipes carrier.old self.old.number)
+            → IfOk result (λ done. ReadsOn size (event.ToServer n most) done.outcome self.new
+            columns (C.pipes carrier.old self.old.number) (C.pipes carrier.new self.old.number)) }
         // A connection that stands for one of the model stands for what the delivery of as many
         // bytes as came makes of it, cut where the carrier failed.
         ensures alike { (size : ℕ) (engine : E) (seat : Seat) (c : Connection)
@@ -78,6 +87,7 @@ impl<E: Engine + Drop> Link<E> {
             (count_of done most) c) c) }
     {
         serves_alike::<E>();
+        no_fault_is_read();
         the_other_stays::<E>();
         let count = at_most(self.to_server, most);
         let mut piece = Vec::new(alloc);
@@ -110,6 +120,12 @@ impl<E: Engine + Drop> Link<E> {
         ensures failed { HasNoFailure (C.pipes carrier.old self.old.number)
             → IfOk result (λ done. FailsAs (Carry ToClient ∷ []) done self.new
             (C.pipes carrier.new self.old.number)) }
+        // The client reads what comes, whatever it is.
+        ensures reads { (size n : ℕ)
+            → IsReading size self.old seat.old.client.columns
+            (C.pipes carrier.old self.old.number)
+            → IfOk result (λ done. ReadsOn size (event.ToClient n most) done.outcome self.new
+            seat.new.client.columns (C.pipes carrier.old self.old.number) (C.pipes carrier.new self.old.number)) }
         ensures alike { (answers : Answers) (size : ℕ) (engine : E) (c : Connection)
             → C.tells carrier.old
             → IsPlayed self.old.number size engine self.old seat.old
@@ -119,6 +135,8 @@ impl<E: Engine + Drop> Link<E> {
             (C.pipes carrier.new self.old.number) (delivers_down (count_of done most) c) c) }
     {
         listens_alike();
+        no_fault_is_read();
+        given_are_told();
         idle_alike();
         pool_is_unseen::<E>();
         the_other_stays::<E>();
@@ -140,6 +158,12 @@ impl<E: Engine + Drop> Link<E> {
         ensures live { self.new.is_cut ≡ self.old.is_cut }
         ensures tied { (pipe : Option Pipe) → IsTied self.old pipe
             → OnOk result (IsTied self.new pipe) }
+        ensures server { OnOk result (self.new.server_reader ≡ self.old.server_reader) }
+        ensures any { (size : ℕ) (bytes : List ℕ)
+            → ClientHasRead (new_reader ToClient size) self.old.client_reader
+            client.old.columns bytes (given_by self.old)
+            → IfOk result (λ heard. ClientIsFed size self.new.client_reader client.new.columns
+            (bytes ++ piece.now) (given_by self.new) heard.fault) }
         // Where packets come that the client takes, it takes them in order, and tells what they say
         // to the newest request's caller.
         ensures heard { (packets : List Coming) (left : List ℕ) (then : Listened)

@@ -12,6 +12,7 @@ ghost use Rattle.tds_world.specs.Connection.{Connection, up_underway};
 ghost use Rattle.tds_world.specs.Pool.{comes_back, place_back, returned_as};
 ghost use Rattle.tds_client.specs.Sending.{cancelled};
 ghost use Rattle.tds_world.specs.declared.outcome.Outcome.TheVariants as outcome;
+ghost use Rattle.tds_play.specs.Reads.{ReadsNoMore};
 ghost use Rattle.tds_play.specs.Ties.{IsTied, KeepsTies};
 
 use super::{Done, Link};
@@ -38,6 +39,9 @@ impl<E: Engine + Drop> Link<E> {
         ensures number { self.new.number ≡ self.old.number }
         ensures ties { OnOk result (KeepsTies self.old.number self.new (C.pipes carrier.old)
             (C.pipes carrier.new) (C.tells carrier.old) (C.tells carrier.new)) }
+        ensures still { OnOk result (ReadsNoMore self.old self.new
+            (C.pipes carrier.old self.old.number) (C.pipes carrier.new self.old.number)) }
+        ensures columns { seat.new.client.columns ≡ seat.old.client.columns }
         ensures back { IfOk (cancelled seat.old.client) (λ e. IfOk result (λ done.
             (done.outcome ≡ outcome.GivenBack (returned_as (is_none (unless_idle e.session.stage))))
             × (self.new ≡ unless_lost done.lost (recounted self.new.to_server self.new.to_client

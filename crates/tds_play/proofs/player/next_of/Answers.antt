@@ -1,4 +1,6 @@
 use Rattle.tds_play.proofs.Requested.{taken_last}
+use Rattle.std.proofs.Common.{◌∙◌, ap, arith, sym}
+use Rattle.tds_play.proofs.Given.{takes_last}
 use Rattle.tds_play.proofs.player.next_of.Goals as goal
 
 pub returns-clause-next : goal.returns-clause-next
@@ -6,3 +8,9 @@ returns-clause-next c = λ left r there.
     taken_last (λ v. v.items) c.args.records.now c.args.conn _ c.index-records-conn.result c.pop.new.self c.pop.result left r there
     (rw c.index-records-conn.is at c.index-records-conn.result.ok.0)
     (c.pop.ensures.value r) c.pop.ensures.rest
+
+pub returns-clause-takes : goal.returns-clause-takes
+returns-clause-takes c =
+    takes_last (λ v. v.items) c.args.records.now c.args.conn c.index-records-conn.result c.pop.new.self c.pop.result
+    (omega arith) (omega arith)
+    c.pop.ensures.items

@@ -12,6 +12,11 @@ use Rattle.tds_play.specs.Failures.{LiveAreSound}
 use Rattle.tds_play.proofs.Accounts.{told_none}
 use Rattle.tds_play.proofs.Marking.{told_in_the_end, told_one_more, unfailing_in_the_end}
 use Rattle.tds_play.proofs.Turns.{brought_known, known_so_far, countable_then, of_play, of_play_then, one_event_more, in_the_end, none_tied, so_many, world_is}
+use Rattle.std.proofs.Common.{List, refl}
+use Rattle.tds_world.specs.declared.report.EventReport.{EventReport}
+use Rattle.tds_play.specs.Reads.{AllRead}
+use Rattle.tds_play.proofs.Answered.{answers_of, none_read, read_more}
+use Rattle.tds_play.proofs.Given.{read_in_the_end}
 use Rattle.tds_play.proofs.playing.play_events.Goals as goal
 
 pub events-init : goal.events-init
@@ -23,6 +28,10 @@ events-init g c = record {
   count = ap length c.new-reports.ensures.items;
   within = omega (arith, ap length c.new-reports.ensures.items);
   sound = subst (λ ls. LiveAreSound ls (g.C.Carrier.pipes c.args.carrier.now)) (sym c.requires.begins) (λ i d less. absurd (omega (arith, less)));
+  size = refl;
+  reads =
+      subst (λ (rs : List EventReport). AllRead c.args.player.size c.args.player.links.items (g.C.Carrier.pipes c.args.carrier.now) (answers_of (take 0 c.args.events.now) rs)) (sym c.new-reports.ensures.items)
+      (none_read c.args.player.size c.args.player.links.items (g.C.Carrier.pipes c.args.carrier.now) c.args.events.now c.requires.begins);
   lost = λ setup is tells play. rw (c.requires.begins) (told_none setup _ (g.C.Carrier.pipes c.args.carrier.now));
   alike = λ setup is tells play. record { play = play; told = c.new-reports.ensures.items };
 }
@@ -48,6 +57,13 @@ events-preserved g c =
       count = ap length c.in_ok-push.ensures.items ∙ length-append rs _ ∙ omega (arith, inv.count);
       within = omega (arith, c.events-test.true, inv.count, ap length c.in_ok-push.ensures.items ∙ length-append rs _);
       sound = said.sound inv.sound;
+      size = said.size ∙ inv.size;
+      reads =
+          let r : EventReport = record { outcome = c.in_ok-done.done.outcome; lost = c.in_ok-done.done.lost; snapshots = c.new.result } in
+          let before : AllRead c.events.player.size c.events.player.links.items (g.C.Carrier.pipes c.events.carrier) (answers_of (take i es) rs) =
+          subst (λ (size : ℕ). AllRead size c.events.player.links.items (g.C.Carrier.pipes c.events.carrier) (answers_of (take i es) rs)) (sym inv.size) inv.reads in
+          read_more c.args.player.size c.events.player.size c.happen.new.self.links.items (g.C.Carrier.pipes c.happen.new.carrier) es i c.event-item.result rs _ r
+          c.events-test.true c.event-item.is inv.count c.in_ok-push.ensures.items inv.size (said.reads (answers_of (take i es) rs) before);
       lost = λ setup is tells play.
           let far = inv.alike setup is tells play in
           let w : World = world_with setup answers (marked (take i es) rs) new_world in
@@ -90,7 +106,7 @@ returns-clause-alike g c = λ setup is tells play.
     let laws = c.of_marked_report.ensures in
     in_the_end setup answers engine es i c.events.player _ rs c.new-2.result c.new-3.result
     is c.events.invariant.known c.requires.few c.events.invariant.tied (omega (arith, c.events-test.false)) far c.new-2.ensures
-    (c.new-3.ensures ∙ c.in_ok-into_requests.ensures setup engine _ w far.play order)
+    (c.new-3.ensures ∙ c.in_ok-into_requests.ensures.told setup engine _ w far.play order)
     (laws.whole setup answers es) (laws.plain setup answers es)
 
 pub returns-clause-lost : goal.returns-clause-lost
@@ -102,3 +118,8 @@ returns-clause-lost g c = λ setup is tells play.
     let answers : Answers = answer_of (g.E.Engine.statements_of engine) (g.E.Engine.step_of engine) in
     let far = c.events.invariant.alike setup is tells play in
     told_in_the_end setup answers engine es i c.events.player (g.C.Carrier.pipes c.events.carrier) rs c.new-2.result (omega (arith, c.events-test.false)) c.new-2.ensures far.play (c.events.invariant.lost setup is tells play)
+
+pub returns-clause-reads : goal.returns-clause-reads
+returns-clause-reads g c =
+    read_in_the_end c.args.player.size c.args.events.now c.events.event-index c.events.player.links.items (g.C.Carrier.pipes c.events.carrier) c.events.reports.items c.new-2.result c.new-3.result _
+    (omega (arith, c.events-test.false)) c.new-2.ensures c.new-3.ensures c.events.invariant.reads c.in_ok-into_requests.ensures.given

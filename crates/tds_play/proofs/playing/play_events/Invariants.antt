@@ -10,6 +10,8 @@ use Rattle.tds_play.proofs.Accounts.{AreTold}
 use Rattle.tds_play.specs.Player.{IsPlay}
 use Rattle.tds_play.specs.Ties.{AreTied}
 use Rattle.tds_play.proofs.Turns.{IsSoFar}
+use Rattle.tds_play.specs.Reads.{AllRead}
+use Rattle.tds_play.proofs.Answered.{answers_of}
 use Rattle.tds_play.proofs.playing.play_events.Given as goal
 
 abbrev pub invariant-events : goal.invariant-events
@@ -24,6 +26,8 @@ invariant-events g l =
       count : length l.reports.items ≡ l.event-index;
       within : length l.reports.items ≤ length l.events;
       sound : LiveAreSound l.player.links.items (pipes l.carrier);
+      size : l.player.size ≡ l.fn.player.size;
+      reads : AllRead l.fn.player.size l.player.links.items (pipes l.carrier) (answers_of (take l.event-index l.events) l.reports.items);
       lost : (setup : Setup) → IsSetup setup → g.C.Carrier.tells l.fn.carrier
           → IsPlay setup engine l.fn.player (pipes l.fn.carrier) new_world
           → AreTold setup (answer_of (g.E.Engine.statements_of engine) (g.E.Engine.step_of engine)) (marked (take l.event-index l.events) l.reports.items)

@@ -11,6 +11,7 @@ use Rattle.tds_session.specs.Answer.{answer_of}
 use Rattle.tds_world.specs.Losses.{marked}
 use Rattle.tds_world.specs.World.{new_world}
 use Rattle.tds_world.specs.declared.event.Setup.{Setup}
+use Rattle.tds_play.specs.AnyBytes.{ReadsBytes}
 use Rattle.tds_play.proofs.playing.play_with.Goals as goal
 
 -- A player before any event.
@@ -48,3 +49,8 @@ returns-in-Ok-clause-unfailing g c = λ tells fine.
     c.play_events.ensures.unfailing c.args.setup.now c.in-Ok.ensures.setup tells
     (begins c.args.setup.now c.new-player.result (g.C.Carrier.pipes c.args.carrier.now) new.links new.leases new.tickets new.asked new.max (new.size ∙ c.in-Ok.ensures.size))
     fine
+
+pub returns-in-Ok-clause-reads : goal.returns-in-Ok-clause-reads
+returns-in-Ok-clause-reads g c =
+    subst (λ (size : ℕ). IfOk c.play_events.result (λ report. ReadsBytes size c.args.events.now report (g.C.Carrier.pipes c.play_events.new.carrier))) (c.new-player.ensures.size ∙ c.in-Ok.ensures.size)
+    c.play_events.ensures.reads

@@ -1,4 +1,4 @@
-use Rattle.std.proofs.Common.{◌∙◌, ap, ℕ, Option, refl, subst, inl, inr}
+use Rattle.std.proofs.Common.{◌∙◌, ap, ℕ, Option, refl, subst, sym, inl, inr}
 use Rattle.tds_packet.specs.declared.status.Reset.TheVariants.{Full, KeepTransaction}
 use Rattle.tds_session.specs.Answer.{Answers, answer_of}
 use Rattle.tds_world.specs.declared.event.Event.TheVariants as event
@@ -17,6 +17,14 @@ use Rattle.tds_play.proofs.Placed.{kept_alike}
 use Rattle.tds_play.specs.Failures.{calls_of}
 use Rattle.tds_play.proofs.Failing.{whole_as}
 use Rattle.tds_play.proofs.Failing as failing
+use Rattle.tds_world.specs.declared.event.Event.{Event}
+use Rattle.tds_world.specs.declared.report.Place.TheVariants.{Leased}
+use Rattle.tds_world.specs.Connection.{new_connection}
+use Rattle.tds_play.specs.declared.link.Done.{Done}
+use Rattle.tds_play.specs.Reads.{ReadsOn, delivers}
+use Rattle.tds_play.proofs.Brought.{gone_on, on_done, still_on}
+use Rattle.tds_play.proofs.Stays.{stays}
+use Rattle.std.specs.Prelude.{IfOk}
 use Rattle.tds_play.proofs.link.Link.act.Goals as goal
 
 pub returns-then-self-clause-alike : goal.returns-then-self-clause-alike
@@ -224,3 +232,94 @@ pub returns-in-Cut-clause-failed : goal.returns-in-Cut-clause-failed
 returns-in-Cut-clause-failed g c = λ fine.
     whole_as (calls_of c.args.event.now) c.done.result c.cut.new.self (g.C.Carrier.pipes c.cut.new.carrier c.args.self.now.number) (ap (λ d. d.lost) c.done.ensures)
     (λ call. c.cut.ensures.failed call ∙ fine call)
+
+pub returns-then-self-clause-reads : goal.returns-then-self-clause-reads
+returns-then-self-clause-reads g c = λ size reads.
+    gone_on size c.args.event.now c.on_cut.result.outcome (new_connection (Leased 0)) c.args.self.now c.args.seat.now.client.columns (g.C.Carrier.pipes c.args.carrier.now c.args.self.now.number)
+    (ap (λ (d : Done). d.outcome) (c.on_cut.ensures.value (new_connection (Leased 0)))) reads
+
+pub returns-in-Lease-clause-reads : goal.returns-in-Lease-clause-reads
+returns-in-Lease-clause-reads g c = λ size reads.
+    let pipe : Option Pipe = g.C.Carrier.pipes c.args.carrier.now c.args.self.now.number in
+    still_on size c.args.event.now c.lend.result.outcome c.args.self.now c.args.self.now c.args.seat.now.client.columns c.lend.new.self.client.columns pipe pipe (λ d. ap (λ (e : Event). delivers e d) c.in-Lease.is) reads
+    (stays c.args.self.now pipe) c.lend.ensures.columns
+
+pub returns-in-Resume-clause-reads : goal.returns-in-Resume-clause-reads
+returns-in-Resume-clause-reads g c = λ size reads.
+    let pipe : Option Pipe = g.C.Carrier.pipes c.args.carrier.now c.args.self.now.number in
+    still_on size c.args.event.now c.lend-in-Resume.result.outcome c.args.self.now c.args.self.now c.args.seat.now.client.columns c.lend-in-Resume.new.self.client.columns pipe pipe (λ d. ap (λ (e : Event). delivers e d) c.in-Resume.is) reads
+    (stays c.args.self.now pipe) c.lend-in-Resume.ensures.columns
+
+pub returns-in-Keep-clause-reads : goal.returns-in-Keep-clause-reads
+returns-in-Keep-clause-reads g c = λ size reads.
+    let pipe : Option Pipe = g.C.Carrier.pipes c.args.carrier.now c.args.self.now.number in
+    still_on size c.args.event.now c.keep.result.outcome c.args.self.now c.args.self.now c.args.seat.now.client.columns c.keep.new.self.client.columns pipe pipe (λ d. ap (λ (e : Event). delivers e d) c.in-Keep.is) reads
+    (stays c.args.self.now pipe) c.keep.ensures.columns
+
+pub returns-in-Abandon-clause-reads : goal.returns-in-Abandon-clause-reads
+returns-in-Abandon-clause-reads g c = λ size reads.
+    let pipe : Option Pipe = g.C.Carrier.pipes c.args.carrier.now c.args.self.now.number in
+    still_on size c.args.event.now c.abandon.result.outcome c.args.self.now c.args.self.now c.args.seat.now.client.columns c.abandon.new.self.client.columns pipe pipe (λ d. ap (λ (e : Event). delivers e d) c.in-Abandon.is) reads
+    (stays c.args.self.now pipe) c.abandon.ensures.columns
+
+pub returns-in-Ask-clause-reads : goal.returns-in-Ask-clause-reads
+returns-in-Ask-clause-reads g c = λ size reads.
+    let pipe : Option Pipe = g.C.Carrier.pipes c.args.carrier.now c.args.self.now.number in
+    on_done c.ask.result _ (λ (done : Done). ReadsOn size c.args.event.now done.outcome c.ask.new.self c.ask.new.client.columns pipe pipe) (c.ask.ensures.still pipe)
+    (λ done still. still_on size c.args.event.now done.outcome c.args.self.now c.ask.new.self c.args.seat.now.client.columns c.ask.new.client.columns pipe pipe (λ d. ap (λ (e : Event). delivers e d) c.in-Ask.is) reads still c.ask.ensures.columns)
+
+pub returns-in-GiveBack-clause-reads : goal.returns-in-GiveBack-clause-reads
+returns-in-GiveBack-clause-reads g c = λ size reads.
+    let pipe : Option Pipe = g.C.Carrier.pipes c.args.carrier.now c.args.self.now.number in
+    let after : Option Pipe = g.C.Carrier.pipes c.give_back.new.carrier c.args.self.now.number in
+    on_done c.give_back.result _ (λ (done : Done). ReadsOn size c.args.event.now done.outcome c.give_back.new.self c.give_back.new.seat.client.columns pipe after) c.give_back.ensures.still
+    (λ done still. still_on size c.args.event.now done.outcome c.args.self.now c.give_back.new.self c.args.seat.now.client.columns c.give_back.new.seat.client.columns pipe after (λ d. ap (λ (e : Event). delivers e d) c.in-GiveBack.is) reads still c.give_back.ensures.columns)
+
+pub returns-in-Send-clause-reads : goal.returns-in-Send-clause-reads
+returns-in-Send-clause-reads g c = λ size reads.
+    let pipe : Option Pipe = g.C.Carrier.pipes c.args.carrier.now c.args.self.now.number in
+    let after : Option Pipe = g.C.Carrier.pipes c.send.new.carrier c.args.self.now.number in
+    on_done c.send.result _ (λ (done : Done). ReadsOn size c.args.event.now done.outcome c.send.new.self c.send.new.client.columns pipe after) c.send.ensures.still
+    (λ done still. still_on size c.args.event.now done.outcome c.args.self.now c.send.new.self c.args.seat.now.client.columns c.send.new.client.columns pipe after (λ d. ap (λ (e : Event). delivers e d) c.in-Send.is) reads still c.send.ensures.columns)
+
+pub returns-in-Cancel-clause-reads : goal.returns-in-Cancel-clause-reads
+returns-in-Cancel-clause-reads g c = λ size reads.
+    let pipe : Option Pipe = g.C.Carrier.pipes c.args.carrier.now c.args.self.now.number in
+    let after : Option Pipe = g.C.Carrier.pipes c.cancel.new.carrier c.args.self.now.number in
+    on_done c.cancel.result _ (λ (done : Done). ReadsOn size c.args.event.now done.outcome c.cancel.new.self c.cancel.new.client.columns pipe after) c.cancel.ensures.still
+    (λ done still. still_on size c.args.event.now done.outcome c.args.self.now c.cancel.new.self c.args.seat.now.client.columns c.cancel.new.client.columns pipe after (λ d. ap (λ (e : Event). delivers e d) c.in-Cancel.is) reads still c.cancel.ensures.columns)
+
+pub returns-in-Work-clause-reads : goal.returns-in-Work-clause-reads
+returns-in-Work-clause-reads g c = λ size reads.
+    let pipe : Option Pipe = g.C.Carrier.pipes c.args.carrier.now c.args.self.now.number in
+    let after : Option Pipe = g.C.Carrier.pipes c.work.new.carrier c.args.self.now.number in
+    on_done c.work.result _ (λ (done : Done). ReadsOn size c.args.event.now done.outcome c.work.new.self c.args.seat.now.client.columns pipe after) c.work.ensures.still
+    (λ done still. still_on size c.args.event.now done.outcome c.args.self.now c.work.new.self c.args.seat.now.client.columns c.args.seat.now.client.columns pipe after (λ d. ap (λ (e : Event). delivers e d) c.in-Work.is) reads still refl)
+
+pub returns-in-ToServer-clause-reads : goal.returns-in-ToServer-clause-reads
+returns-in-ToServer-clause-reads g c = λ size reads.
+    let pipe : Option Pipe = g.C.Carrier.pipes c.args.carrier.now c.args.self.now.number in
+    let after : Option Pipe = g.C.Carrier.pipes c.deliver_to_server.new.carrier c.args.self.now.number in
+    subst (λ (e : Event). IfOk c.deliver_to_server.result (λ (done : Done). ReadsOn size e done.outcome c.deliver_to_server.new.self c.args.seat.now.client.columns pipe after)) (sym c.in-ToServer.is)
+    (c.deliver_to_server.ensures.reads size _ c.args.seat.now.client.columns reads)
+
+pub returns-in-ToClient-clause-reads : goal.returns-in-ToClient-clause-reads
+returns-in-ToClient-clause-reads g c = λ size reads.
+    let pipe : Option Pipe = g.C.Carrier.pipes c.args.carrier.now c.args.self.now.number in
+    let after : Option Pipe = g.C.Carrier.pipes c.deliver_to_client.new.carrier c.args.self.now.number in
+    subst (λ (e : Event). IfOk c.deliver_to_client.result (λ (done : Done). ReadsOn size e done.outcome c.deliver_to_client.new.self c.deliver_to_client.new.seat.client.columns pipe after)) (sym c.in-ToClient.is)
+    (c.deliver_to_client.ensures.reads size _ reads)
+
+pub returns-in-Cut-clause-reads : goal.returns-in-Cut-clause-reads
+returns-in-Cut-clause-reads g c = λ size reads.
+    let conn : ℕ = c.args.self.now.number in
+    still_on size c.args.event.now c.done.result.outcome c.args.self.now c.cut.new.self c.args.seat.now.client.columns c.args.seat.now.client.columns (g.C.Carrier.pipes c.args.carrier.now conn) (g.C.Carrier.pipes c.cut.new.carrier conn)
+    (λ d. elim c.in-Cut.is [
+      | inl h ↦ ap (λ (e : Event). delivers e d) h.1
+      | inr r ↦
+          elim r [
+            | inl e ↦ ap (λ (x : Event). delivers x d) e
+            | inr e ↦ ap (λ (x : Event). delivers x d) e
+          ]
+    ])
+    reads c.cut.ensures.still refl

@@ -5,6 +5,10 @@ use Rattle.tds_play.specs.Pipe.{Pipe, Brings, Changes, carried_on, stuck_on, tra
 use Rattle.tds_play.specs.declared.carrier.CarrierError.TheVariants.{Memory}
 use Rattle.tds_play.specs.Ties.{counted, with_counted}
 use Rattle.tds_play.proofs.Carrying.{count_is, count_twice, number_same, cut_same, tied_after, brought_more, long_tail, no_error}
+use Rattle.std.proofs.Common.{refl}
+use Rattle.std.proofs.lemmas.List.{take-append-drop}
+use Rattle.tds_play.specs.Reads.{BringsAny, brought_to}
+use Rattle.tds_play.proofs.Stays.{brings_more, brings_nothing, brings_still, brought_at_first, counted_at_first, open_came, stuck_came}
 use Rattle.tds_play.proofs.link.Link.carry.Goals as goal
 
 pub pieces-preserved : goal.pieces-preserved
@@ -40,6 +44,10 @@ pieces-preserved g c =
       tells = λ told. brings.tells (λ e. no_error piece Memory c.carry.result c.in-Ok.is (c.in-Ok.is ∙ e)) (i.tells told);
       brought = λ told. subst (λ (n : ℕ). Brings (g.C.Carrier.pipes c.args.carrier.now conn) d n c.args.out.now.items after (new conn) false) (sym left)
           (brought_more c.args.self.now _ (old conn) (new conn) d (c.args.count - c.pieces.left) piece c.args.out.now.items before after (c.requires.tied.holds c.requires.live) (omega (arith, c.requires.underway)) (i.brought told) (bytes (i.tells told)) ok.here);
+      any = subst (λ (n : ℕ). BringsAny d n c.args.out.now.items after (g.C.Carrier.pipes c.args.carrier.now conn) (new conn)) (sym left)
+          (brings_more d (c.args.count - c.pieces.left) piece c.args.out.now.items before after (drop (length before) after) (g.C.Carrier.pipes c.args.carrier.now conn) (old conn) (new conn) i.any
+          (sym (take-append-drop (length before) after) ∙ ap (λ (xs : List ℕ). xs ++ drop (length before) after) brings.kept) (long_tail before after piece brings.count)
+          (λ e. ap (λ p. (traffic p e).came) ok.here ∙ open_came (old conn) d (drop (length before) after) e (i.tied.holds i.live).is_open));
       failed = λ call. ap (λ p. failures p call) ok.here ∙ carried_no_more (old conn) d (drop (length before) after) call ∙ i.failed call;
     }
 
@@ -57,3 +65,39 @@ returns-in-Err-Lost-clause-failed g c = λ fine.
     let new : ℕ → Option Pipe = g.C.Carrier.pipes c.carry.new.self in
     let lost : Changes old new conn (stuck_on (old conn) d) = subst (λ (k : ℕ). Changes old new k (stuck_on (old k) d)) i.number (c.carry.ensures.lost (c.in-Err-Lost.is ∙ ap Err c.in-Err-Lost.field-0-is)) in
     subst (HasFailed (Carry d ∷ [])) (sym lost.here) (stuck_fails (old conn) d (i.tied.holds i.live).is_open (λ call. i.failed call ∙ fine call))
+
+pub pieces-init : goal.pieces-init
+pieces-init g c = record {
+  number = refl;
+  live = c.requires.live;
+  tied = c.requires.tied;
+  others = λ other differs. refl;
+  within = omega arith;
+  underway = c.requires.underway;
+  counted = counted_at_first c.args.self.now c.args.direction c.args.count;
+  tells = λ told. told;
+  brought = λ told. brought_at_first (g.C.Carrier.pipes c.args.carrier.now c.args.self.now.number) c.args.direction c.args.count c.args.out.now.items;
+  any =
+      let none : 0 ≡ c.args.count - c.args.count = omega arith in
+      let pipe : Option Pipe = g.C.Carrier.pipes c.args.carrier.now c.args.self.now.number in
+      subst (λ (n : ℕ). BringsAny c.args.direction n c.args.out.now.items c.args.out.now.items pipe pipe) none (brings_nothing c.args.direction c.args.out.now.items pipe pipe (λ d. refl));
+  failed = λ call. refl;
+}
+
+pub returns-clause-any : goal.returns-clause-any
+returns-clause-any g c =
+    let conn : ℕ = c.args.self.now.number in
+    let all : c.args.count - c.pieces.left ≡ c.args.count = omega (arith, c.pieces-test.false) in
+    subst (λ (n : ℕ). BringsAny c.args.direction n c.args.out.now.items c.pieces.out.items (g.C.Carrier.pipes c.args.carrier.now conn) (g.C.Carrier.pipes c.pieces.carrier conn)) all c.pieces.invariant.any
+
+pub returns-in-Err-Lost-clause-any : goal.returns-in-Err-Lost-clause-any
+returns-in-Err-Lost-clause-any g c =
+    let i = c.pieces.invariant in
+    let d = c.args.direction in
+    let conn : ℕ = c.args.self.now.number in
+    let old : ℕ → Option Pipe = g.C.Carrier.pipes c.pieces.carrier in
+    let new : ℕ → Option Pipe = g.C.Carrier.pipes c.carry.new.self in
+    let failed = c.in-Err-Lost.is ∙ ap Err c.in-Err-Lost.field-0-is in
+    let lost : Changes old new conn (stuck_on (old conn) d) = subst (λ (k : ℕ). Changes old new k (stuck_on (old k) d)) i.number (c.carry.ensures.lost failed) in
+    brings_still d (c.args.count - c.pieces.left) c.args.out.now.items c.pieces.out.items c.carry.new.out.items (g.C.Carrier.pipes c.args.carrier.now conn) (old conn) (new conn) i.any (c.carry.ensures.nothing failed)
+    (λ e. ap (λ p. (traffic p e).came) lost.here ∙ stuck_came (old conn) d e)

@@ -2,6 +2,7 @@ use Rattle.std.proofs.Common.{◌≡◌, ◌≤◌, ◌-◌, false}
 use Rattle.tds_play.specs.Failures.{FailsNoMore}
 use Rattle.tds_play.specs.Pipe.{AreSame, Brings}
 use Rattle.tds_play.specs.Ties.{IsTied, counted, with_counted}
+use Rattle.tds_play.specs.Reads.{BringsAny}
 use Rattle.tds_play.proofs.link.Link.carry.Given as goal
 
 abbrev pub invariant-pieces : goal.invariant-pieces
@@ -18,6 +19,7 @@ invariant-pieces g l =
       tells : g.C.Carrier.tells l.fn.carrier → g.C.Carrier.tells l.carrier;
       brought : g.C.Carrier.tells l.fn.carrier
           → Brings (pipes l.fn.carrier l.fn.self.number) l.direction (l.count - l.left) l.fn.out.items l.out.items (pipes l.carrier l.fn.self.number) false;
+      any : BringsAny l.direction (l.count - l.left) l.fn.out.items l.out.items (pipes l.fn.carrier l.fn.self.number) (pipes l.carrier l.fn.self.number);
       failed : FailsNoMore (pipes l.fn.carrier l.fn.self.number) (pipes l.carrier l.fn.self.number);
     }
 

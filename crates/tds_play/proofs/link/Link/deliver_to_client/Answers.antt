@@ -9,6 +9,14 @@ use Rattle.tds_play.proofs.Listening.{listened_by, listened_on}
 use Rattle.tds_play.proofs.Losing.{delivered_down}
 use Rattle.tds_play.specs.Failures.{Carry}
 use Rattle.tds_play.proofs.Failing.{brought_as}
+use Rattle.std.proofs.Common.{subst, refl, Some, None}
+use Rattle.tds_ends.specs.AllBytes.{ClientHasRead, new_reader}
+use Rattle.tds_play.specs.declared.link.Done.{Done}
+use Rattle.tds_play.specs.declared.feeding.Fault.{Fault}
+use Rattle.tds_play.specs.Reads.{ClientIsFed, given_by}
+use Rattle.tds_play.proofs.Brought.{faulty_heard, heard_reads}
+use Rattle.tds_play.specs.declared.seat.Seat.{Seat}
+use Rattle.tds_play.proofs.Stays.{stays_numbered}
 use Rattle.tds_play.proofs.link.Link.deliver_to_client.Goals as goal
 
 -- The client takes all that came, so it finds no fault.
@@ -66,3 +74,40 @@ returns-clause-failed g c = λ fine.
     brought_as c.args.self.now.number c.hear.new.self.number (Carry ToClient ∷ []) c.end.result c.in_ok-carried.carried.lost c.end.new.self
     (g.C.Carrier.pipes c.carry.new.carrier) (g.C.Carrier.pipes c.end.new.carrier)
     (c.in_ok-heard.ensures.number ∙ c.in_ok-carried.ensures.number) (c.end.ensures.failed (Carry ToClient ∷ [])) (c.in_ok-carried.ensures.failed fine)
+
+pub returns-clause-reads : goal.returns-clause-reads
+returns-clause-reads g c = λ size n reads.
+    let conn : ℕ = c.args.self.now.number in
+    let live = c.requires.live in
+    let pipe : Option Pipe = g.C.Carrier.pipes c.args.carrier.now conn in
+    let mid : Option Pipe = g.C.Carrier.pipes c.carry.new.carrier conn in
+    let b = c.in_ok-carried.ensures.any in
+    let counted = c.in_ok-carried.ensures.counted in
+    let piece = c.as_slice.ensures.value ∙ b.appended ∙ ap (λ xs. xs ++ b.bytes) c.new-piece.ensures.items in
+    let before : ClientHasRead (new_reader ToClient size) c.carry.new.self.client_reader c.args.seat.now.client.columns (traffic pipe ToClient).came (given_by c.carry.new.self) = rw counted (reads.client live) in
+    let fed = subst (ClientIsFed size c.hear.new.self.client_reader c.hear.new.client.columns ((traffic pipe ToClient).came ++ c.as_slice.result.now) (given_by c.hear.new.self)) c.in_default.is
+    (c.in_ok-heard.ensures.any size (traffic pipe ToClient).came before) in
+    let number = c.in_ok-heard.ensures.number ∙ c.in_ok-carried.ensures.number in
+    let ended = stays_numbered c.hear.new.self.number conn c.hear.new.self c.end.new.self (g.C.Carrier.pipes c.carry.new.carrier) (g.C.Carrier.pipes c.end.new.carrier) number c.end.ensures.still in
+    heard_reads size n c.args.most c.in_ok-carried.carried.count c.args.self.now c.hear.new.self c.end.new.self c.args.seat.now.client.columns c.hear.new.client.columns c.drain.new.self.client.columns pipe mid (g.C.Carrier.pipes c.end.new.carrier conn) c.new-piece.result.items c.carry.new.out.items c.as_slice.result.now c.end.result.outcome
+    reads live b piece (c.in_ok-heard.ensures.server ∙ ap (λ l. l.server_reader) counted) fed
+    (c.given_are_told.ensures (new_reader ToClient size) c.hear.new.self.client_reader c.hear.new.client.columns _ (given_by c.hear.new.self) fed)
+    (c.no_fault_is_read.ensures (new_reader ToClient size) c.hear.new.self.client_reader _ fed.packets fed.read)
+    ended (ap (λ (s : Seat). s.client.columns) c.drain.ensures)
+    (ap (λ (d : Done). d.outcome) c.end.ensures.done)
+
+pub returns-in-Some-clause-reads : goal.returns-in-Some-clause-reads
+returns-in-Some-clause-reads g c = λ size n reads.
+    let conn : ℕ = c.args.self.now.number in
+    let live = c.requires.live in
+    let pipe : Option Pipe = g.C.Carrier.pipes c.args.carrier.now conn in
+    let mid : Option Pipe = g.C.Carrier.pipes c.carry.new.carrier conn in
+    let b = c.in_ok-carried.ensures.any in
+    let counted = c.in_ok-carried.ensures.counted in
+    let piece = c.as_slice.ensures.value ∙ b.appended ∙ ap (λ xs. xs ++ b.bytes) c.new-piece.ensures.items in
+    let before : ClientHasRead (new_reader ToClient size) c.carry.new.self.client_reader c.args.seat.now.client.columns (traffic pipe ToClient).came (given_by c.carry.new.self) = rw counted (reads.client live) in
+    let fed = subst (ClientIsFed size c.hear.new.self.client_reader c.hear.new.client.columns ((traffic pipe ToClient).came ++ c.as_slice.result.now) (given_by c.hear.new.self)) c.in-Some.is
+    (c.in_ok-heard.ensures.any size (traffic pipe ToClient).came before) in
+    let ended = stays_numbered c.hear.new.self.number conn c.hear.new.self c.end_by_fault.new.self (g.C.Carrier.pipes c.carry.new.carrier) (g.C.Carrier.pipes c.end_by_fault.new.carrier) (c.in_ok-heard.ensures.number ∙ c.in_ok-carried.ensures.number) c.end_by_fault.ensures.still in
+    faulty_heard size n c.args.most c.in_ok-carried.carried.count c.args.self.now c.hear.new.self c.end_by_fault.new.self c.args.seat.now.client.columns c.hear.new.client.columns pipe mid (g.C.Carrier.pipes c.end_by_fault.new.carrier conn) c.new-piece.result.items c.carry.new.out.items c.as_slice.result.now c.end_by_fault.result.outcome c.in-Some.fault
+    reads b piece fed.0 fed.1 ended (ap (λ l. l.is_cut) c.end_by_fault.ensures.value) (ap (λ (d : Done). d.outcome) c.end_by_fault.ensures.done)

@@ -1,4 +1,4 @@
-use Rattle.std.proofs.Common.{[], ◌∷◌, ◌||◌, Bool, ◌≡◌, ◌∙◌, ◌++◌, ℕ, Option, sym, ap, refl, subst, min, cond, arith}
+use Rattle.std.proofs.Common.{[], ◌∷◌, ◌||◌, Bool, ◌≡◌, ◌∙◌, ◌++◌, ℕ, Option, sym, ap, refl, subst, min, cond, arith, Some, None}
 use Rattle.tds_packet.specs.declared.kind.Direction.TheVariants.{ToServer, ToClient}
 use Rattle.tds_packet.specs.Reading.{with_taken}
 use Rattle.tds_session.specs.Answer.{Answers, answer_of}
@@ -15,6 +15,12 @@ use Rattle.tds_play.proofs.Played.{Ends, served_on, stays_by}
 use Rattle.tds_play.proofs.ServerEvent.{come_served, delivered_alike, none_told, both_false, delivered_by}
 use Rattle.tds_play.specs.Failures.{Carry, Fails, Send}
 use Rattle.tds_play.proofs.Failing.{brought_as, fails_numbered, fails_of_more}
+use Rattle.tds_ends.specs.AllBytes.{ServerHasRead, new_reader}
+use Rattle.tds_play.specs.declared.feeding.Fault.{Fault}
+use Rattle.tds_play.specs.declared.link.Done.{Done}
+use Rattle.tds_play.specs.Reads.{ServerIsFed, given_by}
+use Rattle.tds_play.proofs.Brought.{faulty_served, fed_so, served_reads}
+use Rattle.tds_play.proofs.Stays.{stays_numbered, stays_twice}
 use Rattle.tds_play.proofs.link.Link.deliver_to_server.Goals as goal
 
 -- The server takes all that came, so it finds no fault.
@@ -110,3 +116,47 @@ returns-in-None-clause-failed g c = λ fine.
     brought_as conn c.hand_over.new.self.number calls c.end.result c.either.result c.end.new.self pipes (g.C.Carrier.pipes c.end.new.carrier)
     (out.number ∙ here) (c.end.ensures.failed calls)
     (subst (λ b. Fails calls b (pipes conn)) (sym c.either.ensures) (fails_numbered c.carry.new.self.number conn calls both pipes here handed))
+
+pub returns-in-None-clause-reads : goal.returns-in-None-clause-reads
+returns-in-None-clause-reads g c = λ size n columns reads.
+    let conn : ℕ = c.args.self.now.number in
+    let live = c.requires.live in
+    let pipe : Option Pipe = g.C.Carrier.pipes c.args.carrier.now conn in
+    let mid : Option Pipe = g.C.Carrier.pipes c.carry.new.carrier conn in
+    let b = c.in_ok-carried.ensures.any in
+    let counted = c.in_ok-carried.ensures.counted in
+    let number = c.in_ok-carried.ensures.number in
+    let reader = ap (λ l. l.server_reader) counted in
+    let turned = record c.carry.new.self { server = c.feed_server.new.server; server_reader = c.feed_server.new.reader } in
+    let piece = c.as_slice-piece.ensures.value ∙ b.appended ∙ ap (λ xs. xs ++ b.bytes) c.new-piece.ensures.items in
+    let before : ServerHasRead (new_reader ToServer size) c.carry.new.self.server_reader (traffic pipe ToServer).came = rw reader (reads.server live) in
+    let fed = fed_so c.feed_server.result c.in_ok-feed_server.field-0 None (ServerIsFed size c.feed_server.new.reader ((traffic pipe ToServer).came ++ c.as_slice-piece.result.now))
+    c.in_ok-feed_server.was c.in-None.is
+    (c.feed_server.ensures.any size (traffic pipe ToServer).came before) in
+    let handed = stays_numbered c.carry.new.self.number conn turned c.hand_over.new.self (g.C.Carrier.pipes c.carry.new.carrier) (g.C.Carrier.pipes c.hand_over.new.carrier) number c.in_ok-lost-in-None.ensures.still in
+    let ended = stays_numbered c.hand_over.new.self.number conn c.hand_over.new.self c.end.new.self (g.C.Carrier.pipes c.hand_over.new.carrier) (g.C.Carrier.pipes c.end.new.carrier) (c.in_ok-lost-in-None.ensures.number ∙ number) c.end.ensures.still in
+    served_reads size n c.args.most c.in_ok-carried.carried.count c.args.self.now turned c.end.new.self columns pipe mid (g.C.Carrier.pipes c.end.new.carrier conn) c.new-piece.result.items c.carry.new.out.items c.as_slice-piece.result.now c.end.result.outcome
+    reads live b piece (ap (λ l. l.client_reader) counted) (ap given_by counted)
+    fed (c.no_fault_is_read.ensures (new_reader ToServer size) c.feed_server.new.reader _ fed.0 fed.1)
+    (stays_twice turned c.hand_over.new.self c.end.new.self mid (g.C.Carrier.pipes c.hand_over.new.carrier conn) (g.C.Carrier.pipes c.end.new.carrier conn) handed ended)
+    (ap (λ (d : Done). d.outcome) c.end.ensures.done)
+
+pub returns-clause-reads : goal.returns-clause-reads
+returns-clause-reads g c = λ size n columns reads.
+    let conn : ℕ = c.args.self.now.number in
+    let live = c.requires.live in
+    let pipe : Option Pipe = g.C.Carrier.pipes c.args.carrier.now conn in
+    let mid : Option Pipe = g.C.Carrier.pipes c.carry.new.carrier conn in
+    let b = c.in_ok-carried.ensures.any in
+    let counted = c.in_ok-carried.ensures.counted in
+    let number = c.in_ok-carried.ensures.number in
+    let reader = ap (λ l. l.server_reader) counted in
+    let turned = record c.carry.new.self { server = c.feed_server.new.server; server_reader = c.feed_server.new.reader } in
+    let piece = c.as_slice-piece.ensures.value ∙ b.appended ∙ ap (λ xs. xs ++ b.bytes) c.new-piece.ensures.items in
+    let before : ServerHasRead (new_reader ToServer size) c.carry.new.self.server_reader (traffic pipe ToServer).came = rw reader (reads.server live) in
+    let fed = fed_so c.feed_server.result c.in_ok-feed_server.field-0 (Some c.in-Some.fault) (ServerIsFed size c.feed_server.new.reader ((traffic pipe ToServer).came ++ c.as_slice-piece.result.now))
+    c.in_ok-feed_server.was c.in-Some.is
+    (c.feed_server.ensures.any size (traffic pipe ToServer).came before) in
+    let ended = stays_numbered c.carry.new.self.number conn turned c.end_by_fault.new.self (g.C.Carrier.pipes c.carry.new.carrier) (g.C.Carrier.pipes c.end_by_fault.new.carrier) number c.end_by_fault.ensures.still in
+    faulty_served size n c.args.most c.in_ok-carried.carried.count c.args.self.now turned c.end_by_fault.new.self columns pipe mid (g.C.Carrier.pipes c.end_by_fault.new.carrier conn) c.new-piece.result.items c.carry.new.out.items c.as_slice-piece.result.now c.end_by_fault.result.outcome c.in-Some.fault
+    reads b piece (ap given_by counted) fed ended (ap (λ l. l.is_cut) c.end_by_fault.ensures.value) (ap (λ (d : Done). d.outcome) c.end_by_fault.ensures.done)

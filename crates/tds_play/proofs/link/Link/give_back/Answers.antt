@@ -16,6 +16,7 @@ use Rattle.tds_play.proofs.Outward.{given_up}
 use Rattle.tds_play.specs.Failures.{Send}
 use Rattle.tds_packet.specs.declared.kind.Direction.TheVariants.{ToServer}
 use Rattle.tds_play.proofs.Failing.{sent_as}
+use Rattle.tds_play.proofs.Stays.{stays_numbered, stays_twice}
 use Rattle.tds_play.proofs.link.Link.give_back.Goals as goal
 
 pub returns-clause-alike : goal.returns-clause-alike
@@ -50,3 +51,18 @@ returns-clause-failed g c =
     sent_as c.args.self.now.number c.cancel_request.new.self.number c.hand_over.new.self.number (Send ToServer ∷ []) c.end.result c.in_ok-lost.lost c.end.new.self
     (g.C.Carrier.pipes c.args.carrier.now) (g.C.Carrier.pipes c.hand_over.new.carrier) (g.C.Carrier.pipes c.end.new.carrier)
     put.number out.number (out.failed [] false) (c.end.ensures.failed (Send ToServer ∷ []))
+
+pub returns-clause-still : goal.returns-clause-still
+returns-clause-still g c =
+    let conn : ℕ = c.args.self.now.number in
+    let pipe : Option Pipe = g.C.Carrier.pipes c.args.carrier.now conn in
+    let put = c.in_ok-cancel_request.ensures in
+    let out = c.in_ok-lost.ensures in
+    let number = put.number in
+    let handed = stays_numbered c.cancel_request.new.self.number conn c.cancel_request.new.self c.hand_over.new.self (g.C.Carrier.pipes c.args.carrier.now) (g.C.Carrier.pipes c.hand_over.new.carrier) number out.still in
+    let ended = stays_numbered c.hand_over.new.self.number conn c.hand_over.new.self c.end.new.self (g.C.Carrier.pipes c.hand_over.new.carrier) (g.C.Carrier.pipes c.end.new.carrier) (out.number ∙ number) c.end.ensures.still in
+    stays_twice c.args.self.now c.cancel_request.new.self c.end.new.self pipe pipe (g.C.Carrier.pipes c.end.new.carrier conn) (put.still pipe)
+    (stays_twice c.cancel_request.new.self c.hand_over.new.self c.end.new.self pipe (g.C.Carrier.pipes c.hand_over.new.carrier conn) (g.C.Carrier.pipes c.end.new.carrier conn) handed ended)
+
+pub returns-clause-columns : goal.returns-clause-columns
+returns-clause-columns g c = c.come_back-returned.ensures.columns ∙ c.in_ok-cancel_request.ensures.columns

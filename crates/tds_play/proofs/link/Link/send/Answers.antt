@@ -13,6 +13,7 @@ use Rattle.tds_play.proofs.Sent.{packet_played, packet_refused, none_sent, some_
 use Rattle.tds_play.specs.Failures.{Send}
 use Rattle.tds_packet.specs.declared.kind.Direction.TheVariants.{ToServer}
 use Rattle.tds_play.proofs.Failing.{sent_as, whole_as}
+use Rattle.tds_play.proofs.Stays.{stays_numbered, stays_twice}
 use Rattle.tds_play.proofs.link.Link.send.Goals as goal
 
 pub returns-clause-alike : goal.returns-clause-alike
@@ -55,3 +56,11 @@ returns-clause-failed g c =
 
 pub returns-in_default-clause-failed : goal.returns-in_default-clause-failed
 returns-in_default-clause-failed g c = whole_as (Send ToServer ∷ []) c.refused.result c.args.self.now (g.C.Carrier.pipes c.args.carrier.now c.args.self.now.number) (ap (λ d. d.lost) c.refused.ensures)
+
+pub returns-clause-still : goal.returns-clause-still
+returns-clause-still g c =
+    let conn : ℕ = c.args.self.now.number in
+    let pipe : Option Pipe = g.C.Carrier.pipes c.args.carrier.now conn in
+    let out = c.in_ok-lost.ensures in
+    let ended = stays_numbered c.hand_over.new.self.number conn c.hand_over.new.self c.end.new.self (g.C.Carrier.pipes c.hand_over.new.carrier) (g.C.Carrier.pipes c.end.new.carrier) out.number c.end.ensures.still in
+    stays_twice c.args.self.now c.hand_over.new.self c.end.new.self pipe (g.C.Carrier.pipes c.hand_over.new.carrier conn) (g.C.Carrier.pipes c.end.new.carrier conn) out.still ended

@@ -8,6 +8,7 @@ use Rattle.tds_play.proofs.Worked.{worked_played}
 use Rattle.tds_play.specs.Failures.{Send}
 use Rattle.tds_packet.specs.declared.kind.Direction.TheVariants.{ToClient}
 use Rattle.tds_play.proofs.Failing.{sent_as}
+use Rattle.tds_play.proofs.Stays.{stays_numbered, stays_twice}
 use Rattle.tds_play.proofs.link.Link.work.Goals as goal
 
 pub returns-clause-alike : goal.returns-clause-alike
@@ -35,3 +36,16 @@ returns-clause-failed g c =
     sent_as c.args.self.now.number c.put_step.new.self.number c.hand_over.new.self.number (Send ToClient ∷ []) c.end.result c.in_ok-lost.lost c.end.new.self
     (g.C.Carrier.pipes c.args.carrier.now) (g.C.Carrier.pipes c.hand_over.new.carrier) (g.C.Carrier.pipes c.end.new.carrier)
     c.in_ok-outcome.ensures.number out.number (out.failed [] false) (c.end.ensures.failed (Send ToClient ∷ []))
+
+pub returns-clause-still : goal.returns-clause-still
+returns-clause-still g c =
+    let conn : ℕ = c.args.self.now.number in
+    let pipe : Option Pipe = g.C.Carrier.pipes c.args.carrier.now conn in
+    let put = c.in_ok-outcome.ensures in
+    let out = c.in_ok-lost.ensures in
+    let first = put.still pipe in
+    let number = put.number in
+    let handed = stays_numbered c.put_step.new.self.number conn c.put_step.new.self c.hand_over.new.self (g.C.Carrier.pipes c.args.carrier.now) (g.C.Carrier.pipes c.hand_over.new.carrier) number out.still in
+    let ended = stays_numbered c.hand_over.new.self.number conn c.hand_over.new.self c.end.new.self (g.C.Carrier.pipes c.hand_over.new.carrier) (g.C.Carrier.pipes c.end.new.carrier) (out.number ∙ number) c.end.ensures.still in
+    stays_twice c.args.self.now c.put_step.new.self c.end.new.self pipe pipe (g.C.Carrier.pipes c.end.new.carrier conn) first
+    (stays_twice c.put_step.new.self c.hand_over.new.self c.end.new.self pipe (g.C.Carrier.pipes c.hand_over.new.carrier conn) (g.C.Carrier.pipes c.end.new.carrier conn) handed ended)

@@ -13,6 +13,8 @@ use Rattle.tds_play.proofs.Listed.{changed}
 use Rattle.tds_play.proofs.PlayerActs.{ActsAlike, acts_alike, all_at, lost_there, noted_alike, refused_alike}
 use Rattle.tds_play.specs.Failures.{LiveAreSound, calls_of}
 use Rattle.tds_play.proofs.Accounts.{acted_lost, acted_sound}
+use Rattle.tds_play.specs.Reads.{AllRead, answers_then}
+use Rattle.tds_play.proofs.Answered.{acted_reads}
 use Rattle.tds_play.proofs.player.Player.act_at.Goals.{in-Refused, in_default}
 use Rattle.tds_play.proofs.player.Player.act_at.Goals as goal
 
@@ -125,3 +127,19 @@ returns-else-not-matches-clause-lost g c = λ setup engine w c' sound is found.
     (lost_there setup engine (answer_of (g.E.Engine.statements_of engine) (g.E.Engine.step_of engine)) w c.args.event.now c.args.place c' c.args.self.now (pipes c.args.carrier.now) c.index_mut.result.now c.in_ok-done.done.lost
     is c.index_mut.ensures.value found said.loses)
     (length-set c.args.self.now.links.items c.args.place (record c.index_mut.result.now { link = c.act.new.self; seat = c.act.new.seat })) sound
+
+pub returns-in_ok-note-clause-reads : goal.returns-in_ok-note-clause-reads
+returns-in_ok-note-clause-reads g c = λ size answers about all.
+    let said = c.in_ok-done.ensures in
+    let pipes = g.C.Carrier.pipes in
+    let links : c.note.new.self.links.items ≡ set c.args.self.now.links.items c.args.place (record c.index_mut.result.now { link = c.act.new.self; seat = c.act.new.seat }) = ap (λ (p : Player g.row.E.Denot g.row.E-Stmt.Denot). p.links.items) c.in_ok-note.ensures.rest ∙ refl in
+    subst (λ (ls : List (Seated g.row.E.Denot g.row.E-Stmt.Denot)). AllRead size ls (pipes c.act.new.carrier) (answers_then c.args.event.now c.in_ok-done.done.outcome answers)) (sym links)
+    (acted_reads size c.args.self.now.links.items c.args.place c.index_mut.result.now (record c.index_mut.result.now { link = c.act.new.self; seat = c.act.new.seat }) (pipes c.args.carrier.now) (pipes c.act.new.carrier) answers c.args.event.now c.in_ok-done.done.outcome
+    c.requires.tied c.requires.there c.index_mut.ensures.value said.ties.others (said.reads size) about all)
+
+pub returns-else-not-matches-clause-reads : goal.returns-else-not-matches-clause-reads
+returns-else-not-matches-clause-reads g c = λ size answers about all.
+    let said = c.in_ok-done.ensures in
+    let pipes = g.C.Carrier.pipes in
+    acted_reads size c.args.self.now.links.items c.args.place c.index_mut.result.now (record c.index_mut.result.now { link = c.act.new.self; seat = c.act.new.seat }) (pipes c.args.carrier.now) (pipes c.act.new.carrier) answers c.args.event.now c.in_ok-done.done.outcome
+    c.requires.tied c.requires.there c.index_mut.ensures.value said.ties.others (said.reads size) about all

@@ -9,6 +9,7 @@ links-preserved g c = record {
   count = c.cut_at.ensures.count ∙ c.links.invariant.count;
   rest = c.cut_at.ensures.rest ∙ ap (λ (player : Player g.row.E.Denot g.row.E-Stmt.Denot). record player { links = c.cut_at.new.self.links }) c.links.invariant.rest;
   sound = λ sound. c.cut_at.ensures.sound (c.links.invariant.sound sound);
+  reads = λ size answers all. c.cut_at.ensures.reads size answers (c.links.invariant.reads size answers all);
   failed = λ n call. c.cut_at.ensures.failed n call ∙ c.links.invariant.failed n call;
   tells = λ tells. c.cut_at.ensures.tells (c.links.invariant.tells tells);
   alike = λ size engine cs all. cuts_next size engine c.links.self.links.items c.cut_at.new.self.links.items (g.C.Carrier.pipes c.links.carrier) (g.C.Carrier.pipes c.cut_at.new.carrier) cs c.links.place (c.links.place + 1) (omega (arith, c.links-test.true, c.len-place-end.ensures, c.args.self.now.links.ok.0, c.links.invariant.count)) (omega (arith))

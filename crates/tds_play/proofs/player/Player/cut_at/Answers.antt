@@ -2,6 +2,8 @@ use Rattle.std.proofs.Common.{suc, ap, refl}
 use Rattle.tds_world.specs.Connection.{cut}
 use Rattle.tds_play.proofs.AllCut.{put_changed, stays_cut}
 use Rattle.tds_play.proofs.Accounts.{all_no_more, sound_set}
+use Rattle.tds_play.proofs.Answered.{cut_reads, still_at}
+use Rattle.tds_play.proofs.Stays.{stays}
 use Rattle.tds_play.proofs.player.Player.cut_at.Goals as goal
 
 pub returns-then-link-clause-alike : goal.returns-then-link-clause-alike
@@ -36,3 +38,16 @@ returns-then-link-clause-failed g c = λ n call. refl
 pub returns-clause-failed : goal.returns-clause-failed
 returns-clause-failed g c =
     all_no_more c.index_mut.result.now.link.number (g.C.Carrier.pipes c.args.carrier.now) (g.C.Carrier.pipes c.cut.new.carrier) c.cut.ensures.ties.others c.cut.ensures.failed
+
+pub returns-then-link-clause-reads : goal.returns-then-link-clause-reads
+returns-then-link-clause-reads g c = λ size answers all.
+    let pipes = g.C.Carrier.pipes in
+    let link = c.index_mut.result.now in
+    still_at size c.args.self.now.links.items c.args.place link link (pipes c.args.carrier.now) (pipes c.args.carrier.now) answers all c.requires.there c.index_mut.ensures.value (λ n other. refl)
+    (stays link.link (pipes c.args.carrier.now (suc c.args.place))) refl
+
+pub returns-clause-reads : goal.returns-clause-reads
+returns-clause-reads g c = λ size answers all.
+    let pipes = g.C.Carrier.pipes in
+    cut_reads size c.args.self.now.links.items c.args.place c.index_mut.result.now (record c.index_mut.result.now { link = c.cut.new.self }) (pipes c.args.carrier.now) (pipes c.cut.new.carrier) answers
+    c.requires.tied c.requires.there c.index_mut.ensures.value c.cut.ensures.ties.others c.cut.ensures.still refl all

@@ -12,6 +12,12 @@ use Rattle.tds_play.specs.Seen.{done_as}
 use Rattle.tds_play.specs.Failures.{FailsOn, all_known}
 use Rattle.tds_world.specs.Losses.{link_of}
 use Rattle.tds_play.proofs.Accounts.{none_lost}
+use Rattle.tds_packet.specs.declared.kind.Direction.{Direction}
+use Rattle.tds_play.specs.AnyBytes.{is_delivery}
+use Rattle.tds_play.specs.Reads.{AllRead, answers_then}
+use Rattle.tds_play.proofs.Answered.{none_delivered, refuses_all}
+use Rattle.tds_play.proofs.Listening.{if_ok}
+use Rattle.tds_play.proofs.Places.{about_there, opens_none}
 use Rattle.tds_play.proofs.player.Player.happen.Goals as goal
 
 pub returns-in-RestartServer-clause-tells : goal.returns-in-RestartServer-clause-tells
@@ -86,3 +92,29 @@ returns-in-Opens-clause-lost g c = λ setup engine w sound is promised.
     (about_one c.args.event.now c.in_default.not-RestartServer c.in_default.not-RestartClient) c.in-Opens.ensures.value in
     subst (λ (e : Event). IfOk c.open.result (λ (done : Done). FailsOn e done.lost (link_of setup w e) (all_known (length c.args.self.now.links.items) (g.C.Carrier.pipes c.args.carrier.now)) (all_known (length c.open.new.self.links.items) (g.C.Carrier.pipes c.open.new.carrier)))) (sym found.0)
     (c.open.ensures.lost setup engine w is promised.small found.1)
+
+pub returns-in-RestartServer-clause-reads : goal.returns-in-RestartServer-clause-reads
+returns-in-RestartServer-clause-reads g c = λ answers all.
+    none_delivered c.args.self.now.size c.cut_all.new.self.links.items (g.C.Carrier.pipes c.cut_all.new.carrier) answers c.args.event.now outcome.RestartedServer
+    (λ n d. ap (λ (e : Event). is_delivery e n d) c.in-RestartServer.is) (c.cut_all.ensures.reads c.args.self.now.size answers all)
+
+pub returns-in-RestartClient-clause-reads : goal.returns-in-RestartClient-clause-reads
+returns-in-RestartClient-clause-reads g c = λ answers all.
+    none_delivered c.args.self.now.size c.cut_all-in-RestartClient.new.self.links.items (g.C.Carrier.pipes c.cut_all-in-RestartClient.new.carrier) answers c.args.event.now outcome.RestartedClient
+    (λ n d. ap (λ (e : Event). is_delivery e n d) c.in-RestartClient.is) (c.cut_all-in-RestartClient.ensures.reads c.args.self.now.size answers all)
+
+pub returns-in-Missing-clause-reads : goal.returns-in-Missing-clause-reads
+returns-in-Missing-clause-reads g c = λ answers all.
+    refuses_all c.args.self.now.size c.args.self.now.links.items (g.C.Carrier.pipes c.args.carrier.now) answers c.args.event.now c.refused.result.outcome c.in-Missing.refusal
+    (ap (λ (d : Done). d.outcome) c.refused.ensures) all
+
+pub returns-in-Here-clause-reads : goal.returns-in-Here-clause-reads
+returns-in-Here-clause-reads g c = λ answers all.
+    c.act_at.ensures.reads c.args.self.now.size answers (about_there c.args.event.now _ _ _ _ c.in-Here.place c.in-Here.ensures.value) all
+
+pub returns-in-Opens-clause-reads : goal.returns-in-Opens-clause-reads
+returns-in-Opens-clause-reads g c = λ answers all.
+    let pipes = g.C.Carrier.pipes in
+    if_ok c.open.result _ (λ (done : Done). AllRead c.args.self.now.size c.open.new.self.links.items (pipes c.open.new.carrier) (answers_then c.args.event.now done.outcome answers))
+    (λ done all. none_delivered c.args.self.now.size c.open.new.self.links.items (pipes c.open.new.carrier) answers c.args.event.now done.outcome (opens_none c.args.event.now _ _ _ _ c.in-Opens.ensures.value) all)
+    (c.open.ensures.reads answers all)

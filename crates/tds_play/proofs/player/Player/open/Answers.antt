@@ -11,6 +11,11 @@ use Rattle.tds_play.specs.Failures.{Fails, HasNoFailure, LiveAreSound, Open}
 use Rattle.tds_play.specs.declared.seat.Seated.{Seated}
 use Rattle.tds_play.proofs.Accounts.{opens_lost, sound_push}
 use Rattle.tds_world.specs.Losses.{number_of}
+use Rattle.tds_packet.specs.declared.kind.Direction.{Direction}
+use Rattle.tds_play.specs.Pipe.{traffic}
+use Rattle.std.proofs.Common.{None}
+use Rattle.tds_play.specs.Reads.{AllRead, IsReading}
+use Rattle.tds_play.proofs.Answered.{read_opened}
 use Rattle.tds_play.proofs.player.Player.open.Goals as goal
 
 pub returns-clause-tied : goal.returns-clause-tied
@@ -66,3 +71,17 @@ returns-clause-lost g c = λ setup engine w is small lends.
     (subst (λ (n : ℕ). AreSame (pipes c.args.carrier.now) (pipes c.open.new.carrier) n) conn said.ties.others)
     (ap number_of lends ∙ ap (λ (n : ℕ). Some (suc n)) (sym many))
     (subst (λ (n : ℕ). Fails (Open ∷ []) c.in_ok-link.lost (pipes c.open.new.carrier n)) conn said.failed))
+
+pub returns-clause-reads : goal.returns-clause-reads
+returns-clause-reads g c = λ answers all.
+    let pipes = g.C.Carrier.pipes in
+    let links = c.args.self.now.links.items in
+    let count : c.len.result ≡ length links = omega (arith, c.len.ensures, c.args.self.now.links.ok.0) in
+    let conn : c.next_number-conn.result ≡ suc (length links) =
+    c.next_number-conn.ensures.few (omega (arith, count, c.requires.few)) ∙ ap suc count in
+    let said = c.in_ok-link.ensures in
+    subst (λ (ls : List (Seated g.row.E.Denot g.row.E-Stmt.Denot)). AllRead c.args.self.now.size ls (pipes c.open.new.carrier) answers) (sym c.in_ok-push.ensures.items)
+    (read_opened c.args.self.now.size links (record { link = c.in_ok-link.link; seat = c.new-seat.result }) (pipes c.args.carrier.now) (pipes c.open.new.carrier) answers all
+    (subst (λ (n : ℕ). AreSame (pipes c.args.carrier.now) (pipes c.open.new.carrier) n) conn said.ties.others)
+    (rw c.new-seat.ensures (subst (λ (n : ℕ). IsReading c.args.self.now.size c.in_ok-link.link None (pipes c.open.new.carrier n)) conn said.reads.0))
+    (subst (λ (n : ℕ). (d : Direction) → (traffic (pipes c.open.new.carrier n) d).came ≡ []) conn said.reads.1))
