@@ -2,7 +2,8 @@
 use Rattle.std.proofs.Common.{◌≡◌, ℕ, refl, ap, Option, Some, None}
 use Rattle.tds_client.specs.Session.{ClientSession, new_session, marked}
 use Rattle.tds_packet.specs.declared.status.Reset.{Reset}
-use Rattle.tds_server.specs.State.{new_server}
+use Rattle.tds_server.specs.State.{server_with}
+use Rattle.tds_session.specs.declared.attention.OnAttention.{OnAttention}
 use Rattle.tds_packet.specs.Resets.{strongest}
 use Rattle.tds_world.specs.declared.report.Place.{Place}
 use Rattle.tds_world.specs.Connection.{Connection, Standing, new_connection, phase}
@@ -10,11 +11,11 @@ use Rattle.tds_world.specs.Phase.{Phase, Settled, phase_in, phase_of}
 use Rattle.tds_world.specs.Record.{Record}
 use Rattle.tds_ends.specs.Stands.{MatchesClient, MatchesServer, BeginsBy, BeginsIn}
 
-pub new_client : (size : ℕ) (p : Place) → MatchesClient (new_session size) (new_connection p)
-new_client size p = record { stage = refl; descriptor = refl; mark = refl; done = refl; columns = tt; begins = tt }
+pub new_client : (size : ℕ) (o : OnAttention) (p : Place) → MatchesClient (new_session size) (new_connection o p)
+new_client size o p = record { stage = refl; descriptor = refl; mark = refl; done = refl; columns = tt; begins = tt }
 
-pub new_server_matches : {E : Type 0} (engine : E) (p : Place) → MatchesServer (new_server engine) (new_connection p)
-new_server_matches engine p = record { session = refl; phase = (refl, refl) }
+pub new_server_matches : {E : Type 0} (engine : E) (o : OnAttention) (p : Place) → MatchesServer (server_with o engine) (new_connection o p)
+new_server_matches engine o p = record { told = refl; session = refl; phase = (refl, refl) }
 
 begins_settled : (p : Phase) (q : Record) (mark : Option Reset) → p ≡ Settled → BeginsBy p q mark
 begins_settled p q mark e = rw e tt

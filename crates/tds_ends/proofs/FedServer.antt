@@ -41,7 +41,7 @@ quietly s (Err other) fault e = refl
 
 pub refused_quietly : {E : Type 0} (answers : Answers) (s : ServerState E) (header : Header) (content before after : List ℕ) (fault : ServerFault) → Err fault ≡ (taken answers s header content).answer → after ≡ before ++ (taken answers s header content).reply → after ≡ before
 refused_quietly answers s header content before after fault e is =
-    is ∙ ap (λ (xs : List ℕ). before ++ xs) (quietly s (moved answers s.session s.phase header content) fault e) ∙ append-nil before
+    is ∙ ap (λ (xs : List ℕ). before ++ xs) (quietly s (moved answers s.on_attention s.session s.phase header content) fault e) ∙ append-nil before
 
 pub same_took : (a b : ServerTook) (r : Result ServerTook ServerFault) → r ≡ Ok a → r ≡ Ok b → a ≡ b
 same_took a b r e f = cc

@@ -2,13 +2,14 @@
 use Rattle.std.proofs.Common.{◌≡◌, ◌∙◌, ℕ, Bool, true, false, refl, sym, ap, Option, Some, None, List, [], ◌∷◌, ◌++◌, append-nil, eqb, length, ◌<◌, arith}
 use Rattle.std.proofs.lemmas.List.Elements.{All-tail}
 use Rattle.std.specs.List.{All, AllByRecursion}
-use Rattle.std.specs.Prelude.{Ok, bit_and}
+use Rattle.std.specs.Prelude.{Ok, bit_and, map}
 use Rattle.tds_client.specs.declared.heard.Heard.{Heard}
 use Rattle.tds_client.specs.declared.heard.FinalDone.{FinalDone}
-use Rattle.tds_client.specs.declared.heard.FinalDone.TheVariants.{Awaited, Answered}
-use Rattle.tds_client.specs.Hearing.{◌>>=◌, at_end_of_data, hear, hear_all, hear_change, changed, hear_done, hear_packet, at_end_of_message}
+use Rattle.tds_client.specs.declared.heard.FinalDone.TheVariants.{Awaited, Answered, Acknowledged}
+use Rattle.tds_client.specs.Hearing.{◌>>=◌, at_end_of_data, hear, hear_all, hear_change, changed, hear_done, hear_packet, at_end_of_message, with_done}
 use Rattle.tds_packet.specs.declared.status.Reset.{Reset}
 use Rattle.tds_packet.specs.declared.status.Reset.TheVariants.{Full, KeepTransaction}
+use Rattle.tds_session.specs.Attention.{acknowledging}
 use Rattle.tds_session.specs.Lawful.{IsStatementDone}
 use Rattle.tds_token.specs.declared.env_change.EnvChange.{EnvChange}
 use Rattle.tds_token.specs.declared.env_change.EnvChange.TheVariants.{Begin, Commit, Rollback, ResetDone}
@@ -115,3 +116,19 @@ packet_heard cancelling true heard d mark contents none e =
 packet_heard cancelling false heard d mark contents none e =
     ap (λ r. (r >>= λ next. at_end_of_data contents.fault next) >>= λ next. at_end_of_message false next.done next) e
     ∙ ap (λ f. at_end_of_data f (behind d mark false) >>= λ next. at_end_of_message false next.done next) none
+
+-- ---- An acknowledgement: changes, and a DONE
+
+told_changes : (changes : List EnvChange) → changes_of (map tokens.Env changes) ≡ changes
+told_changes [] = refl
+told_changes (e ∷ es) = ap (λ (xs : List EnvChange). e ∷ xs) (told_changes es)
+
+no_dones : (changes : List EnvChange) → AllByRecursion IsStatementDone (map tokens.Env changes)
+no_dones [] = tt
+no_dones (e ∷ es) = (tt, no_dones es)
+
+pub acknowledgement_heard : (x d : ℕ) (mark : Option Reset) (changes : List EnvChange) (columns : Option ℕ) → applied no_reset x changes ≡ Some d → hear_packet true (at x mark) true (record { tokens = acknowledging changes; fault = None; columns = columns }) ≡ Ok (with_done (at d mark) Acknowledged)
+unfolding hear_packet hear hear_done
+acknowledgement_heard x d mark changes columns e =
+    ap (λ r. (r >>= λ next. at_end_of_data None next) >>= λ next. at_end_of_message true next.done next)
+    (front_heard true x d mark (map tokens.Env changes) (tokens.Done 0x20 0 0 ∷ []) (ap (λ (es : List EnvChange). applied no_reset x es) (told_changes changes) ∙ e) (no_dones changes))

@@ -5,7 +5,7 @@ use Rattle.std.specs.Prelude.{◌⊎◌, Ok}
 use Rattle.tds_client.specs.declared.heard.Heard.{Heard}
 use Rattle.tds_client.specs.declared.heard.FinalDone.{FinalDone}
 use Rattle.tds_client.specs.declared.heard.FinalDone.TheVariants.{Awaited, Acknowledged}
-use Rattle.tds_client.specs.Hearing.{◌>>=◌, hear, hear_all, hear_before, hear_done, hear_packet, at_end_of_message, with_done}
+use Rattle.tds_client.specs.Hearing.{◌>>=◌, hear_all, hear_packet, with_done}
 use Rattle.tds_client.specs.Session as client
 use Rattle.tds_client.specs.Session.{ClientSession}
 use Rattle.tds_client.specs.Taking.{read, skipped, taken_in, taken_reading, taken_cancelling, taken}
@@ -13,15 +13,17 @@ use Rattle.tds_packet.specs.declared.status.Reset.{Reset}
 use Rattle.tds_packet.specs.declared.status.Reset.TheVariants.{Full, KeepTransaction}
 use Rattle.tds_packet.specs.Layout.{bits_of, has_bit}
 use Rattle.tds_session.specs.Answer as answer
+use Rattle.tds_session.specs.Attention.{acknowledging}
+use Rattle.tds_token.specs.declared.env_change.EnvChange.{EnvChange}
 use Rattle.tds_token.specs.declared.env_change.EnvChange.TheVariants.{ResetDone}
 use Rattle.tds_token.specs.declared.token.Token.{Token}
 use Rattle.tds_token.specs.declared.token.Token.TheVariants as tokens
 use Rattle.tds_token.specs.Contents.{Contents, contents_of}
-use Rattle.tds_token.specs.Layout.{Fits, IsTokens, is_done_status, spelling}
+use Rattle.tds_token.specs.Layout.{IsTokens, spelling}
 use Rattle.tds_token.specs.Texts.{AreColumns}
 use Rattle.tds_token.specs.Told.{told, changes_of, applied}
 use Rattle.tds_world.specs.declared.report.RequestStatus.TheVariants as shown
-use Rattle.tds_world.specs.Arrivals.{client_acts, heard_after, mark_after}
+use Rattle.tds_world.specs.Arrivals.{client_acts, heard_after, heard_behind, mark_after}
 use Rattle.tds_packet.specs.Resets.{reset_effect}
 use Rattle.tds_world.specs.Connection.{Connection}
 use Rattle.tds_world.specs.Entries.{Down, Step, Acknowledgement, down_packet}
@@ -29,10 +31,10 @@ use Rattle.tds_world.specs.Heard.{Meets, IsHeardOn}
 use Rattle.tds_world.specs.Phase.{Phase, Settled, Reading, Cancelling, phase_by, phase_of, status_by, status_of}
 use Rattle.tds_world.specs.Record as world
 use Rattle.tds_world.specs.Record.{Record, Out, NotBegun, Begun, Whole, gives, acknowledges, when, if_numbered}
-use Rattle.tds_world.specs.Sessions.{HasSpelling}
+use Rattle.tds_world.specs.Sessions.{HasSpelling, FitsAcknowledgement}
 use Rattle.tds_ends.specs.Hearing.{IsSaid, IsSaidBy, IsAwaited, HearAlike}
 use Rattle.tds_ends.specs.Stands.{MatchesClient, BeginsBy, BeginsIn, stage_by, stage_in}
-use Rattle.tds_ends.proofs.Heard.{at, behind, descriptor_behind, tokens_heard, reset_heard, packet_heard}
+use Rattle.tds_ends.proofs.Heard.{at, behind, descriptor_behind, tokens_heard, reset_heard, packet_heard, acknowledgement_heard}
 use Rattle.tds_world.specs.PhaseTells.{PhaseTells}
 use Rattle.tds_ends.proofs.Phases.{PhasesTell, told_at}
 
@@ -266,50 +268,42 @@ step_alike again s c q r place step m is same phase spelled heard said = elim ph
 
 -- ---- An acknowledgement
 
--- Its one token is read whatever columns are known.
-abbrev sole : List Token
-sole = tokens.Done 0x20 0 0 ∷ []
+-- Its tokens are read whatever columns are known, and heard.
+record IsAcknowledged (s : ClientSession) (c : Connection) (changes : List EnvChange) : Type 0 where
+  descriptor : ℕ
+  applies : heard_behind c.heard changes ≡ Some descriptor
+  contents : Contents
+  taken : taken_cancelling s true (flat_map spelling (acknowledging changes)) ≡ Ok (skipped s true (with_done (at descriptor c.mark) Acknowledged) contents)
 
-sole_fits : Fits (tokens.Done 0x20 0 0)
-unfolding is_done_status
-sole_fits = refl
-
-sole_spelled : (columns : Option ℕ) → IsTokens columns sole (spelling (tokens.Done 0x20 0 0)) None
-unfolding IsTokens
-sole_spelled columns = (
-  spelling (tokens.Done 0x20 0 0),
-  [],
-  None,
-  refl,
-  record { spelled = refl; fits = sole_fits; ranged = (omega arith, omega arith, omega arith); under = tt; after_is = refl },
-  (refl, refl),
-)
-
-sole_read : AreRead → (columns : Option ℕ) → contents_of columns (spelling (tokens.Done 0x20 0 0)) ≡ record { tokens = sole; fault = None; columns = None }
-sole_read again columns = again.contents columns sole (spelling (tokens.Done 0x20 0 0)) None (sole_spelled columns)
-
-sole_heard : (heard : Heard) (columns : Option ℕ) → heard.done ≡ Awaited → hear_packet true heard true (record { tokens = sole; fault = None; columns = columns }) ≡ Ok (with_done heard Acknowledged)
-unfolding hear_packet hear hear_done
-sole_heard heard columns e = ap (λ (d : FinalDone). ((hear_before d true heard (tokens.Done 0x20 0 0) >>= λ next. Ok next) >>= λ next. Ok next) >>= λ next. at_end_of_message true next.done next) e
-
-acknowledged_is : AreRead → (s : ClientSession) → s.heard.done ≡ Awaited → taken_cancelling s true (spelling (tokens.Done 0x20 0 0)) ≡ Ok (skipped s true (with_done s.heard Acknowledged) (record { tokens = sole; fault = None; columns = None }))
+acknowledged_is : AreRead → (s : ClientSession) (c : Connection) (changes : List EnvChange) → MatchesClient s c → FitsAcknowledgement changes → (d : ℕ) → heard_behind c.heard changes ≡ Some d → IsAcknowledged s c changes
 unfolding taken_cancelling
-acknowledged_is again s e =
-    ap (λ (x : Contents). hear_packet true s.heard true x >>= λ heard. Ok (skipped s true heard x)) (sole_read again s.columns)
-    ∙ ap (λ x. x >>= λ heard. Ok (skipped s true heard (record { tokens = sole; fault = None; columns = None }))) (sole_heard s.heard None e)
+acknowledged_is again s c changes m fits d applies =
+    let bytes : List ℕ = flat_map spelling (acknowledging changes) in
+    let here = again.anywhere s.columns (acknowledging changes) bytes fits.spelled.0 fits.spelled.1 in
+    let all : contents_of s.columns bytes ≡ record { tokens = acknowledging changes; fault = None; columns = here.0 } = again.contents s.columns (acknowledging changes) bytes here.0 here.1 in
+    let contents : Contents = record { tokens = acknowledging changes; fault = None; columns = here.0 } in
+    record {
+      descriptor = d;
+      applies = applies;
+      contents = contents;
+      taken =
+          ap (λ (x : Contents). hear_packet true s.heard true x >>= λ heard. Ok (skipped s true heard x)) all
+          ∙ (ap (λ (x : Heard). hear_packet true x true contents >>= λ heard. Ok (skipped s true heard contents)) (same_heard s.heard c.heard c.mark m.descriptor m.mark m.done)
+          ∙ ap (λ x. x >>= λ heard. Ok (skipped s true heard contents)) (acknowledgement_heard c.heard d c.mark changes here.0 applies));
+    }
 
-acknowledgement_alike : AreRead → (s : ClientSession) (c : Connection) (q : Record) (r place : ℕ) → MatchesClient s c → c.current ≡ Some q → r ≡ q.number → phase_of q ≡ Cancelling → HearAlike c q (Acknowledgement r place) (taken s (has_bit (bits_of (down_packet (Acknowledgement r place)).header.status) 1) (down_packet (Acknowledgement r place)).body)
-acknowledgement_alike again s c q r place m is same phase =
+acknowledgement_alike : AreRead → (s : ClientSession) (c : Connection) (q : Record) (r place : ℕ) (changes : List EnvChange) → MatchesClient s c → c.current ≡ Some q → r ≡ q.number → phase_of q ≡ Cancelling → IsAcknowledged s c changes → HearAlike c q (Acknowledgement r place changes) (taken s (has_bit (bits_of (down_packet (Acknowledgement r place changes)).header.status) 1) (down_packet (Acknowledgement r place changes)).body)
+acknowledgement_alike again s c q r place changes m is same phase k =
     let one : SkippedStep q.fate q.out true = skipped_step q.fate q.out true (told_at again.tells Cancelling q phase) in
     let now : option_map (if_numbered r acknowledges) c.current ≡ Some (acknowledges q) = changed r acknowledges c.current q is same in
-    at_stage s c q (Acknowledgement r place) client.Cancelling true (stage_is s c q Cancelling m is phase) refl
-    (subst (λ x. HearAlike c q (Acknowledgement r place) x) (sym (acknowledged_is again s m.done)) (record {
-      took = skipped s true (with_done s.heard Acknowledged) (record { tokens = sole; fault = None; columns = None });
+    at_stage s c q (Acknowledgement r place changes) client.Cancelling true (stage_is s c q Cancelling m is phase) refl
+    (subst (λ x. HearAlike c q (Acknowledgement r place changes) x) (sym k.taken) (record {
+      took = skipped s true (with_done (at k.descriptor c.mark) Acknowledged) k.contents;
       lawful = refl;
       matches = record {
         stage = sym (ap stage_in now ∙ ap (λ (x : Phase). stage_by x (acknowledges q)) one.acknowledged);
-        descriptor = m.descriptor;
-        mark = m.mark;
+        descriptor = sym (ap (λ (o : Option ℕ). unwrap_or o c.heard) k.applies);
+        mark = refl;
         done = refl;
         columns = tt;
         begins = subst (λ (o : Option Record). BeginsIn o c.mark) (sym now) (subst (λ (x : Phase). BeginsBy x (acknowledges q) c.mark) (sym one.acknowledged) tt);
@@ -319,4 +313,4 @@ acknowledgement_alike again s c q r place m is same phase =
 
 pub hear_alike : AreRead → (s : ClientSession) (c : Connection) (q : Record) (e : Down) → MatchesClient s c → c.current ≡ Some q → IsAwaited c q e → HearAlike c q e (taken s (has_bit (bits_of (down_packet e).header.status) 1) (down_packet e).body)
 hear_alike again s c q (Step r place step) m is a = step_alike again s c q r place step m is a.0 a.1 a.2 a.3 a.4
-hear_alike again s c q (Acknowledgement r place) m is a = acknowledgement_alike again s c q r place m is a.0 a.1
+hear_alike again s c q (Acknowledgement r place changes) m is a = acknowledgement_alike again s c q r place changes m is a.0 a.1 (acknowledged_is again s c changes m a.2 a.3.0 a.3.1)

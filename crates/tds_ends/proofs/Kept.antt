@@ -39,26 +39,26 @@ acknowledges_is_of m r (Some q) h = is_of_acknowledged m (eqb q.number r) q h
 
 pub hears_kept : {E : Type 0} (s : ServerState E) (c : Connection) (e : Down) → MatchesServer s c → MatchesServer s (client_acts c e)
 hears_kept s c (Step r place step) m =
-    server_still_matches s c (client_acts c (Step r place step)) refl refl refl refl (λ message some of. gives_is_of message r step c.current of) m
-hears_kept s c (Acknowledgement r place) m =
-    server_still_matches s c (client_acts c (Acknowledgement r place)) refl refl refl refl (λ message some of. acknowledges_is_of message r c.current of) m
+    server_still_matches s c (client_acts c (Step r place step)) refl refl refl refl refl (λ message some of. gives_is_of message r step c.current of) m
+hears_kept s c (Acknowledgement r place changes) m =
+    server_still_matches s c (client_acts c (Acknowledgement r place changes)) refl refl refl refl refl (λ message some of. acknowledges_is_of message r c.current of) m
 
 sends_kept_by : {E : Type 0} (b : Bool) (room : ℕ) (s : ServerState E) (c : Connection) (q : Record) → c.current ≡ Some q → MatchesServer s c → MatchesServer s (sends_by b room q c)
-sends_kept_by true room s c q is m = server_still_matches s c (sends_by true room q c) refl refl refl refl (λ message some of. subst (λ (o : Option Record). IsOf message o) is of) m
-sends_kept_by false room s c q is m = server_still_matches s c (sends_by false room q c) refl refl refl refl (λ message some of. subst (λ (o : Option Record). IsOf message o) is of) m
+sends_kept_by true room s c q is m = server_still_matches s c (sends_by true room q c) refl refl refl refl refl (λ message some of. subst (λ (o : Option Record). IsOf message o) is of) m
+sends_kept_by false room s c q is m = server_still_matches s c (sends_by false room q c) refl refl refl refl refl (λ message some of. subst (λ (o : Option Record). IsOf message o) is of) m
 
 pub sends_kept : {E : Type 0} (room : ℕ) (s : ServerState E) (c : Connection) (q : Record) → c.current ≡ Some q → MatchesServer s c → MatchesServer s (sends room q c)
 sends_kept room s c q is m = sends_kept_by (sends_last room q) room s c q is m
 
 pub asks_kept : {E : Type 0} (number lease n : ℕ) (q : Request) (s : ServerState E) (c : Connection) → c.parts ≡ [] → MatchesServer s c → MatchesServer s (asks number lease n q c)
-asks_kept number lease n q s c rests m = server_still_matches s c (asks number lease n q c) refl refl refl refl (λ message some of. absurd (some rests)) m
+asks_kept number lease n q s c rests m = server_still_matches s c (asks number lease n q c) refl refl refl refl refl (λ message some of. absurd (some rests)) m
 
 cancels_by_kept : {E : Type 0} (p : Phase) (s : ServerState E) (c : Connection) (q : Record) → c.current ≡ Some q → MatchesServer s c → MatchesServer s (cancels_by p q c)
 cancels_by_kept Settled s c q is m = m
 cancels_by_kept Cancelling s c q is m = m
-cancels_by_kept Asked s c q is m = server_still_matches s c (cancels_by Asked q c) refl refl refl refl (λ message some of. subst (λ (o : Option Record). IsOf message o) is of) m
-cancels_by_kept Sending s c q is m = server_still_matches s c (cancels_by Sending q c) refl refl refl refl (λ message some of. subst (λ (o : Option Record). IsOf message o) is of) m
-cancels_by_kept Reading s c q is m = server_still_matches s c (cancels_by Reading q c) refl refl refl refl (λ message some of. subst (λ (o : Option Record). IsOf message o) is of) m
+cancels_by_kept Asked s c q is m = server_still_matches s c (cancels_by Asked q c) refl refl refl refl refl (λ message some of. subst (λ (o : Option Record). IsOf message o) is of) m
+cancels_by_kept Sending s c q is m = server_still_matches s c (cancels_by Sending q c) refl refl refl refl refl (λ message some of. subst (λ (o : Option Record). IsOf message o) is of) m
+cancels_by_kept Reading s c q is m = server_still_matches s c (cancels_by Reading q c) refl refl refl refl refl (λ message some of. subst (λ (o : Option Record). IsOf message o) is of) m
 
 cancels_in_kept : {E : Type 0} (current : Option Record) (s : ServerState E) (c : Connection) → c.current ≡ current → MatchesServer s c → MatchesServer s (cancels_in current c)
 cancels_in_kept None s c is m = m
@@ -69,7 +69,7 @@ cancels_kept s c m = cancels_in_kept c.current s c refl m
 
 -- A server sees nothing of what is underway to the client, nor where the connection stands, nor its mark.
 seen_on : {E : Type 0} (s : ServerState E) (c : Connection) (lane : Lane Down) → MatchesServer s c → MatchesServer s (record c { to_client = lane })
-seen_on s c lane m = server_still_matches s c (record c { to_client = lane }) refl refl refl refl (λ message some of. of) m
+seen_on s c lane m = server_still_matches s c (record c { to_client = lane }) refl refl refl refl refl (λ message some of. of) m
 
 either_server : {E : Type 0} (b : Bool) (s : ServerState E) (x y : Connection) → MatchesServer s x → MatchesServer s y → MatchesServer s (cond b x y)
 either_server true s x y f g = f
@@ -86,7 +86,7 @@ reach_client_kept s c (e ∷ es) k m =
 pub listens_kept : {E : Type 0} (most : ℕ) (s : ServerState E) (c : Connection) → MatchesServer s c → MatchesServer s (to_client most c)
 listens_kept most s c m =
     let d : Connection = reach_client c c.to_client.waiting (c.to_client.part + min most (down_underway c)) in
-    server_still_matches s d (drains d) refl refl refl refl (λ message some of. of)
+    server_still_matches s d (drains d) refl refl refl refl refl (λ message some of. of)
     (reach_client_kept s c c.to_client.waiting (c.to_client.part + min most (down_underway c)) m)
 
 -- ---- The client
@@ -162,5 +162,5 @@ serves_kept answers most s c m = reach_server_kept answers s c c.to_server.waiti
 pub pool_unseen : {E : Type 0} → PoolIsUnseen E
 pool_unseen = record {
   client = λ standing s c m. client_still_matches s c (record c { standing = standing }) refl refl refl m;
-  server = λ mark standing s c m. server_still_matches s c (record c { mark = mark; standing = standing }) refl refl refl refl (λ message some of. of) m;
+  server = λ mark standing s c m. server_still_matches s c (record c { mark = mark; standing = standing }) refl refl refl refl refl (λ message some of. of) m;
 }

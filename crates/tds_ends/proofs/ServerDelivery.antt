@@ -40,7 +40,7 @@ nothing_sent {Entry} bytes a b e = record {
 
 -- A server sees nothing of what is underway to it.
 matches_on : {E : Type 0} (s : ServerState E) (c : Connection) (lane : Lane Up) → MatchesServer s c → MatchesServer s (record c { to_server = lane })
-matches_on s c lane m = server_still_matches s c (record c { to_server = lane }) refl refl refl refl (λ message some of. of) m
+matches_on s c lane m = server_still_matches s c (record c { to_server = lane }) refl refl refl refl refl (λ message some of. of) m
 
 -- ---- One entry, and those behind it
 

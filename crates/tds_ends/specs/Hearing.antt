@@ -17,7 +17,7 @@ use Rattle.tds_world.specs.Entries.{Down, Step, Acknowledgement}
 use Rattle.tds_world.specs.Heard.{IsHeardOn}
 use Rattle.tds_world.specs.Phase.{Reading, Cancelling, phase_of, status_of}
 use Rattle.tds_world.specs.Record.{Record}
-use Rattle.tds_world.specs.Sessions.{HasSpelling}
+use Rattle.tds_world.specs.Sessions.{HasSpelling, FitsAcknowledgement}
 use Rattle.tds_ends.specs.Stands.{MatchesClient}
 
 -- What a step says by its DONEs: of a final one a client reads neither the command nor the count of
@@ -35,7 +35,9 @@ abbrev pub IsAwaited : Connection → Record → Down → Type 0
 IsAwaited c q (Step r place s) =
     (r ≡ q.number) × ((phase_of q ≡ Reading) ⊎ (phase_of q ≡ Cancelling))
     × HasSpelling s × IsHeardOn c (Step r place s) × IsSaid s
-IsAwaited c q (Acknowledgement r place) = (r ≡ q.number) × (phase_of q ≡ Cancelling)
+IsAwaited c q (Acknowledgement r place changes) =
+    (r ≡ q.number) × (phase_of q ≡ Cancelling)
+    × FitsAcknowledgement changes × IsHeardOn c (Acknowledgement r place changes)
 
 -- What becomes of a request's status, by what its client answers.
 abbrev pub status_after : Taken → RequestStatus → RequestStatus

@@ -1,5 +1,5 @@
 -- What the state of each end stands for in the model: the connection that it is an end of.
-use Rattle.std.specs.Prelude.{ℕ, ◌+◌, ◌%◌, ◌≡◌, ◌≢◌, ◌≤◌, List, [], ◌++◌, flat_map, Bool, true, false, Option, Some, None}
+use Rattle.std.specs.Prelude.{ℕ, ◌+◌, ◌%◌, ◌≡◌, ◌≢◌, ◌≤◌, List, [], ◌++◌, flat_map, nat_lt, Bool, true, false, Option, Some, None}
 use Rattle.tds_client.specs.declared.heard.FinalDone.TheVariants.{Awaited}
 use Rattle.tds_client.specs.Session as client
 use Rattle.tds_client.specs.Session.{ClientSession}
@@ -72,16 +72,19 @@ IsOf m None = ⊥
 IsOf m (Some q) = (m.kind ≡ kind_of_request q.asking.request) × (m.reset ≡ q.asking.mark)
 
 -- Where a server is: the parts that arrived are what came of a message; the answer that is due is
--- what is left of one, and the PacketID is that of the next step's place.
+-- what is left of one, the PacketID is that of the next step's place, and the answer has begun where a
+-- step was taken.
 abbrev pub MatchesPhase : server.Phase → Connection → Type 0
 MatchesPhase server.Waiting c = (c.parts ≡ []) × (c.due ≡ [])
 MatchesPhase (server.Receiving m) c =
     (m.content ≡ c.parts) × (c.parts ≢ []) × (c.due ≡ []) × IsOf m c.current
-MatchesPhase (server.Answering due id) c =
+MatchesPhase (server.Answering due id begun) c =
     (c.parts ≡ []) × (due ≡ c.due) × (c.due ≢ []) × (id ≡ (c.taken + 1) % 256)
+    × (begun ≡ nat_lt 0 c.taken)
 MatchesPhase (server.Broken fault) c = ⊥
 
 pub record MatchesServer {E : Type 0} (s : ServerState E) (c : Connection) : Type 0 where
+  pub told : s.on_attention ≡ c.on_attention
   pub session : s.session ≡ c.session
   pub phase : MatchesPhase s.phase c
 

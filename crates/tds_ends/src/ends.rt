@@ -4,7 +4,7 @@ ghost use Rattle.std.specs.Borrow.{sem};
 ghost use Rattle.tds_client.specs.Session.{new_session};
 ghost use Rattle.tds_ends.specs.Ends.{Listens, Serves};
 ghost use Rattle.tds_packet.specs.declared.kind.Direction.TheVariants.{ToClient, ToServer};
-ghost use Rattle.tds_server.specs.State.{IsAnswering, lost_of, new_server};
+ghost use Rattle.tds_server.specs.State.{IsAnswering, lost_of, new_server, server_with};
 ghost use Rattle.tds_server.specs.Working.{worked};
 ghost use Rattle.tds_session.specs.Answer.{answer_of};
 
@@ -15,7 +15,7 @@ use std::alloc::Global;
 use tds_client::Client;
 use tds_packet::{Direction, PacketReader, PacketSize};
 use tds_server::{Server, Worked};
-use tds_session::Engine;
+use tds_session::{Engine, OnAttention};
 use tds_token::Token;
 
 /// A client with the reader of what its server sends: bytes in, tokens out.
@@ -82,6 +82,22 @@ impl<E: Engine + Drop> ServerEnd<E> {
     {
         Ok(ServerEnd {
             server: Server::new(alloc, engine, size),
+            reader: PacketReader::new(alloc, size, Direction::ToServer)?,
+        })
+    }
+
+    /// The same of a server that does this with its transaction where an attention stops an answer.
+    pub fn with_attention(
+        alloc: Global,
+        engine: E,
+        size: PacketSize,
+        on_attention: OnAttention,
+    ) -> Result<ServerEnd<E>, NoMemory>
+        ensures { IfOk result (λ end. (end.server ≡ server_with on_attention engine)
+            × (end.reader ≡ record { direction = ToServer; size = size; taken = [] })) }
+    {
+        Ok(ServerEnd {
+            server: Server::with_attention(alloc, engine, size, on_attention),
             reader: PacketReader::new(alloc, size, Direction::ToServer)?,
         })
     }

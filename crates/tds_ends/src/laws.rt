@@ -26,9 +26,10 @@ ghost use Rattle.tds_packet.specs.Reading.{Reading, with_taken};
 ghost use Rattle.tds_packet.specs.declared.kind.Direction.TheVariants.{ToClient, ToServer};
 ghost use Rattle.tds_packet.specs.declared.status.Reset.{Reset};
 ghost use Rattle.tds_request.specs.declared.request.Request.{Request};
-ghost use Rattle.tds_server.specs.State.{ServerState, new_server};
+ghost use Rattle.tds_server.specs.State.{ServerState, server_with};
 ghost use Rattle.tds_server.specs.Taking.{taken};
 ghost use Rattle.tds_server.specs.Working.{worked};
+ghost use Rattle.tds_session.specs.declared.attention.OnAttention.{OnAttention};
 ghost use Rattle.tds_session.specs.Answer.{Answers, answer_of};
 ghost use Rattle.tds_session.specs.Session.{SessionState};
 ghost use Rattle.tds_packet.specs.Resets.{strongest};
@@ -211,9 +212,10 @@ pub fn cancels_alike()
 /// The ends of a new connection stand for a new connection of the model. A client that is marked
 /// for a reset stands for a connection that is lent again.
 pub fn lends_matching<E: Engine>()
-    ensures client { (size : ℕ) (p : Place) → MatchesClient (new_session size) (new_connection p) }
-    ensures server { (engine : E) (p : Place)
-        → MatchesServer (new_server engine) (new_connection p) }
+    ensures client { (size : ℕ) (on_attention : OnAttention) (p : Place)
+        → MatchesClient (new_session size) (new_connection on_attention p) }
+    ensures server { (engine : E) (on_attention : OnAttention) (p : Place)
+        → MatchesServer (server_with on_attention engine) (new_connection on_attention p) }
     ensures marked { (s : ClientSession) (c : Connection) (r : Reset) (standing : Standing)
         → MatchesClient s c → phase c ≡ Settled
         → MatchesClient (marked s r)

@@ -49,7 +49,7 @@ pub fn serve<E: Engine + Drop>(
     ensures reads { reader.new.direction ≡ ToServer }
     ensures size { reader.new.size ≡ reader.old.size }
     ensures engine { server.new.engine ≡ server.old.engine }
-    ensures session { server.new.session ≡ server.old.session }
+    ensures on_attention { server.new.on_attention ≡ server.old.on_attention }
     ensures within { result.count ≤ length piece.now }
     // Whatever comes: the server takes the packets that the bytes spell, one after the other, up to
     // the first that it refuses or has no memory for, or to a header with a fault.

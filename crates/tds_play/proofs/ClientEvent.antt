@@ -70,7 +70,7 @@ bare_in r f (Some q) all = ap (λ x. Some x) (bare_when _ f q (all q))
 
 acts_beside : (c : Connection) (e : Down) → HearsBeside c (client_acts (record c { to_client = passed e c.to_client }) e)
 acts_beside c (Step r place s) = record { to_server = refl; current = bare_in r (gives s) c.current (λ q. refl); standing = refl }
-acts_beside c (Acknowledgement r place) = record { to_server = refl; current = bare_in r acknowledges c.current (λ q. refl); standing = refl }
+acts_beside c (Acknowledgement r place changes) = record { to_server = refl; current = bare_in r acknowledges c.current (λ q. refl); standing = refl }
 
 pub reach_beside : (c : Connection) (es : List Down) (k : ℕ) → HearsBeside c (reach_client c es k)
 reach_beside c [] k = record { to_server = refl; current = refl; standing = refl }

@@ -118,10 +118,10 @@ opened_outcome setup answers w lost o lends =
 
 pub opened_moved : (setup : Setup) (answers : Answers) (w : World) (lost : Bool) (o : Outcome) → to_lend setup w ≡ world.Opens (next_number w.connections)
     → IsMoved (world_then setup answers w (record { event = event.Lease; loss = loss_by lost o }))
-    (settles event.Lease (next_number w.connections) w (opens (next_number w.leases) (next_number w.connections))).1
-    (put (length w.connections) (cut_where lost (new_connection (Leased (next_number w.leases)))) w.connections)
+    (settles event.Lease (next_number w.connections) w (opens setup.on_attention (next_number w.leases) (next_number w.connections))).1
+    (put (length w.connections) (cut_where lost (new_connection setup.on_attention (Leased (next_number w.leases)))) w.connections)
 opened_moved setup answers w lost o lends =
-    moved_by setup answers w (settles event.Lease (next_number w.connections) w (opens (next_number w.leases) (next_number w.connections))).1 event.Lease (length w.connections) (new_connection (Leased (next_number w.leases))) lost o
+    moved_by setup answers w (settles event.Lease (next_number w.connections) w (opens setup.on_attention (next_number w.leases) (next_number w.connections))).1 event.Lease (length w.connections) (new_connection setup.on_attention (Leased (next_number w.leases))) lost o
     (omega arith)
     (ap (λ (next : Outcome × World). next.1) (lease_met setup answers w lost o ∙ ap (happens_at setup answers event.Lease w) lends))
     refl

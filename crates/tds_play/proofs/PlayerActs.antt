@@ -222,6 +222,7 @@ refused_alike {E} {S} setup engine answers w e place c player new pipes pipes' d
         engine_is = ap (λ (p : Player E S). p.engine) rest ∙ is.engine_is;
         max = ap (λ (p : Player E S). p.max) rest ∙ is.max;
         size = ap (λ (p : Player E S). p.size) rest ∙ is.size;
+        told = ap (λ (p : Player E S). p.on_attention) rest ∙ is.told;
       };
     }
 
@@ -230,10 +231,10 @@ pub noted_alike : {E S : Type 0} (setup : Setup) (engine : E) (answers : Answers
     → IsPlay setup engine player pipes w → IsFound setup answers w e place c → n ≡ suc place
     → (done.lost ≡ true → link_of setup w e ≡ Some (suc place))
     → ActsAlike setup.packet_size engine place c w.connections (acts_on setup answers w (met (loss_of done) e) (suc place) c) done new.links.items pipes'
-    → new.engine ≡ player.engine → new.max ≡ player.max → new.size ≡ player.size → new.leases ≡ leases_after e n player.leases → new.tickets ≡ tickets_after e n player.tickets → new.asked_on.items ≡ asked_after e n player.asked_on.items
+    → new.engine ≡ player.engine → new.max ≡ player.max → new.size ≡ player.size → new.on_attention ≡ player.on_attention → new.leases ≡ leases_after e n player.leases → new.tickets ≡ tickets_after e n player.tickets → new.asked_on.items ≡ asked_after e n player.asked_on.items
     → ((why : Refusal) → done.outcome ≡ outcome.Refused why → ⊥)
     → HappensAlike setup engine answers done new pipes' e w
-noted_alike setup engine answers w e place n c player new pipes pipes' done is found number link acts engine_same max_same size_same leases tickets asked applied =
+noted_alike setup engine answers w e place n c player new pipes pipes' done is found number link acts engine_same max_same size_same told_same leases tickets asked applied =
     let l : Loss = loss_of done in
     let m : Event = met l e in
     let acted : Acted = acts_on setup answers w m (suc place) c in
@@ -268,5 +269,6 @@ noted_alike setup engine answers w e place n c player new pipes pipes' done is f
         engine_is = engine_same ∙ is.engine_is;
         max = max_same ∙ is.max;
         size = size_same ∙ is.size;
+        told = told_same ∙ is.told;
       };
     }

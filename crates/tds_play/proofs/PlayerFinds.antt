@@ -87,6 +87,7 @@ server_restarts {E} {S} setup engine answers w e player new pipes pipes' same is
         engine_is = ap (λ (p : Player E S). p.engine) rest ∙ is.engine_is;
         max = ap (λ (p : Player E S). p.max) rest ∙ is.max;
         size = ap (λ (p : Player E S). p.size) rest ∙ is.size;
+        told = ap (λ (p : Player E S). p.on_attention) rest ∙ is.told;
       };
     })
 
@@ -103,6 +104,7 @@ client_restarts {E} {S} setup engine answers w e player cuts new pipes pipes' sa
         engine_is = ap (λ (p : Player E S). p.engine) ends ∙ ap (λ (p : Player E S). p.engine) rest ∙ is.engine_is;
         max = ap (λ (p : Player E S). p.max) ends ∙ ap (λ (p : Player E S). p.max) rest ∙ is.max;
         size = ap (λ (p : Player E S). p.size) ends ∙ ap (λ (p : Player E S). p.size) rest ∙ is.size;
+        told = ap (λ (p : Player E S). p.on_attention) ends ∙ ap (λ (p : Player E S). p.on_attention) rest ∙ is.told;
       };
     })
 

@@ -25,21 +25,22 @@ use Rattle.tds_play.proofs.LossWorld.{IsMoved, opened_moved, opened_outcome}
 pub opens_alike : {E S : Type 0} (setup : Setup) (engine : E) (answers : Answers) (w : World) (player new : Player E S) (pipes pipes' : ℕ → Option Pipe) (x : Seated E S) (lease conn : ℕ) (lost : Bool)
     → IsPlay setup engine player pipes w → to_lend setup w ≡ Opens (next_number w.connections)
     → lease ≡ next_number w.leases → conn ≡ next_number w.connections
-    → IsPlayed conn player.size player.engine x.link x.seat (pipes' conn) (cut_where lost (new_connection (Leased lease)))
+    → IsPlayed conn player.size player.engine x.link x.seat (pipes' conn) (cut_where lost (new_connection player.on_attention (Leased lease)))
     → AreSame pipes pipes' conn → new.links.items ≡ player.links.items ++ x ∷ [] → new.leases ≡ player.leases ++ Some conn ∷ []
     → new ≡ record player { links = new.links; leases = new.leases }
     → HappensAlike setup engine answers (record { outcome = outcome.Leased lease conn opened.New; lost = lost }) new pipes' event.Lease w
 opens_alike {E} {S} setup engine answers w player new pipes pipes' x lease conn lost is lends at_lease at_conn played same links leases rest =
     let cs : List Connection = w.connections in
     let n : ℕ = next_number cs in
-    let fresh : Connection = cut_where lost (new_connection (Leased (next_number w.leases))) in
+    let fresh : Connection = cut_where lost (new_connection setup.on_attention (Leased (next_number w.leases))) in
     let said : Outcome = outcome.Leased lease conn opened.New in
-    let sized : IsPlayed conn setup.packet_size engine x.link x.seat (pipes' conn) (cut_where lost (new_connection (Leased lease))) =
-    subst (λ (k : ℕ). IsPlayed conn k engine x.link x.seat (pipes' conn) (cut_where lost (new_connection (Leased lease)))) is.size
-    (subst (λ (e : E). IsPlayed conn player.size e x.link x.seat (pipes' conn) (cut_where lost (new_connection (Leased lease)))) is.engine_is played) in
+    let sized : IsPlayed conn setup.packet_size engine x.link x.seat (pipes' conn) (cut_where lost (new_connection setup.on_attention (Leased lease))) =
+    subst (λ o. IsPlayed conn setup.packet_size engine x.link x.seat (pipes' conn) (cut_where lost (new_connection o (Leased lease)))) is.told
+    (subst (λ (k : ℕ). IsPlayed conn k engine x.link x.seat (pipes' conn) (cut_where lost (new_connection player.on_attention (Leased lease)))) is.size
+    (subst (λ (e : E). IsPlayed conn player.size e x.link x.seat (pipes' conn) (cut_where lost (new_connection player.on_attention (Leased lease)))) is.engine_is played)) in
     let as_new : IsPlayed conn setup.packet_size engine x.link x.seat (pipes' conn) fresh =
-    subst (λ (l : ℕ). IsPlayed conn setup.packet_size engine x.link x.seat (pipes' conn) (cut_where lost (new_connection (Leased l)))) at_lease sized in
-    let moved : IsMoved (world_then setup answers w (record { event = event.Lease; loss = loss_by lost said })) (settles event.Lease n w (opens (next_number w.leases) n)).1 (put (length cs) fresh cs) =
+    subst (λ (l : ℕ). IsPlayed conn setup.packet_size engine x.link x.seat (pipes' conn) (cut_where lost (new_connection setup.on_attention (Leased l)))) at_lease sized in
+    let moved : IsMoved (world_then setup answers w (record { event = event.Lease; loss = loss_by lost said })) (settles event.Lease n w (opens setup.on_attention (next_number w.leases) n)).1 (put (length cs) fresh cs) =
     opened_moved setup answers w lost said lends in
     record {
       outcome =
@@ -62,5 +63,6 @@ opens_alike {E} {S} setup engine answers w player new pipes pipes' x lease conn 
         engine_is = ap (λ (p : Player E S). p.engine) rest ∙ is.engine_is;
         max = ap (λ (p : Player E S). p.max) rest ∙ is.max;
         size = ap (λ (p : Player E S). p.size) rest ∙ is.size;
+        told = ap (λ (p : Player E S). p.on_attention) rest ∙ is.told;
       };
     }

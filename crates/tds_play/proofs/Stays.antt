@@ -21,6 +21,7 @@ use Rattle.tds_play.specs.Listening.{told_in}
 use Rattle.tds_play.specs.Ties.{counted, with_counted}
 use Rattle.tds_play.specs.Pipe.{Brings, Pipe, IsOpen, carried_on, cut_pipe, new_pipe, sent_on, stuck_on, traffic}
 use Rattle.tds_play.specs.Reads.{BringsAny, IsReading, ReadsNoMore, brought_to, given_by, tokens_of}
+use Rattle.tds_session.specs.declared.attention.OnAttention.{OnAttention}
 use Rattle.tds_play.specs.declared.link.Link.{Link}
 use Rattle.tds_play.specs.declared.request.Record.{Record}
 
@@ -227,10 +228,10 @@ given_behind past (Some r) = tokens_and past (r ∷ []) ∙ ap (λ (ts : List To
 
 -- ---- A new connection
 
-pub new_reads : {E S : Type 0} (size number : ℕ) (engine : E) (link : Link E S) (pipe : Option Pipe)
-    → ((d : Direction) → HasRead (new_reader d size) (new_reader d size) [] []) → IsNewLink number size engine link
+pub new_reads : {E S : Type 0} (size number : ℕ) (engine : E) (on_attention : OnAttention) (link : Link E S) (pipe : Option Pipe)
+    → ((d : Direction) → HasRead (new_reader d size) (new_reader d size) [] []) → IsNewLink number size engine on_attention link
     → ((d : Direction) → (traffic pipe d).came ≡ []) → IsReading size link None pipe
-new_reads size number engine link pipe nothing new none =
+new_reads size number engine on_attention link pipe nothing new none =
     let given : given_by link ≡ [] = ap (λ (rs : List Record). flat_map tokens_of rs ++ told_in link.current) new.past ∙ ap told_in new.current in
     let whole : AreWhole (new_reader ToClient size) (traffic pipe ToClient).came [] [] = subst (λ (bytes : List ℕ). AreWhole (new_reader ToClient size) bytes [] []) (sym (none ToClient)) (nothing ToClient).whole in
     record {

@@ -44,15 +44,15 @@ worked_is false state link = refl
 link_by : {E S : Type 0} (p : Phase) (link : Link E S) → worked_as (works_in link.server p) link ≡ record link { server = (works_in link.server p).state; current = current_behind (works_in link.server p).answer link.server.session (works_in link.server p).state.session link.current }
 link_by phase.Waiting link = refl
 link_by (phase.Receiving m) link = refl
-link_by (phase.Answering [] id) link = refl
-link_by (phase.Answering (s ∷ ss) id) link = worked_is s.last (works_in link.server (phase.Answering (s ∷ ss) id)).state link
+link_by (phase.Answering [] id begun) link = refl
+link_by (phase.Answering (s ∷ ss) id begun) link = worked_is s.last (works_in link.server (phase.Answering (s ∷ ss) id begun)).state link
 link_by (phase.Broken fault) link = refl
 
 engine_by : {E : Type 0} (p : Phase) (s : ServerState E) → (works_in s p).state.engine ≡ s.engine
 engine_by phase.Waiting s = refl
 engine_by (phase.Receiving m) s = refl
-engine_by (phase.Answering [] id) s = refl
-engine_by (phase.Answering (t ∷ ts) id) s = refl
+engine_by (phase.Answering [] id begun) s = refl
+engine_by (phase.Answering (t ∷ ts) id begun) s = refl
 engine_by (phase.Broken fault) s = refl
 
 -- ---- What the model's work leaves

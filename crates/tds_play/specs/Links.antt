@@ -2,7 +2,8 @@
 use Rattle.std.specs.Prelude.{ℕ, ◌≡◌, List, [], ◌∷◌, ◌++◌, reverse, true, false, Option, Some, None, option_map}
 use Rattle.tds_packet.specs.declared.kind.Direction.TheVariants.{ToServer, ToClient}
 use Rattle.tds_packet.specs.declared.status.Reset.{Reset}
-use Rattle.tds_server.specs.State.{new_server, lost_of}
+use Rattle.tds_server.specs.State.{server_with, lost_of}
+use Rattle.tds_session.specs.declared.attention.OnAttention.{OnAttention}
 use Rattle.tds_session.specs.Session.{SessionState}
 use Rattle.tds_world.specs.declared.report.RequestReport.{RequestReport}
 use Rattle.tds_world.specs.declared.report.RequestStatus.{RequestStatus}
@@ -51,10 +52,11 @@ lost_record r = record r { status = lost_status r.status }
 -- ---- Connections
 
 -- A connection as it begins.
-pub record IsNewLink {E S : Type 0} (number size : ℕ) (engine : E) (link : Link E S) : Type 0 where
+pub record IsNewLink {E S : Type 0} (number size : ℕ) (engine : E) (on_attention : OnAttention)
+    (link : Link E S) : Type 0 where
   pub numbered : link.number ≡ number
   pub uncut : link.is_cut ≡ false
-  pub server : link.server ≡ new_server engine
+  pub server : link.server ≡ server_with on_attention engine
   pub client_reader : link.client_reader ≡ record { direction = ToClient; size = size; taken = [] }
   pub server_reader : link.server_reader ≡ record { direction = ToServer; size = size; taken = [] }
   pub to_server : link.to_server ≡ 0

@@ -24,6 +24,7 @@ pub record IsPlay {E S : Type 0} (setup : Setup) (engine : E) (player : Player E
   pub asked : player.asked_on.items ≡ w.asked_on
   pub engine_is : player.engine ≡ engine
   pub max : player.max ≡ setup.max
+  pub told : player.on_attention ≡ setup.on_attention
   pub size : player.size ≡ setup.packet_size
 
 -- In this world an event, whatever it loses, settles on the connection at this place, whose link it uses

@@ -27,7 +27,7 @@ use tds_client::ClientState;
 use tds_ends::all_bytes::nothing_is_read;
 use tds_packet::{Direction, PacketReader, PacketSize};
 use tds_server::Server;
-use tds_session::Engine;
+use tds_session::{Engine, OnAttention};
 use tds_world::{ClientView, Outcome, Snapshot};
 
 /// What an event came to on its connection.
@@ -58,16 +58,22 @@ pub(crate) struct Link<E: Engine + Drop> {
 
 impl<E: Engine + Drop> Link<E> {
     /// A connection as it begins.
-    fn new(alloc: Global, number: u32, engine: E, size: PacketSize) -> Result<Link<E>, NoMemory>
+    fn new(
+        alloc: Global,
+        number: u32,
+        engine: E,
+        size: PacketSize,
+        on_attention: OnAttention,
+    ) -> Result<Link<E>, NoMemory>
         ensures number { IfOk result (λ link. link.number ≡ number) }
         ensures tied { IfOk result (λ link. IsTied link (Some (new_pipe 0))) }
         ensures live { IfOk result (λ link. link.is_cut ≡ false) }
-        ensures value { IfOk result (IsNewLink number size engine) }
+        ensures value { IfOk result (IsNewLink number size engine on_attention) }
     {
         Ok(Link {
             number,
             is_cut: false,
-            server: Server::new(alloc, engine, size),
+            server: Server::with_attention(alloc, engine, size, on_attention),
             client_reader: PacketReader::new(alloc, size, Direction::ToClient)?,
             server_reader: PacketReader::new(alloc, size, Direction::ToServer)?,
             to_server: 0,
@@ -85,6 +91,7 @@ impl<E: Engine + Drop> Link<E> {
         number: u32,
         engine: E,
         size: PacketSize,
+        on_attention: OnAttention,
     ) -> Result<(Link<E>, bool), NoMemory>
         ensures number { IfOk result (λ opened. opened.0.number ≡ number) }
         ensures ties { IfOk result (λ opened. KeepsTies number opened.0 (C.pipes carrier.old)
@@ -94,15 +101,16 @@ impl<E: Engine + Drop> Link<E> {
         ensures uncut { IfOk result (λ opened. opened.0.is_cut ≡ opened.1) }
         // Nothing has come, and nothing was read.
         ensures reads { IfOk result (λ opened. IsReading size opened.0 None
-            (C.pipes carrier.new number) × ((d : Direction) → (traffic (C.pipes carrier.new number) d).came ≡ [])) }
+            (C.pipes carrier.new number)
+            × ((d : Direction) → (traffic (C.pipes carrier.new number) d).came ≡ [])) }
         // With a new seat it stands for a new connection of the model, cut where the carrier
         // failed.
         ensures alike { (lease : ℕ) → IfOk result (λ opened. IsPlayed number size engine
             opened.0 (seated (Leased lease) (new_session size)) (C.pipes carrier.new number)
-            (cut_where opened.1 (new_connection (Leased lease)))) }
+            (cut_where opened.1 (new_connection on_attention (Leased lease)))) }
     {
         nothing_is_read();
-        let mut link = Link::new(alloc, number, engine, size)?;
+        let mut link = Link::new(alloc, number, engine, size, on_attention)?;
         match carrier.open(number) {
             Ok(()) => Ok((link, false)),
             Err(CarrierError::Lost) => {

@@ -35,7 +35,7 @@ use crate::request::Record;
 use crate::seat::{Seat, Seated};
 use std::alloc::Global;
 use tds_packet::PacketSize;
-use tds_session::Engine;
+use tds_session::{Engine, OnAttention};
 use tds_world::{Event, Opened, Outcome, Refusal, RequestReport, Snapshot};
 
 /// What a play knows.
@@ -45,6 +45,7 @@ pub(crate) struct Player<E: Engine + Copy> {
     pub(crate) engine: E,
     size: PacketSize,
     max: u8,
+    on_attention: OnAttention,
     /// Numbered from 1.
     links: Vec<Seated<E>>,
     leases: Holdings,
@@ -55,7 +56,13 @@ pub(crate) struct Player<E: Engine + Copy> {
 
 impl<E: Engine + Copy> Player<E> {
     /// A play before any event.
-    pub(crate) fn new(alloc: Global, engine: E, size: PacketSize, max: u8) -> Player<E>
+    pub(crate) fn new(
+        alloc: Global,
+        engine: E,
+        size: PacketSize,
+        max: u8,
+        on_attention: OnAttention,
+    ) -> Player<E>
         ensures links { result.links.items ≡ [] }
         ensures leases { result.leases ≡ [] }
         ensures tickets { result.tickets ≡ [] }
@@ -63,12 +70,14 @@ impl<E: Engine + Copy> Player<E> {
         ensures engine { result.engine ≡ engine }
         ensures size { result.size ≡ size }
         ensures max { result.max ≡ max }
+        ensures told { result.on_attention ≡ on_attention }
     {
         Player {
             alloc,
             engine,
             size,
             max,
+            on_attention,
             links: Vec::new(alloc),
             leases: Holdings::new(alloc),
             tickets: Holdings::new(alloc),
@@ -298,7 +307,14 @@ impl<E: Engine + Copy> Player<E> {
         let conn = next_number(self.links.len());
         let lease = self.leases.next();
         self.leases.give(conn)?;
-        let (link, lost) = Link::open(self.alloc, carrier, conn, self.engine, self.size)?;
+        let (link, lost) = Link::open(
+            self.alloc,
+            carrier,
+            conn,
+            self.engine,
+            self.size,
+            self.on_attention,
+        )?;
         let seat = Seat::new(self.alloc, lease, self.size);
         self.links.push(Seated { link, seat })?;
         let outcome = Outcome::Leased {

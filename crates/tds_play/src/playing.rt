@@ -10,7 +10,7 @@ ghost use Rattle.tds_play.specs.declared.playing.PlayRefusal.{PlayRefusal};
 ghost use Rattle.tds_session.specs.Answer.{answer_of, script_answers};
 ghost use Rattle.tds_world.specs.Losses.{marked};
 ghost use Rattle.tds_world.specs.Alone.{AsIfAlone};
-ghost use Rattle.tds_world.specs.AloneShown.{ShowsAsIfAlone, steps_in};
+ghost use Rattle.tds_world.specs.AloneShown.{ShowsAsIfAlone, far_in};
 ghost use Rattle.tds_world.specs.Bounds.{BeginsOnce, IsEvent, IsSetup, OneAttention};
 ghost use Rattle.tds_world.specs.Rest.{NeverStuck};
 ghost use Rattle.tds_world.specs.RestShown.{ShowsNeverStuckWith};
@@ -157,10 +157,11 @@ pub fn play<C: Carrier>(
     ensures never_stuck { C.tells carrier.old → IfOk result (λ report.
         NeverStuck setup.now script_answers (world_of setup.now events.now report.events)) }
     ensures as_if_alone { C.tells carrier.old → IfOk result (λ report.
-        AsIfAlone script_answers (world_of setup.now events.now report.events)) }
+        AsIfAlone setup.now.on_attention script_answers
+        (world_of setup.now events.now report.events)) }
     ensures told_alone { C.tells carrier.old → IfOk result (λ report.
-        ShowsAsIfAlone script_answers
-        (steps_in (world_of setup.now events.now report.events)) events.now report) }
+        ShowsAsIfAlone setup.now.on_attention script_answers
+        (far_in (world_of setup.now events.now report.events)) events.now report) }
     // With the events behind it that bring a connection to rest, the report shows it at rest.
     ensures comes_to_rest { C.tells carrier.old
         → IfOk result (ShowsNeverStuckWith setup.now script_answers events.now) }
@@ -213,7 +214,7 @@ pub fn play_with<E: Engine + Copy, C: Carrier>(
 {
     match packet_size(setup, events.len()) {
         Ok(size) => {
-            let player = Player::new(alloc, engine, size, setup.max);
+            let player = Player::new(alloc, engine, size, setup.max, setup.on_attention);
             play_events(alloc, player, events, carrier)
         }
         Err(refusal) => Err(refusal),

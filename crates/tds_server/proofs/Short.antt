@@ -1,5 +1,5 @@
 -- The steps that a server makes itself fit into a packet.
-use Rattle.std.proofs.Common.{rules, ℕ, ◌≤◌, ◌<◌, List, [], ◌∷◌, ◌++◌, length, arith, refl, ap, subst, sym, codes, ◌==◌, Bool, true, false, if◌then◌else◌, ◌≡◌, length-append, Option, Some, None}
+use Rattle.std.proofs.Common.{rules, ℕ, ◌≤◌, ◌<◌, List, [], ◌∷◌, ◌++◌, length, arith, refl, ap, subst, sym, codes, ◌==◌, Bool, true, false, if◌then◌else◌, ◌≡◌, length-append, Option, Some, None, lit≤}
 use Rattle.std.specs.List.{flat_map}
 use Rattle.std.proofs.lemmas.Bool.Decides.{nat_tests}
 use Rattle.std.proofs.lemmas.Grind.{flat_map-append}
@@ -43,6 +43,12 @@ short_done status lawful = record { fits = lawful; short = omega (arith, done_co
 pub acknowledging : FitsOnePacket (token.Done 32 0 0 ∷ [])
 unfolding is_done_status
 acknowledging = one _ (short_done 32 refl)
+
+pub rolling_back : (d : ℕ) → 0 < d → FitsOnePacket (token.Env (change.Rollback d) ∷ token.Done 32 0 0 ∷ [])
+rolling_back d some = record {
+  fit = All-cons Fits (token.Env (change.Rollback d)) (token.Done 32 0 0 ∷ []) some acknowledging.fit;
+  short = lit≤ tt;
+}
 
 pub finished : (failed : Bool) → FitsOnePacket (final failed ∷ [])
 finished failed = one _ (short_done _ (is_lawful_final failed))

@@ -82,5 +82,5 @@ IsNext step steps a reset tokens after next =
 abbrev pub phase_of : {S : Type 0} → (SessionState → S → Effect) → SessionState → State S → List ℕ → Phase
 phase_of step s state.Waiting content = Waiting
 phase_of step s (state.Receiving kind reset) content = Receiving (record { kind = kind; reset = reset; content = content })
-phase_of step s (state.Answering a) content = Answering (steps_of step s a) a.packet_id
+phase_of step s (state.Answering a) content = Answering (steps_of step s a) a.packet_id a.begun
 phase_of step s (state.Broken fault) content = Broken fault

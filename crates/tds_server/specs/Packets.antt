@@ -4,6 +4,8 @@ use Rattle.std.specs.List.{All, flat_map}
 use Rattle.tds_packet.specs.declared.kind.Kind.TheVariants as kind
 use Rattle.tds_packet.specs.Sent.{end_bit, sent_bytes}
 use Rattle.tds_token.specs.DoneStatus as done_status
+use Rattle.tds_session.specs.Attention.{acknowledging}
+use Rattle.tds_token.specs.declared.env_change.EnvChange.{EnvChange}
 use Rattle.tds_token.specs.declared.token.Token.{Token}
 use Rattle.tds_token.specs.declared.token.Token.TheVariants as token
 use Rattle.tds_token.specs.Layout.{Fits, spelling}
@@ -30,6 +32,7 @@ answer_packet id last tokens = sent_bytes kind.Answer (end_bit last) id (flat_ma
 abbrev pub next_id : ℕ → ℕ
 next_id id = (id + 1) % 256
 
--- what acknowledges an attention: one DONE with bit `0020` (MS-TDS 2.2.7.6), which ends its message
-abbrev pub acknowledgement : ℕ → List ℕ
-acknowledgement id = answer_packet id true (token.Done done_status.attention 0 0 ∷ [])
+-- what acknowledges an attention: these changes and a DONE with bit `0020` (MS-TDS 2.2.7.9, 2.2.7.6),
+-- in one packet that ends its message
+abbrev pub acknowledgement : ℕ → List EnvChange → List ℕ
+acknowledgement id changes = answer_packet id true (acknowledging changes)

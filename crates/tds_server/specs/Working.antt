@@ -19,7 +19,7 @@ idles s = record { state = s; answer = Idle; packet = [] }
 -- what is left behind a step, and the answer: the last one ends it
 abbrev pub phase_behind : Bool → List Step → ℕ → Phase
 phase_behind true due id = Waiting
-phase_behind false due id = Answering due (next_id id)
+phase_behind false due id = Answering due (next_id id) true
 
 abbrev pub worked_by : Bool → Worked
 worked_by true = Finished
@@ -36,8 +36,8 @@ does s step rest id = record {
 abbrev pub works_in : {E : Type 0} → ServerState E → Phase → Work E
 works_in s Waiting = idles s
 works_in s (Receiving message) = idles s
-works_in s (Answering [] id) = idles s
-works_in s (Answering (step ∷ rest) id) = does s step rest id
+works_in s (Answering [] id begun) = idles s
+works_in s (Answering (step ∷ rest) id begun) = does s step rest id
 works_in s (Broken fault) = idles s
 
 -- what a call of `work` does

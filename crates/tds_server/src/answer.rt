@@ -1,5 +1,5 @@
 //! What is left of an answer, and how its next step is done.
-ghost use Rattle.std.specs.Prelude.{◌≡◌, ℕ, ◌∷◌, ◌+◌, ◌++◌, [], drop, IfOk, OnOk, IfNone, IfSome, None, Some};
+ghost use Rattle.std.specs.Prelude.{◌≡◌, ℕ, false, ◌∷◌, ◌+◌, ◌++◌, [], drop, IfOk, OnOk, IfNone, IfSome, None, Some};
 ghost use Rattle.std.specs.List.{list_any};
 ghost use Rattle.tds_server.specs.declared.answer.Answer.{Answer};
 ghost use Rattle.tds_server.specs.declared.answer.Due.TheVariants as due;
@@ -56,6 +56,8 @@ pub(crate) struct Answer<S: Drop> {
     pub(crate) due: Due,
     /// Of the next packet.
     pub(crate) packet_id: u8,
+    /// Whether a step was done.
+    pub(crate) begun: bool,
 }
 
 /// A step that is done: the tokens of its packet, and what is due behind it. Behind the last one
@@ -112,6 +114,7 @@ pub(crate) fn begin_answer<E: Engine>(
         ≡ answer_of (E.statements_of engine.now)
         (E.step_of engine.now) session descriptor reset request.now) }
     ensures first { IfOk result (λ a. a.packet_id ≡ 1) }
+    ensures begun { IfOk result (λ a. a.begun ≡ false) }
 {
     let task = task_of(alloc, engine, request)?;
     Ok(Answer {
@@ -119,6 +122,7 @@ pub(crate) fn begin_answer<E: Engine>(
         descriptor,
         due: first_due(reset),
         packet_id: 1,
+        begun: false,
     })
 }
 

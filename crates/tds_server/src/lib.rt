@@ -18,7 +18,7 @@ pub use fault::ServerFault;
 pub use outcome::{ServerTook, Worked};
 pub use server::Server;
 pub use tds_session::{
-    Engine, Key, ScriptEngine, Session, Statement, Within, Word, begin_transaction,
+    Engine, Key, OnAttention, ScriptEngine, Session, Statement, Within, Word, begin_transaction,
     commit_transaction, roll_back_transaction,
 };
 

@@ -45,8 +45,8 @@ pub(crate) fn read_answer<E: Engine>(
     ensures answer { IfOk result (λ a. (session : SessionState)
         → answered (answer_of (E.statements_of engine.now) (E.step_of engine.now)) session reset
         (read_request kind bytes.now)
-        ≡ Ok (goes_on (Answering (steps_of
-        (E.step_of engine.now) session a) a.packet_id) took.Request)) }
+        ≡ Ok (goes_on session (Answering (steps_of
+        (E.step_of engine.now) session a) a.packet_id a.begun) took.Request)) }
     ensures fault { IfErr result
         (λ fault. fault ≢ Memory → read_request kind bytes.now ≡ Err fault) }
 {

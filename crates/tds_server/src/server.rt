@@ -1,11 +1,11 @@
 //! The server's end of a connection.
 ghost use Rattle.std.specs.Prelude.{◌≡◌, ◌≢◌, ◌≤◌, ◌++◌, length, OnOk, OnErr, IfOk, IfErr, Ok, Err};
 ghost use Rattle.tds_packet.specs.declared.kind.Direction.TheVariants.{ToServer};
+ghost use Rattle.tds_packet.specs.declared.kind.Kind.TheVariants.{Attention};
 ghost use Rattle.tds_packet.specs.Layout.{bits_of, direction_of};
 ghost use Rattle.tds_server.specs.declared.outcome.ServerTook.TheVariants.{NoMemory};
-ghost use Rattle.tds_server.specs.State.{new_server, lost_of, IsAnswering};
-ghost use Rattle.tds_server.specs.Taking.{taken, moved, Moves, TakesMemory, goes_on, attended, acknowledging_id, part_taken};
-ghost use Rattle.tds_server.specs.Packets.{acknowledgement};
+ghost use Rattle.tds_server.specs.State.{new_server, server_with, lost_of, IsAnswering};
+ghost use Rattle.tds_server.specs.Taking.{taken, moved, Moves, TakesMemory, goes_on, attended, part_taken};
 ghost use Rattle.tds_server.specs.Working.{worked};
 ghost use Rattle.tds_session.specs.Answer.{answer_of};
 
@@ -19,7 +19,7 @@ use std::alloc::{AllocError, Global};
 use std::marker::Model;
 use tds_packet::{Kind, PacketRef, PacketSize, Status};
 use tds_request::RequestKind;
-use tds_session::{Engine, Session};
+use tds_session::{Engine, OnAttention, Session};
 
 /// The server's end of a connection, with the engine that runs its statements.
 ///
@@ -30,6 +30,7 @@ use tds_session::{Engine, Session};
 pub struct Server<E: Engine + Drop> {
     alloc: Global,
     engine: E,
+    on_attention: OnAttention,
     session: Session,
     state: State<E::Stmt>,
     /// The data of the message that is being received; in any other state they mean nothing.
@@ -45,6 +46,7 @@ impl<E: Engine + Drop> Model for Server<E> {
 
     ghost view = { λ a. record {
       engine = a.engine;
+      on_attention = a.on_attention;
       session = a.session;
       phase = phase_of
           (E.step_of a.engine) a.session a.state a.data.items;
@@ -52,16 +54,30 @@ impl<E: Engine + Drop> Model for Server<E> {
 }
 
 impl<E: Engine + Drop> Server<E> {
-    /// A server as a connection begins.
+    /// A server as a connection begins, which keeps its transaction at an attention.
     ///
     /// The packet size is not looked at: an answer's packets have at most 512 bytes, and so fit
     /// any, and the packets that come have been through a reader of that size.
-    pub fn new(alloc: Global, engine: E, _size: PacketSize) -> Server<E>
+    pub fn new(alloc: Global, engine: E, size: PacketSize) -> Server<E>
         ensures { result ≡ new_server engine }
+    {
+        Server::with_attention(alloc, engine, size, OnAttention::Keep)
+    }
+
+    /// A server as a connection begins, which does this with its transaction where an attention
+    /// stops an answer.
+    pub fn with_attention(
+        alloc: Global,
+        engine: E,
+        _size: PacketSize,
+        on_attention: OnAttention,
+    ) -> Server<E>
+        ensures { result ≡ server_with on_attention engine }
     {
         Server {
             alloc,
             engine,
+            on_attention,
             session: Session::new(),
             state: State::Waiting,
             data: Vec::new(alloc),
@@ -89,10 +105,12 @@ impl<E: Engine + Drop> Server<E> {
 
     /// Takes a packet of a request, or an attention.
     ///
-    /// A request that is whole is answered from then on, by `work`; the session is never touched
-    /// here. An attention ends what was being received or answered, and is acknowledged at once, by
-    /// one packet that is appended to `reply`. A fault breaks the server, which answers the same
-    /// one from then on. At want of memory nothing changes.
+    /// A request that is whole is answered from then on, by `work`. An attention ends what was being
+    /// received or answered, and is acknowledged at once, by one packet that is appended to `reply`.
+    /// Where it stops an answer in its middle, a server that rolls back (`OnAttention`) rolls the
+    /// transaction back, and the packet tells it, both at once; nothing else touches the session
+    /// here. A fault breaks the server, which answers the same one from then on. At want of memory
+    /// nothing changes.
     pub fn take(
         &mut self,
         packet: PacketRef<'_>,
@@ -100,7 +118,9 @@ impl<E: Engine + Drop> Server<E> {
     ) -> Result<ServerTook, ServerFault>
         requires { direction_of packet.header.kind ≡ ToServer }
         ensures engine { self.new.engine ≡ self.old.engine }
-        ensures session { self.new.session ≡ self.old.session }
+        ensures on_attention { self.new.on_attention ≡ self.old.on_attention }
+        ensures session { packet.entry.header.kind ≢ Attention
+            → self.new.session ≡ self.old.session }
         ensures state { result ≢ Ok NoMemory
             → self.new ≡ (taken (answer_of (E.statements_of self.old.engine)
             (E.step_of self.old.engine)) self.old packet.entry.header packet.entry.data.now).state }
@@ -118,7 +138,7 @@ impl<E: Engine + Drop> Server<E> {
             → (self.new ≡ self.old) × (reply.new.items ≡ reply.old.items) }
         ensures wanted { result ≡ Ok NoMemory
             → TakesMemory (moved (answer_of (E.statements_of self.old.engine)
-            (E.step_of self.old.engine)) self.old.session self.old.phase
+            (E.step_of self.old.engine)) self.old.on_attention self.old.session self.old.phase
             packet.entry.header packet.entry.data.now) }
     {
         match self.take_unbroken(packet, reply) {
@@ -138,21 +158,24 @@ impl<E: Engine + Drop> Server<E> {
     ) -> Result<ServerTook, ServerFault>
         requires { direction_of packet.header.kind ≡ ToServer }
         ensures engine { self.new.engine ≡ self.old.engine }
-        ensures session { self.new.session ≡ self.old.session }
+        ensures on_attention { self.new.on_attention ≡ self.old.on_attention }
+        ensures session { packet.entry.header.kind ≢ Attention
+            → self.new.session ≡ self.old.session }
+        ensures kept { OnErr result (self.new.session ≡ self.old.session) }
         ensures moved { IfOk result (λ took. took ≢ NoMemory
             → Moves (moved (answer_of (E.statements_of self.old.engine)
-            (E.step_of self.old.engine)) self.old.session self.old.phase
+            (E.step_of self.old.engine)) self.old.on_attention self.old.session self.old.phase
             packet.entry.header packet.entry.data.now)
-            took self.new.phase reply.old.items reply.new.items) }
+            took self.new.session self.new.phase reply.old.items reply.new.items) }
         ensures memory { result ≡ Ok NoMemory
             → (self.new ≡ self.old) × (reply.new.items ≡ reply.old.items) }
         ensures wanted { result ≡ Ok NoMemory
             → TakesMemory (moved (answer_of (E.statements_of self.old.engine)
-            (E.step_of self.old.engine)) self.old.session self.old.phase
+            (E.step_of self.old.engine)) self.old.on_attention self.old.session self.old.phase
             packet.entry.header packet.entry.data.now) }
         ensures fault { IfErr result
             (λ fault. moved (answer_of (E.statements_of self.old.engine)
-            (E.step_of self.old.engine)) self.old.session self.old.phase
+            (E.step_of self.old.engine)) self.old.on_attention self.old.session self.old.phase
             packet.entry.header packet.entry.data.now ≡ Err fault) }
         ensures quiet { OnErr result (reply.new.items ≡ reply.old.items) }
     {
@@ -177,12 +200,13 @@ impl<E: Engine + Drop> Server<E> {
         data: &[u8],
     ) -> Result<ServerTook, ServerFault>
         ensures engine { self.new.engine ≡ self.old.engine }
+        ensures on_attention { self.new.on_attention ≡ self.old.on_attention }
         ensures session { self.new.session ≡ self.old.session }
         ensures moved { IfOk result
             (λ took. took ≢ NoMemory → part_taken
             (answer_of (E.statements_of self.old.engine)
             (E.step_of self.old.engine)) self.old.session self.old.phase kind
-            (bits_of status) «data».now ≡ Ok (goes_on self.new.phase took)) }
+            (bits_of status) «data».now ≡ Ok (goes_on self.old.session self.new.phase took)) }
         ensures memory { result ≡ Ok NoMemory → self.new ≡ self.old }
         ensures wanted { result ≡ Ok NoMemory
             → TakesMemory (part_taken
@@ -235,33 +259,32 @@ impl<E: Engine + Drop> Server<E> {
         reply: &mut Vec<u8>,
     ) -> Result<ServerTook, ServerFault>
         ensures engine { self.new.engine ≡ self.old.engine }
-        ensures session { self.new.session ≡ self.old.session }
-        ensures moved { IfOk result
-            (λ took. took ≢ NoMemory → attended self.old.phase (bits_of status) «data».now
-            ≡ Ok (record {
-              phase = self.new.phase;
-              took = took;
-              reply = acknowledgement
-                  (acknowledging_id self.old.phase);
-            })) }
-        ensures reply { IfOk result
-            (λ took. took ≢ NoMemory → reply.new.items
-            ≡ reply.old.items ++ acknowledgement (acknowledging_id self.old.phase)) }
+        ensures on_attention { self.new.on_attention ≡ self.old.on_attention }
+        ensures kept { OnErr result (self.new.session ≡ self.old.session) }
+        ensures moved { IfOk result (λ took. took ≢ NoMemory
+            → Moves (attended self.old.on_attention self.old.session self.old.phase
+            (bits_of status) «data».now)
+            took self.new.session self.new.phase reply.old.items reply.new.items) }
         ensures memory { result ≡ Ok NoMemory
             → (self.new ≡ self.old) × (reply.new.items ≡ reply.old.items) }
         ensures wanted { result ≡ Ok NoMemory
-            → TakesMemory (attended self.old.phase (bits_of status) «data».now) }
+            → TakesMemory (attended self.old.on_attention self.old.session self.old.phase
+            (bits_of status) «data».now) }
         ensures fault { IfErr result
-            (λ fault. attended self.old.phase (bits_of status) «data».now ≡ Err fault) }
+            (λ fault. attended self.old.on_attention self.old.session self.old.phase
+            (bits_of status) «data».now ≡ Err fault) }
         ensures quiet { OnErr result (reply.new.items ≡ reply.old.items) }
     {
         if !status.ends_alone() || !data.is_empty() {
             return Err(ServerFault::WrongAttention);
         }
         let packet_id = self.state.acknowledging_id();
-        if put_acknowledgement(self.alloc, reply, packet_id).is_err() {
+        let mut left = self.session;
+        let rolled_back = self.on_attention.stop(self.state.is_midway(), &mut left);
+        if put_acknowledgement(self.alloc, reply, packet_id, rolled_back).is_err() {
             return Ok(ServerTook::NoMemory);
         }
+        self.session = left;
         self.state = State::Waiting;
         Ok(ServerTook::Acknowledged)
     }
@@ -272,6 +295,7 @@ impl<E: Engine + Drop> Server<E> {
     /// packet alone. Where nothing is being answered, also in a broken server, nothing happens.
     pub fn work(&mut self, out: &mut Vec<u8>) -> Result<Worked, AllocError>
         ensures engine { self.new.engine ≡ self.old.engine }
+        ensures on_attention { self.new.on_attention ≡ self.old.on_attention }
         ensures state { OnOk result (self.new ≡ (worked self.old).state) }
         ensures answer { IfOk result (λ answer. answer ≡ (worked self.old).answer) }
         ensures packet { OnOk result (out.new.items ≡ out.old.items ++ (worked self.old).packet) }
@@ -298,6 +322,7 @@ impl<E: Engine + Drop> Server<E> {
             Some(due) => {
                 answer.due = due;
                 answer.packet_id = answer.packet_id.wrapping_add(1);
+                answer.begun = true;
                 Ok(Worked::Step)
             }
             None => {

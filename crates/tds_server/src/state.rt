@@ -2,7 +2,7 @@
 ghost use Rattle.std.specs.Prelude.{◌≡◌, ◌≤◌, ℕ, List, length, take, Ok, Err, MatchResult};
 ghost use Rattle.tds_packet.specs.Layout.{bits_of};
 ghost use Rattle.tds_server.specs.Due.{phase_of};
-ghost use Rattle.tds_server.specs.Taking.{fault_in, message_before, content_of, acknowledging_id};
+ghost use Rattle.tds_server.specs.Taking.{fault_in, message_before, content_of, acknowledging_id, is_midway};
 ghost use Rattle.tds_session.specs.Effects.{Effect};
 ghost use Rattle.tds_session.specs.Session.{SessionState};
 
@@ -91,6 +91,19 @@ impl<S: Drop> State<S> {
             State::Waiting => 0,
             State::Answering(_) => 0,
             State::Broken(_) => 0,
+        }
+    }
+
+    /// Whether an answer is in its middle: a step of it was done, and one is left.
+    pub(crate) fn is_midway(&self) -> bool
+        ensures { (step : SessionState → S → Effect) (session : SessionState) (content : List ℕ)
+            → result ≡ is_midway (phase_of step session self.now content) }
+    {
+        match self {
+            State::Answering(answer) => answer.begun,
+            State::Waiting => false,
+            State::Receiving { .. } => false,
+            State::Broken(_) => false,
         }
     }
 

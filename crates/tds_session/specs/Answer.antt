@@ -55,8 +55,10 @@ steps_in step s (Some qs) = batch_steps step s qs
 abbrev pub steps_of : {S : Type 0} → (List ℕ → Option (List S)) → (SessionState → S → Effect) → SessionState → Request → List Step
 steps_of statements step s (request.Batch text) = steps_in step s (statements text)
 steps_of statements step s (request.Begin isolation) = last_step (begins s) ∷ []
-steps_of statements step s (request.Commit anew) = last_step (completes ending.Commit anew s) ∷ []
-steps_of statements step s (request.Rollback anew) = last_step (completes ending.Rollback anew s) ∷ []
+steps_of statements step s (request.Commit anew) =
+    last_step (completes ending.Commit anew s) ∷ []
+steps_of statements step s (request.Rollback anew) =
+    last_step (completes ending.Rollback anew s) ∷ []
 
 -- the steps of a request whose descriptor differs from the session's
 abbrev pub wrong_descriptor : SessionState → Request → List Step

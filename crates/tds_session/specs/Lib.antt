@@ -7,5 +7,6 @@ pub mod Effects
 pub mod Script
 pub mod Lawful
 pub mod Answer
+pub mod Attention
 pub mod Laws
 pub mod Spelling

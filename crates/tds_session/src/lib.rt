@@ -2,6 +2,7 @@
 //! with.
 #![tactic(auto)]
 
+mod attention;
 mod engine;
 pub mod laws;
 mod message;
@@ -13,6 +14,7 @@ mod statement;
 mod transaction;
 mod words;
 
+pub use attention::OnAttention;
 pub use engine::Engine;
 pub use message::error_token;
 pub use script::ScriptEngine;

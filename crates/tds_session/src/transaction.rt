@@ -12,7 +12,9 @@ use tds_token::{EnvChange, Token};
 /// How a transaction ends.
 #[derive(Clone, Copy, Debug, PartialEq, Eq)]
 pub enum Ending {
+    /// What was done in it stays.
     Commit,
+    /// What was done in it is undone.
     Rollback,
 }
 

@@ -1,10 +1,11 @@
 -- JSON values and the schedules that they spell, computed.
-use Rattle.std.specs.Prelude.{◌≡◌, refl, ℕ, ◌^◌, ◌-◌, negsuc, List, [], ◌∷◌, Some, None, codes}
+use Rattle.std.specs.Prelude.{◌≡◌, refl, ℕ, ◌^◌, ◌-◌, negsuc, true, false, List, [], ◌∷◌, Some, None, codes}
 use Rattle.std.specs.Str.{chars}
-use Rattle.serde_json.specs.Data.{Data, null, string, number, array, object, unsigned, negative, Items, no_items, item, no_members, member}
+use Rattle.serde_json.specs.Data.{Data, null, boolean, string, number, array, object, unsigned, negative, Items, no_items, item, no_members, member}
 use Rattle.tds_request.specs.declared.request.Request.TheVariants as request
 use Rattle.tds_world.specs.declared.event.Event.TheVariants as event
-use Rattle.tds_text.specs.declared.schedule.version.Version.TheVariants.{One, Two}
+use Rattle.tds_session.specs.declared.attention.OnAttention.TheVariants.{Keep, RollBack}
+use Rattle.tds_text.specs.declared.schedule.version.Version.TheVariants.{One, Two, Three}
 use Rattle.tds_text.specs.Events.{event_of}
 use Rattle.tds_text.specs.Schedule.{outer_of, events_of, wrong_place}
 
@@ -57,7 +58,7 @@ unfolding chars
 empty_text = refl
 
 -- the first run
-first_run : outer_of (file 1 512 []) ≡ Some (One, (record { packet_size = 512; max = 1 }, no_items))
+first_run : outer_of (file 1 512 []) ≡ Some (One, (record { packet_size = 512; max = 1; on_attention = Keep }, no_items))
 first_run = refl
 
 first_events : events_of One (values (called (codes "lease") [] ∷ called (codes "begin") (whole 1 ∷ whole 0 ∷ []) ∷ called (codes "send") (whole 1 ∷ [])
@@ -66,7 +67,7 @@ first_events : events_of One (values (called (codes "lease") [] ∷ called (code
 first_events = refl
 
 -- the object is looked at first, then the events in order
-wrong_version : wrong_place (file 3 512 (null ∷ [])) ≡ Some 0
+wrong_version : wrong_place (file 4 512 (null ∷ [])) ≡ Some 0
 wrong_version = refl
 
 wrong_size : wrong_place (file 1 65536 []) ≡ Some 0
@@ -101,3 +102,30 @@ anew_in_one = refl
 anew_in_two : wrong_place (file 2 512 (called (codes "lease") [] ∷ commit_then ∷ [])) ≡ None
 unfolding commit_then
 anew_in_two = refl
+
+-- ---- what an attention does, in version 3
+
+-- a schedule's object with a fifth member
+abbrev file_with : ℕ → Data → List Data → Data
+file_with version rollback events = object (member (codes "events") (array (values events)) (member (codes "max") (whole 1) (member (codes "packet_size") (whole 512)
+    (member (codes "rollback_on_attention") rollback (member (codes "version") (whole version) no_members)))))
+
+rolls_back : outer_of (file_with 3 (boolean true) []) ≡ Some (Three, (record { packet_size = 512; max = 1; on_attention = RollBack }, no_items))
+rolls_back = refl
+
+keeps : outer_of (file_with 3 (boolean false) []) ≡ Some (Three, (record { packet_size = 512; max = 1; on_attention = Keep }, no_items))
+keeps = refl
+
+-- it is a key of version 3 alone, must be there, and is no number
+too_early : wrong_place (file_with 2 (boolean true) []) ≡ Some 0
+too_early = refl
+
+not_said : wrong_place (file 3 512 []) ≡ Some 0
+not_said = refl
+
+no_boolean : wrong_place (file_with 3 (whole 1) []) ≡ Some 0
+no_boolean = refl
+
+anew_in_three : wrong_place (file_with 3 (boolean true) (called (codes "lease") [] ∷ commit_then ∷ [])) ≡ None
+unfolding commit_then
+anew_in_three = refl

@@ -1,13 +1,16 @@
 -- Which JSON values spell a schedule.
-use Rattle.std.specs.Prelude.{◌≡◌, ℕ, ◌+◌, ◌^◌, ◌==◌, List, [], ◌∷◌, Bool, false, if◌then◌else◌, Option, Some, None, option_map, option_and_then, is_some, IsUtf8, codes}
+use Rattle.std.specs.Prelude.{◌≡◌, ℕ, ◌+◌, ◌^◌, ◌==◌, List, [], ◌∷◌, Bool, true, false, if◌then◌else◌, Option, Some, None, option_map, option_and_then, is_some, IsUtf8, codes}
 use Rattle.serde_json.specs.Data.{Data, Items, no_items, item, Members}
 use Rattle.serde_json.specs.Events.{members_len}
-use Rattle.serde_json.specs.Find.{get, as_array, as_object}
+use Rattle.serde_json.specs.Find.{get, as_array, as_bool, as_object}
 use Rattle.serde_json.specs.Read.{read}
 use Rattle.tds_world.specs.declared.event.Setup.{Setup}
 use Rattle.tds_world.specs.declared.event.Event.{Event}
 use Rattle.tds_text.specs.Fields.{both, such, whole_number, number_below}
 use Rattle.tds_text.specs.declared.schedule.version.Version.{Version}
+use Rattle.tds_session.specs.declared.attention.OnAttention.{OnAttention}
+use Rattle.tds_session.specs.declared.attention.OnAttention.TheVariants.{Keep, RollBack}
+use Rattle.tds_text.specs.declared.schedule.version.Version.TheVariants.{One, Two, Three}
 use Rattle.tds_text.specs.Versions.{version_numbered, keys_of}
 use Rattle.tds_text.specs.Events.{event_of}
 
@@ -33,13 +36,25 @@ version_named value = option_and_then version_numbered (option_and_then whole_nu
 abbrev pub version_of : Data → Option Version
 version_of value = such (λ version. has_keys (keys_of version) value) (version_named value)
 
--- A setup of its two parts.
-abbrev pub setup_from : Option ℕ → Option ℕ → Option Setup
-setup_from packet_size max = option_map (λ p. record { packet_size = p.0; max = p.1 }) (both packet_size max)
+-- What an attention does to the transaction, by whether it rolls it back.
+abbrev pub by_rollback : Bool → OnAttention
+by_rollback true = RollBack
+by_rollback false = Keep
+
+-- `rollback_on_attention` is true or false, from version 3 on. Before it the transaction stays.
+abbrev pub on_attention_of : Version → Data → Option OnAttention
+on_attention_of One value = Some Keep
+on_attention_of Two value = Some Keep
+on_attention_of Three value = option_map by_rollback (option_and_then as_bool (get (codes "rollback_on_attention") value))
+
+-- A setup of its three parts.
+abbrev pub setup_from : Option ℕ → Option ℕ → Option OnAttention → Option Setup
+setup_from packet_size max on_attention = option_map (λ p. record { packet_size = p.0; max = p.1.0; on_attention = p.1.1 }) (both packet_size (both max on_attention))
 
 -- `packet_size` fits 16 bits, and `max` 8.
-abbrev pub setup_of : Data → Option Setup
-setup_of value = setup_from (option_and_then (number_below (2 ^ 16)) (get (codes "packet_size") value)) (option_and_then (number_below (2 ^ 8)) (get (codes "max") value))
+abbrev pub setup_of : Version → Data → Option Setup
+setup_of version value =
+    setup_from (option_and_then (number_below (2 ^ 16)) (get (codes "packet_size") value)) (option_and_then (number_below (2 ^ 8)) (get (codes "max") value)) (on_attention_of version value)
 
 -- `events` is an array.
 abbrev pub values_of : Data → Option Items
@@ -47,7 +62,7 @@ values_of value = option_and_then as_array (get (codes "events") value)
 
 -- The outer object: its version, the setup, and the values that are to spell the events.
 abbrev pub outer_of : Data → Option (Version × (Setup × Items))
-outer_of value = both (version_of value) (both (setup_of value) (values_of value))
+outer_of value = option_and_then (λ version. option_map (λ p. (version, p)) (both (setup_of version value) (values_of value))) (version_of value)
 
 -- ---- the events
 

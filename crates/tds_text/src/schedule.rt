@@ -2,7 +2,8 @@
 ghost use Rattle.std.specs.Prelude.{◌≡◌, Some, None, List, ℕ, true, IfOk, IsErrOf, option_map};
 ghost use Rattle.serde_json.specs.View.{view, items_view};
 ghost use Rattle.tds_text.specs.Files.{Spells, IsWrongAt, IsNoJson};
-ghost use Rattle.tds_text.specs.Schedule.{IsSchedule, has_keys, version_of, setup_of, values_of};
+ghost use Rattle.tds_text.specs.Schedule.{IsSchedule, has_keys, version_of, values_of};
+ghost use Rattle.tds_text.specs.Schedule.{setup_of, on_attention_of};
 ghost use Rattle.tds_text.specs.Schedule.{outer_of, events_of, wrong_event, wrong_place};
 
 mod event;
@@ -17,12 +18,14 @@ pub use fault::ScheduleFault;
 pub use laws::right_or_wrong_somewhere;
 use serde_json::Value;
 use std::alloc::Global;
+use tds_session::OnAttention;
 use tds_world::{Event, Setup};
 use version::Version;
 
-/// Reads a schedule file of version 1 or 2: a JSON object with the keys `version`, `packet_size`,
+/// Reads a schedule file of version 1, 2 or 3: a JSON object with the keys `version`, `packet_size`,
 /// `max` and `events`, each event an array. Version 2 has the arrays of version 1, and those of a
-/// commit and a rollback that begin the next transaction. Where the bytes are JSON and memory is
+/// commit and a rollback that begin the next transaction. Version 3 has the further key
+/// `rollback_on_attention`, which is true or false; before it the transaction is kept. Where the bytes are JSON and memory is
 /// there, they are a schedule, or the fault tells the first wrong place: 0 outside the events, which
 /// are looked at after it, in order, from 1.
 pub fn read_schedule(alloc: Global, bytes: &[u8]) -> Result<(Setup, Vec<Event>), ScheduleFault>
@@ -58,7 +61,7 @@ fn read_outer(value: &Value) -> Option<(Version, (Setup, &[Value]))>
         ≡ outer_of (view value.now) }
 {
     let version = read_version(value)?;
-    Some((version, (read_setup(value)?, read_values(value)?)))
+    Some((version, (read_setup(version, value)?, read_values(value)?)))
 }
 
 fn read_version(value: &Value) -> Option<Version>
@@ -81,15 +84,28 @@ fn has_so_many(count: usize, value: &Value) -> bool
     }
 }
 
-fn read_setup(value: &Value) -> Option<Setup>
-    ensures { result ≡ setup_of (view value.now) }
+fn read_setup(version: Version, value: &Value) -> Option<Setup>
+    ensures { result ≡ setup_of version (view value.now) }
 {
     let packet_size = value.get("packet_size").and_then(Value::as_u64)?;
     let max = value.get("max").and_then(Value::as_u64)?;
     Some(Setup {
         packet_size: u16::try_from(packet_size).ok()?,
         max: u8::try_from(max).ok()?,
+        on_attention: read_on_attention(version, value)?,
     })
+}
+
+fn read_on_attention(version: Version, value: &Value) -> Option<OnAttention>
+    ensures { result ≡ on_attention_of version (view value.now) }
+{
+    match version {
+        Version::One | Version::Two => Some(OnAttention::Keep),
+        Version::Three => match value.get("rollback_on_attention")?.as_bool()? {
+            true => Some(OnAttention::RollBack),
+            false => Some(OnAttention::Keep),
+        },
+    }
 }
 
 fn read_values(value: &Value) -> Option<&[Value]>

@@ -9,3 +9,4 @@ pub mod Grows
 pub mod Worlds
 pub mod Noted
 pub mod Moves
+pub mod Options

@@ -6,6 +6,8 @@ pub mod RefusedEvents
 pub mod CommitAndRollback
 pub mod AnErrorEndsTheBatch
 pub mod AttentionInTheMiddle
+pub mod RolledBackAtAnAttention
+pub mod KeptBeforeTheFirstStep
 pub mod AnswerAndAttentionCross
 pub mod CancelledBeforeItsFirstPacket
 pub mod CancelledInTheMiddleOfItsPackets
@@ -29,6 +31,7 @@ pub mod ARestartedServerHasNoTransactions
 pub mod EachTransactionBeginsOnce
 pub mod BegunAnew
 pub mod BegunAnewAndCancelled
+pub mod AtTheLastDescriptor
 pub mod LinksThatFail
 pub mod PartOfAnAnswerComes
 pub mod LostAtACancel

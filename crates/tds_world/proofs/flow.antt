@@ -1,6 +1,7 @@
 -- What waits on a connection and what is due, by where its newest request is.
 pub mod Flow
 pub mod Arrivals
+pub mod Stops
 pub mod Heard
 pub mod Keeps
 pub mod Cancels

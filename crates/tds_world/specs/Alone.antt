@@ -3,9 +3,13 @@
 use Rattle.std.specs.Prelude.{ℕ, zero, suc, ◌+◌, ◌≤◌, ◌≡◌, length, List, [], ◌∷◌, ◌++◌, map, Bool, true, false, ◌==◌, if◌then◌else◌, Option, Some, None, filter}
 use Rattle.tds_packet.specs.declared.status.Reset.{Reset}
 use Rattle.tds_request.specs.declared.request.Request.{Request}
+use Rattle.tds_session.specs.declared.attention.OnAttention.{OnAttention}
+use Rattle.tds_session.specs.declared.attention.OnAttention.TheVariants as on_attention
 use Rattle.tds_session.specs.Answer as answer
 use Rattle.tds_session.specs.Answer.{Answers}
+use Rattle.tds_session.specs.Attention.{stop_by}
 use Rattle.tds_session.specs.Session.{SessionState, new_session, begun, is_in_transaction, last_descriptor}
+use Rattle.tds_token.specs.declared.env_change.EnvChange.{EnvChange}
 use Rattle.tds_token.specs.declared.token.Token.{Token}
 use Rattle.tds_token.specs.Told.{told}
 use Rattle.tds_world.specs.Connection.{Connection, records}
@@ -23,12 +27,18 @@ pub record AreAlike (s t : SessionState) : Type 0 where
 
 -- ---- A request of a lease, and what came of it
 
--- What it asked, the session that it ran in, how many steps of its answer were done, what its caller
--- was given, and whether it is finished.
+-- How far it got: how many steps of its answer were done, its reset apart, and whether its attention
+-- rolled the transaction back behind them.
+pub record Progress : Type 0 where
+  pub done : ℕ
+  pub rolled : Bool
+
+-- What it asked, the session that it ran in, how far it got, what its caller was given, and whether it
+-- is finished.
 pub record Exchange : Type 0 where
   pub request : Request
   pub ran : Option SessionState
-  pub done : ℕ
+  pub got : Progress
   pub given : List Token
   pub finished : Bool
 
@@ -41,17 +51,35 @@ abbrev pub steps_among : ℕ → List Down → ℕ
 steps_among number [] = 0
 steps_among number (Step r place s ∷ es) =
     (if r == number then counted s.reset else 0) + steps_among number es
-steps_among number (Acknowledgement r place ∷ es) = steps_among number es
+steps_among number (Acknowledgement r place changes ∷ es) = steps_among number es
 
--- So many were done: each goes out as it is done.
-abbrev pub steps_done : Connection → ℕ → ℕ
-steps_done c number = steps_among number (sent_down c)
+-- Whether an acknowledgement of it is among these that tells a change: the transaction is rolled back.
+abbrev pub tells_back : Bool → List EnvChange → Bool → Bool
+tells_back true (change ∷ changes) later = true
+tells_back true [] later = later
+tells_back false changes later = later
+
+abbrev pub rolls_among : ℕ → List Down → Bool
+rolls_among number [] = false
+rolls_among number (Step r place s ∷ es) = rolls_among number es
+rolls_among number (Acknowledgement r place changes ∷ es) =
+    tells_back (r == number) changes (rolls_among number es)
+
+-- So far it got: what the server does goes out as it is done.
+abbrev pub progress_among : List Down → ℕ → Progress
+progress_among sent number = record {
+  done = steps_among number sent;
+  rolled = rolls_among number sent;
+}
+
+abbrev pub progress_of : Connection → ℕ → Progress
+progress_of c number = progress_among (sent_down c) number
 
 abbrev pub exchange_of : Connection → Record → Exchange
 exchange_of c q = record {
   request = q.asking.request;
   ran = q.ran;
-  done = steps_done c q.number;
+  got = progress_of c q.number;
   given = q.given;
   finished = is_finished q.fate;
 }
@@ -71,6 +99,15 @@ abbrev pub session_after : SessionState → ℕ → List answer.Step → Session
 session_after s zero steps = s
 session_after s (suc n) [] = s
 session_after s (suc n) (t ∷ ts) = session_after t.after n ts
+
+-- And behind an attention that rolls back, or doesn't.
+abbrev pub left_by : Bool → SessionState → SessionState
+left_by rolled s = (stop_by rolled s).after
+
+-- The own session behind a request that got so far there too.
+abbrev pub left_alone : Answers → SessionState → Exchange → SessionState
+left_alone answers own x =
+    left_by x.got.rolled (session_after own x.got.done (own_steps answers own x.request))
 
 -- What a lease's own session is before its first request: new; or in a transaction that was just
 -- begun, if the lease came from a ticket.
@@ -96,19 +133,25 @@ abbrev pub TellsAlone : Answers → SessionState → Exchange → Option Session
 TellsAlone answers own x None = (x.given ≡ []) × (x.finished ≡ false)
 TellsAlone answers own x (Some ran) = IsToldAlone answers own ran x
 
--- The requests of a lease, one after the other, on a server of its own, where as many steps of each
--- answer are done as were done of it.
-abbrev pub RunsAlone : Answers → SessionState → List Exchange → Type 0
-RunsAlone answers own [] = Unit {0}
-RunsAlone answers own (x ∷ xs) =
-    TellsAlone answers own x x.ran
-    × RunsAlone answers (session_after own x.done (own_steps answers own x.request)) xs
+-- A server that keeps transactions at an attention rolls none back.
+abbrev pub MayRollBack : OnAttention → Bool → Type 0
+MayRollBack on_attention.Keep rolled = rolled ≡ false
+MayRollBack on_attention.RollBack rolled = Unit {0}
+
+-- The requests of a lease, one after the other, on a server of its own that does the same at an
+-- attention, where each gets as far as it got.
+abbrev pub RunsAlone : OnAttention → Answers → SessionState → List Exchange → Type 0
+RunsAlone attention answers own [] = Unit {0}
+RunsAlone attention answers own (x ∷ xs) =
+    TellsAlone answers own x x.ran × MayRollBack attention x.got.rolled
+    × RunsAlone attention answers (left_alone answers own x) xs
 
 -- Each lease's requests are told what they would be told alone.
-abbrev pub AsIfAlone : Answers → World → Type 0
-AsIfAlone answers w =
+abbrev pub AsIfAlone : OnAttention → Answers → World → Type 0
+AsIfAlone attention answers w =
     OfEachConnection (λ c.
-    (lease : ℕ) → RunsAlone answers (own_session (numbered w.leases lease)) (exchanges_of lease c)) w
+    (lease : ℕ)
+    → RunsAlone attention answers (own_session (numbered w.leases lease)) (exchanges_of lease c)) w
 
 -- ---- Answers that are blind to the numbers of transactions
 

@@ -1,10 +1,12 @@
 -- What the server and the client do when an entry arrives, what comes with a delivery, and what the
 -- server's work sends.
-use Rattle.std.specs.Prelude.{ℕ, ◌+◌, ◌-◌, min, List, [], ◌∷◌, ◌++◌, length, Bool, true, if◌then◌else◌, nat_lt, Option, Some, None, unwrap_or}
+use Rattle.std.specs.Prelude.{ℕ, ◌+◌, ◌-◌, min, List, [], ◌∷◌, ◌++◌, length, Bool, true, false, if◌then◌else◌, nat_lt, Option, Some, None, unwrap_or}
 use Rattle.tds_packet.specs.declared.status.Reset.{Reset}
 use Rattle.tds_packet.specs.Resets.{reset_effect}
 use Rattle.tds_session.specs.Answer as answer
 use Rattle.tds_session.specs.Answer.{Answers}
+use Rattle.tds_session.specs.Attention.{Stop, stopped}
+use Rattle.tds_token.specs.declared.env_change.EnvChange.{EnvChange}
 use Rattle.tds_token.specs.Told.{changes_of, applied}
 use Rattle.tds_world.specs.declared.report.Place.TheVariants as place
 use Rattle.tds_world.specs.Connection.{Connection, Standing, In, is_idle, with_record, up_underway, down_underway}
@@ -18,9 +20,18 @@ abbrev pub acknowledged_at : List answer.Step → ℕ → ℕ
 acknowledged_at [] taken = 1
 acknowledged_at (s ∷ ss) taken = taken + 1
 
+-- Whether an answer of which so many steps were taken is in its middle: one was, and these are due.
+abbrev pub is_midway : ℕ → List answer.Step → Bool
+is_midway taken [] = false
+is_midway taken (s ∷ ss) = nat_lt 0 taken
+
+-- What an attention does to the server's session.
+abbrev pub stops : Connection → Stop
+stops c = stopped c.on_attention (is_midway c.taken c.due) c.session
+
 -- An entry arrives at the server. With a request's end its whole answer is due, from the session of
 -- this moment, and no step of it is taken yet. A word to drop forgets the parts. An attention stops
--- the answer, and is acknowledged.
+-- the answer, and is acknowledged: the session changes as the acknowledgement tells, both at once.
 abbrev pub server_acts : Answers → Connection → Up → Connection
 server_acts answers c (Part r p) = record c { parts = c.parts ++ p.body }
 server_acts answers c (End r a p) = record c {
@@ -34,7 +45,8 @@ server_acts answers c (Attention r) = record c {
   parts = [];
   due = [];
   taken = 0;
-  to_client = append (Acknowledgement r (acknowledged_at c.due c.taken)) c.to_client;
+  session = (stops c).after;
+  to_client = append (Acknowledgement r (acknowledged_at c.due c.taken) (stops c).changes) c.to_client;
 }
 
 -- The server takes the next step of the answer that is due: its session becomes the step's, and the
@@ -55,6 +67,10 @@ works c = works_on c c.due
 abbrev pub heard_after : ℕ → answer.Step → Option ℕ
 heard_after descriptor s = applied (reset_effect s.reset) descriptor (changes_of s.tokens)
 
+-- The descriptor after the changes of an acknowledgement. No reset ends there.
+abbrev pub heard_behind : ℕ → List EnvChange → Option ℕ
+heard_behind descriptor changes = applied (reset_effect None) descriptor changes
+
 -- The mark after a step: it stands until a reset is done.
 abbrev pub mark_after : Option Reset → Option Reset → Option Reset
 mark_after None mark = mark
@@ -67,10 +83,14 @@ hears s c = record c {
   mark = mark_after s.reset c.mark;
 }
 
+-- So it hears of what an acknowledgement tells.
+abbrev pub hears_of : List EnvChange → Connection → Connection
+hears_of changes c = record c { heard = unwrap_or (heard_behind c.heard changes) c.heard }
+
 -- An entry arrives at the client. It acts on the request whose tag it has.
 abbrev pub client_acts : Connection → Down → Connection
 client_acts c (Step r place s) = with_record r (gives s) (hears s c)
-client_acts c (Acknowledgement r place) = with_record r acknowledges c
+client_acts c (Acknowledgement r place changes) = with_record r acknowledges (hears_of changes c)
 
 -- Of the entries that waited for the server, k bytes have come: those that are whole arrive and act
 -- in order, and the rest waits.

@@ -45,7 +45,7 @@ attention_count (Attention r ∷ es) = suc (attention_count es)
 abbrev pub acknowledgement_count : List Down → ℕ
 acknowledgement_count [] = 0
 acknowledgement_count (Step r place s ∷ es) = acknowledgement_count es
-acknowledgement_count (Acknowledgement r place ∷ es) = suc (acknowledgement_count es)
+acknowledgement_count (Acknowledgement r place changes ∷ es) = suc (acknowledgement_count es)
 
 -- At most one attention of a connection is without an arrived acknowledgement.
 abbrev pub HasOneAttention : Connection → Type 0
@@ -73,9 +73,9 @@ begun_by change.ResetDone = []
 
 abbrev pub begun_in : Down → List ℕ
 begun_in (Step r place s) = flat_map begun_by (changes_of s.tokens)
-begun_in (Acknowledgement r place) = []
+begun_in (Acknowledgement r place changes) = flat_map begun_by changes
 
--- No two steps of a connection tell that the same transaction began.
+-- No two entries of a connection tell that the same transaction began.
 abbrev pub begun_on : Connection → List ℕ
 begun_on c = flat_map begun_in (c.to_client.arrived ++ c.to_client.waiting)
 

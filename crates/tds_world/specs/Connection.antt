@@ -1,6 +1,7 @@
 -- A connection: two lanes, a server, a client, its requests and where it stands in the pool.
 use Rattle.std.specs.Prelude.{ℕ, List, [], ◌∷◌, ◌++◌, map, Bool, true, false, Option, Some, None, option_map}
 use Rattle.tds_packet.specs.declared.status.Reset.{Reset}
+use Rattle.tds_session.specs.declared.attention.OnAttention.{OnAttention}
 use Rattle.tds_session.specs.Answer as answer
 use Rattle.tds_session.specs.Session.{SessionState, new_session}
 use Rattle.tds_world.specs.declared.report.Place.{Place}
@@ -22,6 +23,7 @@ is_cut Cut = true
 pub record Connection : Type 0 where
   pub to_server : Lane Up
   pub to_client : Lane Down
+  pub on_attention : OnAttention  -- what its server does with a transaction at an attention
   pub session : SessionState  -- of the server
   pub parts : List ℕ  -- data that arrived of a request whose end has not
   pub answering : ℕ  -- the request whose answer is due
@@ -33,11 +35,13 @@ pub record Connection : Type 0 where
   pub current : Option Record  -- the newest request
   pub standing : Standing
 
--- A connection that is opened, at this place. Nothing was sent on it.
-abbrev pub new_connection : Place → Connection
-new_connection p = record {
+-- A connection that is opened, at this place, to a server that does this at an attention. Nothing
+-- was sent on it.
+abbrev pub new_connection : OnAttention → Place → Connection
+new_connection on_attention p = record {
   to_server = empty_lane;
   to_client = empty_lane;
+  on_attention = on_attention;
   session = new_session;
   parts = [];
   answering = 0;

@@ -9,7 +9,8 @@ use Rattle.tds_packet.specs.Layout.{header_bytes}
 use Rattle.tds_packet.specs.Sent.{sent_header}
 use Rattle.tds_request.specs.declared.request.Request.{Request}
 use Rattle.tds_session.specs.Answer as answer
-use Rattle.tds_token.specs.declared.token.Token.TheVariants as token
+use Rattle.tds_session.specs.Attention.{acknowledging}
+use Rattle.tds_token.specs.declared.env_change.EnvChange.{EnvChange}
 use Rattle.tds_token.specs.Layout.{spelling}
 
 -- A packet: its header and its data (MS-TDS 2.2.3.1).
@@ -46,10 +47,10 @@ pub data Up : Type 0 where
   Attention : (request : ℕ) → Up
 
 -- Towards the client, each at its place of its message: a step of an answer; the acknowledgement of
--- an attention, a DONE of status 0020 (MS-TDS 2.2.7.6).
+-- an attention, the changes that it tells and a DONE of status 0020 (MS-TDS 2.2.7.9, 2.2.7.6).
 pub data Down : Type 0 where
   Step : (request place : ℕ) (step : answer.Step) → Down
-  Acknowledgement : (request place : ℕ) → Down
+  Acknowledgement : (request place : ℕ) (changes : List EnvChange) → Down
 
 -- The packet of an entry towards the server.
 abbrev pub up_packet : Up → Packet
@@ -59,11 +60,12 @@ up_packet (Drop r p) = p
 up_packet (Attention r) = packet kind.Attention 1 1 []
 
 -- The packet of an entry towards the client. A step's tokens fill one packet, and the last step
--- ends the message.
+-- ends the message. What acknowledges an attention is one packet too, and ends its message.
 abbrev pub down_packet : Down → Packet
 down_packet (Step r place s) =
     packet kind.Answer (if s.last then 1 else 0) place (flat_map spelling s.tokens)
-down_packet (Acknowledgement r place) = packet kind.Answer 1 place (spelling (token.Done 0x20 0 0))
+down_packet (Acknowledgement r place changes) =
+    packet kind.Answer 1 place (flat_map spelling (acknowledging changes))
 
 -- The bytes of an entry. Their count is its size.
 abbrev pub up_bytes : Up → List ℕ

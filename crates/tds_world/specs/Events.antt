@@ -110,7 +110,8 @@ settles e n w (Does what c) =
 abbrev pub happens_at : Setup → Answers → Event → World → Found → Outcome × World
 happens_at setup answers e w (Missing why) = (outcome.Refused why, w)
 happens_at setup answers e w (Here n c) = settles e n w (acts setup answers w e n c)
-happens_at setup answers e w (Opens n) = settles event.Lease n w (opens (next_number w.leases) n)
+happens_at setup answers e w (Opens n) =
+    settles event.Lease n w (opens setup.on_attention (next_number w.leases) n)
 
 -- One event: its outcome, and the world after it. A restart of the server cuts every connection;
 -- one of the client also ends every lease and ticket.

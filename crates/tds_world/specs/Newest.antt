@@ -13,7 +13,7 @@ use Rattle.tds_world.specs.World.{World}
 -- The number of the request that an entry towards the client belongs to.
 abbrev pub request_of : Down → ℕ
 request_of (Step r place s) = r
-request_of (Acknowledgement r place) = r
+request_of (Acknowledgement r place changes) = r
 
 -- There is a newest request, and it has this number.
 pub record IsOfNewest (c : Connection) (number : ℕ) : Type 0 where

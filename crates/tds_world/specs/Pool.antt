@@ -4,6 +4,7 @@ use Rattle.std.specs.Prelude.{ℕ, suc, ◌+◌, List, [], ◌∷◌, Bool, true
 use Rattle.tds_packet.specs.declared.status.Reset.{Reset}
 use Rattle.tds_packet.specs.declared.status.Reset.TheVariants.{Full, KeepTransaction}
 use Rattle.tds_packet.specs.Resets.{strongest}
+use Rattle.tds_session.specs.declared.attention.OnAttention.{OnAttention}
 use Rattle.tds_world.specs.declared.event.Setup.{Setup}
 use Rattle.tds_world.specs.declared.outcome.AbandonOutcome.TheVariants as abandoned
 use Rattle.tds_world.specs.declared.outcome.GiveBackOutcome.{GiveBackOutcome}
@@ -60,8 +61,9 @@ abbrev pub to_lend : Setup → World → Found
 to_lend setup w = to_lend_by setup w (lowest_free 1 w.connections)
 
 -- A new connection is lent, under this lease.
-abbrev pub opens : ℕ → ℕ → Acted
-opens lease n = Does (outcome.Leased lease n opened.New) (new_connection (place.Leased lease))
+abbrev pub opens : OnAttention → ℕ → ℕ → Acted
+opens on_attention lease n =
+    Does (outcome.Leased lease n opened.New) (new_connection on_attention (place.Leased lease))
 
 -- A free connection is lent again. Its next request asks for a full reset.
 abbrev pub lends : ℕ → ℕ → Connection → Acted

@@ -2,6 +2,8 @@
 -- play with the events behind it that bring a connection to rest.
 use Rattle.std.specs.Prelude.{ℕ, ◌≡◌, ◌+◌, ◌≤◌, List, [], ◌∷◌, ◌++◌, map, Some}
 use Rattle.std.specs.List.{AllByRecursion}
+use Rattle.tds_session.specs.declared.attention.OnAttention.{OnAttention}
+use Rattle.tds_session.specs.declared.attention.OnAttention.TheVariants.{Keep, RollBack}
 use Rattle.tds_session.specs.Answer.{Answers}
 use Rattle.tds_world.specs.declared.event.Event.{Event}
 use Rattle.tds_world.specs.declared.event.Setup.{Setup}
@@ -35,16 +37,22 @@ pub record IsAtRest (s : Snapshot) (r : Report) : Type 0 where
   pub quiet : ShowsQuiet after
   pub place : after.place ≡ rested_at s.place
 
+-- How many bytes acknowledge an attention at most: a packet with a DONE, and with an ENVCHANGE before
+-- it where the server rolls back (MS-TDS 2.2.7.6, 2.2.7.9).
+abbrev pub acknowledgement_most : OnAttention → ℕ
+acknowledgement_most Keep = 21
+acknowledgement_most RollBack = 35
+
 -- The report of a play with these events behind it.
 abbrev pub Later : Type 0
 Later = List Event → Report
 
 -- With a cancel: for all bytes that are shown underway to the server, and 16 for the word to drop the
--- request and the attention; and all that are shown underway to the client, and 21 for the
+-- request and the attention; and all that are shown underway to the client, and those of the
 -- acknowledgement. More do no harm.
-abbrev pub CanBeStopped : Later → Snapshot → Type 0
-CanBeStopped later s =
-    (up down : ℕ) → s.to_server + 16 ≤ up → s.to_client + 21 ≤ down
+abbrev pub CanBeStopped : OnAttention → Later → Snapshot → Type 0
+CanBeStopped attention later s =
+    (up down : ℕ) → s.to_server + 16 ≤ up → s.to_client + acknowledgement_most attention ≤ down
     → IsAtRest s (later (stopping (In s.place) s.conn up down))
 
 -- What becomes of a request that is answered.
@@ -73,13 +81,16 @@ CanBeFinished later r s =
     → IsAnswered s r (later (finishing (In s.place) s.conn packets up steps down)))
 
 -- Each connection that is shown after the last event can be brought to rest, both ways.
-pub record IsNeverStuck (later : Later) (r : Report) (s : Snapshot) : Type 0 where
-  pub stopped : CanBeStopped later s
+pub record IsNeverStuck (attention : OnAttention) (later : Later) (r : Report) (s : Snapshot)
+    : Type 0 where
+  pub stopped : CanBeStopped attention later s
   pub finished : CanBeFinished later r s
 
 abbrev pub ShowsNeverStuck : Setup → Answers → List Event → Report → Type 0
 ShowsNeverStuck setup answers events r =
-    AllByRecursion (IsNeverStuck (λ more. observed setup answers (events ++ more)) r) (last_snapshots r)
+    AllByRecursion
+    (IsNeverStuck setup.on_attention (λ more. observed setup answers (events ++ more)) r)
+    (last_snapshots r)
 
 -- The same of a play over links that fail: the report marks what was lost before, and nothing is lost in
 -- the events behind it.
@@ -92,4 +103,5 @@ later_with setup answers ps more = observed_with setup answers (ps ++ unlost mor
 abbrev pub ShowsNeverStuckWith : Setup → Answers → List Event → Report → Type 0
 ShowsNeverStuckWith setup answers events r =
     AllByRecursion
-    (IsNeverStuck (later_with setup answers (marked events r.events)) r) (last_snapshots r)
+    (IsNeverStuck setup.on_attention (later_with setup answers (marked events r.events)) r)
+    (last_snapshots r)

@@ -6,6 +6,7 @@ use Rattle.tds_request.specs.declared.request.Request.{Request}
 use Rattle.tds_session.specs.Answer as answer
 use Rattle.tds_session.specs.Answer.{Answers, EndsOnce}
 use Rattle.tds_session.specs.Session.{SessionState}
+use Rattle.tds_token.specs.declared.env_change.EnvChange.{EnvChange}
 use Rattle.tds_world.specs.Connection.{Connection}
 use Rattle.tds_world.specs.Entries.{Down, Step, Acknowledgement}
 use Rattle.tds_world.specs.Laws.{OfEachConnection}
@@ -32,7 +33,13 @@ pub record IsStepOf (answers : Answers) (step : answer.Step) : Type 0 where
 abbrev pub OfSteps : (answer.Step → Type 0) → List Down → Type 0
 OfSteps P [] = Unit {0}
 OfSteps P (Step r place s ∷ es) = P s × OfSteps P es
-OfSteps P (Acknowledgement r place ∷ es) = OfSteps P es
+OfSteps P (Acknowledgement r place changes ∷ es) = OfSteps P es
+
+-- P holds of what each acknowledgement among these tells.
+abbrev pub OfAcknowledgements : (List EnvChange → Type 0) → List Down → Type 0
+OfAcknowledgements P [] = Unit {0}
+OfAcknowledgements P (Step r place s ∷ es) = OfAcknowledgements P es
+OfAcknowledgements P (Acknowledgement r place changes ∷ es) = P changes × OfAcknowledgements P es
 
 -- Each step that was sent or is due is one of an answer.
 abbrev pub StepsAreOfAnswers : Answers → World → Type 0
@@ -49,7 +56,7 @@ abbrev pub AreMessages : ℕ → List Down → ℕ → Type 0
 AreMessages before [] out = before ≡ out
 AreMessages before (Step r place s ∷ es) out =
     (place ≡ before + 1) × AreMessages (if s.last then 0 else before + 1) es out
-AreMessages before (Acknowledgement r place ∷ es) out =
+AreMessages before (Acknowledgement r place changes ∷ es) out =
     (place ≡ before + 1) × AreMessages 0 es out
 
 -- How many packets are out of a message that has not ended: the steps taken of an answer that is

@@ -8,7 +8,7 @@ use Rattle.tds_world.specs.declared.outcome.Opened.{Opened}
 use Rattle.tds_world.specs.declared.outcome.Opened.TheVariants as opened
 use Rattle.tds_world.specs.declared.report.Report.{Report}
 use Rattle.tds_world.specs.Alone.{AreAlike, Exchange, exchanges_of}
-use Rattle.tds_world.specs.AloneShown.{LeaseShown, OfEachLease, StepsDone}
+use Rattle.tds_world.specs.AloneShown.{LeaseShown, OfEachLease, HowFar}
 use Rattle.tds_world.specs.Connection.{Connection}
 use Rattle.tds_world.specs.World.{World, Holding, numbered}
 
@@ -24,12 +24,12 @@ pub record AreGivenAlike (x y : Exchange) : Type 0 where
   pub so_far : AgreeSoFar x.given y.given
   pub finished : x.finished ≡ true → y.finished ≡ true → x.given ≡ y.given
 
--- So it is with each, as long as the same requests were asked, and as many steps done of each.
+-- So it is with each, as long as the same requests were asked, and each got as far.
 abbrev pub AllGivenAlike : List Exchange → List Exchange → Type 0
 AllGivenAlike [] ys = Unit {0}
 AllGivenAlike (x ∷ xs) [] = Unit {0}
 AllGivenAlike (x ∷ xs) (y ∷ ys) =
-    x.request ≡ y.request → AreGivenAlike x y × (x.done ≡ y.done → AllGivenAlike xs ys)
+    x.request ≡ y.request → AreGivenAlike x y × (x.got ≡ y.got → AllGivenAlike xs ys)
 
 -- ---- Of worlds
 
@@ -61,6 +61,6 @@ pub record LeasesAlike (x y : LeaseShown) : Type 0 where
   pub given : was_resumed x.opened ≡ was_resumed y.opened → AllGivenAlike x.exchanges y.exchanges
 
 -- Any lease that is shown in one report, and any in the other.
-abbrev pub ShowGivenAlike : StepsDone → List Event → Report → StepsDone → List Event → Report → Type 0
-ShowGivenAlike done events r done_there events_there there =
-    OfEachLease (λ x. OfEachLease (λ y. LeasesAlike x y) done_there events_there there) done events r
+abbrev pub ShowGivenAlike : HowFar → List Event → Report → HowFar → List Event → Report → Type 0
+ShowGivenAlike far events r far_there events_there there =
+    OfEachLease (λ x. OfEachLease (λ y. LeasesAlike x y) far_there events_there there) far events r

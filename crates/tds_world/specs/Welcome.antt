@@ -8,7 +8,7 @@ use Rattle.tds_token.specs.declared.env_change.EnvChange.TheVariants as change
 use Rattle.tds_token.specs.Told.{change_applied, changes_of}
 use Rattle.tds_world.specs.declared.report.ClientView.{ClientView}
 use Rattle.tds_world.specs.declared.report.ClientView.TheVariants as view
-use Rattle.tds_world.specs.Arrivals.{server_acts, client_acts, hears}
+use Rattle.tds_world.specs.Arrivals.{server_acts, client_acts, hears, hears_of}
 use Rattle.tds_packet.specs.Resets.{reset_effect}
 use Rattle.tds_world.specs.Connection.{Connection, phase}
 use Rattle.tds_world.specs.Entries.{Up, Part, End, Drop, Attention, Down, Step, Acknowledgement}
@@ -31,7 +31,7 @@ abbrev pub ClientExpects : ClientView → Down → Type 0
 ClientExpects view.Idle e = ⊥
 ClientExpects view.Sending e = ⊥
 ClientExpects view.Reading (Step r place s) = Unit {0}
-ClientExpects view.Reading (Acknowledgement r place) = ⊥
+ClientExpects view.Reading (Acknowledgement r place changes) = ⊥
 ClientExpects view.Cancelling e = Unit {0}
 
 -- The end of a reset clears the mark, and no other change does.
@@ -52,7 +52,8 @@ Apply mark heard (e ∷ es) last_mark last =
 abbrev pub ChangesApply : Connection → Down → Type 0
 ChangesApply c (Step r place s) =
     Apply c.mark c.heard (changes_of s.tokens) (hears s c).mark (hears s c).heard
-ChangesApply c (Acknowledgement r place) = Unit {0}
+ChangesApply c (Acknowledgement r place changes) =
+    Apply c.mark c.heard changes c.mark (hears_of changes c).heard
 
 -- Of these entries each is welcome where it arrives, one after the other.
 abbrev pub WelcomeToServer : Answers → Connection → List Up → Type 0

@@ -1,4 +1,5 @@
 use tds_request::Request;
+use tds_session::OnAttention;
 
 /// What a play begins with.
 #[derive(Clone, Copy, Debug, PartialEq, Eq)]
@@ -8,6 +9,8 @@ pub struct Setup {
     pub packet_size: u16,
     /// How many connections may be open at once: 1 to 64.
     pub max: u8,
+    /// What a server does with its session's transaction where an attention stops an answer.
+    pub on_attention: OnAttention,
 }
 
 /// One event of a schedule. Leases, tickets, requests and connections are numbered from 1, each in

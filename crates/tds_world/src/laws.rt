@@ -266,7 +266,7 @@ pub fn script_uses_few()
 pub fn as_if_alone()
     ensures { (setup : Setup) (answers : Answers) → Lawful answers → BlindToNumbers answers
         → UseFewDescriptors answers → (events : List Event) → AreFewEvents events
-        → AsIfAlone answers (world_after setup answers events new_world) }
+        → AsIfAlone setup.on_attention answers (world_after setup answers events new_world) }
 {}
 
 /// A lease in each of two plays, both from a ticket or neither: as long as they asked the same requests

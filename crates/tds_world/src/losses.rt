@@ -133,5 +133,5 @@ pub fn never_stuck()
 pub fn as_if_alone()
     ensures { (setup : Setup) (answers : Answers) → Lawful answers → BlindToNumbers answers
         → UseFewDescriptors answers → (ps : List Played) → AreFewEvents (events_of ps)
-        → AsIfAlone answers (world_with setup answers ps new_world) }
+        → AsIfAlone setup.on_attention answers (world_with setup answers ps new_world) }
 {}

@@ -110,7 +110,7 @@ fn whole_schedules(rt: HostRuntime) -> Result<(), Fail> {
 }
 
 /// Files that are answered with one fault each.
-const FILES: [(&str, (u8, usize)); 19] = [
+const FILES: [(&str, (u8, usize)); 24] = [
     // Wrong outside the events.
     ("[]", (2, 0)),
     ("null", (2, 0)),
@@ -138,6 +138,27 @@ const FILES: [(&str, (u8, usize)); 19] = [
     ),
     (
         "{\"version\":2,\"packet_size\":512,\"max\":1,\"events\":[],\"note\":0}",
+        (2, 0),
+    ),
+    // From version 3 on it is said what an attention does, and not before.
+    (
+        "{\"version\":3,\"packet_size\":512,\"max\":1,\"events\":[]}",
+        (2, 0),
+    ),
+    (
+        "{\"version\":3,\"packet_size\":512,\"max\":1,\"events\":[],\"rollback_on_attention\":true}",
+        (0, 0),
+    ),
+    (
+        "{\"version\":3,\"packet_size\":512,\"max\":1,\"events\":[],\"rollback_on_attention\":false}",
+        (0, 0),
+    ),
+    (
+        "{\"version\":3,\"packet_size\":512,\"max\":1,\"events\":[],\"rollback_on_attention\":1}",
+        (2, 0),
+    ),
+    (
+        "{\"version\":2,\"packet_size\":512,\"max\":1,\"events\":[],\"rollback_on_attention\":false}",
         (2, 0),
     ),
     (

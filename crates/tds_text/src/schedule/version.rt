@@ -7,6 +7,8 @@ pub(crate) enum Version {
     One,
     /// A commit or rollback may begin the next transaction at once.
     Two,
+    /// The object says what an attention does to the transaction.
+    Three,
 }
 
 impl Version {
@@ -17,6 +19,7 @@ impl Version {
         match number {
             1 => Some(Version::One),
             2 => Some(Version::Two),
+            3 => Some(Version::Three),
             _ => None,
         }
     }
@@ -27,6 +30,7 @@ impl Version {
     {
         match self {
             Version::One | Version::Two => 4,
+            Version::Three => 5,
         }
     }
 
@@ -36,7 +40,7 @@ impl Version {
     {
         match self {
             Version::One => false,
-            Version::Two => true,
+            Version::Two | Version::Three => true,
         }
     }
 }

@@ -4,6 +4,8 @@ use Rattle.std.proofs.lemmas.Bool.Decides.{nat_tests}
 use Rattle.std.specs.List.{AllByRecursion}
 use Rattle.std.specs.Prelude.{filter, slice_get, ◌==◌}
 use Rattle.tds_request.specs.Layout.{Fits}
+use Rattle.tds_session.specs.declared.attention.OnAttention.{OnAttention}
+use Rattle.tds_session.specs.declared.attention.OnAttention.TheVariants as on_attention
 use Rattle.tds_session.specs.Answer as answer
 use Rattle.tds_session.specs.Answer.{Answers}
 use Rattle.tds_session.specs.Session.{SessionState, new_session, begun}
@@ -11,7 +13,7 @@ use Rattle.tds_token.specs.declared.token.Token.{Token}
 use Rattle.tds_token.specs.Told.{told}
 use Rattle.tds_world.specs.declared.event.Event.{Event}
 use Rattle.tds_world.specs.declared.event.Setup.{Setup}
-use Rattle.tds_world.specs.Alone.{AreAlike, Exchange, exchange_of, exchanges_of, steps_done, own_steps, session_after, own_session, session_from, HasRoom, IsToldAlone, TellsAlone, RunsAlone, AsIfAlone, AllAlike, BlindToNumbers}
+use Rattle.tds_world.specs.Alone.{AreAlike, Exchange, exchange_of, exchanges_of, progress_of, own_steps, session_after, left_by, left_alone, MayRollBack, own_session, session_from, HasRoom, IsToldAlone, TellsAlone, RunsAlone, AsIfAlone, AllAlike, BlindToNumbers}
 use Rattle.tds_world.specs.Bounds.{RanInOwn, IsEvent}
 use Rattle.tds_world.specs.Connection.{Connection, records}
 use Rattle.tds_world.specs.Descriptors.{UseFewDescriptors, AreFewEvents, most_events}
@@ -20,7 +22,7 @@ use Rattle.tds_world.specs.Lawful.{Lawful}
 use Rattle.tds_world.specs.Laws.{IsAnswer, whole_answer, IsOwnAnswer, HasKept, StartsFrom, StartsUnder, StartsFresh}
 use Rattle.tds_world.specs.Record.{Record}
 use Rattle.tds_world.specs.World.{World, new_world, Holding, numbered}
-use Rattle.tds_world.proofs.alone.Descriptors.{HasLeft, less_left, has_room, after_left, reset_left, new_left, many_left, few_on, all_fit}
+use Rattle.tds_world.proofs.alone.Descriptors.{HasLeft, less_left, has_room, behind_left, reset_left, new_left, many_left, few_on, all_fit}
 use Rattle.tds_world.proofs.alone.OpenTickets.{IsOne, FromOpen, from_open}
 use Rattle.tds_world.proofs.alone.Tenancy.{all_in_turn}
 use Rattle.tds_world.proofs.alone.Tenants.{Behind, InTurn, IsRan}
@@ -46,6 +48,10 @@ after_alike (suc n) s t [] [] a h = a
 after_alike (suc n) s t [] (y ∷ ys) a h = absurd h
 after_alike (suc n) s t (x ∷ xs) [] a h = absurd h
 after_alike (suc n) s t (x ∷ xs) (y ∷ ys) a h = after_alike n x.after y.after xs ys h.0.after h.1
+
+rolled_alike : (rolled : Bool) (s t : SessionState) → AreAlike s t → AreAlike (left_by rolled s) (left_by rolled t)
+rolled_alike true s t h = record { settings = h.settings; transaction = refl }
+rolled_alike false s t h = h
 
 told_alike : (ss ts : List answer.Step) → AllAlike ss ts → told (flat_map (λ step. step.tokens) ss) ≡ told (flat_map (λ step. step.tokens) ts)
 told_alike [] [] h = refl
@@ -120,16 +126,27 @@ none_among l (q ∷ qs) h =
 none_left : (l : ℕ) (c : Connection) (qs : List Record) → AllByRecursion (λ (q : Record). l < q.lease) qs → of_lease l c qs ≡ []
 none_left l c qs h = ap (map (exchange_of c)) (none_among l qs h)
 
--- What one left, by the session's own descriptor.
-left_own : (answers : Answers) (c : Connection) (q : Record) (ran : SessionState) (n : ℕ) → RanInOwn c q → q.ran ≡ Some ran → session_after ran n (whole_of answers ran q.asking) ≡ session_after ran n (own_steps answers ran q.asking.request)
-left_own answers c q ran n t e = ap (λ d. session_after ran n (answers ran d None q.asking.request)) (t ran e)
+-- What one left that ran, by the session's own descriptor.
+left_own : (attention : OnAttention) (answers : Answers) (c : Connection) (q : Record) (m ran m2 : SessionState) → RanInOwn c q → q.ran ≡ Some ran → Found attention answers (progress_of c q.number) m q.asking (Some ran) m2 → m2 ≡ left_alone answers ran (exchange_of c q)
+left_own attention answers c q m ran m2 t e f =
+    f.2 ∙ ap (λ d. left_by (progress_of c q.number).rolled (session_after ran (progress_of c q.number).done (answers ran d None q.asking.request))) (t ran e)
 
--- What one left that ran, in its session and in one like it.
-left_alike : (answers : Answers) (c : Connection) (q : Record) (ran own m m2 : SessionState) → BlindToNumbers answers → RanInOwn c q → q.ran ≡ Some ran → AreAlike ran own → HasRoom answers ran q.asking.request → HasRoom answers own q.asking.request → Found answers (steps_done c q.number) m q.asking (Some ran) m2 → AreAlike m2 (session_after own (steps_done c q.number) (own_steps answers own q.asking.request))
-left_alike answers c q ran own m m2 b t e a r o f =
-    let n : ℕ = steps_done c q.number in
-    subst (λ s. AreAlike s (session_after own n (own_steps answers own q.asking.request))) (sym (f.1 ∙ left_own answers c q ran n t e))
+-- And in a session like it.
+left_alike : (answers : Answers) (c : Connection) (q : Record) (ran own : SessionState) → BlindToNumbers answers → AreAlike ran own → HasRoom answers ran q.asking.request → HasRoom answers own q.asking.request → AreAlike (left_alone answers ran (exchange_of c q)) (left_alone answers own (exchange_of c q))
+left_alike answers c q ran own b a r o =
+    let n : ℕ = (progress_of c q.number).done in
+    rolled_alike (progress_of c q.number).rolled (session_after ran n (own_steps answers ran q.asking.request)) (session_after own n (own_steps answers own q.asking.request))
     (after_alike n ran own (own_steps answers ran q.asking.request) (own_steps answers own q.asking.request) a (b ran own q.asking.request a r o))
+
+-- One that did not run leaves the own session as it is.
+nothing_left : (answers : Answers) (c : Connection) (q : Record) (own : SessionState) → (progress_of c q.number).done ≡ 0 → (progress_of c q.number).rolled ≡ false → left_alone answers own (exchange_of c q) ≡ own
+nothing_left answers c q own e f =
+    ap (λ b. left_by b (session_after own (progress_of c q.number).done (own_steps answers own q.asking.request))) f
+    ∙ ap (λ n. session_after own n (own_steps answers own q.asking.request)) e
+
+may_keep : (o : OnAttention) (b : Bool) → b ≡ false → MayRollBack o b
+may_keep on_attention.Keep b e = e
+may_keep on_attention.RollBack b e = tt
 
 -- ---- Behind the first one that ran
 
@@ -137,31 +154,38 @@ left_alike answers c q ran own m m2 b t e a r o f =
 abbrev IsBehind : ℕ → Record → Type 0
 IsBehind l q = (l ≤ q.lease) × (q.lease ≡ l → q.asking.mark ≡ None)
 
-abbrev Goes : Answers → ℕ → Connection → List Record → Type 0
-Goes answers l c qs =
+abbrev Goes : OnAttention → Answers → ℕ → Connection → List Record → Type 0
+Goes attention answers l c qs =
     (m end own : SessionState)
     → AreAlike m own → HasLeft m qs → HasLeft own qs
-    → Thread answers (steps_done c) m (map core_of qs) end → RunsAlone answers own (of_lease l c qs)
+    → Thread attention answers (progress_of c) m (map core_of qs) end → RunsAlone attention answers own (of_lease l c qs)
 
-goes_on : (answers : Answers) (w : World) (c : Connection) (l : ℕ) (q : Record) (qs : List Record) (m m2 end own : SessionState) (ran : Option SessionState) → Good answers → Goes answers l c qs → Knows answers w c q → q.asking.mark ≡ None → AreAlike m own → HasLeft m (q ∷ qs) → HasLeft own (q ∷ qs) → q.ran ≡ ran → Found answers (steps_done c q.number) m q.asking ran m2 → IsOwnAnswer answers q ran → Thread answers (steps_done c) m2 (map core_of qs) end
-    → TellsAlone answers own (exchange_of c q) ran × RunsAlone answers (session_after own (steps_done c q.number) (own_steps answers own q.asking.request)) (of_lease l c qs)
-goes_on answers w c l q qs m m2 end own None b ih k mark a r o e f h t = (
+-- What is owed of a request and those behind it.
+abbrev Owed : OnAttention → Answers → ℕ → Connection → Record → List Record → SessionState → Option SessionState → Type 0
+Owed attention answers l c q qs own ran =
+    TellsAlone answers own (exchange_of c q) ran × MayRollBack attention (progress_of c q.number).rolled
+    × RunsAlone attention answers (left_alone answers own (exchange_of c q)) (of_lease l c qs)
+
+goes_on : (attention : OnAttention) (answers : Answers) (w : World) (c : Connection) (l : ℕ) (q : Record) (qs : List Record) (m m2 end own : SessionState) (ran : Option SessionState) → Good answers → Goes attention answers l c qs → Knows answers w c q → q.asking.mark ≡ None → AreAlike m own → HasLeft m (q ∷ qs) → HasLeft own (q ∷ qs) → q.ran ≡ ran → Found attention answers (progress_of c q.number) m q.asking ran m2 → IsOwnAnswer answers q ran → Thread attention answers (progress_of c) m2 (map core_of qs) end → Owed attention answers l c q qs own ran
+goes_on attention answers w c l q qs m m2 end own None b ih k mark a r o e f h t = (
   h,
-  subst (λ n. RunsAlone answers (session_after own n (own_steps answers own q.asking.request)) (of_lease l c qs)) (sym f.1)
+  may_keep attention (progress_of c q.number).rolled f.2,
+  subst (λ s. RunsAlone attention answers s (of_lease l c qs)) (sym (nothing_left answers c q own f.1 f.2))
       (ih m2 end own (subst (λ s. AreAlike s own) f.0 a) (subst (λ s. HasLeft s qs) f.0 (less_left m q qs r)) (less_left own q qs o) t),
 )
-goes_on answers w c l q qs m m2 end own (Some ran) b ih k mark a r o e f h t =
+goes_on attention answers w c l q qs m m2 end own (Some ran) b ih k mark a r o e f h t =
     let same : ran ≡ m = f.0 ∙ ap (λ x. runs_in x m) mark in
     let alike : AreAlike ran own = subst (λ s. AreAlike s own) (sym same) a in
     let left : HasLeft ran (q ∷ qs) = subst (λ s. HasLeft s (q ∷ qs)) (sym same) r in
     let room : HasRoom answers ran q.asking.request = has_room answers ran q qs b.few k.fits left in
     let own_room : HasRoom answers own q.asking.request = has_room answers own q qs b.few k.fits o in
-    let n : ℕ = steps_done c q.number in (
+    let is : m2 ≡ left_alone answers ran (exchange_of c q) = left_own attention answers c q m ran m2 k.transaction e f in (
       told_alone answers own ran c q b.blind alike room own_room h,
-      ih m2 end (session_after own n (own_steps answers own q.asking.request))
-          (left_alike answers c q ran own m m2 b.blind k.transaction e alike room own_room f)
-          (subst (λ s. HasLeft s qs) (sym (f.1 ∙ left_own answers c q ran n k.transaction e)) (after_left answers ran q qs n b.few k.fits left))
-          (after_left answers own q qs n b.few k.fits o) t,
+      f.1,
+      ih m2 end (left_alone answers own (exchange_of c q))
+          (subst (λ s. AreAlike s (left_alone answers own (exchange_of c q))) (sym is) (left_alike answers c q ran own b.blind alike room own_room))
+          (subst (λ s. HasLeft s qs) (sym is) (behind_left answers ran q qs (progress_of c q.number) b.few k.fits left))
+          (behind_left answers own q qs (progress_of c q.number) b.few k.fits o) t,
     )
 
 -- All that follow are of later leases.
@@ -172,15 +196,15 @@ all_later l q (p ∷ ps) h k = (let z : q.lease ≤ p.lease = k.0.lease in omega
 less_than : (l k : ℕ) → l ≤ k → eqb k l ≡ false → l < k
 less_than l k h e = grind (arith, nat_tests)
 
-goes_by : (answers : Answers) (w : World) (c : Connection) (l : ℕ) (q : Record) (qs : List Record) (test : Bool) (m end own : SessionState) → eqb q.lease l ≡ test → Good answers → Goes answers l c qs → Knows answers w c q → IsBehind l q → AllByRecursion (Behind (core_of q)) (map core_of qs) → AreAlike m own → HasLeft m (q ∷ qs) → HasLeft own (q ∷ qs) → Thread answers (steps_done c) m (map core_of (q ∷ qs)) end → RunsAlone answers own (map (exchange_of c) (cond test (q ∷ filter (λ (p : Record). p.lease == l) qs) (filter (λ (p : Record). p.lease == l) qs)))
-goes_by answers w c l q qs true m end own e b ih k i g a r o t = goes_on answers w c l q qs m t.0 end own q.ran b ih k (i.1 (is_same q.lease l e)) a r o refl t.1.0 k.own t.1.1
-goes_by answers w c l q qs false m end own e b ih k i g a r o t =
-    subst (λ xs. RunsAlone answers own xs) (sym (none_left l c qs (all_later l q qs (less_than l q.lease i.0 e) g))) tt
+goes_by : (attention : OnAttention) (answers : Answers) (w : World) (c : Connection) (l : ℕ) (q : Record) (qs : List Record) (test : Bool) (m end own : SessionState) → eqb q.lease l ≡ test → Good answers → Goes attention answers l c qs → Knows answers w c q → IsBehind l q → AllByRecursion (Behind (core_of q)) (map core_of qs) → AreAlike m own → HasLeft m (q ∷ qs) → HasLeft own (q ∷ qs) → Thread attention answers (progress_of c) m (map core_of (q ∷ qs)) end → RunsAlone attention answers own (map (exchange_of c) (cond test (q ∷ filter (λ (p : Record). p.lease == l) qs) (filter (λ (p : Record). p.lease == l) qs)))
+goes_by attention answers w c l q qs true m end own e b ih k i g a r o t = goes_on attention answers w c l q qs m t.0 end own q.ran b ih k (i.1 (is_same q.lease l e)) a r o refl t.1.0 k.own t.1.1
+goes_by attention answers w c l q qs false m end own e b ih k i g a r o t =
+    subst (λ xs. RunsAlone attention answers own xs) (sym (none_left l c qs (all_later l q qs (less_than l q.lease i.0 e) g))) tt
 
-goes : (answers : Answers) (w : World) (c : Connection) (l : ℕ) (qs : List Record) → Good answers → AllByRecursion (Knows answers w c) qs → AllByRecursion (IsBehind l) qs → InTurn (map core_of qs) → Goes answers l c qs
-goes answers w c l [] b k i g m end own a r o t = tt
-goes answers w c l (q ∷ qs) b k i g m end own a r o t =
-    goes_by answers w c l q qs (eqb q.lease l) m end own refl b (goes answers w c l qs b k.1 i.1 g.1) k.0 i.0 g.0 a r o t
+goes : (attention : OnAttention) (answers : Answers) (w : World) (c : Connection) (l : ℕ) (qs : List Record) → Good answers → AllByRecursion (Knows answers w c) qs → AllByRecursion (IsBehind l) qs → InTurn (map core_of qs) → Goes attention answers l c qs
+goes attention answers w c l [] b k i g m end own a r o t = tt
+goes attention answers w c l (q ∷ qs) b k i g m end own a r o t =
+    goes_by attention answers w c l q qs (eqb q.lease l) m end own refl b (goes attention answers w c l qs b k.1 i.1 g.1) k.0 i.0 g.0 a r o t
 
 -- ---- Until the first one runs
 
@@ -192,11 +216,11 @@ NotRun l number p = p.lease ≡ l → p.number < number → p.ran ≡ None
 abbrev Before : Connection → ℕ → List Record → Type 0
 Before c l qs = (number : ℕ) → AllByRecursion (NotRun l number) qs → AllByRecursion (NotRun l number) (records c)
 
-abbrev Starts : Answers → World → Connection → ℕ → List Record → Type 0
-Starts answers w c l qs =
+abbrev Starts : OnAttention → Answers → World → Connection → ℕ → List Record → Type 0
+Starts attention answers w c l qs =
     (m end : SessionState)
     → Before c l qs → HasLeft m qs → HasLeft (own_session (numbered w.leases l)) qs
-    → Thread answers (steps_done c) m (map core_of qs) end → RunsAlone answers (own_session (numbered w.leases l)) (of_lease l c qs)
+    → Thread attention answers (progress_of c) m (map core_of qs) end → RunsAlone attention answers (own_session (numbered w.leases l)) (of_lease l c qs)
 
 later_not : (l : ℕ) (q : Record) (qs : List Record) → AllByRecursion (Behind (core_of q)) (map core_of qs) → AllByRecursion (NotRun l q.number) qs
 later_not l q [] g = tt
@@ -209,15 +233,15 @@ all_behind l q (p ∷ ps) e r g = (
   all_behind l q ps e r g.1,
 )
 
-starts_on : (answers : Answers) (w : World) (c : Connection) (l : ℕ) (q : Record) (qs : List Record) (m m2 end : SessionState) (ran : Option SessionState) → Good answers → AllOpen w → Starts answers w c l qs → (IsRan q.ran → Goes answers l c qs) → Knows answers w c q → q.lease ≡ l → AllByRecursion (Behind (core_of q)) (map core_of qs) → Before c l (q ∷ qs) → HasLeft m (q ∷ qs) → HasLeft (own_session (numbered w.leases l)) (q ∷ qs) → q.ran ≡ ran → Found answers (steps_done c q.number) m q.asking ran m2 → IsOwnAnswer answers q ran → Thread answers (steps_done c) m2 (map core_of qs) end
-    → TellsAlone answers (own_session (numbered w.leases l)) (exchange_of c q) ran × RunsAlone answers (session_after (own_session (numbered w.leases l)) (steps_done c q.number) (own_steps answers (own_session (numbered w.leases l)) q.asking.request)) (of_lease l c qs)
-starts_on answers w c l q qs m m2 end None b opens ih go k is g before r o e f h t =
+starts_on : (attention : OnAttention) (answers : Answers) (w : World) (c : Connection) (l : ℕ) (q : Record) (qs : List Record) (m m2 end : SessionState) (ran : Option SessionState) → Good answers → AllOpen w → Starts attention answers w c l qs → (IsRan q.ran → Goes attention answers l c qs) → Knows answers w c q → q.lease ≡ l → AllByRecursion (Behind (core_of q)) (map core_of qs) → Before c l (q ∷ qs) → HasLeft m (q ∷ qs) → HasLeft (own_session (numbered w.leases l)) (q ∷ qs) → q.ran ≡ ran → Found attention answers (progress_of c q.number) m q.asking ran m2 → IsOwnAnswer answers q ran → Thread attention answers (progress_of c) m2 (map core_of qs) end → Owed attention answers l c q qs (own_session (numbered w.leases l)) ran
+starts_on attention answers w c l q qs m m2 end None b opens ih go k is g before r o e f h t =
     let own : SessionState = own_session (numbered w.leases l) in (
       h,
-      subst (λ n. RunsAlone answers (session_after own n (own_steps answers own q.asking.request)) (of_lease l c qs)) (sym f.1)
+      may_keep attention (progress_of c q.number).rolled f.2,
+      subst (λ s. RunsAlone attention answers s (of_lease l c qs)) (sym (nothing_left answers c q own f.1 f.2))
           (ih m2 end (λ number n. before number ((λ i less. e), n)) (subst (λ s. HasLeft s qs) f.0 (less_left m q qs r)) (less_left own q qs o) t),
     )
-starts_on answers w c l q qs m m2 end (Some ran) b opens ih go k is g before r o e f h t =
+starts_on attention answers w c l q qs m m2 end (Some ran) b opens ih go k is g before r o e f h t =
     let own : SessionState = own_session (numbered w.leases l) in
     let none : AllByRecursion (NotRun l q.number) (records c) = before q.number ((λ i less. absurd (omega arith)), later_not l q qs g) in
     let first : AllByRecursion (NotRun q.lease q.number) (records c) = subst (λ x. AllByRecursion (NotRun x q.number) (records c)) (sym is) none in
@@ -225,43 +249,44 @@ starts_on answers w c l q qs m m2 end (Some ran) b opens ih go k is g before r o
     let left : HasLeft ran (q ∷ qs) = subst (λ s. HasLeft s (q ∷ qs)) (sym f.0) (reset_left q.asking.mark m (q ∷ qs) r) in
     let room : HasRoom answers ran q.asking.request = has_room answers ran q qs b.few k.fits left in
     let own_room : HasRoom answers own q.asking.request = has_room answers own q qs b.few k.fits o in
-    let n : ℕ = steps_done c q.number in (
+    let same : m2 ≡ left_alone answers ran (exchange_of c q) = left_own attention answers c q m ran m2 k.transaction e f in (
       told_alone answers own ran c q b.blind alike room own_room h,
-      go (subst IsRan (sym e) tt) m2 end (session_after own n (own_steps answers own q.asking.request))
-          (left_alike answers c q ran own m m2 b.blind k.transaction e alike room own_room f)
-          (subst (λ s. HasLeft s qs) (sym (f.1 ∙ left_own answers c q ran n k.transaction e)) (after_left answers ran q qs n b.few k.fits left))
-          (after_left answers own q qs n b.few k.fits o) t,
+      f.1,
+      go (subst IsRan (sym e) tt) m2 end (left_alone answers own (exchange_of c q))
+          (subst (λ s. AreAlike s (left_alone answers own (exchange_of c q))) (sym same) (left_alike answers c q ran own b.blind alike room own_room))
+          (subst (λ s. HasLeft s qs) (sym same) (behind_left answers ran q qs (progress_of c q.number) b.few k.fits left))
+          (behind_left answers own q qs (progress_of c q.number) b.few k.fits o) t,
     )
 
 -- Descriptors are left behind a request of another lease.
-passes_left : (answers : Answers) (w : World) (c : Connection) (q : Record) (qs : List Record) (m m2 : SessionState) (ran : Option SessionState) → Good answers → Knows answers w c q → HasLeft m (q ∷ qs) → q.ran ≡ ran → Found answers (steps_done c q.number) m q.asking ran m2 → HasLeft m2 qs
-passes_left answers w c q qs m m2 None b k r e f = subst (λ s. HasLeft s qs) f.0 (less_left m q qs r)
-passes_left answers w c q qs m m2 (Some ran) b k r e f =
+passes_left : (attention : OnAttention) (answers : Answers) (w : World) (c : Connection) (q : Record) (qs : List Record) (m m2 : SessionState) (ran : Option SessionState) → Good answers → Knows answers w c q → HasLeft m (q ∷ qs) → q.ran ≡ ran → Found attention answers (progress_of c q.number) m q.asking ran m2 → HasLeft m2 qs
+passes_left attention answers w c q qs m m2 None b k r e f = subst (λ s. HasLeft s qs) f.0 (less_left m q qs r)
+passes_left attention answers w c q qs m m2 (Some ran) b k r e f =
     let left : HasLeft ran (q ∷ qs) = subst (λ s. HasLeft s (q ∷ qs)) (sym f.0) (reset_left q.asking.mark m (q ∷ qs) r) in
-    subst (λ s. HasLeft s qs) (sym (f.1 ∙ left_own answers c q ran (steps_done c q.number) k.transaction e)) (after_left answers ran q qs (steps_done c q.number) b.few k.fits left)
+    subst (λ s. HasLeft s qs) (sym (left_own attention answers c q m ran m2 k.transaction e f)) (behind_left answers ran q qs (progress_of c q.number) b.few k.fits left)
 
-starts_by : (answers : Answers) (w : World) (c : Connection) (l : ℕ) (q : Record) (qs : List Record) (test : Bool) (m end : SessionState) → eqb q.lease l ≡ test → Good answers → AllOpen w → Starts answers w c l qs → (q.lease ≡ l → IsRan q.ran → Goes answers l c qs) → Knows answers w c q → AllByRecursion (Behind (core_of q)) (map core_of qs) → Before c l (q ∷ qs) → HasLeft m (q ∷ qs) → HasLeft (own_session (numbered w.leases l)) (q ∷ qs) → Thread answers (steps_done c) m (map core_of (q ∷ qs)) end → RunsAlone answers (own_session (numbered w.leases l)) (map (exchange_of c) (cond test (q ∷ filter (λ (p : Record). p.lease == l) qs) (filter (λ (p : Record). p.lease == l) qs)))
-starts_by answers w c l q qs true m end e b opens ih go k g before r o t =
+starts_by : (attention : OnAttention) (answers : Answers) (w : World) (c : Connection) (l : ℕ) (q : Record) (qs : List Record) (test : Bool) (m end : SessionState) → eqb q.lease l ≡ test → Good answers → AllOpen w → Starts attention answers w c l qs → (q.lease ≡ l → IsRan q.ran → Goes attention answers l c qs) → Knows answers w c q → AllByRecursion (Behind (core_of q)) (map core_of qs) → Before c l (q ∷ qs) → HasLeft m (q ∷ qs) → HasLeft (own_session (numbered w.leases l)) (q ∷ qs) → Thread attention answers (progress_of c) m (map core_of (q ∷ qs)) end → RunsAlone attention answers (own_session (numbered w.leases l)) (map (exchange_of c) (cond test (q ∷ filter (λ (p : Record). p.lease == l) qs) (filter (λ (p : Record). p.lease == l) qs)))
+starts_by attention answers w c l q qs true m end e b opens ih go k g before r o t =
     let is : q.lease ≡ l = is_same q.lease l e in
-    starts_on answers w c l q qs m t.0 end q.ran b opens ih (go is) k is g before r o refl t.1.0 k.own t.1.1
-starts_by answers w c l q qs false m end e b opens ih go k g before r o t =
-    ih t.0 end (λ number n. before number ((λ i less. absurd (is_other q.lease l e i)), n)) (passes_left answers w c q qs m t.0 q.ran b k r refl t.1.0) (less_left (own_session (numbered w.leases l)) q qs o) t.1.1
+    starts_on attention answers w c l q qs m t.0 end q.ran b opens ih (go is) k is g before r o refl t.1.0 k.own t.1.1
+starts_by attention answers w c l q qs false m end e b opens ih go k g before r o t =
+    ih t.0 end (λ number n. before number ((λ i less. absurd (is_other q.lease l e i)), n)) (passes_left attention answers w c q qs m t.0 q.ran b k r refl t.1.0) (less_left (own_session (numbered w.leases l)) q qs o) t.1.1
 
-starts : (answers : Answers) (w : World) (c : Connection) (l : ℕ) (qs : List Record) → Good answers → AllOpen w → AllByRecursion (Knows answers w c) qs → InTurn (map core_of qs) → Starts answers w c l qs
-starts answers w c l [] b opens k g m end before r o t = tt
-starts answers w c l (q ∷ qs) b opens k g m end before r o t =
-    starts_by answers w c l q qs (eqb q.lease l) m end refl b opens (starts answers w c l qs b opens k.1 g.1)
-    (λ e i. goes answers w c l qs b k.1 (all_behind l q qs e i g.0) g.1) k.0 g.0 before r o t
+starts : (attention : OnAttention) (answers : Answers) (w : World) (c : Connection) (l : ℕ) (qs : List Record) → Good answers → AllOpen w → AllByRecursion (Knows answers w c) qs → InTurn (map core_of qs) → Starts attention answers w c l qs
+starts attention answers w c l [] b opens k g m end before r o t = tt
+starts attention answers w c l (q ∷ qs) b opens k g m end before r o t =
+    starts_by attention answers w c l q qs (eqb q.lease l) m end refl b opens (starts attention answers w c l qs b opens k.1 g.1)
+    (λ e i. goes attention answers w c l qs b k.1 (all_behind l q qs e i g.0) g.1) k.0 g.0 before r o t
 
 -- ---- The law
 
 -- All that a connection was shown to do.
-pub record Shown (answers : Answers) (w : World) (c : Connection) : Type 0 where
+pub record Shown (attention : OnAttention) (answers : Answers) (w : World) (c : Connection) : Type 0 where
   pub fresh : AllByRecursion (StartsFresh w c) (records c)
   pub own : AllByRecursion (λ q. IsOwnAnswer answers q q.ran) (records c)
   pub transaction : AllByRecursion (RanInOwn c) (records c)
   pub fits : AllByRecursion (λ (q : Record). Fits q.asking.request) (records c)
-  pub thread : Threaded answers c
+  pub thread : Threaded attention answers c
   pub turn : InTurn (map core_of (records c))
 
 all_known : (answers : Answers) (w : World) (c : Connection) (qs : List Record) → AllByRecursion (StartsFresh w c) qs → AllByRecursion (λ q. IsOwnAnswer answers q q.ran) qs → AllByRecursion (RanInOwn c) qs → AllByRecursion (λ (q : Record). Fits q.asking.request) qs → AllByRecursion (Knows answers w c) qs
@@ -277,9 +302,9 @@ own_left (Some x) qs h = by_ticket x.resumed
     by_ticket None = new_left qs h
     by_ticket (Some n) = h
 
-alone_on : (answers : Answers) (w : World) (c : Connection) → Good answers → AllOpen w → HasLeft (begun new_session) (records c) → Shown answers w c → (l : ℕ) → RunsAlone answers (own_session (numbered w.leases l)) (exchanges_of l c)
-alone_on answers w c b opens r h l =
-    starts answers w c l (records c) b opens (all_known answers w c (records c) h.fresh h.own h.transaction h.fits) h.turn new_session c.session (λ number n. n)
+alone_on : (attention : OnAttention) (answers : Answers) (w : World) (c : Connection) → Good answers → AllOpen w → HasLeft (begun new_session) (records c) → Shown attention answers w c → (l : ℕ) → RunsAlone attention answers (own_session (numbered w.leases l)) (exchanges_of l c)
+alone_on attention answers w c b opens r h l =
+    starts attention answers w c l (records c) b opens (all_known answers w c (records c) h.fresh h.own h.transaction h.fits) h.turn new_session c.session (λ number n. n)
     (new_left (records c) r) (own_left (numbered w.leases l) (records c) r) h.thread
 
 -- What holds of the connection of each number.
@@ -294,26 +319,26 @@ each_numbered P cs f = each_at cs (λ i c e. f (suc i) c e)
     each_at (d ∷ ds) g = (g 0 d refl, each_at ds (λ i c e. g (suc i) c e))
 
 -- Where so few requests were asked.
-pub as_if_alone : (setup : Setup) (answers : Answers) (events : List Event) → Lawful answers → BlindToNumbers answers → UseFewDescriptors answers → AllByRecursion IsEvent events → let w : World = world_after setup answers events new_world in length w.asked_on ≤ most_events → AsIfAlone answers w
+pub as_if_alone : (setup : Setup) (answers : Answers) (events : List Event) → Lawful answers → BlindToNumbers answers → UseFewDescriptors answers → AllByRecursion IsEvent events → let w : World = world_after setup answers events new_world in length w.asked_on ≤ most_events → AsIfAlone setup.on_attention answers w
 as_if_alone setup answers events l b u known few =
     let w : World = world_after setup answers events new_world in
     let cs : List Connection = w.connections in
     let good : Good answers = record { blind = b; few = u } in
-    each_numbered (λ c. (x : ℕ) → RunsAlone answers (own_session (numbered w.leases x)) (exchanges_of x c)) cs
+    each_numbered (λ c. (x : ℕ) → RunsAlone setup.on_attention answers (own_session (numbered w.leases x)) (exchanges_of x c)) cs
     (λ n c t.
-    alone_on answers w c good (from_open setup answers events)
+    alone_on setup.on_attention answers w c good (from_open setup answers events)
     (many_left (records c) (few_on w n c (requests_in_order setup answers events) t few))
     (record {
       fresh = at_each (λ d. AllByRecursion (StartsFresh w d) (records d)) cs n c t (fresh_start setup answers l events);
       own = at_each (λ d. AllByRecursion (λ q. IsOwnAnswer answers q q.ran) (records d)) cs n c t (own_answers setup answers l events);
       transaction = at_each (λ d. AllByRecursion (RanInOwn d) (records d)) cs n c t (own_transaction setup answers l events);
       fits = at_each (λ d. AllByRecursion (λ (q : Record). Fits q.asking.request) (records d)) cs n c t (all_fit setup answers events known);
-      thread = at_each (Threaded answers) cs n c t (all_threaded setup answers l events);
+      thread = at_each (Threaded setup.on_attention answers) cs n c t (all_threaded setup answers l events);
       turn = at_each (λ d. InTurn (map core_of (records d))) cs n c t (all_in_turn setup answers l events);
     }))
 
 -- Each event asks for one request at most.
-pub alone_after : (setup : Setup) (answers : Answers) → Lawful answers → BlindToNumbers answers → UseFewDescriptors answers → (events : List Event) → AreFewEvents events → AsIfAlone answers (world_after setup answers events new_world)
+pub alone_after : (setup : Setup) (answers : Answers) → Lawful answers → BlindToNumbers answers → UseFewDescriptors answers → (events : List Event) → AreFewEvents events → AsIfAlone setup.on_attention answers (world_after setup answers events new_world)
 alone_after setup answers l b u events h =
     let few = few_of_each setup answers events in
     as_if_alone setup answers events l b u h.known (let y : length (world_after setup answers events new_world).asked_on ≤ length events = few.asked in let z : length events ≤ most_events = h.few in omega arith)

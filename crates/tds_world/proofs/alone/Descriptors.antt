@@ -12,7 +12,7 @@ use Rattle.tds_session.specs.Answer.{Answers}
 use Rattle.tds_session.specs.Session.{SessionState, new_session, begun, last_descriptor}
 use Rattle.tds_world.specs.declared.event.Event.{Event}
 use Rattle.tds_world.specs.declared.event.Setup.{Setup}
-use Rattle.tds_world.specs.Alone.{HasRoom, own_steps, session_after}
+use Rattle.tds_world.specs.Alone.{HasRoom, Progress, left_by, own_steps, session_after}
 use Rattle.tds_world.specs.Arrivals.{server_acts, client_acts, works_on}
 use Rattle.tds_world.specs.Bounds.{IsEvent}
 use Rattle.tds_world.specs.Caller.{asks, cancels_by, sends_by}
@@ -66,7 +66,7 @@ has_room answers s q qs u f h = record {
       let y : length (own_steps answers s q.asking.request) ≤ most_steps = u.short s q.asking.request f in omega arith);
 }
 
-pub after_left : (answers : Answers) (s : SessionState) (q : Record) (qs : List Record) (n : ℕ) → UseFewDescriptors answers → Fits q.asking.request → HasLeft s (q ∷ qs) → HasLeft (session_after s n (own_steps answers s q.asking.request)) qs
+after_left : (answers : Answers) (s : SessionState) (q : Record) (qs : List Record) (n : ℕ) → UseFewDescriptors answers → Fits q.asking.request → HasLeft s (q ∷ qs) → HasLeft (session_after s n (own_steps answers s q.asking.request)) qs
 after_left answers s q qs n u f h =
     let steps : List answer.Step = own_steps answers s q.asking.request in
     let uses = after_uses n s steps (u.each s q.asking.request) in
@@ -76,6 +76,15 @@ after_left answers s q qs n u f h =
     let z : s.next_descriptor + (most_steps + all_steps qs) ≤ last_descriptor = h.left in
     let y : length steps ≤ most_steps = u.short s q.asking.request f in
     record { some = omega arith; left = omega arith }
+
+-- A rollback uses none.
+rolled_left : (rolled : Bool) (s : SessionState) (qs : List Record) → HasLeft s qs → HasLeft (left_by rolled s) qs
+rolled_left true s qs h = record { some = h.some; left = h.left }
+rolled_left false s qs h = h
+
+pub behind_left : (answers : Answers) (s : SessionState) (q : Record) (qs : List Record) (got : Progress) → UseFewDescriptors answers → Fits q.asking.request → HasLeft s (q ∷ qs) → HasLeft (left_by got.rolled (session_after s got.done (own_steps answers s q.asking.request))) qs
+behind_left answers s q qs got u f h =
+    rolled_left got.rolled (session_after s got.done (own_steps answers s q.asking.request)) qs (after_left answers s q qs got.done u f h)
 
 -- A reset uses none.
 pub reset_left : (mark : Option Reset) (s : SessionState) (qs : List Record) → HasLeft s qs → HasLeft (runs_in mark s) qs

@@ -66,7 +66,7 @@ or_reset (Some x) P h = tt
 
 reset_last : (xs : List Down) (r place : ℕ) (s : answer.Step) (m : Reset) → s.reset ≡ Some m → HasReset (xs ++ Step r place s ∷ [])
 reset_last [] r place s m e = subst (λ o. WithReset o ⊥) (sym e) tt
-reset_last (Acknowledgement q i ∷ es) r place s m e = reset_last es r place s m e
+reset_last (Acknowledgement q i changes ∷ es) r place s m e = reset_last es r place s m e
 reset_last (Step q i t ∷ es) r place s m e = or_reset t.reset (HasReset (es ++ Step r place s ∷ [])) (reset_last es r place s m e)
 
 first_cleared : (mark : Option Reset) (xs : List Down) (r place : ℕ) (s : answer.Step) → s.reset ≡ mark → Cleared mark (xs ++ Step r place s ∷ [])

@@ -46,7 +46,7 @@ WithReset (Some r) Later = Unit {0}
 abbrev pub HasReset : List Down → Type 0
 HasReset [] = ⊥
 HasReset (Step r place s ∷ es) = WithReset s.reset (HasReset es)
-HasReset (Acknowledgement r place ∷ es) = HasReset es
+HasReset (Acknowledgement r place changes ∷ es) = HasReset es
 
 abbrev pub Cleared : Option Reset → List Down → Type 0
 Cleared mark downs = (mark ≡ None) ⊎ HasReset downs
@@ -182,7 +182,7 @@ later_reset (Some x) P Q f g = tt
 
 pub reset_more : (xs ys : List Down) → HasReset xs → HasReset (xs ++ ys)
 reset_more [] ys h = absurd h
-reset_more (Acknowledgement r place ∷ es) ys h = reset_more es ys h
+reset_more (Acknowledgement r place changes ∷ es) ys h = reset_more es ys h
 reset_more (Step r place s ∷ es) ys h = later_reset s.reset (HasReset es) (HasReset (es ++ ys)) (reset_more es ys) h
 
 pub cleared_more : (mark : Option Reset) (xs ys : List Down) → Cleared mark xs → Cleared mark (xs ++ ys)
@@ -239,9 +239,9 @@ pub client_tenant : (k : ℕ) (c : Connection) (e : Down) (es : List Down) → T
 client_tenant k c (Step r place s) es h =
     with_cores k c (client_acts (record c { to_client = passed (Step r place s) c.to_client }) (Step r place s)) (mark_after s.reset c.mark) es (client_same c (Step r place s))
     (tenant_then k c.standing (cores c) c.mark (mark_after s.reset c.mark) (Step r place s ∷ es) es (cleared_step c.mark r place s es) h)
-client_tenant k c (Acknowledgement r place) es h =
-    with_cores k c (client_acts (record c { to_client = passed (Acknowledgement r place) c.to_client }) (Acknowledgement r place)) c.mark es (client_same c (Acknowledgement r place))
-    (tenant_then k c.standing (cores c) c.mark c.mark (Acknowledgement r place ∷ es) es (λ g. g) h)
+client_tenant k c (Acknowledgement r place changes) es h =
+    with_cores k c (client_acts (record c { to_client = passed (Acknowledgement r place changes) c.to_client }) (Acknowledgement r place changes)) c.mark es (client_same c (Acknowledgement r place changes))
+    (tenant_then k c.standing (cores c) c.mark c.mark (Acknowledgement r place changes ∷ es) es (λ g. g) h)
 
 pub reach_client_tenant : (k : ℕ) (c : Connection) (es : List Down) (n : ℕ) → TenantWith k c es → TenantOf k (reach_client c es n)
 reach_client_tenant k c [] n h = h

@@ -2,6 +2,7 @@
 use Rattle.std.proofs.Common.{◌≡◌, ◌⊎◌, ℕ, List, [], ◌∷◌, ◌++◌, inl, inr, Bool, true, false, eqb, not, refl, sym, ap, subst, ◌∙◌, Option, Some, None}
 use Rattle.std.specs.List.{AllByRecursion}
 use Rattle.tds_request.specs.declared.request.Request.{Request}
+use Rattle.tds_session.specs.declared.attention.OnAttention.{OnAttention}
 use Rattle.tds_session.specs.Answer.{Answers}
 use Rattle.tds_session.specs.Session.{SessionState, new_session, begun, is_in_transaction}
 use Rattle.tds_token.specs.declared.token.Token.{Token}
@@ -10,8 +11,8 @@ use Rattle.tds_world.specs.declared.outcome.Opened.{Opened}
 use Rattle.tds_world.specs.declared.outcome.Opened.TheVariants as opened
 use Rattle.tds_world.specs.declared.report.EventReport.{EventReport}
 use Rattle.tds_world.specs.declared.report.Report.{Report}
-use Rattle.tds_world.specs.Alone.{AreAlike, Exchange, exchanges_of, own_session, session_from, own_steps, session_after, IsToldAlone, TellsAlone, RunsAlone, AsIfAlone}
-use Rattle.tds_world.specs.AloneShown.{LeaseShown, lease_in, OfEachLease, own_by, StepsDone, ShowsAsIfAlone}
+use Rattle.tds_world.specs.Alone.{AreAlike, Exchange, exchanges_of, own_session, session_from, left_by, left_alone, own_steps, session_after, Progress, IsToldAlone, TellsAlone, RunsAlone, AsIfAlone}
+use Rattle.tds_world.specs.AloneShown.{LeaseShown, lease_in, OfEachLease, own_by, HowFar, ShowsAsIfAlone}
 use Rattle.tds_world.specs.Connection.{Connection}
 use Rattle.tds_world.specs.Laws.{whole_answer}
 use Rattle.tds_world.specs.Reports.{asked_in}
@@ -85,15 +86,21 @@ given_alike answers own x y (Some r) (Some q) e i j a b = both_ran answers own r
 
 -- ---- All of them
 
-pub all_alike : (answers : Answers) (own : SessionState) (xs ys : List Exchange) → RunsAlone answers own xs → RunsAlone answers own ys → AllGivenAlike xs ys
-all_alike answers own [] ys a b = tt
-all_alike answers own (x ∷ xs) [] a b = tt
-all_alike answers own (x ∷ xs) (y ∷ ys) a b = λ e. (
+-- What each left there.
+left_same : (answers : Answers) (own : SessionState) (x y : Exchange) → x.request ≡ y.request → x.got ≡ y.got → left_alone answers own y ≡ left_alone answers own x
+left_same answers own x y e n =
+    ap (λ (g : Progress). left_by g.rolled (session_after own g.done (own_steps answers own y.request))) (sym n)
+    ∙ ap (λ q. left_by x.got.rolled (session_after own x.got.done (own_steps answers own q))) (sym e)
+
+-- Whatever the servers do at an attention, as far as they did the same.
+pub all_alike : (attention there : OnAttention) (answers : Answers) (own : SessionState) (xs ys : List Exchange) → RunsAlone attention answers own xs → RunsAlone there answers own ys → AllGivenAlike xs ys
+all_alike attention there answers own [] ys a b = tt
+all_alike attention there answers own (x ∷ xs) [] a b = tt
+all_alike attention there answers own (x ∷ xs) (y ∷ ys) a b = λ e. (
   given_alike answers own x y x.ran y.ran e refl refl a.0 b.0,
   λ n.
-      let next : session_after own y.done (own_steps answers own y.request) ≡ session_after own x.done (own_steps answers own x.request) =
-      ap (λ k. session_after own k (own_steps answers own y.request)) (sym n) ∙ ap (λ q. session_after own x.done (own_steps answers own q)) (sym e) in
-      all_alike answers (session_after own x.done (own_steps answers own x.request)) xs ys a.1 (subst (λ s. RunsAlone answers s ys) next b.1),
+      all_alike attention there answers (left_alone answers own x) xs ys a.2
+      (subst (λ s. RunsAlone there answers s ys) (left_same answers own x y e n) b.2),
 )
 
 -- ---- Of worlds
@@ -120,17 +127,17 @@ own_by_kind (Some h) = from_is h.resumed
 at_each : (P : Connection → Type 0) (cs : List Connection) (n : ℕ) (c : Connection) → numbered cs n ≡ Some c → AllByRecursion P cs → P c
 at_each P cs n c t h = subst (OfSome P) t (at_number P cs n h)
 
-abbrev On : Answers → World → Connection → Type 0
-On answers w c = (l : ℕ) → RunsAlone answers (own_session (numbered w.leases l)) (exchanges_of l c)
+abbrev On : OnAttention → Answers → World → Connection → Type 0
+On attention answers w c = (l : ℕ) → RunsAlone attention answers (own_session (numbered w.leases l)) (exchanges_of l c)
 
-pub worlds_alike : (answers : Answers) (w v : World) → AsIfAlone answers w → AsIfAlone answers v → GiveAlike w v
-worlds_alike answers w v a b m n l k c d e f same =
-    let first : RunsAlone answers (own_session (numbered w.leases l)) (exchanges_of l c) = at_each (On answers w) w.connections m c e a l in
-    let second : RunsAlone answers (own_session (numbered v.leases k)) (exchanges_of k d) = at_each (On answers v) v.connections n d f b k in
+pub worlds_alike : (attention there : OnAttention) (answers : Answers) (w v : World) → AsIfAlone attention answers w → AsIfAlone there answers v → GiveAlike w v
+worlds_alike attention there answers w v a b m n l k c d e f same =
+    let first : RunsAlone attention answers (own_session (numbered w.leases l)) (exchanges_of l c) = at_each (On attention answers w) w.connections m c e a l in
+    let second : RunsAlone there answers (own_session (numbered v.leases k)) (exchanges_of k d) = at_each (On there answers v) v.connections n d f b k in
     let own : own_session (numbered v.leases k) ≡ own_session (numbered w.leases l) =
     own_by_kind (numbered v.leases k) ∙ (ap session_by (sym same) ∙ sym (own_by_kind (numbered w.leases l))) in
-    all_alike answers (own_session (numbered w.leases l)) (exchanges_of l c) (exchanges_of k d) first
-    (subst (λ s. RunsAlone answers s (exchanges_of k d)) own second)
+    all_alike attention there answers (own_session (numbered w.leases l)) (exchanges_of l c) (exchanges_of k d) first
+    (subst (λ s. RunsAlone there answers s (exchanges_of k d)) own second)
 
 -- ---- Of reports
 
@@ -139,26 +146,26 @@ opened_by opened.New = refl
 opened_by opened.Reused = refl
 opened_by opened.Resumed = refl
 
-abbrev IsAlone : Answers → LeaseShown → Type 0
-IsAlone answers x = RunsAlone answers (own_by x.opened) x.exchanges
+abbrev IsAlone : OnAttention → Answers → LeaseShown → Type 0
+IsAlone attention answers x = RunsAlone attention answers (own_by x.opened) x.exchanges
 
-shown_alike : (answers : Answers) (x y : LeaseShown) → IsAlone answers x → IsAlone answers y → LeasesAlike x y
-shown_alike answers x y a b = record {
+shown_alike : (attention there : OnAttention) (answers : Answers) (x y : LeaseShown) → IsAlone attention answers x → IsAlone there answers y → LeasesAlike x y
+shown_alike attention there answers x y a b = record {
   given = λ same.
       let own : own_by y.opened ≡ own_by x.opened = opened_by y.opened ∙ (ap session_by (sym same) ∙ sym (opened_by x.opened)) in
-      all_alike answers (own_by x.opened) x.exchanges y.exchanges a (subst (λ s. RunsAlone answers s y.exchanges) own b);
+      all_alike attention there answers (own_by x.opened) x.exchanges y.exchanges a (subst (λ s. RunsAlone there answers s y.exchanges) own b);
 }
 
 each_of : {A : Type 0} (P Q : A → Type 0) (xs : List A) → ((x : A) → P x → Q x) → AllByRecursion P xs → AllByRecursion Q xs
 each_of P Q [] f h = tt
 each_of P Q (x ∷ xs) f h = (f x h.0, each_of P Q xs f h.1)
 
-each_lease : (P Q : LeaseShown → Type 0) (done : StepsDone) (events : List Event) (r : Report) → ((x : LeaseShown) → P x → Q x) → OfEachLease P done events r → OfEachLease Q done events r
-each_lease P Q done events r f h =
-    each_of (λ (e : EventReport). AllByRecursion P (lease_in done (asked_in events r.events) r.requests e.outcome)) (λ (e : EventReport). AllByRecursion Q (lease_in done (asked_in events r.events) r.requests e.outcome)) r.events
-    (λ e. each_of P Q (lease_in done (asked_in events r.events) r.requests e.outcome) f) h
+each_lease : (P Q : LeaseShown → Type 0) (far : HowFar) (events : List Event) (r : Report) → ((x : LeaseShown) → P x → Q x) → OfEachLease P far events r → OfEachLease Q far events r
+each_lease P Q far events r f h =
+    each_of (λ (e : EventReport). AllByRecursion P (lease_in far (asked_in events r.events) r.requests e.outcome)) (λ (e : EventReport). AllByRecursion Q (lease_in far (asked_in events r.events) r.requests e.outcome)) r.events
+    (λ e. each_of P Q (lease_in far (asked_in events r.events) r.requests e.outcome) f) h
 
-pub reports_alike : (answers : Answers) (done done_there : StepsDone) (events events_there : List Event) (r there : Report) → ShowsAsIfAlone answers done events r → ShowsAsIfAlone answers done_there events_there there → ShowGivenAlike done events r done_there events_there there
-reports_alike answers done done_there events events_there r there a b =
-    each_lease (IsAlone answers) (λ x. OfEachLease (λ y. LeasesAlike x y) done_there events_there there) done events r
-    (λ x h. each_lease (IsAlone answers) (λ y. LeasesAlike x y) done_there events_there there (λ y k. shown_alike answers x y h k) b) a
+pub reports_alike : (attention attention_there : OnAttention) (answers : Answers) (far far_there : HowFar) (events events_there : List Event) (r there : Report) → ShowsAsIfAlone attention answers far events r → ShowsAsIfAlone attention_there answers far_there events_there there → ShowGivenAlike far events r far_there events_there there
+reports_alike attention attention_there answers far far_there events events_there r there a b =
+    each_lease (IsAlone attention answers) (λ x. OfEachLease (λ y. LeasesAlike x y) far_there events_there there) far events r
+    (λ x h. each_lease (IsAlone attention_there answers) (λ y. LeasesAlike x y) far_there events_there there (λ y k. shown_alike attention attention_there answers x y h k) b) a

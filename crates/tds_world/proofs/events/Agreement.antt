@@ -141,17 +141,17 @@ acted_agrees : (w : World) (e : Event) (n : ℕ) (old : Connection) (x : Acted) 
 acted_agrees w e n old (Refuses why) a there stood then = a
 acted_agrees w e n old (Does what c) a there stood then = did_agree w e n old c what a there stood then
 
-opened_agrees : (w : World) (n : ℕ) → n ≡ next_number w.connections → Agrees w → Agrees (settles event.Lease n w (opens (next_number w.leases) n)).1
-opened_agrees w n e a =
-    subst (λ i. Agrees (settles event.Lease i w (opens (next_number w.leases) i)).1) (sym e) (record {
-      leases = open_have place.Leased (new_connection (place.Leased (next_number w.leases))) w.leases (holding (next_number w.connections) 0 None) w.connections refl refl a.leases;
-      tickets = new_have place.Kept (new_connection (place.Leased (next_number w.leases))) w.tickets w.connections a.tickets;
+opened_agrees : (setup : Setup) (w : World) (n : ℕ) → n ≡ next_number w.connections → Agrees w → Agrees (settles event.Lease n w (opens setup.on_attention (next_number w.leases) n)).1
+opened_agrees setup w n e a =
+    subst (λ i. Agrees (settles event.Lease i w (opens setup.on_attention (next_number w.leases) i)).1) (sym e) (record {
+      leases = open_have place.Leased (new_connection setup.on_attention (place.Leased (next_number w.leases))) w.leases (holding (next_number w.connections) 0 None) w.connections refl refl a.leases;
+      tickets = new_have place.Kept (new_connection setup.on_attention (place.Leased (next_number w.leases))) w.tickets w.connections a.tickets;
     })
 
 found_agrees : (setup : Setup) (answers : Answers) (e : Event) (w : World) (f : Found) → Agrees w → FoundWith w (StandsFor e) f → Agrees (happens_at setup answers e w f).1
 found_agrees setup answers e w (Missing why) a g = a
 found_agrees setup answers e w (Here n c) a g = acted_agrees w e n c (acts setup answers w e n c) a g.0 g.1 (stands_then setup answers w e n c)
-found_agrees setup answers e w (Opens n) a g = opened_agrees w n g a
+found_agrees setup answers e w (Opens n) a g = opened_agrees setup w n g a
 
 cut_holds_at : (p : Place) (cs : List Connection) (k : ℕ) → Holds p (numbered cs (suc k)) → Holds p (numbered (map cut cs) (suc k))
 cut_holds_at p [] k h = h

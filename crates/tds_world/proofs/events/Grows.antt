@@ -92,7 +92,7 @@ acted_grow setup answers R e n w c (Does what d) g i r =
 found_grow : (setup : Setup) (answers : Answers) (R : Connection → Connection → Type 0) (e : Event) (w : World) (f : Found) → Growth setup answers R → FoundWith w (StandsFor e) f → Grown R w.connections (happens_at setup answers e w f).1.connections
 found_grow setup answers R e w (Missing why) g s = grown_same setup answers R w.connections g
 found_grow setup answers R e w (Here n c) g s = acted_grow setup answers R e n w c (acts setup answers w e n c) g s.0 (g.acted w e n c s.1)
-found_grow setup answers R e w (Opens n) g s = opened_grow (opens (next_number w.leases) n)
+found_grow setup answers R e w (Opens n) g s = opened_grow (opens setup.on_attention (next_number w.leases) n)
   where
     opened_grow : (a : Acted) → Grown R w.connections (settles event.Lease n w a).1.connections
     opened_grow (Refuses why) = grown_same setup answers R w.connections g

@@ -48,7 +48,7 @@ Both Q P c ups downs = Q c ups downs × P c ups downs
 
 -- What such an invariant owes for each move, where another one holds already, for events of this kind.
 pub record KeptOver (setup : Setup) (answers : Answers) (E : Event → Type 0) (Q P : Invariant) : Type 0 where
-  pub opened : (lease : ℕ) → Of P (new_connection (place.Leased lease))
+  pub opened : (lease : ℕ) → Of P (new_connection setup.on_attention (place.Leased lease))
   -- it stands elsewhere, under this mark
   pub stands : (c : Connection) (mark : Option Reset) (s : Standing) → Of P c → Of P (record c { mark = mark; standing = s })
   pub asked : (number lease n : ℕ) (q : Request) (c : Connection) → E (event.Ask lease q) → is_idle c ≡ true → Of Q c → Of P c → Of P (asks number lease n q c)
@@ -141,7 +141,7 @@ AnyAt n e = Unit {0}
 -- What such an invariant owes. It doesn't fall when the world notes more.
 pub record NotedOver (setup : Setup) (answers : Answers) (E : ℕ → Event → Type 0) (Q P : World → Invariant) : Type 0 where
   pub grows : (w v : World) (c : Connection) (ups : List Up) (downs : List Down) → Adds w v → P w c ups downs → P v c ups downs
-  pub opened : (w : World) (n : ℕ) → Of (P (world_with event.Lease n w (new_connection (place.Leased (next_number w.leases))))) (new_connection (place.Leased (next_number w.leases)))
+  pub opened : (w : World) (n : ℕ) → Of (P (world_with event.Lease n w (new_connection setup.on_attention (place.Leased (next_number w.leases))))) (new_connection setup.on_attention (place.Leased (next_number w.leases)))
   pub moves : MovesOver setup answers E Q P
 
 abbrev pub FreeIn : World → Invariant

@@ -27,7 +27,7 @@ world_with e n w c = notes e n c.heard (record w { connections = put_numbered n 
 -- where the event wants it, and by a cut.
 pub record KeptUnder (setup : Setup) (answers : Answers) (Q P : World → Connection → Type 0) : Type 0 where
   pub grows : (w v : World) (c : Connection) → Adds w v → P w c → P v c
-  pub opened : (w : World) (n : ℕ) → P (world_with event.Lease n w (new_connection (place.Leased (next_number w.leases)))) (new_connection (place.Leased (next_number w.leases)))
+  pub opened : (w : World) (n : ℕ) → P (world_with event.Lease n w (new_connection setup.on_attention (place.Leased (next_number w.leases)))) (new_connection setup.on_attention (place.Leased (next_number w.leases)))
   pub acted : (w : World) (e : Event) (n : ℕ) (c : Connection) → StandsFor e c.standing → Q w c → P w c → OfActed (λ d. P (world_with e n w d) d) (acts setup answers w e n c)
   pub was_cut : (w : World) (c : Connection) → P w c → P w (cut c)
 
@@ -82,7 +82,7 @@ found_keeps setup answers P e w (Missing why) k s g h = h
 found_keeps setup answers P e w (Here n c) k s g h =
     settles_keep setup answers P e n w (acts setup answers w e n c) k (k.acted w e n c s.1 tt g) h
 found_keeps setup answers P e w (Opens n) k s g h =
-    settles_keep setup answers P event.Lease n w (opens (next_number w.leases) n) k (k.opened w n) h
+    settles_keep setup answers P event.Lease n w (opens setup.on_attention (next_number w.leases) n) k (k.opened w n) h
 
 at_event : (setup : Setup) (answers : Answers) (P : World → Connection → Type 0) (e : Event) (w : World) → KeptIn setup answers P → Agrees w → Each P w → Each P (happens_at setup answers e w (about setup w e)).1
 at_event setup answers P e w k a h =

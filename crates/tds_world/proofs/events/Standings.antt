@@ -68,7 +68,7 @@ server_stands answers c (Attention r) = refl
 
 client_stands : (c : Connection) (e : Down) → (client_acts c e).standing ≡ c.standing
 client_stands c (Step r place s) = refl
-client_stands c (Acknowledgement r place) = refl
+client_stands c (Acknowledgement r place changes) = refl
 
 pub reach_server_stands : (answers : Answers) (c : Connection) (es : List Up) (k : ℕ) → (reach_server answers c es k).standing ≡ c.standing
 reach_server_stands answers c [] k = refl

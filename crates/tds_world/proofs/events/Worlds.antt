@@ -21,7 +21,7 @@ use Rattle.tds_world.proofs.events.Words.{OfSome, OfFound, OfActed, either}
 -- What an invariant of a connection owes, for events of this kind: it holds of a new connection, is
 -- kept by what an event does to a connection that stands where the event wants it, and by a cut.
 pub record Kept (setup : Setup) (answers : Answers) (E : Event → Type 0) (P : Connection → Type 0) : Type 0 where
-  pub opened : (lease : ℕ) → P (new_connection (place.Leased lease))
+  pub opened : (lease : ℕ) → P (new_connection setup.on_attention (place.Leased lease))
   pub acted : (w : World) (e : Event) (n : ℕ) (c : Connection) → E e → StandsFor e c.standing → P c → OfActed P (acts setup answers w e n c)
   pub was_cut : (c : Connection) → P c → P (cut c)
 
@@ -132,7 +132,7 @@ settled P e n w (Does what c) g h =
 found : (P : Connection → Type 0) (E : Event → Type 0) (setup : Setup) (answers : Answers) (e : Event) (w : World) (f : Found) → Kept setup answers E P → E e → FoundWith w (StandsFor e) f → OfFound P f → AllByRecursion P w.connections → AllByRecursion P (happens_at setup answers e w f).1.connections
 found P E setup answers e w (Missing why) k x s g h = h
 found P E setup answers e w (Here n c) k x s g h = settled P e n w (acts setup answers w e n c) (k.acted w e n c x s.1 g) h
-found P E setup answers e w (Opens n) k x s g h = settled P event.Lease n w (opens (next_number w.leases) n) (k.opened (next_number w.leases)) h
+found P E setup answers e w (Opens n) k x s g h = settled P event.Lease n w (opens setup.on_attention (next_number w.leases) n) (k.opened (next_number w.leases)) h
 
 pub all_cut : (P : Connection → Type 0) (cs : List Connection) → ((c : Connection) → P c → P (cut c)) → AllByRecursion P cs → AllByRecursion P (map cut cs)
 all_cut P [] k h = tt

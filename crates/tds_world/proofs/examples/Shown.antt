@@ -1,6 +1,7 @@
 -- What an example shows of a play, and short words for it.
 use Rattle.std.specs.Prelude.{ℕ, ◌≡◌, pos, List, [], map, length, Bool, Option, Some, None}
 use Rattle.tds_packet.specs.declared.status.Reset.{Reset}
+use Rattle.tds_session.specs.declared.attention.OnAttention.TheVariants.{Keep, RollBack}
 use Rattle.tds_session.specs.Session.{SessionState, no_settings}
 use Rattle.tds_token.specs.declared.message.Message.{Message}
 use Rattle.tds_token.specs.declared.token.Token.{Token}
@@ -19,9 +20,12 @@ use Rattle.tds_world.specs.Losses.{Nothing, Failed, Played, marked}
 use Rattle.tds_world.specs.WithLosses.{events_of}
 use Rattle.tds_world.specs.World.{numbered}
 
--- Packets of 512 bytes, and so many connections.
+-- Packets of 512 bytes, and so many connections. A transaction is kept at an attention, or rolled back.
 abbrev pub with_max : ℕ → Setup
-with_max most = record { packet_size = 512; max = most }
+with_max most = record { packet_size = 512; max = most; on_attention = Keep }
+
+abbrev pub rolling_back : ℕ → Setup
+rolling_back most = record { packet_size = 512; max = most; on_attention = RollBack }
 
 -- The connections after the event of this number.
 abbrev pub connections_in : Option EventReport → List Snapshot

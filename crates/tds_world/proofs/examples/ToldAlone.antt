@@ -1,6 +1,7 @@
 -- Two leases share a connection. The second one is told what it would be told alone.
-use Rattle.std.specs.Prelude.{ℕ, ◌≡◌, refl, List, [], ◌∷◌, ◌++◌, map, filter, ◌==◌, Option, Some, None, codes}
+use Rattle.std.specs.Prelude.{ℕ, ◌≡◌, refl, List, [], ◌∷◌, ◌++◌, map, false, filter, ◌==◌, Option, Some, None, codes}
 use Rattle.tds_request.specs.declared.request.Request.TheVariants.{Batch}
+use Rattle.tds_session.specs.declared.attention.OnAttention.TheVariants.{Keep}
 use Rattle.tds_session.specs.Answer.{script_answers}
 use Rattle.tds_session.specs.Session.{SessionState}
 use Rattle.tds_token.specs.declared.token.Token.{Token}
@@ -9,7 +10,7 @@ use Rattle.tds_world.specs.declared.event.Event.TheVariants as event
 use Rattle.tds_world.specs.declared.report.Place.TheVariants.{Free}
 use Rattle.tds_world.specs.declared.report.RequestStatus.{RequestStatus}
 use Rattle.tds_world.specs.declared.report.RequestStatus.TheVariants as status
-use Rattle.tds_world.specs.Alone.{Exchange, exchanges_of, own_session, own_steps, session_after}
+use Rattle.tds_world.specs.Alone.{Exchange, Progress, exchanges_of, left_alone, own_session}
 use Rattle.tds_world.specs.Connection.{Connection, new_connection}
 use Rattle.tds_world.specs.Events.{world_after}
 use Rattle.tds_world.specs.Laws.{whole_answer}
@@ -72,15 +73,18 @@ abbrev world : World
 world = world_after (with_max 1) script_answers shared new_world
 
 abbrev of : Option Connection → Connection
-of None = new_connection Free
+of None = new_connection Keep Free
 of (Some c) = c
 
 abbrev connection : Connection
 connection = of (numbered world.connections 1)
 
+abbrev so_far : ℕ → Progress
+so_far steps = record { done = steps; rolled = false }
+
 -- What came of the lease's requests: of the first one two steps were done, its reset apart, and of the
 -- second three.
-pub done_shared : map (λ (x : Exchange). x.done) (exchanges_of 2 connection) ≡ 2 ∷ 3 ∷ []
+pub done_shared : map (λ (x : Exchange). x.got) (exchanges_of 2 connection) ≡ so_far 2 ∷ so_far 3 ∷ []
 done_shared = refl
 
 -- The same requests on a server of the lease's own, with as many steps done of each: the session that
@@ -89,7 +93,7 @@ abbrev run_alone : SessionState → List Exchange → List (SessionState × List
 run_alone own [] = []
 run_alone own (x ∷ xs) =
     (own, whole_answer script_answers own x.request)
-    ∷ run_alone (session_after own x.done (own_steps script_answers own x.request)) xs
+    ∷ run_alone (left_alone script_answers own x) xs
 
 pub runs_alone : run_alone (own_session (numbered world.leases 2)) (exchanges_of 2 connection) ≡
     (session 0 1, value 0 ∷ done 1 0 ∷ done 1 0 ∷ value 0 ∷ done 1 0 ∷ done 0 0 ∷ []) ∷

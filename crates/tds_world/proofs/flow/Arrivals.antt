@@ -4,6 +4,7 @@ use Rattle.std.proofs.lemmas.Bool.Decides.{nat_tests}
 use Rattle.std.proofs.Common.{arith}
 use Rattle.tds_session.specs.Answer as answer
 use Rattle.tds_session.specs.Answer.{Answers, EndsOnce}
+use Rattle.tds_token.specs.declared.env_change.EnvChange.{EnvChange}
 use Rattle.tds_world.specs.Arrivals.{server_acts}
 use Rattle.tds_world.specs.Connection.{Connection}
 use Rattle.tds_world.specs.Entries.{Up, Part, End, Drop, Attention, Down, Step, Acknowledgement}
@@ -12,10 +13,10 @@ use Rattle.tds_world.specs.Phase.{Phase, Settled, Asked, Sending, Reading, Cance
 use Rattle.tds_world.specs.Record.{Record, Out, NotBegun, Begun, Whole, gives, acknowledges, when, if_numbered, Fate, Open, Finished, Cancelled, Acknowledged, stepped}
 use Rattle.tds_world.proofs.flow.Flow.{EndsInAttention, StepsAndDue, OnlySteps, EndsInAcknowledgement, FlowIn, number_in}
 
-ends_in_ack : (r q id : ℕ) (downs : List Down) → q ≡ r → OnlySteps r downs → EndsInAcknowledgement r (downs ++ Acknowledgement q id ∷ [])
-ends_in_ack r q id [] e h = (e, refl)
-ends_in_ack r q id (Step p i s ∷ es) e h = (h.0, ends_in_ack r q id es e h.1)
-ends_in_ack r q id (Acknowledgement p i ∷ es) e h = absurd h
+ends_in_ack : (r q id : ℕ) (changes : List EnvChange) (downs : List Down) → q ≡ r → OnlySteps r downs → EndsInAcknowledgement r (downs ++ Acknowledgement q id changes ∷ [])
+ends_in_ack r q id changes [] e h = (e, refl)
+ends_in_ack r q id changes (Step p i s ∷ es) e h = (h.0, ends_in_ack r q id changes es e h.1)
+ends_in_ack r q id changes (Acknowledgement p i others ∷ es) e h = absurd h
 
 steps_due : (r : ℕ) (downs : List Down) (due : List answer.Step) → EndsOnce due → downs ≡ [] → StepsAndDue r downs due
 steps_due r downs due h e = rw e h
@@ -71,9 +72,9 @@ up_arrives ans c Cancelling r (Drop q p) es w f = elim f [
   ]
 ]
 up_arrives ans c Cancelling r (Attention q) es w f = elim f [
-  | inl h ↦ inr (inr (h.0.1, refl, refl, ends_in_ack r q _ c.to_client.waiting h.0.0 (no_steps r c.to_client.waiting h.1)))
+  | inl h ↦ inr (inr (h.0.1, refl, refl, ends_in_ack r q _ _ c.to_client.waiting h.0.0 (no_steps r c.to_client.waiting h.1)))
   | inr k ↦ elim k [
-    | inl h ↦ let z : Attention q ∷ es ≡ Attention r ∷ [] = h.0 in inr (inr (let a : es ≡ [] = cc in a, refl, refl, ends_in_ack r q _ c.to_client.waiting (let a : q ≡ r = cc in a) h.2))
+    | inl h ↦ let z : Attention q ∷ es ≡ Attention r ∷ [] = h.0 in inr (inr (let a : es ≡ [] = cc in a, refl, refl, ends_in_ack r q _ _ c.to_client.waiting (let a : q ≡ r = cc in a) h.2))
     | inr h ↦ let z : Attention q ∷ es ≡ [] = h.0 in absurd (cc)
   ]
 ]
@@ -109,30 +110,30 @@ step_bits Open (Begun n) last r a q id s ups es parts due e f = let z : Step q i
 step_bits Open NotBegun last r a q id s ups es parts due e f = let z : Step q id s ∷ es ≡ [] = f.1 in absurd (cc)
 
 -- its acknowledgement arrives
-ack_bits : (fate : Fate) (out : Out) (r a q id : ℕ) (ups : List Up) (es : List Down) (parts : List ℕ) (due : List answer.Step) → FlowIn (phase_by fate out) r a ups (Acknowledgement q id ∷ es) parts due → (q ≡ r) × FlowIn (phase_by Acknowledged out) r a ups es parts due
-ack_bits Finished out r a q id ups es parts due f = let z : Acknowledgement q id ∷ es ≡ [] = f.1 in absurd (cc)
-ack_bits Acknowledged out r a q id ups es parts due f = let z : Acknowledgement q id ∷ es ≡ [] = f.1 in absurd (cc)
-ack_bits Cancelled NotBegun r a q id ups es parts due f = let z : Acknowledgement q id ∷ es ≡ [] = f.1 in absurd (cc)
-ack_bits Cancelled (Begun n) r a q id ups es parts due f = elim f [
-  | inl h ↦ let z : Acknowledgement q id ∷ es ≡ [] = h.1 in absurd (cc)
+ack_bits : (fate : Fate) (out : Out) (r a q id : ℕ) (changes : List EnvChange) (ups : List Up) (es : List Down) (parts : List ℕ) (due : List answer.Step) → FlowIn (phase_by fate out) r a ups (Acknowledgement q id changes ∷ es) parts due → (q ≡ r) × FlowIn (phase_by Acknowledged out) r a ups es parts due
+ack_bits Finished out r a q id changes ups es parts due f = let z : Acknowledgement q id changes ∷ es ≡ [] = f.1 in absurd (cc)
+ack_bits Acknowledged out r a q id changes ups es parts due f = let z : Acknowledgement q id changes ∷ es ≡ [] = f.1 in absurd (cc)
+ack_bits Cancelled NotBegun r a q id changes ups es parts due f = let z : Acknowledgement q id changes ∷ es ≡ [] = f.1 in absurd (cc)
+ack_bits Cancelled (Begun n) r a q id changes ups es parts due f = elim f [
+  | inl h ↦ let z : Acknowledgement q id changes ∷ es ≡ [] = h.1 in absurd (cc)
   | inr k ↦ elim k [
     | inl h ↦ absurd h.2
     | inr h ↦ (h.3.0, (h.0, h.3.1, h.1, h.2))
   ]
 ]
-ack_bits Cancelled (Whole n) r a q id ups es parts due f = elim f [
-  | inl h ↦ let z : Acknowledgement q id ∷ es ≡ [] = h.1 in absurd (cc)
+ack_bits Cancelled (Whole n) r a q id changes ups es parts due f = elim f [
+  | inl h ↦ let z : Acknowledgement q id changes ∷ es ≡ [] = h.1 in absurd (cc)
   | inr k ↦ elim k [
     | inl h ↦ absurd h.2
     | inr h ↦ (h.3.0, (h.0, h.3.1, h.1, h.2))
   ]
 ]
-ack_bits Open (Whole n) r a q id ups es parts due f = elim f [
-  | inl h ↦ let z : Acknowledgement q id ∷ es ≡ [] = h.1 in absurd (cc)
+ack_bits Open (Whole n) r a q id changes ups es parts due f = elim f [
+  | inl h ↦ let z : Acknowledgement q id changes ∷ es ≡ [] = h.1 in absurd (cc)
   | inr h ↦ absurd h.3
 ]
-ack_bits Open (Begun n) r a q id ups es parts due f = let z : Acknowledgement q id ∷ es ≡ [] = f.1 in absurd (cc)
-ack_bits Open NotBegun r a q id ups es parts due f = let z : Acknowledgement q id ∷ es ≡ [] = f.1 in absurd (cc)
+ack_bits Open (Begun n) r a q id changes ups es parts due f = let z : Acknowledgement q id changes ∷ es ≡ [] = f.1 in absurd (cc)
+ack_bits Open NotBegun r a q id changes ups es parts due f = let z : Acknowledgement q id changes ∷ es ≡ [] = f.1 in absurd (cc)
 
 pub same_number : (q r : ℕ) → q ≡ r → eqb r q ≡ true
 same_number q r e = grind (arith, nat_tests)
@@ -147,8 +148,8 @@ step_arrives (Some p) a q id s ups es parts due f =
     let k = step_bits p.fate p.out s.last p.number a q id s ups es parts due refl f in
     of_changed (λ x. FlowIn (phase_of x) x.number a ups es parts due) (eqb p.number q) (gives s) p (same_number q p.number k.0) k.1
 
-pub ack_arrives : (cur : Option Record) (a q id : ℕ) (ups : List Up) (es : List Down) (parts : List ℕ) (due : List answer.Step) → FlowIn (phase_in cur) (number_in cur) a ups (Acknowledgement q id ∷ es) parts due → FlowIn (phase_in (option_map (if_numbered q acknowledges) cur)) (number_in (option_map (if_numbered q acknowledges) cur)) a ups es parts due
-ack_arrives None a q id ups es parts due f = let z : Acknowledgement q id ∷ es ≡ [] = f.1 in absurd (cc)
-ack_arrives (Some p) a q id ups es parts due f =
-    let k = ack_bits p.fate p.out p.number a q id ups es parts due f in
+pub ack_arrives : (cur : Option Record) (a q id : ℕ) (changes : List EnvChange) (ups : List Up) (es : List Down) (parts : List ℕ) (due : List answer.Step) → FlowIn (phase_in cur) (number_in cur) a ups (Acknowledgement q id changes ∷ es) parts due → FlowIn (phase_in (option_map (if_numbered q acknowledges) cur)) (number_in (option_map (if_numbered q acknowledges) cur)) a ups es parts due
+ack_arrives None a q id changes ups es parts due f = let z : Acknowledgement q id changes ∷ es ≡ [] = f.1 in absurd (cc)
+ack_arrives (Some p) a q id changes ups es parts due f =
+    let k = ack_bits p.fate p.out p.number a q id changes ups es parts due f in
     of_changed (λ x. FlowIn (phase_of x) x.number a ups es parts due) (eqb p.number q) acknowledges p (same_number q p.number k.0) k.1

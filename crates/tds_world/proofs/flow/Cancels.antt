@@ -30,7 +30,7 @@ rest_by r false es due p q = q refl
 pub only_steps : (r : ℕ) (downs : List Down) (due : List answer.Step) → StepsAndDue r downs due → OnlySteps r downs
 only_steps r [] due h = tt
 only_steps r (Step q i s ∷ es) due h = (h.0, rest_by r s.last es due h.1 (λ t. only_steps r es due (h.2 t)))
-only_steps r (Acknowledgement q i ∷ es) due h = absurd h
+only_steps r (Acknowledgement q i changes ∷ es) due h = absurd h
 
 -- with no packet out
 cancel_asked : (fate : Fate) (out : Out) (r a : ℕ) (ups : List Up) (downs : List Down) (parts : List ℕ) (due : List answer.Step) → phase_by fate out ≡ Asked → FlowIn Asked r a ups downs parts due → FlowIn (phase_by Cancelled out) r a ups downs parts due

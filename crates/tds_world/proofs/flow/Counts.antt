@@ -33,7 +33,7 @@ attentions_append (Attention r ∷ xs) ys =
 acknowledgements_append : (xs ys : List Down) → acknowledgement_count (xs ++ ys) ≡ acknowledgement_count xs + acknowledgement_count ys
 acknowledgements_append [] ys = omega arith
 acknowledgements_append (Step r place s ∷ xs) ys = acknowledgements_append xs ys
-acknowledgements_append (Acknowledgement r place ∷ xs) ys =
+acknowledgements_append (Acknowledgement r place changes ∷ xs) ys =
     let more : acknowledgement_count (xs ++ ys) ≡ acknowledgement_count xs + acknowledgement_count ys = acknowledgements_append xs ys in omega arith
 
 -- Each arrived attention has its acknowledgement, arrived or among these.
@@ -53,7 +53,7 @@ server_counts answers c (Attention r) h =
 
 client_counts : (c : Connection) (e : Down) (es : List Down) → CountedWith c (e ∷ es) → CountedWith (client_acts (record c { to_client = passed e c.to_client }) e) es
 client_counts c (Step r place s) es h = rw (acknowledgements_append c.to_client.arrived (Step r place s ∷ [])) (omega arith)
-client_counts c (Acknowledgement r place) es h = rw (acknowledgements_append c.to_client.arrived (Acknowledgement r place ∷ [])) (omega arith)
+client_counts c (Acknowledgement r place changes) es h = rw (acknowledgements_append c.to_client.arrived (Acknowledgement r place changes ∷ [])) (omega arith)
 
 works_count : (c : Connection) (due : List answer.Step) → Counted c → Counted (works_on c due)
 works_count c [] h = h
@@ -110,12 +110,12 @@ one_attention_waits r (Attention q ∷ es) h = let none : attention_count es ≡
 steps_alone : (r : ℕ) (es : List Down) → OnlySteps r es → acknowledgement_count es ≡ 0
 steps_alone r [] h = refl
 steps_alone r (Step q place s ∷ es) h = steps_alone r es h.1
-steps_alone r (Acknowledgement q place ∷ es) h = absurd h
+steps_alone r (Acknowledgement q place changes ∷ es) h = absurd h
 
 one_acknowledgement_waits : (r : ℕ) (es : List Down) → EndsInAcknowledgement r es → acknowledgement_count es ≡ 1
 one_acknowledgement_waits r [] h = absurd h
 one_acknowledgement_waits r (Step q place s ∷ es) h = one_acknowledgement_waits r es h.1
-one_acknowledgement_waits r (Acknowledgement q place ∷ es) h = let none : acknowledgement_count es ≡ 0 = ap acknowledgement_count h.1 in omega arith
+one_acknowledgement_waits r (Acknowledgement q place changes ∷ es) h = let none : acknowledgement_count es ≡ 0 = ap acknowledgement_count h.1 in omega arith
 
 none_wait : (es : List Up) → es ≡ [] → attention_count es ≡ 0
 none_wait es e = ap attention_count e

@@ -2,7 +2,7 @@
 -- the descriptor heard becomes the server's.
 use Rattle.std.specs.Prelude.{ℕ, ◌≡◌, ◌⊎◌, List, [], ◌∷◌, true, false, Option, Some, None}
 use Rattle.tds_session.specs.Answer as answer
-use Rattle.tds_world.specs.Arrivals.{heard_after}
+use Rattle.tds_world.specs.Arrivals.{heard_after, heard_behind}
 use Rattle.tds_world.specs.Connection.{Connection, phase}
 use Rattle.tds_world.specs.Entries.{Up, Part, End, Drop, Attention, Down, Step, Acknowledgement}
 use Rattle.tds_world.specs.Lawful.{TellsChanges}
@@ -37,19 +37,19 @@ EndsInAttention r (Attention q ∷ es) = (q ≡ r) × (es ≡ [])
 abbrev pub StepsAndDue : ℕ → List Down → List answer.Step → Type 0
 StepsAndDue r [] due = EndsOnce due
 StepsAndDue r (Step q place s ∷ es) due = (q ≡ r) × (s.last ≡ true → (es ≡ []) × (due ≡ [])) × (s.last ≡ false → StepsAndDue r es due)
-StepsAndDue r (Acknowledgement q place ∷ es) due = ⊥
+StepsAndDue r (Acknowledgement q place changes ∷ es) due = ⊥
 
 -- Steps of r alone.
 abbrev pub OnlySteps : ℕ → List Down → Type 0
 OnlySteps r [] = Unit {0}
 OnlySteps r (Step q place s ∷ es) = (q ≡ r) × OnlySteps r es
-OnlySteps r (Acknowledgement q place ∷ es) = ⊥
+OnlySteps r (Acknowledgement q place changes ∷ es) = ⊥
 
 -- Steps of r, and then its acknowledgement.
 abbrev pub EndsInAcknowledgement : ℕ → List Down → Type 0
 EndsInAcknowledgement r [] = ⊥
 EndsInAcknowledgement r (Step q place s ∷ es) = (q ≡ r) × EndsInAcknowledgement r es
-EndsInAcknowledgement r (Acknowledgement q place ∷ es) = (q ≡ r) × (es ≡ [])
+EndsInAcknowledgement r (Acknowledgement q place changes ∷ es) = (q ≡ r) × (es ≡ [])
 
 -- Nothing waits, and the server has nothing to do.
 abbrev pub Quiet : List Up → List Down → List ℕ → List answer.Step → Type 0
@@ -81,7 +81,7 @@ FlowWith c ups downs = FlowIn (phase c) (number_in c.current) c.answering ups do
 abbrev pub Hears : ℕ → List Down → ℕ → Type 0
 Hears d [] e = d ≡ e
 Hears d (Step q place s ∷ es) e = (f : ℕ) × (heard_after d s ≡ Some f) × Hears f es e
-Hears d (Acknowledgement q place ∷ es) e = Hears d es e
+Hears d (Acknowledgement q place changes ∷ es) e = (f : ℕ) × (heard_behind d changes ≡ Some f) × Hears f es e
 
 -- The descriptor heard becomes the server's by what waits, and the steps due tell what they change.
 abbrev pub HeardWith : Connection → List Down → Type 0

@@ -24,12 +24,12 @@ up_act ans c (Attention q) es w f = (up_arrives ans c (phase c) (number_in c.cur
 
 down_act : (c : Connection) (e : Down) (es : List Down) → SoundWith c c.to_server.waiting (e ∷ es) → SoundWith (client_acts (record c { to_client = passed e c.to_client }) e) c.to_server.waiting es
 down_act c (Step q id s) es f = (step_arrives c.current c.answering q id s c.to_server.waiting es c.parts c.due f.0, client_heard c (Step q id s) es f.1)
-down_act c (Acknowledgement q id) es f = (ack_arrives c.current c.answering q id c.to_server.waiting es c.parts c.due f.0, client_heard c (Acknowledgement q id) es f.1)
+down_act c (Acknowledgement q id changes) es f = (ack_arrives c.current c.answering q id changes c.to_server.waiting es c.parts c.due f.0, client_heard c (Acknowledgement q id changes) es f.1)
 
 -- what is to the server stays as it is
 pub down_act_at : (c : Connection) (e : Down) (es : List Down) → SoundWith c c.to_server.waiting (e ∷ es) → SoundWith (client_acts (record c { to_client = passed e c.to_client }) e) (client_acts (record c { to_client = passed e c.to_client }) e).to_server.waiting es
 down_act_at c (Step q id s) es f = down_act c (Step q id s) es f
-down_act_at c (Acknowledgement q id) es f = down_act c (Acknowledgement q id) es f
+down_act_at c (Acknowledgement q id changes) es f = down_act c (Acknowledgement q id changes) es f
 
 -- only the last step is marked so
 ends_first : (s : answer.Step) (ss : List answer.Step) → EndsOnce (s ∷ ss) → (s.last ≡ true → ss ≡ []) × (s.last ≡ false → EndsOnce ss)
@@ -40,12 +40,12 @@ ends_first s (t ∷ ts) h = (λ e. absurd (cc), λ e. h.1)
 steps_more : (r a id : ℕ) (downs : List Down) (s : answer.Step) (ss : List answer.Step) → a ≡ r → StepsAndDue r downs (s ∷ ss) → StepsAndDue r (downs ++ Step a id s ∷ []) ss
 steps_more r a id [] s ss e h = (e, λ t. (refl, (ends_first s ss h).0 t), λ t. (ends_first s ss h).1 t)
 steps_more r a id (Step q i t ∷ es) s ss e h = (h.0, λ l. let z : s ∷ ss ≡ [] = (h.1 l).1 in absurd (cc), λ l. steps_more r a id es s ss e (h.2 l))
-steps_more r a id (Acknowledgement q i ∷ es) s ss e h = absurd h
+steps_more r a id (Acknowledgement q i changes ∷ es) s ss e h = absurd h
 
 only_steps_more : (r a id : ℕ) (downs : List Down) (s : answer.Step) → a ≡ r → OnlySteps r downs → OnlySteps r (downs ++ Step a id s ∷ [])
 only_steps_more r a id [] s e h = (e, tt)
 only_steps_more r a id (Step q i t ∷ es) s e h = (h.0, only_steps_more r a id es s e h.1)
-only_steps_more r a id (Acknowledgement q i ∷ es) s e h = absurd h
+only_steps_more r a id (Acknowledgement q i changes ∷ es) s e h = absurd h
 
 work_fits : (p : Phase) (r a id : ℕ) (ups : List Up) (downs : List Down) (parts : List ℕ) (s : answer.Step) (ss : List answer.Step) → FlowIn p r a ups downs parts (s ∷ ss) → FlowIn p r a ups (downs ++ Step a id s ∷ []) parts ss
 work_fits Settled r a id ups downs parts s ss f = let z : s ∷ ss ≡ [] = f.3 in absurd (cc)

@@ -114,11 +114,11 @@ server_leaves answers c (Attention r) = refl
 
 client_leaves : (c : Connection) (e : Down) → (client_acts c e).to_client ≡ c.to_client
 client_leaves c (Step r place s) = refl
-client_leaves c (Acknowledgement r place) = refl
+client_leaves c (Acknowledgement r place changes) = refl
 
 client_leaves_other : (c : Connection) (e : Down) → (client_acts c e).to_server ≡ c.to_server
 client_leaves_other c (Step r place s) = refl
-client_leaves_other c (Acknowledgement r place) = refl
+client_leaves_other c (Acknowledgement r place changes) = refl
 
 server_within : (answers : Answers) (c : Connection) (e : Up) → Within down_bytes c.to_client → Within down_bytes (server_acts answers c e).to_client
 server_within answers c (Part r p) h = h
@@ -202,7 +202,7 @@ server_keeps answers c (Attention r) w = (w.0, append_within down_bytes _ c.to_c
 
 client_keeps : (c : Connection) (e : Down) → LanesWithin c → LanesWithin (client_acts (record c { to_client = passed e c.to_client }) e)
 client_keeps c (Step r place s) w = w
-client_keeps c (Acknowledgement r place) w = w
+client_keeps c (Acknowledgement r place changes) w = w
 
 cancels_within : (p : Phase) (q : Record) (c : Connection) → LanesWithin c → LanesWithin (cancels_by p q c)
 cancels_within Settled q c w = w

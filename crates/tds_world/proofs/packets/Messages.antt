@@ -32,6 +32,7 @@ use Rattle.tds_world.proofs.events.Worlds.{Kept, always_such, each_follows}
 use Rattle.tds_world.proofs.flow.Flow.{Quiet, Hears, number_in, Sound, SoundWith}
 use Rattle.tds_world.proofs.flow.Keeps.{ask_fits}
 use Rattle.tds_world.proofs.packets.Ranges.{packet_least}
+use Rattle.tds_world.proofs.packets.Sessions.{stop_is_session}
 use Rattle.tds_world.proofs.packets.Sent.{Saying, Keeps, SentWith, sent_moves}
 use Rattle.tds_world.proofs.packets.Sizes.{message_size}
 use Rattle.tds_world.proofs.flow.Fates.{step_cancels_none, is_sending, when_going}
@@ -84,7 +85,7 @@ runs_next r before s (Some q) parts ups h = runs_same (eqb q.number r) before s 
 
 heard_whole : (c : Connection) (e : Down) → AreWhole c → AreWhole (client_acts c e)
 heard_whole c (Step r place s) h = gives_next r s c.current c.parts c.to_server.waiting h
-heard_whole c (Acknowledgement r place) h = acknowledges_next r c.current c.parts c.to_server.waiting h
+heard_whole c (Acknowledgement r place changes) h = acknowledges_next r c.current c.parts c.to_server.waiting h
 
 worked_by : (c : Connection) (due : List answer.Step) → AreWhole c → AreWhole (works_on c due)
 worked_by c [] h = h
@@ -229,7 +230,7 @@ session_kept : (answers : Answers) → StayInRange answers → Keeps answers InS
 session_kept answers r = record {
   first = (new_is_session, tt);
   asked = λ s sent taken d m q h. (h.0, r s d m q h.0);
-  stopped = λ s sent due taken r h. (h.0, tt);
+  stopped = λ s sent due taken r rolls t h. (stop_is_session rolls s h.0, tt);
   worked = λ s sent t ts taken r h. (h.1.0.after, h.1.1);
 }
 

@@ -36,7 +36,7 @@ one_more size (x ∷ xs) e h f = (h.0, one_more size xs e h.1 f)
 
 client_fit : (size : ℕ) (c : Connection) (e : Down) → Fit size c → Fit size (client_acts (record c { to_client = passed e c.to_client }) e)
 client_fit size c (Step r place s) h = h
-client_fit size c (Acknowledgement r place) h = h
+client_fit size c (Acknowledgement r place changes) h = h
 
 works_fit : (size : ℕ) (c : Connection) (due : List answer.Step) → Fit size c → Fit size (works_on c due)
 works_fit size c [] h = h

@@ -5,6 +5,7 @@ use Rattle.tds_request.specs.Layout.{spelling}
 use Rattle.tds_session.specs.Answer as answer
 use Rattle.tds_session.specs.Answer.{Answers}
 use Rattle.tds_session.specs.Session.{SessionState}
+use Rattle.tds_token.specs.declared.env_change.EnvChange.{EnvChange}
 use Rattle.tds_world.specs.declared.event.Setup.{Setup}
 use Rattle.tds_world.specs.Arrivals.{server_acts, client_acts, works_on}
 use Rattle.tds_world.specs.Caller.{cancels_by, sends_by, next_packet, drop_packet}
@@ -133,12 +134,12 @@ step_out (Some q) a r i s ups es parts due m f h =
     any_change (λ x. OutBy (phase_of x) x m) (eqb q.number r) (gives s) q
     (out_nothing (phase_of (gives s q)) (gives s q) m (step_leaves q.fate s.last q.out settled sending) (nothing_out (phase_of q) q m sending h)) h
 
-acknowledged_out : (o : Option Record) (a r i : ℕ) (ups : List Up) (es : List Down) (parts : List ℕ) (due : List answer.Step) (m : Message) → FlowIn (phase_in o) (number_in o) a ups (Acknowledgement r i ∷ es) parts due → OutIn o m → OutIn (option_map (if_numbered r acknowledges) o) m
-acknowledged_out None a r i ups es parts due m f h = h
-acknowledged_out (Some q) a r i ups es parts due m f h =
+acknowledged_out : (o : Option Record) (a r i : ℕ) (changes : List EnvChange) (ups : List Up) (es : List Down) (parts : List ℕ) (due : List answer.Step) (m : Message) → FlowIn (phase_in o) (number_in o) a ups (Acknowledgement r i changes ∷ es) parts due → OutIn o m → OutIn (option_map (if_numbered r acknowledges) o) m
+acknowledged_out None a r i changes ups es parts due m f h = h
+acknowledged_out (Some q) a r i changes ups es parts due m f h =
     any_change (λ x. OutBy (phase_of x) x m) (eqb q.number r) acknowledges q
     (out_nothing (phase_of (acknowledges q)) (acknowledges q) m refl
-    (nothing_out (phase_of q) q m (not_sending (phase_of q) q.number a ups (Acknowledgement r i) es parts due f) h)) h
+    (nothing_out (phase_of q) q m (not_sending (phase_of q) q.number a ups (Acknowledgement r i changes) es parts due f) h)) h
 
 client_spelled : (c : Connection) (e : Down) (es : List Down) → SoundWith c c.to_server.waiting (e ∷ es) → Spelled c → Spelled (client_acts (record c { to_client = passed e c.to_client }) e)
 client_spelled c (Step r i s) es f h = record {
@@ -149,13 +150,13 @@ client_spelled c (Step r i s) es f h = record {
   waiting = h.waiting;
   newest = step_out c.current c.answering r i s c.to_server.waiting es c.parts c.due h.out f.0 h.newest;
 }
-client_spelled c (Acknowledgement r i) es f h = record {
+client_spelled c (Acknowledgement r i changes) es f h = record {
   part = h.part;
   arrived = h.arrived;
   parts = h.parts;
   out = h.out;
   waiting = h.waiting;
-  newest = acknowledged_out c.current c.answering r i c.to_server.waiting es c.parts c.due h.out f.0 h.newest;
+  newest = acknowledged_out c.current c.answering r i changes c.to_server.waiting es c.parts c.due h.out f.0 h.newest;
 }
 
 same : (c d : Connection) → d.to_server ≡ c.to_server → d.parts ≡ c.parts → d.current ≡ c.current → Spelled c → Spelled d

@@ -6,9 +6,10 @@ use Rattle.tds_packet.specs.declared.status.Reset.{Reset}
 use Rattle.tds_request.specs.declared.request.Request.{Request}
 use Rattle.tds_session.specs.Answer as answer
 use Rattle.tds_session.specs.Answer.{Answers}
-use Rattle.tds_session.specs.Session.{SessionState, new_session}
+use Rattle.tds_session.specs.Attention.{stop_by}
+use Rattle.tds_session.specs.Session.{SessionState, new_session, is_in_transaction}
 use Rattle.tds_world.specs.declared.event.Setup.{Setup}
-use Rattle.tds_world.specs.Arrivals.{server_acts, client_acts, works_on, acknowledged_at}
+use Rattle.tds_world.specs.Arrivals.{server_acts, client_acts, works_on, acknowledged_at, stops}
 use Rattle.tds_world.specs.Caller.{cancels_by, sends_by}
 use Rattle.tds_world.specs.Connection.{Connection, phase}
 use Rattle.tds_world.specs.Entries.{Up, Part, End, Drop, Attention, Down, Step, Acknowledgement}
@@ -21,6 +22,7 @@ use Rattle.tds_world.proofs.events.Moves.{KeptByMoves, Both, on_top, by_moves}
 use Rattle.tds_world.proofs.events.Worlds.{Any, Kept}
 use Rattle.tds_world.proofs.flow.Flow.{FlowIn, number_in, SoundWith, Sound}
 use Rattle.tds_world.proofs.flow.Sound.{sound_moves}
+use Rattle.tds_world.proofs.flow.Stops.{rolls, in_transaction}
 
 -- ---- No packet of a request comes while an answer is due
 
@@ -75,7 +77,7 @@ Sent P c = SentWith P c c.to_client.waiting
 pub record Keeps (answers : Answers) (P : Saying) : Type 0 where
   pub first : P new_session [] [] 0
   pub asked : (s : SessionState) (sent : List Down) (taken d : ℕ) (m : Option Reset) (q : Request) → P s sent [] taken → P s sent (answers s d m q) 0
-  pub stopped : (s : SessionState) (sent : List Down) (due : List answer.Step) (taken r : ℕ) → P s sent due taken → P s (sent ++ Acknowledgement r (acknowledged_at due taken) ∷ []) [] 0
+  pub stopped : (s : SessionState) (sent : List Down) (due : List answer.Step) (taken r : ℕ) (rolls : Bool) → (rolls ≡ true → is_in_transaction s ≡ true) → P s sent due taken → P (stop_by rolls s).after (sent ++ Acknowledgement r (acknowledged_at due taken) (stop_by rolls s).changes ∷ []) [] 0
   pub worked : (s : SessionState) (sent : List Down) (t : answer.Step) (ts : List answer.Step) (taken r : ℕ) → P s sent (t ∷ ts) taken → P t.after (sent ++ Step r (taken + 1) t ∷ []) ts (taken + 1)
 
 -- ---- Each act
@@ -86,12 +88,12 @@ server_sent answers P c (End r a p) k x h =
     k.asked c.session (c.to_client.arrived ++ c.to_client.waiting) c.taken a.descriptor a.mark a.request (subst (λ due. P c.session (c.to_client.arrived ++ c.to_client.waiting) due c.taken) x h)
 server_sent answers P c (Drop r p) k x h = h
 server_sent answers P c (Attention r) k x h =
-    subst (λ sent. P c.session sent [] 0) (append_assoc c.to_client.arrived c.to_client.waiting (Acknowledgement r (acknowledged_at c.due c.taken) ∷ []))
-    (k.stopped c.session (c.to_client.arrived ++ c.to_client.waiting) c.due c.taken r h)
+    subst (λ sent. P (stops c).after sent [] 0) (append_assoc c.to_client.arrived c.to_client.waiting (Acknowledgement r (acknowledged_at c.due c.taken) (stops c).changes ∷ []))
+    (k.stopped c.session (c.to_client.arrived ++ c.to_client.waiting) c.due c.taken r (rolls c) (in_transaction c.on_attention _ c.session) h)
 
 client_sent : (P : Saying) (c : Connection) (e : Down) (es : List Down) → SentWith P c (e ∷ es) → SentWith P (client_acts (record c { to_client = passed e c.to_client }) e) es
 client_sent P c (Step r i s) es h = subst (λ sent. P c.session sent c.due c.taken) (sym (append_assoc c.to_client.arrived (Step r i s ∷ []) es)) h
-client_sent P c (Acknowledgement r i) es h = subst (λ sent. P c.session sent c.due c.taken) (sym (append_assoc c.to_client.arrived (Acknowledgement r i ∷ []) es)) h
+client_sent P c (Acknowledgement r i changes) es h = subst (λ sent. P c.session sent c.due c.taken) (sym (append_assoc c.to_client.arrived (Acknowledgement r i changes ∷ []) es)) h
 
 works_sent : (answers : Answers) (P : Saying) (c : Connection) (due : List answer.Step) → c.due ≡ due → Keeps answers P → Sent P c → Sent P (works_on c due)
 works_sent answers P c [] e k h = h

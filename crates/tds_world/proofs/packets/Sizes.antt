@@ -138,7 +138,7 @@ acknowledges_sized r (Some q) size h = changed_by (q.number == r) acknowledges q
 
 client_sized : (c : Connection) (e : Down) → Sized c → Sized (client_acts c e)
 client_sized c (Step r place s) h = gives_sized r s c.current (size_of c.to_server.waiting) h
-client_sized c (Acknowledgement r place) h = acknowledges_sized r c.current (size_of c.to_server.waiting) h
+client_sized c (Acknowledgement r place changes) h = acknowledges_sized r c.current (size_of c.to_server.waiting) h
 
 works_sized : (c : Connection) (due : List answer.Step) → Sized c → Sized (works_on c due)
 works_sized c [] h = h

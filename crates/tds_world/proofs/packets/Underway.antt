@@ -7,6 +7,7 @@ use Rattle.std.specs.Prelude.{◌==◌, ◌||◌}
 use Rattle.tds_request.specs.declared.request.Request.{Request}
 use Rattle.tds_session.specs.Answer as answer
 use Rattle.tds_session.specs.Answer.{Answers}
+use Rattle.tds_token.specs.declared.env_change.EnvChange.{EnvChange}
 use Rattle.tds_world.specs.declared.event.Event.{Event}
 use Rattle.tds_world.specs.declared.event.Event.TheVariants as event
 use Rattle.tds_world.specs.declared.event.Setup.{Setup}
@@ -21,8 +22,8 @@ use Rattle.tds_world.specs.Lawful.{Lawful}
 use Rattle.tds_world.specs.Phase.{Phase, Settled, Asked, Sending, Reading, Cancelling, phase_of}
 use Rattle.tds_world.specs.Pool.{gives_back_at, abandons_at, keeps_by, is_full, opens}
 use Rattle.tds_world.specs.Record.{Record}
-use Rattle.tds_world.specs.Sessions.{FitsStep, IsInRange, StayInRange}
-use Rattle.tds_world.specs.Steps.{OfSteps}
+use Rattle.tds_world.specs.Sessions.{FitsStep, FitsAcknowledgement, IsInRange, StayInRange}
+use Rattle.tds_world.specs.Steps.{OfSteps, OfAcknowledgements}
 use Rattle.tds_world.specs.Underway.{FewToClients}
 use Rattle.tds_world.specs.World.{World, Found, Missing, Here, Opens, new_world, numbered, next_number, uncut_in}
 use Rattle.tds_world.proofs.events.Happens.{happens_cases}
@@ -37,24 +38,24 @@ use Rattle.tds_world.proofs.packets.Sessions.{all_in_range}
 pub step_count : List Down → ℕ
 step_count [] = 0
 step_count (Step r place s ∷ es) = suc (step_count es)
-step_count (Acknowledgement r place ∷ es) = step_count es
+step_count (Acknowledgement r place changes ∷ es) = step_count es
 
 one_more : (r place : ℕ) (s : answer.Step) (es : List Down) → step_count (es ++ Step r place s ∷ []) ≡ suc (step_count es)
 unfolding step_count
 one_more r place s [] = refl
 one_more r place s (Step q i t ∷ es) = ap suc (one_more r place s es)
-one_more r place s (Acknowledgement q i ∷ es) = one_more r place s es
+one_more r place s (Acknowledgement q i changes ∷ es) = one_more r place s es
 
-no_more : (r place : ℕ) (es : List Down) → step_count (es ++ Acknowledgement r place ∷ []) ≡ step_count es
+no_more : (r place : ℕ) (changes : List EnvChange) (es : List Down) → step_count (es ++ Acknowledgement r place changes ∷ []) ≡ step_count es
 unfolding step_count
-no_more r place [] = refl
-no_more r place (Step q i t ∷ es) = ap suc (no_more r place es)
-no_more r place (Acknowledgement q i ∷ es) = no_more r place es
+no_more r place changes [] = refl
+no_more r place changes (Step q i t ∷ es) = ap suc (no_more r place changes es)
+no_more r place changes (Acknowledgement q i others ∷ es) = no_more r place changes es
 
 behind : (n : ℕ) (e : Down) (es : List Down) → step_count (e ∷ es) ≤ n → step_count es ≤ n
 unfolding step_count
 behind n (Step r place s) es h = omega (arith, h)
-behind n (Acknowledgement r place) es h = h
+behind n (Acknowledgement r place changes) es h = h
 
 abbrev pub AtMost : ℕ → Connection → Type 0
 AtMost n c = step_count c.to_client.waiting ≤ n
@@ -68,7 +69,7 @@ server_sends : (answers : Answers) (n : ℕ) (c : Connection) (e : Up) → AtMos
 server_sends answers n c (Part r p) h = h
 server_sends answers n c (End r a p) h = h
 server_sends answers n c (Drop r p) h = h
-server_sends answers n c (Attention r) h = subst (λ k. k ≤ n) (sym (no_more r (acknowledged_at c.due c.taken) c.to_client.waiting)) h
+server_sends answers n c (Attention r) h = subst (λ k. k ≤ n) (sym (no_more r (acknowledged_at c.due c.taken) _ c.to_client.waiting)) h
 
 reach_server_sends : (answers : Answers) (n : ℕ) (c : Connection) (es : List Up) (k : ℕ) → AtMost n c → AtMost n (reach_server answers c es k)
 reach_server_sends answers n c [] k h = h
@@ -162,7 +163,7 @@ new_few n lease = omega arith
 found : (setup : Setup) (answers : Answers) (n : ℕ) (e : Event) (w : World) (f : Found) → OfFound (AtMost n) f → Few (suc n) w → Few (suc n) (happens_at setup answers e w f).1
 found setup answers n e w (Missing why) g h = h
 found setup answers n e w (Here k c) g h = settled (AtMost (suc n)) e k w (acts setup answers w e k c) (acted setup answers n w e k c g (more n c.to_client.waiting g)) h
-found setup answers n e w (Opens k) g h = settled (AtMost (suc n)) event.Lease k w (opens (next_number w.leases) k) (new_few (suc n) k) h
+found setup answers n e w (Opens k) g h = settled (AtMost (suc n)) event.Lease k w (opens setup.on_attention (next_number w.leases) k) (new_few (suc n) k) h
 
 at_event : (setup : Setup) (answers : Answers) (n : ℕ) (e : Event) (w : World) → Few n w → Few (suc n) (happens_at setup answers e w (about setup w e)).1
 at_event setup answers n e w h = found setup answers n e w (about setup w e) (about_has (AtMost n) setup w e h) (few_more n w h)
@@ -192,19 +193,19 @@ steps_due r (Step q i s ∷ es) due h = by_last s.last refl (λ e. steps_due r e
     by_last : (b : Bool) → s.last ≡ b → (s.last ≡ false → length es ≤ suc (step_count es)) → suc (length es) ≤ suc (suc (step_count es))
     by_last true e k = let none : length es ≡ 0 = ap (λ (xs : List Down). length xs) (h.1 e).0 in omega (arith, none)
     by_last false e k = omega (arith, k e)
-steps_due r (Acknowledgement q i ∷ es) due h = absurd h
+steps_due r (Acknowledgement q i changes ∷ es) due h = absurd h
 
 only_steps : (r : ℕ) (es : List Down) → OnlySteps r es → length es ≤ suc (step_count es)
 unfolding step_count
 only_steps r [] h = omega arith
 only_steps r (Step q i s ∷ es) h = omega (arith, only_steps r es h.1)
-only_steps r (Acknowledgement q i ∷ es) h = absurd h
+only_steps r (Acknowledgement q i changes ∷ es) h = absurd h
 
 one_acknowledgement : (r : ℕ) (es : List Down) → EndsInAcknowledgement r es → length es ≤ suc (step_count es)
 unfolding step_count
 one_acknowledgement r [] h = absurd h
 one_acknowledgement r (Step q i s ∷ es) h = omega (arith, one_acknowledgement r es h.1)
-one_acknowledgement r (Acknowledgement q i ∷ es) h = let none : length es ≡ 0 = ap (λ (xs : List Down). length xs) h.1 in omega (arith, none)
+one_acknowledgement r (Acknowledgement q i changes ∷ es) h = let none : length es ≡ 0 = ap (λ (xs : List Down). length xs) h.1 in omega (arith, none)
 
 none_waits : (es : List Down) → es ≡ [] → length es ≤ suc (step_count es)
 none_waits es e = let none : length es ≡ 0 = ap (λ (xs : List Down). length xs) e in omega (arith, none)
@@ -230,20 +231,24 @@ waits Cancelling r a ups downs parts due f = elim f [
 bytes_of : (p : Packet) → length (packet_bytes p) ≡ 8 + length p.body
 bytes_of p = omega arith
 
-entry_fits : (e : Down) (es : List Down) → OfSteps FitsStep (e ∷ es) → length (down_bytes e) ≤ 512
-entry_fits (Step r place s) es h = omega (arith, h.0.most)
-entry_fits (Acknowledgement r place) es h = omega arith
+-- Each of them fits a packet.
+abbrev Fit : List Down → Type 0
+Fit es = OfSteps FitsStep es × OfAcknowledgements FitsAcknowledgement es
 
-rest_fits : (e : Down) (es : List Down) → OfSteps FitsStep (e ∷ es) → OfSteps FitsStep es
-rest_fits (Step r place s) es h = h.1
-rest_fits (Acknowledgement r place) es h = h
+entry_fits : (e : Down) (es : List Down) → Fit (e ∷ es) → length (down_bytes e) ≤ 512
+entry_fits (Step r place s) es h = omega (arith, h.0.0.most)
+entry_fits (Acknowledgement r place changes) es h = omega (arith, h.1.0.most)
 
-bytes_fit : (es : List Down) → OfSteps FitsStep es → length (flat_map down_bytes es) ≤ 512 * length es
+rest_fits : (e : Down) (es : List Down) → Fit (e ∷ es) → Fit es
+rest_fits (Step r place s) es h = (h.0.1, h.1)
+rest_fits (Acknowledgement r place changes) es h = (h.0, h.1.1)
+
+bytes_fit : (es : List Down) → Fit es → length (flat_map down_bytes es) ≤ 512 * length es
 bytes_fit [] h = omega arith
 bytes_fit (e ∷ es) h =
     omega (arith, length-append (down_bytes e) (flat_map down_bytes es), entry_fits e es h, bytes_fit es (rest_fits e es h))
 
-of_waiting : (arrived waiting : List Down) → OfSteps FitsStep (arrived ++ waiting) → OfSteps FitsStep waiting
+of_waiting : (arrived waiting : List Down) → Fit (arrived ++ waiting) → Fit waiting
 of_waiting [] waiting h = h
 of_waiting (e ∷ es) waiting h = of_waiting es waiting (rest_fits e (es ++ waiting) h)
 
@@ -253,7 +258,7 @@ few_bytes n c a f r =
       arith,
       a,
       waits (phase c) (number_in c.current) c.answering c.to_server.waiting c.to_client.waiting c.parts c.due f.0,
-      bytes_fit c.to_client.waiting (of_waiting c.to_client.arrived c.to_client.waiting r.sent),
+      bytes_fit c.to_client.waiting (of_waiting c.to_client.arrived c.to_client.waiting (r.sent, r.told)),
     )
 
 -- ---- The law

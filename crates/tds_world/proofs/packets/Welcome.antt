@@ -89,8 +89,8 @@ expects Settled r a ups e es parts due f = absurd (not_none e es f.1)
 expects Asked r a ups e es parts due f = absurd (not_none e es f.1)
 expects Sending r a ups e es parts due f = absurd (not_none e es f.1)
 expects Reading r a ups (Step q i s) es parts due f = tt
-expects Reading r a ups (Acknowledgement q i) es parts due f = elim f [
-  | inl h ↦ absurd (not_none (Acknowledgement q i) es h.1)
+expects Reading r a ups (Acknowledgement q i changes) es parts due f = elim f [
+  | inl h ↦ absurd (not_none (Acknowledgement q i changes) es h.1)
   | inr h ↦ absurd h.3
 ]
 expects Cancelling r a ups e es parts due f = tt
@@ -108,13 +108,13 @@ changes_apply : (answers : Answers) (c : Connection) (e : Down) (es : List Down)
 changes_apply answers c (Step r i s) es f h p =
     apply_by c.mark c.heard (changes_of s.tokens) s.reset f.1.0.0 f.1.0.1
     (newest_meets answers c c.to_server.waiting r i c.answering s es c.parts c.due c.current f.0 h) p.0
-changes_apply answers c (Acknowledgement r i) es f h p = tt
+changes_apply answers c (Acknowledgement r i changes) es f h p = apply_by c.mark c.heard changes None f.1.0.0 f.1.0.1 tt (λ x e. absurd (cc))
 
 -- ---- The law
 
 steps_behind : (e : Down) (es : List Down) → OfSteps ResetAlone (e ∷ es) → OfSteps ResetAlone es
 steps_behind (Step r i s) es h = h.1
-steps_behind (Acknowledgement r i) es h = h
+steps_behind (Acknowledgement r i changes) es h = h
 
 to_client_welcome : (answers : Answers) (c : Connection) (es : List Down) → SoundWith c c.to_server.waiting es → NewestWith answers c c.to_server.waiting es → OfSteps ResetAlone es → WelcomeToClient c es
 to_client_welcome answers c [] f h p = tt
@@ -131,7 +131,7 @@ to_server_welcome answers c (e ∷ es) l f =
 steps_waiting : (arrived waiting : List Down) → OfSteps ResetAlone (arrived ++ waiting) → OfSteps ResetAlone waiting
 steps_waiting [] waiting h = h
 steps_waiting (Step r i s ∷ es) waiting h = steps_waiting es waiting h.1
-steps_waiting (Acknowledgement r i ∷ es) waiting h = steps_waiting es waiting h
+steps_waiting (Acknowledgement r i changes ∷ es) waiting h = steps_waiting es waiting h
 
 pub all_welcome : (setup : Setup) (answers : Answers) → Lawful answers → Always setup answers (AllWelcome answers)
 all_welcome setup answers l events =
@@ -150,7 +150,7 @@ all_welcome setup answers l events =
 is_heard : (answers : Answers) (c : Connection) (e : Down) (es : List Down) → SoundWith c c.to_server.waiting (e ∷ es) → NewestWith answers c c.to_server.waiting (e ∷ es) → IsHeardOn c e
 is_heard answers c (Step r i s) es f h =
     ((f.1.0.0, f.1.0.1), newest_meets answers c c.to_server.waiting r i c.answering s es c.parts c.due c.current f.0 h)
-is_heard answers c (Acknowledgement r i) es f h = tt
+is_heard answers c (Acknowledgement r i changes) es f h = (f.1.0.0, f.1.0.1)
 
 are_heard : (answers : Answers) (c : Connection) (es : List Down) → SoundWith c c.to_server.waiting es → NewestWith answers c c.to_server.waiting es → AreHeardOn c es
 are_heard answers c [] f h = tt

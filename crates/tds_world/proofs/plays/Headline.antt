@@ -6,7 +6,7 @@ use Rattle.tds_world.specs.declared.event.Event.{Event}
 use Rattle.tds_world.specs.declared.event.Setup.{Setup}
 use Rattle.tds_world.specs.declared.report.Report.{Report}
 use Rattle.tds_world.specs.Alone.{BlindToNumbers}
-use Rattle.tds_world.specs.AloneShown.{ShowsAsIfAlone, steps_in}
+use Rattle.tds_world.specs.AloneShown.{ShowsAsIfAlone, far_in}
 use Rattle.tds_world.specs.Bounds.{IsEvent, IsSetup}
 use Rattle.tds_world.specs.Descriptors.{AreFewEvents, UseFewDescriptors}
 use Rattle.tds_world.specs.Events.{world_after}
@@ -56,12 +56,12 @@ few_underway setup answers events r s l x e =
 pub no_fault : (setup : Setup) (answers : Answers) (events : List Event) (r : Report) → IsReportWith setup answers events r → ShowsNoEndFaults r
 no_fault setup answers events r e = of_shown ShowsNoEndFaults setup answers events r (reports.no_fault setup answers) e
 
-pub told_alone : (setup : Setup) (answers : Answers) (events : List Event) (r : Report) → Lawful answers → BlindToNumbers answers → UseFewDescriptors answers → AreFewEvents events → IsReportWith setup answers events r → ShowsAsIfAlone answers (steps_in (world_with setup answers (marked events r.events) new_world)) events r
+pub told_alone : (setup : Setup) (answers : Answers) (events : List Event) (r : Report) → Lawful answers → BlindToNumbers answers → UseFewDescriptors answers → AreFewEvents events → IsReportWith setup answers events r → ShowsAsIfAlone setup.on_attention answers (far_in (world_with setup answers (marked events r.events) new_world)) events r
 told_alone setup answers events r l b u h e =
     let ps : List Played = marked events r.events in
     let same : events_of ps ≡ events = marks.events events r.events in
-    subst (ShowsAsIfAlone answers (steps_in (world_with setup answers ps new_world)) events) (sym e)
-    (subst (λ es. ShowsAsIfAlone answers (steps_in (world_with setup answers ps new_world)) es (observed_with setup answers ps)) same
+    subst (ShowsAsIfAlone setup.on_attention answers (far_in (world_with setup answers ps new_world)) events) (sym e)
+    (subst (λ es. ShowsAsIfAlone setup.on_attention answers (far_in (world_with setup answers ps new_world)) es (observed_with setup answers ps)) same
     (alone.as_if_alone_is_shown setup answers l b u ps (subst AreFewEvents (sym same) h)))
 
 pub comes_to_rest : (setup : Setup) (answers : Answers) (events : List Event) (r : Report) → IsSetup setup → Lawful answers → IsReportWith setup answers events r → ShowsNeverStuckWith setup answers events r

@@ -1,6 +1,7 @@
 -- No connection that the report of a play shows is ever stuck, whatever links failed before.
 use Rattle.std.proofs.Common.{◌≡◌, List, [], ◌∷◌, ◌++◌, map, refl, sym, ap, subst, ◌∙◌}
 use Rattle.std.specs.List.{AllByRecursion}
+use Rattle.tds_session.specs.declared.attention.OnAttention.{OnAttention}
 use Rattle.tds_session.specs.Answer.{Answers}
 use Rattle.tds_world.specs.declared.event.Event.{Event}
 use Rattle.tds_world.specs.declared.event.Setup.{Setup}
@@ -45,8 +46,8 @@ answered_alike s r there later later_there e f h = record {
       (subst (λ rs. AreAnswered s.conn there.requests rs) (sym f.requests) h.requests);
 }
 
-stuck_alike : (s : Snapshot) (later later_there : Later) (r there : Report) → EndAlike r there → ((more : List Event) → EndAlike (later more) (later_there more)) → IsNeverStuck later_there there s → IsNeverStuck later r s
-stuck_alike s later later_there r there e f h = record {
+stuck_alike : (attention : OnAttention) (s : Snapshot) (later later_there : Later) (r there : Report) → EndAlike r there → ((more : List Event) → EndAlike (later more) (later_there more)) → IsNeverStuck attention later_there there s → IsNeverStuck attention later r s
+stuck_alike attention s later later_there r there e f h = record {
   stopped = λ up down i j.
       let more : List Event = stopping (In s.place) s.conn up down in
       rest_alike s (later more) (later_there more) (f more) (h.stopped up down i j);
@@ -96,17 +97,17 @@ each_alike : (P Q : Snapshot → Type 0) (shown : List Snapshot) → ((s : Snaps
 each_alike P Q [] f h = tt
 each_alike P Q (s ∷ ss) f h = (f s h.0, each_alike P Q ss f h.1)
 
-pub never_stuck_is_shown_with : (setup : Setup) (answers : Answers) → IsSetup setup → Lawful answers → (ps : List Played) → AllByRecursion (IsNeverStuck (later_with setup answers ps) (observed_with setup answers ps)) (last_snapshots (observed_with setup answers ps))
+pub never_stuck_is_shown_with : (setup : Setup) (answers : Answers) → IsSetup setup → Lawful answers → (ps : List Played) → AllByRecursion (IsNeverStuck setup.on_attention (later_with setup answers ps) (observed_with setup answers ps)) (last_snapshots (observed_with setup answers ps))
 never_stuck_is_shown_with setup answers u l ps =
     let es : List Event = with_cuts setup answers ps new_world in
     let ends : EndAlike (observed_with setup answers ps) (observed setup answers es) = ends_plainly setup answers ps in
-    subst (AllByRecursion (IsNeverStuck (later_with setup answers ps) (observed_with setup answers ps))) (sym ends.shown)
-    (each_alike (IsNeverStuck (λ more. observed setup answers (es ++ more)) (observed setup answers es)) (IsNeverStuck (later_with setup answers ps) (observed_with setup answers ps)) (last_snapshots (observed setup answers es))
-    (λ s. stuck_alike s (later_with setup answers ps) (λ more. observed setup answers (es ++ more)) (observed_with setup answers ps) (observed setup answers es) ends (later_alike setup answers ps))
+    subst (AllByRecursion (IsNeverStuck setup.on_attention (later_with setup answers ps) (observed_with setup answers ps))) (sym ends.shown)
+    (each_alike (IsNeverStuck setup.on_attention (λ more. observed setup answers (es ++ more)) (observed setup answers es)) (IsNeverStuck setup.on_attention (later_with setup answers ps) (observed_with setup answers ps)) (last_snapshots (observed setup answers es))
+    (λ s. stuck_alike setup.on_attention s (later_with setup answers ps) (λ more. observed setup answers (es ++ more)) (observed_with setup answers ps) (observed setup answers es) ends (later_alike setup answers ps))
     (never_stuck_is_shown setup answers u l es))
 
 -- Of a report that marks its losses itself.
 pub never_stuck_is_marked : (setup : Setup) (answers : Answers) (events : List Event) (r : Report) → IsSetup setup → Lawful answers → IsReportWith setup answers events r → ShowsNeverStuckWith setup answers events r
 never_stuck_is_marked setup answers events r u l e =
     let ps : List Played = marked events r.events in
-    subst (λ (x : Report). AllByRecursion (IsNeverStuck (later_with setup answers ps) x) (last_snapshots x)) (sym e) (never_stuck_is_shown_with setup answers u l ps)
+    subst (λ (x : Report). AllByRecursion (IsNeverStuck setup.on_attention (later_with setup answers ps) x) (last_snapshots x)) (sym e) (never_stuck_is_shown_with setup answers u l ps)

@@ -3,6 +3,7 @@ use Rattle.std.proofs.Common.{◌≡◌, ◌≤◌, ◌<◌, ℕ, suc, List, [],
 use Rattle.std.proofs.lemmas.Bool.Decides.{nat_tests}
 use Rattle.std.specs.List.{AllByRecursion}
 use Rattle.std.specs.Prelude.{◌==◌, ◌&&◌, filter, find}
+use Rattle.tds_session.specs.declared.attention.OnAttention.{OnAttention}
 use Rattle.tds_session.specs.Answer.{Answers}
 use Rattle.tds_world.specs.declared.event.Event.{Event}
 use Rattle.tds_world.specs.declared.event.Event.TheVariants as event
@@ -13,8 +14,8 @@ use Rattle.tds_world.specs.declared.outcome.Outcome.{Outcome}
 use Rattle.tds_world.specs.declared.outcome.Outcome.TheVariants as outcome
 use Rattle.tds_world.specs.declared.report.EventReport.{EventReport}
 use Rattle.tds_world.specs.declared.report.RequestReport.{RequestReport}
-use Rattle.tds_world.specs.Alone.{BlindToNumbers, Exchange, exchange_of, exchanges_of, steps_done, RunsAlone, AsIfAlone, own_session, session_from}
-use Rattle.tds_world.specs.AloneShown.{steps_on, steps_in, is_shown_finished, exchange_shown, exchanges_shown, LeaseShown, lease_in, OfEachLease, own_by, ShowsAsIfAlone}
+use Rattle.tds_world.specs.Alone.{BlindToNumbers, Exchange, exchange_of, exchanges_of, Progress, progress_of, RunsAlone, AsIfAlone, own_session, session_from}
+use Rattle.tds_world.specs.AloneShown.{far_on, far_in, is_shown_finished, exchange_shown, exchanges_shown, LeaseShown, lease_in, OfEachLease, own_by, ShowsAsIfAlone}
 use Rattle.tds_world.specs.Bounds.{IsEvent}
 use Rattle.tds_world.specs.Connection.{Connection, records, is_cut}
 use Rattle.tds_world.specs.Descriptors.{UseFewDescriptors, AreFewEvents, most_events}
@@ -124,14 +125,14 @@ shown_as Cancelled false Sending = refl
 shown_as Cancelled false Reading = refl
 shown_as Cancelled false Cancelling = refl
 
-one_shown : (w : World) (m : ℕ) (a : Ask) (q : Record) (c : Connection) (cut : Bool) → numbered w.connections m ≡ Some c → q.conn ≡ m → a.number ≡ q.number → q.asking.request ≡ a.request → exchange_shown (steps_in w) a (request_report cut q) ≡ exchange_of c q
+one_shown : (w : World) (m : ℕ) (a : Ask) (q : Record) (c : Connection) (cut : Bool) → numbered w.connections m ≡ Some c → q.conn ≡ m → a.number ≡ q.number → q.asking.request ≡ a.request → exchange_shown (far_in w) a (request_report cut q) ≡ exchange_of c q
 one_shown w m a q c cut t e n r =
-    let done : steps_on a.number (numbered w.connections q.conn) ≡ steps_done c q.number =
-    ap (λ i. steps_on a.number (numbered w.connections i)) e
-    ∙ (ap (steps_on a.number) t ∙ ap (steps_done c) n) in
-    ap (λ x. record { request = x; ran = q.ran; done = steps_on a.number (numbered w.connections q.conn); given = q.given; finished = is_shown_finished (status_by q.fate cut (phase_of q)) }) (sym r)
-    ∙ (ap (λ x. record { request = q.asking.request; ran = q.ran; done = x; given = q.given; finished = is_shown_finished (status_by q.fate cut (phase_of q)) }) done
-    ∙ ap (λ x. record { request = q.asking.request; ran = q.ran; done = steps_done c q.number; given = q.given; finished = x }) (shown_as q.fate cut (phase_of q)))
+    let got : far_on a.number (numbered w.connections q.conn) ≡ progress_of c q.number =
+    ap (λ i. far_on a.number (numbered w.connections i)) e
+    ∙ (ap (far_on a.number) t ∙ ap (progress_of c) n) in
+    ap (λ x. record { request = x; ran = q.ran; got = far_on a.number (numbered w.connections q.conn); given = q.given; finished = is_shown_finished (status_by q.fate cut (phase_of q)) }) (sym r)
+    ∙ (ap (λ x. record { request = q.asking.request; ran = q.ran; got = x; given = q.given; finished = is_shown_finished (status_by q.fate cut (phase_of q)) }) got
+    ∙ ap (λ x. record { request = q.asking.request; ran = q.ran; got = progress_of c q.number; given = q.given; finished = x }) (shown_as q.fate cut (phase_of q)))
 
 -- ---- All of them
 
@@ -143,23 +144,23 @@ by_lease : (b : Bool) (x y : Exchange) (c : Connection) (q : Record) (l : ℕ) (
 by_lease true x y c q l more xs e f g = ap (λ z. z ∷ xs) (e ∙ f) ∙ ap (λ zs. exchange_of c q ∷ zs) g
 by_lease false x y c q l more xs e f g = g
 
-shown_by : (w : World) (a : Ask) (q : Record) (cut b : Bool) (n l m k : ℕ) (ns : List ℕ) (c : Connection) (rest : List Record) (xs : List Ask) (rs : List RequestReport) → eqb n m ≡ b → numbered w.connections m ≡ Some c → q.conn ≡ n → a.number ≡ k → q.asking.request ≡ a.request → (b ≡ true → find (λ (p : Record). p.number == k) (records c) ≡ Some q) → Split k m (n ∷ ns) c rest → ((other : List Record) → Split (suc k) m ns c other → exchanges_shown (steps_in w) l m xs rs ≡ of_lease l c other)
-    → exchanges_shown (steps_in w) l m (a ∷ xs) (request_report cut q ∷ rs) ≡ of_lease l c rest
+shown_by : (w : World) (a : Ask) (q : Record) (cut b : Bool) (n l m k : ℕ) (ns : List ℕ) (c : Connection) (rest : List Record) (xs : List Ask) (rs : List RequestReport) → eqb n m ≡ b → numbered w.connections m ≡ Some c → q.conn ≡ n → a.number ≡ k → q.asking.request ≡ a.request → (b ≡ true → find (λ (p : Record). p.number == k) (records c) ≡ Some q) → Split k m (n ∷ ns) c rest → ((other : List Record) → Split (suc k) m ns c other → exchanges_shown (far_in w) l m xs rs ≡ of_lease l c other)
+    → exchanges_shown (far_in w) l m (a ∷ xs) (request_report cut q ∷ rs) ≡ of_lease l c rest
 shown_by w a q cut true n l m k ns c rest xs rs e t i u r f s ih =
     let next : Next k m ns c q rest = passes_own k m n ns c q rest e (f refl) s in
     let mine : eqb q.conn m ≡ true = ap (λ x. eqb x m) i ∙ e in
     let same : n ≡ m = is_number n m e in
     let number : q.number ≡ k = found_number k (records c) q (f refl) in
-    ap (λ b. cond (if_same b (eqb q.lease l)) (exchange_shown (steps_in w) a (request_report cut q) ∷ exchanges_shown (steps_in w) l m xs rs) (exchanges_shown (steps_in w) l m xs rs)) mine
-    ∙ (by_lease (eqb q.lease l) (exchange_shown (steps_in w) a (request_report cut q)) (exchange_of c q) c q l next.more (exchanges_shown (steps_in w) l m xs rs)
+    ap (λ b. cond (if_same b (eqb q.lease l)) (exchange_shown (far_in w) a (request_report cut q) ∷ exchanges_shown (far_in w) l m xs rs) (exchanges_shown (far_in w) l m xs rs)) mine
+    ∙ (by_lease (eqb q.lease l) (exchange_shown (far_in w) a (request_report cut q)) (exchange_of c q) c q l next.more (exchanges_shown (far_in w) l m xs rs)
     (one_shown w m a q c cut t (i ∙ same) (u ∙ sym number) r) refl (ih next.more next.split)
     ∙ ap (of_lease l c) (sym next.is))
 shown_by w a q cut false n l m k ns c rest xs rs e t i u r f s ih =
     let other : eqb q.conn m ≡ false = ap (λ x. eqb x m) i ∙ e in
-    ap (λ b. cond (if_same b (eqb q.lease l)) (exchange_shown (steps_in w) a (request_report cut q) ∷ exchanges_shown (steps_in w) l m xs rs) (exchanges_shown (steps_in w) l m xs rs)) other
+    ap (λ b. cond (if_same b (eqb q.lease l)) (exchange_shown (far_in w) a (request_report cut q) ∷ exchanges_shown (far_in w) l m xs rs) (exchanges_shown (far_in w) l m xs rs)) other
     ∙ ih rest (passes_other k m n ns c rest e s)
 
-all_shown : (w : World) (l m k : ℕ) (ns : List ℕ) (xs : List Ask) (c : Connection) → RequestsInOrder w → numbered w.connections m ≡ Some c → AreAsked w k ns xs → (rest : List Record) → Split k m ns c rest → exchanges_shown (steps_in w) l m xs (request_reports w k ns) ≡ of_lease l c rest
+all_shown : (w : World) (l m k : ℕ) (ns : List ℕ) (xs : List Ask) (c : Connection) → RequestsInOrder w → numbered w.connections m ≡ Some c → AreAsked w k ns xs → (rest : List Record) → Split k m ns c rest → exchanges_shown (far_in w) l m xs (request_reports w k ns) ≡ of_lease l c rest
 all_shown w l m k [] [] c o t a rest s = ap (of_lease l c) (none_are rest s.numbers)
 all_shown w l m k [] (x ∷ xs) c o t a rest s = absurd a
 all_shown w l m k (n ∷ ns) [] c o t a rest s = absurd a
@@ -167,7 +168,7 @@ all_shown w l m k (n ∷ ns) (x ∷ xs) c o t a rest s =
     let q : Record = a.0.request in
     let r : IsReported (λ c x. Unit {0}) k (numbered w.connections n) q = reported w k n q a.0.there in
     let on : q.conn ≡ n = found_has (λ (x : Record). x.conn ≡ n) (λ (x : Record). x.number == k) (records r.on) q (o.each n r.on r.is).conns r.found in
-    ap (λ rs. exchanges_shown (steps_in w) l m (x ∷ xs) (rs ++ request_reports w (suc k) ns)) r.alone
+    ap (λ rs. exchanges_shown (far_in w) l m (x ∷ xs) (rs ++ request_reports w (suc k) ns)) r.alone
     ∙ shown_by w x q (is_cut r.on.standing) (eqb n m) n l m k ns c rest xs (request_reports w (suc k) ns) refl t on a.0.numbered a.0.asks
     (λ e.
     let same : n ≡ m = is_number n m e in
@@ -176,7 +177,7 @@ all_shown w l m k (n ∷ ns) (x ∷ xs) c o t a rest s =
     s (λ other split. all_shown w l m (suc k) ns xs c o t a.1 other split)
 
 -- Nothing was asked on a connection that isn't there.
-none_shown : (w : World) (l m k : ℕ) (ns : List ℕ) (xs : List Ask) → RequestsInOrder w → numbered w.connections m ≡ None → AreAsked w k ns xs → exchanges_shown (steps_in w) l m xs (request_reports w k ns) ≡ []
+none_shown : (w : World) (l m k : ℕ) (ns : List ℕ) (xs : List Ask) → RequestsInOrder w → numbered w.connections m ≡ None → AreAsked w k ns xs → exchanges_shown (far_in w) l m xs (request_reports w k ns) ≡ []
 none_shown w l m k [] [] o t a = refl
 none_shown w l m k [] (x ∷ xs) o t a = absurd a
 none_shown w l m k (n ∷ ns) [] o t a = absurd a
@@ -184,8 +185,8 @@ none_shown w l m k (n ∷ ns) (x ∷ xs) o t a =
     let q : Record = a.0.request in
     let r : IsReported (λ c x. Unit {0}) k (numbered w.connections n) q = reported w k n q a.0.there in
     let on : q.conn ≡ n = found_has (λ (x : Record). x.conn ≡ n) (λ (x : Record). x.number == k) (records r.on) q (o.each n r.on r.is).conns r.found in
-    ap (λ us. exchanges_shown (steps_in w) l m (x ∷ xs) (us ++ request_reports w (suc k) ns)) r.alone
-    ∙ (by_test (exchange_shown (steps_in w) x (request_report (is_cut r.on.standing) q)) (exchanges_shown (steps_in w) l m xs (request_reports w (suc k) ns)) r.on r.is q (eqb q.conn m) refl on
+    ap (λ us. exchanges_shown (far_in w) l m (x ∷ xs) (us ++ request_reports w (suc k) ns)) r.alone
+    ∙ (by_test (exchange_shown (far_in w) x (request_report (is_cut r.on.standing) q)) (exchanges_shown (far_in w) l m xs (request_reports w (suc k) ns)) r.on r.is q (eqb q.conn m) refl on
     ∙ none_shown w l m (suc k) ns xs o t a.1)
   where
     by_test : (y : Exchange) (ys : List Exchange) (d : Connection) → numbered w.connections n ≡ Some d → (q : Record) (b : Bool) → eqb q.conn m ≡ b → q.conn ≡ n → cond (if_same b (eqb q.lease l)) (y ∷ ys) ys ≡ ys
@@ -194,11 +195,11 @@ none_shown w l m k (n ∷ ns) (x ∷ xs) o t a =
         let z : Some d ≡ None = sym i ∙ (ap (λ j. numbered w.connections j) same ∙ t) in absurd (cc)
     by_test y ys d i q false e on = refl
 
-alone_for : (answers : Answers) (w : World) (l m : ℕ) (xs : List Ask) (o : Option Connection) → ((c : Connection) → numbered w.connections m ≡ Some c → RunsAlone answers (own_session (numbered w.leases l)) (exchanges_of l c)) → RequestsInOrder w → numbered w.connections m ≡ o → AreAsked w 1 w.asked_on xs → RunsAlone answers (own_session (numbered w.leases l)) (exchanges_shown (steps_in w) l m xs (request_reports w 1 w.asked_on))
-alone_for answers w l m xs None h o t a =
-    subst (RunsAlone answers (own_session (numbered w.leases l))) (sym (none_shown w l m 1 w.asked_on xs o t a)) tt
-alone_for answers w l m xs (Some c) h o t a =
-    subst (RunsAlone answers (own_session (numbered w.leases l)))
+alone_for : (attention : OnAttention) (answers : Answers) (w : World) (l m : ℕ) (xs : List Ask) (o : Option Connection) → ((c : Connection) → numbered w.connections m ≡ Some c → RunsAlone attention answers (own_session (numbered w.leases l)) (exchanges_of l c)) → RequestsInOrder w → numbered w.connections m ≡ o → AreAsked w 1 w.asked_on xs → RunsAlone attention answers (own_session (numbered w.leases l)) (exchanges_shown (far_in w) l m xs (request_reports w 1 w.asked_on))
+alone_for attention answers w l m xs None h o t a =
+    subst (RunsAlone attention answers (own_session (numbered w.leases l))) (sym (none_shown w l m 1 w.asked_on xs o t a)) tt
+alone_for attention answers w l m xs (Some c) h o t a =
+    subst (RunsAlone attention answers (own_session (numbered w.leases l)))
     (sym (all_shown w l m 1 w.asked_on xs c o t a (records c) (record { before = []; whole = refl; lower = tt; numbers = (o.each m c t).numbers })))
     (h c t)
 
@@ -230,54 +231,54 @@ own_is : (e : Event) (o : Opened) (h : Holding) (k : Option Holding) → CameBy 
 own_is e o h None f g = absurd g
 own_is e o h (Some k) f g = ap session_from g.0 ∙ from_by e o h.resumed f
 
-abbrev AllAlone : Answers → World → List Ask → List RequestReport → Type 0
-AllAlone answers v asks rs = (lease conn : ℕ) → RunsAlone answers (own_session (numbered v.leases lease)) (exchanges_shown (steps_in v) lease conn asks rs)
+abbrev AllAlone : OnAttention → Answers → World → List Ask → List RequestReport → Type 0
+AllAlone attention answers v asks rs = (lease conn : ℕ) → RunsAlone attention answers (own_session (numbered v.leases lease)) (exchanges_shown (far_in v) lease conn asks rs)
 
 -- Of one that is shown.
-abbrev IsAlone : Answers → LeaseShown → Type 0
-IsAlone answers x = RunsAlone answers (own_by x.opened) x.exchanges
+abbrev IsAlone : OnAttention → Answers → LeaseShown → Type 0
+IsAlone attention answers x = RunsAlone attention answers (own_by x.opened) x.exchanges
 
-told_alone : (answers : Answers) (v : World) (e : Event) (what : Outcome) (hs : List Holding) (asks : List Ask) (rs : List RequestReport) → NotedAs e what hs → Extends hs v.leases → AllAlone answers v asks rs → AllByRecursion (IsAlone answers) (lease_in (steps_in v) asks rs what)
-told_alone answers v e (outcome.Leased lease n o) hs asks rs f x g = (
-  subst (λ own. RunsAlone answers own (exchanges_shown (steps_in v) lease n asks rs)) (own_is e o f.0 (numbered v.leases lease) f.2 (x lease f.0 f.1)) (g lease n),
+told_alone : (attention : OnAttention) (answers : Answers) (v : World) (e : Event) (what : Outcome) (hs : List Holding) (asks : List Ask) (rs : List RequestReport) → NotedAs e what hs → Extends hs v.leases → AllAlone attention answers v asks rs → AllByRecursion (IsAlone attention answers) (lease_in (far_in v) asks rs what)
+told_alone attention answers v e (outcome.Leased lease n o) hs asks rs f x g = (
+  subst (λ own. RunsAlone attention answers own (exchanges_shown (far_in v) lease n asks rs)) (own_is e o f.0 (numbered v.leases lease) f.2 (x lease f.0 f.1)) (g lease n),
   tt,
 )
-told_alone answers v e (outcome.GivenBack x0) hs asks rs f x g = tt
-told_alone answers v e (outcome.Kept x0) hs asks rs f x g = tt
-told_alone answers v e (outcome.Abandoned x0) hs asks rs f x g = tt
-told_alone answers v e (outcome.Asked x0) hs asks rs f x g = tt
-told_alone answers v e (outcome.Sent x0) hs asks rs f x g = tt
-told_alone answers v e (outcome.Cancel x0) hs asks rs f x g = tt
-told_alone answers v e (outcome.Work x0) hs asks rs f x g = tt
-told_alone answers v e (outcome.ToServer x0) hs asks rs f x g = tt
-told_alone answers v e (outcome.ToClient x0) hs asks rs f x g = tt
-told_alone answers v e outcome.Cut hs asks rs f x g = tt
-told_alone answers v e outcome.RestartedServer hs asks rs f x g = tt
-told_alone answers v e outcome.RestartedClient hs asks rs f x g = tt
-told_alone answers v e (outcome.Refused x0) hs asks rs f x g = tt
-told_alone answers v e (outcome.Fault x0 x1 x2) hs asks rs f x g = tt
+told_alone attention answers v e (outcome.GivenBack x0) hs asks rs f x g = tt
+told_alone attention answers v e (outcome.Kept x0) hs asks rs f x g = tt
+told_alone attention answers v e (outcome.Abandoned x0) hs asks rs f x g = tt
+told_alone attention answers v e (outcome.Asked x0) hs asks rs f x g = tt
+told_alone attention answers v e (outcome.Sent x0) hs asks rs f x g = tt
+told_alone attention answers v e (outcome.Cancel x0) hs asks rs f x g = tt
+told_alone attention answers v e (outcome.Work x0) hs asks rs f x g = tt
+told_alone attention answers v e (outcome.ToServer x0) hs asks rs f x g = tt
+told_alone attention answers v e (outcome.ToClient x0) hs asks rs f x g = tt
+told_alone attention answers v e outcome.Cut hs asks rs f x g = tt
+told_alone attention answers v e outcome.RestartedServer hs asks rs f x g = tt
+told_alone attention answers v e outcome.RestartedClient hs asks rs f x g = tt
+told_alone attention answers v e (outcome.Refused x0) hs asks rs f x g = tt
+told_alone attention answers v e (outcome.Fault x0 x1 x2) hs asks rs f x g = tt
 
-each_alone : (setup : Setup) (answers : Answers) (events : List Event) (w : World) (asks : List Ask) (rs : List RequestReport) → AllAlone answers (world_after setup answers events w) asks rs → AllByRecursion (λ (r : EventReport). AllByRecursion (IsAlone answers) (lease_in (steps_in (world_after setup answers events w)) asks rs r.outcome)) (event_reports setup answers events w)
+each_alone : (setup : Setup) (answers : Answers) (events : List Event) (w : World) (asks : List Ask) (rs : List RequestReport) → AllAlone setup.on_attention answers (world_after setup answers events w) asks rs → AllByRecursion (λ (r : EventReport). AllByRecursion (IsAlone setup.on_attention answers) (lease_in (far_in (world_after setup answers events w)) asks rs r.outcome)) (event_reports setup answers events w)
 each_alone setup answers [] w asks rs g = tt
 each_alone setup answers (e ∷ es) w asks rs g = (
-  told_alone answers (world_after setup answers (e ∷ es) w) e (happens setup answers e w).0 (happens setup answers e w).1.leases asks rs (happens_noted setup answers e w) (leases_stay setup answers es (happens setup answers e w).1) g,
+  told_alone setup.on_attention answers (world_after setup answers (e ∷ es) w) e (happens setup answers e w).0 (happens setup answers e w).1.leases asks rs (happens_noted setup answers e w) (leases_stay setup answers es (happens setup answers e w).1) g,
   each_alone setup answers es (happens setup answers e w).1 asks rs g,
 )
 
 -- Where a world is as if alone, so is what is told of it.
-pub shown_alone : (setup : Setup) (answers : Answers) (events : List Event) → let w : World = world_after setup answers events new_world in AsIfAlone answers w → ShowsAsIfAlone answers (steps_in w) events (observed setup answers events)
+pub shown_alone : (setup : Setup) (answers : Answers) (events : List Event) → let w : World = world_after setup answers events new_world in AsIfAlone setup.on_attention answers w → ShowsAsIfAlone setup.on_attention answers (far_in w) events (observed setup answers events)
 shown_alone setup answers events alone =
     let v : World = world_after setup answers events new_world in
     let asks : List Ask = asked_in events (event_reports setup answers events new_world) in
     each_alone setup answers events new_world asks (request_reports v 1 v.asked_on)
     (λ lease conn.
-    alone_for answers v lease conn asks (numbered v.connections conn)
+    alone_for setup.on_attention answers v lease conn asks (numbered v.connections conn)
     (λ c t.
-    let f : (x : ℕ) → RunsAlone answers (own_session (numbered v.leases x)) (exchanges_of x c) =
-    subst (OfSome (λ d. (x : ℕ) → RunsAlone answers (own_session (numbered v.leases x)) (exchanges_of x d))) t
-    (at_number (λ d. (x : ℕ) → RunsAlone answers (own_session (numbered v.leases x)) (exchanges_of x d)) v.connections conn alone) in
+    let f : (x : ℕ) → RunsAlone setup.on_attention answers (own_session (numbered v.leases x)) (exchanges_of x c) =
+    subst (OfSome (λ d. (x : ℕ) → RunsAlone setup.on_attention answers (own_session (numbered v.leases x)) (exchanges_of x d))) t
+    (at_number (λ d. (x : ℕ) → RunsAlone setup.on_attention answers (own_session (numbered v.leases x)) (exchanges_of x d)) v.connections conn alone) in
     f lease)
     (requests_in_order setup answers events) refl (all_asked setup answers events))
 
-pub as_if_alone_is_shown : (setup : Setup) (answers : Answers) → Lawful answers → BlindToNumbers answers → UseFewDescriptors answers → (events : List Event) → AreFewEvents events → ShowsAsIfAlone answers (steps_in (world_after setup answers events new_world)) events (observed setup answers events)
+pub as_if_alone_is_shown : (setup : Setup) (answers : Answers) → Lawful answers → BlindToNumbers answers → UseFewDescriptors answers → (events : List Event) → AreFewEvents events → ShowsAsIfAlone setup.on_attention answers (far_in (world_after setup answers events new_world)) events (observed setup answers events)
 as_if_alone_is_shown setup answers l b u events h = shown_alone setup answers events (alone_after setup answers l b u events h)

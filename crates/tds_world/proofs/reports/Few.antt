@@ -127,7 +127,7 @@ settled n e k w (Does what c) h =
 found : (setup : Setup) (answers : Answers) (n : ℕ) (e : Event) (w : World) (f : Found) → AreFew n w → AreFew (suc n) (happens_at setup answers e w f).1
 found setup answers n e w (Missing why) h = more n w h
 found setup answers n e w (Here k c) h = settled n e k w (acts setup answers w e k c) h
-found setup answers n e w (Opens k) h = settled n event.Lease k w (opens (next_number w.leases) k) h
+found setup answers n e w (Opens k) h = settled n event.Lease k w (opens setup.on_attention (next_number w.leases) k) h
 
 at_event : (setup : Setup) (answers : Answers) (n : ℕ) (e : Event) (w : World) → AreFew n w → AreFew (suc n) (happens_at setup answers e w (about setup w e)).1
 at_event setup answers n e w h = found setup answers n e w (about setup w e) h

@@ -41,7 +41,7 @@ settles_adds e n w (Does what c) = notes_add e n c.heard w (put_numbered n c w.c
 found_adds : (setup : Setup) (answers : Answers) (e : Event) (w : World) (f : Found) → Adds w (happens_at setup answers e w f).1
 found_adds setup answers e w (Missing why) = adds_same w w.connections
 found_adds setup answers e w (Here n c) = settles_adds e n w (acts setup answers w e n c)
-found_adds setup answers e w (Opens n) = settles_adds event.Lease n w (opens (next_number w.leases) n)
+found_adds setup answers e w (Opens n) = settles_adds event.Lease n w (opens setup.on_attention (next_number w.leases) n)
 
 pub happens_adds : (setup : Setup) (answers : Answers) (e : Event) (w : World) → Adds w (happens setup answers e w).1
 happens_adds setup answers e w =

@@ -101,7 +101,7 @@ found_lends : (setup : Setup) (answers : Answers) (e : Event) (w : World) (f : F
 found_lends setup answers e w (Missing why) h a s = tt
 found_lends setup answers e w (Here n c) h a s = acted setup answers w e n c h a s.0
 found_lends setup answers e w (Opens n) h a s =
-    let d : Connection = new_connection (place.Leased (next_number w.leases)) in
+    let d : Connection = new_connection setup.on_attention (place.Leased (next_number w.leases)) in
     lent (next_number w.leases) n (put_numbered n d w.connections) d (put_last w.connections n d s) refl refl
 
 at_event : (setup : Setup) (answers : Answers) (e : Event) (w : World) → LendsIdle setup w → Agrees w → Lends (happens_at setup answers e w (about setup w e))

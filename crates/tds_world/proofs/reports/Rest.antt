@@ -15,10 +15,11 @@ use Rattle.tds_world.specs.Observed.{observed, snapshot_of, seen, snapshots_from
 use Rattle.tds_world.specs.Phase.{state_of}
 use Rattle.tds_world.specs.Reports.{AlwaysTold, snapshot_in}
 use Rattle.tds_world.specs.Rest.{rested_at, rested, BringsToRest, Finishes, stopping, finishing, NeverStuck}
-use Rattle.tds_world.specs.RestShown.{last_of, last_snapshots, IsAtRest, CanBeStopped, CanBeFinished, IsNeverStuck, ShowsNeverStuck}
+use Rattle.tds_world.specs.RestShown.{last_of, last_snapshots, acknowledgement_most, IsAtRest, CanBeStopped, CanBeFinished, IsNeverStuck, ShowsNeverStuck}
 use Rattle.tds_world.specs.World.{World, new_world, numbered}
 use Rattle.tds_world.proofs.events.Grows.{after_both}
 use Rattle.tds_world.proofs.events.Worlds.{always}
+use Rattle.tds_world.proofs.events.Options.{told_kept}
 use Rattle.tds_world.proofs.flow.Flow.{Sound}
 use Rattle.tds_world.proofs.flow.Sound.{sound_kept}
 use Rattle.tds_world.proofs.packets.Deliveries.{LanesWithin, within_kept}
@@ -72,12 +73,12 @@ shown_at_rest setup answers events more n c p s b =
 whole_in : (p : Place) (s : Standing) → s ≡ In p → is_cut s ≡ false
 whole_in p s e = ap is_cut e
 
-one_stops : (setup : Setup) (answers : Answers) (events : List Event) (n : ℕ) (c : Connection) (p : Place) → Lawful answers → NeverStuck setup answers (world_after setup answers events new_world) → numbered (world_after setup answers events new_world).connections n ≡ Some c → c.standing ≡ In p → IsGood c → CanBeStopped (λ more. observed setup answers (events ++ more)) (snapshot_of n c p)
-one_stops setup answers events n c p l h t s g up down m k =
+one_stops : (setup : Setup) (answers : Answers) (events : List Event) (n : ℕ) (c : Connection) (p : Place) → Lawful answers → NeverStuck setup answers (world_after setup answers events new_world) → numbered (world_after setup answers events new_world).connections n ≡ Some c → c.standing ≡ In p → IsGood c → c.on_attention ≡ setup.on_attention → CanBeStopped setup.on_attention (λ more. observed setup answers (events ++ more)) (snapshot_of n c p)
+one_stops setup answers events n c p l h t s g o up down m k =
     let w : World = world_after setup answers events new_world in
     shown_at_rest setup answers events (stopping (In p) n up down) n c p s
     (subst (λ x. BringsToRest setup answers w n c (stopping x n up down)) s
-    (h.stops n c up down (number_finds w n c t (whole_in p c.standing s)) (stop_counts answers c up down (cancels_good setup answers c l g).0 m k)))
+    (h.stops n c up down (number_finds w n c t (whole_in p c.standing s)) (stop_counts (acknowledgement_most setup.on_attention) answers c up down (ap acknowledgement_most o) (cancels_good setup answers c l g).0 m k)))
 
 one_finishes : (setup : Setup) (answers : Answers) (events : List Event) (n : ℕ) (c : Connection) (p : Place) → IsSetup setup → Lawful answers → NeverStuck setup answers (world_after setup answers events new_world) → numbered (world_after setup answers events new_world).connections n ≡ Some c → c.standing ≡ In p → IsGood c → CanBeFinished (λ more. observed setup answers (events ++ more)) (observed setup answers events) (snapshot_of n c p)
 one_finishes setup answers events n c p u l h t s g =
@@ -100,10 +101,11 @@ never_stuck_is_shown setup answers u l events =
     let h : NeverStuck setup answers w = never_stuck setup answers l events in
     let sound : AllByRecursion Sound w.connections = always Sound setup answers events (sound_kept setup answers l) in
     let within : AllByRecursion LanesWithin w.connections = always LanesWithin setup answers events (within_kept setup answers) in
-    subst (λ shown. AllByRecursion (IsNeverStuck (λ more. observed setup answers (events ++ more)) (observed setup answers events)) shown) (sym (last_are setup answers events))
-    (each_seen (IsNeverStuck (λ more. observed setup answers (events ++ more)) (observed setup answers events)) w (λ n c p t s.
+    let told : AllByRecursion (λ c. c.on_attention ≡ setup.on_attention) w.connections = always (λ c. c.on_attention ≡ setup.on_attention) setup answers events (told_kept setup answers) in
+    subst (λ shown. AllByRecursion (IsNeverStuck setup.on_attention (λ more. observed setup answers (events ++ more)) (observed setup answers events)) shown) (sym (last_are setup answers events))
+    (each_seen (IsNeverStuck setup.on_attention (λ more. observed setup answers (events ++ more)) (observed setup answers events)) w (λ n c p t s.
     let good : IsGood c = (of_there Sound w n c t sound, of_there LanesWithin w n c t within) in
     record {
-      stopped = one_stops setup answers events n c p l h t s good;
+      stopped = one_stops setup answers events n c p l h t s good (of_there (λ c. c.on_attention ≡ setup.on_attention) w n c t told);
       finished = one_finishes setup answers events n c p u l h t s good;
     }))

@@ -35,23 +35,23 @@ abbrev pub IsDue : Answers → SessionState → ℕ → List answer.Step → Ask
 IsDue answers s taken due a =
     (due ≡ []) ⊎ ((taken ≡ 0) × (due ≡ answers s a.descriptor a.mark a.request))
 
--- No step among these.
+-- No step among these, and no change.
 abbrev pub NoSteps : List Down → Type 0
 NoSteps [] = Unit {0}
 NoSteps (Step r place s ∷ es) = ⊥
-NoSteps (Acknowledgement r place ∷ es) = NoSteps es
+NoSteps (Acknowledgement r place changes ∷ es) = (changes ≡ []) × NoSteps es
 
 -- No step among these takes a reset.
 abbrev pub NoResets : List Down → Type 0
 NoResets [] = Unit {0}
 NoResets (Step r place s ∷ es) = (s.reset ≡ None) × NoResets es
-NoResets (Acknowledgement r place ∷ es) = NoResets es
+NoResets (Acknowledgement r place changes ∷ es) = NoResets es
 
 -- Only the first step among these can take a reset, and it meets the mark.
 abbrev pub MeetsMark : Option Reset → List Down → Type 0
 MeetsMark mark [] = Unit {0}
 MeetsMark mark (Step r place s ∷ es) = Meets mark s.reset × NoResets es
-MeetsMark mark (Acknowledgement r place ∷ es) = MeetsMark mark es
+MeetsMark mark (Acknowledgement r place changes ∷ es) = MeetsMark mark es
 
 -- A request that didn't run yet.
 pub record Unrun (answers : Answers) (session : SessionState) (mark : Option Reset) (heard taken : ℕ) (steps : List answer.Step) (p : Phase) (a : Asking) (ups : List Up) (coming : List Down) : Type 0 where

@@ -6,6 +6,8 @@ use Rattle.std.proofs.lemmas.List.{append_assoc, append-nil}
 use Rattle.std.specs.List.{AllByRecursion, IsDistinct}
 use Rattle.tds_session.specs.Answer as answer
 use Rattle.tds_session.specs.Answer.{Answers}
+use Rattle.tds_session.specs.Attention.{stop_by}
+use Rattle.tds_session.specs.Session.{SessionState}
 use Rattle.tds_token.specs.Told.{changes_of}
 use Rattle.tds_world.specs.declared.event.Setup.{Setup}
 use Rattle.tds_world.specs.Arrivals.{server_acts, client_acts, works_on}
@@ -23,6 +25,7 @@ use Rattle.tds_world.specs.World.{new_world}
 use Rattle.tds_world.proofs.events.Moves.{KeptByMoves, by_moves}
 use Rattle.tds_world.proofs.events.Worlds.{always, each_follows}
 use Rattle.tds_world.proofs.flow.Fates.{is_sending}
+use Rattle.tds_world.proofs.flow.Stops.{rolls}
 
 -- ---- Numbers, all different and below n
 
@@ -75,16 +78,22 @@ begun_last es e = flat_map-append begun_in es (e ∷ []) ∙ ap (λ xs. flat_map
 told_more : (arrived waiting : List Down) (e : Down) → flat_map begun_in (arrived ++ (waiting ++ e ∷ [])) ≡ flat_map begun_in (arrived ++ waiting) ++ begun_in e
 told_more arrived waiting e = ap (λ xs. flat_map begun_in xs) (sym (append_assoc arrived waiting (e ∷ []))) ∙ begun_last (arrived ++ waiting) e
 
+-- An acknowledgement tells of no beginning.
+stop_begun : (b : Bool) (s : SessionState) (arrived waiting : List Down) (r place : ℕ) → Apart s.next_descriptor (flat_map begun_in (arrived ++ waiting)) → Apart (stop_by b s).after.next_descriptor (flat_map begun_in (arrived ++ (waiting ++ Acknowledgement r place (stop_by b s).changes ∷ [])))
+stop_begun true s arrived waiting r place h =
+    subst (λ xs. Apart s.next_descriptor xs) (sym (told_more arrived waiting _ ∙ append-nil (flat_map begun_in (arrived ++ waiting)))) h
+stop_begun false s arrived waiting r place h =
+    subst (λ xs. Apart s.next_descriptor xs) (sym (told_more arrived waiting _ ∙ append-nil (flat_map begun_in (arrived ++ waiting)))) h
+
 server_begun : (answers : Answers) (c : Connection) (e : Up) → HandsOutNext answers → Begun c → Begun (server_acts answers c e)
 server_begun answers c (Part r p) l h = h
 server_begun answers c (End r a p) l h = (h.0, l c.session a.descriptor a.mark a.request)
 server_begun answers c (Drop r p) l h = h
-server_begun answers c (Attention r) l h =
-    (subst (λ xs. Apart c.session.next_descriptor xs) (sym (told_more c.to_client.arrived c.to_client.waiting _ ∙ append-nil (flat_map begun_in (c.to_client.arrived ++ c.to_client.waiting)))) h.0, tt)
+server_begun answers c (Attention r) l h = (stop_begun (rolls c) c.session c.to_client.arrived c.to_client.waiting r _ h.0, tt)
 
 client_begun_at : (c : Connection) (e : Down) (es : List Down) → BegunWith c (e ∷ es) → BegunWith (client_acts (record c { to_client = passed e c.to_client }) e) es
 client_begun_at c (Step r i s) es h = (subst (λ xs. Apart c.session.next_descriptor (flat_map begun_in xs)) (sym (append_assoc c.to_client.arrived (Step r i s ∷ []) es)) h.0, h.1)
-client_begun_at c (Acknowledgement r i) es h = (subst (λ xs. Apart c.session.next_descriptor (flat_map begun_in xs)) (sym (append_assoc c.to_client.arrived (Acknowledgement r i ∷ []) es)) h.0, h.1)
+client_begun_at c (Acknowledgement r i changes) es h = (subst (λ xs. Apart c.session.next_descriptor (flat_map begun_in xs)) (sym (append_assoc c.to_client.arrived (Acknowledgement r i changes ∷ []) es)) h.0, h.1)
 
 works_begun : (c : Connection) (due : List answer.Step) → c.due ≡ due → Begun c → Begun (works_on c due)
 works_begun c [] e h = h

@@ -56,7 +56,7 @@ acknowledges_core r q = core_when _ acknowledges q refl
 
 pub client_same : (c : Connection) (e : Down) → SameCores c (client_acts (record c { to_client = passed e c.to_client }) e)
 client_same c (Step r place s) = (map_cores (if_numbered r (gives s)) c.past (gives_core r s), option_cores (if_numbered r (gives s)) c.current (gives_core r s))
-client_same c (Acknowledgement r place) = (map_cores (if_numbered r acknowledges) c.past (acknowledges_core r), option_cores (if_numbered r acknowledges) c.current (acknowledges_core r))
+client_same c (Acknowledgement r place changes) = (map_cores (if_numbered r acknowledges) c.past (acknowledges_core r), option_cores (if_numbered r acknowledges) c.current (acknowledges_core r))
 
 pub server_same : (answers : Answers) (c : Connection) (e : Up) → SameCores c (server_acts answers (record c { to_server = passed e c.to_server }) e)
 server_same answers c (Part r p) = (refl, refl)

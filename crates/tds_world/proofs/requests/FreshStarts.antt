@@ -160,15 +160,15 @@ ready_moves setup answers l = record {
   sent = λ w last q c i s b f h. sends_ready w last (setup.packet_size - 8) q c i s h;
   cancelled = λ w p q c i at f h. cancels_ready w p q c i at h;
   worked = λ w c s ss is f h. works_ready answers w (length w.asked_on) c (s ∷ ss) l is f.0.0.0 f.0.0.1 f.0.1 f.1.1 h;
-  at_server = λ w c e es f h. up_ready answers w c e h;
+  at_server = λ w c e es f h. up_ready answers w c e es f.0.0.0 f.0.0.1 f.1.1 h;
   at_client = λ w c e es f h. down_ready answers w c e es f.0.0.0 f.0.0.1 f.1.1 h;
   server_waits = λ w c es k m h. h;
   client_waits = λ w c es k m h. h;
 }
 
-opened_ready : (w : World) (n : ℕ) → IsReady (world_with event.Lease n w (new_connection (place.Leased (next_number w.leases)))) (new_connection (place.Leased (next_number w.leases)))
-opened_ready w n =
-    let c : Connection = new_connection (place.Leased (next_number w.leases)) in
+opened_ready : (setup : Setup) (w : World) (n : ℕ) → IsReady (world_with event.Lease n w (new_connection setup.on_attention (place.Leased (next_number w.leases)))) (new_connection setup.on_attention (place.Leased (next_number w.leases)))
+opened_ready setup w n =
+    let c : Connection = new_connection setup.on_attention (place.Leased (next_number w.leases)) in
     lent (world_with event.Lease n w c) [] None c.session (next_number w.leases) None (holding n 0 None) refl (last_numbered w.leases (holding n 0 None)) (inr (refl, (refl, refl))) tt
 
 abbrev ReadyAndMarked : Answers → World → Connection → Type 0
@@ -178,7 +178,7 @@ ready_kept : (setup : Setup) (answers : Answers) → Lawful answers → KeptIn s
 ready_kept setup answers l =
     by_noted_moves setup answers (BothIn (WellMarkedWith answers) ReadyWith)
     (noted_on_top setup answers AnyAt (WellMarkedWith answers) ReadyWith (marked_noted setup answers l)
-    (record { grows = λ w v c u d a h. is_ready_grows w v c a h; opened = opened_ready; moves = ready_moves setup answers l }))
+    (record { grows = λ w v c u d a h. is_ready_grows w v c a h; opened = opened_ready setup; moves = ready_moves setup answers l }))
 
 -- ---- The law
 

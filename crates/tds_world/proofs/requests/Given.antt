@@ -119,7 +119,7 @@ server_follows answers c (Attention r) = longer_same (records c)
 client_follows : (c : Connection) (e : Down) → Follows c (client_acts c e)
 client_follows c (Step r place s) =
     changed_joined (if_numbered r (gives s)) c.past c.current (λ q. later_when (q.number == r) (gives s) q (gives_later s q))
-client_follows c (Acknowledgement r place) =
+client_follows c (Acknowledgement r place changes) =
     changed_joined (if_numbered r acknowledges) c.past c.current
     (λ q. later_when (q.number == r) acknowledges q (record { number = refl; lease = refl; asking = refl; cancelled = λ e. refl; given = λ e. refl }))
 

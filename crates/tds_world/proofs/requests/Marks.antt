@@ -1,12 +1,15 @@
 -- Each move of a connection keeps the tie between its newest request and what waits and is due.
-use Rattle.std.proofs.Common.{◌≡◌, ℕ, List, [], ◌∷◌, ◌++◌, ◌+◌, inl, inr, Bool, true, false, eqb, refl, sym, ap, subst, ◌∙◌, Option, Some, None, option_map}
+use Rattle.std.proofs.Common.{◌≡◌, ℕ, List, [], ◌∷◌, ◌++◌, ◌+◌, ◌⊎◌, inl, inr, Bool, true, false, eqb, refl, sym, ap, subst, ◌∙◌, Option, Some, None, option_map}
 use Rattle.std.proofs.lemmas.List.{append-nil, append_assoc}
+use Rattle.std.specs.Prelude.{unwrap_or}
 use Rattle.tds_packet.specs.declared.status.Reset.{Reset}
 use Rattle.tds_request.specs.declared.request.Request.{Request}
 use Rattle.tds_session.specs.Answer as answer
 use Rattle.tds_session.specs.Answer.{Answers}
+use Rattle.tds_session.specs.Attention.{stop_by}
 use Rattle.tds_session.specs.Session.{SessionState}
-use Rattle.tds_world.specs.Arrivals.{server_acts, client_acts, works_on, hears, mark_after}
+use Rattle.tds_token.specs.declared.env_change.EnvChange.{EnvChange}
+use Rattle.tds_world.specs.Arrivals.{server_acts, client_acts, works_on, hears, hears_of, heard_behind, mark_after, stops}
 use Rattle.tds_world.specs.Caller.{asks, sends_by, cancels_by}
 use Rattle.tds_world.specs.Connection.{Connection, phase, is_idle}
 use Rattle.tds_world.specs.Entries.{Asking, Packet, Up, Part, End, Drop, Attention, Down, Step, Acknowledgement}
@@ -19,11 +22,19 @@ use Rattle.tds_world.proofs.flow.Arrivals.{same_number, of_changed}
 use Rattle.tds_world.proofs.flow.Busy.{NoEnd, Answering, busy_due, busy_down, is_open}
 use Rattle.tds_world.proofs.flow.Flow.{FlowIn, Quiet, number_in, Hears, Sound, SoundWith}
 use Rattle.tds_world.proofs.flow.Keeps.{ask_fits}
-use Rattle.tds_world.proofs.requests.Asking.{IsCurrent, EndsAsk, NoSteps, MeetsMark, HasRun, ByRan, Newest, NewestWith}
+use Rattle.tds_world.proofs.flow.Stops.{rolls_nothing}
+use Rattle.tds_world.proofs.requests.Asking.{IsCurrent, EndsAsk, IsDue, NoSteps, MeetsMark, HasRun, ByRan, Newest, NewestWith}
 use Rattle.tds_world.proofs.requests.Runs.{FirstStep, first_step, heard_now, names_own, first_waits, next_waits, none_meet, no_steps_ack, meets_ack}
 use Rattle.tds_world.proofs.flow.Fates.{step_leaves, cancelled_leaves, is_sending}
 
 -- ---- An entry arrives at the server
+
+-- No step of its answer was done.
+pub none_done : (answers : Answers) (c : Connection) (a : Asking) → IsDue answers c.session c.taken c.due a → (c.due ≡ []) ⊎ (c.taken ≡ 0)
+none_done answers c a h = elim h [
+  | inl e ↦ inl e
+  | inr e ↦ inr e.0
+]
 
 server_newest : (answers : Answers) (c : Connection) (e : Up) (es : List Up) (p : Phase) (a : Asking) (ran : Option SessionState) → ByRan answers c (e ∷ es) c.to_client.waiting p a ran → ByRan answers (server_acts answers (record c { to_server = passed e c.to_server }) e) es (server_acts answers (record c { to_server = passed e c.to_server }) e).to_client.waiting p a ran
 server_newest answers c (Part r b) es p a None h = record { current = h.current; ends = h.ends; due = h.due; downs = h.downs }
@@ -37,8 +48,13 @@ server_newest answers c (End r x b) es p a None h = record {
   downs = h.downs;
 }
 server_newest answers c (End r x b) es p a (Some s) h = absurd h.ends
-server_newest answers c (Attention r) es p a None h = record { current = h.current; ends = h.ends; due = inl refl; downs = no_steps_ack r _ c.to_client.waiting h.downs }
-server_newest answers c (Attention r) es p a (Some s) h = record { own = h.own; whole = h.whole; ends = h.ends; due = tt; downs = meets_ack c.mark r _ c.to_client.waiting h.downs }
+server_newest answers c (Attention r) es p a None h = record {
+  current = h.current;
+  ends = h.ends;
+  due = inl refl;
+  downs = no_steps_ack r _ (stops c).changes c.to_client.waiting (ap (λ b. (stop_by b c.session).changes) (rolls_nothing c (none_done answers c a h.due))) h.downs;
+}
+server_newest answers c (Attention r) es p a (Some s) h = record { own = h.own; whole = h.whole; ends = h.ends; due = tt; downs = meets_ack c.mark r _ _ c.to_client.waiting h.downs }
 
 server_newest_in : (answers : Answers) (c : Connection) (e : Up) (es : List Up) (o : Option Record) → Newest answers c (e ∷ es) c.to_client.waiting o → Newest answers (server_acts answers (record c { to_server = passed e c.to_server }) e) es (server_acts answers (record c { to_server = passed e c.to_server }) e).to_client.waiting o
 server_newest_in answers c e es None h = tt
@@ -69,25 +85,31 @@ step_newest answers c ups r place s es p p1 a (Some x) k h = record {
   downs = none_meet (mark_after s.reset c.mark) es h.downs.1;
 }
 
-ack_newest : (answers : Answers) (c : Connection) (ups : List Up) (r place : ℕ) (es : List Down) (p p1 : Phase) (a : Asking) (ran : Option SessionState) → (is_sending p ≡ false → is_sending p1 ≡ false) → (is_settled p1 ≡ false → is_settled p ≡ false) → ByRan answers c ups (Acknowledgement r place ∷ es) p a ran → ByRan answers c ups es p1 a ran
-ack_newest answers c ups r place es p p1 a None k j h = record { current = λ e. h.current (j e); ends = h.ends; due = h.due; downs = h.downs }
-ack_newest answers c ups r place es p p1 a (Some x) k j h = record { own = h.own; whole = k h.whole; ends = h.ends; due = h.due; downs = h.downs }
+ack_newest : (answers : Answers) (c : Connection) (ups : List Up) (r place : ℕ) (changes : List EnvChange) (es : List Down) (p p1 : Phase) (a : Asking) (ran : Option SessionState) → (is_sending p ≡ false → is_sending p1 ≡ false) → (is_settled p1 ≡ false → is_settled p ≡ false) → ByRan answers c ups (Acknowledgement r place changes ∷ es) p a ran → ByRan answers (hears_of changes c) ups es p1 a ran
+ack_newest answers c ups r place changes es p p1 a None k j h = record {
+  current = λ e. subst (λ xs. IsCurrent c.mark (unwrap_or (heard_behind c.heard xs) c.heard) a) (sym h.downs.0) (h.current (j e));
+  ends = h.ends;
+  due = h.due;
+  downs = h.downs.1;
+}
+ack_newest answers c ups r place changes es p p1 a (Some x) k j h = record { own = h.own; whole = k h.whole; ends = h.ends; due = h.due; downs = h.downs }
 
 client_newest : (answers : Answers) (c : Connection) (ups : List Up) (e : Down) (es : List Down) (o : Option Record) → c.current ≡ o → is_settled (phase_in o) ≡ false → Newest answers c ups (e ∷ es) o → NewestWith answers (client_acts (record c { to_client = passed e c.to_client }) e) ups es
 client_newest answers c ups (Step r place s) es None i b h = rw i tt
-client_newest answers c ups (Acknowledgement r place) es None i b h = rw i tt
+client_newest answers c ups (Acknowledgement r place changes) es None i b h = rw i tt
 client_newest answers c ups (Step r place s) es (Some q) i b h =
     let d : Connection = hears s (record c { to_client = passed (Step r place s) c.to_client }) in
     subst (λ o. Newest answers d ups es (option_map (if_numbered r (gives s)) o)) (sym i)
     (any_change (λ x. ByRan answers d ups es (phase_of x) x.asking x.ran) (eqb q.number r) (gives s) q
     (step_newest answers c ups r place s es (phase_of q) (phase_of (gives s q)) q.asking q.ran (step_leaves q.fate s.last q.out b) h)
     (step_newest answers c ups r place s es (phase_of q) (phase_of q) q.asking q.ran (λ e. e) h))
-client_newest answers c ups (Acknowledgement r place) es (Some q) i b h =
+client_newest answers c ups (Acknowledgement r place changes) es (Some q) i b h =
     let settles : is_settled (phase_of (acknowledges q)) ≡ true = refl in
-    subst (λ o. Newest answers c ups es (option_map (if_numbered r acknowledges) o)) (sym i)
-    (any_change (λ x. ByRan answers c ups es (phase_of x) x.asking x.ran) (eqb q.number r) acknowledges q
-    (ack_newest answers c ups r place es (phase_of q) (phase_of (acknowledges q)) q.asking q.ran (λ e. refl) (λ e. let z : true ≡ false = sym settles ∙ e in absurd (cc)) h)
-    (ack_newest answers c ups r place es (phase_of q) (phase_of q) q.asking q.ran (λ e. e) (λ e. e) h))
+    let d : Connection = hears_of changes (record c { to_client = passed (Acknowledgement r place changes) c.to_client }) in
+    subst (λ o. Newest answers d ups es (option_map (if_numbered r acknowledges) o)) (sym i)
+    (any_change (λ x. ByRan answers d ups es (phase_of x) x.asking x.ran) (eqb q.number r) acknowledges q
+    (ack_newest answers c ups r place changes es (phase_of q) (phase_of (acknowledges q)) q.asking q.ran (λ e. refl) (λ e. let z : true ≡ false = sym settles ∙ e in absurd (cc)) h)
+    (ack_newest answers c ups r place changes es (phase_of q) (phase_of q) q.asking q.ran (λ e. e) (λ e. e) h))
 
 pub down_marked : (answers : Answers) (c : Connection) (e : Down) (es : List Down) → SoundWith c c.to_server.waiting (e ∷ es) → NewestWith answers c c.to_server.waiting (e ∷ es) → NewestWith answers (client_acts (record c { to_client = passed e c.to_client }) e) c.to_server.waiting es
 down_marked answers c e es f h =
@@ -97,7 +119,7 @@ down_marked answers c e es f h =
 -- What is to the server stays as it is.
 pub down_marked_at : (answers : Answers) (c : Connection) (e : Down) (es : List Down) → SoundWith c c.to_server.waiting (e ∷ es) → NewestWith answers c c.to_server.waiting (e ∷ es) → NewestWith answers (client_acts (record c { to_client = passed e c.to_client }) e) (client_acts (record c { to_client = passed e c.to_client }) e).to_server.waiting es
 down_marked_at answers c (Step r place s) es f h = down_marked answers c (Step r place s) es f h
-down_marked_at answers c (Acknowledgement r place) es f h = down_marked answers c (Acknowledgement r place) es f h
+down_marked_at answers c (Acknowledgement r place changes) es f h = down_marked answers c (Acknowledgement r place changes) es f h
 
 -- ---- The server works
 

@@ -36,15 +36,15 @@ not_none x xs e = absurd (cc)
 
 due_of : (r : ℕ) (e : Down) (es : List Down) (due : List answer.Step) → StepsAndDue r (e ∷ es) due → request_of e ≡ r
 due_of r (Step q i s) es due h = h.0
-due_of r (Acknowledgement q i) es due h = absurd h
+due_of r (Acknowledgement q i changes) es due h = absurd h
 
 step_of : (r : ℕ) (e : Down) (es : List Down) → OnlySteps r (e ∷ es) → request_of e ≡ r
 step_of r (Step q i s) es h = h.0
-step_of r (Acknowledgement q i) es h = absurd h
+step_of r (Acknowledgement q i changes) es h = absurd h
 
 acknowledged_of : (r : ℕ) (e : Down) (es : List Down) → EndsInAcknowledgement r (e ∷ es) → request_of e ≡ r
 acknowledged_of r (Step q i s) es h = h.0
-acknowledged_of r (Acknowledgement q i) es h = h.0
+acknowledged_of r (Acknowledgement q i changes) es h = h.0
 
 first_of : (p : Phase) (r a : ℕ) (ups : List Up) (e : Down) (es : List Down) (parts : List ℕ) (due : List answer.Step) → FlowIn p r a ups (e ∷ es) parts due → request_of e ≡ r
 first_of Settled r a ups e es parts due f = absurd (not_none e es f.1)
@@ -107,10 +107,10 @@ client_past n c (Step r i s) es f h =
     stay n r (gives s) c.past c.current
     (busy_down (phase c) (number_in c.current) c.answering c.to_server.waiting (Step r i s) es c.parts c.due f.0)
     (first_of (phase c) (number_in c.current) c.answering c.to_server.waiting (Step r i s) es c.parts c.due f.0) h
-client_past n c (Acknowledgement r i) es f h =
+client_past n c (Acknowledgement r i changes) es f h =
     stay n r acknowledges c.past c.current
-    (busy_down (phase c) (number_in c.current) c.answering c.to_server.waiting (Acknowledgement r i) es c.parts c.due f.0)
-    (first_of (phase c) (number_in c.current) c.answering c.to_server.waiting (Acknowledgement r i) es c.parts c.due f.0) h
+    (busy_down (phase c) (number_in c.current) c.answering c.to_server.waiting (Acknowledgement r i changes) es c.parts c.due f.0)
+    (first_of (phase c) (number_in c.current) c.answering c.to_server.waiting (Acknowledgement r i changes) es c.parts c.due f.0) h
 
 reach_client_past : (n : ℕ) (c : Connection) (es : List Down) (k : ℕ) → SoundWith c c.to_server.waiting es → NumbersOf n (past_of c) (newest_of c) → (reach_client c es k).past ≡ c.past
 reach_client_past n c [] k f h = refl

@@ -288,9 +288,9 @@ none_on cs k (m ∷ ms) h =
     let differ : eqb m (next_number cs) ≡ false = other (next_number cs) m (λ z. none_at_end cs h.0.0 (subst (λ i. numbered cs i ≡ Some h.0.0) (sym z) h.0.1)) in
     ap (λ b. number_if b k (numbers_on (next_number cs) (suc k) ms)) differ ∙ none_on cs (suc k) ms h.1
 
-opened : (n : ℕ) (w : World) → n ≡ next_number w.connections → WorldListed w → WorldListed (settles event.Lease n w (opens (next_number w.leases) n)).1
-opened n w e h =
-    let d : Connection = new_connection (place.Leased (next_number w.leases)) in
+opened : (setup : Setup) (n : ℕ) (w : World) → n ≡ next_number w.connections → WorldListed w → WorldListed (settles event.Lease n w (opens setup.on_attention (next_number w.leases) n)).1
+opened setup n w e h =
+    let d : Connection = new_connection setup.on_attention (place.Leased (next_number w.leases)) in
     let none : [] ≡ numbers_on n 1 w.asked_on = sym (subst (λ k. numbers_on k 1 w.asked_on ≡ []) (sym e) (none_on w.connections 1 w.asked_on h.1)) in
     (put_listed event.Lease n d w.connections w.asked_on (next_place w.connections n e) (none, tt) h.0, stay_there n d w.connections w.asked_on h.1)
 
@@ -323,7 +323,7 @@ cut_listed cs ns h = (each, all_cut_there cs ns h.1)
 found : (setup : Setup) (answers : Answers) (e : Event) (w : World) (f : Found) → FoundWith w (StandsFor e) f → WorldListed w → WorldListed (happens_at setup answers e w f).1
 found setup answers e w (Missing why) s h = h
 found setup answers e w (Here n c) s h = settles_keeps e n w c (acts setup answers w e n c) s.0 (acts_listed setup answers w e n c s.1 (h.0 n c s.0)) h
-found setup answers e w (Opens n) s h = opened n w s h
+found setup answers e w (Opens n) s h = opened setup n w s h
 
 at_event : (setup : Setup) (answers : Answers) (e : Event) (w : World) → Agrees w → WorldListed w → WorldListed (happens_at setup answers e w (about setup w e)).1
 at_event setup answers e w a h = found setup answers e w (about setup w e) (about_stands setup w e a) h

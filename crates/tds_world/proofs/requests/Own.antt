@@ -10,6 +10,7 @@ use Rattle.tds_session.specs.Session.{SessionState, after_reset}
 use Rattle.tds_token.specs.declared.token.Token.{Token}
 use Rattle.tds_token.specs.declared.token.Token.TheVariants as token
 use Rattle.tds_token.specs.Told.{told}
+use Rattle.tds_token.specs.declared.env_change.EnvChange.{EnvChange}
 use Rattle.tds_world.specs.Connection.{Connection}
 use Rattle.tds_world.specs.Entries.{Up, Part, End, Drop, Down, Step, Acknowledgement, Asking, Packet}
 use Rattle.tds_world.specs.Lawful.{Lawful, TakesNoReset}
@@ -23,7 +24,7 @@ use Rattle.tds_world.proofs.requests.Asking.{EndsAsk}
 abbrev pub waiting_tokens : List Down → List Token
 waiting_tokens [] = []
 waiting_tokens (Step r place s ∷ es) = s.tokens ++ waiting_tokens es
-waiting_tokens (Acknowledgement r place ∷ es) = waiting_tokens es
+waiting_tokens (Acknowledgement r place changes ∷ es) = waiting_tokens es
 
 abbrev pub tokens_left : List Down → List answer.Step → List Token
 tokens_left downs due = waiting_tokens downs ++ flat_map (λ step. step.tokens) due
@@ -52,7 +53,7 @@ waits_more r place s (Step q i t ∷ es) rest =
     append_assoc t.tokens (waiting_tokens (es ++ Step r place s ∷ [])) rest
     ∙ (ap (λ (xs : List Token). t.tokens ++ xs) (waits_more r place s es rest)
     ∙ sym (append_assoc t.tokens (waiting_tokens es) (s.tokens ++ rest)))
-waits_more r place s (Acknowledgement q i ∷ es) rest = waits_more r place s es rest
+waits_more r place s (Acknowledgement q i changes ∷ es) rest = waits_more r place s es rest
 
 pub work_told : (r place : ℕ) (s : answer.Step) (downs : List Down) (ss : List answer.Step) → tokens_left (downs ++ Step r place s ∷ []) ss ≡ tokens_left downs (s ∷ ss)
 work_told r place s downs ss = waits_more r place s downs (flat_map (λ step. step.tokens) ss)
@@ -156,8 +157,8 @@ pub gives_owned : (answers : Answers) (s : SessionState) (q : Record) (r place :
 gives_owned answers s q r place t ups es due f h =
     let both = gives_by answers s q r place t ups es due q.fate refl f h in record { has = both.0; live = both.1 }
 
-pub acknowledged_owned : (answers : Answers) (s : SessionState) (q : Record) (r place : ℕ) (ups : List Up) (es : List Down) (due : List answer.Step) → Owns answers s q ups (Acknowledgement r place ∷ es) due → Owns answers s (acknowledges q) ups es due
-acknowledged_owned answers s q r place ups es due h = record {
+pub acknowledged_owned : (answers : Answers) (s : SessionState) (q : Record) (r place : ℕ) (changes : List EnvChange) (ups : List Up) (es : List Down) (due : List answer.Step) → Owns answers s q ups (Acknowledgement r place changes ∷ es) due → Owns answers s (acknowledges q) ups es due
+acknowledged_owned answers s q r place changes ups es due h = record {
   has = stays_own answers q Acknowledged q.ran refl h.has;
   live = λ c. let z : true ≡ false = c in absurd (cc);
 }

@@ -6,8 +6,9 @@ use Rattle.tds_request.specs.declared.request.Request.{Request}
 use Rattle.tds_session.specs.Answer as answer
 use Rattle.tds_session.specs.Answer.{Answers}
 use Rattle.tds_session.specs.Session.{SessionState}
+use Rattle.tds_token.specs.declared.env_change.EnvChange.{EnvChange}
 use Rattle.tds_world.specs.declared.event.Setup.{Setup}
-use Rattle.tds_world.specs.Arrivals.{server_acts, client_acts, works_on}
+use Rattle.tds_world.specs.Arrivals.{server_acts, client_acts, works_on, stops}
 use Rattle.tds_world.specs.Caller.{cancels_by, sends_by, asks}
 use Rattle.tds_world.specs.Connection.{Connection, joined, phase, is_idle}
 use Rattle.tds_world.specs.Entries.{Up, Part, End, Drop, Attention, Down, Step, Acknowledgement, Asking}
@@ -78,28 +79,28 @@ step_flow Open (Whole n) r a q i s ups es parts due f = elim f [
 ]
 
 -- An acknowledgement that waits is the newest request's.
-acknowledged_number : (fate : Fate) (out : Out) (r a q i : ℕ) (ups : List Up) (es : List Down) (parts : List ℕ) (due : List answer.Step) → FlowIn (phase_by fate out) r a ups (Acknowledgement q i ∷ es) parts due → q ≡ r
-acknowledged_number Finished out r a q i ups es parts due f = absurd (no_more (Acknowledgement q i) es f.1)
-acknowledged_number Acknowledged out r a q i ups es parts due f = absurd (no_more (Acknowledgement q i) es f.1)
-acknowledged_number Cancelled NotBegun r a q i ups es parts due f = absurd (no_more (Acknowledgement q i) es f.1)
-acknowledged_number Cancelled (Begun n) r a q i ups es parts due f = elim f [
-  | inl h ↦ absurd (no_more (Acknowledgement q i) es h.1)
+acknowledged_number : (fate : Fate) (out : Out) (r a q i : ℕ) (changes : List EnvChange) (ups : List Up) (es : List Down) (parts : List ℕ) (due : List answer.Step) → FlowIn (phase_by fate out) r a ups (Acknowledgement q i changes ∷ es) parts due → q ≡ r
+acknowledged_number Finished out r a q i changes ups es parts due f = absurd (no_more (Acknowledgement q i changes) es f.1)
+acknowledged_number Acknowledged out r a q i changes ups es parts due f = absurd (no_more (Acknowledgement q i changes) es f.1)
+acknowledged_number Cancelled NotBegun r a q i changes ups es parts due f = absurd (no_more (Acknowledgement q i changes) es f.1)
+acknowledged_number Cancelled (Begun n) r a q i changes ups es parts due f = elim f [
+  | inl h ↦ absurd (no_more (Acknowledgement q i changes) es h.1)
   | inr k ↦ elim k [
     | inl h ↦ absurd h.2
     | inr h ↦ h.3.0
   ]
 ]
-acknowledged_number Cancelled (Whole n) r a q i ups es parts due f = elim f [
-  | inl h ↦ absurd (no_more (Acknowledgement q i) es h.1)
+acknowledged_number Cancelled (Whole n) r a q i changes ups es parts due f = elim f [
+  | inl h ↦ absurd (no_more (Acknowledgement q i changes) es h.1)
   | inr k ↦ elim k [
     | inl h ↦ absurd h.2
     | inr h ↦ h.3.0
   ]
 ]
-acknowledged_number Open NotBegun r a q i ups es parts due f = absurd (no_more (Acknowledgement q i) es f.1)
-acknowledged_number Open (Begun n) r a q i ups es parts due f = absurd (no_more (Acknowledgement q i) es f.1)
-acknowledged_number Open (Whole n) r a q i ups es parts due f = elim f [
-  | inl h ↦ absurd (no_more (Acknowledgement q i) es h.1)
+acknowledged_number Open NotBegun r a q i changes ups es parts due f = absurd (no_more (Acknowledgement q i changes) es f.1)
+acknowledged_number Open (Begun n) r a q i changes ups es parts due f = absurd (no_more (Acknowledgement q i changes) es f.1)
+acknowledged_number Open (Whole n) r a q i changes ups es parts due f = elim f [
+  | inl h ↦ absurd (no_more (Acknowledgement q i changes) es h.1)
   | inr h ↦ absurd h.3
 ]
 
@@ -132,17 +133,17 @@ due_flow Open (Whole n) r a ups downs parts s ss f = elim f [
 
 -- ---- Deliveries
 
-attention_by : (answers : Answers) (s : SessionState) (q : Record) (a r i : ℕ) (es : List Up) (downs : List Down) (parts : List ℕ) (due : List answer.Step) (can : Bool) → is_cancelled q.fate ≡ can → FlowIn (phase_by q.fate q.out) q.number a (Attention r ∷ es) downs parts due → Owns answers s q (Attention r ∷ es) downs due → Owns answers s q es (downs ++ Acknowledgement r i ∷ []) []
-attention_by answers s q a r i es downs parts due true e f h = record { has = h.has; live = λ c. let z : true ≡ false = sym e ∙ c in absurd (cc) }
-attention_by answers s q a r i es downs parts due false e f h = absurd (no_attention q.fate q.out q.number a r es downs parts due e f)
+attention_by : (answers : Answers) (s t : SessionState) (q : Record) (a r i : ℕ) (changes : List EnvChange) (es : List Up) (downs : List Down) (parts : List ℕ) (due : List answer.Step) (can : Bool) → is_cancelled q.fate ≡ can → FlowIn (phase_by q.fate q.out) q.number a (Attention r ∷ es) downs parts due → Owns answers s q (Attention r ∷ es) downs due → Owns answers t q es (downs ++ Acknowledgement r i changes ∷ []) []
+attention_by answers s t q a r i changes es downs parts due true e f h = record { has = h.has; live = λ c. let z : true ≡ false = sym e ∙ c in absurd (cc) }
+attention_by answers s t q a r i changes es downs parts due false e f h = absurd (no_attention q.fate q.out q.number a r es downs parts due e f)
 
 up_owned : (answers : Answers) (c : Connection) (current : Option Record) (e : Up) (es : List Up) → FlowIn (phase_in current) (number_in current) c.answering (e ∷ es) c.to_client.waiting c.parts c.due → OwnsIn answers c.session current (e ∷ es) c.to_client.waiting c.due
-    → OwnsIn answers c.session current es (server_acts answers c e).to_client.waiting (server_acts answers c e).due
+    → OwnsIn answers (server_acts answers c e).session current es (server_acts answers c e).to_client.waiting (server_acts answers c e).due
 up_owned answers c None e es f h = tt
 up_owned answers c (Some q) (Part r p) es f h = record { has = h.has; live = λ x y. part_owned answers c.session q r p es c.to_client.waiting c.due q.ran (h.live x y) }
 up_owned answers c (Some q) (End r a p) es f h = record { has = h.has; live = λ x y. end_owned answers c.session q r a p es c.to_client.waiting c.due q.ran (h.live x y) }
 up_owned answers c (Some q) (Drop r p) es f h = record { has = h.has; live = λ x y. drop_owned answers c.session q r p es c.to_client.waiting c.due q.ran (h.live x y) }
-up_owned answers c (Some q) (Attention r) es f h = attention_by answers c.session q c.answering r _ es c.to_client.waiting c.parts c.due (is_cancelled q.fate) refl f h
+up_owned answers c (Some q) (Attention r) es f h = attention_by answers c.session (stops c).after q c.answering r _ (stops c).changes es c.to_client.waiting c.parts c.due (is_cancelled q.fate) refl f h
 
 server_owned : (answers : Answers) (c : Connection) (e : Up) (es : List Up) → SoundWith c (e ∷ es) c.to_client.waiting → OwnWith answers c (e ∷ es) c.to_client.waiting → OwnWith answers (server_acts answers (record c { to_server = passed e c.to_server }) e) es (server_acts answers (record c { to_server = passed e c.to_server }) e).to_client.waiting
 server_owned answers c (Part r p) es f h = (h.0, up_owned answers c c.current (Part r p) es f.0 h.1)
@@ -177,21 +178,21 @@ acknowledged_past answers r [] h = tt
 acknowledged_past answers r (q ∷ qs) h =
     (any_change (λ p. HasOwn answers p p.ran) (q.number == r) acknowledges q (stays_own answers q Acknowledged q.ran refl h.0) h.0, acknowledged_past answers r qs h.1)
 
-acknowledged_newest : (answers : Answers) (s : SessionState) (current : Option Record) (a r i : ℕ) (ups : List Up) (es : List Down) (parts : List ℕ) (due : List answer.Step) → FlowIn (phase_in current) (number_in current) a ups (Acknowledgement r i ∷ es) parts due → OwnsIn answers s current ups (Acknowledgement r i ∷ es) due → OwnsIn answers s (option_map (if_numbered r acknowledges) current) ups es due
-acknowledged_newest answers s None a r i ups es parts due f h = tt
-acknowledged_newest answers s (Some q) a r i ups es parts due f h =
+acknowledged_newest : (answers : Answers) (s : SessionState) (current : Option Record) (a r i : ℕ) (changes : List EnvChange) (ups : List Up) (es : List Down) (parts : List ℕ) (due : List answer.Step) → FlowIn (phase_in current) (number_in current) a ups (Acknowledgement r i changes ∷ es) parts due → OwnsIn answers s current ups (Acknowledgement r i changes ∷ es) due → OwnsIn answers s (option_map (if_numbered r acknowledges) current) ups es due
+acknowledged_newest answers s None a r i changes ups es parts due f h = tt
+acknowledged_newest answers s (Some q) a r i changes ups es parts due f h =
     newest_has (λ p. Owns answers s p ups es due) r acknowledges q
-    (acknowledged_number q.fate q.out q.number a r i ups es parts due f)
-    (acknowledged_owned answers s q r i ups es due h)
+    (acknowledged_number q.fate q.out q.number a r i changes ups es parts due f)
+    (acknowledged_owned answers s q r i changes ups es due h)
 
 client_owned : (answers : Answers) (count : ℕ) (c : Connection) (e : Down) (es : List Down) → NumbersOf count (past_of c) (newest_of c) → SoundWith c c.to_server.waiting (e ∷ es) → OwnWith answers c c.to_server.waiting (e ∷ es) → OwnWith answers (client_acts (record c { to_client = passed e c.to_client }) e) c.to_server.waiting es
 client_owned answers count c (Step r i s) es b f h = step_owned answers count c c.current r i s es b f.0 h.0 h.1
-client_owned answers count c (Acknowledgement r i) es b f h =
-    (acknowledged_past answers r c.past h.0, acknowledged_newest answers c.session c.current c.answering r i c.to_server.waiting es c.parts c.due f.0 h.1)
+client_owned answers count c (Acknowledgement r i changes) es b f h =
+    (acknowledged_past answers r c.past h.0, acknowledged_newest answers c.session c.current c.answering r i changes c.to_server.waiting es c.parts c.due f.0 h.1)
 
 client_owned_at : (answers : Answers) (count : ℕ) (c : Connection) (e : Down) (es : List Down) → NumbersOf count (past_of c) (newest_of c) → SoundWith c c.to_server.waiting (e ∷ es) → OwnWith answers c c.to_server.waiting (e ∷ es) → OwnWith answers (client_acts (record c { to_client = passed e c.to_client }) e) (client_acts (record c { to_client = passed e c.to_client }) e).to_server.waiting es
 client_owned_at answers count c (Step r i s) es b f h = client_owned answers count c (Step r i s) es b f h
-client_owned_at answers count c (Acknowledgement r i) es b f h = client_owned answers count c (Acknowledgement r i) es b f h
+client_owned_at answers count c (Acknowledgement r i changes) es b f h = client_owned answers count c (Acknowledgement r i changes) es b f h
 
 -- ---- Work
 

@@ -4,6 +4,7 @@ use Rattle.std.specs.List.{AllByRecursion}
 use Rattle.tds_packet.specs.declared.status.Reset.{Reset}
 use Rattle.tds_session.specs.Answer as answer
 use Rattle.tds_session.specs.Answer.{Answers}
+use Rattle.tds_session.specs.Attention.{stop_by}
 use Rattle.tds_session.specs.Session.{SessionState, IsFresh}
 use Rattle.tds_world.specs.declared.report.Place.TheVariants as place
 use Rattle.tds_world.specs.Arrivals.{server_acts, client_acts, works_on, mark_after}
@@ -15,11 +16,12 @@ use Rattle.tds_world.specs.Phase.{Phase, phase_of, phase_in, is_settled}
 use Rattle.tds_world.specs.Record.{Record, gives, acknowledges, runs, when, if_numbered, ran_in}
 use Rattle.tds_world.specs.World.{World, numbered}
 use Rattle.tds_world.proofs.flow.Arrivals.{same_number, of_changed}
-use Rattle.tds_world.proofs.flow.Busy.{Rests, Answering, busy_down}
+use Rattle.tds_world.proofs.flow.Busy.{Rests, Answering, busy_down, busy_up}
 use Rattle.tds_world.proofs.flow.Flow.{number_in, Sound, SoundWith}
+use Rattle.tds_world.proofs.flow.Stops.{rolls, rolls_nothing}
 use Rattle.tds_world.proofs.requests.Asking.{Unrun, ByRan, Newest, NewestWith}
 use Rattle.tds_world.proofs.requests.Cores.{Core, core_of, past_of, newest_of, all_of, SameCores, client_same, map_cores, gives_core}
-use Rattle.tds_world.proofs.requests.Marks.{NewestOf, not_none}
+use Rattle.tds_world.proofs.requests.Marks.{NewestOf, not_none, none_done}
 use Rattle.tds_world.proofs.requests.Numbers.{NumbersOf}
 use Rattle.tds_world.proofs.requests.OwnTransactions.{answers_newest, works_past}
 use Rattle.tds_world.proofs.requests.Ready.{OfLease, KeptFresh, ready_runs, NoneRan, RanFirst, StartsWell, ReadyFor, ReadyIf, IsOf, Owes, open_lease, cores, IsReadyBy, IsReady}
@@ -126,16 +128,37 @@ pub down_ready : (answers : Answers) (w : World) (c : Connection) (e : Down) (es
 down_ready answers w c (Step r place s) es f z n h =
     step_ready answers w c c.to_server.waiting r place s es (mark_after s.reset c.mark) c.current
     (busy_down (phase c) (number_in c.current) c.answering c.to_server.waiting (Step r place s) es c.parts c.due f.0) z n h
-down_ready answers w c (Acknowledgement r place) es f z n h =
-    same_ready w c (client_acts (record c { to_client = passed (Acknowledgement r place) c.to_client }) (Acknowledgement r place)) (client_same c (Acknowledgement r place)) (ack_eases r c.current) h
+down_ready answers w c (Acknowledgement r place changes) es f z n h =
+    same_ready w c (client_acts (record c { to_client = passed (Acknowledgement r place changes) c.to_client }) (Acknowledgement r place changes)) (client_same c (Acknowledgement r place changes)) (ack_eases r c.current) h
 
 -- ---- An entry arrives at the server
 
-pub up_ready : (answers : Answers) (w : World) (c : Connection) (e : Up) → IsReady w c → IsReady w (server_acts answers (record c { to_server = passed e c.to_server }) e)
-up_ready answers w c (Part r p) h = h
-up_ready answers w c (End r a p) h = h
-up_ready answers w c (Drop r p) h = h
-up_ready answers w c (Attention r) h = h
+-- A transaction is rolled back, so the newest request ran.
+rolls_ran : (answers : Answers) (c : Connection) (ups : List Up) (downs : List Down) (p : Phase) (a : Asking) (o : Option SessionState) → rolls c ≡ true → ByRan answers c ups downs p a o → (x : SessionState) × (o ≡ Some x)
+rolls_ran answers c ups downs p a None y h =
+    let z : true ≡ false = sym y ∙ rolls_nothing c (none_done answers c a h.due) in absurd (cc)
+rolls_ran answers c ups downs p a (Some x) y h = (x, refl)
+
+rolls_ready : (answers : Answers) (w : World) (c : Connection) (ups : List Up) (downs : List Down) (s : SessionState) (o : Option Record) → rolls c ≡ true → is_settled (phase_in o) ≡ false → Rests c.standing (is_settled (phase_in o)) → Newest answers c ups downs o → IsReadyBy w (all_of (past_of c) (option_map core_of o)) c.mark c.session c.standing (open_lease o) → IsReadyBy w (all_of (past_of c) (option_map core_of o)) c.mark s c.standing (open_lease o)
+rolls_ready answers w c ups downs s None y b z n h = absurd (cc)
+rolls_ready answers w c ups downs s (Some q) y b z n h =
+    let ran : (x : SessionState) × (q.ran ≡ Some x) = rolls_ran answers c ups downs (phase_of q) q.asking q.ran y n in
+    let owes : Owes w c.standing (past_of c ++ core_of q ∷ []) c.mark c.session (Some q.lease) =
+    subst (Owes w c.standing (past_of c ++ core_of q ∷ []) c.mark c.session) (lease_open q (is_settled (phase_of q)) b) h.1 in
+    running w c.standing (past_of c ++ core_of q ∷ []) (past_of c) (core_of q) ran.0 c.mark c.mark c.session s (open_lease (Some q)) ran.1
+    (subst (Rests c.standing) b z) (of_lease q.lease (is_settled (phase_of q))) h.0 owes
+
+stop_ready : (answers : Answers) (w : World) (c : Connection) (ups : List Up) (downs : List Down) (b : Bool) → rolls c ≡ b → is_settled (phase c) ≡ false → RestsIdle c → Newest answers c ups downs c.current → IsReady w c → IsReadyBy w (cores c) c.mark (stop_by b c.session).after c.standing (open_lease c.current)
+stop_ready answers w c ups downs false y b z n h = h
+stop_ready answers w c ups downs true y b z n h = rolls_ready answers w c ups downs (stop_by true c.session).after c.current y b z n h
+
+pub up_ready : (answers : Answers) (w : World) (c : Connection) (e : Up) (es : List Up) → SoundWith c (e ∷ es) c.to_client.waiting → RestsIdle c → NewestWith answers c (e ∷ es) c.to_client.waiting → IsReady w c → IsReady w (server_acts answers (record c { to_server = passed e c.to_server }) e)
+up_ready answers w c (Part r p) es f z n h = h
+up_ready answers w c (End r a p) es f z n h = h
+up_ready answers w c (Drop r p) es f z n h = h
+up_ready answers w c (Attention r) es f z n h =
+    stop_ready answers w c (Attention r ∷ es) c.to_client.waiting (rolls c) refl
+    (busy_up (phase c) (number_in c.current) c.answering (Attention r) es c.to_client.waiting c.parts c.due f.0) z n h
 
 -- ---- The server works
 

@@ -41,7 +41,7 @@ down_is_busy c e es f h b =
 
 pub client_rests : (c : Connection) (e : Down) (es : List Down) → SoundWith c c.to_server.waiting (e ∷ es) → RestsIdle c → RestsIdle (client_acts (record c { to_client = passed e c.to_client }) e)
 client_rests c (Step r place s) es f h = down_is_busy c (Step r place s) es f h _
-client_rests c (Acknowledgement r place) es f h = down_is_busy c (Acknowledgement r place) es f h _
+client_rests c (Acknowledgement r place changes) es f h = down_is_busy c (Acknowledgement r place changes) es f h _
 
 drained_rests : (b : Bool) (s : Standing) → Rests s b → Rests (drained b s) b
 drained_rests true (In place.Draining) h = refl

@@ -6,6 +6,8 @@ use Rattle.tds_request.specs.declared.request.Request.{Request}
 use Rattle.tds_session.specs.Answer as answer
 use Rattle.tds_session.specs.Answer.{Answers, reset_step}
 use Rattle.tds_session.specs.Session.{SessionState, after_reset}
+use Rattle.tds_token.specs.declared.env_change.EnvChange.{EnvChange}
+use Rattle.tds_world.specs.Arrivals.{heard_behind}
 use Rattle.tds_world.specs.Entries.{Down, Step, Acknowledgement}
 use Rattle.tds_world.specs.Heard.{Meets}
 use Rattle.tds_world.specs.Lawful.{Lawful, TakesNoReset}
@@ -38,11 +40,14 @@ first_step answers l s descriptor (Some r) q first rest e =
     let tail : rest ≡ answers (after_reset r s) descriptor None q = cc in
     with_reset s r first rest is (subst TakesNoReset (sym tail) (l.only (after_reset r s) descriptor q))
 
--- Where no step waits, the client has heard the server's descriptor.
+-- Where no step and no change waits, the client has heard the server's descriptor.
 pub heard_now : (heard descriptor : ℕ) (downs : List Down) → NoSteps downs → Hears heard downs descriptor → heard ≡ descriptor
 heard_now heard descriptor [] n h = h
 heard_now heard descriptor (Step r place s ∷ es) n h = absurd n
-heard_now heard descriptor (Acknowledgement r place ∷ es) n h = heard_now heard descriptor es n h
+heard_now heard descriptor (Acknowledgement r place changes ∷ es) n h =
+    let stays : Some heard ≡ Some h.0 = ap (λ xs. heard_behind heard xs) (sym n.0) ∙ h.1 in
+    let is : heard ≡ h.0 = cc in
+    is ∙ heard_now h.0 descriptor es n.1 h.2
 
 -- So the header names the transaction that the request runs in.
 pub names_own : (mark : Option Reset) (s : SessionState) (heard : ℕ) → heard ≡ s.descriptor → header_descriptor mark heard ≡ (runs_in mark s).descriptor
@@ -59,35 +64,35 @@ meets_itself (Some r) = refl
 pub first_waits : (mark : Option Reset) (r place : ℕ) (s : answer.Step) (downs : List Down) → s.reset ≡ mark → NoSteps downs → MeetsMark mark (downs ++ Step r place s ∷ [])
 first_waits mark r place s [] e n = (subst (Meets mark) (sym e) (meets_itself mark), tt)
 first_waits mark r place s (Step q i t ∷ es) e n = absurd n
-first_waits mark r place s (Acknowledgement q i ∷ es) e n = first_waits mark r place s es e n
+first_waits mark r place s (Acknowledgement q i changes ∷ es) e n = first_waits mark r place s es e n.1
 
 no_resets_more : (r place : ℕ) (s : answer.Step) (downs : List Down) → s.reset ≡ None → NoResets downs → NoResets (downs ++ Step r place s ∷ [])
 no_resets_more r place s [] e h = (e, tt)
 no_resets_more r place s (Step q i t ∷ es) e h = (h.0, no_resets_more r place s es e h.1)
-no_resets_more r place s (Acknowledgement q i ∷ es) e h = no_resets_more r place s es e h
+no_resets_more r place s (Acknowledgement q i changes ∷ es) e h = no_resets_more r place s es e h
 
 pub next_waits : (mark : Option Reset) (r place : ℕ) (s : answer.Step) (downs : List Down) → s.reset ≡ None → MeetsMark mark downs → MeetsMark mark (downs ++ Step r place s ∷ [])
 next_waits mark r place s [] e h = (subst (Meets mark) (sym e) tt, tt)
 next_waits mark r place s (Step q i t ∷ es) e h = (h.0, no_resets_more r place s es e h.1)
-next_waits mark r place s (Acknowledgement q i ∷ es) e h = next_waits mark r place s es e h
+next_waits mark r place s (Acknowledgement q i changes ∷ es) e h = next_waits mark r place s es e h
 
 -- Without a reset among them, any mark is met.
 pub none_meet : (mark : Option Reset) (downs : List Down) → NoResets downs → MeetsMark mark downs
 none_meet mark [] h = tt
 none_meet mark (Step r place s ∷ es) h = (subst (Meets mark) (sym h.0) tt, h.1)
-none_meet mark (Acknowledgement r place ∷ es) h = none_meet mark es h
+none_meet mark (Acknowledgement r place changes ∷ es) h = none_meet mark es h
 
-pub no_steps_ack : (r place : ℕ) (downs : List Down) → NoSteps downs → NoSteps (downs ++ Acknowledgement r place ∷ [])
-no_steps_ack r place [] h = tt
-no_steps_ack r place (Step q i t ∷ es) h = absurd h
-no_steps_ack r place (Acknowledgement q i ∷ es) h = no_steps_ack r place es h
+pub no_steps_ack : (r place : ℕ) (changes : List EnvChange) (downs : List Down) → changes ≡ [] → NoSteps downs → NoSteps (downs ++ Acknowledgement r place changes ∷ [])
+no_steps_ack r place changes [] e h = (e, tt)
+no_steps_ack r place changes (Step q i t ∷ es) e h = absurd h
+no_steps_ack r place changes (Acknowledgement q i others ∷ es) e h = (h.0, no_steps_ack r place changes es e h.1)
 
-no_resets_ack : (r place : ℕ) (downs : List Down) → NoResets downs → NoResets (downs ++ Acknowledgement r place ∷ [])
-no_resets_ack r place [] h = tt
-no_resets_ack r place (Step q i t ∷ es) h = (h.0, no_resets_ack r place es h.1)
-no_resets_ack r place (Acknowledgement q i ∷ es) h = no_resets_ack r place es h
+no_resets_ack : (r place : ℕ) (changes : List EnvChange) (downs : List Down) → NoResets downs → NoResets (downs ++ Acknowledgement r place changes ∷ [])
+no_resets_ack r place changes [] h = tt
+no_resets_ack r place changes (Step q i t ∷ es) h = (h.0, no_resets_ack r place changes es h.1)
+no_resets_ack r place changes (Acknowledgement q i others ∷ es) h = no_resets_ack r place changes es h
 
-pub meets_ack : (mark : Option Reset) (r place : ℕ) (downs : List Down) → MeetsMark mark downs → MeetsMark mark (downs ++ Acknowledgement r place ∷ [])
-meets_ack mark r place [] h = tt
-meets_ack mark r place (Step q i t ∷ es) h = (h.0, no_resets_ack r place es h.1)
-meets_ack mark r place (Acknowledgement q i ∷ es) h = meets_ack mark r place es h
+pub meets_ack : (mark : Option Reset) (r place : ℕ) (changes : List EnvChange) (downs : List Down) → MeetsMark mark downs → MeetsMark mark (downs ++ Acknowledgement r place changes ∷ [])
+meets_ack mark r place changes [] h = tt
+meets_ack mark r place changes (Step q i t ∷ es) h = (h.0, no_resets_ack r place changes es h.1)
+meets_ack mark r place changes (Acknowledgement q i others ∷ es) h = meets_ack mark r place changes es h

@@ -127,7 +127,7 @@ client_leaves_by None e c i b h = absurd (cc)
 client_leaves_by (Some p) (Step q n s) c i b h =
     subst (λ o. is_sending (phase_in (option_map (if_numbered q (gives s)) o)) ≡ false) (sym i)
     (of_either (λ x. is_sending (phase_of x) ≡ false) (eqb p.number q) (gives s) p (step_leaves p.fate s.last p.out b h) h)
-client_leaves_by (Some p) (Acknowledgement q n) c i b h =
+client_leaves_by (Some p) (Acknowledgement q n changes) c i b h =
     subst (λ o. is_sending (phase_in (option_map (if_numbered q acknowledges) o)) ≡ false) (sym i)
     (of_either (λ x. is_sending (phase_of x) ≡ false) (eqb p.number q) acknowledges p refl h)
 
@@ -138,7 +138,7 @@ client_leaves c e es f h =
 
 client_due : (c : Connection) (e : Down) → (client_acts c e).due ≡ c.due
 client_due c (Step r place s) = refl
-client_due c (Acknowledgement r place) = refl
+client_due c (Acknowledgement r place changes) = refl
 
 reach_client_leaves : (c : Connection) (es : List Down) (k : ℕ) → SoundWith c c.to_server.waiting es → is_sending (phase c) ≡ false → (is_sending (phase (reach_client c es k)) ≡ false) × ((reach_client c es k).due ≡ c.due)
 reach_client_leaves c [] k f h = (h, refl)

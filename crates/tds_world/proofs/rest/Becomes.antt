@@ -2,6 +2,7 @@
 use Rattle.std.proofs.Common.{◌≡◌, ℕ, zero, suc, List, [], ◌∷◌, ◌+◌, ◌-◌, length, drop, ltb, min, eqb, inl, inr, Bool, true, false, refl, sym, ap, subst, ◌∙◌, Option, Some, None, option_map}
 use Rattle.tds_session.specs.Answer as answer
 use Rattle.tds_session.specs.Answer.{Answers}
+use Rattle.tds_token.specs.declared.env_change.EnvChange.{EnvChange}
 use Rattle.tds_world.specs.declared.event.Setup.{Setup}
 use Rattle.tds_world.specs.Arrivals.{client_acts, reach_client, to_server, to_client, works, works_on}
 use Rattle.tds_world.specs.Caller.{sends_by, sends_last}
@@ -71,15 +72,15 @@ all_works_follow zero c = follows_same c.current
 all_works_follow (suc k) c = follows_then c.current (works c).current (times k works (works c)).current (works_follow c c.due) (all_works_follow k (works c))
 
 -- Only a cancelled request is acknowledged.
-asked_for : (p : Phase) (r a q i : ℕ) (ups : List Up) (es : List Down) (parts : List ℕ) (due : List answer.Step) → FlowIn p r a ups (Acknowledgement q i ∷ es) parts due → p ≡ Cancelling
-asked_for Settled r a q i ups es parts due f = let z : Acknowledgement q i ∷ es ≡ [] = f.1 in absurd (cc)
-asked_for Asked r a q i ups es parts due f = let z : Acknowledgement q i ∷ es ≡ [] = f.1 in absurd (cc)
-asked_for Sending r a q i ups es parts due f = let z : Acknowledgement q i ∷ es ≡ [] = f.1 in absurd (cc)
-asked_for Reading r a q i ups es parts due f = elim f [
-  | inl h ↦ let z : Acknowledgement q i ∷ es ≡ [] = h.1 in absurd (cc)
+asked_for : (p : Phase) (r a q i : ℕ) (changes : List EnvChange) (ups : List Up) (es : List Down) (parts : List ℕ) (due : List answer.Step) → FlowIn p r a ups (Acknowledgement q i changes ∷ es) parts due → p ≡ Cancelling
+asked_for Settled r a q i changes ups es parts due f = let z : Acknowledgement q i changes ∷ es ≡ [] = f.1 in absurd (cc)
+asked_for Asked r a q i changes ups es parts due f = let z : Acknowledgement q i changes ∷ es ≡ [] = f.1 in absurd (cc)
+asked_for Sending r a q i changes ups es parts due f = let z : Acknowledgement q i changes ∷ es ≡ [] = f.1 in absurd (cc)
+asked_for Reading r a q i changes ups es parts due f = elim f [
+  | inl h ↦ let z : Acknowledgement q i changes ∷ es ≡ [] = h.1 in absurd (cc)
   | inr h ↦ absurd h.3
 ]
-asked_for Cancelling r a q i ups es parts due f = refl
+asked_for Cancelling r a q i changes ups es parts due f = refl
 
 abbrev IsStopped : Fate → Out → Type 0
 IsStopped fate out = (is_cancelled fate ≡ true) × (is_begun out ≡ true)
@@ -96,9 +97,9 @@ cancelling Acknowledged out e = absurd (cc)
 
 client_follows : (c : Connection) (e : Down) (es : List Down) → SoundWith c c.to_server.waiting (e ∷ es) → Follows c.current (client_acts (record c { to_client = passed e c.to_client }) e).current
 client_follows c (Step r i s) es f = changed_follows c.current r (gives s) (λ q e. record { number = refl; cancelled = step_cancels_none s.last q.fate; begun = λ b. b })
-client_follows c (Acknowledgement r i) es f =
+client_follows c (Acknowledgement r i changes) es f =
     changed_follows c.current r acknowledges (λ q e.
-    let now : phase_of q ≡ Cancelling = ap phase_in (sym e) ∙ asked_for (phase c) (number_in c.current) c.answering r i c.to_server.waiting es c.parts c.due f.0 in
+    let now : phase_of q ≡ Cancelling = ap phase_in (sym e) ∙ asked_for (phase c) (number_in c.current) c.answering r i changes c.to_server.waiting es c.parts c.due f.0 in
     record { number = refl; cancelled = sym (cancelling q.fate q.out now).0; begun = λ b. b })
 
 reach_client_follows : (c : Connection) (es : List Down) (k : ℕ) → SoundWith c c.to_server.waiting es → Follows c.current (reach_client c es k).current

@@ -268,16 +268,16 @@ acted_hold : (setup : Setup) (w : World) (e : Event) (n : ℕ) (old : Connection
 acted_hold setup w e n old (Refuses why) f i s h = h
 acted_hold setup w e n old (Does what d) f i s h = did_hold setup w e n old d what f i s h
 
-opened_hold : (w : World) (n : ℕ) → n ≡ next_number w.connections → AllHeld w → AllHeld (settles event.Lease n w (opens (next_number w.leases) n)).1
-opened_hold w n e h =
-    let d : Connection = new_connection (place.Leased (next_number w.leases)) in
+opened_hold : (setup : Setup) (w : World) (n : ℕ) → n ≡ next_number w.connections → AllHeld w → AllHeld (settles event.Lease n w (opens setup.on_attention (next_number w.leases) n)).1
+opened_hold setup w n e h =
+    let d : Connection = new_connection setup.on_attention (place.Leased (next_number w.leases)) in
     held_then w (w.leases ++ holding n 0 None ∷ []) n d (let z : suc (length w.connections) ≤ suc (length w.connections) = omega arith in subst (λ i. i ≤ suc (length w.connections)) (sym e) z)
     (newest_held w.leases (holding n 0 None) n d.standing refl refl refl) (more_stay w.leases (holding n 0 None) n) h
 
 found_hold : (setup : Setup) (answers : Answers) (e : Event) (w : World) (f : Found) → about setup w e ≡ f → FoundWith w (StandsFor e) f → AllHeld w → AllHeld (happens_at setup answers e w f).1
 found_hold setup answers e w (Missing why) i g h = h
 found_hold setup answers e w (Here n c) i g h = acted_hold setup w e n c (acts setup answers w e n c) i g.0 (stood_for setup answers w e n c) h
-found_hold setup answers e w (Opens n) i g h = opened_hold w n g h
+found_hold setup answers e w (Opens n) i g h = opened_hold setup w n g h
 
 at_event : (setup : Setup) (answers : Answers) (e : Event) (w : World) → Agrees w → AllHeld w → AllHeld (happens_at setup answers e w (about setup w e)).1
 at_event setup answers e w a h = found_hold setup answers e w (about setup w e) refl (about_stands setup w e a) h

@@ -94,7 +94,7 @@ server_same answers c (Attention r) = refl
 
 client_same : (c : Connection) (e : Down) → (client_acts c e).standing ≡ c.standing
 client_same c (Step r place s) = refl
-client_same c (Acknowledgement r place) = refl
+client_same c (Acknowledgement r place changes) = refl
 
 of_either : (P : Record → Type 0) (b : Bool) (f : Record → Record) (q : Record) → P (f q) → P q → P (when b f q)
 of_either P true f q g h = g
@@ -105,7 +105,7 @@ client_stops_by None e c i b h = absurd (cc)
 client_stops_by (Some p) (Step q n s) c i b h =
     subst (λ o. is_stopped (phase_in (option_map (if_numbered q (gives s)) o)) ≡ true) (sym i)
     (of_either (λ x. is_stopped (phase_of x) ≡ true) (eqb p.number q) (gives s) p (step_stops p.fate s.last p.out b h) h)
-client_stops_by (Some p) (Acknowledgement q n) c i b h =
+client_stops_by (Some p) (Acknowledgement q n changes) c i b h =
     subst (λ o. is_stopped (phase_in (option_map (if_numbered q acknowledges) o)) ≡ true) (sym i)
     (of_either (λ x. is_stopped (phase_of x) ≡ true) (eqb p.number q) acknowledges p refl h)
 

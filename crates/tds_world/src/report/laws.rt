@@ -2,8 +2,9 @@
 //! holds of the report of the model, `observed`, whatever the events.
 ghost use Rattle.std.specs.Prelude.{List};
 ghost use Rattle.tds_session.specs.Answer.{Answers};
+ghost use Rattle.tds_session.specs.declared.attention.OnAttention.{OnAttention};
 ghost use Rattle.tds_world.specs.Alone.{BlindToNumbers};
-ghost use Rattle.tds_world.specs.AloneShown.{ShowsAsIfAlone, StepsDone, steps_in};
+ghost use Rattle.tds_world.specs.AloneShown.{ShowsAsIfAlone, HowFar, far_in};
 ghost use Rattle.tds_world.specs.Bounds.{IsEvent, IsSetup};
 ghost use Rattle.tds_world.specs.Descriptors.{AreFewEvents, UseFewDescriptors};
 ghost use Rattle.tds_world.specs.Events.{world_after};
@@ -92,16 +93,17 @@ pub fn never_stuck()
 pub fn as_if_alone()
     ensures { (setup : Setup) (answers : Answers) → Lawful answers → BlindToNumbers answers
         → UseFewDescriptors answers → (events : List Event) → AreFewEvents events
-        → ShowsAsIfAlone answers (steps_in (world_after setup answers events new_world)) events
-        (observed setup answers events) }
+        → ShowsAsIfAlone setup.on_attention answers
+        (far_in (world_after setup answers events new_world)) events (observed setup answers events) }
 {}
 
 /// Two reports that show each lease to be told what it would be told alone, as those of any two plays
 /// do: a lease of each, both resumed or neither, is given the same as far as both go, as long as they
 /// asked the same requests and as many steps were done of each.
 pub fn given_alike()
-    ensures { (answers : Answers) (done done_there : StepsDone) (events events_there : List Event)
-        (r there : Report) → ShowsAsIfAlone answers done events r
-        → ShowsAsIfAlone answers done_there events_there there
-        → ShowGivenAlike done events r done_there events_there there }
+    ensures { (attention attention_there : OnAttention) (answers : Answers)
+        (far far_there : HowFar) (events events_there : List Event) (r there : Report)
+        → ShowsAsIfAlone attention answers far events r
+        → ShowsAsIfAlone attention_there answers far_there events_there there
+        → ShowGivenAlike far events r far_there events_there there }
 {}

@@ -5,7 +5,7 @@ ghost use Rattle.std.specs.Prelude.{◌≡◌, ◌++◌, List};
 ghost use Rattle.std.specs.List.{AllByRecursion};
 ghost use Rattle.tds_session.specs.Answer.{Answers};
 ghost use Rattle.tds_world.specs.Alone.{BlindToNumbers};
-ghost use Rattle.tds_world.specs.AloneShown.{ShowsAsIfAlone, steps_in};
+ghost use Rattle.tds_world.specs.AloneShown.{ShowsAsIfAlone, far_in};
 ghost use Rattle.tds_world.specs.Bounds.{IsEvent, IsSetup};
 ghost use Rattle.tds_world.specs.Descriptors.{AreFewEvents, UseFewDescriptors};
 ghost use Rattle.tds_world.specs.Events.{world_after};
@@ -89,8 +89,8 @@ pub fn lends_idle()
 pub fn as_if_alone()
     ensures { (setup : Setup) (answers : Answers) → Lawful answers → BlindToNumbers answers
         → UseFewDescriptors answers → (ps : List Played) → AreFewEvents (events_of ps)
-        → ShowsAsIfAlone answers (steps_in (world_with setup answers ps new_world)) (events_of ps)
-        (observed_with setup answers ps) }
+        → ShowsAsIfAlone setup.on_attention answers
+        (far_in (world_with setup answers ps new_world)) (events_of ps) (observed_with setup answers ps) }
 {}
 
 /// All this of a report that is the model's of some events, with the losses that it marks itself.
@@ -124,8 +124,8 @@ pub fn of_marked_report()
     ensures told_alone { (setup : Setup) (answers : Answers) (events : List Event) (r : Report)
         → Lawful answers → BlindToNumbers answers → UseFewDescriptors answers
         → AreFewEvents events → IsReportWith setup answers events r
-        → ShowsAsIfAlone answers
-        (steps_in (world_with setup answers (marked events r.events) new_world)) events r }
+        → ShowsAsIfAlone setup.on_attention answers
+        (far_in (world_with setup answers (marked events r.events) new_world)) events r }
     ensures whole { (setup : Setup) (answers : Answers) (events : List Event) (r : Report)
         → IsReportWith setup answers events r → MarksNothing r
         → r ≡ observed setup answers events }

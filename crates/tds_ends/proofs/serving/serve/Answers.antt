@@ -84,7 +84,7 @@ packets-preserved g c =
       reads = ap (λ r. r.direction) gone ∙ ap (λ r. r.direction) c.in-Ok.ensures.taken ∙ c.packets.invariant.reads;
       size = ap (λ r. r.size) gone ∙ ap (λ r. r.size) c.in-Ok.ensures.taken ∙ c.packets.invariant.size;
       engine = c.take.ensures.engine ∙ c.packets.invariant.engine;
-      session = c.take.ensures.session ∙ c.packets.invariant.session;
+      on_attention = c.take.ensures.on_attention ∙ c.packets.invariant.on_attention;
       within = search rules;
       so_far = goes_on _ _ c.feed.new.self c.done.new.self c.args.piece.now _ _ _ _ _ _ _ _ _ c.in-Ok-take.took so.packets fed so.took lent gone (sym c.in-Ok-take.is ∙ rw answers at took) (rw answers at state) (rw answers at reply);
     }

@@ -9,7 +9,7 @@ invariant-packets g l = record {
   reads : l.reader.direction ≡ ToServer;
   size : l.reader.size ≡ l.fn.reader.size;
   engine : l.server.engine ≡ l.fn.server.engine;
-  session : l.server.session ≡ l.fn.server.session;
+  on_attention : l.server.on_attention ≡ l.fn.server.on_attention;
   within : l.count ≤ length l.piece;
   so_far : Serving (answer_of (g.E.Engine.statements_of l.fn.server.engine) (g.E.Engine.step_of l.fn.server.engine))
       l.fn.reader l.reader l.piece l.count l.fn.server l.server l.fn.reply.items l.reply.items;

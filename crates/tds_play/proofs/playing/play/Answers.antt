@@ -3,7 +3,7 @@ use Rattle.std.proofs.lemmas.Result.{IfOk-weaker}
 use Rattle.std.specs.List.{AllByRecursion}
 use Rattle.tds_session.specs.Answer.{script_answers}
 use Rattle.tds_world.specs.Alone.{AsIfAlone}
-use Rattle.tds_world.specs.AloneShown.{ShowsAsIfAlone, steps_in}
+use Rattle.tds_world.specs.AloneShown.{ShowsAsIfAlone, far_in}
 use Rattle.tds_world.specs.declared.event.Event.{Event}
 use Rattle.tds_world.specs.Bounds.{BeginsOnce, IsEvent, OneAttention}
 use Rattle.tds_world.specs.Descriptors.{AreFewEvents}
@@ -126,7 +126,7 @@ returns-clause-never_stuck g c = λ tells.
 pub returns-clause-as_if_alone : goal.returns-clause-as_if_alone
 returns-clause-as_if_alone g c = λ tells.
     IfOk-weaker c.play_with.result (λ report. IsPlayOf c.args.setup.now script_answers c.args.events.now report (g.C.Carrier.pipes c.play_with.new.carrier))
-    (λ report. AsIfAlone script_answers (world_of c.args.setup.now c.args.events.now report.events))
+    (λ report. AsIfAlone c.args.setup.now.on_attention script_answers (world_of c.args.setup.now c.args.events.now report.events))
     (λ report is. c.as_if_alone.ensures c.args.setup.now script_answers c.script_is_lawful.ensures c.script_is_blind.ensures c.script_uses_few.ensures (marked c.args.events.now report.events)
     (subst AreFewEvents (sym (c.marks_of_a_report.ensures.events c.args.events.now report.events)) (few_events is.known is.few)))
     (c.play_with.ensures.alike tells)
@@ -141,6 +141,6 @@ returns-clause-comes_to_rest g c = λ tells.
 pub returns-clause-told_alone : goal.returns-clause-told_alone
 returns-clause-told_alone g c = λ tells.
     IfOk-weaker c.play_with.result (λ report. IsPlayOf c.args.setup.now script_answers c.args.events.now report (g.C.Carrier.pipes c.play_with.new.carrier))
-    (λ report. ShowsAsIfAlone script_answers (steps_in (world_of c.args.setup.now c.args.events.now report.events)) c.args.events.now report)
+    (λ report. ShowsAsIfAlone c.args.setup.now.on_attention script_answers (far_in (world_of c.args.setup.now c.args.events.now report.events)) c.args.events.now report)
     (λ report is. c.of_marked_report.ensures.told_alone c.args.setup.now script_answers c.args.events.now report c.script_is_lawful.ensures c.script_is_blind.ensures c.script_uses_few.ensures (few_events is.known is.few) is.told)
     (c.play_with.ensures.alike tells)

@@ -16,8 +16,8 @@ use Rattle.tds_play.proofs.playing.play_with.Goals as goal
 
 -- A player before any event.
 begins : {E S : Type 0} (setup : Setup) (player : Player E S) (pipes : ℕ → Option Pipe) → player.links.items ≡ [] → player.leases ≡ [] → player.tickets ≡ []
-    → player.asked_on.items ≡ [] → player.max ≡ setup.max → player.size ≡ setup.packet_size → IsPlay setup player.engine player pipes new_world
-begins {E} {S} setup player pipes links leases tickets asked max size = record {
+    → player.asked_on.items ≡ [] → player.max ≡ setup.max → player.size ≡ setup.packet_size → player.on_attention ≡ setup.on_attention → IsPlay setup player.engine player pipes new_world
+begins {E} {S} setup player pipes links leases tickets asked max size told = record {
   connections = subst (λ (ls : List (Seated E S)). ArePlayed 1 setup.packet_size player.engine ls pipes []) (sym links) tt;
   leases = leases;
   tickets = tickets;
@@ -25,6 +25,7 @@ begins {E} {S} setup player pipes links leases tickets asked max size = record {
   engine_is = refl;
   max = max;
   size = size;
+  told = told;
 }
 
 pub returns-in-Ok-clause-alike : goal.returns-in-Ok-clause-alike
@@ -33,7 +34,7 @@ returns-in-Ok-clause-alike g c = λ tells.
     subst (λ engine. IfOk c.play_events.result (λ report. IsPlayOf c.args.setup.now (answer_of (g.E.Engine.statements_of engine) (g.E.Engine.step_of engine)) c.args.events.now report (g.C.Carrier.pipes c.play_events.new.carrier)))
     new.engine
     (c.play_events.ensures.alike c.args.setup.now c.in-Ok.ensures.setup tells
-    (begins c.args.setup.now c.new-player.result (g.C.Carrier.pipes c.args.carrier.now) new.links new.leases new.tickets new.asked new.max (new.size ∙ c.in-Ok.ensures.size)))
+    (begins c.args.setup.now c.new-player.result (g.C.Carrier.pipes c.args.carrier.now) new.links new.leases new.tickets new.asked new.max (new.size ∙ c.in-Ok.ensures.size) new.told))
 
 pub returns-in-Ok-clause-lost : goal.returns-in-Ok-clause-lost
 returns-in-Ok-clause-lost g c = λ tells.
@@ -41,13 +42,13 @@ returns-in-Ok-clause-lost g c = λ tells.
     subst (λ engine. IfOk c.play_events.result (λ report. TellFailures c.args.setup.now (answer_of (g.E.Engine.statements_of engine) (g.E.Engine.step_of engine)) (marked c.args.events.now report.events) (g.C.Carrier.pipes c.play_events.new.carrier)))
     new.engine
     (c.play_events.ensures.lost c.args.setup.now c.in-Ok.ensures.setup tells
-    (begins c.args.setup.now c.new-player.result (g.C.Carrier.pipes c.args.carrier.now) new.links new.leases new.tickets new.asked new.max (new.size ∙ c.in-Ok.ensures.size)))
+    (begins c.args.setup.now c.new-player.result (g.C.Carrier.pipes c.args.carrier.now) new.links new.leases new.tickets new.asked new.max (new.size ∙ c.in-Ok.ensures.size) new.told))
 
 pub returns-in-Ok-clause-unfailing : goal.returns-in-Ok-clause-unfailing
 returns-in-Ok-clause-unfailing g c = λ tells fine.
     let new = c.new-player.ensures in
     c.play_events.ensures.unfailing c.args.setup.now c.in-Ok.ensures.setup tells
-    (begins c.args.setup.now c.new-player.result (g.C.Carrier.pipes c.args.carrier.now) new.links new.leases new.tickets new.asked new.max (new.size ∙ c.in-Ok.ensures.size))
+    (begins c.args.setup.now c.new-player.result (g.C.Carrier.pipes c.args.carrier.now) new.links new.leases new.tickets new.asked new.max (new.size ∙ c.in-Ok.ensures.size) new.told)
     fine
 
 pub returns-in-Ok-clause-reads : goal.returns-in-Ok-clause-reads

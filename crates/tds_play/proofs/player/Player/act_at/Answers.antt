@@ -46,6 +46,7 @@ returns-in_ok-note-clause-alike g c = λ setup engine w c' tells is promised fou
     (ap (λ (p : Player g.row.E.Denot g.row.E-Stmt.Denot). p.engine) c.in_ok-note.ensures.rest)
     (ap (λ (p : Player g.row.E.Denot g.row.E-Stmt.Denot). p.max) c.in_ok-note.ensures.rest)
     (ap (λ (p : Player g.row.E.Denot g.row.E-Stmt.Denot). p.size) c.in_ok-note.ensures.rest)
+    (ap (λ (p : Player g.row.E.Denot g.row.E-Stmt.Denot). p.on_attention) c.in_ok-note.ensures.rest)
     c.in_ok-note.ensures.leases c.in_ok-note.ensures.tickets c.in_ok-note.ensures.asked
     (elim c.match-matches.branch [
       | in-Refused v ↦ absurd (cc)
