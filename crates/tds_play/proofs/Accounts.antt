@@ -10,6 +10,7 @@ use Rattle.tds_world.specs.WithLosses.{LosesNothing}
 use Rattle.tds_world.specs.World.{World, new_world}
 use Rattle.tds_play.specs.declared.link.Done.{Done}
 use Rattle.tds_play.specs.declared.link.Link.{Link}
+use Rattle.tds_play.specs.declared.seat.Seated.{Seated}
 use Rattle.tds_play.specs.Failures.{Call, Open, AccountFor, Fails, FailsAs, FailsNoMore, FailsOn, HasFailed, HasNoFailure, IsFailureOf, LiveAreSound, TellFailures, UseLinks, UsesLink, all_known, calls_of, failures, known_at, lost_by, lost_on}
 use Rattle.tds_play.specs.Pipe.{Pipe, AreSame}
 use Rattle.tds_play.specs.Ties.{AreTied}
@@ -47,16 +48,16 @@ same_no_more before after same = λ call. ap (λ p. failures p call) same
 
 -- ---- Connections that aren't cut
 
-pub sound_set : {E S : Type 0} (links : List (Link E S)) (place : ℕ) (new : Link E S) (pipes pipes' : ℕ → Option Pipe) → LiveAreSound links pipes → place < length links
-    → ((j : ℕ) → j ≢ place → FailsNoMore (pipes (suc j)) (pipes' (suc j))) → (new.is_cut ≡ false → HasNoFailure (pipes' (suc place))) → LiveAreSound (set links place new) pipes'
+pub sound_set : {E S : Type 0} (links : List (Seated E S)) (place : ℕ) (new : Seated E S) (pipes pipes' : ℕ → Option Pipe) → LiveAreSound links pipes → place < length links
+    → ((j : ℕ) → j ≢ place → FailsNoMore (pipes (suc j)) (pipes' (suc j))) → (new.link.is_cut ≡ false → HasNoFailure (pipes' (suc place))) → LiveAreSound (set links place new) pipes'
 sound_set {E} {S} links place new pipes pipes' sound there others here =
-    set_each (λ j (l : Link E S). l.is_cut ≡ false → HasNoFailure (pipes' (suc j))) links place new
+    set_each (λ j (l : Seated E S). l.link.is_cut ≡ false → HasNoFailure (pipes' (suc j))) links place new
     (λ j d other less live. fails_no_more [] false (pipes (suc j)) (pipes' (suc j)) (others j other) (sound j d less live)) there here
 
-pub sound_push : {E S : Type 0} (links : List (Link E S)) (new : Link E S) (pipes pipes' : ℕ → Option Pipe) → LiveAreSound links pipes
-    → AreSame pipes pipes' (suc (length links)) → (new.is_cut ≡ false → HasNoFailure (pipes' (suc (length links)))) → LiveAreSound (links ++ new ∷ []) pipes'
+pub sound_push : {E S : Type 0} (links : List (Seated E S)) (new : Seated E S) (pipes pipes' : ℕ → Option Pipe) → LiveAreSound links pipes
+    → AreSame pipes pipes' (suc (length links)) → (new.link.is_cut ≡ false → HasNoFailure (pipes' (suc (length links)))) → LiveAreSound (links ++ new ∷ []) pipes'
 sound_push {E} {S} links new pipes pipes' sound same here =
-    push_each (λ j (l : Link E S). l.is_cut ≡ false → HasNoFailure (pipes' (suc j))) links new
+    push_each (λ j (l : Seated E S). l.link.is_cut ≡ false → HasNoFailure (pipes' (suc j))) links new
     (λ j d less live. subst HasNoFailure (sym (same (suc j) (λ z. absurd (omega (arith, z, less))))) (sound j d less live)) here
 
 -- ---- An event on one connection
@@ -254,37 +255,37 @@ known_fine (suc count) (suc place) p fine = known_fine count place p fine
 
 -- ---- An event on the connection at a place
 
-there_number : {E S : Type 0} (links : List (Link E S)) (place : ℕ) (link : Link E S) (pipes : ℕ → Option Pipe) → AreTied links pipes → place < length links → link ≡ get_or links place link → link.number ≡ suc place
-there_number {E} {S} links place link pipes tied there is = ap (λ (l : Link E S). l.number) is ∙ tied.numbered place link there
+there_number : {E S : Type 0} (links : List (Seated E S)) (place : ℕ) (x : Seated E S) (pipes : ℕ → Option Pipe) → AreTied links pipes → place < length links → x ≡ get_or links place x → x.link.number ≡ suc place
+there_number {E} {S} links place x pipes tied there is = ap (λ (l : Seated E S). l.link.number) is ∙ tied.numbered place x there
 
-there_sound : {E S : Type 0} (links : List (Link E S)) (place : ℕ) (link : Link E S) (pipes : ℕ → Option Pipe) → LiveAreSound links pipes → place < length links → link ≡ get_or links place link → link.is_cut ≡ false → HasNoFailure (pipes (suc place))
-there_sound {E} {S} links place link pipes sound there is live = sound place link there (sym (ap (λ (l : Link E S). l.is_cut) is) ∙ live)
+there_sound : {E S : Type 0} (links : List (Seated E S)) (place : ℕ) (x : Seated E S) (pipes : ℕ → Option Pipe) → LiveAreSound links pipes → place < length links → x ≡ get_or links place x → x.link.is_cut ≡ false → HasNoFailure (pipes (suc place))
+there_sound {E} {S} links place x pipes sound there is live = sound place x there (sym (ap (λ (l : Seated E S). l.link.is_cut) is) ∙ live)
 
 fails_there : {E S : Type 0} (n m : ℕ) (calls : List Call) (done : Done) (new : Link E S) (pipes pipes' : ℕ → Option Pipe) → n ≡ m
     → (HasNoFailure (pipes n) → FailsAs calls done new (pipes' n)) → HasNoFailure (pipes m) → FailsAs calls done new (pipes' m)
 fails_there {E} {S} n m calls done new pipes pipes' is fails = subst (λ (k : ℕ). HasNoFailure (pipes k) → FailsAs calls done new (pipes' k)) is fails
 
-pub acted_sound : {E S : Type 0} (links : List (Link E S)) (place : ℕ) (link new : Link E S) (pipes pipes' : ℕ → Option Pipe) (calls : List Call) (done : Done)
-    → AreTied links pipes → place < length links → link ≡ get_or links place link → AreSame pipes pipes' link.number
-    → (HasNoFailure (pipes link.number) → FailsAs calls done new (pipes' link.number)) → (link.is_cut ≡ true → new ≡ link)
-    → LiveAreSound links pipes → LiveAreSound (set links place new) pipes'
-acted_sound {E} {S} links place link new pipes pipes' calls done tied there is same fails gone sound =
-    let number : link.number ≡ suc place = there_number links place link pipes tied there is in
-    sound_set links place new pipes pipes' sound there
+pub acted_sound : {E S : Type 0} (links : List (Seated E S)) (place : ℕ) (x y : Seated E S) (pipes pipes' : ℕ → Option Pipe) (calls : List Call) (done : Done)
+    → AreTied links pipes → place < length links → x ≡ get_or links place x → AreSame pipes pipes' x.link.number
+    → (HasNoFailure (pipes x.link.number) → FailsAs calls done y.link (pipes' x.link.number)) → (x.link.is_cut ≡ true → y.link ≡ x.link)
+    → LiveAreSound links pipes → LiveAreSound (set links place y) pipes'
+acted_sound {E} {S} links place x y pipes pipes' calls done tied there is same fails gone sound =
+    let number : x.link.number ≡ suc place = there_number links place x pipes tied there is in
+    sound_set links place y pipes pipes' sound there
     (λ j other. same_no_more (pipes (suc j)) (pipes' (suc j)) (same (suc j) (λ z. other (omega (arith, z, number)))))
-    (act_sound calls done link new (pipes (suc place)) (pipes' (suc place)) link.is_cut refl (there_sound links place link pipes sound there is)
-    (fails_there link.number (suc place) calls done new pipes pipes' number fails) gone)
+    (act_sound calls done x.link y.link (pipes (suc place)) (pipes' (suc place)) x.link.is_cut refl (there_sound links place x pipes sound there is)
+    (fails_there x.link.number (suc place) calls done y.link pipes pipes' number fails) gone)
 
-pub acted_lost : {E S : Type 0} (links : List (Link E S)) (place count : ℕ) (link new : Link E S) (pipes pipes' : ℕ → Option Pipe) (e : Event) (done : Done) (at : Option ℕ)
-    → AreTied links pipes → place < length links → link ≡ get_or links place link → AreSame pipes pipes' link.number
-    → (HasNoFailure (pipes link.number) → FailsAs (calls_of e) done new (pipes' link.number))
-    → (link.is_cut ≡ true → (pipes' ≡ pipes) × (done.lost ≡ false)) → (done.lost ≡ true → at ≡ Some (suc place)) → count ≡ length links
+pub acted_lost : {E S : Type 0} (links : List (Seated E S)) (place count : ℕ) (x y : Seated E S) (pipes pipes' : ℕ → Option Pipe) (e : Event) (done : Done) (at : Option ℕ)
+    → AreTied links pipes → place < length links → x ≡ get_or links place x → AreSame pipes pipes' x.link.number
+    → (HasNoFailure (pipes x.link.number) → FailsAs (calls_of e) done y.link (pipes' x.link.number))
+    → (x.link.is_cut ≡ true → (pipes' ≡ pipes) × (done.lost ≡ false)) → (done.lost ≡ true → at ≡ Some (suc place)) → count ≡ length links
     → LiveAreSound links pipes → FailsOn e done.lost at (all_known (length links) pipes) (all_known count pipes')
-acted_lost {E} {S} links place count link new pipes pipes' e done at tied there is same fails gone uses many sound =
-    let number : link.number ≡ suc place = there_number links place link pipes tied there is in
+acted_lost {E} {S} links place count x y pipes pipes' e done at tied there is same fails gone uses many sound =
+    let number : x.link.number ≡ suc place = there_number links place x pipes tied there is in
     subst (λ (k : ℕ). FailsOn e done.lost at (all_known (length links) pipes) (all_known k pipes')) (sym many)
-    (act_lost e done at (length links) place link new pipes pipes' link.is_cut refl there (subst (AreSame pipes pipes') number same)
-    (there_sound links place link pipes sound there is) (fails_there link.number (suc place) (calls_of e) done new pipes pipes' number fails) gone uses)
+    (act_lost e done at (length links) place x.link y.link pipes pipes' x.link.is_cut refl there (subst (AreSame pipes pipes') number same)
+    (there_sound links place x pipes sound there is) (fails_there x.link.number (suc place) (calls_of e) done y.link pipes pipes' number fails) gone uses)
 
 -- One connection fails no more, and nothing changes on the others.
 pub all_no_more : (conn : ℕ) (pipes pipes' : ℕ → Option Pipe) → AreSame pipes pipes' conn → FailsNoMore (pipes conn) (pipes' conn) → (n : ℕ) → FailsNoMore (pipes n) (pipes' n)

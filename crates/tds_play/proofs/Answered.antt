@@ -13,10 +13,10 @@ use Rattle.tds_world.specs.declared.outcome.Outcome.{Outcome}
 use Rattle.tds_world.specs.declared.outcome.Outcome.TheVariants as outcome
 use Rattle.tds_world.specs.declared.outcome.Refusal.{Refusal}
 use Rattle.tds_world.specs.declared.report.EventReport.{EventReport}
-use Rattle.tds_play.specs.declared.link.Link.{Link}
+use Rattle.tds_play.specs.declared.seat.Seated.{Seated}
 use Rattle.tds_play.specs.AnyBytes.{AnswersWith, AreAnswered, IsRefused, is_delivery, outcomes_on}
 use Rattle.tds_play.specs.Pipe.{Pipe, AreSame, traffic}
-use Rattle.tds_play.specs.Reads.{AllRead, Answers, BringsBy, IsAbout, IsReading, ReadsNoMore, ReadsOn, answers_then, delivers}
+use Rattle.tds_play.specs.Reads.{AllRead, Answers, BringsBy, IsAbout, ReadsNoMore, ReadsThere, ReadsOn, answers_then, delivers}
 use Rattle.tds_play.specs.Ties.{AreTied}
 use Rattle.tds_play.proofs.Listed.{by_test, is_at, is_other, push_each, set_each}
 use Rattle.tds_play.proofs.Stays.{reading_stays}
@@ -112,7 +112,7 @@ about_other event.RestartClient place n d is other = refl
 -- ---- All connections
 
 -- The same answers, told in another way.
-pub read_as : {E S : Type 0} (size : ℕ) (links : List (Link E S)) (pipes : ℕ → Option Pipe) (a b : Answers) → ((n : ℕ) (d : Direction) → a n d ≡ b n d) → AllRead size links pipes a → AllRead size links pipes b
+pub read_as : {E S : Type 0} (size : ℕ) (links : List (Seated E S)) (pipes : ℕ → Option Pipe) (a b : Answers) → ((n : ℕ) (d : Direction) → a n d ≡ b n d) → AllRead size links pipes a → AllRead size links pipes b
 read_as size links pipes a b same all = record {
   reading = all.reading;
   answered = λ i d less. subst (λ (os : List Outcome). AreAnswered (new_reader d size) [] os (traffic (pipes (suc i)) d).came) (same (suc i) d) (all.answered i d less);
@@ -120,14 +120,14 @@ read_as size links pipes a b same all = record {
 }
 
 -- An event that delivers nothing.
-pub none_delivered : {E S : Type 0} (size : ℕ) (links : List (Link E S)) (pipes : ℕ → Option Pipe) (answers : Answers) (e : Event) (o : Outcome) → ((n : ℕ) (d : Direction) → is_delivery e n d ≡ false)
+pub none_delivered : {E S : Type 0} (size : ℕ) (links : List (Seated E S)) (pipes : ℕ → Option Pipe) (answers : Answers) (e : Event) (o : Outcome) → ((n : ℕ) (d : Direction) → is_delivery e n d ≡ false)
     → AllRead size links pipes answers → AllRead size links pipes (answers_then e o answers)
 none_delivered size links pipes answers e o none all =
     read_as size links pipes answers (answers_then e o answers)
     (λ n d. sym (ap (λ (b : Bool). answers n d ++ cond b (o ∷ []) []) (none n d) ∙ append-nil (answers n d))) all
 
 -- An event that is refused.
-pub refuses_all : {E S : Type 0} (size : ℕ) (links : List (Link E S)) (pipes : ℕ → Option Pipe) (answers : Answers) (e : Event) (o : Outcome) (why : Refusal) → o ≡ outcome.Refused why
+pub refuses_all : {E S : Type 0} (size : ℕ) (links : List (Seated E S)) (pipes : ℕ → Option Pipe) (answers : Answers) (e : Event) (o : Outcome) (why : Refusal) → o ≡ outcome.Refused why
     → AllRead size links pipes answers → AllRead size links pipes (answers_then e o answers)
 refuses_all size links pipes answers e o why is all =
     subst (λ (x : Outcome). AllRead size links pipes (answers_then e x answers)) (sym is)
@@ -143,19 +143,19 @@ not_there : (n count place : ℕ) → (n ≡ 0) ⊎ (count < n) → place < coun
 not_there n count place (inl is) less = λ same. omega (arith, is, same)
 not_there n count place (inr over) less = λ same. omega (arith, over, same, less)
 
-out_of_set : {E S : Type 0} (links : List (Link E S)) (place : ℕ) (new : Link E S) (n : ℕ) → (n ≡ 0) ⊎ (length (set links place new) < n) → (n ≡ 0) ⊎ (length links < n)
+out_of_set : {E S : Type 0} (links : List (Seated E S)) (place : ℕ) (new : Seated E S) (n : ℕ) → (n ≡ 0) ⊎ (length (set links place new) < n) → (n ≡ 0) ⊎ (length links < n)
 out_of_set links place new n (inl is) = inl is
 out_of_set links place new n (inr over) = inr (omega (arith, over, length-set links place new))
 
 -- The connection at a place changes.
-pub read_at : {E S : Type 0} (size : ℕ) (links : List (Link E S)) (place : ℕ) (new : Link E S) (pipes pipes' : ℕ → Option Pipe) (answers : Answers) (e : Event) (o : Outcome)
+pub read_at : {E S : Type 0} (size : ℕ) (links : List (Seated E S)) (place : ℕ) (new : Seated E S) (pipes pipes' : ℕ → Option Pipe) (answers : Answers) (e : Event) (o : Outcome)
     → AllRead size links pipes answers → place < length links → AreSame pipes pipes' (suc place) → IsAbout e place
-    → ReadsOn size e o new (pipes (suc place)) (pipes' (suc place)) → AllRead size (set links place new) pipes' (answers_then e o answers)
+    → ReadsOn size e o new.link new.seat.client.columns (pipes (suc place)) (pipes' (suc place)) → AllRead size (set links place new) pipes' (answers_then e o answers)
 read_at {E} {S} size links place new pipes pipes' answers e o all there same about reads =
     let others : (j : ℕ) → j ≢ place → pipes' (suc j) ≡ pipes (suc j) = (λ j other. same (suc j) (λ z. other (omega (arith, z)))) in
     record {
-      reading = set_each (λ j (x : Link E S). IsReading size x (pipes' (suc j))) links place new
-          (λ j x other less. subst (IsReading size (get_or links j x)) (sym (others j other)) (all.reading j x less)) there reads.reading;
+      reading = set_each (λ j (x : Seated E S). ReadsThere size x (pipes' (suc j))) links place new
+          (λ j x other less. subst (ReadsThere size (get_or links j x)) (sym (others j other)) (all.reading j x less)) there reads.reading;
       answered = λ i d less.
           let low : i < length links = omega (arith, less, length-set links place new) in
           by_test (AreAnswered (new_reader d size) [] (answers_then e o answers (suc i) d) (traffic (pipes' (suc i)) d).came) (eqb i place)
@@ -172,15 +172,15 @@ read_at {E} {S} size links place new pipes pipes' answers e o all there same abo
     }
 
 -- It reads no more.
-pub still_at : {E S : Type 0} (size : ℕ) (links : List (Link E S)) (place : ℕ) (link new : Link E S) (pipes pipes' : ℕ → Option Pipe) (answers : Answers)
+pub still_at : {E S : Type 0} (size : ℕ) (links : List (Seated E S)) (place : ℕ) (link new : Seated E S) (pipes pipes' : ℕ → Option Pipe) (answers : Answers)
     → AllRead size links pipes answers → place < length links → link ≡ get_or links place link → AreSame pipes pipes' (suc place)
-    → ReadsNoMore link new (pipes (suc place)) (pipes' (suc place)) → AllRead size (set links place new) pipes' answers
-still_at {E} {S} size links place link new pipes pipes' answers all there is same still =
+    → ReadsNoMore link.link new.link (pipes (suc place)) (pipes' (suc place)) → new.seat.client.columns ≡ link.seat.client.columns → AllRead size (set links place new) pipes' answers
+still_at {E} {S} size links place link new pipes pipes' answers all there is same still columns =
     let others : (j : ℕ) → j ≢ place → pipes' (suc j) ≡ pipes (suc j) = (λ j other. same (suc j) (λ z. other (omega (arith, z)))) in
     record {
-      reading = set_each (λ j (x : Link E S). IsReading size x (pipes' (suc j))) links place new
-          (λ j x other less. subst (IsReading size (get_or links j x)) (sym (others j other)) (all.reading j x less)) there
-          (reading_stays size link new (pipes (suc place)) (pipes' (suc place)) (subst (λ (x : Link E S). IsReading size x (pipes (suc place))) (sym is) (all.reading place link there)) still);
+      reading = set_each (λ j (x : Seated E S). ReadsThere size x (pipes' (suc j))) links place new
+          (λ j x other less. subst (ReadsThere size (get_or links j x)) (sym (others j other)) (all.reading j x less)) there
+          (reading_stays size link.link new.link link.seat.client.columns new.seat.client.columns (pipes (suc place)) (pipes' (suc place)) (subst (λ (x : Seated E S). ReadsThere size x (pipes (suc place))) (sym is) (all.reading place link there)) still columns);
       answered = λ i d less.
           let low : i < length links = omega (arith, less, length-set links place new) in
           by_test (AreAnswered (new_reader d size) [] (answers (suc i) d) (traffic (pipes' (suc i)) d).came) (eqb i place)
@@ -196,14 +196,14 @@ out_of_push xs x n (inl is) = inl is
 out_of_push xs x n (inr over) = inr (omega (arith, over, length-append xs (x ∷ [])))
 
 -- One is opened.
-pub read_opened : {E S : Type 0} (size : ℕ) (links : List (Link E S)) (new : Link E S) (pipes pipes' : ℕ → Option Pipe) (answers : Answers)
-    → AllRead size links pipes answers → AreSame pipes pipes' (suc (length links)) → IsReading size new (pipes' (suc (length links)))
+pub read_opened : {E S : Type 0} (size : ℕ) (links : List (Seated E S)) (new : Seated E S) (pipes pipes' : ℕ → Option Pipe) (answers : Answers)
+    → AllRead size links pipes answers → AreSame pipes pipes' (suc (length links)) → ReadsThere size new (pipes' (suc (length links)))
     → ((d : Direction) → (traffic (pipes' (suc (length links))) d).came ≡ []) → AllRead size (links ++ new ∷ []) pipes' answers
 read_opened {E} {S} size links new pipes pipes' answers all same reads none =
     let others : (j : ℕ) → j < length links → pipes' (suc j) ≡ pipes (suc j) = (λ j less. same (suc j) (λ z. absurd (omega (arith, z, less)))) in
     record {
-      reading = push_each (λ j (x : Link E S). IsReading size x (pipes' (suc j))) links new
-          (λ j x less. subst (IsReading size (get_or links j x)) (sym (others j less)) (all.reading j x less)) reads;
+      reading = push_each (λ j (x : Seated E S). ReadsThere size x (pipes' (suc j))) links new
+          (λ j x less. subst (ReadsThere size (get_or links j x)) (sym (others j less)) (all.reading j x less)) reads;
       answered = λ i d less. elim (cases_lt i (length links)) [
         | inl low ↦ subst (λ (p : Option Pipe). AreAnswered (new_reader d size) [] (answers (suc i) d) (traffic p d).came) (sym (others i low)) (all.answered i d low)
         | inr high ↦
@@ -235,15 +235,15 @@ answers_more es i e rs more r less is count told n d =
     sym (ap (λ (xs : List Event). outcomes_on n d xs more) (one_taken es i e less is) ∙ ap (outcomes_on n d (take i es ++ e ∷ [])) told
     ∙ one_more n d (take i es) e rs r (omega (arith, count, so_many i es (omega (arith, less)))))
 
-pub read_more : {E S : Type 0} (size now : ℕ) (links : List (Link E S)) (pipes : ℕ → Option Pipe) (es : List Event) (i : ℕ) (e : Event) (rs more : List EventReport) (r : EventReport) → i < length es → e ≡ slice_index_or es i e → length rs ≡ i → more ≡ rs ++ r ∷ []
+pub read_more : {E S : Type 0} (size now : ℕ) (links : List (Seated E S)) (pipes : ℕ → Option Pipe) (es : List Event) (i : ℕ) (e : Event) (rs more : List EventReport) (r : EventReport) → i < length es → e ≡ slice_index_or es i e → length rs ≡ i → more ≡ rs ++ r ∷ []
     → now ≡ size → AllRead now links pipes (answers_then e r.outcome (answers_of (take i es) rs)) → AllRead size links pipes (answers_of (take (i + 1) es) more)
 read_more size now links pipes es i e rs more r less is count told same all =
     subst (λ (k : ℕ). AllRead k links pipes (answers_of (take (i + 1) es) more)) same
     (read_as now links pipes (answers_then e r.outcome (answers_of (take i es) rs)) (answers_of (take (i + 1) es) more) (answers_more es i e rs more r less is count told) all)
 
-pub none_read : {E S : Type 0} (size : ℕ) (links : List (Link E S)) (pipes : ℕ → Option Pipe) (es : List Event) → links ≡ [] → AllRead size links pipes (answers_of (take 0 es) [])
+pub none_read : {E S : Type 0} (size : ℕ) (links : List (Seated E S)) (pipes : ℕ → Option Pipe) (es : List Event) → links ≡ [] → AllRead size links pipes (answers_of (take 0 es) [])
 none_read {E} {S} size links pipes es none =
-    subst (λ (ls : List (Link E S)). AllRead size ls pipes (answers_of [] [])) (sym none)
+    subst (λ (ls : List (Seated E S)). AllRead size ls pipes (answers_of [] [])) (sym none)
     (record {
       reading = λ i x less. absurd (omega (arith, less));
       answered = λ i d less. absurd (omega (arith, less));
@@ -252,24 +252,24 @@ none_read {E} {S} size links pipes es none =
 
 -- ---- An event on one of them
 
-numbered_there : {E S : Type 0} (links : List (Link E S)) (place : ℕ) (link : Link E S) (pipes : ℕ → Option Pipe) → AreTied links pipes → place < length links → link ≡ get_or links place link → link.number ≡ suc place
-numbered_there {E} {S} links place link pipes tied there is = ap (λ (l : Link E S). l.number) is ∙ tied.numbered place link there
+numbered_there : {E S : Type 0} (links : List (Seated E S)) (place : ℕ) (link : Seated E S) (pipes : ℕ → Option Pipe) → AreTied links pipes → place < length links → link ≡ get_or links place link → link.link.number ≡ suc place
+numbered_there {E} {S} links place link pipes tied there is = ap (λ (l : Seated E S). l.link.number) is ∙ tied.numbered place link there
 
-pub acted_reads : {E S : Type 0} (size : ℕ) (links : List (Link E S)) (place : ℕ) (link new : Link E S) (pipes pipes' : ℕ → Option Pipe) (answers : Answers) (e : Event) (o : Outcome)
-    → AreTied links pipes → place < length links → link ≡ get_or links place link → AreSame pipes pipes' link.number
-    → (IsReading size link (pipes link.number) → ReadsOn size e o new (pipes link.number) (pipes' link.number))
+pub acted_reads : {E S : Type 0} (size : ℕ) (links : List (Seated E S)) (place : ℕ) (link new : Seated E S) (pipes pipes' : ℕ → Option Pipe) (answers : Answers) (e : Event) (o : Outcome)
+    → AreTied links pipes → place < length links → link ≡ get_or links place link → AreSame pipes pipes' link.link.number
+    → (ReadsThere size link (pipes link.link.number) → ReadsOn size e o new.link new.seat.client.columns (pipes link.link.number) (pipes' link.link.number))
     → IsAbout e place → AllRead size links pipes answers → AllRead size (set links place new) pipes' (answers_then e o answers)
 acted_reads {E} {S} size links place link new pipes pipes' answers e o tied there is same reads about all =
-    let number : link.number ≡ suc place = numbered_there links place link pipes tied there is in
-    let here : IsReading size link (pipes link.number) =
-    subst (λ (k : ℕ). IsReading size link (pipes k)) (sym number) (subst (λ (x : Link E S). IsReading size x (pipes (suc place))) (sym is) (all.reading place link there)) in
+    let number : link.link.number ≡ suc place = numbered_there links place link pipes tied there is in
+    let here : ReadsThere size link (pipes link.link.number) =
+    subst (λ (k : ℕ). ReadsThere size link (pipes k)) (sym number) (subst (λ (x : Seated E S). ReadsThere size x (pipes (suc place))) (sym is) (all.reading place link there)) in
     read_at size links place new pipes pipes' answers e o all there (subst (AreSame pipes pipes') number same) about
-    (subst (λ (k : ℕ). ReadsOn size e o new (pipes k) (pipes' k)) number (reads here))
+    (subst (λ (k : ℕ). ReadsOn size e o new.link new.seat.client.columns (pipes k) (pipes' k)) number (reads here))
 
-pub cut_reads : {E S : Type 0} (size : ℕ) (links : List (Link E S)) (place : ℕ) (link new : Link E S) (pipes pipes' : ℕ → Option Pipe) (answers : Answers)
-    → AreTied links pipes → place < length links → link ≡ get_or links place link → AreSame pipes pipes' link.number
-    → ReadsNoMore link new (pipes link.number) (pipes' link.number) → AllRead size links pipes answers → AllRead size (set links place new) pipes' answers
-cut_reads {E} {S} size links place link new pipes pipes' answers tied there is same still all =
-    let number : link.number ≡ suc place = numbered_there links place link pipes tied there is in
+pub cut_reads : {E S : Type 0} (size : ℕ) (links : List (Seated E S)) (place : ℕ) (link new : Seated E S) (pipes pipes' : ℕ → Option Pipe) (answers : Answers)
+    → AreTied links pipes → place < length links → link ≡ get_or links place link → AreSame pipes pipes' link.link.number
+    → ReadsNoMore link.link new.link (pipes link.link.number) (pipes' link.link.number) → new.seat.client.columns ≡ link.seat.client.columns → AllRead size links pipes answers → AllRead size (set links place new) pipes' answers
+cut_reads {E} {S} size links place link new pipes pipes' answers tied there is same still columns all =
+    let number : link.link.number ≡ suc place = numbered_there links place link pipes tied there is in
     still_at size links place link new pipes pipes' answers all there is (subst (AreSame pipes pipes') number same)
-    (subst (λ (k : ℕ). ReadsNoMore link new (pipes k) (pipes' k)) number still)
+    (subst (λ (k : ℕ). ReadsNoMore link.link new.link (pipes k) (pipes' k)) number still) columns

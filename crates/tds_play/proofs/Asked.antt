@@ -17,7 +17,7 @@ use Rattle.tds_world.specs.Record as world
 use Rattle.tds_world.specs.Entries.{up_bytes, down_bytes}
 use Rattle.tds_packet.specs.declared.kind.Direction.TheVariants.{ToServer, ToClient}
 use Rattle.tds_play.specs.Between.{IsLane}
-use Rattle.tds_play.specs.Lending.{standing_of}
+use Rattle.tds_play.specs.Lending.{standing_by}
 use Rattle.tds_play.specs.Links.{IsAsked, IsAskedOn, behind}
 use Rattle.tds_play.specs.Links as links
 use Rattle.tds_play.specs.Pipe.{Pipe, traffic}
@@ -29,6 +29,7 @@ use Rattle.tds_ends.specs.Stands.{MatchesClient, MatchesServer}
 use Rattle.tds_ends.specs.Stays.{IdleAlike}
 use Rattle.tds_play.specs.declared.link.Done.{Done}
 use Rattle.tds_play.specs.declared.link.Link.{Link}
+use Rattle.tds_play.specs.declared.seat.Seat.{Seat}
 use Rattle.tds_play.specs.declared.request.Record.{Record}
 use Rattle.tds_play.proofs.Placed.{DoesWhole, idle_settled, idle_unless}
 
@@ -71,37 +72,37 @@ newest_asked id number lease heard q mark asked (Some r) same h = record {
 
 -- ---- The connection then
 
-asked_played : {E S : Type 0} → AsksAlike E → (number size id lease : ℕ) (engine : E) (q : Request) (link new : Link E S) (pipe : Option Pipe) (c : Connection)
-    → IsPlayed number size engine link pipe c → link.is_cut ≡ false → is_idle c ≡ true → c.parts ≡ []
-    → IsAskedOn lease q link new
-    → IsPlayed number size engine new pipe (asks id lease number q c)
-asked_played {E} {S} alike number size id lease engine q link new pipe c i live idle rests h =
+asked_played : {E S : Type 0} → AsksAlike E → (number size id lease : ℕ) (engine : E) (q : Request) (link new : Link E S) (seat next : Seat) (pipe : Option Pipe) (c : Connection)
+    → IsPlayed number size engine link seat pipe c → link.is_cut ≡ false → is_idle c ≡ true → c.parts ≡ []
+    → next ≡ record seat { client = started seat.client q } → IsAskedOn lease seat.client.heard.mark link new
+    → IsPlayed number size engine new next pipe (asks id lease number q c)
+asked_played {E} {S} alike number size id lease engine q link new seat next pipe c i live idle rests at h =
     let d : Connection = asks id lease number q c in
     let v = i.lives live in
     let s = v.stands in
     record {
       numbered = ap (λ l. l.number) h.rest ∙ i.numbered;
-      standing = ap standing_of h.rest ∙ i.standing;
+      standing = ap (λ (l : Link E S). standing_by l.is_cut next.place) h.rest ∙ ap (λ (s : Seat). standing_by link.is_cut s.place) at ∙ i.standing;
       older =
           subst (λ (b : Bool). AreOlder number b new.past.items d.past) (sym (ap (λ l. l.is_cut) h.rest))
           (subst (λ (rs : List Record). AreOlder number link.is_cut rs d.past) (sym h.past)
           (older_behind number link.is_cut link.past.items c.past link.current c.current (idle_settled c idle) i.older i.newest));
       newest =
           subst (λ (b : Bool). IsNewest number b new.current d.current) (sym (ap (λ l. l.is_cut) h.rest ∙ live))
-          (newest_asked id number lease c.heard q link.client.heard.mark c.mark new.current s.client.mark h.current);
+          (newest_asked id number lease c.heard q seat.client.heard.mark c.mark new.current s.client.mark h.current);
       to_server = i.to_server;
       to_client = i.to_client;
       came_up = i.came_up;
       came_down = i.came_down;
       lives = λ uncut. record {
         stands = record {
-          client = subst (λ x. MatchesClient x d) (sym h.client) (asked_matches alike link.client c id lease number q s.client idle);
+          client = subst (λ (x : Seat). MatchesClient x.client d) (sym at) (asked_matches alike seat.client c id lease number q s.client idle);
           server = subst (λ (l : Link E S). MatchesServer l.server d) (sym h.rest) (alike.stays id lease number q link.server c rests s.server);
           up = subst (λ (l : Link E S). IsLane up_bytes (traffic pipe ToServer) c.to_server l.server_reader.taken l.to_server) (sym h.rest) s.up;
           down = subst (λ (l : Link E S). IsLane down_bytes (traffic pipe ToClient) c.to_client l.client_reader.taken l.to_client) (sym h.rest) s.down;
         };
         engine_is = ap (λ l. l.server.engine) h.rest ∙ v.engine_is;
-        size_is = ap (λ s. s.size) h.client ∙ v.size_is;
+        size_is = ap (λ (x : Seat). x.client.size) at ∙ v.size_is;
         server_reads = ap (λ l. l.server_reader.direction) h.rest ∙ v.server_reads;
         server_size = ap (λ l. l.server_reader.size) h.rest ∙ v.server_size;
         client_reads = ap (λ l. l.client_reader.direction) h.rest ∙ v.client_reads;
@@ -110,38 +111,38 @@ asked_played {E} {S} alike number size id lease engine q link new pipe c i live 
       gone = λ cut. i.gone (sym (ap (λ l. l.is_cut) h.rest) ∙ cut);
     }
 
-asked_by : {E S : Type 0} → AsksAlike E → (number size id lease : ℕ) (engine : E) (q : Request) (link new : Link E S) (pipe : Option Pipe) (c : Connection) (done : Done) (idle : Bool)
-    → IsPlayed number size engine link pipe c → link.is_cut ≡ false → is_idle c ≡ idle → (idle ≡ true → c.parts ≡ [])
-    → (idle ≡ false → (done ≡ done_as (outcome.Refused NotIdle)) × (new ≡ link))
-    → (idle ≡ true → (done ≡ done_as (outcome.Asked id)) × IsAskedOn lease q link new)
-    → DoesWhole number size engine done new pipe (asks_by idle id lease number q c) c
-asked_by {E} {S} alike number size id lease engine q link new pipe c done false i live is rests refused asked =
-    let h = refused refl in (h.0, subst (λ (l : Link E S). IsPlayed number size engine l pipe c) (sym h.1) i)
-asked_by alike number size id lease engine q link new pipe c done true i live is rests refused asked =
-    let h = asked refl in (h.0, asked_played alike number size id lease engine q link new pipe c i live is (rests refl) h.1)
+asked_by : {E S : Type 0} → AsksAlike E → (number size id lease : ℕ) (engine : E) (q : Request) (link new : Link E S) (seat next : Seat) (pipe : Option Pipe) (c : Connection) (done : Done) (idle : Bool)
+    → IsPlayed number size engine link seat pipe c → link.is_cut ≡ false → is_idle c ≡ idle → (idle ≡ true → c.parts ≡ [])
+    → (idle ≡ false → (done ≡ done_as (outcome.Refused NotIdle)) × (new ≡ link) × (next ≡ seat))
+    → (idle ≡ true → (done ≡ done_as (outcome.Asked id)) × (next ≡ record seat { client = started seat.client q }) × IsAskedOn lease seat.client.heard.mark link new)
+    → DoesWhole number size engine done new next pipe (asks_by idle id lease number q c) c
+asked_by {E} {S} alike number size id lease engine q link new seat next pipe c done false i live is rests refused asked =
+    let h = refused refl in (h.0, rw (h.1, h.2) i)
+asked_by alike number size id lease engine q link new seat next pipe c done true i live is rests refused asked =
+    let h = asked refl in (h.0, asked_played alike number size id lease engine q link new seat next pipe c i live is (rests refl) h.1 h.2)
 
 ok_one : {A B : Type 0} (x y : A) (r : Result A B) → r ≡ Ok x → r ≡ Ok y → x ≡ y
 ok_one x y r e f = let same : Ok x ≡ Ok y = sym e ∙ f in cc
 
-pub asked_alike : {E S B : Type 0} → AsksAlike E → (number size id lease : ℕ) (engine : E) (q : Request) (link new : Link E S) (pipe : Option Pipe) (c : Connection) (done : Done) (r : Result Done B)
-    → IsPlayed number size engine link pipe c → link.is_cut ≡ false → (is_idle c ≡ true → c.parts ≡ [])
+pub asked_alike : {E S B : Type 0} → AsksAlike E → (number size id lease : ℕ) (engine : E) (q : Request) (link new : Link E S) (seat next : Seat) (pipe : Option Pipe) (c : Connection) (done : Done) (r : Result Done B)
+    → IsPlayed number size engine link seat pipe c → link.is_cut ≡ false → (is_idle c ≡ true → c.parts ≡ [])
     → r ≡ Ok done
-    → (is_none (unless_idle link.client.stage) ≡ false → (r ≡ Ok (done_as (outcome.Refused NotIdle))) × (new ≡ link))
-    → (is_none (unless_idle link.client.stage) ≡ true → IfOk r (λ done. (done ≡ done_as (outcome.Asked id)) × IsAskedOn lease q link new))
-    → DoesWhole number size engine done new pipe (asks_by (is_idle c) id lease number q c) c
-asked_alike {E} {S} alike number size id lease engine q link new pipe c done r i live rests is refused asked =
-    let same = alike.waits link.client c (i.lives live).stands.client in
-    asked_by alike number size id lease engine q link new pipe c done (is_idle c) i live refl rests
-    (λ e. let h = refused (same ∙ e) in (ok_one done _ r is h.0, h.1))
-    (λ e. subst (λ x. IfOk x (λ done. (done ≡ done_as (outcome.Asked id)) × IsAskedOn lease q link new)) is (asked (same ∙ e)))
+    → (is_none (unless_idle seat.client.stage) ≡ false → (r ≡ Ok (done_as (outcome.Refused NotIdle))) × (new ≡ link) × (next ≡ seat))
+    → (is_none (unless_idle seat.client.stage) ≡ true → IfOk r (λ done. (done ≡ done_as (outcome.Asked id)) × (next ≡ record seat { client = started seat.client q }) × IsAskedOn lease seat.client.heard.mark link new))
+    → DoesWhole number size engine done new next pipe (asks_by (is_idle c) id lease number q c) c
+asked_alike {E} {S} alike number size id lease engine q link new seat next pipe c done r i live rests is refused asked =
+    let same = alike.waits seat.client c (i.lives live).stands.client in
+    asked_by alike number size id lease engine q link new seat next pipe c done (is_idle c) i live refl rests
+    (λ e. let h = refused (same ∙ e) in (ok_one done _ r is h.0, h.1, h.2))
+    (λ e. subst (λ x. IfOk x (λ done. (done ≡ done_as (outcome.Asked id)) × (next ≡ record seat { client = started seat.client q }) × IsAskedOn lease seat.client.heard.mark link new)) is (asked (same ∙ e)))
 
 -- So it is where the call had memory.
-pub asked_ok : {E S B : Type 0} → AsksAlike E → (number size told id lease : ℕ) (engine : E) (q : Request) (link new : Link E S) (pipe : Option Pipe) (c : Connection) (r : Result Done B)
-    → IsPlayed number size engine link pipe c → link.is_cut ≡ false → (is_idle c ≡ true → c.parts ≡ []) → told ≡ id
-    → (is_none (unless_idle link.client.stage) ≡ false → (r ≡ Ok (done_as (outcome.Refused NotIdle))) × (new ≡ link))
-    → (is_none (unless_idle link.client.stage) ≡ true → IfOk r (λ done. (done ≡ done_as (outcome.Asked told)) × IsAskedOn lease q link new))
-    → IfOk r (λ done. DoesWhole number size engine done new pipe (asks_by (is_idle c) id lease number q c) c)
-asked_ok {E} {S} alike number size told id lease engine q link new pipe c (Ok done) i live rests same refused asked =
-    subst (λ (n : ℕ). DoesWhole number size engine done new pipe (asks_by (is_idle c) n lease number q c) c) same
-    (asked_alike alike number size told lease engine q link new pipe c done (Ok done) i live rests refl refused asked)
-asked_ok alike number size told id lease engine q link new pipe c (Err why) i live rests same refused asked = tt
+pub asked_ok : {E S B : Type 0} → AsksAlike E → (number size told id lease : ℕ) (engine : E) (q : Request) (link new : Link E S) (seat next : Seat) (pipe : Option Pipe) (c : Connection) (r : Result Done B)
+    → IsPlayed number size engine link seat pipe c → link.is_cut ≡ false → (is_idle c ≡ true → c.parts ≡ []) → told ≡ id
+    → (is_none (unless_idle seat.client.stage) ≡ false → (r ≡ Ok (done_as (outcome.Refused NotIdle))) × (new ≡ link) × (next ≡ seat))
+    → (is_none (unless_idle seat.client.stage) ≡ true → IfOk r (λ done. (done ≡ done_as (outcome.Asked told)) × (next ≡ record seat { client = started seat.client q }) × IsAskedOn lease seat.client.heard.mark link new))
+    → IfOk r (λ done. DoesWhole number size engine done new next pipe (asks_by (is_idle c) id lease number q c) c)
+asked_ok {E} {S} alike number size told id lease engine q link new seat next pipe c (Ok done) i live rests same refused asked =
+    subst (λ (n : ℕ). DoesWhole number size engine done new next pipe (asks_by (is_idle c) n lease number q c) c) same
+    (asked_alike alike number size told lease engine q link new seat next pipe c done (Ok done) i live rests refl refused asked)
+asked_ok alike number size told id lease engine q link new seat next pipe c (Err why) i live rests same refused asked = tt

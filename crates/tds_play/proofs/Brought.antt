@@ -40,9 +40,9 @@ by_way P up down ToClient = down
 no_bytes : (b : Bool) (r : Reading) (o : Outcome) (before after : List ℕ) → b ≡ false → after ≡ before → BringsBy b r o before after
 no_bytes b r o before after is same = subst (λ (x : Bool). BringsBy x r o before after) (sym is) same
 
-pub still_on : {E S : Type 0} (size : ℕ) (e : Event) (o : Outcome) (link new : Link E S) (before after : Option Pipe) → ((d : Direction) → delivers e d ≡ false) → IsReading size link before → ReadsNoMore link new before after → ReadsOn size e o new before after
-still_on size e o link new before after none reads still = record {
-  reading = reading_stays size link new before after reads still;
+pub still_on : {E S : Type 0} (size : ℕ) (e : Event) (o : Outcome) (link new : Link E S) (columns then : Option ℕ) (before after : Option Pipe) → ((d : Direction) → delivers e d ≡ false) → IsReading size link columns before → ReadsNoMore link new before after → then ≡ columns → ReadsOn size e o new then before after
+still_on size e o link new columns then before after none reads still same = record {
+  reading = reading_stays size link new columns then before after reads still same;
   brings = λ d. no_bytes (delivers e d) (new_reader d size) o (traffic before d).came (traffic after d).came (none d) (still.came d);
 }
 
@@ -65,49 +65,48 @@ refused_there (event.Cut n) c size d came = refl
 refused_there event.RestartServer c size d came = refl
 refused_there event.RestartClient c size d came = refl
 
-pub gone_on : {E S : Type 0} (size : ℕ) (e : Event) (o : Outcome) (c : Connection) (link : Link E S) (pipe : Option Pipe) → o ≡ plays.outcome_of (on_cut e c) → IsReading size link pipe → ReadsOn size e o link pipe pipe
-gone_on size e o c link pipe is reads = record {
+pub gone_on : {E S : Type 0} (size : ℕ) (e : Event) (o : Outcome) (c : Connection) (link : Link E S) (columns : Option ℕ) (pipe : Option Pipe) → o ≡ plays.outcome_of (on_cut e c) → IsReading size link columns pipe → ReadsOn size e o link columns pipe pipe
+gone_on size e o c link columns pipe is reads = record {
   reading = reads;
   brings = λ d. subst (λ (x : Outcome). BringsBy (delivers e d) (new_reader d size) x (traffic pipe d).came (traffic pipe d).came) (sym is) (refused_there e c size d (traffic pipe d).came);
 }
 
 -- ---- Bytes for the server
 
-pub served_reads : {E S : Type 0} (size n most count : ℕ) (link served new : Link E S) (old mid last : Option Pipe) (before after piece : List ℕ) (o : Outcome)
-    → IsReading size link old → link.is_cut ≡ false → (b : BringsAny ToServer count before after old mid) → piece ≡ b.bytes
-    → served.client_reader ≡ link.client_reader → served.client.columns ≡ link.client.columns → given_by served ≡ given_by link
+pub served_reads : {E S : Type 0} (size n most count : ℕ) (link served new : Link E S) (known : Option ℕ) (old mid last : Option Pipe) (before after piece : List ℕ) (o : Outcome)
+    → IsReading size link known old → link.is_cut ≡ false → (b : BringsAny ToServer count before after old mid) → piece ≡ b.bytes
+    → served.client_reader ≡ link.client_reader → given_by served ≡ given_by link
     → ServerHasRead (new_reader ToServer size) served.server_reader ((traffic old ToServer).came ++ piece)
     → HasNoFault (new_reader ToServer size) ((traffic old ToServer).came ++ piece)
-    → ReadsNoMore served new mid last → o ≡ outcome.ToServer count → ReadsOn size (event.ToServer n most) o new old last
-served_reads size n most count link served new old mid last before after piece o reads live b is reader columns given read lawful still answer =
+    → ReadsNoMore served new mid last → o ≡ outcome.ToServer count → ReadsOn size (event.ToServer n most) o new known old last
+served_reads size n most count link served new known old mid last before after piece o reads live b is reader given read lawful still answer =
     let up : (traffic mid ToServer).came ≡ (traffic old ToServer).came ++ piece =
     b.came ToServer ∙ ap (λ (xs : List ℕ). (traffic old ToServer).came ++ xs) (sym is) in
     let down : (traffic mid ToClient).came ≡ (traffic old ToClient).came = b.came ToClient ∙ append-nil (traffic old ToClient).came in
-    let here : IsReading size served mid = record {
+    let here : IsReading size served known mid = record {
       server = λ l. subst (ServerHasRead (new_reader ToServer size) served.server_reader) (sym up) read;
       client = λ l.
-          subst (λ (bytes : List ℕ). ClientHasRead (new_reader ToClient size) served.client_reader served.client.columns bytes (given_by served)) (sym down)
-          (subst (λ (r : Reading). ClientHasRead (new_reader ToClient size) r served.client.columns (traffic old ToClient).came (given_by served)) (sym reader)
-          (subst (λ (x : Option ℕ). ClientHasRead (new_reader ToClient size) link.client_reader x (traffic old ToClient).came (given_by served)) (sym columns)
-          (subst (ClientHasRead (new_reader ToClient size) link.client_reader link.client.columns (traffic old ToClient).came) (sym given) (reads.client live))));
+          subst (λ (bytes : List ℕ). ClientHasRead (new_reader ToClient size) served.client_reader known bytes (given_by served)) (sym down)
+          (subst (λ (r : Reading). ClientHasRead (new_reader ToClient size) r known (traffic old ToClient).came (given_by served)) (sym reader)
+          (subst (ClientHasRead (new_reader ToClient size) link.client_reader known (traffic old ToClient).came) (sym given) (reads.client live)));
       told =
           subst (λ (bytes : List ℕ). AreToldBy (new_reader ToClient size) bytes (given_by served)) (sym down)
           (subst (AreToldBy (new_reader ToClient size) (traffic old ToClient).came) (sym given) reads.told);
     } in
     let all : (traffic last ToServer).came ≡ (traffic old ToServer).came ++ piece = still.came ToServer ∙ up in
     record {
-      reading = reading_stays size served new mid last here still;
+      reading = reading_stays size served new known known mid last here still refl;
       brings = by_way (λ d. BringsBy (delivers (event.ToServer n most) d) (new_reader d size) o (traffic old d).came (traffic last d).came)
           (subst (λ (x : Outcome). BringsBy true (new_reader ToServer size) x (traffic old ToServer).came (traffic last ToServer).came) (sym answer)
           (piece, all, ap length is ∙ b.counted, subst (HasNoFault (new_reader ToServer size)) (sym all) lawful))
           (still.came ToClient ∙ down);
     }
 
-pub faulty_served : {E S : Type 0} (size n most count : ℕ) (link served new : Link E S) (old mid last : Option Pipe) (before after piece : List ℕ) (o : Outcome) (f : Fault)
-    → IsReading size link old → (b : BringsAny ToServer count before after old mid) → piece ≡ b.bytes
+pub faulty_served : {E S : Type 0} (size n most count : ℕ) (link served new : Link E S) (known : Option ℕ) (old mid last : Option Pipe) (before after piece : List ℕ) (o : Outcome) (f : Fault)
+    → IsReading size link known old → (b : BringsAny ToServer count before after old mid) → piece ≡ b.bytes
     → given_by served ≡ given_by link → FaultsBy (new_reader ToServer size) ((traffic old ToServer).came ++ piece) f.end f.layer f.number
-    → ReadsNoMore served new mid last → new.is_cut ≡ true → o ≡ seen.outcome_of f → ReadsOn size (event.ToServer n most) o new old last
-faulty_served size n most count link served new old mid last before after piece o f reads b is given fault still gone answer =
+    → ReadsNoMore served new mid last → new.is_cut ≡ true → o ≡ seen.outcome_of f → ReadsOn size (event.ToServer n most) o new known old last
+faulty_served size n most count link served new known old mid last before after piece o f reads b is given fault still gone answer =
     let up : (traffic mid ToServer).came ≡ (traffic old ToServer).came ++ piece =
     b.came ToServer ∙ ap (λ (xs : List ℕ). (traffic old ToServer).came ++ xs) (sym is) in
     let down : (traffic last ToClient).came ≡ (traffic old ToClient).came = still.came ToClient ∙ b.came ToClient ∙ append-nil (traffic old ToClient).came in
@@ -128,39 +127,39 @@ faulty_served size n most count link served new old mid last before after piece 
 
 -- ---- Bytes for the client
 
-pub heard_reads : {E S : Type 0} (size n most count : ℕ) (link heard new : Link E S) (old mid last : Option Pipe) (before after piece : List ℕ) (o : Outcome)
-    → IsReading size link old → link.is_cut ≡ false → (b : BringsAny ToClient count before after old mid) → piece ≡ b.bytes
+pub heard_reads : {E S : Type 0} (size n most count : ℕ) (link heard new : Link E S) (known heard_columns then : Option ℕ) (old mid last : Option Pipe) (before after piece : List ℕ) (o : Outcome)
+    → IsReading size link known old → link.is_cut ≡ false → (b : BringsAny ToClient count before after old mid) → piece ≡ b.bytes
     → heard.server_reader ≡ link.server_reader
-    → ClientHasRead (new_reader ToClient size) heard.client_reader heard.client.columns ((traffic old ToClient).came ++ piece) (given_by heard)
+    → ClientHasRead (new_reader ToClient size) heard.client_reader heard_columns ((traffic old ToClient).came ++ piece) (given_by heard)
     → AreToldBy (new_reader ToClient size) ((traffic old ToClient).came ++ piece) (given_by heard)
     → HasNoFault (new_reader ToClient size) ((traffic old ToClient).came ++ piece)
-    → ReadsNoMore heard new mid last → o ≡ outcome.ToClient count → ReadsOn size (event.ToClient n most) o new old last
-heard_reads size n most count link heard new old mid last before after piece o reads live b is reader read told lawful still answer =
+    → ReadsNoMore heard new mid last → then ≡ heard_columns → o ≡ outcome.ToClient count → ReadsOn size (event.ToClient n most) o new then old last
+heard_reads size n most count link heard new known heard_columns then old mid last before after piece o reads live b is reader read told lawful still same answer =
     let down : (traffic mid ToClient).came ≡ (traffic old ToClient).came ++ piece =
     b.came ToClient ∙ ap (λ (xs : List ℕ). (traffic old ToClient).came ++ xs) (sym is) in
     let up : (traffic mid ToServer).came ≡ (traffic old ToServer).came = b.came ToServer ∙ append-nil (traffic old ToServer).came in
-    let here : IsReading size heard mid = record {
+    let here : IsReading size heard heard_columns mid = record {
       server = λ l.
           subst (ServerHasRead (new_reader ToServer size) heard.server_reader) (sym up)
           (subst (λ (r : Reading). ServerHasRead (new_reader ToServer size) r (traffic old ToServer).came) (sym reader) (reads.server live));
-      client = λ l. subst (λ (bytes : List ℕ). ClientHasRead (new_reader ToClient size) heard.client_reader heard.client.columns bytes (given_by heard)) (sym down) read;
+      client = λ l. subst (λ (bytes : List ℕ). ClientHasRead (new_reader ToClient size) heard.client_reader heard_columns bytes (given_by heard)) (sym down) read;
       told = subst (λ (bytes : List ℕ). AreToldBy (new_reader ToClient size) bytes (given_by heard)) (sym down) told;
     } in
     let all : (traffic last ToClient).came ≡ (traffic old ToClient).came ++ piece = still.came ToClient ∙ down in
     record {
-      reading = reading_stays size heard new mid last here still;
+      reading = reading_stays size heard new heard_columns then mid last here still same;
       brings = by_way (λ d. BringsBy (delivers (event.ToClient n most) d) (new_reader d size) o (traffic old d).came (traffic last d).came)
           (still.came ToServer ∙ up)
           (subst (λ (x : Outcome). BringsBy true (new_reader ToClient size) x (traffic old ToClient).came (traffic last ToClient).came) (sym answer)
           (piece, all, ap length is ∙ b.counted, subst (HasNoFault (new_reader ToClient size)) (sym all) lawful));
     }
 
-pub faulty_heard : {E S : Type 0} (size n most count : ℕ) (link heard new : Link E S) (old mid last : Option Pipe) (before after piece : List ℕ) (o : Outcome) (f : Fault)
-    → IsReading size link old → (b : BringsAny ToClient count before after old mid) → piece ≡ b.bytes
+pub faulty_heard : {E S : Type 0} (size n most count : ℕ) (link heard new : Link E S) (known then : Option ℕ) (old mid last : Option Pipe) (before after piece : List ℕ) (o : Outcome) (f : Fault)
+    → IsReading size link known old → (b : BringsAny ToClient count before after old mid) → piece ≡ b.bytes
     → FaultsBy (new_reader ToClient size) ((traffic old ToClient).came ++ piece) f.end f.layer f.number
     → AreToldBy (new_reader ToClient size) ((traffic old ToClient).came ++ piece) (given_by heard)
-    → ReadsNoMore heard new mid last → new.is_cut ≡ true → o ≡ seen.outcome_of f → ReadsOn size (event.ToClient n most) o new old last
-faulty_heard size n most count link heard new old mid last before after piece o f reads b is fault told still gone answer =
+    → ReadsNoMore heard new mid last → new.is_cut ≡ true → o ≡ seen.outcome_of f → ReadsOn size (event.ToClient n most) o new then old last
+faulty_heard size n most count link heard new known then old mid last before after piece o f reads b is fault told still gone answer =
     let down : (traffic last ToClient).came ≡ (traffic old ToClient).came ++ piece =
     still.came ToClient ∙ b.came ToClient ∙ ap (λ (xs : List ℕ). (traffic old ToClient).came ++ xs) (sym is) in
     let up : (traffic last ToServer).came ≡ (traffic old ToServer).came = still.came ToServer ∙ b.came ToServer ∙ append-nil (traffic old ToServer).came in

@@ -24,13 +24,14 @@ use Rattle.tds_ends.specs.Alike.{cancel_outcome}
 use Rattle.tds_play.specs.Acts.{cancelled_as, with_status}
 use Rattle.tds_ends.specs.Alike.{CancelAlike}
 use Rattle.tds_play.specs.Lending.{standing_by}
-use Rattle.tds_play.specs.Links.{placed_at}
+use Rattle.tds_play.specs.Seats.{seated}
 use Rattle.tds_play.specs.Pipe.{Pipe}
 use Rattle.tds_play.specs.Plays.{IsPlayed, after, outcome_of}
 use Rattle.tds_play.specs.Requests.{IsNewest}
 use Rattle.tds_ends.specs.Stands.{Sends}
 use Rattle.tds_ends.specs.Stays.{IdleAlike, PoolIsUnseen, ServerStays}
 use Rattle.tds_play.specs.declared.link.Link.{Link}
+use Rattle.tds_play.specs.declared.seat.Seat.{Seat}
 use Rattle.tds_play.specs.declared.request.Record.{Record}
 use Rattle.tds_play.proofs.Outward.{HandedUp, SentMore, sent_played}
 
@@ -82,17 +83,11 @@ current_behind client.Already r = r
 current_behind client.Unsent r = option_map (with_status status.Unsent) r
 current_behind client.Asked r = option_map (with_status status.Cancelling) r
 
-pub client_behind : {E S : Type 0} (a : Cancelled) (s : ClientSession) (link : Link E S) → (cancelled_as a s link).client ≡ s
-client_behind client.Nothing s link = refl
-client_behind client.Already s link = refl
-client_behind client.Unsent s link = refl
-client_behind client.Asked s link = refl
-
-link_by : {E S : Type 0} (a : Cancelled) (s : ClientSession) (link : Link E S) → cancelled_as a s link ≡ record link { client = s; current = current_behind a link.current }
-link_by client.Nothing s link = refl
-link_by client.Already s link = refl
-link_by client.Unsent s link = refl
-link_by client.Asked s link = refl
+link_by : {E S : Type 0} (a : Cancelled) (link : Link E S) → cancelled_as a link ≡ record link { current = current_behind a link.current }
+link_by client.Nothing link = refl
+link_by client.Already link = refl
+link_by client.Unsent link = refl
+link_by client.Asked link = refl
 
 -- One of which nothing was out is never sent.
 unsent_is : (fate : world.Fate) (out : Out) → PhaseTells Asked fate out → status.Unsent ≡ status_by world.Cancelled false (phase_by world.Cancelled out)
@@ -149,21 +144,21 @@ pub record CancelsAlike (E : Type 0) : Type 0 where
   pub unseen : PoolIsUnseen E
 
 -- It was cancelled, and the connection may stand elsewhere then.
-cancelled_at : {E S : Type 0} → CancelsAlike E → (number size : ℕ) (engine : E) (link new : Link E S) (p : Place) (pipe then : Option Pipe) (c d : Connection) (bytes : List ℕ)
-    → IsPlayed number size engine link pipe c → link.is_cut ≡ false
-    → (a : CancelAlike link.client c) → bytes ≡ a.0.bytes
+cancelled_at : {E S : Type 0} → CancelsAlike E → (number size : ℕ) (engine : E) (link new : Link E S) (seat : Seat) (p : Place) (pipe then : Option Pipe) (c d : Connection) (bytes : List ℕ)
+    → IsPlayed number size engine link seat pipe c → link.is_cut ≡ false
+    → (a : CancelAlike seat.client c) → bytes ≡ a.0.bytes
     → d ≡ record (cancels c) { standing = In p }
     → up_underway (cancels c) ≤ 18446744073709551615
-    → HandedUp (record link { client = a.0.session; current = current_behind a.0.answer link.current; place = p }) new pipe then bytes
-    → IsPlayed number size engine new then d
-cancelled_at {E} {S} so number size engine link new p pipe then c d bytes i live a out at few h =
+    → HandedUp (record link { current = current_behind a.0.answer link.current }) new pipe then bytes
+    → IsPlayed number size engine new (seated p a.0.session) then d
+cancelled_at {E} {S} so number size engine link new seat p pipe then c d bytes i live a out at few h =
     let e = a.0 in
     let v = (i.lives live).stands in
     let l = leaves_in c.current c in
     let x : Connection = record (cancels c) { standing = In p } in
-    subst (λ (y : Connection). IsPlayed number size engine new then y) (sym at)
-    (sent_played so.appends number size engine link new e.session (current_behind e.answer link.current) p pipe then c x bytes i live h refl
-    (size_in link.client.stage link.client e a.1)
+    subst (λ (y : Connection). IsPlayed number size engine new (seated p e.session) then y) (sym at)
+    (sent_played so.appends number size engine link new seat e.session (current_behind e.answer link.current) p pipe then c x bytes i live h refl
+    (size_in seat.client.stage seat.client e a.1)
     (so.unseen.client (In p) e.session (cancels c) a.3)
     (so.unseen.server (cancels c).mark (In p) link.server (cancels c) (so.stays link.server c v.server))
     (subst (λ (bs : List ℕ). Sends up_bytes bs c.to_server (cancels c).to_server) (sym out) a.4)
@@ -171,32 +166,32 @@ cancelled_at {E} {S} so number size engine link new p pipe then c d bytes i live
     (newest_in so.tells c.current e.answer number link.current c refl a.2 (subst (λ (b : Bool). IsNewest number b link.current c.current) live i.newest))
     few)
 
-pub cancelled_played : {E S : Type 0} → CancelsAlike E → (number size : ℕ) (engine : E) (link mid new : Link E S) (pipe then : Option Pipe) (c : Connection) (bytes : List ℕ)
-    → IsPlayed number size engine link pipe c → link.is_cut ≡ false
-    → (a : CancelAlike link.client c) → mid ≡ cancelled_as a.0.answer a.0.session link → bytes ≡ a.0.bytes
+pub cancelled_played : {E S : Type 0} → CancelsAlike E → (number size : ℕ) (engine : E) (link mid new : Link E S) (seat : Seat) (pipe then : Option Pipe) (c : Connection) (bytes : List ℕ)
+    → IsPlayed number size engine link seat pipe c → link.is_cut ≡ false
+    → (a : CancelAlike seat.client c) → mid ≡ cancelled_as a.0.answer link → bytes ≡ a.0.bytes
     → up_underway (cancels c) ≤ 18446744073709551615
     → HandedUp mid new pipe then bytes
-    → IsPlayed number size engine new then (cancels c)
-cancelled_played {E} {S} so number size engine link mid new pipe then c bytes i live a is out few h =
+    → IsPlayed number size engine new (seated seat.place a.0.session) then (cancels c)
+cancelled_played {E} {S} so number size engine link mid new seat pipe then c bytes i live a is out few h =
     let l = leaves_in c.current c in
-    cancelled_at so number size engine link new link.place pipe then c (cancels c) bytes i live a out
-    (ap (λ s. record (cancels c) { standing = s }) (l.standing ∙ sym i.standing ∙ ap (λ (b : Bool). standing_by b link.place) live))
+    cancelled_at so number size engine link new seat seat.place pipe then c (cancels c) bytes i live a out
+    (ap (λ s. record (cancels c) { standing = s }) (l.standing ∙ sym i.standing ∙ ap (λ (b : Bool). standing_by b seat.place) live))
     few
-    (subst (λ (x : Link E S). HandedUp x new pipe then bytes) (is ∙ link_by a.0.answer a.0.session link) h)
+    (subst (λ (x : Link E S). HandedUp x new pipe then bytes) (is ∙ link_by a.0.answer link) h)
 
 -- The lease ends then.
-pub back_played : {E S : Type 0} → CancelsAlike E → IdleAlike → (number size : ℕ) (engine : E) (link mid new : Link E S) (idle : Bool) (pipe then : Option Pipe) (c : Connection) (bytes : List ℕ)
-    → IsPlayed number size engine link pipe c → link.is_cut ≡ false
-    → (a : CancelAlike link.client c) → mid ≡ placed_at (place_back idle) (cancelled_as a.0.answer a.0.session link) → bytes ≡ a.0.bytes
+pub back_played : {E S : Type 0} → CancelsAlike E → IdleAlike → (number size : ℕ) (engine : E) (link mid new : Link E S) (seat : Seat) (idle : Bool) (pipe then : Option Pipe) (c : Connection) (bytes : List ℕ)
+    → IsPlayed number size engine link seat pipe c → link.is_cut ≡ false
+    → (a : CancelAlike seat.client c) → mid ≡ cancelled_as a.0.answer link → bytes ≡ a.0.bytes
     → idle ≡ is_none (unless_idle a.0.session.stage)
     → up_underway (cancels c) ≤ 18446744073709551615
     → HandedUp mid new pipe then bytes
-    → (outcome.GivenBack (returned_as idle) ≡ outcome_of (comes_back (cancels c))) × IsPlayed number size engine new then (after (comes_back (cancels c)) c)
-back_played {E} {S} so alike number size engine link mid new idle pipe then c bytes i live a is out waits few h =
+    → (outcome.GivenBack (returned_as idle) ≡ outcome_of (comes_back (cancels c))) × IsPlayed number size engine new (seated (place_back idle) a.0.session) then (after (comes_back (cancels c)) c)
+back_played {E} {S} so alike number size engine link mid new seat idle pipe then c bytes i live a is out waits few h =
     let same : idle ≡ is_idle (cancels c) = waits ∙ alike a.0.session (cancels c) a.3 in (
       ap (λ (b : Bool). outcome.GivenBack (returned_as b)) same,
-      cancelled_at so number size engine link new (place_back idle) pipe then c (after (comes_back (cancels c)) c) bytes i live a out
+      cancelled_at so number size engine link new seat (place_back idle) pipe then c (after (comes_back (cancels c)) c) bytes i live a out
           (ap (λ (b : Bool). record (cancels c) { standing = In (place_back b) }) (sym same))
           few
-          (subst (λ (x : Link E S). HandedUp x new pipe then bytes) (is ∙ ap (placed_at (place_back idle)) (link_by a.0.answer a.0.session link)) h),
+          (subst (λ (x : Link E S). HandedUp x new pipe then bytes) (is ∙ link_by a.0.answer link) h),
     )

@@ -17,7 +17,8 @@ use Rattle.tds_world.specs.Record.{Record, Open, gives, acknowledges, when, if_n
 use Rattle.tds_play.specs.Between.{IsLane, Stands}
 use Rattle.tds_ends.specs.Deliveries.{AllHeard, ListensAlike}
 use Rattle.tds_play.specs.declared.link.Link.{Link}
-use Rattle.tds_play.specs.Links.{drained_at}
+use Rattle.tds_play.specs.declared.seat.Seat.{Seat}
+use Rattle.tds_play.specs.Seats.{drained_at}
 use Rattle.tds_play.specs.Listening.{told_in}
 use Rattle.tds_play.specs.Pipe.{Pipe, traffic, carried, next_of}
 use Rattle.tds_ends.specs.Stands.{MatchesClient}
@@ -30,15 +31,15 @@ use Rattle.tds_play.proofs.Between.{offered_front, lane_delivered, lane_stuck}
 abbrev pub ListensAll : Type 0
 ListensAll = (r : Reading) (c : Connection) (es : List Down) (k : ℕ) (s : ClientSession) (settled : Option RequestStatus) (told : List Token) → AllHeard r c es → MatchesClient s c → ListensAlike r (take k (flat_map down_bytes es)) c (reach_client c es k) s settled told
 
-pub come_heard : {E S : Type 0} → ListensAll → (link : Link E S) (pipe : Option Pipe) (c : Connection) (most n : ℕ) → Stands link pipe c → n ≡ min most link.to_client → AllHeard link.client_reader c c.to_client.waiting → ListensAlike link.client_reader (link.client_reader.taken ++ next_of (traffic pipe ToClient) n) c (reach_client c c.to_client.waiting (c.to_client.part + min most (down_underway c))) link.client None (told_in link.current)
-come_heard listens link pipe c most n s count all =
+pub come_heard : {E S : Type 0} → ListensAll → (link : Link E S) (seat : Seat) (pipe : Option Pipe) (c : Connection) (most n : ℕ) → Stands link seat pipe c → n ≡ min most link.to_client → AllHeard link.client_reader c c.to_client.waiting → ListensAlike link.client_reader (link.client_reader.taken ++ next_of (traffic pipe ToClient) n) c (reach_client c c.to_client.waiting (c.to_client.part + min most (down_underway c))) seat.client None (told_in link.current)
+come_heard listens link seat pipe c most n s count all =
     let k : ℕ = c.to_client.part + min most (down_underway c) in
     let same : c.to_client.part + n ≡ k = ap (λ (x : ℕ). c.to_client.part + x) (count ∙ ap (min most) s.down.counts) in
     let bytes : link.client_reader.taken ++ next_of (traffic pipe ToClient) n ≡ take k (flat_map down_bytes c.to_client.waiting) =
     offered_front down_bytes (traffic pipe ToClient) c.to_client link.client_reader.taken link.to_client n s.down
     ∙ ap (λ (x : ℕ). take x (flat_map down_bytes c.to_client.waiting)) same in
-    subst (λ (bs : List ℕ). ListensAlike link.client_reader bs c (reach_client c c.to_client.waiting k) link.client None (told_in link.current)) (sym bytes)
-    (listens link.client_reader c c.to_client.waiting k link.client None (told_in link.current) all s.client)
+    subst (λ (bs : List ℕ). ListensAlike link.client_reader bs c (reach_client c c.to_client.waiting k) seat.client None (told_in link.current)) (sym bytes)
+    (listens link.client_reader c c.to_client.waiting k seat.client None (told_in link.current) all s.client)
 
 -- ---- The requests
 
@@ -98,8 +99,7 @@ stands_drained waits s d p m is =
 -- ---- The connection then
 
 -- What the player's connection is behind the delivery, field by field.
-pub record Heard {E S : Type 0} (old new : Link E S) (pipe after : Option Pipe) (n : ℕ) (session : ClientSession) (left : List ℕ) : Type 0 where
-  pub client : new.client ≡ session
+pub record Heard {E S : Type 0} (old new : Link E S) (pipe after : Option Pipe) (n : ℕ) (left : List ℕ) : Type 0 where
   pub server : new.server ≡ old.server
   pub client_reader : new.client_reader.taken ≡ left
   pub server_reader : new.server_reader ≡ old.server_reader
@@ -109,14 +109,14 @@ pub record Heard {E S : Type 0} (old new : Link E S) (pipe after : Option Pipe) 
   pub up : traffic after ToServer ≡ traffic pipe ToServer
   pub down : traffic after ToClient ≡ record (carried (traffic pipe ToClient) (next_of (traffic pipe ToClient) n)) { carry_failures = stuck }
 
-pub heard_alike : {E S : Type 0} → PoolIsUnseen E → ((most : ℕ) → ServerStays E (to_client most)) → (old new : Link E S) (pipe after : Option Pipe) (c : Connection) (most n : ℕ) (session : ClientSession) (left : List ℕ)
-    → Stands old pipe c → n ≡ min most old.to_client
+pub heard_alike : {E S : Type 0} → PoolIsUnseen E → ((most : ℕ) → ServerStays E (to_client most)) → (old new : Link E S) (seat next : Seat) (pipe after : Option Pipe) (c : Connection) (most n : ℕ) (session : ClientSession) (left : List ℕ)
+    → Stands old seat pipe c → n ≡ min most old.to_client
     → IsDelivered down_bytes most c.to_client (to_client most c).to_client
     → MatchesClient session (reach_client c c.to_client.waiting (c.to_client.part + min most (down_underway c)))
     → left ≡ take (to_client most c).to_client.part (flat_map down_bytes (to_client most c).to_client.waiting)
-    → Heard old new pipe after n session left
-    → Stands new after (to_client most c)
-heard_alike unseen stays old new pipe after c most n session left s count lanes m rest h =
+    → Heard old new pipe after n left → next.client ≡ session
+    → Stands new next after (to_client most c)
+heard_alike unseen stays old new seat next pipe after c most n session left s count lanes m rest h is =
     let k : ℕ = c.to_client.part + min most (down_underway c) in
     let d : Connection = reach_client c c.to_client.waiting k in
     let w : Connection = to_client most c in
@@ -126,7 +126,7 @@ heard_alike unseen stays old new pipe after c most n session left s count lanes 
     let down : IsLane down_bytes (record (carried (traffic pipe ToClient) (next_of (traffic pipe ToClient) (min most old.to_client))) { carry_failures = h.stuck }) w.to_client left (old.to_client - min most old.to_client) =
     lane_stuck down_bytes (carried (traffic pipe ToClient) (next_of (traffic pipe ToClient) (min most old.to_client))) h.stuck w.to_client left (old.to_client - min most old.to_client) (lane_delivered down_bytes most (traffic pipe ToClient) c.to_client w.to_client old.client_reader.taken left old.to_client s.down lanes rest) in
     record {
-      client = rw h.client drained_too;
+      client = rw is drained_too;
       server = rw h.server (stays most old.server c s.server);
       up = rw (h.up, h.server_reader, h.to_server) up;
       down = rw (h.down, h.client_reader, h.to_client, count) down;

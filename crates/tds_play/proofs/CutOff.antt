@@ -11,6 +11,7 @@ use Rattle.tds_play.specs.Pipe.{Pipe, IsUncut, traffic, cut_pipe, is_cut_at}
 use Rattle.tds_play.specs.Plays.{IsPlayed}
 use Rattle.tds_play.specs.Requests.{MatchesRecord, AreOlder, IsNewest}
 use Rattle.tds_play.specs.declared.link.Link.{Link}
+use Rattle.tds_play.specs.declared.seat.Seat.{Seat}
 use Rattle.tds_play.specs.declared.request.Record.{Record}
 
 -- ---- Requests
@@ -94,14 +95,14 @@ cut_off : (p : Option Pipe) → IsUncut p → is_cut_at (cut_pipe p) ≡ true
 cut_off None known = absurd known
 cut_off (Some p) known = refl
 
-pub cut_played : {E S : Type 0} (number size : ℕ) (engine : E) (link new : Link E S) (pipe after : Option Pipe) (c : Connection)
-    → IsPlayed number size engine link pipe c → link.is_cut ≡ false
+pub cut_played : {E S : Type 0} (number size : ℕ) (engine : E) (link new : Link E S) (seat : Seat) (pipe after : Option Pipe) (c : Connection)
+    → IsPlayed number size engine link seat pipe c → link.is_cut ≡ false
     → new.number ≡ link.number → new.is_cut ≡ true → new.past ≡ link.past → new.current ≡ option_map lost_record link.current
     → IsUncut pipe → after ≡ cut_pipe pipe
-    → IsPlayed number size engine new after (cut c)
-cut_played number size engine link new pipe after c p live same is past current known off = record {
+    → IsPlayed number size engine new seat after (cut c)
+cut_played number size engine link new seat pipe after c p live same is past current known off = record {
   numbered = same ∙ p.numbered;
-  standing = ap (λ (b : Bool). standing_by b new.place) is;
+  standing = ap (λ (b : Bool). standing_by b seat.place) is;
   older = rw (is, past) (older_cut number link.past.items c.past (subst (λ (b : Bool). AreOlder number b link.past.items c.past) live p.older));
   newest = rw (is, current) (newest_cut number link.current c.current (subst (λ (b : Bool). IsNewest number b link.current c.current) live p.newest));
   to_server = rw off (handed_stays pipe ToServer ∙ p.to_server);

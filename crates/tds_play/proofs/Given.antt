@@ -17,12 +17,12 @@ use Rattle.tds_world.specs.declared.report.EventReport.{EventReport}
 use Rattle.tds_world.specs.declared.report.Report.{Report}
 use Rattle.tds_world.specs.declared.report.RequestReport.{RequestReport}
 use Rattle.tds_world.specs.World.{numbered}
-use Rattle.tds_play.specs.declared.link.Link.{Link}
+use Rattle.tds_play.specs.declared.seat.Seated.{Seated}
 use Rattle.tds_play.specs.declared.request.Record.{Record}
 use Rattle.tds_play.specs.AnyBytes.{AreAnswered, IsRefused, ReadsBytes, given_on, given_to, outcomes_on}
-use Rattle.tds_play.specs.Links.{behind, newest_first, report_of}
+use Rattle.tds_play.specs.Links.{behind, newest_there, report_of}
 use Rattle.tds_play.specs.Pipe.{Pipe, traffic}
-use Rattle.tds_play.specs.Reads.{AllRead, IsReading, TakesLast, TellsGiven, given_at, given_by, tokens_of}
+use Rattle.tds_play.specs.Reads.{AllRead, ReadsThere, TakesLast, TellsGiven, given_at, given_by, tokens_of}
 use Rattle.tds_play.proofs.Answered.{answers_of}
 use Rattle.tds_play.proofs.Fed.{fewer_told}
 use Rattle.tds_play.proofs.Listed.{by_test, is_at, is_other}
@@ -35,20 +35,20 @@ left_in None = []
 left_in (Some rs) = flat_map tokens_of (reverse rs)
 
 -- So much was told, and so much is left, the oldest request last.
-abbrev pub ToldSoFar : {E S : Type 0} → List (Link E S) → List (List Record) → List RequestReport → Type 0
+abbrev pub ToldSoFar : {E S : Type 0} → List (Seated E S) → List (List Record) → List RequestReport → Type 0
 ToldSoFar links stacks reports = (n : ℕ) → given_at (numbered links n) ≡ given_on n reports ++ left_in (numbered stacks n)
 
-at_first_of : {E S : Type 0} (o : Option (Link E S)) → given_at o ≡ left_in (option_map newest_first o)
+at_first_of : {E S : Type 0} (o : Option (Seated E S)) → given_at o ≡ left_in (option_map newest_there o)
 at_first_of None = refl
 at_first_of (Some link) =
-    sym (given_behind link.past.items link.current)
-    ∙ ap (flat_map tokens_of) (sym (reverse-reverse (behind link.past.items link.current)))
+    sym (given_behind link.link.past.items link.link.current)
+    ∙ ap (flat_map tokens_of) (sym (reverse-reverse (behind link.link.past.items link.link.current)))
 
-at_first_on : {E S : Type 0} (links : List (Link E S)) (n : ℕ) → given_at (numbered links n) ≡ left_in (numbered (map newest_first links) n)
+at_first_on : {E S : Type 0} (links : List (Seated E S)) (n : ℕ) → given_at (numbered links n) ≡ left_in (numbered (map newest_there links) n)
 at_first_on links zero = refl
-at_first_on links (suc i) = at_first_of (slice_get links i) ∙ ap left_in (sym (slice_get-map newest_first links i))
+at_first_on links (suc i) = at_first_of (slice_get links i) ∙ ap left_in (sym (slice_get-map newest_there links i))
 
-pub told_at_first : {E S : Type 0} (links : List (Link E S)) (stacks : List (List Record)) (reports : List RequestReport) → stacks ≡ map newest_first links → reports ≡ [] → ToldSoFar links stacks reports
+pub told_at_first : {E S : Type 0} (links : List (Seated E S)) (stacks : List (List Record)) (reports : List RequestReport) → stacks ≡ map newest_there links → reports ≡ [] → ToldSoFar links stacks reports
 told_at_first links stacks reports is none n =
     at_first_on links n ∙ ap (λ (ss : List (List Record)). left_in (numbered ss n)) (sym is) ∙ ap (λ (rs : List RequestReport). given_on n rs ++ left_in (numbered stacks n)) (sym none)
 
@@ -94,7 +94,7 @@ other_more place n stacks reports left r other =
     (sym (given_more n reports (report_of (suc place) r) false (ne_eqb (suc place) n other) ∙ append-nil (given_on n reports)))
     ∙ ap (λ (o : Option (List Record)). given_on n (reports ++ report_of (suc place) r ∷ []) ++ left_in o) (sym (other_set stacks place n left other))
 
-told_more : {E S : Type 0} (links : List (Link E S)) (stacks after : List (List Record)) (reports more : List RequestReport) (conn : ℕ) (result : Option Record) (r : Record)
+told_more : {E S : Type 0} (links : List (Seated E S)) (stacks after : List (List Record)) (reports more : List RequestReport) (conn : ℕ) (result : Option Record) (r : Record)
     → ToldSoFar links stacks reports → TakesLast stacks after conn result → result ≡ Some r → more ≡ reports ++ report_of conn r ∷ [] → ToldSoFar links after more
 told_more links stacks after reports more conn result r far takes is told n =
     let one : TakesLast stacks after conn (Some r) = subst (TakesLast stacks after conn) is takes in
@@ -109,24 +109,24 @@ told_more links stacks after reports more conn result r far takes is told n =
     ∙ ap (λ (rs : List RequestReport). given_on n rs ++ left_in (numbered (slice_set stacks place left) n)) next
     ∙ ap (λ (ss : List (List Record)). given_on n more ++ left_in (numbered ss n)) (sym one.4)
 
-pub told_turn : {E S : Type 0} (links : List (Link E S)) (stacks mid after : List (List Record)) (reports more : List RequestReport) (conn : ℕ) (result : Option Record) (r : Record)
+pub told_turn : {E S : Type 0} (links : List (Seated E S)) (stacks mid after : List (List Record)) (reports more : List RequestReport) (conn : ℕ) (result : Option Record) (r : Record)
     → ToldSoFar links stacks reports → TakesLast stacks mid conn result → after ≡ mid → result ≡ Some r → more ≡ reports ++ report_of conn r ∷ [] → ToldSoFar links after more
 told_turn links stacks mid after reports more conn result r far takes same is told =
     subst (λ (ss : List (List Record)). ToldSoFar links ss more) (sym same) (told_more links stacks mid reports more conn result r far takes is told)
 
-told_no_more : {E S : Type 0} (links : List (Link E S)) (stacks after : List (List Record)) (reports : List RequestReport) (conn : ℕ) (result : Option Record)
+told_no_more : {E S : Type 0} (links : List (Seated E S)) (stacks after : List (List Record)) (reports : List RequestReport) (conn : ℕ) (result : Option Record)
     → ToldSoFar links stacks reports → TakesLast stacks after conn result → result ≡ None → ToldSoFar links after reports
 told_no_more links stacks after reports conn result far takes is n =
     let same : after ≡ stacks = subst (TakesLast stacks after conn) is takes in
     far n ∙ ap (λ (ss : List (List Record)). given_on n reports ++ left_in (numbered ss n)) (sym same)
 
-pub none_turn : {E S : Type 0} (links : List (Link E S)) (stacks mid after : List (List Record)) (reports more : List RequestReport) (conn : ℕ) (result : Option Record)
+pub none_turn : {E S : Type 0} (links : List (Seated E S)) (stacks mid after : List (List Record)) (reports more : List RequestReport) (conn : ℕ) (result : Option Record)
     → ToldSoFar links stacks reports → TakesLast stacks mid conn result → after ≡ mid → result ≡ None → more ≡ reports → ToldSoFar links after more
 none_turn links stacks mid after reports more conn result far takes same is told =
     subst (ToldSoFar links after) (sym told)
     (subst (λ (ss : List (List Record)). ToldSoFar links ss reports) (sym same) (told_no_more links stacks mid reports conn result far takes is))
 
-pub told_whole : {E S : Type 0} (links : List (Link E S)) (stacks : List (List Record)) (reports : List RequestReport) → ToldSoFar links stacks reports → (n : ℕ) → TellsGiven links reports n
+pub told_whole : {E S : Type 0} (links : List (Seated E S)) (stacks : List (List Record)) (reports : List RequestReport) → ToldSoFar links stacks reports → (n : ℕ) → TellsGiven links reports n
 told_whole links stacks reports far n = (left_in (numbered stacks n), far n)
 
 -- ---- Taking the last one
@@ -164,7 +164,7 @@ nothing_both : (xs ys : List Token) → [] ≡ xs ++ ys → xs ≡ []
 nothing_both [] ys is = refl
 nothing_both (x ∷ xs) ys is = absurd (cc)
 
-told_at : {E S : Type 0} (size : ℕ) (o : Option (Link E S)) (pipe : Option Pipe) (given more : List Token) → ((link : Link E S) → o ≡ Some link → IsReading size link pipe)
+told_at : {E S : Type 0} (size : ℕ) (o : Option (Seated E S)) (pipe : Option Pipe) (given more : List Token) → ((link : Seated E S) → o ≡ Some link → ReadsThere size link pipe)
     → given_at o ≡ given ++ more → AreToldBy (new_reader ToClient size) (traffic pipe ToClient).came given
 told_at size None pipe given more reads is =
     subst (AreToldBy (new_reader ToClient size) (traffic pipe ToClient).came) (sym (nothing_both given more is)) (told_nothing (new_reader ToClient size) (traffic pipe ToClient).came)
@@ -172,13 +172,13 @@ told_at size (Some link) pipe given more reads is =
     fewer_told (new_reader ToClient size) (traffic pipe ToClient).came given more
     (subst (AreToldBy (new_reader ToClient size) (traffic pipe ToClient).came) is (reads link refl).told)
 
-known_at : {E S : Type 0} (size : ℕ) (links : List (Link E S)) (pipes : ℕ → Option Pipe) (n : ℕ) (link : Link E S)
-    → ((i : ℕ) (x : Link E S) → i < length links → IsReading size (get_or links i x) (pipes (suc i))) → numbered links n ≡ Some link → IsReading size link (pipes n)
+known_at : {E S : Type 0} (size : ℕ) (links : List (Seated E S)) (pipes : ℕ → Option Pipe) (n : ℕ) (link : Seated E S)
+    → ((i : ℕ) (x : Seated E S) → i < length links → ReadsThere size (get_or links i x) (pipes (suc i))) → numbered links n ≡ Some link → ReadsThere size link (pipes n)
 known_at size links pipes zero link reads is = absurd (cc)
 known_at {E} {S} size links pipes (suc i) link reads is =
-    subst (λ (x : Link E S). IsReading size x (pipes (suc i))) (get_or_from_slice_get links i link link is) (reads i link (slice_get_within links i link is))
+    subst (λ (x : Seated E S). ReadsThere size x (pipes (suc i))) (get_or_from_slice_get links i link link is) (reads i link (slice_get_within links i link is))
 
-answered_at : {E S : Type 0} (size : ℕ) (links : List (Link E S)) (pipes : ℕ → Option Pipe) (rs : List EventReport) (es : List Event) (n : ℕ) (d : Direction) → AllRead size links pipes (answers_of es rs)
+answered_at : {E S : Type 0} (size : ℕ) (links : List (Seated E S)) (pipes : ℕ → Option Pipe) (rs : List EventReport) (es : List Event) (n : ℕ) (d : Direction) → AllRead size links pipes (answers_of es rs)
     → AllByRecursion IsRefused (outcomes_on n d es rs) ⊎ AreAnswered (new_reader d size) [] (outcomes_on n d es rs) (traffic (pipes n) d).came
 answered_at size links pipes rs es zero d all = inl (all.refused zero d (inl refl))
 answered_at size links pipes rs es (suc i) d all = elim (cases_lt i (length links)) [
@@ -186,7 +186,7 @@ answered_at size links pipes rs es (suc i) d all = elim (cases_lt i (length link
   | inr high ↦ inl (all.refused (suc i) d (inr (omega (arith, high))))
 ]
 
-pub read_in_the_end : {E S : Type 0} (size : ℕ) (es : List Event) (i : ℕ) (links : List (Link E S)) (pipes : ℕ → Option Pipe) (rs events : List EventReport) (requests told : List RequestReport)
+pub read_in_the_end : {E S : Type 0} (size : ℕ) (es : List Event) (i : ℕ) (links : List (Seated E S)) (pipes : ℕ → Option Pipe) (rs events : List EventReport) (requests told : List RequestReport)
     → length es ≤ i → events ≡ rs → requests ≡ told → AllRead size links pipes (answers_of (take i es) rs) → ((n : ℕ) → TellsGiven links told n)
     → ReadsBytes size es (record { events = events; requests = requests }) pipes
 read_in_the_end {E} {S} size es i links pipes rs events requests told over same are all tells =

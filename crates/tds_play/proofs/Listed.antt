@@ -7,9 +7,12 @@ use Rattle.std.proofs.Math.Facts.{eqb_yes}
 use Rattle.std.proofs.Math.Seq.{get_or-append_seam}
 use Rattle.std.proofs.Math.ListN.{get_or-append}
 use Rattle.std.proofs.lemmas.Bool.Decides.{nat_tests}
+use Rattle.std.specs.Iterator.{Yields}
+use Rattle.std.specs.Vec.Iter.{into_iter_items, into_iter_len, into_iter_steps}
+use Rattle.std.specs.declared.vec.IntoIter.{IntoIter}
 use Rattle.tds_play.specs.Pipe.{Pipe, AreSame}
 use Rattle.tds_play.specs.Ties.{IsTied, AreTied}
-use Rattle.tds_play.specs.declared.link.Link.{Link}
+use Rattle.tds_play.specs.declared.seat.Seated.{Seated}
 
 pub by_test : (Q : Type 0) (b : Bool) → (b ≡ true → Q) → (b ≡ false → Q) → Q
 by_test Q true f g = f refl
@@ -39,10 +42,10 @@ push_each P xs v each last j d lt =
     subst (λ (k : ℕ). P k (get_or (xs ++ v ∷ []) k d)) (sym at) (subst (P (length xs)) (sym (last_of xs v d)) last))
 
 -- A new connection, with the next number.
-pub opened : {E S : Type 0} (links new : List (Link E S)) (link : Link E S) (pipes pipes' : ℕ → Option Pipe) → new ≡ links ++ link ∷ [] → AreTied links pipes → link.number ≡ suc (length links) → IsTied link (pipes' (suc (length links))) → AreSame pipes pipes' (suc (length links)) → AreTied new pipes'
+pub opened : {E S : Type 0} (links new : List (Seated E S)) (link : Seated E S) (pipes pipes' : ℕ → Option Pipe) → new ≡ links ++ link ∷ [] → AreTied links pipes → link.link.number ≡ suc (length links) → IsTied link.link (pipes' (suc (length links))) → AreSame pipes pipes' (suc (length links)) → AreTied new pipes'
 opened links new link pipes pipes' is all number tied same = rw is (record {
-  numbered = push_each (λ k x. x.number ≡ suc k) links link all.numbered number;
-  tied = push_each (λ k x. IsTied x (pipes' (suc k))) links link (λ k x lt. subst (λ p. IsTied (get_or links k x) p) (sym (same (suc k) (λ z. absurd (omega arith)))) (all.tied k x lt)) tied;
+  numbered = push_each (λ k x. x.link.number ≡ suc k) links link all.numbered number;
+  tied = push_each (λ k x. IsTied x.link (pipes' (suc k))) links link (λ k x lt. subst (λ p. IsTied (get_or links k x).link p) (sym (same (suc k) (λ z. absurd (omega arith)))) (all.tied k x lt)) tied;
 })
 
 pub set_each : {X : Type 0} (P : ℕ → X → Type 0) (xs : List X) (i : ℕ) (v : X) → ((j : ℕ) (d : X) → j ≢ i → j < length xs → P j (get_or xs j d)) → i < length xs → P i v → (j : ℕ) (d : X) → j < length (set xs i v) → P j (get_or (set xs i v) j d)
@@ -52,11 +55,23 @@ set_each P xs i v each there is j d less =
     (λ t. subst (P j) (sym (get_or-set_other xs i j v d (is_other j i t))) (each j d (is_other j i t) (omega (arith, less, length-set xs i v))))
 
 -- One of them changes, and keeps its number.
-pub changed : {E S : Type 0} (links : List (Link E S)) (place : ℕ) (link new : Link E S) (pipes pipes' : ℕ → Option Pipe) → AreTied links pipes → place < length links → link ≡ get_or links place link → new.number ≡ link.number → IsTied new (pipes' link.number) → AreSame pipes pipes' link.number → AreTied (set links place new) pipes'
+pub changed : {E S : Type 0} (links : List (Seated E S)) (place : ℕ) (link new : Seated E S) (pipes pipes' : ℕ → Option Pipe) → AreTied links pipes → place < length links → link ≡ get_or links place link → new.link.number ≡ link.link.number → IsTied new.link (pipes' link.link.number) → AreSame pipes pipes' link.link.number → AreTied (set links place new) pipes'
 changed {E} {S} links place link new pipes pipes' all there is kept tied same =
-    let number : link.number ≡ suc place = ap (λ (l : Link E S). l.number) is ∙ all.numbered place link there in
+    let number : link.link.number ≡ suc place = ap (λ (l : Seated E S). l.link.number) is ∙ all.numbered place link there in
     record {
-      numbered = set_each (λ k x. x.number ≡ suc k) links place new (λ k x other less. all.numbered k x less) there (kept ∙ number);
-      tied = set_each (λ k x. IsTied x (pipes' (suc k))) links place new
-          (λ k x other less. subst (IsTied (get_or links k x)) (sym (same (suc k) (λ z. other (omega (arith, z, number))))) (all.tied k x less)) there (subst (λ (k : ℕ). IsTied new (pipes' k)) number tied);
+      numbered = set_each (λ k x. x.link.number ≡ suc k) links place new (λ k x other less. all.numbered k x less) there (kept ∙ number);
+      tied = set_each (λ k x. IsTied x.link (pipes' (suc k))) links place new
+          (λ k x other less. subst (IsTied (get_or links k x).link) (sym (same (suc k) (λ z. other (omega (arith, z, number))))) (all.tied k x less)) there (subst (λ (k : ℕ). IsTied new.link (pipes' k)) number tied);
     }
+
+-- ---- What the iterator of a vector gave
+
+none_left : {X : Type 0} (xs : List X) → length xs ≡ 0 → xs ≡ []
+none_left [] e = refl
+none_left (x ∷ xs) e = absurd (omega (arith, e))
+
+-- It gave all of them, once none is left.
+pub all_yielded : {X A : Type 0} (s : IntoIter X A) (xs : List X) (t : IntoIter X A) → Yields into_iter_steps s xs t → into_iter_len t ≡ 0 → xs ≡ into_iter_items s
+all_yielded s [] t y none =
+    sym (none_left (into_iter_items t) (sym t.rest.ok.0 ∙ none)) ∙ sym (ap into_iter_items y)
+all_yielded s (x ∷ xs) t y none = ap (λ ys. x ∷ ys) (all_yielded y.0 xs t y.2 none) ∙ sym y.1.0

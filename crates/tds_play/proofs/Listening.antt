@@ -1,7 +1,7 @@
 -- A connection of the player whose client listens: its newest request, and what it stands for then.
 use Rattle.std.proofs.Common.{◌≡◌, ◌∙◌, ◌+◌, ◌-◌, ◌++◌, ℕ, min, Bool, true, false, refl, sym, ap, Option, Some, None, option_map, List, Result, Ok, Err, IfOk}
 use Rattle.std.specs.Prelude.{is_none}
-use Rattle.tds_client.specs.Session.{unless_idle}
+use Rattle.tds_client.specs.Session.{ClientSession, unless_idle}
 use Rattle.tds_packet.specs.declared.kind.Direction.TheVariants.{ToServer, ToClient}
 use Rattle.tds_token.specs.declared.token.Token.{Token}
 use Rattle.tds_world.specs.declared.report.RequestStatus.{RequestStatus}
@@ -11,13 +11,14 @@ use Rattle.tds_world.specs.Entries.{up_bytes, down_bytes}
 use Rattle.tds_world.specs.Phase.{status_of}
 use Rattle.tds_world.specs.Record as world
 use Rattle.tds_play.specs.declared.link.Link.{Link}
+use Rattle.tds_play.specs.declared.seat.Seat.{Seat}
 use Rattle.tds_play.specs.declared.request.Record.{Record}
 use Rattle.tds_play.specs.Between.{Stands}
 use Rattle.tds_ends.specs.Stays.{IdleAlike}
 use Rattle.tds_ends.specs.Deliveries.{ListensAlike, status_under}
 use Rattle.tds_ends.specs.Feeding.{Listened}
 use Rattle.tds_play.specs.Lending.{standing_by}
-use Rattle.tds_play.specs.Links.{drained_at, placed_at}
+use Rattle.tds_play.specs.Seats.{drained, drained_at}
 use Rattle.tds_play.specs.Listening.{HasListened, IsToldSo, told_in}
 use Rattle.tds_play.specs.Pipe.{Pipe, traffic, brought_on, carried, next_of, IsOpen}
 use Rattle.tds_play.specs.Plays.{IsPlayed}
@@ -79,11 +80,12 @@ newest_heard number then (Some r) (Some s) (Some q) (Some p) is told same tells 
 -- ---- The player's connection
 
 -- What it is behind a delivery to the client.
-pub record ListenedOn {E S : Type 0} (old new : Link E S) (pipe after : Option Pipe) (n : ℕ) (then : Listened) (left : List ℕ) : Type 0 where
-  pub heard : Heard old new pipe after n then.session left
+pub record ListenedOn {E S : Type 0} (old new : Link E S) (seat next : Seat) (pipe after : Option Pipe) (n : ℕ) (then : Listened) (left : List ℕ) : Type 0 where
+  pub heard : Heard old new pipe after n left
+  pub client : next.client ≡ then.session
   pub number : new.number ≡ old.number
   pub is_cut : new.is_cut ≡ old.is_cut
-  pub place : new.place ≡ drained_at (is_none (unless_idle then.session.stage)) old.place
+  pub place : next.place ≡ drained_at (is_none (unless_idle then.session.stage)) seat.place
   pub told : IsToldSo then old.current new.current
   pub past : new.past ≡ old.past
   pub engine : new.server.engine ≡ old.server.engine
@@ -110,64 +112,60 @@ came_down (Some p) after bytes true open_ is = record {
 }
 
 -- Behind the carrier's call, behind the client's turn, and where it is drained.
-pub listened_by : {E S : Type 0} (old one two new : Link E S) (pipe after : Option Pipe) (n : ℕ) (then : Listened) (left : List ℕ) (lost : Bool)
+pub listened_by : {E S : Type 0} (old one new : Link E S) (seat next : Seat) (client : ClientSession) (pipe after : Option Pipe) (n : ℕ) (then : Listened) (left : List ℕ) (lost : Bool)
     → IsOpen pipe
     → one ≡ with_counted old ToClient (old.to_client - n)
-    → HasListened then left one two
-    → new ≡ placed_at (drained_at (is_none (unless_idle two.client.stage)) two.place) two
+    → client ≡ then.session → HasListened then left one new
+    → next ≡ drained (record seat { client = client })
     → after ≡ brought_on pipe ToClient (next_of (traffic pipe ToClient) n) lost
-    → ListenedOn old new pipe after n then left
-listened_by old one two new pipe after n then left lost open_ first h last came =
+    → ListenedOn old new seat next pipe after n then left
+listened_by old one new seat next client pipe after n then left lost open_ first at h last came =
     let down = came_down pipe after (next_of (traffic pipe ToClient) n) lost open_ came in
     let second = h.rest in
-    let reader = ap (λ l. l.client_reader) last ∙ h.reader in
-    let place : two.place ≡ old.place = ap (λ l. l.place) second ∙ ap (λ l. l.place) first in
+    let reader = h.reader in
     record {
       heard = record {
-        client = ap (λ l. l.client) last ∙ h.client;
-        server = ap (λ l. l.server) last ∙ ap (λ l. l.server) second ∙ ap (λ l. l.server) first;
+        server = ap (λ l. l.server) second ∙ ap (λ l. l.server) first;
         client_reader = ap (λ r. r.taken) reader;
-        server_reader = ap (λ l. l.server_reader) last ∙ ap (λ l. l.server_reader) second ∙ ap (λ l. l.server_reader) first;
-        to_server = ap (λ l. l.to_server) last ∙ ap (λ l. l.to_server) second ∙ ap (λ l. l.to_server) first;
-        to_client = ap (λ l. l.to_client) last ∙ ap (λ l. l.to_client) second ∙ ap (λ l. l.to_client) first;
+        server_reader = ap (λ l. l.server_reader) second ∙ ap (λ l. l.server_reader) first;
+        to_server = ap (λ l. l.to_server) second ∙ ap (λ l. l.to_server) first;
+        to_client = ap (λ l. l.to_client) second ∙ ap (λ l. l.to_client) first;
         stuck = down.stuck;
         up = down.up;
         down = down.down;
       };
-      number = ap (λ l. l.number) last ∙ ap (λ l. l.number) second ∙ ap (λ l. l.number) first;
-      is_cut = ap (λ l. l.is_cut) last ∙ ap (λ l. l.is_cut) second ∙ ap (λ l. l.is_cut) first;
-      place =
-          ap (λ l. l.place) last
-          ∙ ap (λ s. drained_at (is_none (unless_idle s.stage)) two.place) h.client
-          ∙ ap (drained_at (is_none (unless_idle then.session.stage))) place;
-      told = rw (ap (λ l. l.current) last, sym (ap (λ l. l.current) first)) h.told;
-      past = ap (λ l. l.past) last ∙ ap (λ l. l.past) second ∙ ap (λ l. l.past) first;
-      engine = ap (λ l. l.server.engine) last ∙ ap (λ l. l.server.engine) second ∙ ap (λ l. l.server.engine) first;
+      number = ap (λ l. l.number) second ∙ ap (λ l. l.number) first;
+      is_cut = ap (λ l. l.is_cut) second ∙ ap (λ l. l.is_cut) first;
+      client = ap (λ (s : Seat). s.client) last ∙ at;
+      place = ap (λ (s : Seat). s.place) last ∙ ap (λ (s : ClientSession). drained_at (is_none (unless_idle s.stage)) seat.place) at;
+      told = rw (sym (ap (λ l. l.current) first)) h.told;
+      past = ap (λ l. l.past) second ∙ ap (λ l. l.past) first;
+      engine = ap (λ l. l.server.engine) second ∙ ap (λ l. l.server.engine) first;
       client_reads = ap (λ r. r.direction) reader ∙ ap (λ l. l.client_reader.direction) first;
       client_size = ap (λ r. r.size) reader ∙ ap (λ l. l.client_reader.size) first;
     }
 
 -- ---- What it stands for
 
-pub listened_on : {E S : Type 0} → IdleAlike → (number size most n : ℕ) (engine : E) (bytes : List ℕ) (old new : Link E S) (pipe after : Option Pipe) (c : Connection)
-    → IsPlayed number size engine old pipe c → old.is_cut ≡ false
+pub listened_on : {E S : Type 0} → IdleAlike → (number size most n : ℕ) (engine : E) (bytes : List ℕ) (old new : Link E S) (seat next : Seat) (pipe after : Option Pipe) (c : Connection)
+    → IsPlayed number size engine old seat pipe c → old.is_cut ≡ false
     → (to_client most c).past ≡ c.past
-    → (a : ListensAlike old.client_reader bytes c (reach_client c c.to_client.waiting (c.to_client.part + min most (down_underway c))) old.client None (told_in old.current))
-    → ListenedOn old new pipe after n a.then a.rest
-    → Stands new after (to_client most c)
-    → IsPlayed number size engine new after (to_client most c)
-listened_on waits number size most n engine bytes old new pipe after c p live past a d s =
+    → (a : ListensAlike old.client_reader bytes c (reach_client c c.to_client.waiting (c.to_client.part + min most (down_underway c))) seat.client None (told_in old.current))
+    → ListenedOn old new seat next pipe after n a.then a.rest
+    → Stands new next after (to_client most c)
+    → IsPlayed number size engine new next after (to_client most c)
+listened_on waits number size most n engine bytes old new seat next pipe after c p live past a d s =
     let k : ℕ = c.to_client.part + min most (down_underway c) in
     let reached : Connection = reach_client c c.to_client.waiting k in
     let beside = reach_beside c c.to_client.waiting k in
     let l = p.lives live in
     let uncut : new.is_cut ≡ false = d.is_cut ∙ live in
-    let stood : reached.standing ≡ In old.place = beside.standing ∙ sym p.standing ∙ ap (λ b. standing_by b old.place) live in
+    let stood : reached.standing ≡ In seat.place = beside.standing ∙ sym p.standing ∙ ap (λ b. standing_by b seat.place) live in
     record {
       numbered = d.number ∙ p.numbered;
       standing =
-          ap (λ b. standing_by b new.place) uncut ∙ ap (λ x. In x) d.place
-          ∙ stands_drained waits a.then.session reached old.place a.matches stood;
+          ap (λ b. standing_by b next.place) uncut ∙ ap (λ x. In x) d.place
+          ∙ stands_drained waits a.then.session reached seat.place a.matches stood;
       older = rw (d.is_cut, d.past, past) p.older;
       newest = rw uncut (newest_heard number a.then old.current new.current c.current reached.current (rw live at p.newest) d.told beside.current a.tells);
       to_server = s.up.handed;
@@ -177,7 +175,7 @@ listened_on waits number size most n engine bytes old new pipe after c p live pa
       lives = λ whole. record {
         stands = s;
         engine_is = d.engine ∙ l.engine_is;
-        size_is = ap (λ x. x.size) d.heard.client ∙ listened_size old.client None (told_in old.current) a.packets a.then a.listens ∙ l.size_is;
+        size_is = ap (λ (x : ClientSession). x.size) d.client ∙ listened_size seat.client None (told_in old.current) a.packets a.then a.listens ∙ l.size_is;
         server_reads = ap (λ r. r.direction) d.heard.server_reader ∙ l.server_reads;
         server_size = ap (λ r. r.size) d.heard.server_reader ∙ l.server_size;
         client_reads = d.client_reads ∙ l.client_reads;

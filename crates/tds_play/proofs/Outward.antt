@@ -10,13 +10,15 @@ use Rattle.tds_world.specs.Entries.{Up, Down, up_bytes, down_bytes}
 use Rattle.tds_world.specs.Lane.{Lane, sent_bytes, come_bytes}
 use Rattle.tds_world.specs.Record as world
 use Rattle.tds_play.specs.Between.{IsLane}
-use Rattle.tds_play.specs.Lending.{standing_by, standing_of}
+use Rattle.tds_play.specs.Lending.{standing_by}
+use Rattle.tds_play.specs.Seats.{seated}
 use Rattle.tds_play.specs.Pipe.{Pipe, Traffic, traffic, sent, sent_on, IsOpen}
 use Rattle.tds_play.specs.Plays.{IsPlayed}
 use Rattle.tds_play.specs.Requests.{AreOlder, IsNewest}
 use Rattle.tds_ends.specs.Stands.{MatchesClient, MatchesServer, Sends}
 use Rattle.tds_play.specs.Ties.{saturated, with_counted}
 use Rattle.tds_play.specs.declared.link.Link.{Link}
+use Rattle.tds_play.specs.declared.seat.Seat.{Seat}
 use Rattle.tds_play.specs.declared.request.Record.{Record}
 use Rattle.tds_play.proofs.Between.{lane_came, lane_sent}
 use Rattle.tds_play.proofs.ServerEvent.{sent_none, count_by}
@@ -117,18 +119,18 @@ abbrev pub SentMore : {Entry : Type 0} → (Entry → List ℕ) → Type 0
 SentMore {Entry} bytes = (more : List ℕ) (old new : Lane Entry) → Sends bytes more old new → sent_bytes bytes new ≡ sent_bytes bytes old ++ more
 
 -- The client did it: it sent these bytes, and the connection's newest request and place may have changed.
-pub sent_played : {E S : Type 0} → SentMore up_bytes → (number size : ℕ) (engine : E) (link new : Link E S) (s : ClientSession) (q : Option Record) (p : Place) (pipe after : Option Pipe) (c d : Connection) (bytes : List ℕ)
-    → IsPlayed number size engine link pipe c → link.is_cut ≡ false
-    → HandedUp (record link { client = s; current = q; place = p }) new pipe after bytes
-    → d.standing ≡ In p → s.size ≡ link.client.size
+pub sent_played : {E S : Type 0} → SentMore up_bytes → (number size : ℕ) (engine : E) (link new : Link E S) (seat : Seat) (s : ClientSession) (q : Option Record) (p : Place) (pipe after : Option Pipe) (c d : Connection) (bytes : List ℕ)
+    → IsPlayed number size engine link seat pipe c → link.is_cut ≡ false
+    → HandedUp (record link { current = q }) new pipe after bytes
+    → d.standing ≡ In p → s.size ≡ seat.client.size
     → MatchesClient s d → MatchesServer link.server d
     → Sends up_bytes bytes c.to_server d.to_server → d.to_client ≡ c.to_client
     → d.past ≡ c.past → IsNewest number false q d.current
     → up_underway d ≤ 18446744073709551615
-    → IsPlayed number size engine new after d
-sent_played {E} {S} appends number size engine link new s q p pipe after c d bytes i live h standing sized client server sends below past newest few = record {
+    → IsPlayed number size engine new (seated p s) after d
+sent_played {E} {S} appends number size engine link new seat s q p pipe after c d bytes i live h standing sized client server sends below past newest few = record {
   numbered = ap (λ l. l.number) h.link ∙ i.numbered;
-  standing = ap standing_of h.link ∙ ap (λ (b : Bool). standing_by b p) live ∙ sym standing;
+  standing = ap (λ (l : Link E S). standing_by l.is_cut p) h.link ∙ ap (λ (b : Bool). standing_by b p) live ∙ sym standing;
   older =
       subst (λ (l : Link E S). AreOlder number l.is_cut l.past.items d.past) (sym h.link)
       (subst (λ (qs : List world.Record). AreOlder number link.is_cut link.past.items qs) (sym past) i.older);
@@ -148,7 +150,7 @@ sent_played {E} {S} appends number size engine link new s q p pipe after c d byt
       let counts : new.to_server ≡ link.to_server + length bytes = h.counts (omega (arith, (lane (link.to_server + length bytes) refl).counts, few)) in
       record {
         stands = record {
-          client = subst (λ (l : Link E S). MatchesClient l.client d) (sym h.link) client;
+          client = client;
           server = subst (λ (l : Link E S). MatchesServer l.server d) (sym h.link) server;
           up =
               subst (λ (t : Traffic). IsLane up_bytes t d.to_server new.server_reader.taken new.to_server) (sym h.up)
@@ -159,7 +161,7 @@ sent_played {E} {S} appends number size engine link new s q p pipe after c d byt
               (subst (λ (l : Link E S). IsLane down_bytes (traffic pipe ToClient) c.to_client l.client_reader.taken l.to_client) (sym h.link) v.stands.down));
         };
         engine_is = ap (λ l. l.server.engine) h.link ∙ v.engine_is;
-        size_is = ap (λ l. l.client.size) h.link ∙ sized ∙ v.size_is;
+        size_is = sized ∙ v.size_is;
         server_reads = ap (λ l. l.server_reader.direction) h.link ∙ v.server_reads;
         server_size = ap (λ l. l.server_reader.size) h.link ∙ v.server_size;
         client_reads = ap (λ l. l.client_reader.direction) h.link ∙ v.client_reads;
@@ -169,18 +171,18 @@ sent_played {E} {S} appends number size engine link new s q p pipe after c d byt
 }
 
 -- The server did it: it sent these bytes, and the newest request may have changed.
-pub replied_played : {E S : Type 0} → SentMore down_bytes → (number size : ℕ) (engine : E) (link new : Link E S) (s : ServerState E) (q : Option Record) (pipe after : Option Pipe) (c d : Connection) (bytes : List ℕ)
-    → IsPlayed number size engine link pipe c → link.is_cut ≡ false
+pub replied_played : {E S : Type 0} → SentMore down_bytes → (number size : ℕ) (engine : E) (link new : Link E S) (seat : Seat) (s : ServerState E) (q : Option Record) (pipe after : Option Pipe) (c d : Connection) (bytes : List ℕ)
+    → IsPlayed number size engine link seat pipe c → link.is_cut ≡ false
     → HandedDown (record link { server = s; current = q }) new pipe after bytes
     → d.standing ≡ c.standing → s.engine ≡ link.server.engine
-    → MatchesClient link.client d → MatchesServer s d
+    → MatchesClient seat.client d → MatchesServer s d
     → Sends down_bytes bytes c.to_client d.to_client → d.to_server ≡ c.to_server
     → d.past ≡ c.past → IsNewest number false q d.current
     → down_underway d ≤ 18446744073709551615
-    → IsPlayed number size engine new after d
-replied_played {E} {S} appends number size engine link new s q pipe after c d bytes i live h standing same client server sends above past newest few = record {
+    → IsPlayed number size engine new seat after d
+replied_played {E} {S} appends number size engine link new seat s q pipe after c d bytes i live h standing same client server sends above past newest few = record {
   numbered = ap (λ l. l.number) h.link ∙ i.numbered;
-  standing = ap standing_of h.link ∙ i.standing ∙ sym standing;
+  standing = ap (λ (l : Link E S). standing_by l.is_cut seat.place) h.link ∙ i.standing ∙ sym standing;
   older =
       subst (λ (l : Link E S). AreOlder number l.is_cut l.past.items d.past) (sym h.link)
       (subst (λ (qs : List world.Record). AreOlder number link.is_cut link.past.items qs) (sym past) i.older);
@@ -200,7 +202,7 @@ replied_played {E} {S} appends number size engine link new s q pipe after c d by
       let counts : new.to_client ≡ link.to_client + length bytes = h.counts (omega (arith, (lane (link.to_client + length bytes) refl).counts, few)) in
       record {
         stands = record {
-          client = subst (λ (l : Link E S). MatchesClient l.client d) (sym h.link) client;
+          client = client;
           server = subst (λ (l : Link E S). MatchesServer l.server d) (sym h.link) server;
           up =
               subst (λ (t : Traffic). IsLane up_bytes t d.to_server new.server_reader.taken new.to_server) (sym h.up)
@@ -211,7 +213,7 @@ replied_played {E} {S} appends number size engine link new s q pipe after c d by
               (subst (λ (r : Reading). IsLane down_bytes (sent (traffic pipe ToClient) bytes h.failures) d.to_client r.taken new.to_client) (sym (ap (λ l. l.client_reader) h.link)) (lane new.to_client counts));
         };
         engine_is = ap (λ l. l.server.engine) h.link ∙ same ∙ v.engine_is;
-        size_is = ap (λ l. l.client.size) h.link ∙ v.size_is;
+        size_is = v.size_is;
         server_reads = ap (λ l. l.server_reader.direction) h.link ∙ v.server_reads;
         server_size = ap (λ l. l.server_reader.size) h.link ∙ v.server_size;
         client_reads = ap (λ l. l.client_reader.direction) h.link ∙ v.client_reads;

@@ -13,7 +13,7 @@ use Rattle.tds_world.specs.Connection.{Connection, Standing, In, is_idle, phase}
 use Rattle.tds_world.specs.Phase.{Phase, Settled, Asked, Sending, Reading, Cancelling, is_settled}
 use Rattle.tds_world.specs.Pool.{Acted, is_full, keeps, keeps_by}
 use Rattle.tds_play.specs.Lending.{standing_by}
-use Rattle.tds_play.specs.Links.{lent_as, placed_at, unless_kept, unless_kept_by}
+use Rattle.tds_play.specs.Seats.{lent_as, placed_at, unless_kept, unless_kept_by}
 use Rattle.tds_play.specs.Pipe.{Pipe}
 use Rattle.tds_play.specs.Plays.{IsPlayed, after, outcome_of}
 use Rattle.tds_play.specs.Seen.{done_as}
@@ -21,6 +21,7 @@ use Rattle.tds_ends.specs.Stands.{MatchesClient}
 use Rattle.tds_ends.specs.Stays.{IdleAlike, PoolIsUnseen}
 use Rattle.tds_play.specs.declared.link.Done.{Done}
 use Rattle.tds_play.specs.declared.link.Link.{Link}
+use Rattle.tds_play.specs.declared.seat.Seat.{Seat}
 
 -- ---- Who waits
 
@@ -43,10 +44,10 @@ idle_unless waits s c m e = none_where (unless_idle s.stage) (waits s c m ∙ e)
 
 -- ---- Elsewhere in the pool
 
-pub placed_played : {E S : Type 0} → PoolIsUnseen E → (number size : ℕ) (engine : E) (link : Link E S) (pipe : Option Pipe) (c : Connection) (p : Place)
-    → IsPlayed number size engine link pipe c → link.is_cut ≡ false
-    → IsPlayed number size engine (placed_at p link) pipe (record c { standing = In p })
-placed_played unseen number size engine link pipe c p i live = record {
+pub placed_played : {E S : Type 0} → PoolIsUnseen E → (number size : ℕ) (engine : E) (link : Link E S) (seat : Seat) (pipe : Option Pipe) (c : Connection) (p : Place)
+    → IsPlayed number size engine link seat pipe c → link.is_cut ≡ false
+    → IsPlayed number size engine link (placed_at p seat) pipe (record c { standing = In p })
+placed_played unseen number size engine link seat pipe c p i live = record {
   numbered = i.numbered;
   standing = ap (λ (b : Bool). standing_by b p) live;
   older = i.older;
@@ -60,7 +61,7 @@ placed_played unseen number size engine link pipe c p i live = record {
       let s = v.stands in
       record {
         stands = record {
-          client = unseen.client (In p) link.client c s.client;
+          client = unseen.client (In p) seat.client c s.client;
           server = unseen.server c.mark (In p) link.server c s.server;
           up = s.up;
           down = s.down;
@@ -79,17 +80,17 @@ placed_played unseen number size engine link pipe c p i live = record {
 abbrev pub MarksAlike : Type 0
 MarksAlike = (s : ClientSession) (c : Connection) (r : Reset) (standing : Standing) → MatchesClient s c → phase c ≡ Settled → MatchesClient (marked s r) (record c { mark = strongest (Some r) c.mark; standing = standing })
 
-pub lent_played : {E S : Type 0} → PoolIsUnseen E → IdleAlike → MarksAlike → (number size lease : ℕ) (mark : Reset) (engine : E) (link new : Link E S) (pipe : Option Pipe) (c : Connection)
-    → IsPlayed number size engine link pipe c → link.is_cut ≡ false → is_idle c ≡ true
-    → (unless_idle link.client.stage ≡ None → new ≡ lent_as lease mark link)
-    → IsPlayed number size engine new pipe (record c { mark = strongest (Some mark) c.mark; standing = In (place.Leased lease) })
-lent_played {E} {S} unseen waits marks number size lease mark engine link new pipe c i live idle is =
-    rw (is (idle_unless waits link.client c (i.lives live).stands.client idle)) here
+pub lent_played : {E S : Type 0} → PoolIsUnseen E → IdleAlike → MarksAlike → (number size lease : ℕ) (mark : Reset) (engine : E) (link : Link E S) (seat new : Seat) (pipe : Option Pipe) (c : Connection)
+    → IsPlayed number size engine link seat pipe c → link.is_cut ≡ false → is_idle c ≡ true
+    → (unless_idle seat.client.stage ≡ None → new ≡ lent_as lease mark seat)
+    → IsPlayed number size engine link new pipe (record c { mark = strongest (Some mark) c.mark; standing = In (place.Leased lease) })
+lent_played {E} {S} unseen waits marks number size lease mark engine link seat new pipe c i live idle is =
+    rw (is (idle_unless waits seat.client c (i.lives live).stands.client idle)) here
   where
     d : Connection
     d = record c { mark = strongest (Some mark) c.mark; standing = In (place.Leased lease) }
 
-    here : IsPlayed number size engine (lent_as lease mark link) pipe d
+    here : IsPlayed number size engine link (lent_as lease mark seat) pipe d
     here = record {
       numbered = i.numbered;
       standing = ap (λ (b : Bool). standing_by b (place.Leased lease)) live;
@@ -104,7 +105,7 @@ lent_played {E} {S} unseen waits marks number size lease mark engine link new pi
           let s = v.stands in
           record {
             stands = record {
-              client = marks link.client c mark (In (place.Leased lease)) s.client (idle_settled c idle);
+              client = marks seat.client c mark (In (place.Leased lease)) s.client (idle_settled c idle);
               server = unseen.server (strongest (Some mark) c.mark) (In (place.Leased lease)) link.server c s.server;
               up = s.up;
               down = s.down;
@@ -122,32 +123,32 @@ lent_played {E} {S} unseen waits marks number size lease mark engine link new pi
 -- ---- Keeping
 
 -- What is done on a connection without its carrier, and that it stands for the model's then.
-abbrev pub DoesWhole : {E S : Type 0} → ℕ → ℕ → E → Done → Link E S → Option Pipe → Acted → Connection → Type 0
-DoesWhole number size engine done link pipe a c =
-    (done ≡ done_as (outcome_of a)) × IsPlayed number size engine link pipe (after a c)
+abbrev pub DoesWhole : {E S : Type 0} → ℕ → ℕ → E → Done → Link E S → Seat → Option Pipe → Acted → Connection → Type 0
+DoesWhole number size engine done link seat pipe a c =
+    (done ≡ done_as (outcome_of a)) × IsPlayed number size engine link seat pipe (after a c)
 
-kept_by : {E S : Type 0} → PoolIsUnseen E → (number size ticket : ℕ) (engine : E) (link new : Link E S) (pipe : Option Pipe) (c : Connection) (done : Done) (idle nothing : Bool)
-    → IsPlayed number size engine link pipe c → link.is_cut ≡ false
-    → ((why : Refusal) → unless_kept_by idle nothing ≡ Some why → (done ≡ done_as (Refused why)) × (new ≡ link))
-    → (unless_kept_by idle nothing ≡ None → (done ≡ done_as (Kept ticket)) × (new ≡ placed_at (place.Kept ticket) link))
-    → DoesWhole number size engine done new pipe (keeps_by idle nothing ticket c) c
-kept_by unseen number size ticket engine link new pipe c done false nothing i live refused kept =
+kept_by : {E S : Type 0} → PoolIsUnseen E → (number size ticket : ℕ) (engine : E) (link : Link E S) (seat new : Seat) (pipe : Option Pipe) (c : Connection) (done : Done) (idle nothing : Bool)
+    → IsPlayed number size engine link seat pipe c → link.is_cut ≡ false
+    → ((why : Refusal) → unless_kept_by idle nothing ≡ Some why → (done ≡ done_as (Refused why)) × (new ≡ seat))
+    → (unless_kept_by idle nothing ≡ None → (done ≡ done_as (Kept ticket)) × (new ≡ placed_at (place.Kept ticket) seat))
+    → DoesWhole number size engine done link new pipe (keeps_by idle nothing ticket c) c
+kept_by unseen number size ticket engine link seat new pipe c done false nothing i live refused kept =
     let h = refused NotIdle refl in (h.0, rw h.1 i)
-kept_by unseen number size ticket engine link new pipe c done true true i live refused kept =
+kept_by unseen number size ticket engine link seat new pipe c done true true i live refused kept =
     let h = refused NothingToKeep refl in (h.0, rw h.1 i)
-kept_by unseen number size ticket engine link new pipe c done true false i live refused kept =
-    let h = kept refl in (h.0, rw h.1 (placed_played unseen number size engine link pipe c (place.Kept ticket) i live))
+kept_by unseen number size ticket engine link seat new pipe c done true false i live refused kept =
+    let h = kept refl in (h.0, rw h.1 (placed_played unseen number size engine link seat pipe c (place.Kept ticket) i live))
 
-pub kept_alike : {E S : Type 0} → PoolIsUnseen E → IdleAlike → (number size ticket : ℕ) (engine : E) (link new : Link E S) (pipe : Option Pipe) (c : Connection) (done : Done)
-    → IsPlayed number size engine link pipe c → link.is_cut ≡ false
-    → ((why : Refusal) → unless_kept link.client ≡ Some why → (done ≡ done_as (Refused why)) × (new ≡ link))
-    → (unless_kept link.client ≡ None → (done ≡ done_as (Kept ticket)) × (new ≡ placed_at (place.Kept ticket) link))
-    → DoesWhole number size engine done new pipe (keeps ticket c) c
-kept_alike unseen waits number size ticket engine link new pipe c done i live refused kept =
+pub kept_alike : {E S : Type 0} → PoolIsUnseen E → IdleAlike → (number size ticket : ℕ) (engine : E) (link : Link E S) (seat new : Seat) (pipe : Option Pipe) (c : Connection) (done : Done)
+    → IsPlayed number size engine link seat pipe c → link.is_cut ≡ false
+    → ((why : Refusal) → unless_kept seat.client ≡ Some why → (done ≡ done_as (Refused why)) × (new ≡ seat))
+    → (unless_kept seat.client ≡ None → (done ≡ done_as (Kept ticket)) × (new ≡ placed_at (place.Kept ticket) seat))
+    → DoesWhole number size engine done link new pipe (keeps ticket c) c
+kept_alike unseen waits number size ticket engine link seat new pipe c done i live refused kept =
     let m = (i.lives live).stands.client in
-    let same : unless_kept link.client ≡ unless_kept_by (is_idle c) (c.heard == 0 || is_full c.mark) =
-    ap (λ (b : Bool). unless_kept_by b (link.client.heard.descriptor == 0 || is_full link.client.heard.mark)) (waits link.client c m)
-    ∙ ap (λ (n : ℕ). unless_kept_by (is_idle c) (n == 0 || is_full link.client.heard.mark)) m.descriptor
+    let same : unless_kept seat.client ≡ unless_kept_by (is_idle c) (c.heard == 0 || is_full c.mark) =
+    ap (λ (b : Bool). unless_kept_by b (seat.client.heard.descriptor == 0 || is_full seat.client.heard.mark)) (waits seat.client c m)
+    ∙ ap (λ (n : ℕ). unless_kept_by (is_idle c) (n == 0 || is_full seat.client.heard.mark)) m.descriptor
     ∙ ap (λ (r : Option Reset). unless_kept_by (is_idle c) (c.heard == 0 || is_full r)) m.mark in
-    kept_by unseen number size ticket engine link new pipe c done (is_idle c) (c.heard == 0 || is_full c.mark) i live
+    kept_by unseen number size ticket engine link seat new pipe c done (is_idle c) (c.heard == 0 || is_full c.mark) i live
     (λ why e. refused why (same ∙ e)) (λ e. kept (same ∙ e))

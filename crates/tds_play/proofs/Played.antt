@@ -9,6 +9,7 @@ use Rattle.tds_world.specs.Entries.{Up, Part, End, Drop, Attention, up_bytes, do
 use Rattle.tds_world.specs.Lane.{passed, with_waiting}
 use Rattle.tds_play.specs.declared.link.Done.{Done}
 use Rattle.tds_play.specs.declared.link.Link.{Link}
+use Rattle.tds_play.specs.declared.seat.Seat.{Seat}
 use Rattle.tds_play.specs.Between.{Stands}
 use Rattle.tds_play.specs.Lending.{standing_by}
 use Rattle.tds_play.specs.Links.{recounted}
@@ -59,10 +60,8 @@ reach_same answers c (e ∷ es) k =
 pub record Stays {E S : Type 0} (old new : Link E S) : Type 0 where
   pub number : new.number ≡ old.number
   pub is_cut : new.is_cut ≡ old.is_cut
-  pub place : new.place ≡ old.place
   pub current : new.current ≡ old.current
   pub past : new.past ≡ old.past
-  pub client : new.client ≡ old.client
   pub client_reader : new.client_reader ≡ old.client_reader
 
 -- Behind the carrier's first call, behind the server's turn, and behind the second call.
@@ -74,10 +73,8 @@ pub stays_by : {E S : Type 0} (old one two new : Link E S) (k up down : ℕ)
 stays_by old one two new k up down first second last = record {
   number = ap (λ l. l.number) last ∙ ap (λ l. l.number) second ∙ ap (λ l. l.number) first;
   is_cut = ap (λ l. l.is_cut) last ∙ ap (λ l. l.is_cut) second ∙ ap (λ l. l.is_cut) first;
-  place = ap (λ l. l.place) last ∙ ap (λ l. l.place) second ∙ ap (λ l. l.place) first;
   current = ap (λ l. l.current) last ∙ ap (λ l. l.current) second ∙ ap (λ l. l.current) first;
   past = ap (λ l. l.past) last ∙ ap (λ l. l.past) second ∙ ap (λ l. l.past) first;
-  client = ap (λ l. l.client) last ∙ ap (λ l. l.client) second ∙ ap (λ l. l.client) first;
   client_reader = ap (λ l. l.client_reader) last ∙ ap (λ l. l.client_reader) second ∙ ap (λ l. l.client_reader) first;
 }
 
@@ -87,16 +84,16 @@ pub record Ends {E S : Type 0} (size : ℕ) (engine : E) (link : Link E S) : Typ
   pub server_reads : link.server_reader.direction ≡ ToServer
   pub server_size : link.server_reader.size ≡ size
 
-pub served_on : {E S : Type 0} (answers : Answers) (number size most : ℕ) (engine : E) (old new : Link E S) (pipe after : Option Pipe) (c : Connection)
-    → IsPlayed number size engine old pipe c → old.is_cut ≡ false → Stays old new → Ends size engine new
-    → Stands new after (to_server answers most c) → IsPlayed number size engine new after (to_server answers most c)
-served_on answers number size most engine old new pipe after c p live stays ends s =
+pub served_on : {E S : Type 0} (answers : Answers) (number size most : ℕ) (engine : E) (old new : Link E S) (seat : Seat) (pipe after : Option Pipe) (c : Connection)
+    → IsPlayed number size engine old seat pipe c → old.is_cut ≡ false → Stays old new → Ends size engine new
+    → Stands new seat after (to_server answers most c) → IsPlayed number size engine new seat after (to_server answers most c)
+served_on answers number size most engine old new seat pipe after c p live stays ends s =
     let same = reach_same answers c c.to_server.waiting _ in
     record {
       numbered = stays.number ∙ p.numbered;
       standing =
-          ap (λ (b : Bool). standing_by b new.place) stays.is_cut
-          ∙ ap (standing_by old.is_cut) stays.place ∙ p.standing ∙ sym same.standing;
+          ap (λ (b : Bool). standing_by b seat.place) stays.is_cut
+          ∙ p.standing ∙ sym same.standing;
       older = rw (stays.is_cut, stays.past, same.past) p.older;
       newest = rw (stays.is_cut, stays.current, same.current) p.newest;
       to_server = s.up.handed;
@@ -106,7 +103,7 @@ served_on answers number size most engine old new pipe after c p live stays ends
       lives = λ uncut. record {
         stands = s;
         engine_is = ends.engine_is;
-        size_is = ap (λ k. k.size) stays.client ∙ (p.lives live).size_is;
+        size_is = (p.lives live).size_is;
         server_reads = ends.server_reads;
         server_size = ends.server_size;
         client_reads = ap (λ r. r.direction) stays.client_reader ∙ (p.lives live).client_reads;

@@ -21,7 +21,7 @@ use Rattle.tds_world.specs.Pool.{Acted, Refuses, Does, abandons_at, gives_back_a
 use Rattle.tds_world.specs.Record.{Record}
 use Rattle.tds_world.specs.World.{World, next_number, put, put_numbered}
 use Rattle.tds_play.specs.declared.link.Done.{Done}
-use Rattle.tds_play.specs.declared.link.Link.{Link}
+use Rattle.tds_play.specs.declared.seat.Seated.{Seated}
 use Rattle.tds_play.specs.declared.player.Player.{Player}
 use Rattle.tds_play.specs.Lending.{standing_by}
 use Rattle.tds_play.specs.Noted.{asked_after, leases_after, tickets_after}
@@ -130,42 +130,42 @@ lives_by b p s e is = sym (ap is_cut e) ∙ ap (λ (x : Bool). is_cut (standing_
 -- ---- The whole player
 
 -- What an event, as it was met, came to on its connection, and all connections then.
-pub record ActsAlike {E S : Type 0} (size : ℕ) (engine : E) (place : ℕ) (c : Connection) (cs : List Connection) (acted : Acted) (done : Done) (ls : List (Link E S)) (pipes : ℕ → Option Pipe) : Type 0 where
+pub record ActsAlike {E S : Type 0} (size : ℕ) (engine : E) (place : ℕ) (c : Connection) (cs : List Connection) (acted : Acted) (done : Done) (ls : List (Seated E S)) (pipes : ℕ → Option Pipe) : Type 0 where
   pub same : done.outcome ≡ outcome_of acted
   pub all : ArePlayed 1 size engine ls pipes (put place (cut_where done.lost (after acted c)) cs)
 
-pub acts_alike : {E S : Type 0} (setup : Setup) (engine : E) (answers : Answers) (w : World) (e : Event) (place : ℕ) (c : Connection) (player : Player E S) (pipes pipes' : ℕ → Option Pipe) (link new : Link E S) (done : Done)
-    → IsPlay setup engine player pipes w → link ≡ get_or player.links.items place link → place < length player.links.items
-    → AreSame pipes pipes' link.number → IsFound setup answers w e place c
+pub acts_alike : {E S : Type 0} (setup : Setup) (engine : E) (answers : Answers) (w : World) (e : Event) (place : ℕ) (c : Connection) (player : Player E S) (pipes pipes' : ℕ → Option Pipe) (x y : Seated E S) (done : Done)
+    → IsPlay setup engine player pipes w → x ≡ get_or player.links.items place x → place < length player.links.items
+    → AreSame pipes pipes' x.link.number → IsFound setup answers w e place c
     → ((k : ℕ) → OfEachConnection IsCountable (happens setup answers (bringing k e) w).1)
-    → (IsPlayed link.number setup.packet_size engine link (pipes link.number) c
-    → ((k : ℕ) → IsCountable (after (acts_on setup answers w (bringing k e) link.number c) c)) → (link.is_cut ≡ false → IsReady e c)
-    → DoesAlike link.number setup.packet_size engine done new (pipes' link.number) (acts_on setup answers w (met (loss_of done) e) link.number c) c)
-    → ActsAlike setup.packet_size engine place c w.connections (acts_on setup answers w (met (loss_of done) e) (suc place) c) done (set player.links.items place new) pipes'
-acts_alike {E} {S} setup engine answers w e place c player pipes pipes' link new done is link_is less same_others found countable act =
-    let played : IsPlayed (suc place) setup.packet_size engine link (pipes (suc place)) c = played_there setup.packet_size engine player.links.items pipes w.connections place link c link_is is.connections found.there in
-    let number : link.number ≡ suc place = played.numbered in
+    → (IsPlayed x.link.number setup.packet_size engine x.link x.seat (pipes x.link.number) c
+    → ((k : ℕ) → IsCountable (after (acts_on setup answers w (bringing k e) x.link.number c) c)) → (x.link.is_cut ≡ false → IsReady e c)
+    → DoesAlike x.link.number setup.packet_size engine done y.link y.seat (pipes' x.link.number) (acts_on setup answers w (met (loss_of done) e) x.link.number c) c)
+    → ActsAlike setup.packet_size engine place c w.connections (acts_on setup answers w (met (loss_of done) e) (suc place) c) done (set player.links.items place y) pipes'
+acts_alike {E} {S} setup engine answers w e place c player pipes pipes' x y done is link_is less same_others found countable act =
+    let played : IsPlayed (suc place) setup.packet_size engine x.link x.seat (pipes (suc place)) c = played_there setup.packet_size engine player.links.items pipes w.connections place x c link_is is.connections found.there in
+    let number : x.link.number ≡ suc place = played.numbered in
     let m : Event = met (loss_of done) e in
-    let counts : (k : ℕ) → IsCountable (after (acts_on setup answers w (bringing k e) link.number c) c) = (λ k.
+    let counts : (k : ℕ) → IsCountable (after (acts_on setup answers w (bringing k e) x.link.number c) c) = (λ k.
     subst (λ (n : ℕ). IsCountable (after (acts_on setup answers w (bringing k e) n c) c)) (sym number)
     (after_at IsCountable w (bringing k e) place c (acts_on setup answers w (bringing k e) (suc place) c) found.there
     (subst (λ (next : Outcome × World). OfEachConnection IsCountable next.1) (found.settles (Failed k)) (countable k)))) in
-    let is_ready : (link.is_cut ≡ false → IsReady e c) = (λ lives. found.ready (lives_by link.is_cut link.place c.standing played.standing lives)) in
+    let is_ready : (x.link.is_cut ≡ false → IsReady e c) = (λ lives. found.ready (lives_by x.link.is_cut x.seat.place c.standing played.standing lives)) in
     record {
       same = subst (λ (n : ℕ). done.outcome ≡ outcome_of (acts_on setup answers w m n c)) number
-          (act (subst (λ (n : ℕ). IsPlayed n setup.packet_size engine link (pipes n) c) (sym number) played) counts is_ready).outcome;
-      all = subst (λ (n : ℕ). ArePlayed 1 setup.packet_size engine (set player.links.items place new) pipes' (put place (cut_where done.lost (after (acts_on setup answers w m n c) c)) w.connections)) number
-          (put_changed setup.packet_size engine player.links.items pipes pipes' w.connections place link new c (cut_where done.lost (after (acts_on setup answers w m link.number c) c)) link_is less same_others found.there is.connections
+          (act (subst (λ (n : ℕ). IsPlayed n setup.packet_size engine x.link x.seat (pipes n) c) (sym number) played) counts is_ready).outcome;
+      all = subst (λ (n : ℕ). ArePlayed 1 setup.packet_size engine (set player.links.items place y) pipes' (put place (cut_where done.lost (after (acts_on setup answers w m n c) c)) w.connections)) number
+          (put_changed setup.packet_size engine player.links.items pipes pipes' w.connections place x y c (cut_where done.lost (after (acts_on setup answers w m x.link.number c) c)) link_is less same_others found.there is.connections
           (λ p. (act p counts is_ready).played));
     }
 
 -- An event that may be lost uses the link of the connection at this place.
-pub lost_there : {E S : Type 0} (setup : Setup) (engine : E) (answers : Answers) (w : World) (e : Event) (place : ℕ) (c : Connection) (player : Player E S) (pipes : ℕ → Option Pipe) (link : Link E S) (lost : Bool)
-    → IsPlay setup engine player pipes w → link ≡ get_or player.links.items place link → IsFound setup answers w e place c
-    → (lost ≡ true → MayLose link.is_cut e) → lost ≡ true → link_of setup w e ≡ Some (suc place)
-lost_there setup engine answers w e place c player pipes link lost is link_is found loses failed =
-    let played : IsPlayed (suc place) setup.packet_size engine link (pipes (suc place)) c = played_there setup.packet_size engine player.links.items pipes w.connections place link c link_is is.connections found.there in
-    found.link (subst (λ (b : Bool). MayLose b e) (stands_cut link.is_cut link.place c.standing played.standing) (loses failed))
+pub lost_there : {E S : Type 0} (setup : Setup) (engine : E) (answers : Answers) (w : World) (e : Event) (place : ℕ) (c : Connection) (player : Player E S) (pipes : ℕ → Option Pipe) (x : Seated E S) (lost : Bool)
+    → IsPlay setup engine player pipes w → x ≡ get_or player.links.items place x → IsFound setup answers w e place c
+    → (lost ≡ true → MayLose x.link.is_cut e) → lost ≡ true → link_of setup w e ≡ Some (suc place)
+lost_there setup engine answers w e place c player pipes x lost is link_is found loses failed =
+    let played : IsPlayed (suc place) setup.packet_size engine x.link x.seat (pipes (suc place)) c = played_there setup.packet_size engine player.links.items pipes w.connections place x c link_is is.connections found.there in
+    found.link (subst (λ (b : Bool). MayLose b e) (stands_cut x.link.is_cut x.seat.place c.standing played.standing) (loses failed))
 
 -- What an event came to and what the world is then, by what it came to on its connection.
 settled_outcome : (e : Event) (n : ℕ) (w : World) (acted : Acted) → outcome_of acted ≡ (settles e n w acted).0

@@ -13,7 +13,7 @@ use Rattle.tds_world.specs.Lending.{LendsIdle}
 use Rattle.tds_world.specs.Losses.{Loss, Nothing, Failed, bringing, met}
 use Rattle.tds_world.specs.World.{World}
 use Rattle.tds_play.specs.declared.link.Done.{Done}
-use Rattle.tds_play.specs.declared.link.Link.{Link}
+use Rattle.tds_play.specs.declared.seat.Seated.{Seated}
 use Rattle.tds_play.specs.declared.player.Player.{Player}
 use Rattle.tds_play.specs.declared.pool.Found.{Found}
 use Rattle.tds_play.specs.declared.pool.Found.TheVariants.{Here}
@@ -97,7 +97,7 @@ client_restarts {E} {S} setup engine answers w e player cuts new pipes pipes' sa
     subst (λ (f : Event). HappensAlike setup engine answers (done_as outcome.RestartedClient) new pipes' f w) (sym same) (record {
       outcome = refl;
       then = record {
-        connections = subst (λ (ls : List (Link E S)). ArePlayed 1 setup.packet_size engine ls pipes' (map cut w.connections)) (sym (ap (λ (p : Player E S). p.links.items) ends)) all;
+        connections = subst (λ (ls : List (Seated E S)). ArePlayed 1 setup.packet_size engine ls pipes' (map cut w.connections)) (sym (ap (λ (p : Player E S). p.links.items) ends)) all;
         leases = leases ∙ ap (λ (p : Player E S). all_ended p.leases) rest ∙ ap all_ended is.leases ∙ all_held w.leases;
         tickets = tickets ∙ ap (λ (p : Player E S). all_ended p.tickets) rest ∙ ap all_ended is.tickets ∙ all_held w.tickets;
         asked = ap (λ (p : Player E S). p.asked_on.items) ends ∙ ap (λ (p : Player E S). p.asked_on.items) rest ∙ is.asked;

@@ -14,12 +14,14 @@ use Rattle.tds_world.specs.Observed.{request_report, record_on, report_if, repor
 use Rattle.tds_world.specs.Record as world
 use Rattle.tds_world.specs.World.{World, numbered}
 use Rattle.tds_play.specs.Lending.{standing_by}
-use Rattle.tds_play.specs.Links.{behind, newest_first, report_of}
+use Rattle.tds_play.specs.Links.{behind, newest_first, newest_there, report_of}
 use Rattle.tds_world.specs.Order.{number_if, numbers_on, IsInOrder, RequestsInOrder}
 use Rattle.tds_play.specs.Pipe.{Pipe}
 use Rattle.tds_play.specs.Plays.{IsPlayed, ArePlayed}
 use Rattle.tds_play.specs.Requests.{MatchesRecord, AreOlder, IsNewest}
 use Rattle.tds_play.specs.declared.link.Link.{Link}
+use Rattle.tds_play.specs.declared.seat.Seated.{Seated}
+use Rattle.tds_play.specs.declared.seat.Seat.{Seat}
 use Rattle.tds_play.specs.declared.request.Record.{Record}
 
 -- ---- The requests of a connection
@@ -76,10 +78,10 @@ cut_is : (b : Bool) (p : _) → is_cut (standing_by b p) ≡ b
 cut_is true p = refl
 cut_is false p = refl
 
-left_at_first : {E S : Type 0} (n size : ℕ) (engine : E) (link : Link E S) (pipe : Option Pipe) (c : Connection) (asked_on : List ℕ)
-    → IsPlayed n size engine link pipe c → IsInOrder n asked_on c → LeftOn n 1 asked_on (newest_first link) c
-left_at_first n size engine link pipe c asked_on p o =
-    let cut : link.is_cut ≡ is_cut c.standing = sym (cut_is link.is_cut link.place) ∙ ap is_cut p.standing in
+left_at_first : {E S : Type 0} (n size : ℕ) (engine : E) (link : Link E S) (seat : Seat) (pipe : Option Pipe) (c : Connection) (asked_on : List ℕ)
+    → IsPlayed n size engine link seat pipe c → IsInOrder n asked_on c → LeftOn n 1 asked_on (newest_first link) c
+left_at_first n size engine link seat pipe c asked_on p o =
+    let cut : link.is_cut ≡ is_cut c.standing = sym (cut_is link.is_cut seat.place) ∙ ap is_cut p.standing in
     record {
       left = behind link.past.items link.current;
       told = [];
@@ -91,15 +93,15 @@ left_at_first n size engine link pipe c asked_on p o =
       before = tt;
     }
 
-all_at_first : {E S : Type 0} (n size : ℕ) (engine : E) (links : List (Link E S)) (pipes : ℕ → Option Pipe) (cs : List Connection) (asked_on : List ℕ)
+all_at_first : {E S : Type 0} (n size : ℕ) (engine : E) (links : List (Seated E S)) (pipes : ℕ → Option Pipe) (cs : List Connection) (asked_on : List ℕ)
     → ArePlayed n size engine links pipes cs
     → ((i m : ℕ) (c : Connection) → m ≡ n + i → slice_get cs i ≡ Some c → IsInOrder m asked_on c)
-    → AllLeft n 1 asked_on (map newest_first links) cs
+    → AllLeft n 1 asked_on (map newest_there links) cs
 all_at_first n size engine [] pipes [] asked_on p o = tt
 all_at_first n size engine [] pipes (c ∷ cs) asked_on p o = absurd p
 all_at_first n size engine (l ∷ ls) pipes [] asked_on p o = absurd p
 all_at_first n size engine (l ∷ ls) pipes (c ∷ cs) asked_on p o = (
-  left_at_first n size engine l (pipes n) c asked_on p.0 (o 0 n c (omega arith) refl),
+  left_at_first n size engine l.link l.seat (pipes n) c asked_on p.0 (o 0 n c (omega arith) refl),
   all_at_first (suc n) size engine ls pipes cs asked_on p.1 (λ i m d e at. o (suc i) m d (omega (arith, e)) at),
 )
 
@@ -277,8 +279,8 @@ pub tells_next : (w : World) (number m : ℕ) (ms : List ℕ) (stacks : List (Li
 tells_next w number zero ms stacks reports t = let none = t.known.0.1 in absurd (cc)
 tells_next w number (suc i) ms stacks reports t = tells_known w number i ms stacks reports t.known.0.0 t.known.0.1 t
 
-pub telling_at_first : {E S : Type 0} (size : ℕ) (engine : E) (links : List (Link E S)) (pipes : ℕ → Option Pipe) (w : World)
-    → ArePlayed 1 size engine links pipes w.connections → RequestsInOrder w → Telling w 1 w.asked_on (map newest_first links) []
+pub telling_at_first : {E S : Type 0} (size : ℕ) (engine : E) (links : List (Seated E S)) (pipes : ℕ → Option Pipe) (w : World)
+    → ArePlayed 1 size engine links pipes w.connections → RequestsInOrder w → Telling w 1 w.asked_on (map newest_there links) []
 telling_at_first size engine links pipes w p o = record {
   left = all_at_first 1 size engine links pipes w.connections w.asked_on p
       (λ i m c e at.

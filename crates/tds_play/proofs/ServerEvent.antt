@@ -17,6 +17,7 @@ use Rattle.tds_ends.specs.Stands.{MatchesServer}
 use Rattle.tds_ends.specs.Stays.{ClientStays}
 use Rattle.tds_play.specs.Ties.{saturated, counted, with_counted}
 use Rattle.tds_play.specs.declared.link.Link.{Link}
+use Rattle.tds_play.specs.declared.seat.Seat.{Seat}
 use Rattle.tds_play.proofs.Between.{offered_front, lane_delivered, lane_sent, lane_stuck}
 
 -- ---- What comes is served
@@ -25,8 +26,8 @@ use Rattle.tds_play.proofs.Between.{offered_front, lane_delivered, lane_sent, la
 abbrev pub ServesAll : Type 0 → Type 0
 ServesAll E = (answers : Answers) (r : Reading) (c : Connection) (es : List Up) (k : ℕ) (s : ServerState E) (reply : List ℕ) → AllArrive E answers r c es → MatchesServer s c → ServesAlike E answers r (take k (flat_map up_bytes es)) c (reach_server answers c es k) s reply
 
-pub come_served : {E S : Type 0} → ServesAll E → (answers : Answers) (link : Link E S) (pipe : Option Pipe) (c : Connection) (most n : ℕ) → Stands link pipe c → n ≡ min most link.to_server → AllArrive E answers link.server_reader c c.to_server.waiting → ServesAlike E answers link.server_reader (link.server_reader.taken ++ next_of (traffic pipe ToServer) n) c (to_server answers most c) link.server []
-come_served {E} serves answers link pipe c most n s count all =
+pub come_served : {E S : Type 0} → ServesAll E → (answers : Answers) (link : Link E S) (seat : Seat) (pipe : Option Pipe) (c : Connection) (most n : ℕ) → Stands link seat pipe c → n ≡ min most link.to_server → AllArrive E answers link.server_reader c c.to_server.waiting → ServesAlike E answers link.server_reader (link.server_reader.taken ++ next_of (traffic pipe ToServer) n) c (to_server answers most c) link.server []
+come_served {E} serves answers link seat pipe c most n s count all =
     let k : ℕ = c.to_server.part + min most (up_underway c) in
     let same : c.to_server.part + n ≡ k = ap (λ (x : ℕ). c.to_server.part + x) (count ∙ ap (min most) s.up.counts) in
     let bytes : link.server_reader.taken ++ next_of (traffic pipe ToServer) n ≡ take k (flat_map up_bytes c.to_server.waiting) =
@@ -90,7 +91,6 @@ moved (Some p) mid after came reply lost k open_ is none some =
 
 -- What the player's connection is behind the delivery, field by field; the carrier may have failed.
 pub record Delivered {E S : Type 0} (old new : Link E S) (pipe after : Option Pipe) (n : ℕ) (server : ServerState E) (rest reply : List ℕ) : Type 0 where
-  client : new.client ≡ old.client
   server_is : new.server ≡ server
   client_reader : new.client_reader ≡ old.client_reader
   server_reader : new.server_reader.taken ≡ rest
@@ -104,15 +104,15 @@ count_by old new (b ∷ bs) none some few =
     let e : new ≡ saturated (old + length (b ∷ bs)) = some (λ e. absurd (cc)) in
     e ∙ omega (arith, few)
 
-pub delivered_alike : {E S : Type 0} (answers : Answers) → ((most : ℕ) → ClientStays (to_server answers most)) → (old new : Link E S) (pipe after : Option Pipe) (c : Connection) (most n : ℕ) (bytes reply : List ℕ)
-    → Stands old pipe c → n ≡ min most old.to_server
+pub delivered_alike : {E S : Type 0} (answers : Answers) → ((most : ℕ) → ClientStays (to_server answers most)) → (old new : Link E S) (seat : Seat) (pipe after : Option Pipe) (c : Connection) (most n : ℕ) (bytes reply : List ℕ)
+    → Stands old seat pipe c → n ≡ min most old.to_server
     → IsDelivered up_bytes most c.to_server (to_server answers most c).to_server
     → down_underway (to_server answers most c) ≤ 18446744073709551615
     → (a : ServesAlike E answers old.server_reader bytes c (to_server answers most c) old.server [])
     → reply ≡ a.then.reply
     → Delivered old new pipe after n a.then.state a.rest reply
-    → Stands new after (to_server answers most c)
-delivered_alike {E} answers stays old new pipe after c most n bytes reply s count lanes few a told d =
+    → Stands new seat after (to_server answers most c)
+delivered_alike {E} answers stays old new seat pipe after c most n bytes reply s count lanes few a told d =
     let w : Connection = to_server answers most c in
     let more : List ℕ = a.sends.0 in
     let m = d.moved in
@@ -126,7 +126,7 @@ delivered_alike {E} answers stays old new pipe after c most n bytes reply s coun
     let counts : new.to_client ≡ old.to_client + length more = count_by old.to_client new.to_client reply d.to_client.0 d.to_client.1 (omega (arith, few, now, long)) ∙ ap (λ (k : ℕ). old.to_client + k) long in
     let below : traffic after ToClient ≡ sent (traffic pipe ToClient) more m.failures = m.down ∙ ap (λ (bs : List ℕ). sent (traffic pipe ToClient) bs m.failures) same in
     record {
-      client = rw d.client (stays most old.client c s.client);
+      client = stays most seat.client c s.client;
       server = rw d.server_is a.matches;
       up = rw (m.up, d.server_reader, d.to_server, count) up;
       down = rw (below, d.client_reader, counts) down;
@@ -153,7 +153,6 @@ pub delivered_by : {E S : Type 0} (old one two new : Link E S) (pipe mid after :
 delivered_by old one two new pipe mid after n rest [] lost failures open_ first second taken came none some =
     let e : new ≡ two = (none refl).0 in
     record {
-      client = ap (λ l. l.client) (e ∙ second) ∙ ap (λ l. l.client) first;
       server_is = ap (λ l. l.server) e;
       client_reader = ap (λ l. l.client_reader) (e ∙ second) ∙ ap (λ l. l.client_reader) first;
       server_reader = ap (λ l. l.server_reader.taken) e ∙ taken;
@@ -166,7 +165,6 @@ delivered_by old one two new pipe mid after n rest (b ∷ bs) lost failures open
     let e = (some full).0 in
     let count : two.to_client ≡ old.to_client = ap (λ l. l.to_client) second ∙ ap (λ l. l.to_client) first in
     record {
-      client = ap (λ l. l.client) e ∙ ap (λ l. l.client) second ∙ ap (λ l. l.client) first;
       server_is = ap (λ l. l.server) e;
       client_reader = ap (λ l. l.client_reader) e ∙ ap (λ l. l.client_reader) second ∙ ap (λ l. l.client_reader) first;
       server_reader = ap (λ l. l.server_reader.taken) e ∙ taken;

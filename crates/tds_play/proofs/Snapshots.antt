@@ -15,9 +15,11 @@ use Rattle.tds_world.specs.Record.{Record}
 use Rattle.tds_play.specs.Lending.{standing_by}
 use Rattle.tds_play.specs.Pipe.{Pipe}
 use Rattle.tds_play.specs.Plays.{IsPlayed, Lives, ArePlayed}
-use Rattle.tds_play.specs.Seen.{view_of, snapshot_as, seen_by, seen_of}
+use Rattle.tds_play.specs.Seen.{view_of, snapshot_as, seen_by, seen_in, seen_of}
 use Rattle.tds_ends.specs.Stands.{stage_by, stage_in}
 use Rattle.tds_play.specs.declared.link.Link.{Link}
+use Rattle.tds_play.specs.declared.seat.Seat.{Seat}
+use Rattle.tds_play.specs.declared.seat.Seated.{Seated}
 
 -- ---- One more of a list
 
@@ -61,30 +63,30 @@ shown conn client place descriptor mark server up down = record {
   to_client = down;
 }
 
-shown_alike : {E S : Type 0} (number size : ℕ) (engine : E) (link : Link E S) (pipe : Option Pipe) (c : Connection)
-    → link.number ≡ number → Lives size engine link pipe c → snapshot_as link (state_of (phase c)) ≡ snapshot_of number c link.place
-shown_alike number size engine link pipe c numbered l =
+shown_alike : {E S : Type 0} (number size : ℕ) (engine : E) (link : Link E S) (seat : Seat) (pipe : Option Pipe) (c : Connection)
+    → link.number ≡ number → Lives size engine link seat pipe c → snapshot_as link seat (state_of (phase c)) ≡ snapshot_of number c seat.place
+shown_alike number size engine link seat pipe c numbered l =
     let view : ClientView = state_of (phase c) in
-    ap (λ n. shown n view link.place link.client.heard.descriptor link.client.heard.mark link.server.session link.to_server link.to_client) numbered
-    ∙ ap (λ d. shown number view link.place d link.client.heard.mark link.server.session link.to_server link.to_client) l.stands.client.descriptor
-    ∙ ap (λ m. shown number view link.place c.heard m link.server.session link.to_server link.to_client) l.stands.client.mark
-    ∙ ap (λ s. shown number view link.place c.heard c.mark s link.to_server link.to_client) l.stands.server.session
-    ∙ ap (λ n. shown number view link.place c.heard c.mark c.session n link.to_client) l.stands.up.counts
-    ∙ ap (λ n. shown number view link.place c.heard c.mark c.session (up_underway c) n) l.stands.down.counts
+    ap (λ n. shown n view seat.place seat.client.heard.descriptor seat.client.heard.mark link.server.session link.to_server link.to_client) numbered
+    ∙ ap (λ d. shown number view seat.place d seat.client.heard.mark link.server.session link.to_server link.to_client) l.stands.client.descriptor
+    ∙ ap (λ m. shown number view seat.place c.heard m link.server.session link.to_server link.to_client) l.stands.client.mark
+    ∙ ap (λ s. shown number view seat.place c.heard c.mark s link.to_server link.to_client) l.stands.server.session
+    ∙ ap (λ n. shown number view seat.place c.heard c.mark c.session n link.to_client) l.stands.up.counts
+    ∙ ap (λ n. shown number view seat.place c.heard c.mark c.session (up_underway c) n) l.stands.down.counts
 
-by_cut : {E S : Type 0} (number size : ℕ) (engine : E) (link : Link E S) (pipe : Option Pipe) (c : Connection) (cut : Bool)
-    → link.number ≡ number → (cut ≡ false → Lives size engine link pipe c)
-    → cons_option (seen_by cut link) [] ≡ seen number c (standing_by cut link.place)
-by_cut number size engine link pipe c true numbered lives = refl
-by_cut number size engine link pipe c false numbered lives =
+by_cut : {E S : Type 0} (number size : ℕ) (engine : E) (link : Link E S) (seat : Seat) (pipe : Option Pipe) (c : Connection) (cut : Bool)
+    → link.number ≡ number → (cut ≡ false → Lives size engine link seat pipe c)
+    → cons_option (seen_by cut link seat) [] ≡ seen number c (standing_by cut seat.place)
+by_cut number size engine link seat pipe c true numbered lives = refl
+by_cut number size engine link seat pipe c false numbered lives =
     let l = lives refl in
-    ap (λ o. cons_option (option_map (snapshot_as link) o) []) (ap view_of l.stands.client.stage ∙ view_in c.current)
-    ∙ ap (λ s. s ∷ []) (shown_alike number size engine link pipe c numbered l)
+    ap (λ o. cons_option (option_map (snapshot_as link seat) o) []) (ap view_of l.stands.client.stage ∙ view_in c.current)
+    ∙ ap (λ s. s ∷ []) (shown_alike number size engine link seat pipe c numbered l)
 
-pub seen_alike : {E S : Type 0} (number size : ℕ) (engine : E) (link : Link E S) (pipe : Option Pipe) (c : Connection)
-    → IsPlayed number size engine link pipe c → cons_option (seen_of link) [] ≡ seen number c c.standing
-seen_alike number size engine link pipe c p =
-    by_cut number size engine link pipe c link.is_cut p.numbered p.lives ∙ ap (seen number c) p.standing
+pub seen_alike : {E S : Type 0} (number size : ℕ) (engine : E) (link : Link E S) (seat : Seat) (pipe : Option Pipe) (c : Connection)
+    → IsPlayed number size engine link seat pipe c → cons_option (seen_in link seat) [] ≡ seen number c c.standing
+seen_alike number size engine link seat pipe c p =
+    by_cut number size engine link seat pipe c link.is_cut p.numbered p.lives ∙ ap (seen number c) p.standing
 
 -- ---- All of them
 
@@ -92,12 +94,12 @@ before_rest : {Y : Type 0} (o : Option Y) (ys : List Y) → cons_option o ys ≡
 before_rest None ys = refl
 before_rest (Some y) ys = refl
 
-pub all_seen_alike : {E S : Type 0} (number size : ℕ) (engine : E) (links : List (Link E S)) (pipes : ℕ → Option Pipe) (cs : List Connection)
+pub all_seen_alike : {E S : Type 0} (number size : ℕ) (engine : E) (links : List (Seated E S)) (pipes : ℕ → Option Pipe) (cs : List Connection)
     → ArePlayed number size engine links pipes cs → filter_map seen_of links ≡ snapshots_from number cs
 all_seen_alike number size engine [] pipes [] p = refl
 all_seen_alike number size engine [] pipes (c ∷ cs) p = absurd p
 all_seen_alike number size engine (l ∷ ls) pipes [] p = absurd p
 all_seen_alike number size engine (l ∷ ls) pipes (c ∷ cs) p =
     before_rest (seen_of l) (filter_map seen_of ls)
-    ∙ ap (λ ys. ys ++ filter_map seen_of ls) (seen_alike number size engine l (pipes number) c p.0)
+    ∙ ap (λ ys. ys ++ filter_map seen_of ls) (seen_alike number size engine l.link l.seat (pipes number) c p.0)
     ∙ ap (λ ys. seen number c c.standing ++ ys) (all_seen_alike (suc number) size engine ls pipes cs p.1)

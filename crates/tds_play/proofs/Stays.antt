@@ -9,21 +9,19 @@ use Rattle.tds_client.specs.declared.state.Sent.{Sent}
 use Rattle.tds_client.specs.Sending.{Does, Effect, cancelled, cancelled_in, cancelled_sending, room, sent, sent_in, sent_of}
 use Rattle.tds_client.specs.Session.{ClientSession, Stage, Idle, Sending, Reading, Cancelling, Broken}
 use Rattle.tds_packet.specs.declared.kind.Kind.{Kind}
-use Rattle.tds_session.specs.declared.attention.OnAttention.{OnAttention}
 use Rattle.tds_world.specs.declared.report.RequestStatus.{RequestStatus}
-use Rattle.tds_play.specs.Acts.{with_client, with_status}
+use Rattle.tds_play.specs.Acts.{with_status}
 use Rattle.tds_packet.specs.declared.kind.Direction.{Direction}
 use Rattle.tds_packet.specs.declared.kind.Direction.TheVariants.{ToServer, ToClient}
 use Rattle.tds_packet.specs.Reading as reader
 use Rattle.tds_token.specs.declared.token.Token.{Token}
 use Rattle.tds_ends.specs.AllBytes.{AreToldBy, AreWhole, ClientHasRead, HasRead, ServerHasRead, new_reader}
-use Rattle.tds_session.specs.declared.attention.OnAttention.{OnAttention}
-use Rattle.tds_play.specs.Links.{IsNewLink, behind, cut_of, lost_record, placed_at, recounted}
-use Rattle.tds_world.specs.declared.report.Place.{Place}
+use Rattle.tds_play.specs.Links.{IsNewLink, behind, cut_of, lost_record, recounted}
 use Rattle.tds_play.specs.Listening.{told_in}
 use Rattle.tds_play.specs.Ties.{counted, with_counted}
 use Rattle.tds_play.specs.Pipe.{Brings, Pipe, IsOpen, carried_on, cut_pipe, new_pipe, sent_on, stuck_on, traffic}
 use Rattle.tds_play.specs.Reads.{BringsAny, IsReading, ReadsNoMore, brought_to, given_by, tokens_of}
+use Rattle.tds_session.specs.declared.attention.OnAttention.{OnAttention}
 use Rattle.tds_play.specs.declared.link.Link.{Link}
 use Rattle.tds_play.specs.declared.request.Record.{Record}
 
@@ -132,14 +130,13 @@ brings_more way n m before mid after more old pipe new b added many came = recor
 -- ---- Connections
 
 pub stays : {E S : Type 0} (link : Link E S) (pipe : Option Pipe) → ReadsNoMore link link pipe pipe
-stays link pipe = record { came = λ d. refl; server_reader = refl; client_reader = refl; columns = refl; given = refl; live = λ l. l }
+stays link pipe = record { came = λ d. refl; server_reader = refl; client_reader = refl; given = refl; live = λ l. l }
 
 pub stays_twice : {E S : Type 0} (link mid new : Link E S) (before between after : Option Pipe) → ReadsNoMore link mid before between → ReadsNoMore mid new between after → ReadsNoMore link new before after
 stays_twice link mid new before between after one two = record {
   came = λ d. two.came d ∙ one.came d;
   server_reader = two.server_reader ∙ one.server_reader;
   client_reader = two.client_reader ∙ one.client_reader;
-  columns = two.columns ∙ one.columns;
   given = two.given ∙ one.given;
   live = λ l. one.live (two.live l);
 }
@@ -147,9 +144,6 @@ stays_twice link mid new before between after one two = record {
 -- The number of a connection stays too.
 pub stays_numbered : {E S : Type 0} (number conn : ℕ) (link new : Link E S) (pipes pipes' : ℕ → Option Pipe) → number ≡ conn → ReadsNoMore link new (pipes number) (pipes' number) → ReadsNoMore link new (pipes conn) (pipes' conn)
 stays_numbered number conn link new pipes pipes' is still = subst (λ (k : ℕ). ReadsNoMore link new (pipes k) (pipes' k)) is still
-
-pub placed_stays : {E S : Type 0} (link new : Link E S) (place : Place) (pipe : Option Pipe) → new ≡ placed_at place link → ReadsNoMore link new pipe pipe
-placed_stays {E} {S} link new place pipe is = subst (λ (l : Link E S). ReadsNoMore link l pipe pipe) (sym is) (record { came = λ d. refl; server_reader = refl; client_reader = refl; columns = refl; given = refl; live = λ l. l })
 
 lost_tokens : (r : Option Record) → told_in (option_map lost_record r) ≡ told_in r
 lost_tokens None = refl
@@ -160,7 +154,6 @@ cut_stays {E} {S} link new before after is at = record {
   came = λ d. ap (λ (p : Option Pipe). (traffic p d).came) at ∙ cut_came before d;
   server_reader = ap (λ (l : Link E S). l.server_reader) is;
   client_reader = ap (λ (l : Link E S). l.client_reader) is;
-  columns = ap (λ (l : Link E S). l.client.columns) is;
   given = ap given_by is ∙ ap (λ (ts : List Token). flat_map tokens_of link.past.items ++ ts) (lost_tokens link.current);
   live = λ l. let gone = ap (λ (x : Link E S). x.is_cut) is in absurd (cc);
 }
@@ -170,7 +163,6 @@ handed_stays {E} {S} link new before after way bytes n is at = record {
   came = λ d. ap (λ (p : Option Pipe). (traffic p d).came) at ∙ sent_came before way bytes n d;
   server_reader = ap (λ (l : Link E S). l.server_reader) is;
   client_reader = ap (λ (l : Link E S). l.client_reader) is;
-  columns = ap (λ (l : Link E S). l.client.columns) is;
   given = ap given_by is;
   live = λ l. sym (ap (λ (x : Link E S). x.is_cut) is) ∙ l;
 }
@@ -214,16 +206,12 @@ pub cancelling_columns : (s new : ClientSession) (result : Result Cancelled Clie
 cancelling_columns s new (Ok answer) before after does same = cancelled_in_columns s s.stage (record { answer = answer; session = new; bytes = does.0 }) does.1
 cancelling_columns s new (Err refusal) before after does same = ap (λ (x : ClientSession). x.columns) same
 
-pub client_stays : {E S : Type 0} (link : Link E S) (s : ClientSession) (pipe : Option Pipe) → s.columns ≡ link.client.columns → ReadsNoMore link (with_client s link) pipe pipe
-client_stays link s pipe same = record { came = λ d. refl; server_reader = refl; client_reader = refl; columns = same; given = refl; live = λ l. l }
-
-pub newest_stays : {E S : Type 0} (link : Link E S) (s : ClientSession) (r new : Record) (status : RequestStatus) (pipe : Option Pipe) → s.columns ≡ link.client.columns → link.current ≡ Some r → new ≡ with_status status r
-    → ReadsNoMore link (record link { client = s; current = Some new }) pipe pipe
-newest_stays link s r new status pipe same is settled = record {
+pub newest_stays : {E S : Type 0} (link : Link E S) (r new : Record) (status : RequestStatus) (pipe : Option Pipe) → link.current ≡ Some r → new ≡ with_status status r
+    → ReadsNoMore link (record link { current = Some new }) pipe pipe
+newest_stays link r new status pipe is settled = record {
   came = λ d. refl;
   server_reader = refl;
   client_reader = refl;
-  columns = same;
   given = ap (λ (ts : List Token). flat_map tokens_of link.past.items ++ ts) (ap (λ (x : Record). x.tokens.items) settled ∙ sym (ap told_in is));
   live = λ l. l;
 }
@@ -240,10 +228,10 @@ given_behind past (Some r) = tokens_and past (r ∷ []) ∙ ap (λ (ts : List To
 
 -- ---- A new connection
 
-pub new_reads : {E S : Type 0} (size number lease : ℕ) (engine : E) (on_attention : OnAttention) (link : Link E S) (pipe : Option Pipe)
-    → ((d : Direction) → HasRead (new_reader d size) (new_reader d size) [] []) → IsNewLink number lease size engine on_attention link
-    → ((d : Direction) → (traffic pipe d).came ≡ []) → IsReading size link pipe
-new_reads size number lease engine on_attention link pipe nothing new none =
+pub new_reads : {E S : Type 0} (size number : ℕ) (engine : E) (on_attention : OnAttention) (link : Link E S) (pipe : Option Pipe)
+    → ((d : Direction) → HasRead (new_reader d size) (new_reader d size) [] []) → IsNewLink number size engine on_attention link
+    → ((d : Direction) → (traffic pipe d).came ≡ []) → IsReading size link None pipe
+new_reads size number engine on_attention link pipe nothing new none =
     let given : given_by link ≡ [] = ap (λ (rs : List Record). flat_map tokens_of rs ++ told_in link.current) new.past ∙ ap told_in new.current in
     let whole : AreWhole (new_reader ToClient size) (traffic pipe ToClient).came [] [] = subst (λ (bytes : List ℕ). AreWhole (new_reader ToClient size) bytes [] []) (sym (none ToClient)) (nothing ToClient).whole in
     record {
@@ -255,7 +243,7 @@ new_reads size number lease engine on_attention link pipe nothing new none =
         read =
             subst (λ (bytes : List ℕ). HasRead (new_reader ToClient size) link.client_reader bytes []) (sym (none ToClient))
             (subst (λ (r : reader.Reading). HasRead (new_reader ToClient size) r [] []) (sym new.client_reader) (nothing ToClient));
-        columns_are = ap (λ (s : ClientSession). s.columns) new.client;
+        columns_are = refl;
         some = given;
       };
       told = record { packets = []; rest = []; whole = whole; some = given };
@@ -263,16 +251,16 @@ new_reads size number lease engine on_attention link pipe nothing new none =
 
 -- ---- What was read stays
 
-pub reading_stays : {E S : Type 0} (size : ℕ) (link new : Link E S) (before after : Option Pipe) → IsReading size link before → ReadsNoMore link new before after → IsReading size new after
-reading_stays size link new before after reads still = record {
+pub reading_stays : {E S : Type 0} (size : ℕ) (link new : Link E S) (columns then : Option ℕ) (before after : Option Pipe) → IsReading size link columns before → ReadsNoMore link new before after → then ≡ columns → IsReading size new then after
+reading_stays size link new columns then before after reads still same = record {
   server = λ live.
       subst (ServerHasRead (new_reader ToServer size) new.server_reader) (sym (still.came ToServer))
       (subst (λ (r : reader.Reading). ServerHasRead (new_reader ToServer size) r (traffic before ToServer).came) (sym still.server_reader) (reads.server (still.live live)));
   client = λ live.
-      subst (λ (bytes : List ℕ). ClientHasRead (new_reader ToClient size) new.client_reader new.client.columns bytes (given_by new)) (sym (still.came ToClient))
-      (subst (λ (r : reader.Reading). ClientHasRead (new_reader ToClient size) r new.client.columns (traffic before ToClient).came (given_by new)) (sym still.client_reader)
-      (subst (λ (o : Option ℕ). ClientHasRead (new_reader ToClient size) link.client_reader o (traffic before ToClient).came (given_by new)) (sym still.columns)
-      (subst (ClientHasRead (new_reader ToClient size) link.client_reader link.client.columns (traffic before ToClient).came) (sym still.given) (reads.client (still.live live)))));
+      subst (λ (bytes : List ℕ). ClientHasRead (new_reader ToClient size) new.client_reader then bytes (given_by new)) (sym (still.came ToClient))
+      (subst (λ (r : reader.Reading). ClientHasRead (new_reader ToClient size) r then (traffic before ToClient).came (given_by new)) (sym still.client_reader)
+      (subst (λ (o : Option ℕ). ClientHasRead (new_reader ToClient size) link.client_reader o (traffic before ToClient).came (given_by new)) (sym same)
+      (subst (ClientHasRead (new_reader ToClient size) link.client_reader columns (traffic before ToClient).came) (sym still.given) (reads.client (still.live live)))));
   told =
       subst (λ (bytes : List ℕ). AreToldBy (new_reader ToClient size) bytes (given_by new)) (sym (still.came ToClient))
       (subst (AreToldBy (new_reader ToClient size) (traffic before ToClient).came) (sym still.given) reads.told);

@@ -26,6 +26,8 @@ use Rattle.tds_world.specs.Observed.{observed, snapshots, request_reports, bytes
 use Rattle.tds_world.specs.World.{World, new_world, numbered}
 use Rattle.tds_play.specs.declared.link.Done.{Done}
 use Rattle.tds_play.specs.declared.link.Link.{Link}
+use Rattle.tds_play.specs.declared.seat.Seat.{Seat}
+use Rattle.tds_play.specs.declared.seat.Seated.{Seated}
 use Rattle.tds_play.specs.declared.player.Player.{Player}
 use Rattle.tds_play.specs.Lending.{standing_by}
 use Rattle.tds_play.specs.Pipe.{Pipe, IsOpen, is_cut_at, traffic}
@@ -237,14 +239,14 @@ one_event_more setup answers engine es i e player then pipes after reports told 
     }
 
 -- No connection is tied to anything before any event.
-pub none_tied : {E S : Type 0} (links : List (Link E S)) (pipes : ℕ → Option Pipe) → links ≡ [] → AreTied links pipes
+pub none_tied : {E S : Type 0} (links : List (Seated E S)) (pipes : ℕ → Option Pipe) → links ≡ [] → AreTied links pipes
 none_tied links pipes none =
     subst (λ ls. AreTied ls pipes) (sym none)
     (record { numbered = λ i d less. absurd (omega (arith, less)); tied = λ i d less. absurd (omega (arith, less)) })
 
 -- ---- The end
 
-bytes_at : {E S : Type 0} (n m i size : ℕ) (engine : E) (links : List (Link E S)) (pipes : ℕ → Option Pipe) (cs : List Connection) (direction : Direction)
+bytes_at : {E S : Type 0} (n m i size : ℕ) (engine : E) (links : List (Seated E S)) (pipes : ℕ → Option Pipe) (cs : List Connection) (direction : Direction)
     → ArePlayed n size engine links pipes cs → i < length cs → m ≡ n + i → (traffic (pipes m) direction).handed ≡ bytes_in direction (slice_get cs i)
 bytes_at n m i size engine [] pipes [] direction all less at = absurd (omega (arith, less))
 bytes_at n m i size engine [] pipes (c ∷ cs) direction all less at = absurd all
@@ -256,7 +258,7 @@ bytes_at n m zero size engine (l ∷ ls) pipes (c ∷ cs) ToClient all less at =
 bytes_at n m (suc i) size engine (l ∷ ls) pipes (c ∷ cs) direction all less at =
     bytes_at (suc n) m i size engine ls pipes cs direction all.1 (omega (arith, less)) (omega (arith, at))
 
-bytes_handed : {E S : Type 0} (size : ℕ) (engine : E) (links : List (Link E S)) (pipes : ℕ → Option Pipe) (w : World) (n : ℕ) (direction : Direction)
+bytes_handed : {E S : Type 0} (size : ℕ) (engine : E) (links : List (Seated E S)) (pipes : ℕ → Option Pipe) (w : World) (n : ℕ) (direction : Direction)
     → ArePlayed 1 size engine links pipes w.connections → 0 < n → n ≤ length w.connections → (traffic (pipes n) direction).handed ≡ bytes_of w n direction
 bytes_handed size engine links pipes w zero direction all some most = absurd (omega (arith, some))
 bytes_handed size engine links pipes w (suc i) direction all some most =
@@ -264,18 +266,18 @@ bytes_handed size engine links pipes w (suc i) direction all some most =
 
 -- ---- What came
 
-came_on : {E S : Type 0} (number size : ℕ) (engine : E) (link : Link E S) (p : Option Pipe) (c : Connection) (direction : Direction)
-    → IsPlayed number size engine link p c → (traffic p direction).came ≡ come_on direction c
-came_on number size engine link p c ToServer is = is.came_up
-came_on number size engine link p c ToClient is = is.came_down
+came_on : {E S : Type 0} (number size : ℕ) (engine : E) (link : Link E S) (seat : Seat) (p : Option Pipe) (c : Connection) (direction : Direction)
+    → IsPlayed number size engine link seat p c → (traffic p direction).came ≡ come_on direction c
+came_on number size engine link seat p c ToServer is = is.came_up
+came_on number size engine link seat p c ToClient is = is.came_down
 
-bytes_carried : {E S : Type 0} (size : ℕ) (engine : E) (links : List (Link E S)) (pipes : ℕ → Option Pipe) (cs : List Connection) (n : ℕ) (c : Connection) (direction : Direction)
+bytes_carried : {E S : Type 0} (size : ℕ) (engine : E) (links : List (Seated E S)) (pipes : ℕ → Option Pipe) (cs : List Connection) (n : ℕ) (c : Connection) (direction : Direction)
     → ArePlayed 1 size engine links pipes cs → numbered cs n ≡ Some c → (traffic (pipes n) direction).came ≡ come_on direction c
 bytes_carried size engine links pipes cs zero c direction all at = absurd (cc)
 bytes_carried size engine [] pipes [] (suc i) c direction all at = absurd (cc)
 bytes_carried size engine [] pipes (d ∷ cs) (suc i) c direction all at = absurd all
 bytes_carried size engine (l ∷ ls) pipes cs (suc i) c direction all at =
-    came_on (suc i) size engine (slice_index_or (l ∷ ls) i l) (pipes (suc i)) c direction
+    came_on (suc i) size engine (slice_index_or (l ∷ ls) i l).link (slice_index_or (l ∷ ls) i l).seat (pipes (suc i)) c direction
     (played_at 1 (suc i) size engine (l ∷ ls) pipes cs i l c all at (omega arith))
 
 -- ---- What is cut
@@ -288,19 +290,19 @@ cut_by false place s None at gone live = absurd (live refl)
 cut_by false place s (Some p) at gone live = (live refl).0 ∙ ap is_cut at
 
 -- Where a connection of the play lives, the carrier holds it open; where not, it was cut there too.
-cut_as : {E S : Type 0} (number size : ℕ) (engine : E) (link : Link E S) (p : Option Pipe) (c : Connection)
-    → IsPlayed number size engine link p c → IsTied link p → IsCutAs (is_cut c.standing) p
-cut_as number size engine link p c is tied =
-    cut_by link.is_cut link.place c.standing p is.standing is.gone (λ live. (tied.holds live).is_open)
+cut_as : {E S : Type 0} (number size : ℕ) (engine : E) (link : Link E S) (seat : Seat) (p : Option Pipe) (c : Connection)
+    → IsPlayed number size engine link seat p c → IsTied link p → IsCutAs (is_cut c.standing) p
+cut_as number size engine link seat p c is tied =
+    cut_by link.is_cut seat.place c.standing p is.standing is.gone (λ live. (tied.holds live).is_open)
 
-all_cut : {E S : Type 0} (size : ℕ) (engine : E) (links : List (Link E S)) (pipes : ℕ → Option Pipe) (cs : List Connection) (n : ℕ) (c : Connection)
+all_cut : {E S : Type 0} (size : ℕ) (engine : E) (links : List (Seated E S)) (pipes : ℕ → Option Pipe) (cs : List Connection) (n : ℕ) (c : Connection)
     → ArePlayed 1 size engine links pipes cs → AreTied links pipes → numbered cs n ≡ Some c → IsCutAs (is_cut c.standing) (pipes n)
 all_cut size engine links pipes cs zero c all tied at = absurd (cc)
 all_cut size engine [] pipes [] (suc i) c all tied at = absurd (cc)
 all_cut size engine [] pipes (d ∷ cs) (suc i) c all tied at = absurd all
 all_cut size engine (l ∷ ls) pipes cs (suc i) c all tied at =
     let less : i < length (l ∷ ls) = omega (arith, slice_get_within cs i c at, as_many 1 size engine (l ∷ ls) pipes cs all) in
-    cut_as (suc i) size engine (slice_index_or (l ∷ ls) i l) (pipes (suc i)) c
+    cut_as (suc i) size engine (slice_index_or (l ∷ ls) i l).link (slice_index_or (l ∷ ls) i l).seat (pipes (suc i)) c
     (played_at 1 (suc i) size engine (l ∷ ls) pipes cs i l c all at (omega arith)) (tied.tied i l less)
 
 pub in_the_end : {E S : Type 0} (setup : Setup) (answers : Answers) (engine : E) (es : List Event) (i : ℕ) (player : Player E S)

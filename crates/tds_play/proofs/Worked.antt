@@ -25,6 +25,7 @@ use Rattle.tds_play.specs.Plays.{IsPlayed}
 use Rattle.tds_world.specs.Newest.{WorksOnNewest}
 use Rattle.tds_play.specs.Requests.{MatchesRecord, IsNewest}
 use Rattle.tds_play.specs.declared.link.Link.{Link}
+use Rattle.tds_play.specs.declared.seat.Seat.{Seat}
 use Rattle.tds_play.specs.declared.request.Record.{Record}
 use Rattle.tds_play.proofs.Outward.{HandedDown, SentMore, replied_played}
 
@@ -115,20 +116,20 @@ newest_by number (s ∷ ss) server.Finished before after c r e told w from to h 
 
 -- ---- The connection then
 
-pub worked_played : {E S : Type 0} → SentMore down_bytes → (number size : ℕ) (engine : E) (link mid new : Link E S) (pipe after : Option Pipe) (c : Connection) (bytes : List ℕ)
-    → IsPlayed number size engine link pipe c → link.is_cut ≡ false
-    → WorkAlike c (worked link.server) → MatchesClient link.client (works c)
+pub worked_played : {E S : Type 0} → SentMore down_bytes → (number size : ℕ) (engine : E) (link mid new : Link E S) (seat : Seat) (pipe after : Option Pipe) (c : Connection) (bytes : List ℕ)
+    → IsPlayed number size engine link seat pipe c → link.is_cut ≡ false
+    → WorkAlike c (worked link.server) → MatchesClient seat.client (works c)
     → WorksOnNewest c c.due → (works c).past ≡ c.past → down_underway (works c) ≤ 18446744073709551615
     → mid ≡ worked_as (worked link.server) link → bytes ≡ (worked link.server).packet
     → HandedDown mid new pipe after bytes
-    → (worked_outcome (worked link.server).answer ≡ work_outcome c.due) × IsPlayed number size engine new after (works c)
-worked_played {E} {S} appends number size engine link mid new pipe after c bytes i live a stays newest past few is sent h =
+    → (worked_outcome (worked link.server).answer ≡ work_outcome c.due) × IsPlayed number size engine new seat after (works c)
+worked_played {E} {S} appends number size engine link mid new seat pipe after c bytes i live a stays newest past few is sent h =
     let w = worked link.server in
     let v = (i.lives live).stands in
     let behind : Option Record = current_behind w.answer link.server.session w.state.session link.current in
     let at : mid ≡ record link { server = w.state; current = behind } = is ∙ link_by link.server.phase link in (
       sym a.outcome,
-      replied_played appends number size engine link new w.state behind pipe after c (works c) w.packet i live
+      replied_played appends number size engine link new seat w.state behind pipe after c (works c) w.packet i live
           (subst (λ (l : Link E S). HandedDown l new pipe after w.packet) at (subst (λ (bs : List ℕ). HandedDown mid new pipe after bs) sent h))
           (standing_kept c c.due) (engine_by link.server.phase link.server)
           stays a.matches a.sends (above_kept c c.due) past

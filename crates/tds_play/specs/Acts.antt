@@ -2,7 +2,6 @@
 use Rattle.std.specs.Prelude.{Bool, true, false, option_map}
 use Rattle.tds_client.specs.declared.state.Cancelled.{Cancelled}
 use Rattle.tds_client.specs.declared.state.Cancelled.TheVariants as client
-use Rattle.tds_client.specs.Session.{ClientSession}
 use Rattle.tds_server.specs.declared.outcome.Worked.{Worked}
 use Rattle.tds_server.specs.declared.outcome.Worked.TheVariants as server
 use Rattle.tds_server.specs.State.{ServerState}
@@ -18,9 +17,6 @@ abbrev pub unless_lost : {E S : Type 0} → Bool → Link E S → Link E S
 unless_lost true link = cut_of link
 unless_lost false link = link
 
-abbrev pub with_client : {E S : Type 0} → ClientSession → Link E S → Link E S
-with_client s link = record link { client = s }
-
 abbrev pub with_status : RequestStatus → Record → Record
 with_status s r = record r { status = s }
 
@@ -32,13 +28,13 @@ cancel_status true = status.Cancelling
 cancel_status false = status.Unsent
 
 -- The newest request is never sent, or its attention is out.
-abbrev pub cancelled_as : {E S : Type 0} → Cancelled → ClientSession → Link E S → Link E S
-cancelled_as client.Nothing s link = with_client s link
-cancelled_as client.Already s link = with_client s link
-cancelled_as client.Unsent s link =
-    record link { client = s; current = option_map (with_status status.Unsent) link.current }
-cancelled_as client.Asked s link =
-    record link { client = s; current = option_map (with_status status.Cancelling) link.current }
+abbrev pub cancelled_as : {E S : Type 0} → Cancelled → Link E S → Link E S
+cancelled_as client.Nothing link = link
+cancelled_as client.Already link = link
+cancelled_as client.Unsent link =
+    record link { current = option_map (with_status status.Unsent) link.current }
+cancelled_as client.Asked link =
+    record link { current = option_map (with_status status.Cancelling) link.current }
 
 -- ---- Working
 

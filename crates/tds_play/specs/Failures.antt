@@ -5,6 +5,7 @@ use Rattle.tds_packet.specs.declared.kind.Direction.TheVariants.{ToServer, ToCli
 use Rattle.tds_session.specs.Answer.{Answers}
 use Rattle.tds_play.specs.declared.link.Done.{Done}
 use Rattle.tds_play.specs.declared.link.Link.{Link}
+use Rattle.tds_play.specs.declared.seat.Seated.{Seated}
 use Rattle.tds_play.specs.Pipe.{Pipe, traffic_of}
 use Rattle.tds_world.specs.declared.event.Event.{Event}
 use Rattle.tds_world.specs.declared.event.Event.TheVariants as event
@@ -80,9 +81,9 @@ pub record FailsAs {E S : Type 0} (calls : List Call) (done : Done) (link : Link
 -- ---- All connections
 
 -- A connection that isn't cut has no failure.
-abbrev pub LiveAreSound : {E S : Type 0} → List (Link E S) → (ℕ → Option Pipe) → Type 0
+abbrev pub LiveAreSound : {E S : Type 0} → List (Seated E S) → (ℕ → Option Pipe) → Type 0
 LiveAreSound {E} {S} links pipes =
-    (i : ℕ) (d : Link E S) → i < length links → (slice_index_or links i d).is_cut ≡ false
+    (i : ℕ) (d : Seated E S) → i < length links → (slice_index_or links i d).link.is_cut ≡ false
     → HasNoFailure (pipes (suc i))
 
 -- The connection at a place, of so many that were opened.

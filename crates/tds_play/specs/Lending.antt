@@ -7,7 +7,7 @@ use Rattle.tds_world.specs.Connection.{Standing, In, Cut}
 use Rattle.tds_world.specs.Pool.{is_free}
 use Rattle.tds_world.specs.World as world
 use Rattle.tds_world.specs.World.{World, numbered, next_number}
-use Rattle.tds_play.specs.declared.link.Link.{Link}
+use Rattle.tds_play.specs.declared.seat.Seated.{Seated}
 use Rattle.tds_play.specs.declared.pool.Found.{Found}
 use Rattle.tds_play.specs.declared.pool.Found.TheVariants.{Missing, Here, Opens}
 
@@ -16,8 +16,8 @@ abbrev pub standing_by : Bool → Place → Standing
 standing_by true place = Cut
 standing_by false place = In place
 
-abbrev pub standing_of : {E S : Type 0} → Link E S → Standing
-standing_of link = standing_by link.is_cut link.place
+abbrev pub standing_of : {E S : Type 0} → Seated E S → Standing
+standing_of x = standing_by x.link.is_cut x.seat.place
 
 abbrev pub is_in_pool : Standing → Bool
 is_in_pool (In place) = true

@@ -4,6 +4,7 @@ pub mod Kept
 pub mod Memory
 pub mod Ties
 pub mod Links
+pub mod Seats
 pub mod Seen
 pub mod Acts
 pub mod Holdings

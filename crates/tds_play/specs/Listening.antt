@@ -22,10 +22,9 @@ IsToldSo then (Some r) (Some s) =
     (s ≡ record r { status = status_under then.settled r.status; tokens = s.tokens })
     × (s.tokens.items ≡ then.told)
 
--- The client listened, and this is left of what came.
+-- Its client listened, and this is left of what came.
 pub record HasListened {E S : Type 0} (then : Listened) (left : List ℕ) (old new : Link E S) : Type 0 where
-  pub client : new.client ≡ then.session
   pub reader : new.client_reader ≡ with_taken old.client_reader left
   pub told : IsToldSo then old.current new.current
   pub rest :
-      new ≡ record old { client = new.client; client_reader = new.client_reader; current = new.current }
+      new ≡ record old { client_reader = new.client_reader; current = new.current }

@@ -5,9 +5,11 @@ use Rattle.tds_packet.specs.declared.kind.Direction.TheVariants.{ToServer, ToCli
 use Rattle.tds_session.specs.Answer.{Answers}
 use Rattle.tds_play.specs.declared.link.Done.{Done}
 use Rattle.tds_play.specs.declared.link.Link.{Link}
+use Rattle.tds_play.specs.declared.seat.Seat.{Seat}
+use Rattle.tds_play.specs.declared.seat.Seated.{Seated}
 use Rattle.tds_play.specs.declared.link.acts.Next.{Next}
 use Rattle.tds_play.specs.Between.{Stands}
-use Rattle.tds_play.specs.Lending.{standing_of}
+use Rattle.tds_play.specs.Lending.{standing_by}
 use Rattle.tds_play.specs.Pipe.{Pipe, is_cut_at, traffic}
 use Rattle.tds_play.specs.Requests.{AreOlder, IsNewest}
 use Rattle.tds_world.specs.declared.event.Event.{Event}
@@ -30,29 +32,29 @@ use Rattle.tds_world.specs.World.{World, Holding, next_number}
 -- ---- A connection
 
 -- A connection that isn't cut: both ends, with this engine and this greatest size of packets.
-pub record Lives {E S : Type 0} (size : ℕ) (engine : E) (link : Link E S) (pipe : Option Pipe) (c : Connection)
-    : Type 0 where
-  pub stands : Stands link pipe c
+pub record Lives {E S : Type 0} (size : ℕ) (engine : E) (link : Link E S) (seat : Seat)
+    (pipe : Option Pipe) (c : Connection) : Type 0 where
+  pub stands : Stands link seat pipe c
   pub engine_is : link.server.engine ≡ engine
-  pub size_is : link.client.size ≡ size
+  pub size_is : seat.client.size ≡ size
   pub server_reads : link.server_reader.direction ≡ ToServer
   pub server_size : link.server_reader.size ≡ size
   pub client_reads : link.client_reader.direction ≡ ToClient
   pub client_size : link.client_reader.size ≡ size
 
--- The connection of this number, and the model's. One that is cut was cut at the carrier; that no other
+-- The connection of this number, in its seat, and the model's. One that is cut was cut at the carrier; that no other
 -- one was is a part of `IsTied`.
-pub record IsPlayed {E S : Type 0} (number size : ℕ) (engine : E) (link : Link E S) (pipe : Option Pipe)
-    (c : Connection) : Type 0 where
+pub record IsPlayed {E S : Type 0} (number size : ℕ) (engine : E) (link : Link E S) (seat : Seat)
+    (pipe : Option Pipe) (c : Connection) : Type 0 where
   pub numbered : link.number ≡ number
-  pub standing : standing_of link ≡ c.standing
+  pub standing : standing_by link.is_cut seat.place ≡ c.standing
   pub older : AreOlder number link.is_cut link.past.items c.past
   pub newest : IsNewest number link.is_cut link.current c.current
   pub to_server : (traffic pipe ToServer).handed ≡ sent_bytes up_bytes c.to_server
   pub to_client : (traffic pipe ToClient).handed ≡ sent_bytes down_bytes c.to_client
   pub came_up : (traffic pipe ToServer).came ≡ come_bytes up_bytes c.to_server
   pub came_down : (traffic pipe ToClient).came ≡ come_bytes down_bytes c.to_client
-  pub lives : link.is_cut ≡ false → Lives size engine link pipe c
+  pub lives : link.is_cut ≡ false → Lives size engine link seat pipe c
   pub gone : link.is_cut ≡ true → is_cut_at pipe ≡ true
 
 -- ---- An event on it
@@ -92,9 +94,9 @@ cut_where false c = c
 -- What an event came to on its connection is what the model's act comes to, and the connection is the
 -- model's then; where the carrier failed, it is cut in both.
 pub record DoesAlike {E S : Type 0} (number size : ℕ) (engine : E) (done : Done) (link : Link E S)
-    (pipe : Option Pipe) (acted : Acted) (c : Connection) : Type 0 where
+    (seat : Seat) (pipe : Option Pipe) (acted : Acted) (c : Connection) : Type 0 where
   pub outcome : done.outcome ≡ outcome_of acted
-  pub played : IsPlayed number size engine link pipe (cut_where done.lost (after acted c))
+  pub played : IsPlayed number size engine link seat pipe (cut_where done.lost (after acted c))
 
 -- A delivery, each way, of so many bytes at most.
 abbrev pub delivers_up : Answers → ℕ → Connection → Acted
@@ -144,12 +146,14 @@ pub record AreNext (w : World) (next : Next) : Type 0 where
 -- ---- All of them
 
 -- The connections, of which the first has this number.
-abbrev pub ArePlayed : {E S : Type 0} → ℕ → ℕ → E → List (Link E S) → (ℕ → Option Pipe) → List Connection → Type 0
+abbrev pub ArePlayed : {E S : Type 0} → ℕ → ℕ → E → List (Seated E S) → (ℕ → Option Pipe)
+    → List Connection → Type 0
 ArePlayed number size engine [] pipes [] = Unit {0}
 ArePlayed number size engine [] pipes (c ∷ cs) = ⊥
-ArePlayed number size engine (l ∷ ls) pipes [] = ⊥
-ArePlayed number size engine (l ∷ ls) pipes (c ∷ cs) =
-    IsPlayed number size engine l (pipes number) c × ArePlayed (suc number) size engine ls pipes cs
+ArePlayed number size engine (x ∷ xs) pipes [] = ⊥
+ArePlayed number size engine (x ∷ xs) pipes (c ∷ cs) =
+    IsPlayed number size engine x.link x.seat (pipes number) c
+    × ArePlayed (suc number) size engine xs pipes cs
 
 -- Leases or tickets: the connection of each that has not ended.
 abbrev pub held_by : Holding → Option ℕ

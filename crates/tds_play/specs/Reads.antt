@@ -12,6 +12,7 @@ use Rattle.tds_world.specs.declared.outcome.Outcome.{Outcome}
 use Rattle.tds_play.specs.declared.link.Link.{Link}
 use Rattle.tds_play.specs.declared.player.Player.{Player}
 use Rattle.tds_play.specs.declared.request.Record.{Record}
+use Rattle.tds_play.specs.declared.seat.Seated.{Seated}
 use Rattle.tds_ends.specs.declared.listening.ClientStop.{ClientStop}
 use Rattle.tds_ends.specs.declared.listening.ClientStop.TheVariants as client_stop
 use Rattle.tds_ends.specs.declared.serving.ServerStop.{ServerStop}
@@ -36,23 +37,27 @@ abbrev pub given_by : {E S : Type 0} → Link E S → List Token
 given_by link = flat_map tokens_of link.past.items ++ told_in link.current
 
 -- What its ends have read of the bytes that came: all of them, unless it is cut; and of these the callers
--- were given what they were.
-pub record IsReading {E S : Type 0} (size : ℕ) (link : Link E S) (pipe : Option Pipe) : Type 0 where
+-- were given what they were. Its client knows these columns.
+pub record IsReading {E S : Type 0} (size : ℕ) (link : Link E S) (columns : Option ℕ) (pipe : Option Pipe)
+    : Type 0 where
   pub server : link.is_cut ≡ false
       → ServerHasRead (new_reader ToServer size) link.server_reader (traffic pipe ToServer).came
   pub client : link.is_cut ≡ false
-      → ClientHasRead (new_reader ToClient size) link.client_reader link.client.columns
+      → ClientHasRead (new_reader ToClient size) link.client_reader columns
       (traffic pipe ToClient).came (given_by link)
   pub told : AreToldBy (new_reader ToClient size) (traffic pipe ToClient).came (given_by link)
 
--- No byte came, and nothing was read.
+-- No byte came, and nothing was read; the columns that its client knows are told beside it.
 pub record ReadsNoMore {E S : Type 0} (link new : Link E S) (before after : Option Pipe) : Type 0 where
   pub came : (d : Direction) → (traffic after d).came ≡ (traffic before d).came
   pub server_reader : new.server_reader ≡ link.server_reader
   pub client_reader : new.client_reader ≡ link.client_reader
-  pub columns : new.client.columns ≡ link.client.columns
   pub given : given_by new ≡ given_by link
   pub live : new.is_cut ≡ false → link.is_cut ≡ false
+
+-- The same of one that has its seat beside it.
+abbrev pub ReadsThere : {E S : Type 0} → ℕ → Seated E S → Option Pipe → Type 0
+ReadsThere size x pipe = IsReading size x.link x.seat.client.columns pipe
 
 -- ---- An event on it
 
@@ -70,9 +75,9 @@ BringsBy true r o before after = AnswersWith r o before after
 BringsBy false r o before after = after ≡ before
 
 -- The event came to this outcome, and both ends have read what it brought.
-pub record ReadsOn {E S : Type 0} (size : ℕ) (e : Event) (o : Outcome) (link : Link E S) (before after : Option Pipe)
-    : Type 0 where
-  pub reading : IsReading size link after
+pub record ReadsOn {E S : Type 0} (size : ℕ) (e : Event) (o : Outcome) (link : Link E S) (columns : Option ℕ)
+    (before after : Option Pipe) : Type 0 where
+  pub reading : IsReading size link columns after
   pub brings : (d : Direction)
       → BringsBy (delivers e d) (new_reader d size) o (traffic before d).came (traffic after d).came
 
@@ -93,9 +98,9 @@ abbrev pub answers_then : Event → Outcome → Answers → Answers
 answers_then e o answers = λ n d. answers n d ++ (if is_delivery e n d then o ∷ [] else [])
 
 -- Each connection reads what came, and its deliveries answered so. One that is unknown was brought nothing.
-pub record AllRead {E S : Type 0} (size : ℕ) (links : List (Link E S)) (pipes : ℕ → Option Pipe) (answers : Answers)
+pub record AllRead {E S : Type 0} (size : ℕ) (links : List (Seated E S)) (pipes : ℕ → Option Pipe) (answers : Answers)
     : Type 0 where
-  pub reading : (i : ℕ) (x : Link E S) → i < length links → IsReading size (slice_index_or links i x) (pipes (suc i))
+  pub reading : (i : ℕ) (x : Seated E S) → i < length links → ReadsThere size (slice_index_or links i x) (pipes (suc i))
   pub answered : (i : ℕ) (d : Direction) → i < length links
       → AreAnswered (new_reader d size) [] (answers (suc i) d) (traffic (pipes (suc i)) d).came
   pub refused : (n : ℕ) (d : Direction) → (n ≡ 0) ⊎ (length links < n) → AllByRecursion IsRefused (answers n d)
@@ -103,12 +108,12 @@ pub record AllRead {E S : Type 0} (size : ℕ) (links : List (Link E S)) (pipes 
 -- ---- What the requests are told of
 
 -- What the callers of a connection that may be unknown were given.
-abbrev pub given_at : {E S : Type 0} → Option (Link E S) → List Token
+abbrev pub given_at : {E S : Type 0} → Option (Seated E S) → List Token
 given_at None = []
-given_at (Some link) = given_by link
+given_at (Some x) = given_by x.link
 
 -- Of what the callers of the connection of this number were given, reports tell the first.
-abbrev pub TellsGiven : {E S : Type 0} → List (Link E S) → List RequestReport → ℕ → Type 0
+abbrev pub TellsGiven : {E S : Type 0} → List (Seated E S) → List RequestReport → ℕ → Type 0
 TellsGiven links reports n = (more : List Token) × (given_at (numbered links n) ≡ given_on n reports ++ more)
 
 -- ---- What comes

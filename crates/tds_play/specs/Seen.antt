@@ -9,6 +9,8 @@ use Rattle.tds_world.specs.declared.report.Snapshot.{Snapshot}
 use Rattle.tds_play.specs.declared.feeding.Fault.{Fault}
 use Rattle.tds_play.specs.declared.link.Done.{Done}
 use Rattle.tds_play.specs.declared.link.Link.{Link}
+use Rattle.tds_play.specs.declared.seat.Seat.{Seat}
+use Rattle.tds_play.specs.declared.seat.Seated.{Seated}
 
 -- ---- What is seen
 
@@ -20,25 +22,28 @@ view_of client.Reading = Some view.Reading
 view_of client.Cancelling = Some view.Cancelling
 view_of (client.Broken fault) = None
 
-abbrev pub snapshot_as : {E S : Type 0} → Link E S → ClientView → Snapshot
-snapshot_as link v = record {
+abbrev pub snapshot_as : {E S : Type 0} → Link E S → Seat → ClientView → Snapshot
+snapshot_as link seat v = record {
   conn = link.number;
   client = v;
-  place = link.place;
-  descriptor = link.client.heard.descriptor;
-  mark = link.client.heard.mark;
+  place = seat.place;
+  descriptor = seat.client.heard.descriptor;
+  mark = seat.client.heard.mark;
   server = link.server.session;
   to_server = link.to_server;
   to_client = link.to_client;
 }
 
 -- Nor is a connection that is cut.
-abbrev pub seen_by : {E S : Type 0} → Bool → Link E S → Option Snapshot
-seen_by true link = None
-seen_by false link = option_map (snapshot_as link) (view_of link.client.stage)
+abbrev pub seen_by : {E S : Type 0} → Bool → Link E S → Seat → Option Snapshot
+seen_by true link seat = None
+seen_by false link seat = option_map (snapshot_as link seat) (view_of seat.client.stage)
 
-abbrev pub seen_of : {E S : Type 0} → Link E S → Option Snapshot
-seen_of link = seen_by link.is_cut link
+abbrev pub seen_in : {E S : Type 0} → Link E S → Seat → Option Snapshot
+seen_in link seat = seen_by link.is_cut link seat
+
+abbrev pub seen_of : {E S : Type 0} → Seated E S → Option Snapshot
+seen_of x = seen_in x.link x.seat
 
 -- ---- What an event came to
 

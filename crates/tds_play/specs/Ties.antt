@@ -5,6 +5,7 @@ use Rattle.tds_packet.specs.declared.kind.Direction.{Direction}
 use Rattle.tds_packet.specs.declared.kind.Direction.TheVariants.{ToServer, ToClient}
 use Rattle.tds_play.specs.Pipe.{Pipe, AreSame, traffic, IsOpen}
 use Rattle.tds_play.specs.declared.link.Link.{Link}
+use Rattle.tds_play.specs.declared.seat.Seated.{Seated}
 
 -- So many bytes are underway each way, or more.
 pub record Holds (up down : ℕ) (pipe : Option Pipe) : Type 0 where
@@ -33,11 +34,11 @@ counted link ToServer = link.to_server
 counted link ToClient = link.to_client
 
 -- All connections of a play, numbered from 1.
-pub record AreTied {E S : Type 0} (links : List (Link E S)) (pipes : ℕ → Option Pipe) : Type 0 where
-  pub numbered : (i : ℕ) (d : Link E S) → i < length links
-      → (slice_index_or links i d).number ≡ suc i
-  pub tied : (i : ℕ) (d : Link E S) → i < length links
-      → IsTied (slice_index_or links i d) (pipes (suc i))
+pub record AreTied {E S : Type 0} (links : List (Seated E S)) (pipes : ℕ → Option Pipe) : Type 0 where
+  pub numbered : (i : ℕ) (d : Seated E S) → i < length links
+      → (slice_index_or links i d).link.number ≡ suc i
+  pub tied : (i : ℕ) (d : Seated E S) → i < length links
+      → IsTied (slice_index_or links i d).link (pipes (suc i))
 
 -- The connection with so many bytes underway one way.
 abbrev pub with_counted : {E S : Type 0} → Link E S → Direction → ℕ → Link E S

@@ -12,6 +12,7 @@ mod playing;
 mod pool;
 mod request;
 mod run;
+mod seat;
 mod worlds;
 
 pub use carrier::{Carrier, CarrierError};

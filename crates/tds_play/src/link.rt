@@ -1,17 +1,16 @@
 //! One connection: both its ends, what is underway between them, and the requests asked on it.
-ghost use Rattle.std.specs.Prelude.{[], ◌∷◌, ◌≡◌, false, is_none, Some, IfOk, OnOk};
-ghost use Rattle.tds_client.specs.Session.{unless_idle};
+ghost use Rattle.std.specs.Prelude.{[], ◌∷◌, ◌≡◌, ℕ, false, Some, IfOk, OnOk, None};
+ghost use Rattle.tds_client.specs.Session.{new_session};
 ghost use Rattle.tds_play.specs.Failures.{Fails, Open};
-ghost use Rattle.tds_play.specs.Lending.{is_in_pool, standing_of};
 ghost use Rattle.tds_play.specs.Links.{IsNewLink, newest_first};
-ghost use Rattle.tds_play.specs.Seen.{seen_of};
+ghost use Rattle.tds_play.specs.Seats.{seated};
+ghost use Rattle.tds_play.specs.Seen.{seen_in};
 ghost use Rattle.tds_play.specs.Plays.{IsPlayed, cut_where};
 ghost use Rattle.tds_packet.specs.declared.kind.Direction.{Direction};
 ghost use Rattle.tds_play.specs.Pipe.{new_pipe, traffic};
 ghost use Rattle.tds_play.specs.Reads.{IsReading};
 ghost use Rattle.tds_play.specs.Ties.{IsTied, KeepsTies};
 ghost use Rattle.tds_world.specs.Connection.{new_connection};
-ghost use Rattle.tds_world.specs.Pool.{is_free};
 ghost use Rattle.tds_world.specs.declared.report.Place.TheVariants.{Leased};
 
 pub(crate) mod acts;
@@ -22,13 +21,14 @@ mod leasing;
 use crate::NoMemory;
 use crate::carrier::{Carrier, CarrierError};
 use crate::request::Record;
+use crate::seat::Seat;
 use std::alloc::{AllocError, Global};
-use tds_client::{Client, ClientState};
+use tds_client::ClientState;
 use tds_ends::all_bytes::nothing_is_read;
 use tds_packet::{Direction, PacketReader, PacketSize};
 use tds_server::Server;
 use tds_session::{Engine, OnAttention};
-use tds_world::{ClientView, Outcome, Place, Snapshot};
+use tds_world::{ClientView, Outcome, Snapshot};
 
 /// What an event came to on its connection.
 #[derive(Clone, Copy, Debug)]
@@ -38,15 +38,12 @@ pub(crate) struct Done {
     pub(crate) lost: bool,
 }
 
-/// A connection.
+/// A connection, but for its seat in the pool: its client stands there.
 #[derive(Drop)]
 pub(crate) struct Link<E: Engine + Drop> {
     /// From 1.
     pub(crate) number: u32,
     pub(crate) is_cut: bool,
-    /// Where it stands in the pool. It means nothing once the connection is cut.
-    pub(crate) place: Place,
-    pub(crate) client: Client,
     server: Server<E>,
     /// What comes to each end goes through its reader.
     client_reader: PacketReader,
@@ -60,11 +57,10 @@ pub(crate) struct Link<E: Engine + Drop> {
 }
 
 impl<E: Engine + Drop> Link<E> {
-    /// A connection as it begins, under this lease.
+    /// A connection as it begins.
     fn new(
         alloc: Global,
         number: u32,
-        lease: u32,
         engine: E,
         size: PacketSize,
         on_attention: OnAttention,
@@ -72,13 +68,11 @@ impl<E: Engine + Drop> Link<E> {
         ensures number { IfOk result (λ link. link.number ≡ number) }
         ensures tied { IfOk result (λ link. IsTied link (Some (new_pipe 0))) }
         ensures live { IfOk result (λ link. link.is_cut ≡ false) }
-        ensures value { IfOk result (IsNewLink number lease size engine on_attention) }
+        ensures value { IfOk result (IsNewLink number size engine on_attention) }
     {
         Ok(Link {
             number,
             is_cut: false,
-            place: Place::Leased(lease),
-            client: Client::new(alloc, size),
             server: Server::with_attention(alloc, engine, size, on_attention),
             client_reader: PacketReader::new(alloc, size, Direction::ToClient)?,
             server_reader: PacketReader::new(alloc, size, Direction::ToServer)?,
@@ -95,7 +89,6 @@ impl<E: Engine + Drop> Link<E> {
         alloc: Global,
         carrier: &mut C,
         number: u32,
-        lease: u32,
         engine: E,
         size: PacketSize,
         on_attention: OnAttention,
@@ -107,15 +100,17 @@ impl<E: Engine + Drop> Link<E> {
             (C.pipes carrier.new number)) }
         ensures uncut { IfOk result (λ opened. opened.0.is_cut ≡ opened.1) }
         // Nothing has come, and nothing was read.
-        ensures reads { IfOk result (λ opened. IsReading size opened.0 (C.pipes carrier.new number)
-            × ((d : Direction) → (traffic (C.pipes carrier.new number) d).came ≡ [])) }
-        // It stands for a new connection of the model, cut where the carrier failed.
-        ensures alike { IfOk result (λ opened. IsPlayed number size engine opened.0
+        ensures reads { IfOk result (λ opened. IsReading size opened.0 None
             (C.pipes carrier.new number)
+            × ((d : Direction) → (traffic (C.pipes carrier.new number) d).came ≡ [])) }
+        // With a new seat it stands for a new connection of the model, cut where the carrier
+        // failed.
+        ensures alike { (lease : ℕ) → IfOk result (λ opened. IsPlayed number size engine
+            opened.0 (seated (Leased lease) (new_session size)) (C.pipes carrier.new number)
             (cut_where opened.1 (new_connection on_attention (Leased lease)))) }
     {
         nothing_is_read();
-        let mut link = Link::new(alloc, number, lease, engine, size, on_attention)?;
+        let mut link = Link::new(alloc, number, engine, size, on_attention)?;
         match carrier.open(number) {
             Ok(()) => Ok((link, false)),
             Err(CarrierError::Lost) => {
@@ -126,35 +121,14 @@ impl<E: Engine + Drop> Link<E> {
         }
     }
 
-    /// Whether it can be lent.
-    pub(crate) fn is_free(&self) -> bool
-        ensures { result ≡ is_free (standing_of self.now) }
-    {
-        !self.is_cut && matches!(self.place, Place::Free)
-    }
-
-    /// Whether it is in the pool: it isn't cut.
-    pub(crate) fn is_in_pool(&self) -> bool
-        ensures { result ≡ is_in_pool (standing_of self.now) }
-    {
-        !self.is_cut
-    }
-
-    /// Whether nobody waits for an answer.
-    pub(crate) fn is_idle(&self) -> bool
-        ensures { result ≡ is_none (unless_idle self.now.client.stage) }
-    {
-        matches!(self.client.state(), ClientState::Idle)
-    }
-
-    /// What is seen of it, unless it is cut.
-    pub(crate) fn snapshot(&self) -> Option<Snapshot>
-        ensures { result ≡ seen_of self.now }
+    /// What is seen of it in this seat, unless it is cut.
+    pub(crate) fn snapshot(&self, seat: &Seat) -> Option<Snapshot>
+        ensures { result ≡ seen_in self.now seat.now }
     {
         if self.is_cut {
             return None;
         }
-        let client = match self.client.state() {
+        let client = match seat.client.state() {
             ClientState::Idle => ClientView::Idle,
             ClientState::Sending => ClientView::Sending,
             ClientState::Reading => ClientView::Reading,
@@ -165,9 +139,9 @@ impl<E: Engine + Drop> Link<E> {
         Some(Snapshot {
             conn: self.number,
             client,
-            place: self.place,
-            descriptor: self.client.descriptor(),
-            mark: self.client.reset_mark(),
+            place: seat.place,
+            descriptor: seat.client.descriptor(),
+            mark: seat.client.reset_mark(),
             server: *self.server.session(),
             to_server: self.to_server,
             to_client: self.to_client,

@@ -3,7 +3,7 @@ ghost use Rattle.std.specs.Prelude.{◌≡◌, ◌≤◌, ◌<◌, ◌-◌, ℕ,
 ghost use Rattle.std.specs.List.{filter_map};
 ghost use Rattle.tds_play.specs.Failures.{FailsNoMore, FailsOn, LiveAreSound, all_known};
 ghost use Rattle.tds_play.specs.Lending.{standing_of};
-ghost use Rattle.tds_play.specs.Links.{newest_first};
+ghost use Rattle.tds_play.specs.Links.{newest_there};
 ghost use Rattle.tds_play.specs.Noted.{about_of, asked_after, held_of, leases_after, tickets_after};
 ghost use Rattle.tds_play.specs.Pipe.{Pipe};
 ghost use Rattle.tds_play.specs.Player.{HappensAlike, IsFound, IsPlay, IsSmall, PromisesAll};
@@ -32,6 +32,7 @@ use crate::link::acts::{Next, refused};
 use crate::link::{Done, Link};
 use crate::pool::{Found, Holdings, by_number, next_number, to_lend};
 use crate::request::Record;
+use crate::seat::{Seat, Seated};
 use std::alloc::Global;
 use tds_packet::PacketSize;
 use tds_session::{Engine, OnAttention};
@@ -46,7 +47,7 @@ pub(crate) struct Player<E: Engine + Copy> {
     max: u8,
     on_attention: OnAttention,
     /// Numbered from 1.
-    links: Vec<Link<E>>,
+    links: Vec<Seated<E>>,
     leases: Holdings,
     tickets: Holdings,
     /// The connection of each request, in the order in which they were asked.
@@ -93,7 +94,8 @@ impl<E: Engine + Copy> Player<E> {
         requires tied { AreTied self.old.links.items (C.pipes carrier.old) }
         requires few { length self.old.links.items < 10000 }
         ensures tied { OnOk result (AreTied self.new.links.items (C.pipes carrier.new)) }
-        ensures grows { OnOk result (length self.new.links.items ≤ suc (length self.old.links.items)) }
+        ensures grows { OnOk result
+            (length self.new.links.items ≤ suc (length self.old.links.items)) }
         ensures tells { OnOk result (C.tells carrier.old → C.tells carrier.new) }
         ensures sound { LiveAreSound self.old.links.items (C.pipes carrier.old)
             → OnOk result (LiveAreSound self.new.links.items (C.pipes carrier.new)) }
@@ -147,7 +149,8 @@ impl<E: Engine + Copy> Player<E> {
 
     /// The connection that an event is about.
     fn about(&self, event: &Event) -> Found
-        ensures value { result ≡ about_of event.now (map standing_of self.now.links.items) self.now.max self.now.leases self.now.tickets }
+        ensures value { result ≡ about_of event.now (map standing_of self.now.links.items)
+            self.now.max self.now.leases self.now.tickets }
         ensures there { (place : ℕ) → result ≡ Here place → place < length self.now.links.items }
     {
         match event {
@@ -191,7 +194,8 @@ impl<E: Engine + Copy> Player<E> {
         requires tied { AreTied self.old.links.items (C.pipes carrier.old) }
         requires there { place < length self.old.links.items }
         ensures tied { OnOk result (AreTied self.new.links.items (C.pipes carrier.new)) }
-        ensures count { OnOk result (length self.new.links.items ≡ length self.old.links.items) }
+        ensures count { OnOk result
+            (length self.new.links.items ≡ length self.old.links.items) }
         ensures tells { OnOk result (C.tells carrier.old → C.tells carrier.new) }
         ensures sound { LiveAreSound self.old.links.items (C.pipes carrier.old)
             → OnOk result (LiveAreSound self.new.links.items (C.pipes carrier.new)) }
@@ -224,7 +228,8 @@ impl<E: Engine + Copy> Player<E> {
             ticket: self.tickets.next(),
             request: next_number(self.asked_on.len()),
         };
-        let done = self.links[place].act(self.alloc, carrier, next, event)?;
+        let Seated { link, seat } = &mut self.links[place];
+        let done = link.act(self.alloc, carrier, seat, next, event)?;
         if !matches!(done.outcome, Outcome::Refused(_)) {
             self.note(event, next_number(place))?;
         }
@@ -233,11 +238,18 @@ impl<E: Engine + Copy> Player<E> {
 
     /// Notes an event that applied, on this connection.
     fn note(&mut self, event: &Event, conn: u32) -> Result<(), NoMemory>
-        ensures rest { OnOk result (self.new ≡ record self.old { leases = self.new.leases; tickets = self.new.tickets; asked_on = self.new.asked_on }) }
+        ensures rest { OnOk result (self.new ≡ record self.old {
+          leases = self.new.leases;
+          tickets = self.new.tickets;
+          asked_on = self.new.asked_on;
+        }) }
         ensures links { self.new.links ≡ self.old.links }
-        ensures leases { OnOk result (self.new.leases ≡ leases_after event.now conn self.old.leases) }
-        ensures tickets { OnOk result (self.new.tickets ≡ tickets_after event.now conn self.old.tickets) }
-        ensures asked { OnOk result (self.new.asked_on.items ≡ asked_after event.now conn self.old.asked_on.items) }
+        ensures leases { OnOk result
+            (self.new.leases ≡ leases_after event.now conn self.old.leases) }
+        ensures tickets { OnOk result
+            (self.new.tickets ≡ tickets_after event.now conn self.old.tickets) }
+        ensures asked { OnOk result
+            (self.new.asked_on.items ≡ asked_after event.now conn self.old.asked_on.items) }
     {
         match event {
             Event::Lease => self.leases.give(conn),
@@ -270,7 +282,8 @@ impl<E: Engine + Copy> Player<E> {
         requires tied { AreTied self.old.links.items (C.pipes carrier.old) }
         requires few { length self.old.links.items < 10000 }
         ensures tied { OnOk result (AreTied self.new.links.items (C.pipes carrier.new)) }
-        ensures count { OnOk result (length self.new.links.items ≡ suc (length self.old.links.items)) }
+        ensures count { OnOk result
+            (length self.new.links.items ≡ suc (length self.old.links.items)) }
         ensures tells { OnOk result (C.tells carrier.old → C.tells carrier.new) }
         ensures sound { LiveAreSound self.old.links.items (C.pipes carrier.old)
             → OnOk result (LiveAreSound self.new.links.items (C.pipes carrier.new)) }
@@ -298,12 +311,12 @@ impl<E: Engine + Copy> Player<E> {
             self.alloc,
             carrier,
             conn,
-            lease,
             self.engine,
             self.size,
             self.on_attention,
         )?;
-        self.links.push(link)?;
+        let seat = Seat::new(self.alloc, lease, self.size);
+        self.links.push(Seated { link, seat })?;
         let outcome = Outcome::Leased {
             lease,
             conn,
@@ -326,7 +339,8 @@ impl<E: Engine + Copy> Player<E> {
             → AllRead size self.new.links.items (C.pipes carrier.new) answers }
         ensures failed { (n : ℕ) → FailsNoMore (C.pipes carrier.old n) (C.pipes carrier.new n) }
         // What stands for connections of the model stands for them, all cut.
-        ensures alike { (size : ℕ) (engine : E) (cs : List Connection) → ArePlayed 1 size engine self.old.links.items (C.pipes carrier.old) cs
+        ensures alike { (size : ℕ) (engine : E) (cs : List Connection)
+            → ArePlayed 1 size engine self.old.links.items (C.pipes carrier.old) cs
             → ArePlayed 1 size engine self.new.links.items (C.pipes carrier.new) (map cut cs) }
     {
         'links: for place in 0..self.links.len() {
@@ -348,11 +362,13 @@ impl<E: Engine + Copy> Player<E> {
             → AllRead size self.old.links.items (C.pipes carrier.old) answers
             → AllRead size self.new.links.items (C.pipes carrier.new) answers }
         ensures failed { (n : ℕ) → FailsNoMore (C.pipes carrier.old n) (C.pipes carrier.new n) }
-        ensures alike { (size : ℕ) (engine : E) (cs : List Connection) (c : Connection) → slice_get cs place ≡ Some c
+        ensures alike { (size : ℕ) (engine : E) (cs : List Connection) (c : Connection)
+            → slice_get cs place ≡ Some c
             → ArePlayed 1 size engine self.old.links.items (C.pipes carrier.old) cs
-            → ArePlayed 1 size engine self.new.links.items (C.pipes carrier.new) (put place (cut c) cs) }
+            → ArePlayed 1 size engine self.new.links.items (C.pipes carrier.new)
+            (put place (cut c) cs) }
     {
-        let link = &mut self.links[place];
+        let link = &mut self.links[place].link;
         if link.is_cut {
             return;
         }
@@ -361,11 +377,12 @@ impl<E: Engine + Copy> Player<E> {
 
     /// What is seen of each connection that isn't cut.
     pub(crate) fn snapshots(&self) -> Result<Vec<Snapshot>, NoMemory>
-        ensures { IfOk result (λ snapshots. snapshots.items ≡ filter_map seen_of self.now.links.items) }
+        ensures { IfOk result (λ snapshots.
+            snapshots.items ≡ filter_map seen_of self.now.links.items) }
     {
         let mut snapshots = Vec::new(self.alloc);
-        'links: for link in &self.links {
-            if let Some(snapshot) = link.snapshot() {
+        'links: for seated in &self.links {
+            if let Some(snapshot) = seated.snapshot() {
                 snapshots.push(snapshot)?;
             }
         }
@@ -377,8 +394,8 @@ impl<E: Engine + Copy> Player<E> {
         // The callers of each connection were given what is told of its requests, and maybe more.
         ensures given { IfOk result (λ reports. (n : ℕ)
             → TellsGiven self.links.items reports.items n) }
-        ensures told { (setup : Setup) (engine : E) (pipes : ℕ → Option Pipe) (w : World) → IsPlay setup engine self pipes w
-            → RequestsInOrder w
+        ensures told { (setup : Setup) (engine : E) (pipes : ℕ → Option Pipe) (w : World)
+            → IsPlay setup engine self pipes w → RequestsInOrder w
             → IfOk result (λ reports. reports.items ≡ request_reports w 1 w.asked_on) }
     {
         let Player {
@@ -401,13 +418,14 @@ impl<E: Engine + Copy> Player<E> {
 /// The requests of each connection, the newest first.
 fn all_records<E: Engine + Copy>(
     alloc: Global,
-    links: Vec<Link<E>>,
+    links: Vec<Seated<E>>,
 ) -> Result<Vec<Vec<Record>>, NoMemory>
-    ensures { IfOk result (λ records. map (λ v. v.items) records.items ≡ map newest_first links.items) }
+    ensures { IfOk result (λ records. map (λ v. v.items) records.items
+        ≡ map newest_there links.items) }
 {
     let mut records = Vec::new(alloc);
-    'links: for link in links {
-        records.push(link.into_records()?)?;
+    'links: for seated in links {
+        records.push(seated.link.into_records()?)?;
     }
     Ok(records)
 }
@@ -417,8 +435,10 @@ fn next_of(records: &mut [Vec<Record>], conn: u32) -> Option<Record>
     ensures count { length records.new ≡ length records.old }
     ensures takes { TakesLast (map (λ v. v.items) records.old) (map (λ v. v.items) records.new)
         conn result }
-    ensures next { (left : List Record) (r : Record) → numbered (map (λ v. v.items) records.old) conn ≡ Some (left ++ r ∷ [])
-        → (result ≡ Some r) × (map (λ v. v.items) records.new ≡ slice_set (map (λ v. v.items) records.old) (conn - 1) left) }
+    ensures next { (left : List Record) (r : Record)
+        → numbered (map (λ v. v.items) records.old) conn ≡ Some (left ++ r ∷ [])
+        → (result ≡ Some r) × (map (λ v. v.items) records.new
+        ≡ slice_set (map (λ v. v.items) records.old) (conn - 1) left) }
 {
     if conn == 0 || conn as usize > records.len() {
         return None;

@@ -6,7 +6,7 @@ ghost use Rattle.tds_play.specs.Lending.{lent, is_in_pool, numbered_of, standing
 ghost use Rattle.tds_world.specs.Pool.{is_free};
 
 use crate::NoMemory;
-use crate::link::Link;
+use crate::seat::Seated;
 use std::alloc::Global;
 use std::marker::Model;
 use tds_session::Engine;
@@ -118,14 +118,14 @@ pub(crate) fn by_number(count: usize, conn: u32, why: Refusal) -> Found
 }
 
 /// The place of the free connection with the lowest number.
-fn first_free<E: Engine + Drop>(links: &[Link<E>]) -> Option<usize>
+fn first_free<E: Engine + Drop>(links: &[Seated<E>]) -> Option<usize>
     ensures { result ≡ position (λ link. is_free (standing_of link)) links.now }
 {
     links.iter().position(|link| link.is_free())
 }
 
 /// How many connections are in the pool.
-fn count_in_pool<E: Engine + Drop>(links: &[Link<E>]) -> usize
+fn count_in_pool<E: Engine + Drop>(links: &[Seated<E>]) -> usize
     ensures { result ≡ length (filter (λ link. is_in_pool (standing_of link)) links.now) }
 {
     links.iter().filter(|link| link.is_in_pool()).count()
@@ -133,7 +133,7 @@ fn count_in_pool<E: Engine + Drop>(links: &[Link<E>]) -> usize
 
 /// The connection that the next lease gets: the free one with the lowest number, or else a new one,
 /// if the pool has room.
-pub(crate) fn to_lend<E: Engine + Drop>(links: &[Link<E>], max: u8) -> Found
+pub(crate) fn to_lend<E: Engine + Drop>(links: &[Seated<E>], max: u8) -> Found
     ensures value { result ≡ lent (map standing_of links.now) max }
     ensures there { (place : ℕ) → result ≡ Here place → place < length links.now }
 {

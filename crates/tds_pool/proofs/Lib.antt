@@ -4,3 +4,4 @@ pub mod Seats
 pub mod Taken
 pub mod Results
 pub mod Promises
+pub mod Others

@@ -225,6 +225,9 @@ new_connection number key size = record { number = number; key = key; place = pl
 
 -- ---- What a service asks
 
+abbrev pub all_numbers : List Connection → List ℕ
+all_numbers cs = map (λ (c : Connection). c.number) cs
+
 -- whether a place is this one
 abbrev pub stands_at : Place → Place → Bool
 stands_at places.Leased place = is_leased place

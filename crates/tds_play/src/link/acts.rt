@@ -5,13 +5,16 @@ ghost use Rattle.tds_packet.specs.declared.kind.Direction.TheVariants.{ToClient,
 ghost use Rattle.tds_play.specs.Failures.{FailsAs, HasNoFailure, Send, calls_of};
 ghost use Rattle.tds_play.specs.Links.{IsAskedOn, IsPutBy, recounted};
 ghost use Rattle.tds_ends.specs.Alike.{cancel_outcome};
-ghost use Rattle.tds_play.specs.Acts.{cancelled_as, unless_lost, with_client, worked_as};
+ghost use Rattle.tds_play.specs.Acts.{cancelled_as, unless_lost, worked_as};
 ghost use Rattle.tds_ends.specs.Alike.{send_outcome, worked_outcome};
 ghost use Rattle.tds_play.specs.Plays.{AreNext, DoesAlike, IsPlayed, IsReady, MayLose, acts_on, after, loss_of, on_cut, outcome_of};
 ghost use Rattle.tds_ends.specs.Promises.{IsCountable, Promises};
 ghost use Rattle.tds_world.specs.Newest.{WorksOnNewest};
 ghost use Rattle.tds_world.specs.Steps.{EndsIfDue};
+ghost use Rattle.tds_play.specs.Seats.{seated};
 ghost use Rattle.tds_play.specs.Seen.{done_as};
+ghost use Rattle.tds_play.specs.declared.seat.Seat.{Seat};
+ghost use Rattle.tds_world.specs.declared.report.Place.{Place};
 ghost use Rattle.tds_world.specs.Arrivals.{works};
 ghost use Rattle.tds_world.specs.Caller.{cancels};
 ghost use Rattle.tds_world.specs.Caller as model;
@@ -19,7 +22,7 @@ ghost use Rattle.tds_world.specs.Connection.{Connection, down_underway, phase, u
 ghost use Rattle.tds_world.specs.Events.{sends_in, work_outcome};
 ghost use Rattle.tds_world.specs.Losses.{bringing, met};
 ghost use Rattle.tds_world.specs.Pool.{Does};
-ghost use Rattle.tds_client.specs.Sending.{cancelled, sent};
+ghost use Rattle.tds_client.specs.Sending.{cancelled, sent, started};
 ghost use Rattle.tds_server.specs.Working.{worked};
 ghost use Rattle.tds_world.specs.declared.outcome.Outcome.TheVariants.{Asked, Refused};
 ghost use Rattle.tds_world.specs.declared.outcome.Outcome.TheVariants as outcome;
@@ -35,8 +38,9 @@ use super::{Done, Link};
 use crate::NoMemory;
 use crate::carrier::Carrier;
 use crate::request::Record;
+use crate::seat::Seat;
 use std::alloc::{AllocError, Global};
-use tds_client::{Cancelled, ClientRefusal, Sent};
+use tds_client::{Cancelled, Client, ClientRefusal, ClientState, Sent};
 use tds_ends::laws::{
     asks_alike, cancels_alike, idle_alike, lends_matching, pool_is_unseen, sends_alike,
     sends_append, the_other_stays, works_alike,
@@ -69,7 +73,7 @@ pub(crate) fn refused(refusal: Refusal) -> Done
     }
 }
 
-pub(super) fn done(outcome: Outcome) -> Done
+pub(crate) fn done(outcome: Outcome) -> Done
     ensures { result ≡ done_as outcome }
 {
     Done {
@@ -100,12 +104,31 @@ fn on_cut(event: &Event) -> Done
     }
 }
 
+/// The client appends the request's next packet, if one is left.
+fn put_next(client: &mut Client, out: &mut Vec<u8>) -> Result<Option<SendOutcome>, NoMemory>
+    ensures refused { is_ok (sent client.old) ≡ false → (result ≡ Ok None)
+        × (client.new ≡ client.old) × (out.new.items ≡ out.old.items) }
+    ensures sent { IfOk (sent client.old) (λ e. IfOk result (λ o.
+        (o ≡ Some (send_outcome e.answer))
+        × (client.new ≡ e.session)
+        × (out.new.items ≡ out.old.items ++ e.bytes))) }
+    ensures columns { client.new.columns ≡ client.old.columns }
+{
+    match client.send(out) {
+        Ok(Sent::More) => Ok(Some(SendOutcome::More)),
+        Ok(Sent::Last) => Ok(Some(SendOutcome::Last)),
+        Err(ClientRefusal::Memory) => Err(AllocError),
+        Err(_) => Ok(None),
+    }
+}
+
 impl<E: Engine + Drop> Link<E> {
     /// Does what this event does on its connection.
     pub(crate) fn act<C: Carrier>(
         &mut self,
         alloc: Global,
         carrier: &mut C,
+        seat: &mut Seat,
         next: Next,
         event: &Event,
     ) -> Result<Done, NoMemory>
@@ -113,26 +136,28 @@ impl<E: Engine + Drop> Link<E> {
         ensures number { self.new.number ≡ self.old.number }
         ensures ties { OnOk result (KeepsTies self.old.number self.new (C.pipes carrier.old)
             (C.pipes carrier.new) (C.tells carrier.old) (C.tells carrier.new)) }
-        // Where the connection had no failure, one call of this event failed, or more, exactly where it
-        // was lost, and no other one. Where it was cut, nothing changes at the carrier.
+        // Where the connection had no failure, one call of this event failed, or more, exactly where
+        // it was lost, and no other one. Where it was cut, nothing changes at the carrier.
         ensures failed { HasNoFailure (C.pipes carrier.old self.old.number)
             → IfOk result (λ done. FailsAs (calls_of event.now) done self.new
             (C.pipes carrier.new self.old.number)) }
         ensures gone { self.old.is_cut ≡ true → (carrier.new ≡ carrier.old)
-            × (self.new ≡ self.old) × IfOk result (λ done. done.lost ≡ false) }
+            × (self.new ≡ self.old) × (seat.new ≡ seat.old)
+            × IfOk result (λ done. done.lost ≡ false) }
         // Only what hands bytes over or brings some is lost.
         ensures loses { IfOk result (λ done. done.lost ≡ true
             → MayLose self.old.is_cut event.now) }
         // Its ends read what comes, whatever it is.
         ensures reads { (size : ℕ)
-            → IsReading size self.old (C.pipes carrier.old self.old.number)
+            → IsReading size self.old seat.old.client.columns
+            (C.pipes carrier.old self.old.number)
             → IfOk result (λ done. ReadsOn size event.now done.outcome self.new
-            (C.pipes carrier.old self.old.number) (C.pipes carrier.new self.old.number)) }
+            seat.new.client.columns (C.pipes carrier.old self.old.number) (C.pipes carrier.new self.old.number)) }
         // A connection that stands for one of the model stands for what the event, as it was met,
         // makes of it, cut where the carrier failed.
         ensures alike { (setup : Setup) (w : World) (c : Connection) (engine : E)
             → C.tells carrier.old
-            → IsPlayed self.old.number setup.packet_size engine self.old
+            → IsPlayed self.old.number setup.packet_size engine self.old seat.old
             (C.pipes carrier.old self.old.number) c
             → Promises E (answer_of (E.statements_of engine) (E.step_of engine)) setup.packet_size c
             → ((k : ℕ) → IsCountable (after (acts_on setup
@@ -140,7 +165,7 @@ impl<E: Engine + Drop> Link<E> {
             (bringing k event.now) self.old.number c) c))
             → AreNext w next → (self.old.is_cut ≡ false → IsReady event.now c)
             → IfOk result (λ done. DoesAlike self.old.number setup.packet_size engine done self.new
-            (C.pipes carrier.new self.old.number)
+            seat.new (C.pipes carrier.new self.old.number)
             (acts_on setup (answer_of (E.statements_of engine) (E.step_of engine)) w
             (met (loss_of done) event.now) self.old.number c) c) }
     {
@@ -153,17 +178,21 @@ impl<E: Engine + Drop> Link<E> {
             return Ok(on_cut(event));
         }
         match event {
-            Event::Lease => Ok(self.lend(next, Reset::Full, Opened::Reused)),
-            Event::Resume(_) => Ok(self.lend(next, Reset::KeepTransaction, Opened::Resumed)),
-            Event::GiveBack(_) => self.give_back(alloc, carrier),
-            Event::Keep(_) => Ok(self.keep(next)),
-            Event::Abandon(_) => Ok(self.abandon()),
-            Event::Ask(lease, request) => self.ask(alloc, next, *lease, request),
-            Event::Send(_) => self.send(alloc, carrier),
-            Event::Cancel(_) => self.cancel(alloc, carrier),
+            Event::Lease => Ok(seat.lend(self.number, next, Reset::Full, Opened::Reused)),
+            Event::Resume(_) => {
+                Ok(seat.lend(self.number, next, Reset::KeepTransaction, Opened::Resumed))
+            }
+            Event::GiveBack(_) => self.give_back(alloc, carrier, seat),
+            Event::Keep(_) => Ok(seat.keep(next)),
+            Event::Abandon(_) => Ok(seat.abandon()),
+            Event::Ask(lease, request) => {
+                self.ask(alloc, &mut seat.client, next, *lease, request)
+            }
+            Event::Send(_) => self.send(alloc, carrier, &mut seat.client),
+            Event::Cancel(_) => self.cancel(alloc, carrier, &mut seat.client),
             Event::Work(_) => self.work(alloc, carrier),
             Event::ToServer(_, most) => self.deliver_to_server(alloc, carrier, *most),
-            Event::ToClient(_, most) => self.deliver_to_client(alloc, carrier, *most),
+            Event::ToClient(_, most) => self.deliver_to_client(alloc, carrier, seat, *most),
             Event::Cut(_) | Event::RestartServer | Event::RestartClient => {
                 self.cut(carrier);
                 Ok(done(Outcome::Cut))
@@ -175,26 +204,30 @@ impl<E: Engine + Drop> Link<E> {
     fn ask(
         &mut self,
         alloc: Global,
+        client: &mut Client,
         next: Next,
         lease: u32,
         request: &Request,
     ) -> Result<Done, NoMemory>
-        ensures refused { is_none (unless_idle self.old.client.stage) ≡ false
-            → (result ≡ Ok (done_as (Refused NotIdle))) × (self.new ≡ self.old) }
+        ensures refused { is_none (unless_idle client.old.stage) ≡ false
+            → (result ≡ Ok (done_as (Refused NotIdle))) × (self.new ≡ self.old)
+            × (client.new ≡ client.old) }
         ensures whole { IfOk result (λ done. done.lost ≡ false) }
-        ensures asked { is_none (unless_idle self.old.client.stage) ≡ true → IfOk result (λ done.
-            (done ≡ done_as (Asked next.request)) × IsAskedOn lease request.now self.old self.new) }
+        ensures asked { is_none (unless_idle client.old.stage) ≡ true → IfOk result (λ done.
+            (done ≡ done_as (Asked next.request)) × (client.new ≡ started client.old request.now)
+            × IsAskedOn lease client.old.heard.mark self.old self.new) }
         ensures number { self.new.number ≡ self.old.number }
         ensures tied { (pipe : Option Pipe) → IsTied self.old pipe → IsTied self.new pipe }
         ensures still { (pipe : Option Pipe)
             → OnOk result (ReadsNoMore self.old self.new pipe pipe) }
+        ensures columns { client.new.columns ≡ client.old.columns }
     {
-        if !self.is_idle() {
+        if !matches!(client.state(), ClientState::Idle) {
             return Ok(refused(Refusal::NotIdle));
         }
-        let mark = self.client.reset_mark();
+        let mark = client.reset_mark();
         // An idle client refuses only where a growth was.
-        if self.client.start(request).is_err() {
+        if client.start(request).is_err() {
             return Err(AllocError);
         }
         self.put_by()?;
@@ -216,30 +249,13 @@ impl<E: Engine + Drop> Link<E> {
         Ok(())
     }
 
-    /// The client appends the request's next packet, if one is left.
-    fn put_next(&mut self, out: &mut Vec<u8>) -> Result<Option<SendOutcome>, NoMemory>
-        ensures refused { is_ok (sent self.old.client) ≡ false → (result ≡ Ok None)
-            × (self.new ≡ self.old) × (out.new.items ≡ out.old.items) }
-        ensures sent { IfOk (sent self.old.client) (λ e. IfOk result (λ o.
-            (o ≡ Some (send_outcome e.answer))
-            × (self.new ≡ with_client e.session self.old)
-            × (out.new.items ≡ out.old.items ++ e.bytes))) }
-        ensures number { self.new.number ≡ self.old.number }
-        ensures live { self.new.is_cut ≡ self.old.is_cut }
-        ensures tied { (pipe : Option Pipe) → IsTied self.old pipe → IsTied self.new pipe }
-        ensures still { (pipe : Option Pipe)
-            → OnOk result (ReadsNoMore self.old self.new pipe pipe) }
-    {
-        match self.client.send(out) {
-            Ok(Sent::More) => Ok(Some(SendOutcome::More)),
-            Ok(Sent::Last) => Ok(Some(SendOutcome::Last)),
-            Err(ClientRefusal::Memory) => Err(AllocError),
-            Err(_) => Ok(None),
-        }
-    }
-
     /// The request's next packet goes out.
-    fn send<C: Carrier>(&mut self, alloc: Global, carrier: &mut C) -> Result<Done, NoMemory>
+    fn send<C: Carrier>(
+        &mut self,
+        alloc: Global,
+        carrier: &mut C,
+        client: &mut Client,
+    ) -> Result<Done, NoMemory>
         requires live { self.old.is_cut ≡ false }
         requires tied { IsTied self.old (C.pipes carrier.old self.old.number) }
         ensures number { self.new.number ≡ self.old.number }
@@ -247,30 +263,32 @@ impl<E: Engine + Drop> Link<E> {
             (C.pipes carrier.new) (C.tells carrier.old) (C.tells carrier.new)) }
         ensures still { OnOk result (ReadsNoMore self.old self.new
             (C.pipes carrier.old self.old.number) (C.pipes carrier.new self.old.number)) }
-        ensures refused { is_ok (sent self.old.client) ≡ false
+        ensures columns { client.new.columns ≡ client.old.columns }
+        ensures refused { is_ok (sent client.old) ≡ false
             → (result ≡ Ok (done_as (Refused NotSending))) × (self.new ≡ self.old)
-            × (carrier.new ≡ carrier.old) }
-        ensures sent { IfOk (sent self.old.client) (λ e. IfOk result (λ done.
-            (done.outcome ≡ outcome.Sent (send_outcome e.answer))
+            × (client.new ≡ client.old) × (carrier.new ≡ carrier.old) }
+        ensures sent { IfOk (sent client.old) (λ e. IfOk result (λ done.
+            (done.outcome ≡ outcome.Sent (send_outcome e.answer)) × (client.new ≡ e.session)
             × (self.new ≡ unless_lost done.lost
-            (recounted self.new.to_server self.new.to_client (with_client e.session self.old))))) }
+            (recounted self.new.to_server self.new.to_client self.old)))) }
         ensures failed { HasNoFailure (C.pipes carrier.old self.old.number)
             → IfOk result (λ done. FailsAs (Send ToServer ∷ []) done self.new
             (C.pipes carrier.new self.old.number)) }
         // A connection that stands for one of the model stands for what the same send makes of it.
-        ensures alike { (size : ℕ) (engine : E) (c : Connection)
-            → IsPlayed self.old.number size engine self.old (C.pipes carrier.old self.old.number) c
+        ensures alike { (size : ℕ) (engine : E) (p : Place) (c : Connection)
+            → IsPlayed self.old.number size engine self.old (seated p client.old)
+            (C.pipes carrier.old self.old.number) c
             → up_underway (after (sends_in (phase c) (size - 8) c.current c) c)
             ≤ 18446744073709551615
             → IfOk result (λ done. DoesAlike self.old.number size engine done self.new
-            (C.pipes carrier.new self.old.number) (sends_in (phase c) (size - 8) c.current c) c) }
+            (seated p client.new) (C.pipes carrier.new self.old.number) (sends_in (phase c) (size - 8) c.current c) c) }
     {
         sends_alike();
         sends_append();
         the_other_stays::<E>();
         phases_tell();
         let mut out = Vec::new(alloc);
-        let Some(sent) = self.put_next(&mut out)? else {
+        let Some(sent) = put_next(client, &mut out)? else {
             return Ok(refused(Refusal::NotSending));
         };
         let lost = self.hand_over(carrier, Direction::ToServer, out.as_slice())?;
@@ -278,18 +296,23 @@ impl<E: Engine + Drop> Link<E> {
     }
 
     /// Cancels the request underway, and appends what goes out for it.
-    pub(super) fn cancel_request(&mut self, out: &mut Vec<u8>) -> Result<CancelOutcome, NoMemory>
+    pub(super) fn cancel_request(
+        &mut self,
+        client: &mut Client,
+        out: &mut Vec<u8>,
+    ) -> Result<CancelOutcome, NoMemory>
         ensures number { self.new.number ≡ self.old.number }
         ensures tied { (pipe : Option Pipe) → IsTied self.old pipe → IsTied self.new pipe }
         ensures still { (pipe : Option Pipe)
             → OnOk result (ReadsNoMore self.old self.new pipe pipe) }
+        ensures columns { client.new.columns ≡ client.old.columns }
         ensures live { self.new.is_cut ≡ self.old.is_cut }
-        ensures cancelled { IfOk (cancelled self.old.client) (λ e. IfOk result (λ outcome.
-            (outcome ≡ cancel_outcome e.answer)
-            × (self.new ≡ cancelled_as e.answer e.session self.old)
+        ensures cancelled { IfOk (cancelled client.old) (λ e. IfOk result (λ outcome.
+            (outcome ≡ cancel_outcome e.answer) × (client.new ≡ e.session)
+            × (self.new ≡ cancelled_as e.answer self.old)
             × (out.new.items ≡ out.old.items ++ e.bytes))) }
     {
-        let (outcome, is_out) = match self.client.cancel(out) {
+        let (outcome, is_out) = match client.cancel(out) {
             Ok(Cancelled::Nothing) => return Ok(CancelOutcome::Nothing),
             Ok(Cancelled::Already) => return Ok(CancelOutcome::Already),
             Ok(Cancelled::Unsent) => (CancelOutcome::Unsent, false),
@@ -305,7 +328,12 @@ impl<E: Engine + Drop> Link<E> {
     }
 
     /// The request underway is cancelled.
-    fn cancel<C: Carrier>(&mut self, alloc: Global, carrier: &mut C) -> Result<Done, NoMemory>
+    fn cancel<C: Carrier>(
+        &mut self,
+        alloc: Global,
+        carrier: &mut C,
+        client: &mut Client,
+    ) -> Result<Done, NoMemory>
         requires live { self.old.is_cut ≡ false }
         requires tied { IsTied self.old (C.pipes carrier.old self.old.number) }
         ensures number { self.new.number ≡ self.old.number }
@@ -313,21 +341,23 @@ impl<E: Engine + Drop> Link<E> {
             (C.pipes carrier.new) (C.tells carrier.old) (C.tells carrier.new)) }
         ensures still { OnOk result (ReadsNoMore self.old self.new
             (C.pipes carrier.old self.old.number) (C.pipes carrier.new self.old.number)) }
-        ensures cancelled { IfOk (cancelled self.old.client) (λ e. IfOk result (λ done.
-            (done.outcome ≡ outcome.Cancel (cancel_outcome e.answer))
+        ensures columns { client.new.columns ≡ client.old.columns }
+        ensures cancelled { IfOk (cancelled client.old) (λ e. IfOk result (λ done.
+            (done.outcome ≡ outcome.Cancel (cancel_outcome e.answer)) × (client.new ≡ e.session)
             × (self.new ≡ unless_lost done.lost
             (recounted self.new.to_server self.new.to_client
-            (cancelled_as e.answer e.session self.old))))) }
+            (cancelled_as e.answer self.old))))) }
         ensures failed { HasNoFailure (C.pipes carrier.old self.old.number)
             → IfOk result (λ done. FailsAs (Send ToServer ∷ []) done self.new
             (C.pipes carrier.new self.old.number)) }
         // A connection that stands for one of the model stands for what the same cancel makes of
         // it.
-        ensures alike { (size : ℕ) (engine : E) (c : Connection)
-            → IsPlayed self.old.number size engine self.old (C.pipes carrier.old self.old.number) c
+        ensures alike { (size : ℕ) (engine : E) (p : Place) (c : Connection)
+            → IsPlayed self.old.number size engine self.old (seated p client.old)
+            (C.pipes carrier.old self.old.number) c
             → up_underway (cancels c) ≤ 18446744073709551615
             → IfOk result (λ done. DoesAlike self.old.number size engine done self.new
-            (C.pipes carrier.new self.old.number)
+            (seated p client.new) (C.pipes carrier.new self.old.number)
             (Does (outcome.Cancel (model.cancel_outcome (phase c))) (cancels c)) c) }
     {
         cancels_alike();
@@ -336,7 +366,7 @@ impl<E: Engine + Drop> Link<E> {
         pool_is_unseen::<E>();
         phases_tell();
         let mut out = Vec::new(alloc);
-        let cancelled = self.cancel_request(&mut out)?;
+        let cancelled = self.cancel_request(client, &mut out)?;
         let lost = self.hand_over(carrier, Direction::ToServer, out.as_slice())?;
         Ok(self.end(carrier, Outcome::Cancel(cancelled), lost))
     }
@@ -384,11 +414,12 @@ impl<E: Engine + Drop> Link<E> {
             → IfOk result (λ done. FailsAs (Send ToClient ∷ []) done self.new
             (C.pipes carrier.new self.old.number)) }
         // A connection that stands for one of the model stands for what the same work makes of it.
-        ensures alike { (size : ℕ) (engine : E) (c : Connection)
-            → IsPlayed self.old.number size engine self.old (C.pipes carrier.old self.old.number) c
+        ensures alike { (size : ℕ) (engine : E) (seat : Seat) (c : Connection)
+            → IsPlayed self.old.number size engine self.old seat
+            (C.pipes carrier.old self.old.number) c
             → EndsIfDue c.due → WorksOnNewest c c.due → (works c).past ≡ c.past
             → down_underway (works c) ≤ 18446744073709551615
-            → IfOk result (λ done. DoesAlike self.old.number size engine done self.new
+            → IfOk result (λ done. DoesAlike self.old.number size engine done self.new seat
             (C.pipes carrier.new self.old.number)
             (Does (outcome.Work (work_outcome c.due)) (works c)) c) }
     {

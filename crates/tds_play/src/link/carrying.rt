@@ -7,6 +7,7 @@ ghost use Rattle.tds_play.specs.Pipe.{Brings, IsUncut, cut_pipe, sent_on};
 ghost use Rattle.tds_play.specs.Plays.{IsPlayed, cut_where};
 ghost use Rattle.tds_play.specs.Reads.{BringsAny, ReadsNoMore};
 ghost use Rattle.tds_play.specs.Seen.{outcome_of};
+ghost use Rattle.tds_play.specs.declared.seat.Seat.{Seat};
 ghost use Rattle.tds_play.specs.Ties.{IsTied, KeepsTies, counted, with_counted, saturated};
 ghost use Rattle.tds_world.specs.Connection.{Connection, cut};
 
@@ -151,15 +152,15 @@ impl<E: Engine + Drop> Link<E> {
         ensures failed { FailsNoMore (C.pipes carrier.old self.old.number)
             (C.pipes carrier.new self.old.number) }
         // A connection that stands for one of the model stands for that one, cut.
-        ensures alike { (size : ℕ) (engine : E) (c : Connection)
-            → IsPlayed self.old.number size engine self.old (C.pipes carrier.old self.old.number) c
+        ensures alike { (size : ℕ) (engine : E) (seat : Seat) (c : Connection)
+            → IsPlayed self.old.number size engine self.old seat
+            (C.pipes carrier.old self.old.number) c
             → self.old.is_cut ≡ false
-            → IsPlayed self.old.number size engine self.new (C.pipes carrier.new self.old.number)
-            (cut c) }
+            → IsPlayed self.old.number size engine self.new seat
+            (C.pipes carrier.new self.old.number) (cut c) }
     {
         carrier.cut(self.number);
         self.is_cut = true;
-        self.client.lost();
         self.server.lost();
         if let Some(record) = &mut self.current {
             record.lose();
@@ -183,10 +184,11 @@ impl<E: Engine + Drop> Link<E> {
             → FailsAs calls result self.new (C.pipes carrier.new self.old.number) }
         // A connection that stands for one of the model stands for that one, cut where the
         // carrier failed.
-        ensures alike { (size : ℕ) (engine : E) (c : Connection)
-            → IsPlayed self.old.number size engine self.old (C.pipes carrier.old self.old.number) c
-            → IsPlayed self.old.number size engine self.new (C.pipes carrier.new self.old.number)
-            (cut_where lost c) }
+        ensures alike { (size : ℕ) (engine : E) (seat : Seat) (c : Connection)
+            → IsPlayed self.old.number size engine self.old seat
+            (C.pipes carrier.old self.old.number) c
+            → IsPlayed self.old.number size engine self.new seat
+            (C.pipes carrier.new self.old.number) (cut_where lost c) }
     {
         if lost {
             self.cut(carrier);

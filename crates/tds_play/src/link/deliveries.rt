@@ -1,20 +1,18 @@
 //! What a delivery does on its connection.
-ghost use Rattle.std.specs.Prelude.{[], ◌∷◌, ◌≡◌, ◌≤◌, ◌||◌, ◌++◌, ℕ, List, false, is_none, min, None, Option, Some, IfOk, OnOk};
-ghost use Rattle.tds_client.specs.Session.{unless_idle};
+ghost use Rattle.std.specs.Prelude.{[], ◌∷◌, ◌≡◌, ◌≤◌, ◌||◌, ◌++◌, ℕ, List, false, min, None, Option, Some, IfOk, OnOk};
 ghost use Rattle.tds_packet.specs.declared.kind.Direction.TheVariants.{ToClient, ToServer};
 ghost use Rattle.tds_play.specs.Failures.{Carry, FailsAs, HasNoFailure, Send};
 ghost use Rattle.tds_play.specs.Between.{Stands};
 ghost use Rattle.tds_ends.specs.Deliveries.{AllArrive};
 ghost use Rattle.tds_ends.specs.Feeding.{Comes, Coming, Listened, listened};
-ghost use Rattle.tds_play.specs.Links.{drained_at, placed_at};
 ghost use Rattle.tds_play.specs.Listening.{HasListened, told_in};
 ghost use Rattle.tds_play.specs.Pipe.{Pipe};
 ghost use Rattle.tds_play.specs.Plays.{DoesAlike, IsPlayed, count_of, delivers_down, delivers_up};
 ghost use Rattle.tds_ends.specs.Promises.{IsCountable, Promises};
+ghost use Rattle.tds_play.specs.declared.seat.Seat.{Seat};
 ghost use Rattle.tds_ends.specs.AllBytes.{ClientHasRead, new_reader};
 ghost use Rattle.tds_play.specs.Reads.{ClientIsFed, IsReading, ReadsOn, given_by};
 ghost use Rattle.tds_world.specs.declared.event.Event.TheVariants as event;
-ghost use Rattle.tds_play.specs.Seen.{done_as};
 ghost use Rattle.tds_play.specs.Ties.{IsTied, KeepsTies};
 ghost use Rattle.tds_session.specs.Answer.{Answers, answer_of};
 ghost use Rattle.tds_world.specs.Arrivals.{to_client, to_server};
@@ -26,12 +24,14 @@ use super::{Done, Link};
 use crate::NoMemory;
 use crate::carrier::Carrier;
 use crate::feeding::{Heard, feed_client, feed_server};
+use crate::seat::Seat;
 use std::alloc::Global;
+use tds_client::Client;
 use tds_ends::all_bytes::{given_are_told, no_fault_is_read};
 use tds_ends::laws::{idle_alike, listens_alike, pool_is_unseen, serves_alike, the_other_stays};
 use tds_packet::Direction;
 use tds_session::Engine;
-use tds_world::{Outcome, Place};
+use tds_world::Outcome;
 
 /// So many of the bytes underway, or all where there are fewer.
 fn at_most(underway: u64, most: u32) -> u32
@@ -68,18 +68,20 @@ impl<E: Engine + Drop> Link<E> {
             → IfOk result (λ done. FailsAs (Carry ToServer ∷ Send ToClient ∷ []) done self.new
             (C.pipes carrier.new self.old.number)) }
         // The server reads what comes, whatever it is.
-        ensures reads { (size n : ℕ)
-            → IsReading size self.old (C.pipes carrier.old self.old.number)
+        ensures reads { (size n : ℕ) (columns : Option ℕ)
+            → IsReading size self.old columns (C.pipes carrier.old self.old.number)
             → IfOk result (λ done. ReadsOn size (event.ToServer n most) done.outcome self.new
-            (C.pipes carrier.old self.old.number) (C.pipes carrier.new self.old.number)) }
+            columns (C.pipes carrier.old self.old.number) (C.pipes carrier.new self.old.number)) }
         // A connection that stands for one of the model stands for what the delivery of as many
         // bytes as came makes of it, cut where the carrier failed.
-        ensures alike { (size : ℕ) (engine : E) (c : Connection) → C.tells carrier.old
-            → IsPlayed self.old.number size engine self.old (C.pipes carrier.old self.old.number) c
+        ensures alike { (size : ℕ) (engine : E) (seat : Seat) (c : Connection)
+            → C.tells carrier.old
+            → IsPlayed self.old.number size engine self.old seat
+            (C.pipes carrier.old self.old.number) c
             → Promises E (answer_of (E.statements_of engine) (E.step_of engine)) size c
             → ((k : ℕ) → IsCountable (to_server (answer_of (E.statements_of engine)
             (E.step_of engine)) k c))
-            → IfOk result (λ done. DoesAlike self.old.number size engine done self.new
+            → IfOk result (λ done. DoesAlike self.old.number size engine done self.new seat
             (C.pipes carrier.new self.old.number)
             (delivers_up (answer_of (E.statements_of engine) (E.step_of engine))
             (count_of done most) c) c) }
@@ -107,6 +109,7 @@ impl<E: Engine + Drop> Link<E> {
         &mut self,
         alloc: Global,
         carrier: &mut C,
+        seat: &mut Seat,
         most: u32,
     ) -> Result<Done, NoMemory>
         requires live { self.old.is_cut ≡ false }
@@ -119,14 +122,16 @@ impl<E: Engine + Drop> Link<E> {
             (C.pipes carrier.new self.old.number)) }
         // The client reads what comes, whatever it is.
         ensures reads { (size n : ℕ)
-            → IsReading size self.old (C.pipes carrier.old self.old.number)
+            → IsReading size self.old seat.old.client.columns
+            (C.pipes carrier.old self.old.number)
             → IfOk result (λ done. ReadsOn size (event.ToClient n most) done.outcome self.new
-            (C.pipes carrier.old self.old.number) (C.pipes carrier.new self.old.number)) }
+            seat.new.client.columns (C.pipes carrier.old self.old.number) (C.pipes carrier.new self.old.number)) }
         ensures alike { (answers : Answers) (size : ℕ) (engine : E) (c : Connection)
             → C.tells carrier.old
-            → IsPlayed self.old.number size engine self.old (C.pipes carrier.old self.old.number) c
+            → IsPlayed self.old.number size engine self.old seat.old
+            (C.pipes carrier.old self.old.number) c
             → Promises E answers size c
-            → IfOk result (λ done. DoesAlike self.old.number size engine done self.new
+            → IfOk result (λ done. DoesAlike self.old.number size engine done self.new seat.new
             (C.pipes carrier.new self.old.number) (delivers_down (count_of done most) c) c) }
     {
         listens_alike();
@@ -138,26 +143,16 @@ impl<E: Engine + Drop> Link<E> {
         let count = at_most(self.to_client, most);
         let mut piece = Vec::new(alloc);
         let carried = self.carry(carrier, Direction::ToClient, count, &mut piece)?;
-        let heard = self.hear(alloc, piece.as_slice())?;
+        let heard = self.hear(alloc, &mut seat.client, piece.as_slice())?;
         if let Some(fault) = heard.fault {
             return Ok(self.end_by_fault(carrier, fault, carried.lost));
         }
-        self.drain();
+        seat.drain();
         Ok(self.end(carrier, Outcome::ToClient(carried.count), carried.lost))
     }
 
-    /// A draining connection is free once its client is idle.
-    fn drain(&mut self)
-        ensures { self.new ≡ placed_at (drained_at (is_none (unless_idle self.old.client.stage))
-            self.old.place) self.old }
-    {
-        if self.place == Place::Draining && self.is_idle() {
-            self.place = Place::Free;
-        }
-    }
-
     /// The client takes what came, for the newest request.
-    fn hear(&mut self, alloc: Global, piece: &[u8]) -> Result<Heard, NoMemory>
+    fn hear(&mut self, alloc: Global, client: &mut Client, piece: &[u8]) -> Result<Heard, NoMemory>
         requires { self.old.client_reader.direction ≡ ToClient }
         ensures number { self.new.number ≡ self.old.number }
         ensures live { self.new.is_cut ≡ self.old.is_cut }
@@ -166,30 +161,25 @@ impl<E: Engine + Drop> Link<E> {
         ensures server { OnOk result (self.new.server_reader ≡ self.old.server_reader) }
         ensures any { (size : ℕ) (bytes : List ℕ)
             → ClientHasRead (new_reader ToClient size) self.old.client_reader
-            self.old.client.columns bytes (given_by self.old)
-            → IfOk result (λ heard. ClientIsFed size self.new.client_reader self.new.client.columns
+            client.old.columns bytes (given_by self.old)
+            → IfOk result (λ heard. ClientIsFed size self.new.client_reader client.new.columns
             (bytes ++ piece.now) (given_by self.new) heard.fault) }
         // Where packets come that the client takes, it takes them in order, and tells what they say
         // to the newest request's caller.
         ensures heard { (packets : List Coming) (left : List ℕ) (then : Listened)
             → Comes self.old.client_reader (self.old.client_reader.taken ++ piece.now) packets left
-            → listened self.old.client None (told_in self.old.current) packets ≡ Some then
+            → listened client.old None (told_in self.old.current) packets ≡ Some then
             → IfOk result (λ heard. (heard.fault ≡ None)
-            × HasListened then left self.old self.new) }
+            × (client.new ≡ then.session) × HasListened then left self.old self.new) }
     {
         match &mut self.current {
             None => {
                 let mut nobody = Vec::new(alloc);
-                feed_client(
-                    &mut self.client,
-                    &mut self.client_reader,
-                    piece,
-                    &mut nobody,
-                )
+                feed_client(client, &mut self.client_reader, piece, &mut nobody)
             }
             Some(record) => {
                 let told = &mut record.tokens;
-                let heard = feed_client(&mut self.client, &mut self.client_reader, piece, told)?;
+                let heard = feed_client(client, &mut self.client_reader, piece, told)?;
                 record.settle(heard.settled);
                 Ok(heard)
             }

@@ -1,11 +1,13 @@
 //! What a service asks of its pool: how many connections stand where, and which ones.
-ghost use Rattle.std.specs.Prelude.{◌≡◌, length, is_some, IfOk};
-ghost use Rattle.tds_pool.specs.Connections.{connections, SameRest};
-ghost use Rattle.tds_pool.specs.Calls.{stands_at, count_at, numbers_at, free_one, closed};
+ghost use Rattle.std.specs.Prelude.{◌≡◌, length, is_some, option_map, IfOk};
+ghost use Rattle.std.specs.Option.{option_copied};
+ghost use Rattle.tds_pool.specs.Connections.{Connection, connections, numbered, SameRest};
+ghost use Rattle.tds_pool.specs.Calls.{all_numbers, stands_at, count_at, numbers_at, free_one, closed};
 
 use crate::pool::Pool;
 use crate::seat::Place;
 use std::alloc::{AllocError, Global};
+use tds_client::Client;
 
 /// Whether a place is the wanted one.
 fn stands_at(wanted: Place, place: Place) -> bool
@@ -25,6 +27,35 @@ impl Pool {
         ensures { result ≡ length (connections self.now) }
     {
         self.numbers.len()
+    }
+
+    /// The numbers of all connections, rising.
+    pub fn numbers(&self, alloc: Global) -> Result<Vec<u32>, AllocError>
+        ensures { IfOk result (λ numbers. numbers.items ≡ all_numbers (connections self.now)) }
+    {
+        let mut numbers = Vec::new(alloc);
+        'seats: for index in 0..self.numbers.len() {
+            numbers.push(self.seat_at(index).number)?;
+        }
+        Ok(numbers)
+    }
+
+    /// The client of the connection of this number, to be looked at; none if there is none.
+    pub fn get(&self, number: u32) -> Option<&Client>
+        ensures { option_copied result
+            ≡ option_map (λ (c : Connection). c.client) (numbered number (connections self.now)) }
+    {
+        let place = self.place_of(number)?;
+        Some(&self.seat_at(place).client)
+    }
+
+    /// Where the connection of this number stands; none if there is none.
+    pub fn place(&self, number: u32) -> Option<Place>
+        ensures { result
+            ≡ option_map (λ (c : Connection). c.place) (numbered number (connections self.now)) }
+    {
+        let place = self.place_of(number)?;
+        Some(self.seat_at(place).place)
     }
 
     /// How many connections stand at this place: how many are lent, kept, free, or drain.

@@ -5,7 +5,7 @@ use Rattle.tds_play.specs.Pipe.{Pipe}
 use Rattle.tds_play.specs.Player.{IsPlay}
 use Rattle.tds_play.specs.Plays.{ArePlayed}
 use Rattle.tds_play.specs.WholePlay.{IsPlayOf}
-use Rattle.tds_play.specs.declared.link.Link.{Link}
+use Rattle.tds_play.specs.declared.seat.Seated.{Seated}
 use Rattle.tds_play.specs.declared.player.Player.{Player}
 use Rattle.tds_session.specs.Answer.{answer_of}
 use Rattle.tds_world.specs.Losses.{marked}
@@ -18,7 +18,7 @@ use Rattle.tds_play.proofs.playing.play_with.Goals as goal
 begins : {E S : Type 0} (setup : Setup) (player : Player E S) (pipes : ℕ → Option Pipe) → player.links.items ≡ [] → player.leases ≡ [] → player.tickets ≡ []
     → player.asked_on.items ≡ [] → player.max ≡ setup.max → player.size ≡ setup.packet_size → player.on_attention ≡ setup.on_attention → IsPlay setup player.engine player pipes new_world
 begins {E} {S} setup player pipes links leases tickets asked max size told = record {
-  connections = subst (λ (ls : List (Link E S)). ArePlayed 1 setup.packet_size player.engine ls pipes []) (sym links) tt;
+  connections = subst (λ (ls : List (Seated E S)). ArePlayed 1 setup.packet_size player.engine ls pipes []) (sym links) tt;
   leases = leases;
   tickets = tickets;
   asked = asked;

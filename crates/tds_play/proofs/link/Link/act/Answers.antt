@@ -10,7 +10,9 @@ use Rattle.tds_play.specs.Pipe.{Pipe}
 use Rattle.tds_play.specs.Plays.{IsReady, acts_on}
 use Rattle.tds_play.proofs.Acting.{abandoned_alike, by_event, by_event_ok, comes_there, cut_alike, down_ok, event_at, few_back, kept_at, lent_alike, plain_few, plain_ok, stands_in, up_few, up_ok}
 use Rattle.tds_play.proofs.Losing.{met_ok, whole_alike, whole_ok}
+use Rattle.tds_client.specs.Session.{ClientSession}
 use Rattle.tds_play.proofs.Asked.{asked_ok}
+use Rattle.tds_play.proofs.Listening.{if_ok}
 use Rattle.tds_play.proofs.Placed.{kept_alike}
 use Rattle.tds_play.specs.Failures.{calls_of}
 use Rattle.tds_play.proofs.Failing.{whole_as}
@@ -21,6 +23,7 @@ use Rattle.tds_world.specs.Connection.{new_connection}
 use Rattle.tds_play.specs.declared.link.Done.{Done}
 use Rattle.tds_play.specs.Reads.{ReadsOn, delivers}
 use Rattle.tds_play.proofs.Brought.{gone_on, on_done, still_on}
+use Rattle.tds_play.proofs.Stays.{stays}
 use Rattle.std.specs.Prelude.{IfOk}
 use Rattle.tds_play.proofs.link.Link.act.Goals as goal
 
@@ -28,8 +31,8 @@ pub returns-then-self-clause-alike : goal.returns-then-self-clause-alike
 returns-then-self-clause-alike g c = λ setup w m engine tells played promises few next ready.
     let conn : ℕ = c.args.self.now.number in
     let answers : Answers = answer_of (g.E.Engine.statements_of engine) (g.E.Engine.step_of engine) in
-    whole_alike conn setup.packet_size engine c.on_cut.result c.args.self.now (g.C.Carrier.pipes c.args.carrier.now conn) (λ e. acts_on setup answers w e conn m) c.args.event.now m
-    (cut_alike conn setup.packet_size engine c.args.self.now (g.C.Carrier.pipes c.args.carrier.now conn) setup answers w c.args.event.now m c.on_cut.result played c.if-self.true (c.on_cut.ensures.value m))
+    whole_alike conn setup.packet_size engine c.on_cut.result c.args.self.now c.args.seat.now (g.C.Carrier.pipes c.args.carrier.now conn) (λ e. acts_on setup answers w e conn m) c.args.event.now m
+    (cut_alike conn setup.packet_size engine c.args.self.now c.args.seat.now (g.C.Carrier.pipes c.args.carrier.now conn) setup answers w c.args.event.now m c.on_cut.result played c.if-self.true (c.on_cut.ensures.value m))
 
 pub returns-in-Lease-clause-alike : goal.returns-in-Lease-clause-alike
 returns-in-Lease-clause-alike g c = λ setup w m engine tells played promises few next ready.
@@ -38,12 +41,12 @@ returns-in-Lease-clause-alike g c = λ setup w m engine tells played promises fe
     let pipe : Option Pipe = g.C.Carrier.pipes c.args.carrier.now conn in
     let answers : Answers = answer_of (g.E.Engine.statements_of engine) (g.E.Engine.step_of engine) in
     let live = c.if-self.false in
-    let in_place = stands_in conn size engine c.args.self.now pipe m played live in
-    let at = event_at setup answers w c.args.event.now _ conn m c.args.self.now.place in_place c.in-Lease.is in
+    let in_place = stands_in conn size engine c.args.self.now c.args.seat.now pipe m played live in
+    let at = event_at setup answers w c.args.event.now _ conn m c.args.seat.now.place in_place c.in-Lease.is in
     let idle = subst (λ e. IsReady e m) c.in-Lease.is (ready live) in
-    whole_alike conn size engine c.lend.result c.lend.new.self pipe (λ e. acts_on setup answers w e conn m) c.args.event.now m
-    (by_event conn size engine c.lend.result c.lend.new.self pipe m _ _ at
-    (lent_alike c.pool_is_unseen.ensures c.idle_alike.ensures c.lends_matching.ensures.marked conn size c.args.next.lease (next_number w.leases) Full opened.Reused engine c.args.self.now c.lend.new.self pipe m c.lend.result played live idle next.lease c.lend.ensures.done c.lend.ensures.lent))
+    whole_alike conn size engine c.lend.result c.args.self.now c.lend.new.self pipe (λ e. acts_on setup answers w e conn m) c.args.event.now m
+    (by_event conn size engine c.lend.result c.args.self.now c.lend.new.self pipe m _ _ at
+    (lent_alike c.pool_is_unseen.ensures c.idle_alike.ensures c.lends_matching.ensures.marked conn size c.args.next.lease (next_number w.leases) Full opened.Reused engine c.args.self.now c.args.seat.now c.lend.new.self pipe m c.lend.result played live idle next.lease c.lend.ensures.done c.lend.ensures.lent))
 
 pub returns-in-Resume-clause-alike : goal.returns-in-Resume-clause-alike
 returns-in-Resume-clause-alike g c = λ setup w m engine tells played promises few next ready.
@@ -52,12 +55,12 @@ returns-in-Resume-clause-alike g c = λ setup w m engine tells played promises f
     let pipe : Option Pipe = g.C.Carrier.pipes c.args.carrier.now conn in
     let answers : Answers = answer_of (g.E.Engine.statements_of engine) (g.E.Engine.step_of engine) in
     let live = c.if-self.false in
-    let in_place = stands_in conn size engine c.args.self.now pipe m played live in
-    let at = event_at setup answers w c.args.event.now _ conn m c.args.self.now.place in_place c.in-Resume.is in
+    let in_place = stands_in conn size engine c.args.self.now c.args.seat.now pipe m played live in
+    let at = event_at setup answers w c.args.event.now _ conn m c.args.seat.now.place in_place c.in-Resume.is in
     let idle = subst (λ e. IsReady e m) c.in-Resume.is (ready live) in
-    whole_alike conn size engine c.lend-in-Resume.result c.lend-in-Resume.new.self pipe (λ e. acts_on setup answers w e conn m) c.args.event.now m
-    (by_event conn size engine c.lend-in-Resume.result c.lend-in-Resume.new.self pipe m _ _ at
-    (lent_alike c.pool_is_unseen.ensures c.idle_alike.ensures c.lends_matching.ensures.marked conn size c.args.next.lease (next_number w.leases) KeepTransaction opened.Resumed engine c.args.self.now c.lend-in-Resume.new.self pipe m c.lend-in-Resume.result played live idle next.lease c.lend-in-Resume.ensures.done c.lend-in-Resume.ensures.lent))
+    whole_alike conn size engine c.lend-in-Resume.result c.args.self.now c.lend-in-Resume.new.self pipe (λ e. acts_on setup answers w e conn m) c.args.event.now m
+    (by_event conn size engine c.lend-in-Resume.result c.args.self.now c.lend-in-Resume.new.self pipe m _ _ at
+    (lent_alike c.pool_is_unseen.ensures c.idle_alike.ensures c.lends_matching.ensures.marked conn size c.args.next.lease (next_number w.leases) KeepTransaction opened.Resumed engine c.args.self.now c.args.seat.now c.lend-in-Resume.new.self pipe m c.lend-in-Resume.result played live idle next.lease c.lend-in-Resume.ensures.done c.lend-in-Resume.ensures.lent))
 
 pub returns-in-GiveBack-clause-alike : goal.returns-in-GiveBack-clause-alike
 returns-in-GiveBack-clause-alike g c = λ setup w m engine tells played promises few next ready.
@@ -66,11 +69,11 @@ returns-in-GiveBack-clause-alike g c = λ setup w m engine tells played promises
     let pipe : Option Pipe = g.C.Carrier.pipes c.args.carrier.now conn in
     let answers : Answers = answer_of (g.E.Engine.statements_of engine) (g.E.Engine.step_of engine) in
     let live = c.if-self.false in
-    let in_place = stands_in conn size engine c.args.self.now pipe m played live in
-    let back = comes_there m c.args.self.now.place in_place in
-    plain_ok conn size engine c.give_back.result c.give_back.new.self (g.C.Carrier.pipes c.give_back.new.carrier conn) setup answers w c.args.event.now _ m c.args.self.now.place in_place c.in-GiveBack.is (λ k. refl)
-    (met_ok conn size engine c.give_back.result c.give_back.new.self (g.C.Carrier.pipes c.give_back.new.carrier conn) m (λ done. gives_back m) (λ done. comes_back (cancels m)) (λ done. back)
-    (c.give_back.ensures.alike size engine m played (few_back m c.args.self.now.place in_place (plain_few setup answers w c.args.event.now _ conn m c.args.self.now.place in_place c.in-GiveBack.is (λ k. refl) few))))
+    let in_place = stands_in conn size engine c.args.self.now c.args.seat.now pipe m played live in
+    let back = comes_there m c.args.seat.now.place in_place in
+    plain_ok conn size engine c.give_back.result c.give_back.new.self c.give_back.new.seat (g.C.Carrier.pipes c.give_back.new.carrier conn) setup answers w c.args.event.now _ m c.args.seat.now.place in_place c.in-GiveBack.is (λ k. refl)
+    (met_ok conn size engine c.give_back.result c.give_back.new.self c.give_back.new.seat (g.C.Carrier.pipes c.give_back.new.carrier conn) m (λ done. gives_back m) (λ done. comes_back (cancels m)) (λ done. back)
+    (c.give_back.ensures.alike size engine m played (few_back m c.args.seat.now.place in_place (plain_few setup answers w c.args.event.now _ conn m c.args.seat.now.place in_place c.in-GiveBack.is (λ k. refl) few))))
 
 pub returns-in-Keep-clause-alike : goal.returns-in-Keep-clause-alike
 returns-in-Keep-clause-alike g c = λ setup w m engine tells played promises few next ready.
@@ -79,12 +82,12 @@ returns-in-Keep-clause-alike g c = λ setup w m engine tells played promises few
     let pipe : Option Pipe = g.C.Carrier.pipes c.args.carrier.now conn in
     let answers : Answers = answer_of (g.E.Engine.statements_of engine) (g.E.Engine.step_of engine) in
     let live = c.if-self.false in
-    let in_place = stands_in conn size engine c.args.self.now pipe m played live in
-    let at = event_at setup answers w c.args.event.now _ conn m c.args.self.now.place in_place c.in-Keep.is in
-    whole_alike conn size engine c.keep.result c.keep.new.self pipe (λ e. acts_on setup answers w e conn m) c.args.event.now m
-    (by_event conn size engine c.keep.result c.keep.new.self pipe m _ _ at
+    let in_place = stands_in conn size engine c.args.self.now c.args.seat.now pipe m played live in
+    let at = event_at setup answers w c.args.event.now _ conn m c.args.seat.now.place in_place c.in-Keep.is in
+    whole_alike conn size engine c.keep.result c.args.self.now c.keep.new.self pipe (λ e. acts_on setup answers w e conn m) c.args.event.now m
+    (by_event conn size engine c.keep.result c.args.self.now c.keep.new.self pipe m _ _ at
     (kept_at conn size c.args.next.ticket (next_number w.tickets) engine c.args.self.now c.keep.new.self pipe m c.keep.result next.ticket
-    (kept_alike c.pool_is_unseen.ensures c.idle_alike.ensures conn size c.args.next.ticket engine c.args.self.now c.keep.new.self pipe m c.keep.result played live c.keep.ensures.refused c.keep.ensures.kept)))
+    (kept_alike c.pool_is_unseen.ensures c.idle_alike.ensures conn size c.args.next.ticket engine c.args.self.now c.args.seat.now c.keep.new.self pipe m c.keep.result played live c.keep.ensures.refused c.keep.ensures.kept)))
 
 pub returns-in-Abandon-clause-alike : goal.returns-in-Abandon-clause-alike
 returns-in-Abandon-clause-alike g c = λ setup w m engine tells played promises few next ready.
@@ -93,11 +96,11 @@ returns-in-Abandon-clause-alike g c = λ setup w m engine tells played promises 
     let pipe : Option Pipe = g.C.Carrier.pipes c.args.carrier.now conn in
     let answers : Answers = answer_of (g.E.Engine.statements_of engine) (g.E.Engine.step_of engine) in
     let live = c.if-self.false in
-    let in_place = stands_in conn size engine c.args.self.now pipe m played live in
-    let at = event_at setup answers w c.args.event.now _ conn m c.args.self.now.place in_place c.in-Abandon.is in
-    whole_alike conn size engine c.abandon.result c.abandon.new.self pipe (λ e. acts_on setup answers w e conn m) c.args.event.now m
-    (by_event conn size engine c.abandon.result c.abandon.new.self pipe m _ _ at
-    (abandoned_alike c.pool_is_unseen.ensures conn size engine c.args.self.now c.abandon.new.self pipe m c.abandon.result played live c.abandon.ensures.done c.abandon.ensures.value))
+    let in_place = stands_in conn size engine c.args.self.now c.args.seat.now pipe m played live in
+    let at = event_at setup answers w c.args.event.now _ conn m c.args.seat.now.place in_place c.in-Abandon.is in
+    whole_alike conn size engine c.abandon.result c.args.self.now c.abandon.new.self pipe (λ e. acts_on setup answers w e conn m) c.args.event.now m
+    (by_event conn size engine c.abandon.result c.args.self.now c.abandon.new.self pipe m _ _ at
+    (abandoned_alike c.pool_is_unseen.ensures conn size engine c.args.self.now c.args.seat.now c.abandon.new.self pipe m c.abandon.result played live c.abandon.ensures.done c.abandon.ensures.value))
 
 pub returns-in-Ask-clause-alike : goal.returns-in-Ask-clause-alike
 returns-in-Ask-clause-alike g c = λ setup w m engine tells played promises few next ready.
@@ -106,11 +109,11 @@ returns-in-Ask-clause-alike g c = λ setup w m engine tells played promises few 
     let pipe : Option Pipe = g.C.Carrier.pipes c.args.carrier.now conn in
     let answers : Answers = answer_of (g.E.Engine.statements_of engine) (g.E.Engine.step_of engine) in
     let live = c.if-self.false in
-    let in_place = stands_in conn size engine c.args.self.now pipe m played live in
-    let at = event_at setup answers w c.args.event.now _ conn m c.args.self.now.place in_place c.in-Ask.is in
-    whole_ok conn size engine c.ask.result c.ask.new.self pipe (λ e. acts_on setup answers w e conn m) c.args.event.now m
-    (by_event_ok conn size engine c.ask.result c.ask.new.self pipe m _ _ at
-    (asked_ok (record { waits = c.idle_alike.ensures; takes = c.asks_alike.ensures; stays = c.the_other_stays.ensures.asks }) conn size c.args.next.request (next_number w.asked_on) _ engine _ c.args.self.now c.ask.new.self pipe m c.ask.result played live promises.rests next.request c.ask.ensures.refused c.ask.ensures.asked))
+    let in_place = stands_in conn size engine c.args.self.now c.args.seat.now pipe m played live in
+    let at = event_at setup answers w c.args.event.now _ conn m c.args.seat.now.place in_place c.in-Ask.is in
+    whole_ok conn size engine c.ask.result c.ask.new.self (record c.args.seat.now { client = c.ask.new.client }) pipe (λ e. acts_on setup answers w e conn m) c.args.event.now m
+    (by_event_ok conn size engine c.ask.result c.ask.new.self (record c.args.seat.now { client = c.ask.new.client }) pipe m _ _ at
+    (asked_ok (record { waits = c.idle_alike.ensures; takes = c.asks_alike.ensures; stays = c.the_other_stays.ensures.asks }) conn size c.args.next.request (next_number w.asked_on) _ engine _ c.args.self.now c.ask.new.self c.args.seat.now (record c.args.seat.now { client = c.ask.new.client }) pipe m c.ask.result played live promises.rests next.request (λ e. let h = c.ask.ensures.refused e in (h.0, h.1, ap (λ (s : ClientSession). record c.args.seat.now { client = s }) h.2)) (λ e. if_ok c.ask.result _ _ (λ done h. (h.0, ap (λ (s : ClientSession). record c.args.seat.now { client = s }) h.1, h.2)) (c.ask.ensures.asked e))))
 
 pub returns-in-Send-clause-alike : goal.returns-in-Send-clause-alike
 returns-in-Send-clause-alike g c = λ setup w m engine tells played promises few next ready.
@@ -119,9 +122,9 @@ returns-in-Send-clause-alike g c = λ setup w m engine tells played promises few
     let pipe : Option Pipe = g.C.Carrier.pipes c.args.carrier.now conn in
     let answers : Answers = answer_of (g.E.Engine.statements_of engine) (g.E.Engine.step_of engine) in
     let live = c.if-self.false in
-    let in_place = stands_in conn size engine c.args.self.now pipe m played live in
-    plain_ok conn size engine c.send.result c.send.new.self (g.C.Carrier.pipes c.send.new.carrier conn) setup answers w c.args.event.now _ m c.args.self.now.place in_place c.in-Send.is (λ k. refl)
-    (c.send.ensures.alike size engine m played (plain_few setup answers w c.args.event.now _ conn m c.args.self.now.place in_place c.in-Send.is (λ k. refl) few).0)
+    let in_place = stands_in conn size engine c.args.self.now c.args.seat.now pipe m played live in
+    plain_ok conn size engine c.send.result c.send.new.self (record c.args.seat.now { client = c.send.new.client }) (g.C.Carrier.pipes c.send.new.carrier conn) setup answers w c.args.event.now _ m c.args.seat.now.place in_place c.in-Send.is (λ k. refl)
+    (c.send.ensures.alike size engine c.args.seat.now.place m played (plain_few setup answers w c.args.event.now _ conn m c.args.seat.now.place in_place c.in-Send.is (λ k. refl) few).0)
 
 pub returns-in-Cancel-clause-alike : goal.returns-in-Cancel-clause-alike
 returns-in-Cancel-clause-alike g c = λ setup w m engine tells played promises few next ready.
@@ -130,9 +133,9 @@ returns-in-Cancel-clause-alike g c = λ setup w m engine tells played promises f
     let pipe : Option Pipe = g.C.Carrier.pipes c.args.carrier.now conn in
     let answers : Answers = answer_of (g.E.Engine.statements_of engine) (g.E.Engine.step_of engine) in
     let live = c.if-self.false in
-    let in_place = stands_in conn size engine c.args.self.now pipe m played live in
-    plain_ok conn size engine c.cancel.result c.cancel.new.self (g.C.Carrier.pipes c.cancel.new.carrier conn) setup answers w c.args.event.now _ m c.args.self.now.place in_place c.in-Cancel.is (λ k. refl)
-    (c.cancel.ensures.alike size engine m played (plain_few setup answers w c.args.event.now _ conn m c.args.self.now.place in_place c.in-Cancel.is (λ k. refl) few).0)
+    let in_place = stands_in conn size engine c.args.self.now c.args.seat.now pipe m played live in
+    plain_ok conn size engine c.cancel.result c.cancel.new.self (record c.args.seat.now { client = c.cancel.new.client }) (g.C.Carrier.pipes c.cancel.new.carrier conn) setup answers w c.args.event.now _ m c.args.seat.now.place in_place c.in-Cancel.is (λ k. refl)
+    (c.cancel.ensures.alike size engine c.args.seat.now.place m played (plain_few setup answers w c.args.event.now _ conn m c.args.seat.now.place in_place c.in-Cancel.is (λ k. refl) few).0)
 
 pub returns-in-Work-clause-alike : goal.returns-in-Work-clause-alike
 returns-in-Work-clause-alike g c = λ setup w m engine tells played promises few next ready.
@@ -141,9 +144,9 @@ returns-in-Work-clause-alike g c = λ setup w m engine tells played promises few
     let pipe : Option Pipe = g.C.Carrier.pipes c.args.carrier.now conn in
     let answers : Answers = answer_of (g.E.Engine.statements_of engine) (g.E.Engine.step_of engine) in
     let live = c.if-self.false in
-    let in_place = stands_in conn size engine c.args.self.now pipe m played live in
-    plain_ok conn size engine c.work.result c.work.new.self (g.C.Carrier.pipes c.work.new.carrier conn) setup answers w c.args.event.now _ m c.args.self.now.place in_place c.in-Work.is (λ k. refl)
-    (c.work.ensures.alike size engine m played promises.ends promises.newest promises.works_past (plain_few setup answers w c.args.event.now _ conn m c.args.self.now.place in_place c.in-Work.is (λ k. refl) few).1)
+    let in_place = stands_in conn size engine c.args.self.now c.args.seat.now pipe m played live in
+    plain_ok conn size engine c.work.result c.work.new.self c.args.seat.now (g.C.Carrier.pipes c.work.new.carrier conn) setup answers w c.args.event.now _ m c.args.seat.now.place in_place c.in-Work.is (λ k. refl)
+    (c.work.ensures.alike size engine c.args.seat.now m played promises.ends promises.newest promises.works_past (plain_few setup answers w c.args.event.now _ conn m c.args.seat.now.place in_place c.in-Work.is (λ k. refl) few).1)
 
 pub returns-in-ToServer-clause-alike : goal.returns-in-ToServer-clause-alike
 returns-in-ToServer-clause-alike g c = λ setup w m engine tells played promises few next ready.
@@ -152,9 +155,9 @@ returns-in-ToServer-clause-alike g c = λ setup w m engine tells played promises
     let pipe : Option Pipe = g.C.Carrier.pipes c.args.carrier.now conn in
     let answers : Answers = answer_of (g.E.Engine.statements_of engine) (g.E.Engine.step_of engine) in
     let live = c.if-self.false in
-    let in_place = stands_in conn size engine c.args.self.now pipe m played live in
-    up_ok conn size engine c.deliver_to_server.result c.deliver_to_server.new.self (g.C.Carrier.pipes c.deliver_to_server.new.carrier conn) setup answers w c.args.event.now _ _ m c.args.self.now.place in_place c.in-ToServer.is
-    (c.deliver_to_server.ensures.alike size engine m tells played promises (up_few setup answers w c.args.event.now conn _ _ m c.args.self.now.place in_place c.in-ToServer.is few))
+    let in_place = stands_in conn size engine c.args.self.now c.args.seat.now pipe m played live in
+    up_ok conn size engine c.deliver_to_server.result c.deliver_to_server.new.self c.args.seat.now (g.C.Carrier.pipes c.deliver_to_server.new.carrier conn) setup answers w c.args.event.now _ _ m c.args.seat.now.place in_place c.in-ToServer.is
+    (c.deliver_to_server.ensures.alike size engine c.args.seat.now m tells played promises (up_few setup answers w c.args.event.now conn _ _ m c.args.seat.now.place in_place c.in-ToServer.is few))
 
 pub returns-in-ToClient-clause-alike : goal.returns-in-ToClient-clause-alike
 returns-in-ToClient-clause-alike g c = λ setup w m engine tells played promises few next ready.
@@ -163,8 +166,8 @@ returns-in-ToClient-clause-alike g c = λ setup w m engine tells played promises
     let pipe : Option Pipe = g.C.Carrier.pipes c.args.carrier.now conn in
     let answers : Answers = answer_of (g.E.Engine.statements_of engine) (g.E.Engine.step_of engine) in
     let live = c.if-self.false in
-    let in_place = stands_in conn size engine c.args.self.now pipe m played live in
-    down_ok conn size engine c.deliver_to_client.result c.deliver_to_client.new.self (g.C.Carrier.pipes c.deliver_to_client.new.carrier conn) setup answers w c.args.event.now _ _ m c.args.self.now.place in_place c.in-ToClient.is
+    let in_place = stands_in conn size engine c.args.self.now c.args.seat.now pipe m played live in
+    down_ok conn size engine c.deliver_to_client.result c.deliver_to_client.new.self c.deliver_to_client.new.seat (g.C.Carrier.pipes c.deliver_to_client.new.carrier conn) setup answers w c.args.event.now _ _ m c.args.seat.now.place in_place c.in-ToClient.is
     (c.deliver_to_client.ensures.alike answers size engine m tells played promises)
 
 -- A restart is about no connection alone.
@@ -175,13 +178,13 @@ returns-in-Cut-clause-alike g c = λ setup w m engine tells played promises few 
     let pipe : Option Pipe = g.C.Carrier.pipes c.args.carrier.now conn in
     let answers : Answers = answer_of (g.E.Engine.statements_of engine) (g.E.Engine.step_of engine) in
     let live = c.if-self.false in
-    let in_place = stands_in conn size engine c.args.self.now pipe m played live in
+    let in_place = stands_in conn size engine c.args.self.now c.args.seat.now pipe m played live in
     elim c.in-Cut.is [
       | inl h ↦
-          whole_alike conn size engine c.done.result c.cut.new.self (g.C.Carrier.pipes c.cut.new.carrier conn) (λ e. acts_on setup answers w e conn m) c.args.event.now m
-          (by_event conn size engine c.done.result c.cut.new.self (g.C.Carrier.pipes c.cut.new.carrier conn) m _ _
-          (event_at setup answers w c.args.event.now (event.Cut h.0) conn m c.args.self.now.place in_place h.1)
-          (c.done.ensures, c.cut.ensures.alike size engine m played live))
+          whole_alike conn size engine c.done.result c.cut.new.self c.args.seat.now (g.C.Carrier.pipes c.cut.new.carrier conn) (λ e. acts_on setup answers w e conn m) c.args.event.now m
+          (by_event conn size engine c.done.result c.cut.new.self c.args.seat.now (g.C.Carrier.pipes c.cut.new.carrier conn) m _ _
+          (event_at setup answers w c.args.event.now (event.Cut h.0) conn m c.args.seat.now.place in_place h.1)
+          (c.done.ensures, c.cut.ensures.alike size engine c.args.seat.now m played live))
       | inr r ↦
           absurd (elim r [
             | inl e ↦ subst (λ x. IsReady x m) e (ready live)
@@ -193,16 +196,16 @@ pub returns-then-self-clause-failed : goal.returns-then-self-clause-failed
 returns-then-self-clause-failed g c = whole_as (calls_of c.args.event.now) c.on_cut.result c.args.self.now (g.C.Carrier.pipes c.args.carrier.now c.args.self.now.number) c.on_cut.ensures.whole
 
 pub returns-in-Lease-clause-failed : goal.returns-in-Lease-clause-failed
-returns-in-Lease-clause-failed g c = whole_as (calls_of c.args.event.now) c.lend.result c.lend.new.self (g.C.Carrier.pipes c.args.carrier.now c.args.self.now.number) (ap (λ d. d.lost) c.lend.ensures.done)
+returns-in-Lease-clause-failed g c = whole_as (calls_of c.args.event.now) c.lend.result c.args.self.now (g.C.Carrier.pipes c.args.carrier.now c.args.self.now.number) (ap (λ d. d.lost) c.lend.ensures.done)
 
 pub returns-in-Resume-clause-failed : goal.returns-in-Resume-clause-failed
-returns-in-Resume-clause-failed g c = whole_as (calls_of c.args.event.now) c.lend-in-Resume.result c.lend-in-Resume.new.self (g.C.Carrier.pipes c.args.carrier.now c.args.self.now.number) (ap (λ d. d.lost) c.lend-in-Resume.ensures.done)
+returns-in-Resume-clause-failed g c = whole_as (calls_of c.args.event.now) c.lend-in-Resume.result c.args.self.now (g.C.Carrier.pipes c.args.carrier.now c.args.self.now.number) (ap (λ d. d.lost) c.lend-in-Resume.ensures.done)
 
 pub returns-in-Keep-clause-failed : goal.returns-in-Keep-clause-failed
-returns-in-Keep-clause-failed g c = whole_as (calls_of c.args.event.now) c.keep.result c.keep.new.self (g.C.Carrier.pipes c.args.carrier.now c.args.self.now.number) c.keep.ensures.whole
+returns-in-Keep-clause-failed g c = whole_as (calls_of c.args.event.now) c.keep.result c.args.self.now (g.C.Carrier.pipes c.args.carrier.now c.args.self.now.number) c.keep.ensures.whole
 
 pub returns-in-Abandon-clause-failed : goal.returns-in-Abandon-clause-failed
-returns-in-Abandon-clause-failed g c = whole_as (calls_of c.args.event.now) c.abandon.result c.abandon.new.self (g.C.Carrier.pipes c.args.carrier.now c.args.self.now.number) (ap (λ d. d.lost) c.abandon.ensures.done)
+returns-in-Abandon-clause-failed g c = whole_as (calls_of c.args.event.now) c.abandon.result c.args.self.now (g.C.Carrier.pipes c.args.carrier.now c.args.self.now.number) (ap (λ d. d.lost) c.abandon.ensures.done)
 
 pub returns-in-Ask-clause-failed : goal.returns-in-Ask-clause-failed
 returns-in-Ask-clause-failed g c = failing.whole_ok (calls_of c.args.event.now) c.ask.result c.ask.new.self (g.C.Carrier.pipes c.args.carrier.now c.args.self.now.number) c.ask.ensures.whole
@@ -232,85 +235,85 @@ returns-in-Cut-clause-failed g c = λ fine.
 
 pub returns-then-self-clause-reads : goal.returns-then-self-clause-reads
 returns-then-self-clause-reads g c = λ size reads.
-    gone_on size c.args.event.now c.on_cut.result.outcome (new_connection (Leased 0)) c.args.self.now (g.C.Carrier.pipes c.args.carrier.now c.args.self.now.number)
+    gone_on size c.args.event.now c.on_cut.result.outcome (new_connection (Leased 0)) c.args.self.now c.args.seat.now.client.columns (g.C.Carrier.pipes c.args.carrier.now c.args.self.now.number)
     (ap (λ (d : Done). d.outcome) (c.on_cut.ensures.value (new_connection (Leased 0)))) reads
 
 pub returns-in-Lease-clause-reads : goal.returns-in-Lease-clause-reads
 returns-in-Lease-clause-reads g c = λ size reads.
     let pipe : Option Pipe = g.C.Carrier.pipes c.args.carrier.now c.args.self.now.number in
-    still_on size c.args.event.now c.lend.result.outcome c.args.self.now c.lend.new.self pipe pipe (λ d. ap (λ (e : Event). delivers e d) c.in-Lease.is) reads
-    (c.lend.ensures.still pipe)
+    still_on size c.args.event.now c.lend.result.outcome c.args.self.now c.args.self.now c.args.seat.now.client.columns c.lend.new.self.client.columns pipe pipe (λ d. ap (λ (e : Event). delivers e d) c.in-Lease.is) reads
+    (stays c.args.self.now pipe) c.lend.ensures.columns
 
 pub returns-in-Resume-clause-reads : goal.returns-in-Resume-clause-reads
 returns-in-Resume-clause-reads g c = λ size reads.
     let pipe : Option Pipe = g.C.Carrier.pipes c.args.carrier.now c.args.self.now.number in
-    still_on size c.args.event.now c.lend-in-Resume.result.outcome c.args.self.now c.lend-in-Resume.new.self pipe pipe (λ d. ap (λ (e : Event). delivers e d) c.in-Resume.is) reads
-    (c.lend-in-Resume.ensures.still pipe)
+    still_on size c.args.event.now c.lend-in-Resume.result.outcome c.args.self.now c.args.self.now c.args.seat.now.client.columns c.lend-in-Resume.new.self.client.columns pipe pipe (λ d. ap (λ (e : Event). delivers e d) c.in-Resume.is) reads
+    (stays c.args.self.now pipe) c.lend-in-Resume.ensures.columns
 
 pub returns-in-Keep-clause-reads : goal.returns-in-Keep-clause-reads
 returns-in-Keep-clause-reads g c = λ size reads.
     let pipe : Option Pipe = g.C.Carrier.pipes c.args.carrier.now c.args.self.now.number in
-    still_on size c.args.event.now c.keep.result.outcome c.args.self.now c.keep.new.self pipe pipe (λ d. ap (λ (e : Event). delivers e d) c.in-Keep.is) reads
-    (c.keep.ensures.still pipe)
+    still_on size c.args.event.now c.keep.result.outcome c.args.self.now c.args.self.now c.args.seat.now.client.columns c.keep.new.self.client.columns pipe pipe (λ d. ap (λ (e : Event). delivers e d) c.in-Keep.is) reads
+    (stays c.args.self.now pipe) c.keep.ensures.columns
 
 pub returns-in-Abandon-clause-reads : goal.returns-in-Abandon-clause-reads
 returns-in-Abandon-clause-reads g c = λ size reads.
     let pipe : Option Pipe = g.C.Carrier.pipes c.args.carrier.now c.args.self.now.number in
-    still_on size c.args.event.now c.abandon.result.outcome c.args.self.now c.abandon.new.self pipe pipe (λ d. ap (λ (e : Event). delivers e d) c.in-Abandon.is) reads
-    (c.abandon.ensures.still pipe)
+    still_on size c.args.event.now c.abandon.result.outcome c.args.self.now c.args.self.now c.args.seat.now.client.columns c.abandon.new.self.client.columns pipe pipe (λ d. ap (λ (e : Event). delivers e d) c.in-Abandon.is) reads
+    (stays c.args.self.now pipe) c.abandon.ensures.columns
 
 pub returns-in-Ask-clause-reads : goal.returns-in-Ask-clause-reads
 returns-in-Ask-clause-reads g c = λ size reads.
     let pipe : Option Pipe = g.C.Carrier.pipes c.args.carrier.now c.args.self.now.number in
-    on_done c.ask.result _ (λ (done : Done). ReadsOn size c.args.event.now done.outcome c.ask.new.self pipe pipe) (c.ask.ensures.still pipe)
-    (λ done still. still_on size c.args.event.now done.outcome c.args.self.now c.ask.new.self pipe pipe (λ d. ap (λ (e : Event). delivers e d) c.in-Ask.is) reads still)
+    on_done c.ask.result _ (λ (done : Done). ReadsOn size c.args.event.now done.outcome c.ask.new.self c.ask.new.client.columns pipe pipe) (c.ask.ensures.still pipe)
+    (λ done still. still_on size c.args.event.now done.outcome c.args.self.now c.ask.new.self c.args.seat.now.client.columns c.ask.new.client.columns pipe pipe (λ d. ap (λ (e : Event). delivers e d) c.in-Ask.is) reads still c.ask.ensures.columns)
 
 pub returns-in-GiveBack-clause-reads : goal.returns-in-GiveBack-clause-reads
 returns-in-GiveBack-clause-reads g c = λ size reads.
     let pipe : Option Pipe = g.C.Carrier.pipes c.args.carrier.now c.args.self.now.number in
     let after : Option Pipe = g.C.Carrier.pipes c.give_back.new.carrier c.args.self.now.number in
-    on_done c.give_back.result _ (λ (done : Done). ReadsOn size c.args.event.now done.outcome c.give_back.new.self pipe after) c.give_back.ensures.still
-    (λ done still. still_on size c.args.event.now done.outcome c.args.self.now c.give_back.new.self pipe after (λ d. ap (λ (e : Event). delivers e d) c.in-GiveBack.is) reads still)
+    on_done c.give_back.result _ (λ (done : Done). ReadsOn size c.args.event.now done.outcome c.give_back.new.self c.give_back.new.seat.client.columns pipe after) c.give_back.ensures.still
+    (λ done still. still_on size c.args.event.now done.outcome c.args.self.now c.give_back.new.self c.args.seat.now.client.columns c.give_back.new.seat.client.columns pipe after (λ d. ap (λ (e : Event). delivers e d) c.in-GiveBack.is) reads still c.give_back.ensures.columns)
 
 pub returns-in-Send-clause-reads : goal.returns-in-Send-clause-reads
 returns-in-Send-clause-reads g c = λ size reads.
     let pipe : Option Pipe = g.C.Carrier.pipes c.args.carrier.now c.args.self.now.number in
     let after : Option Pipe = g.C.Carrier.pipes c.send.new.carrier c.args.self.now.number in
-    on_done c.send.result _ (λ (done : Done). ReadsOn size c.args.event.now done.outcome c.send.new.self pipe after) c.send.ensures.still
-    (λ done still. still_on size c.args.event.now done.outcome c.args.self.now c.send.new.self pipe after (λ d. ap (λ (e : Event). delivers e d) c.in-Send.is) reads still)
+    on_done c.send.result _ (λ (done : Done). ReadsOn size c.args.event.now done.outcome c.send.new.self c.send.new.client.columns pipe after) c.send.ensures.still
+    (λ done still. still_on size c.args.event.now done.outcome c.args.self.now c.send.new.self c.args.seat.now.client.columns c.send.new.client.columns pipe after (λ d. ap (λ (e : Event). delivers e d) c.in-Send.is) reads still c.send.ensures.columns)
 
 pub returns-in-Cancel-clause-reads : goal.returns-in-Cancel-clause-reads
 returns-in-Cancel-clause-reads g c = λ size reads.
     let pipe : Option Pipe = g.C.Carrier.pipes c.args.carrier.now c.args.self.now.number in
     let after : Option Pipe = g.C.Carrier.pipes c.cancel.new.carrier c.args.self.now.number in
-    on_done c.cancel.result _ (λ (done : Done). ReadsOn size c.args.event.now done.outcome c.cancel.new.self pipe after) c.cancel.ensures.still
-    (λ done still. still_on size c.args.event.now done.outcome c.args.self.now c.cancel.new.self pipe after (λ d. ap (λ (e : Event). delivers e d) c.in-Cancel.is) reads still)
+    on_done c.cancel.result _ (λ (done : Done). ReadsOn size c.args.event.now done.outcome c.cancel.new.self c.cancel.new.client.columns pipe after) c.cancel.ensures.still
+    (λ done still. still_on size c.args.event.now done.outcome c.args.self.now c.cancel.new.self c.args.seat.now.client.columns c.cancel.new.client.columns pipe after (λ d. ap (λ (e : Event). delivers e d) c.in-Cancel.is) reads still c.cancel.ensures.columns)
 
 pub returns-in-Work-clause-reads : goal.returns-in-Work-clause-reads
 returns-in-Work-clause-reads g c = λ size reads.
     let pipe : Option Pipe = g.C.Carrier.pipes c.args.carrier.now c.args.self.now.number in
     let after : Option Pipe = g.C.Carrier.pipes c.work.new.carrier c.args.self.now.number in
-    on_done c.work.result _ (λ (done : Done). ReadsOn size c.args.event.now done.outcome c.work.new.self pipe after) c.work.ensures.still
-    (λ done still. still_on size c.args.event.now done.outcome c.args.self.now c.work.new.self pipe after (λ d. ap (λ (e : Event). delivers e d) c.in-Work.is) reads still)
+    on_done c.work.result _ (λ (done : Done). ReadsOn size c.args.event.now done.outcome c.work.new.self c.args.seat.now.client.columns pipe after) c.work.ensures.still
+    (λ done still. still_on size c.args.event.now done.outcome c.args.self.now c.work.new.self c.args.seat.now.client.columns c.args.seat.now.client.columns pipe after (λ d. ap (λ (e : Event). delivers e d) c.in-Work.is) reads still refl)
 
 pub returns-in-ToServer-clause-reads : goal.returns-in-ToServer-clause-reads
 returns-in-ToServer-clause-reads g c = λ size reads.
     let pipe : Option Pipe = g.C.Carrier.pipes c.args.carrier.now c.args.self.now.number in
     let after : Option Pipe = g.C.Carrier.pipes c.deliver_to_server.new.carrier c.args.self.now.number in
-    subst (λ (e : Event). IfOk c.deliver_to_server.result (λ (done : Done). ReadsOn size e done.outcome c.deliver_to_server.new.self pipe after)) (sym c.in-ToServer.is)
-    (c.deliver_to_server.ensures.reads size _ reads)
+    subst (λ (e : Event). IfOk c.deliver_to_server.result (λ (done : Done). ReadsOn size e done.outcome c.deliver_to_server.new.self c.args.seat.now.client.columns pipe after)) (sym c.in-ToServer.is)
+    (c.deliver_to_server.ensures.reads size _ c.args.seat.now.client.columns reads)
 
 pub returns-in-ToClient-clause-reads : goal.returns-in-ToClient-clause-reads
 returns-in-ToClient-clause-reads g c = λ size reads.
     let pipe : Option Pipe = g.C.Carrier.pipes c.args.carrier.now c.args.self.now.number in
     let after : Option Pipe = g.C.Carrier.pipes c.deliver_to_client.new.carrier c.args.self.now.number in
-    subst (λ (e : Event). IfOk c.deliver_to_client.result (λ (done : Done). ReadsOn size e done.outcome c.deliver_to_client.new.self pipe after)) (sym c.in-ToClient.is)
+    subst (λ (e : Event). IfOk c.deliver_to_client.result (λ (done : Done). ReadsOn size e done.outcome c.deliver_to_client.new.self c.deliver_to_client.new.seat.client.columns pipe after)) (sym c.in-ToClient.is)
     (c.deliver_to_client.ensures.reads size _ reads)
 
 pub returns-in-Cut-clause-reads : goal.returns-in-Cut-clause-reads
 returns-in-Cut-clause-reads g c = λ size reads.
     let conn : ℕ = c.args.self.now.number in
-    still_on size c.args.event.now c.done.result.outcome c.args.self.now c.cut.new.self (g.C.Carrier.pipes c.args.carrier.now conn) (g.C.Carrier.pipes c.cut.new.carrier conn)
+    still_on size c.args.event.now c.done.result.outcome c.args.self.now c.cut.new.self c.args.seat.now.client.columns c.args.seat.now.client.columns (g.C.Carrier.pipes c.args.carrier.now conn) (g.C.Carrier.pipes c.cut.new.carrier conn)
     (λ d. elim c.in-Cut.is [
       | inl h ↦ ap (λ (e : Event). delivers e d) h.1
       | inr r ↦
@@ -319,4 +322,4 @@ returns-in-Cut-clause-reads g c = λ size reads.
             | inr e ↦ ap (λ (x : Event). delivers x d) e
           ]
     ])
-    reads c.cut.ensures.still
+    reads c.cut.ensures.still refl

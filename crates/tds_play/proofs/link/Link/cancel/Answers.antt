@@ -1,7 +1,11 @@
-use Rattle.std.proofs.Common.{false, [], ◌∷◌, ◌∙◌, ◌++◌, ℕ, List, Option, sym, ap}
+use Rattle.std.proofs.Common.{false, [], ◌∷◌, ◌∙◌, ◌++◌, ℕ, List, Option, sym, ap, subst}
 use Rattle.tds_client.specs.Sending as client
 use Rattle.tds_world.specs.declared.outcome.Outcome.TheVariants as outcome
+use Rattle.tds_client.specs.Session.{ClientSession}
+use Rattle.tds_world.specs.Caller.{cancels}
 use Rattle.tds_play.specs.Pipe.{Pipe}
+use Rattle.tds_play.specs.Plays.{IsPlayed}
+use Rattle.tds_play.specs.Seats.{seated}
 use Rattle.tds_play.proofs.Cancelled.{cancelled_played}
 use Rattle.tds_play.proofs.Doing.{does_so, ended, ok_so}
 use Rattle.tds_play.proofs.Outward.{given_up}
@@ -12,23 +16,24 @@ use Rattle.tds_play.proofs.Stays.{stays_numbered, stays_twice}
 use Rattle.tds_play.proofs.link.Link.cancel.Goals as goal
 
 pub returns-clause-alike : goal.returns-clause-alike
-returns-clause-alike g c = λ size engine d played few.
+returns-clause-alike g c = λ size engine p d played few.
     let conn : ℕ = c.args.self.now.number in
     let old : ℕ → Option Pipe = g.C.Carrier.pipes c.args.carrier.now in
     let put = c.in_ok-cancelled.ensures in
     let out = c.in_ok-lost.ensures in
-    let a = c.cancels_alike.ensures c.args.self.now.client d (played.lives c.requires.live).stands.client in
-    let does = ok_so (client.cancelled c.args.self.now.client) a.0 _ a.1 put.cancelled in
-    let bytes = c.as_slice.ensures.value ∙ does.2 ∙ ap (λ (xs : List ℕ). xs ++ a.0.bytes) c.new-out.ensures.items in
+    let a = c.cancels_alike.ensures c.args.client.now d (played.lives c.requires.live).stands.client in
+    let does = ok_so (client.cancelled c.args.client.now) a.0 _ a.1 put.cancelled in
+    let bytes = c.as_slice.ensures.value ∙ does.3 ∙ ap (λ (xs : List ℕ). xs ++ a.0.bytes) c.new-out.ensures.items in
     let handed = given_up conn c.cancel_request.new.self c.hand_over.new.self old (g.C.Carrier.pipes c.hand_over.new.carrier) c.as_slice.result.now c.in_ok-lost.lost
     put.number (c.requires.tied.holds c.requires.live).is_open
     (λ e. let h = out.nothing e in (h.1, ap g.C.Carrier.pipes h.2)) out.handed out.counted in
-    does_so conn size engine c.end.result _ c.in_ok-lost.lost c.end.new.self (g.C.Carrier.pipes c.end.new.carrier conn) _ d c.end.ensures.done
+    does_so conn size engine c.end.result _ c.in_ok-lost.lost c.end.new.self (seated p c.cancel_request.new.client) (g.C.Carrier.pipes c.end.new.carrier conn) _ d c.end.ensures.done
     (ap outcome.Cancel (does.0 ∙ sym a.2))
-    (ended conn c.hand_over.new.self.number size engine c.hand_over.new.self c.end.new.self (g.C.Carrier.pipes c.hand_over.new.carrier) (g.C.Carrier.pipes c.end.new.carrier) c.in_ok-lost.lost _
-    (out.number ∙ put.number) (c.end.ensures.alike size engine _)
-    (cancelled_played (record { appends = c.sends_append.ensures.to_server; tells = c.phases_tell.ensures; stays = c.the_other_stays.ensures.cancels; unseen = c.pool_is_unseen.ensures }) conn size engine c.args.self.now c.cancel_request.new.self c.hand_over.new.self (old conn) (g.C.Carrier.pipes c.hand_over.new.carrier conn) d c.as_slice.result.now
-    played c.requires.live a does.1 bytes few handed))
+    (ended conn c.hand_over.new.self.number size engine c.hand_over.new.self c.end.new.self (seated p c.cancel_request.new.client) (g.C.Carrier.pipes c.hand_over.new.carrier) (g.C.Carrier.pipes c.end.new.carrier) c.in_ok-lost.lost _
+    (out.number ∙ put.number) (c.end.ensures.alike size engine (seated p c.cancel_request.new.client) _)
+    (subst (λ (s : ClientSession). IsPlayed conn size engine c.hand_over.new.self (seated p s) (g.C.Carrier.pipes c.hand_over.new.carrier conn) (cancels d)) (sym does.1)
+    (cancelled_played (record { appends = c.sends_append.ensures.to_server; tells = c.phases_tell.ensures; stays = c.the_other_stays.ensures.cancels; unseen = c.pool_is_unseen.ensures }) conn size engine c.args.self.now c.cancel_request.new.self c.hand_over.new.self (seated p c.args.client.now) (old conn) (g.C.Carrier.pipes c.hand_over.new.carrier conn) d c.as_slice.result.now
+    played c.requires.live a does.2 bytes few handed)))
 
 pub returns-clause-failed : goal.returns-clause-failed
 returns-clause-failed g c =

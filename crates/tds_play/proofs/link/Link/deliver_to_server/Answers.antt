@@ -25,7 +25,7 @@ use Rattle.tds_play.proofs.link.Link.deliver_to_server.Goals as goal
 
 -- The server takes all that came, so it finds no fault.
 pub returns-clause-alike : goal.returns-clause-alike
-returns-clause-alike g c = λ size engine m tells played promises few.
+returns-clause-alike g c = λ size engine seat m tells played promises few.
     let live = played.lives c.requires.live in
     let at = sym live.engine_is in
     let answers : Answers = answer_of (g.E.Engine.statements_of c.args.self.now.server.engine) (g.E.Engine.step_of c.args.self.now.server.engine) in
@@ -33,7 +33,7 @@ returns-clause-alike g c = λ size engine m tells played promises few.
     let k : ℕ = c.in_ok-carried.carried.count in
     let exact : k ≡ min k c.args.self.now.to_server = omega (arith, c.in_ok-carried.ensures.within, c.at_most-count.ensures.within) in
     let all = subst (λ e. AllArrive g.row.E.Denot (answer_of (g.E.Engine.statements_of e) (g.E.Engine.step_of e)) c.args.self.now.server_reader m m.to_server.waiting) at (promises.arrive c.args.self.now.server_reader live.server_reads live.server_size) in
-    let a = come_served c.serves_alike.ensures answers c.args.self.now pipe m k k live.stands exact all in
+    let a = come_served c.serves_alike.ensures answers c.args.self.now seat pipe m k k live.stands exact all in
     let brought = c.in_ok-carried.ensures.brought tells in
     let counted = c.in_ok-carried.ensures.counted in
     let piece : c.as_slice-piece.result.now ≡ next_of (traffic pipe ToServer) k = c.as_slice-piece.ensures.value ∙ brought.bytes ∙ ap (λ xs. xs ++ next_of (traffic pipe ToServer) k) c.new-piece.ensures.items in
@@ -43,7 +43,7 @@ returns-clause-alike g c = λ size engine m tells played promises few.
     absurd (none_told c.in-Some.fault c.in_ok-feed_server.field-0 c.feed_server.result c.in-Some.is c.in_ok-feed_server.was (c.in_ok-feed_server.was ∙ fed.0))
 
 pub returns-in-None-clause-alike : goal.returns-in-None-clause-alike
-returns-in-None-clause-alike g c = λ size engine m tells played promises few.
+returns-in-None-clause-alike g c = λ size engine seat m tells played promises few.
     let conn : ℕ = c.args.self.now.number in
     let live = played.lives c.requires.live in
     let at = sym live.engine_is in
@@ -56,7 +56,7 @@ returns-in-None-clause-alike g c = λ size engine m tells played promises few.
     let here = live.stands.up.counts in
     let exact : k ≡ min k c.args.self.now.to_server = omega (arith, c.in_ok-carried.ensures.within, c.at_most-count.ensures.within) in
     let all = subst (λ e. AllArrive g.row.E.Denot (answer_of (g.E.Engine.statements_of e) (g.E.Engine.step_of e)) c.args.self.now.server_reader m m.to_server.waiting) at (promises.arrive c.args.self.now.server_reader live.server_reads live.server_size) in
-    let a = come_served c.serves_alike.ensures answers c.args.self.now pipe m k k live.stands exact all in
+    let a = come_served c.serves_alike.ensures answers c.args.self.now seat pipe m k k live.stands exact all in
     let brought = c.in_ok-carried.ensures.brought tells in
     let counted = c.in_ok-carried.ensures.counted in
     let piece : c.as_slice-piece.result.now ≡ next_of (traffic pipe ToServer) k = c.as_slice-piece.ensures.value ∙ brought.bytes ∙ ap (λ xs. xs ++ next_of (traffic pipe ToServer) k) c.new-piece.ensures.items in
@@ -74,8 +74,8 @@ returns-in-None-clause-alike g c = λ size engine m tells played promises few.
     )) in
     let countable = subst (λ e. (k : ℕ) → IsCountable (to_server (answer_of (g.E.Engine.statements_of e) (g.E.Engine.step_of e)) k m)) at few in
     let lanes = subst (λ e. DeliversOn (answer_of (g.E.Engine.statements_of e) (g.E.Engine.step_of e)) m) at promises.delivers in
-    let stands : Stands c.hand_over.new.self after (to_server answers k m) =
-    delivered_alike answers (c.the_other_stays.ensures.serves answers) c.args.self.now c.hand_over.new.self pipe after m k k _ c.as_slice.result.now live.stands exact (lanes k).0 (countable k).1 a (c.as_slice.ensures.value ∙ fed.1.1) (rw fed.1.0 at by) in
+    let stands : Stands c.hand_over.new.self seat after (to_server answers k m) =
+    delivered_alike answers (c.the_other_stays.ensures.serves answers) c.args.self.now c.hand_over.new.self seat pipe after m k k _ c.as_slice.result.now live.stands exact (lanes k).0 (countable k).1 a (c.as_slice.ensures.value ∙ fed.1.1) (rw fed.1.0 at by) in
     let last = c.hand_over.ensures.rest in
     let reads = ap (λ l. l.server_reader) last ∙ fed.2 ∙ ap (λ r. with_taken r a.rest) reader in
     let ends : Ends size engine c.hand_over.new.self = record {
@@ -84,15 +84,15 @@ returns-in-None-clause-alike g c = λ size engine m tells played promises few.
       server_size = ap (λ r. r.size) reads ∙ live.server_size;
     } in
     let same : Answers = answer_of (g.E.Engine.statements_of engine) (g.E.Engine.step_of engine) in
-    let served : IsPlayed conn size engine c.hand_over.new.self after (to_server same k m) =
-    served_on same conn size k engine c.args.self.now c.hand_over.new.self pipe after m played c.requires.live
+    let served : IsPlayed conn size engine c.hand_over.new.self seat after (to_server same k m) =
+    served_on same conn size k engine c.args.self.now c.hand_over.new.self seat pipe after m played c.requires.live
     (stays_by c.args.self.now c.carry.new.self turned c.hand_over.new.self _ _ _ counted refl last) ends
-    (subst (λ e. Stands c.hand_over.new.self after (to_server (answer_of (g.E.Engine.statements_of e) (g.E.Engine.step_of e)) k m)) live.engine_is stands) in
-    delivered_up conn size c.args.most k engine c.end.result c.either.result c.end.new.self (g.C.Carrier.pipes c.end.new.carrier conn) same m c.end.ensures.done
+    (subst (λ e. Stands c.hand_over.new.self seat after (to_server (answer_of (g.E.Engine.statements_of e) (g.E.Engine.step_of e)) k m)) live.engine_is stands) in
+    delivered_up conn size c.args.most k engine c.end.result c.either.result c.end.new.self seat (g.C.Carrier.pipes c.end.new.carrier conn) same m c.end.ensures.done
     (λ whole. c.in_ok-carried.ensures.all (both_false _ _ (sym c.either.ensures ∙ whole)).0 ∙ c.at_most-count.ensures.value ∙ ap (min c.args.most) here)
     (omega (arith, c.in_ok-carried.ensures.within, c.at_most-count.ensures.within, here))
-    (ended conn c.hand_over.new.self.number size engine c.hand_over.new.self c.end.new.self (g.C.Carrier.pipes c.hand_over.new.carrier) (g.C.Carrier.pipes c.end.new.carrier) c.either.result (to_server same k m)
-    (out.number ∙ c.in_ok-carried.ensures.number) (c.end.ensures.alike size engine _) served)
+    (ended conn c.hand_over.new.self.number size engine c.hand_over.new.self c.end.new.self seat (g.C.Carrier.pipes c.hand_over.new.carrier) (g.C.Carrier.pipes c.end.new.carrier) c.either.result (to_server same k m)
+    (out.number ∙ c.in_ok-carried.ensures.number) (c.end.ensures.alike size engine seat _) served)
 
 pub returns-clause-failed : goal.returns-clause-failed
 returns-clause-failed g c = λ fine.
@@ -118,7 +118,7 @@ returns-in-None-clause-failed g c = λ fine.
     (subst (λ b. Fails calls b (pipes conn)) (sym c.either.ensures) (fails_numbered c.carry.new.self.number conn calls both pipes here handed))
 
 pub returns-in-None-clause-reads : goal.returns-in-None-clause-reads
-returns-in-None-clause-reads g c = λ size n reads.
+returns-in-None-clause-reads g c = λ size n columns reads.
     let conn : ℕ = c.args.self.now.number in
     let live = c.requires.live in
     let pipe : Option Pipe = g.C.Carrier.pipes c.args.carrier.now conn in
@@ -135,14 +135,14 @@ returns-in-None-clause-reads g c = λ size n reads.
     (c.feed_server.ensures.any size (traffic pipe ToServer).came before) in
     let handed = stays_numbered c.carry.new.self.number conn turned c.hand_over.new.self (g.C.Carrier.pipes c.carry.new.carrier) (g.C.Carrier.pipes c.hand_over.new.carrier) number c.in_ok-lost-in-None.ensures.still in
     let ended = stays_numbered c.hand_over.new.self.number conn c.hand_over.new.self c.end.new.self (g.C.Carrier.pipes c.hand_over.new.carrier) (g.C.Carrier.pipes c.end.new.carrier) (c.in_ok-lost-in-None.ensures.number ∙ number) c.end.ensures.still in
-    served_reads size n c.args.most c.in_ok-carried.carried.count c.args.self.now turned c.end.new.self pipe mid (g.C.Carrier.pipes c.end.new.carrier conn) c.new-piece.result.items c.carry.new.out.items c.as_slice-piece.result.now c.end.result.outcome
-    reads live b piece (ap (λ l. l.client_reader) counted) (ap (λ l. l.client.columns) counted) (ap given_by counted)
+    served_reads size n c.args.most c.in_ok-carried.carried.count c.args.self.now turned c.end.new.self columns pipe mid (g.C.Carrier.pipes c.end.new.carrier conn) c.new-piece.result.items c.carry.new.out.items c.as_slice-piece.result.now c.end.result.outcome
+    reads live b piece (ap (λ l. l.client_reader) counted) (ap given_by counted)
     fed (c.no_fault_is_read.ensures (new_reader ToServer size) c.feed_server.new.reader _ fed.0 fed.1)
     (stays_twice turned c.hand_over.new.self c.end.new.self mid (g.C.Carrier.pipes c.hand_over.new.carrier conn) (g.C.Carrier.pipes c.end.new.carrier conn) handed ended)
     (ap (λ (d : Done). d.outcome) c.end.ensures.done)
 
 pub returns-clause-reads : goal.returns-clause-reads
-returns-clause-reads g c = λ size n reads.
+returns-clause-reads g c = λ size n columns reads.
     let conn : ℕ = c.args.self.now.number in
     let live = c.requires.live in
     let pipe : Option Pipe = g.C.Carrier.pipes c.args.carrier.now conn in
@@ -158,5 +158,5 @@ returns-clause-reads g c = λ size n reads.
     c.in_ok-feed_server.was c.in-Some.is
     (c.feed_server.ensures.any size (traffic pipe ToServer).came before) in
     let ended = stays_numbered c.carry.new.self.number conn turned c.end_by_fault.new.self (g.C.Carrier.pipes c.carry.new.carrier) (g.C.Carrier.pipes c.end_by_fault.new.carrier) number c.end_by_fault.ensures.still in
-    faulty_served size n c.args.most c.in_ok-carried.carried.count c.args.self.now turned c.end_by_fault.new.self pipe mid (g.C.Carrier.pipes c.end_by_fault.new.carrier conn) c.new-piece.result.items c.carry.new.out.items c.as_slice-piece.result.now c.end_by_fault.result.outcome c.in-Some.fault
+    faulty_served size n c.args.most c.in_ok-carried.carried.count c.args.self.now turned c.end_by_fault.new.self columns pipe mid (g.C.Carrier.pipes c.end_by_fault.new.carrier conn) c.new-piece.result.items c.carry.new.out.items c.as_slice-piece.result.now c.end_by_fault.result.outcome c.in-Some.fault
     reads b piece (ap given_by counted) fed ended (ap (λ l. l.is_cut) c.end_by_fault.ensures.value) (ap (λ (d : Done). d.outcome) c.end_by_fault.ensures.done)

@@ -1,7 +1,12 @@
-use Rattle.std.proofs.Common.{[], ◌∷◌, ◌∙◌, ◌++◌, ◌-◌, ℕ, List, Option, Ok, ap, false, refl}
+use Rattle.std.proofs.Common.{[], ◌∷◌, ◌∙◌, ◌++◌, ◌-◌, ℕ, List, Option, Ok, ap, false, refl, subst, sym}
 use Rattle.tds_client.specs.Sending.{sent}
 use Rattle.tds_world.specs.declared.outcome.Outcome.TheVariants as outcome
+use Rattle.tds_client.specs.Session.{ClientSession}
 use Rattle.tds_play.specs.Pipe.{Pipe}
+use Rattle.tds_play.specs.Plays.{IsPlayed, after}
+use Rattle.tds_world.specs.Connection.{Connection, phase}
+use Rattle.tds_world.specs.Events.{sends_in}
+use Rattle.tds_play.specs.Seats.{seated}
 use Rattle.tds_play.proofs.Doing.{does_so, ended, ok_so, some_is, some_told}
 use Rattle.tds_play.proofs.Outward.{given_up}
 use Rattle.tds_play.proofs.Sent.{packet_played, packet_refused, none_sent, some_sent}
@@ -12,53 +17,50 @@ use Rattle.tds_play.proofs.Stays.{stays_numbered, stays_twice}
 use Rattle.tds_play.proofs.link.Link.send.Goals as goal
 
 pub returns-clause-alike : goal.returns-clause-alike
-returns-clause-alike g c = λ size engine d played few.
+returns-clause-alike g c = λ size engine p d played few.
     let conn : ℕ = c.args.self.now.number in
     let old : ℕ → Option Pipe = g.C.Carrier.pipes c.args.carrier.now in
     let put = c.in_ok-sent.ensures in
     let out = c.in_ok-lost.ensures in
-    let does = some_sent (sent c.args.self.now.client) (λ e. some_told c.in-Some.sent c.in_ok-sent.field-0 (Ok c.in_ok-sent.field-0) c.in-Some.is refl (put.refused e).0) in
-    let sends = ok_so (sent c.args.self.now.client) does.0 _ does.1 put.sent in
+    let does = some_sent (sent c.args.client.now) (λ e. some_told c.in-Some.sent c.in_ok-sent.field-0 (Ok c.in_ok-sent.field-0) c.in-Some.is refl (put.refused e).0) in
+    let sends = ok_so (sent c.args.client.now) does.0 _ does.1 put.sent in
     let bytes = c.as_slice.ensures.value ∙ sends.2 ∙ ap (λ (xs : List ℕ). xs ++ does.0.bytes) c.new-out.ensures.items in
-    let handed = given_up conn c.put_next.new.self c.hand_over.new.self old (g.C.Carrier.pipes c.hand_over.new.carrier) c.as_slice.result.now c.in_ok-lost.lost
-    put.number (c.requires.tied.holds c.requires.live).is_open
+    let handed = given_up conn c.args.self.now c.hand_over.new.self old (g.C.Carrier.pipes c.hand_over.new.carrier) c.as_slice.result.now c.in_ok-lost.lost
+    refl (c.requires.tied.holds c.requires.live).is_open
     (λ e. let h = out.nothing e in (h.1, ap g.C.Carrier.pipes h.2)) out.handed out.counted in
     let live = played.lives c.requires.live in
-    let goes = c.sends_alike.ensures c.args.self.now.client d live.stands.client in
-    let then = packet_played c.sends_append.ensures.to_server c.phases_tell.ensures conn size engine c.args.self.now c.put_next.new.self c.hand_over.new.self (old conn) (g.C.Carrier.pipes c.hand_over.new.carrier conn) d c.as_slice.result.now does.0
-    played c.requires.live goes (λ q is. c.the_other_stays.ensures.sends (size - 8) c.args.self.now.server d q is live.stands.server) does.1 few sends.1 bytes handed in
-    does_so conn size engine c.end.result _ c.in_ok-lost.lost c.end.new.self (g.C.Carrier.pipes c.end.new.carrier conn) _ d c.end.ensures.done
+    let goes = c.sends_alike.ensures c.args.client.now d live.stands.client in
+    let then = packet_played c.sends_append.ensures.to_server c.phases_tell.ensures conn size engine c.args.self.now c.args.self.now c.hand_over.new.self (seated p c.args.client.now) (old conn) (g.C.Carrier.pipes c.hand_over.new.carrier conn) d c.as_slice.result.now does.0
+    played c.requires.live goes (λ q is. c.the_other_stays.ensures.sends (size - 8) c.args.self.now.server d q is live.stands.server) does.1 few refl bytes handed in
+    let then_is : Connection = after (sends_in (phase d) (size - 8) d.current d) d in
+    does_so conn size engine c.end.result _ c.in_ok-lost.lost c.end.new.self (seated p c.put_next.new.client) (g.C.Carrier.pipes c.end.new.carrier conn) _ d c.end.ensures.done
     (ap outcome.Sent (some_is c.in-Some.sent _ c.in_ok-sent.field-0 c.in-Some.is sends.0) ∙ then.0)
-    (ended conn c.hand_over.new.self.number size engine c.hand_over.new.self c.end.new.self (g.C.Carrier.pipes c.hand_over.new.carrier) (g.C.Carrier.pipes c.end.new.carrier) c.in_ok-lost.lost _
-    (out.number ∙ put.number) (c.end.ensures.alike size engine _) then.1)
+    (ended conn c.hand_over.new.self.number size engine c.hand_over.new.self c.end.new.self (seated p c.put_next.new.client) (g.C.Carrier.pipes c.hand_over.new.carrier) (g.C.Carrier.pipes c.end.new.carrier) c.in_ok-lost.lost then_is
+    out.number (c.end.ensures.alike size engine (seated p c.put_next.new.client) then_is)
+    (subst (λ (s : ClientSession). IsPlayed conn size engine c.hand_over.new.self (seated p s) (g.C.Carrier.pipes c.hand_over.new.carrier conn) then_is) (sym sends.1) then.1))
 
 pub returns-in_default-clause-alike : goal.returns-in_default-clause-alike
-returns-in_default-clause-alike g c = λ size engine d played few.
+returns-in_default-clause-alike g c = λ size engine p d played few.
     let put = c.in_ok-sent.ensures in
-    let err = none_sent (sent c.args.self.now.client) c.in_ok-sent.field-0 _ (λ e h. h.0) c.in_default.is put.sent in
-    let goes = c.sends_alike.ensures c.args.self.now.client d (played.lives c.requires.live).stands.client in
-    let then = packet_refused c.args.self.now.number size engine c.args.self.now c.put_next.new.self (g.C.Carrier.pipes c.args.carrier.now c.args.self.now.number) d played c.requires.live goes err (put.refused err).1 in
-    does_so c.args.self.now.number size engine c.refused.result _ false c.put_next.new.self (g.C.Carrier.pipes c.args.carrier.now c.args.self.now.number) _ d c.refused.ensures then.0 then.1
+    let err = none_sent (sent c.args.client.now) c.in_ok-sent.field-0 _ (λ e h. h.0) c.in_default.is put.sent in
+    let goes = c.sends_alike.ensures c.args.client.now d (played.lives c.requires.live).stands.client in
+    let then = packet_refused c.args.self.now.number size engine c.args.self.now c.args.self.now (seated p c.args.client.now) (seated p c.put_next.new.client) (g.C.Carrier.pipes c.args.carrier.now c.args.self.now.number) d played c.requires.live goes err refl (ap (seated p) (put.refused err).1) in
+    does_so c.args.self.now.number size engine c.refused.result _ false c.args.self.now (seated p c.put_next.new.client) (g.C.Carrier.pipes c.args.carrier.now c.args.self.now.number) _ d c.refused.ensures then.0 then.1
 
 pub returns-clause-failed : goal.returns-clause-failed
 returns-clause-failed g c =
     let out = c.in_ok-lost.ensures in
-    sent_as c.args.self.now.number c.put_next.new.self.number c.hand_over.new.self.number (Send ToServer ∷ []) c.end.result c.in_ok-lost.lost c.end.new.self
+    sent_as c.args.self.now.number c.args.self.now.number c.hand_over.new.self.number (Send ToServer ∷ []) c.end.result c.in_ok-lost.lost c.end.new.self
     (g.C.Carrier.pipes c.args.carrier.now) (g.C.Carrier.pipes c.hand_over.new.carrier) (g.C.Carrier.pipes c.end.new.carrier)
-    c.in_ok-sent.ensures.number out.number (out.failed [] false) (c.end.ensures.failed (Send ToServer ∷ []))
+    refl out.number (out.failed [] false) (c.end.ensures.failed (Send ToServer ∷ []))
 
 pub returns-in_default-clause-failed : goal.returns-in_default-clause-failed
-returns-in_default-clause-failed g c = whole_as (Send ToServer ∷ []) c.refused.result c.put_next.new.self (g.C.Carrier.pipes c.args.carrier.now c.args.self.now.number) (ap (λ d. d.lost) c.refused.ensures)
+returns-in_default-clause-failed g c = whole_as (Send ToServer ∷ []) c.refused.result c.args.self.now (g.C.Carrier.pipes c.args.carrier.now c.args.self.now.number) (ap (λ d. d.lost) c.refused.ensures)
 
 pub returns-clause-still : goal.returns-clause-still
 returns-clause-still g c =
     let conn : ℕ = c.args.self.now.number in
     let pipe : Option Pipe = g.C.Carrier.pipes c.args.carrier.now conn in
-    let put = c.in_ok-sent.ensures in
     let out = c.in_ok-lost.ensures in
-    let first = put.still pipe in
-    let number = put.number in
-    let handed = stays_numbered c.put_next.new.self.number conn c.put_next.new.self c.hand_over.new.self (g.C.Carrier.pipes c.args.carrier.now) (g.C.Carrier.pipes c.hand_over.new.carrier) number out.still in
-    let ended = stays_numbered c.hand_over.new.self.number conn c.hand_over.new.self c.end.new.self (g.C.Carrier.pipes c.hand_over.new.carrier) (g.C.Carrier.pipes c.end.new.carrier) (out.number ∙ number) c.end.ensures.still in
-    stays_twice c.args.self.now c.put_next.new.self c.end.new.self pipe pipe (g.C.Carrier.pipes c.end.new.carrier conn) first
-    (stays_twice c.put_next.new.self c.hand_over.new.self c.end.new.self pipe (g.C.Carrier.pipes c.hand_over.new.carrier conn) (g.C.Carrier.pipes c.end.new.carrier conn) handed ended)
+    let ended = stays_numbered c.hand_over.new.self.number conn c.hand_over.new.self c.end.new.self (g.C.Carrier.pipes c.hand_over.new.carrier) (g.C.Carrier.pipes c.end.new.carrier) out.number c.end.ensures.still in
+    stays_twice c.args.self.now c.hand_over.new.self c.end.new.self pipe (g.C.Carrier.pipes c.hand_over.new.carrier conn) (g.C.Carrier.pipes c.end.new.carrier conn) out.still ended

@@ -12,7 +12,7 @@ use Rattle.tds_play.proofs.Stays.{stays_numbered, stays_twice}
 use Rattle.tds_play.proofs.link.Link.work.Goals as goal
 
 pub returns-clause-alike : goal.returns-clause-alike
-returns-clause-alike g c = λ size engine d played ends newest past few.
+returns-clause-alike g c = λ size engine seat d played ends newest past few.
     let conn : ℕ = c.args.self.now.number in
     let old : ℕ → Option Pipe = g.C.Carrier.pipes c.args.carrier.now in
     let w = worked c.args.self.now.server in
@@ -23,12 +23,12 @@ returns-clause-alike g c = λ size engine d played ends newest past few.
     step.number (c.requires.tied.holds c.requires.live).is_open
     (λ e. let h = out.nothing e in (h.1, ap g.C.Carrier.pipes h.2)) out.handed out.counted in
     let stands = (played.lives c.requires.live).stands in
-    let then = worked_played c.sends_append.ensures.to_client conn size engine c.args.self.now c.put_step.new.self c.hand_over.new.self (old conn) (g.C.Carrier.pipes c.hand_over.new.carrier conn) d c.as_slice.result.now
-    played c.requires.live (c.works_alike.ensures c.args.self.now.server d stands.server ends) (c.the_other_stays.ensures.works c.args.self.now.client d stands.client) newest past few step.value bytes handed in
-    does_so conn size engine c.end.result _ c.in_ok-lost.lost c.end.new.self (g.C.Carrier.pipes c.end.new.carrier conn) _ d c.end.ensures.done
+    let then = worked_played c.sends_append.ensures.to_client conn size engine c.args.self.now c.put_step.new.self c.hand_over.new.self seat (old conn) (g.C.Carrier.pipes c.hand_over.new.carrier conn) d c.as_slice.result.now
+    played c.requires.live (c.works_alike.ensures c.args.self.now.server d stands.server ends) (c.the_other_stays.ensures.works seat.client d stands.client) newest past few step.value bytes handed in
+    does_so conn size engine c.end.result _ c.in_ok-lost.lost c.end.new.self seat (g.C.Carrier.pipes c.end.new.carrier conn) _ d c.end.ensures.done
     (ap outcome.Work (step.outcome ∙ then.0))
-    (ended conn c.hand_over.new.self.number size engine c.hand_over.new.self c.end.new.self (g.C.Carrier.pipes c.hand_over.new.carrier) (g.C.Carrier.pipes c.end.new.carrier) c.in_ok-lost.lost _
-    (out.number ∙ step.number) (c.end.ensures.alike size engine _) then.1)
+    (ended conn c.hand_over.new.self.number size engine c.hand_over.new.self c.end.new.self seat (g.C.Carrier.pipes c.hand_over.new.carrier) (g.C.Carrier.pipes c.end.new.carrier) c.in_ok-lost.lost _
+    (out.number ∙ step.number) (c.end.ensures.alike size engine seat _) then.1)
 
 pub returns-clause-failed : goal.returns-clause-failed
 returns-clause-failed g c =

@@ -1,5 +1,5 @@
 use Rattle.std.proofs.Common.{◌∙◌, List, [], ◌∷◌, ◌++◌, map, length, subst, sym, ap, arith, Vec, Global}
-use Rattle.tds_play.specs.Links.{newest_first}
+use Rattle.tds_play.specs.Links.{newest_there}
 use Rattle.tds_play.specs.declared.request.Record.{Record}
 use Rattle.tds_play.proofs.Requested.{Telling, telling_at_first, tells_one_more, one_is_left, all_told, written_back}
 use Rattle.tds_world.specs.declared.report.RequestReport.{RequestReport}
@@ -13,7 +13,7 @@ asked-init g c = record {
   given = told_at_first c.args.self.links.items _ c.new-reports.result.items c.in_ok-records.ensures c.new-reports.ensures.items;
   told = λ setup engine pipes w p o.
       subst (λ (xs : List (List Record)). Telling w 1 w.asked_on xs c.new-reports.result.items) (sym c.in_ok-records.ensures)
-      (subst (λ (xs : List RequestReport). Telling w 1 w.asked_on (map newest_first c.args.self.links.items) xs) (sym c.new-reports.ensures.items)
+      (subst (λ (xs : List RequestReport). Telling w 1 w.asked_on (map newest_there c.args.self.links.items) xs) (sym c.new-reports.ensures.items)
       (telling_at_first setup.packet_size engine c.args.self.links.items pipes w p.connections o));
 }
 

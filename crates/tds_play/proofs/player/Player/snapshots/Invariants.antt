@@ -4,4 +4,4 @@ use Rattle.tds_play.specs.Seen.{seen_of}
 use Rattle.tds_play.proofs.player.Player.snapshots.Given as goal
 
 abbrev pub invariant-links : goal.invariant-links
-invariant-links g l = l.snapshots.items ≡ filter_map seen_of (take l.link-index l.self.links.items)
+invariant-links g l = l.snapshots.items ≡ filter_map seen_of (take l.seated-index l.self.links.items)
