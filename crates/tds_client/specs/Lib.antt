@@ -4,7 +4,9 @@ pub mod Packets
 pub mod Sending
 pub mod Hearing
 pub mod Taking
+pub mod Judging
 pub mod Marks
 pub mod Fields
+pub mod Parts
 pub mod Calls
 pub mod Promises

@@ -90,3 +90,8 @@ Takes wanted takes.More old new before after = DoesTake wanted takes.More new be
 Takes wanted takes.Finished old new before after = DoesTake wanted takes.Finished new before after
 Takes wanted takes.Acknowledged old new before after = DoesTake wanted takes.Acknowledged new before after
 Takes wanted takes.NoMemory old new before after = LeftUntaken wanted old new before after
+
+-- The packet is heard: it answered so, and the client is that one. What it tells, nobody is told.
+abbrev pub Hears : Result Took ClientFault → Taken → ClientSession → Type 0
+Hears wanted answer session =
+    (tokens : List Token) × (wanted ≡ Ok (record { answer = answer; session = session; tokens = tokens }))

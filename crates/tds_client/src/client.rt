@@ -4,12 +4,14 @@ ghost use Rattle.tds_client.specs.declared.state.Cancelled.{Cancelled};
 ghost use Rattle.tds_client.specs.Session.{new_session, state_of, lost, marked, unless_idle};
 ghost use Rattle.tds_client.specs.Sending.{Does, IsRefusal, started, sent, cancelled, refusal_of};
 
+mod parts;
 mod taking;
 
 use crate::fault::{ClientFault, ClientRefusal};
 use crate::heard::{FinalDone, Heard};
 use crate::packets::{put, put_attention, put_ignore_and_attention};
 use crate::state::{Cancelled, ClientState, Sent};
+pub use parts::{ClientParts, StageParts};
 use std::alloc::Global;
 use std::marker::Model;
 use tds_packet::{Kind, PacketSize, Reset, Status};

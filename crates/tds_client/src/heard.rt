@@ -9,7 +9,7 @@ use tds_token::{EnvChange, TokenRef};
 /// How the message that comes stands: whether its final DONE has come, and which (MS-TDS 2.2.7.6).
 /// A DONE is final when its bit `0001` is clear.
 #[derive(Clone, Copy, PartialEq, Eq, Debug)]
-pub(crate) enum FinalDone {
+pub enum FinalDone {
     /// It has not come.
     Awaited,
     /// It ended an answer.
@@ -20,13 +20,13 @@ pub(crate) enum FinalDone {
 
 /// What the tokens of a message change.
 #[derive(Clone, Copy, PartialEq, Eq, Debug)]
-pub(crate) struct Heard {
+pub struct Heard {
     /// The descriptor of the open transaction, 0 for none.
-    pub(crate) descriptor: u64,
+    pub descriptor: u64,
     /// The reset that is asked for, until its end is heard.
-    pub(crate) mark: Option<Reset>,
+    pub mark: Option<Reset>,
     /// How the message stands.
-    pub(crate) done: FinalDone,
+    pub done: FinalDone,
 }
 
 impl Heard {

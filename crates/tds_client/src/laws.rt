@@ -14,6 +14,8 @@ ghost use Rattle.tds_client.specs.declared.heard.Heard.{Heard};
 ghost use Rattle.tds_client.specs.declared.state.Cancelled.{Cancelled};
 ghost use Rattle.tds_client.specs.declared.state.Cancelled.TheVariants as cancels;
 ghost use Rattle.tds_client.specs.declared.state.Taken.TheVariants as takes;
+ghost use Rattle.tds_client.specs.declared.client.parts.ClientParts.{ClientParts};
+ghost use Rattle.tds_client.specs.Parts.{left_of, left_by, parts_of, session_from};
 ghost use Rattle.tds_client.specs.Calls.{Call, after, appended, turn, turns};
 ghost use Rattle.tds_client.specs.Hearing.{hear_all};
 ghost use Rattle.tds_packet.specs.Resets.{reset_effect, header_descriptor};
@@ -106,4 +108,13 @@ pub fn idle_by_acknowledgement()
         → s ≡ after (new_session size) calls → taken_of s packet ≡ Ok took
         → ends_message packet ≡ true
         → is_some (final_done (message_with calls packet)) ≡ true }
+{}
+
+/// A client that was taken apart and is put together again is the same. And what is put together
+/// has these parts, and these bytes left where it is sending: no two parts are the same client.
+pub fn parts_are_the_client()
+    ensures again { (s : ClientSession) → session_from (parts_of s) (left_of s.stage) ≡ s }
+    ensures parts { (p : ClientParts) (left : List ℕ) → parts_of (session_from p left) ≡ p }
+    ensures left { (p : ClientParts) (left : List ℕ)
+        → left_of (session_from p left).stage ≡ left_by p.stage left }
 {}

@@ -11,8 +11,9 @@ mod packets;
 mod state;
 mod walks;
 
-pub use client::Client;
+pub use client::{Client, ClientParts, StageParts};
 pub use fault::{ClientFault, ClientRefusal};
+pub use heard::{FinalDone, Heard};
 pub use state::{Cancelled, ClientState, Sent, Taken};
 
 /// The answer of a growth that was refused.

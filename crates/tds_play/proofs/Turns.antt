@@ -305,13 +305,13 @@ all_cut size engine (l ∷ ls) pipes cs (suc i) c all tied at =
 
 pub in_the_end : {E S : Type 0} (setup : Setup) (answers : Answers) (engine : E) (es : List Event) (i : ℕ) (player : Player E S)
     (pipes : ℕ → Option Pipe) (so_far reports : List EventReport) (requests : List RequestReport)
-    → IsSetup setup → AllByRecursion IsEvent (take i es) → AreTied player.links.items pipes
+    → IsSetup setup → AllByRecursion IsEvent (take i es) → length es ≤ 10000 → AreTied player.links.items pipes
     → length es ≤ i → IsSoFar setup answers engine (take i es) player pipes so_far → reports ≡ so_far
     → requests ≡ request_reports (world_with setup answers (marked (take i es) so_far) new_world) 1 (world_with setup answers (marked (take i es) so_far) new_world).asked_on
     → ((r : Report) → IsReportWith setup answers es r → MarksNothing r → r ≡ observed setup answers es)
     → ((r : Report) → MarksNothing r → world_with setup answers (marked es r.events) new_world ≡ world_after setup answers es new_world)
     → IsPlayOf setup answers es (record { events = reports; requests = requests }) pipes
-in_the_end setup answers engine es i player pipes so_far reports requests in_range known tied over far same asked plain_report plain_world =
+in_the_end setup answers engine es i player pipes so_far reports requests in_range known few tied over far same asked plain_report plain_world =
     let whole : take i es ≡ es = take_all i es over in
     let ps : marked (take i es) so_far ≡ marked es reports = ap (λ xs. marked xs so_far) whole ∙ ap (marked es) (sym same) in
     let w : World = world_with setup answers (marked es reports) new_world in
@@ -324,6 +324,7 @@ in_the_end setup answers engine es i player pipes so_far reports requests in_ran
     record {
       in_range = in_range;
       known = subst (AllByRecursion IsEvent) whole known;
+      few = few;
       told = told;
       bytes = λ n direction some most. bytes_handed setup.packet_size engine player.links.items pipes w n direction all some most;
       carried = λ n c direction at. bytes_carried setup.packet_size engine player.links.items pipes w.connections n c direction all at;

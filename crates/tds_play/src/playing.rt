@@ -9,10 +9,10 @@ ghost use Rattle.tds_play.specs.declared.playing.PlayRefusal.{PlayRefusal};
 ghost use Rattle.tds_session.specs.Answer.{answer_of, script_answers};
 ghost use Rattle.tds_world.specs.Losses.{marked};
 ghost use Rattle.tds_world.specs.Alone.{AsIfAlone};
-ghost use Rattle.tds_world.specs.AloneShown.{ShowsAsIfAlone};
+ghost use Rattle.tds_world.specs.AloneShown.{ShowsAsIfAlone, steps_in};
 ghost use Rattle.tds_world.specs.Bounds.{BeginsOnce, IsEvent, IsSetup, OneAttention};
 ghost use Rattle.tds_world.specs.Rest.{NeverStuck};
-ghost use Rattle.tds_world.specs.RestShown.{ShowsNeverStuck};
+ghost use Rattle.tds_world.specs.RestShown.{ShowsNeverStuckWith};
 ghost use Rattle.tds_world.specs.Reports.{ShowsFewUnderway, ShowsFreshStart, ShowsIdleQuiet, ShowsKeptTransaction, ShowsLendsIdle, ShowsOwnAnswers, ShowsOwnTransaction};
 ghost use Rattle.tds_world.specs.WithLosses.{GivesNoMoreWith, IsReportWith, MarksNothing, ShowsNoEndFaults};
 ghost use Rattle.tds_world.specs.World.{new_world};
@@ -26,9 +26,8 @@ use std::alloc::{AllocError, AllocFailed, Global};
 use tds_packet::PacketSize;
 use tds_request::Request;
 use tds_session::{Engine, ScriptEngine};
-use tds_world::laws::{script_hands_out_next, script_is_blind, script_is_lawful};
-use tds_world::losses::{as_if_alone, begins_once, never_stuck, one_attention};
-use tds_world::report::laws;
+use tds_world::laws::{script_hands_out_next, script_is_blind, script_is_lawful, script_uses_few};
+use tds_world::losses::{as_if_alone, begins_once, marks_of_a_report, never_stuck, one_attention};
 use tds_world::report::losses::of_marked_report;
 use tds_world::{Event, EventReport, Report, Sequence, Setup};
 
@@ -148,28 +147,30 @@ pub fn play<C: Carrier>(
         OneAttention (world_of setup.now events.now report.events)) }
     ensures begins_once { C.tells carrier.old → IfOk result (λ report.
         BeginsOnce (world_of setup.now events.now report.events)) }
-    // In that world no connection that isn't cut is stuck, and no lease can tell that it shares.
+    // In that world no connection that isn't cut is stuck, and no lease can tell that it shares: so
+    // the report shows it too, whatever is lost.
     ensures never_stuck { C.tells carrier.old → IfOk result (λ report.
         NeverStuck setup.now script_answers (world_of setup.now events.now report.events)) }
     ensures as_if_alone { C.tells carrier.old → IfOk result (λ report.
         AsIfAlone script_answers (world_of setup.now events.now report.events)) }
-    // So the report shows it, where nothing is lost.
-    ensures comes_to_rest { C.tells carrier.old → IfOk result (λ report. MarksNothing report
-        → ShowsNeverStuck setup.now script_answers events.now report) }
-    ensures told_alone { C.tells carrier.old → IfOk result (λ report. MarksNothing report
-        → ShowsAsIfAlone script_answers events.now report) }
+    ensures told_alone { C.tells carrier.old → IfOk result (λ report.
+        ShowsAsIfAlone script_answers
+        (steps_in (world_of setup.now events.now report.events)) events.now report) }
+    // With the events behind it that bring a connection to rest, the report shows it at rest.
+    ensures comes_to_rest { C.tells carrier.old
+        → IfOk result (ShowsNeverStuckWith setup.now script_answers events.now) }
 {
     // The laws of the model, whose report it is.
     script_is_lawful();
     script_hands_out_next();
     script_is_blind();
+    script_uses_few();
     of_marked_report();
+    marks_of_a_report();
     one_attention();
     begins_once();
     never_stuck();
     as_if_alone();
-    laws::never_stuck();
-    laws::as_if_alone();
     play_with(alloc, setup, events, ScriptEngine, carrier)
 }
 
@@ -245,7 +246,10 @@ fn known(event: &Event)
             Request::Begin(level) => {
                 let _number = level.get();
             }
-            Request::Commit | Request::Rollback => {}
+            Request::Commit(Some(level)) | Request::Rollback(Some(level)) => {
+                let _number = level.get();
+            }
+            Request::Commit(None) | Request::Rollback(None) => {}
         }
     }
 }

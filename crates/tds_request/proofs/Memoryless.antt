@@ -1,14 +1,13 @@
 -- Reading a list of bytes never wants memory: none of its faults is that one.
-use Rattle.std.proofs.Common.{◌≡◌, ℕ, Bool, true, false, cond, eqb, ltb, nat_le, List, [], ◌∷◌, length, Result, Ok, Err, refl, subst}
+use Rattle.std.proofs.Common.{◌≡◌, ℕ, Bool, true, false, cond, eqb, ltb, nat_le, List, [], ◌∷◌, length, None, Some, Result, Ok, Err, refl, subst}
 use Rattle.std.specs.Int.{Width, w16, w32, w64, byte_len}
 use Rattle.tds_request.specs.declared.fault.RequestFault.{RequestFault}
 use Rattle.tds_request.specs.declared.fault.RequestFault.TheVariants.{Short, WrongTotalLength, WrongHeader, WrongCount, WrongTextLength, WrongRequestType, WrongIsolation, WrongName, WrongFlags, BytesLeftOver, Memory}
-use Rattle.tds_request.specs.declared.request.Request.{Request}
 use Rattle.tds_request.specs.declared.request.Request.TheVariants as requests
 use Rattle.tds_request.specs.declared.request.RequestKind.{RequestKind}
 use Rattle.tds_request.specs.declared.request.RequestKind.TheVariants as kinds
 use Rattle.tds_request.specs.Faults.{number_of}
-use Rattle.tds_request.specs.Reading.{◌>>=◌, number_at, byte_at, number_is_at, byte_is_at, header_fields_at, headers_at, is_text_length, batch_in, ended, isolation_of, begin_in, end_in, transaction_in, body_in, read_request}
+use Rattle.tds_request.specs.Reading.{◌>>=◌, number_at, byte_at, number_is_at, byte_is_at, header_fields_at, headers_at, is_text_length, batch_in, ended, isolation_of, begun_in, begun_anew_in, end_in, transaction_in, body_in, read_request}
 
 -- it is no want of memory
 abbrev IsFree : {A : Type 0} → Result A RequestFault → Type 0
@@ -56,31 +55,37 @@ free_batch : (bytes : List ℕ) → IsFree (batch_in bytes)
 unfolding batch_in
 free_batch bytes = free_cond (is_text_length (length bytes)) _ (Err WrongTextLength) tt refl
 
-free_ended : (request : Request) (rest : List ℕ) → IsFree (ended request rest)
-free_ended request rest = free_cond (eqb (length rest) 0) (Ok request) (Err BytesLeftOver) tt refl
+free_ended : {A : Type 0} (value : A) (rest : List ℕ) → IsFree (ended value rest)
+free_ended value rest = free_cond (eqb (length rest) 0) (Ok value) (Err BytesLeftOver) tt refl
 
-free_begin : (payload : List ℕ) → IsFree (begin_in payload)
-unfolding begin_in
-free_begin payload =
+free_begun : (payload : List ℕ) → IsFree (begun_in payload)
+unfolding begun_in
+free_begun payload =
     free_bind (byte_at payload) _ (free_byte payload) (λ number.
     free_bind (isolation_of number.0) _ (free_cond (nat_le number.0 5) (Ok number.0) (Err WrongIsolation) tt refl) (λ level.
     free_bind (byte_is_at 0 WrongName number.1) _ (free_byte_is 0 WrongName number.1 refl) (λ rest.
-    free_ended (requests.Begin level) rest)))
+    free_ended level rest)))
 
-free_end : (request : Request) (payload : List ℕ) → IsFree (end_in request payload)
+free_begun_anew : (flags : ℕ) (rest : List ℕ) → IsFree (begun_anew_in flags rest)
+unfolding begun_anew_in
+free_begun_anew flags rest =
+    free_cond (eqb flags 0) (ended None rest) _ (free_ended None rest)
+    (free_cond (eqb flags 1) (begun_in rest >>= λ level. Ok (Some level)) (Err WrongFlags) (free_bind (begun_in rest) _ (free_begun rest) (λ level. tt)) refl)
+
+free_end : (payload : List ℕ) → IsFree (end_in payload)
 unfolding end_in
-free_end request payload =
-    free_bind (byte_is_at 0 WrongName payload) _ (free_byte_is 0 WrongName payload refl) (λ flags.
-    free_bind (byte_is_at 0 WrongFlags flags) _ (free_byte_is 0 WrongFlags flags refl) (λ rest.
-    free_ended request rest))
+free_end payload =
+    free_bind (byte_is_at 0 WrongName payload) _ (free_byte_is 0 WrongName payload refl) (λ name.
+    free_bind (byte_at name) _ (free_byte name) (λ flags.
+    free_begun_anew flags.0 flags.1))
 
 free_transaction : (bytes : List ℕ) → IsFree (transaction_in bytes)
 unfolding transaction_in
 free_transaction bytes =
     free_bind (number_at w16 bytes) _ (free_number w16 bytes) (λ type.
-    free_cond (eqb type.0 5) (begin_in type.1) _ (free_begin type.1)
-    (free_cond (eqb type.0 7) (end_in requests.Commit type.1) _ (free_end requests.Commit type.1)
-    (free_cond (eqb type.0 8) (end_in requests.Rollback type.1) (Err WrongRequestType) (free_end requests.Rollback type.1) refl)))
+    free_cond (eqb type.0 5) (begun_in type.1 >>= λ level. Ok (requests.Begin level)) _ (free_bind (begun_in type.1) _ (free_begun type.1) (λ level. tt))
+    (free_cond (eqb type.0 7) (end_in type.1 >>= λ anew. Ok (requests.Commit anew)) _ (free_bind (end_in type.1) _ (free_end type.1) (λ anew. tt))
+    (free_cond (eqb type.0 8) (end_in type.1 >>= λ anew. Ok (requests.Rollback anew)) (Err WrongRequestType) (free_bind (end_in type.1) _ (free_end type.1) (λ anew. tt)) refl)))
 
 free_body : (kind : RequestKind) (bytes : List ℕ) → IsFree (body_in kind bytes)
 free_body kinds.Batch bytes = free_batch bytes

@@ -1,16 +1,17 @@
 -- A message that is read is spelled so, and what is spelled so is read.
-use Rattle.std.proofs.Common.{◌≡◌, ℕ, ◌^◌, ◌<◌, true, false, cond, eqb, ltb, nat_le, List, [], ◌∷◌, ◌++◌, length, Ok, Err, refl, sym, ap, subst, ◌∙◌, arith, inl, inr}
+use Rattle.std.proofs.Common.{◌≡◌, ℕ, ◌^◌, ◌<◌, true, false, cond, eqb, ltb, nat_le, List, [], ◌∷◌, ◌++◌, length, Option, None, Some, IfSome, Result, Ok, Err, refl, sym, ap, subst, ◌∙◌, arith, inl, inr}
 use Rattle.std.specs.Int.{w16, w32, w64, to_le_bytes}
 use Rattle.std.proofs.lemmas.Bool.{le-ltb, eqb-true, leb-true, le-leb}
 use Rattle.std.proofs.lemmas.List.{length-append, nil_from_length}
+use Rattle.tds_request.specs.declared.fault.RequestFault.{RequestFault}
 use Rattle.tds_request.specs.declared.fault.RequestFault.TheVariants.{Short, WrongTotalLength, WrongHeader, WrongCount, WrongTextLength, WrongRequestType, WrongIsolation, WrongName, WrongFlags, BytesLeftOver}
 use Rattle.tds_request.specs.declared.request.Request.{Request}
 use Rattle.tds_request.specs.declared.request.Request.TheVariants as requests
 use Rattle.tds_request.specs.declared.request.RequestKind.{RequestKind}
 use Rattle.tds_request.specs.declared.request.RequestKind.TheVariants as kinds
 use Rattle.tds_request.specs.Values.{IsBatchText, IsIsolation}
-use Rattle.tds_request.specs.Layout.{kind_of_request, all_headers, body_of, spelling, text_bytes, Fits, IsRequest}
-use Rattle.tds_request.specs.Reading.{◌>>=◌, number_is_at, byte_is_at, header_fields_at, headers_at, units_of, is_text_length, batch_in, ended, isolation_of, begin_in, end_in, transaction_in, body_in, read_request}
+use Rattle.tds_request.specs.Layout.{kind_of_request, all_headers, body_of, spelling, text_bytes, no_name, begun, begun_anew, Fits, IsRequest}
+use Rattle.tds_request.specs.Reading.{◌>>=◌, number_is_at, byte_is_at, header_fields_at, headers_at, units_of, is_text_length, batch_in, ended, isolation_of, begun_in, begun_anew_in, end_in, transaction_in, body_in, read_request}
 use Rattle.tds_request.proofs.Readers.{IsBytes, IsMark, bind_ok, want_ok, unless_ok, chosen, ok_is, step, mark_step, step_again, mark_again, wide16, wide32, wide64, number_field, byte_field, number_mark, byte_mark}
 use Rattle.tds_request.proofs.Texts.{units_again, text_of, is_length}
 
@@ -90,83 +91,120 @@ batch_again : (units : List ℕ) → IsBatchText units → batch_in (text_bytes 
 unfolding batch_in
 batch_again units h = rw (is_length units h, units_again units h.wide) refl
 
-ended_takes : (value request : Request) (rest : List ℕ) → ended value rest ≡ Ok request → (rest ≡ []) × (value ≡ request)
-ended_takes value request rest e =
-    let w = want_ok (eqb (length rest) 0) BytesLeftOver (Ok value) request e in
-    (nil_from_length rest (eqb-true _ _ w.0), ok_is value request w.1)
-
--- the payload is this one, and the request this one
-IsPayload : List ℕ → List ℕ → Request → Request → Type 0
-IsPayload payload wanted value request = (payload ≡ wanted) × (value ≡ request)
-
-record IsBegin (payload : List ℕ) (request : Request) : Type 0 where
-  pub level : ℕ
-  pub spelled : payload ≡ level ∷ 0 ∷ []
-  pub fits : IsIsolation level
-  pub value : requests.Begin level ≡ request
+ended_takes : {A : Type 0} (value wanted : A) (rest : List ℕ) → ended value rest ≡ Ok wanted → (rest ≡ []) × (value ≡ wanted)
+ended_takes value wanted rest e =
+    let w = want_ok (eqb (length rest) 0) BytesLeftOver (Ok value) wanted e in
+    (nil_from_length rest (eqb-true _ _ w.0), ok_is value wanted w.1)
 
 name_mark : IsMark (byte_is_at 0 WrongName) (0 ∷ [])
 name_mark = byte_mark 0 WrongName
-
-flags_mark : IsMark (byte_is_at 0 WrongFlags) (0 ∷ [])
-flags_mark = byte_mark 0 WrongFlags
 
 level_takes : (number level : ℕ) → isolation_of number ≡ Ok level → IsIsolation number × (number ≡ level)
 level_takes number level e =
     let w = want_ok (nat_le number 5) WrongIsolation (Ok number) level e in
     (leb-true _ _ w.0, ok_is number level w.1)
 
-begin_parts : (payload r1 rest : List ℕ) (number level : ℕ) → payload ≡ (number ∷ []) ++ r1 → r1 ≡ (0 ∷ []) ++ rest → rest ≡ [] → number ≡ level → payload ≡ level ∷ 0 ∷ []
-begin_parts payload r1 rest number level e1 e2 e3 e4 = rw (e1, e2, e3, e4) refl
+-- what begins a transaction
 
-begin_takes : (payload : List ℕ) (request : Request) → IsBytes payload → begin_in payload ≡ Ok request → IsBegin payload request
-unfolding begin_in
-begin_takes payload request fits e =
-    step (IsBegin payload request) byte_field payload _ request fits e (λ number r1 e1 lt h1 n1.
-    let b = bind_ok (isolation_of number) (λ level. byte_is_at 0 WrongName r1 >>= λ rest. ended (requests.Begin level) rest) request n1 in
+IsBegun : List ℕ → ℕ → Type 0
+IsBegun payload level = (payload ≡ begun level) × IsIsolation level
+
+begun_parts : (payload r1 rest : List ℕ) (number level : ℕ) → payload ≡ (number ∷ []) ++ r1 → r1 ≡ (0 ∷ []) ++ rest → rest ≡ [] → number ≡ level → payload ≡ begun level
+begun_parts payload r1 rest number level e1 e2 e3 e4 = rw (e1, e2, e3, e4) refl
+
+begun_takes : (payload : List ℕ) (level : ℕ) → IsBytes payload → begun_in payload ≡ Ok level → IsBegun payload level
+unfolding begun_in IsBegun
+begun_takes payload level fits e =
+    step (IsBegun payload level) byte_field payload _ level fits e (λ number r1 e1 lt h1 n1.
+    let b = bind_ok (isolation_of number) (λ read. byte_is_at 0 WrongName r1 >>= λ rest. ended read rest) level n1 in
     let l = level_takes number b.0 b.1 in
-    mark_step (IsBegin payload request) name_mark r1 _ request h1 b.2 (λ rest e2 h2 n2.
-    let last = ended_takes (requests.Begin b.0) request rest n2 in
-    record { level = b.0; spelled = begin_parts payload r1 rest number b.0 e1 e2 last.0 l.1; fits = rw (← l.1) l.0; value = last.1 }))
+    mark_step (IsBegun payload level) name_mark r1 _ level h1 b.2 (λ rest e2 h2 n2.
+    let last = ended_takes b.0 level rest n2 in
+    (begun_parts payload r1 rest number level e1 e2 last.0 (l.1 ∙ last.1), rw (← last.1, ← l.1) l.0)))
 
-begin_again : (level : ℕ) → IsIsolation level → begin_in (level ∷ 0 ∷ []) ≡ Ok (requests.Begin level)
-unfolding begin_in byte_is_at
-begin_again level h =
+begun_again : (level : ℕ) → IsIsolation level → begun_in (begun level) ≡ Ok level
+unfolding begun_in byte_is_at
+begun_again level h =
     let small : nat_le level 5 ≡ true = le-leb _ _ h in
     rw small refl
 
-end_takes : (value : Request) (payload : List ℕ) (request : Request) → IsBytes payload → end_in value payload ≡ Ok request → IsPayload payload (0 ∷ 0 ∷ []) value request
-unfolding end_in IsPayload
-end_takes value payload request fits e =
-    mark_step (IsPayload payload (0 ∷ 0 ∷ []) value request) name_mark payload _ request fits e (λ r1 e1 h1 n1.
-    mark_step (IsPayload payload (0 ∷ 0 ∷ []) value request) flags_mark r1 _ request h1 n1 (λ rest e2 h2 n2.
-    let last = ended_takes value request rest n2 in
-    (rw (e1, e2, last.0) refl, last.1)))
+-- what a commit or rollback begins anew
 
-end_again : (value : Request) → end_in value (0 ∷ 0 ∷ []) ≡ Ok value
-unfolding end_in byte_is_at
-end_again value = refl
+IsBegunAnew : List ℕ → Option ℕ → Type 0
+IsBegunAnew bytes anew = (bytes ≡ begun_anew anew) × IfSome anew IsIsolation
+
+flags_parts : (flags wanted : ℕ) (rest inside : List ℕ) → flags ≡ wanted → rest ≡ inside → flags ∷ rest ≡ wanted ∷ inside
+flags_parts flags wanted rest inside e r = rw (e, r) refl
+
+begun_anew_takes : (flags : ℕ) (rest : List ℕ) (anew : Option ℕ) → IsBytes rest → begun_anew_in flags rest ≡ Ok anew → IsBegunAnew (flags ∷ rest) anew
+unfolding begun_anew_in IsBegunAnew IsBegun
+begun_anew_takes flags rest anew fits e =
+    elim (chosen (eqb flags 0) (ended None rest) _ (Ok anew) e) [
+      | inl p ↦
+          let last = ended_takes None anew rest p.1 in
+          subst (IsBegunAnew (flags ∷ rest)) last.1 (flags_parts flags 0 rest [] (eqb-true _ _ p.0) last.0, tt)
+      | inr q ↦
+          let w = want_ok (eqb flags 1) WrongFlags (begun_in rest >>= λ level. Ok (Some level)) anew q.1 in
+          let b = bind_ok (begun_in rest) (λ level. Ok (Some level)) anew w.1 in
+          let level = begun_takes rest b.0 fits b.1 in
+          subst (IsBegunAnew (flags ∷ rest)) (ok_is (Some b.0) anew b.2) (flags_parts flags 1 rest (begun b.0) (eqb-true _ _ w.0) level.0, level.1)
+    ]
+
+begun_anew_again : (anew : Option ℕ) → IfSome anew IsIsolation → end_in (no_name ++ begun_anew anew) ≡ Ok anew
+unfolding end_in byte_is_at begun_anew_in
+begun_anew_again None h = refl
+begun_anew_again (Some level) h = rw (begun_again level h) refl
+
+end_parts : (payload r1 rest inside : List ℕ) (flags : ℕ) → payload ≡ no_name ++ r1 → r1 ≡ (flags ∷ []) ++ rest → flags ∷ rest ≡ inside → payload ≡ no_name ++ inside
+end_parts payload r1 rest inside flags e1 e2 e3 = rw (e1, e2, e3) refl
+
+IsEnd : List ℕ → Option ℕ → Type 0
+IsEnd payload anew = (payload ≡ no_name ++ begun_anew anew) × IfSome anew IsIsolation
+
+end_takes : (payload : List ℕ) (anew : Option ℕ) → IsBytes payload → end_in payload ≡ Ok anew → IsEnd payload anew
+unfolding end_in IsEnd IsBegunAnew
+end_takes payload anew fits e =
+    mark_step (IsEnd payload anew) name_mark payload _ anew fits e (λ r1 e1 h1 n1.
+    step (IsEnd payload anew) byte_field r1 _ anew h1 n1 (λ flags rest e2 lt h2 n2.
+    let behind = begun_anew_takes flags rest anew h2 n2 in
+    (end_parts payload r1 rest (begun_anew anew) flags e1 e2 behind.0, behind.1)))
 
 typed : (type wanted : ℕ) (payload inside : List ℕ) → type ≡ wanted → payload ≡ inside → to_le_bytes w16 type ++ payload ≡ to_le_bytes w16 wanted ++ inside
 typed type wanted payload inside e p = rw (e, p) refl
 
+-- the request is this one, and so is the payload of its type
+by_begin : (type : ℕ) (payload : List ℕ) (request : Request) → IsBytes payload → type ≡ 5 → (begun_in payload >>= λ level. Ok (requests.Begin level)) ≡ Ok request → IsBody kinds.Transaction (to_le_bytes w16 type ++ payload) request
+unfolding IsBegun
+by_begin type payload request fits t e =
+    let b = bind_ok (begun_in payload) (λ level. Ok (requests.Begin level)) request e in
+    let level = begun_takes payload b.0 fits b.1 in
+    subst (IsBody kinds.Transaction (to_le_bytes w16 type ++ payload)) (ok_is (requests.Begin b.0) request b.2) (record { spelled = typed type 5 payload (begun b.0) t level.0; fits = level.1; kind_is = refl })
+
+by_commit : (type : ℕ) (payload : List ℕ) (request : Request) → IsBytes payload → type ≡ 7 → (end_in payload >>= λ anew. Ok (requests.Commit anew)) ≡ Ok request → IsBody kinds.Transaction (to_le_bytes w16 type ++ payload) request
+unfolding IsEnd
+by_commit type payload request fits t e =
+    let b = bind_ok (end_in payload) (λ anew. Ok (requests.Commit anew)) request e in
+    let anew = end_takes payload b.0 fits b.1 in
+    subst (IsBody kinds.Transaction (to_le_bytes w16 type ++ payload)) (ok_is (requests.Commit b.0) request b.2) (record { spelled = typed type 7 payload (no_name ++ begun_anew b.0) t anew.0; fits = anew.1; kind_is = refl })
+
+by_rollback : (type : ℕ) (payload : List ℕ) (request : Request) → IsBytes payload → type ≡ 8 → (end_in payload >>= λ anew. Ok (requests.Rollback anew)) ≡ Ok request → IsBody kinds.Transaction (to_le_bytes w16 type ++ payload) request
+unfolding IsEnd
+by_rollback type payload request fits t e =
+    let b = bind_ok (end_in payload) (λ anew. Ok (requests.Rollback anew)) request e in
+    let anew = end_takes payload b.0 fits b.1 in
+    subst (IsBody kinds.Transaction (to_le_bytes w16 type ++ payload)) (ok_is (requests.Rollback b.0) request b.2) (record { spelled = typed type 8 payload (no_name ++ begun_anew b.0) t anew.0; fits = anew.1; kind_is = refl })
+
 by_type : (type : ℕ) (payload : List ℕ) (request : Request) → IsBytes payload
-    → cond (eqb type 5) (begin_in payload) (cond (eqb type 7) (end_in requests.Commit payload) (cond (eqb type 8) (end_in requests.Rollback payload) (Err WrongRequestType))) ≡ Ok request
+    → cond (eqb type 5) (begun_in payload >>= λ level. Ok (requests.Begin level)) (cond (eqb type 7) (end_in payload >>= λ anew. Ok (requests.Commit anew)) (cond (eqb type 8) (end_in payload >>= λ anew. Ok (requests.Rollback anew)) (Err WrongRequestType))) ≡ Ok request
     → IsBody kinds.Transaction (to_le_bytes w16 type ++ payload) request
-unfolding IsPayload
 by_type type payload request fits e =
-    elim (chosen (eqb type 5) (begin_in payload) _ (Ok request) e) [
-      | inl p ↦
-          let b = begin_takes payload request fits p.1 in
-          subst (IsBody kinds.Transaction (to_le_bytes w16 type ++ payload)) b.value (record { spelled = typed type 5 payload (b.level ∷ 0 ∷ []) (eqb-true _ _ p.0) b.spelled; fits = b.fits; kind_is = refl })
-      | inr q ↦ elim (chosen (eqb type 7) (end_in requests.Commit payload) _ (Ok request) q.1) [
-        | inl p ↦
-            let b = end_takes requests.Commit payload request fits p.1 in
-            subst (IsBody kinds.Transaction (to_le_bytes w16 type ++ payload)) b.1 (record { spelled = typed type 7 payload (0 ∷ 0 ∷ []) (eqb-true _ _ p.0) b.0; fits = tt; kind_is = refl })
+    elim (chosen (eqb type 5) (begun_in payload >>= λ level. Ok (requests.Begin level)) _ (Ok request) e) [
+      | inl p ↦ by_begin type payload request fits (eqb-true _ _ p.0) p.1
+      | inr q ↦ elim (chosen (eqb type 7) (end_in payload >>= λ anew. Ok (requests.Commit anew)) _ (Ok request) q.1) [
+        | inl p ↦ by_commit type payload request fits (eqb-true _ _ p.0) p.1
         | inr q ↦
-            let w = want_ok (eqb type 8) WrongRequestType (end_in requests.Rollback payload) request q.1 in
-            let b = end_takes requests.Rollback payload request fits w.1 in
-            subst (IsBody kinds.Transaction (to_le_bytes w16 type ++ payload)) b.1 (record { spelled = typed type 8 payload (0 ∷ 0 ∷ []) (eqb-true _ _ w.0) b.0; fits = tt; kind_is = refl })
+            let w = want_ok (eqb type 8) WrongRequestType (end_in payload >>= λ anew. Ok (requests.Rollback anew)) request q.1 in
+            by_rollback type payload request fits (eqb-true _ _ w.0) w.1
       ]
     ]
 
@@ -180,12 +218,20 @@ body_takes : (kind : RequestKind) (bytes : List ℕ) (request : Request) → IsB
 body_takes kinds.Batch bytes request fits e = batch_takes bytes request fits e
 body_takes kinds.Transaction bytes request fits e = transaction_takes bytes request fits e
 
+abbrev committed : Result (Option ℕ) RequestFault → Result Request RequestFault
+committed read = read >>= λ anew. Ok (requests.Commit anew)
+
+abbrev rolled_back : Result (Option ℕ) RequestFault → Result Request RequestFault
+rolled_back read = read >>= λ anew. Ok (requests.Rollback anew)
+
 body_again : (request : Request) → Fits request → body_in (kind_of_request request) (body_of request) ≡ Ok request
 unfolding transaction_in
 body_again (requests.Batch units) fits = batch_again units fits
-body_again (requests.Begin level) fits = begin_again level fits
-body_again requests.Commit fits = end_again requests.Commit
-body_again requests.Rollback fits = end_again requests.Rollback
+body_again (requests.Begin level) fits = ap (λ (r : Result ℕ RequestFault). r >>= λ read. Ok (requests.Begin read)) (begun_again level fits)
+body_again (requests.Commit None) fits = ap committed (begun_anew_again None fits)
+body_again (requests.Commit (Some level)) fits = ap committed (begun_anew_again (Some level) fits)
+body_again (requests.Rollback None) fits = ap rolled_back (begun_anew_again None fits)
+body_again (requests.Rollback (Some level)) fits = ap rolled_back (begun_anew_again (Some level) fits)
 
 -- ---- whole messages
 

@@ -1,5 +1,5 @@
 -- Laws of whole messages.
-use Rattle.std.proofs.Common.{◌≡◌, ℕ, ◌+◌, ◌≤◌, List, length, Result, Ok, Err, None, refl, sym, ap, ◌∙◌, arith, inl, inr}
+use Rattle.std.proofs.Common.{◌≡◌, ℕ, ◌+◌, ◌≤◌, List, length, Result, Ok, Err, None, Some, refl, sym, ap, ◌∙◌, arith, inl, inr}
 use Rattle.std.proofs.lemmas.Bool.{cases_lt}
 use Rattle.std.proofs.lemmas.List.{length-append, get_or_past}
 use Rattle.tds_request.specs.declared.fault.RequestFault.{RequestFault}
@@ -27,8 +27,10 @@ one_value kind first second one other bytes a b =
 body_length : (request : Request) → Fits request → (2 ≤ length (body_of request)) × (length (body_of request) ≤ 4000)
 body_length (requests.Batch units) h = (omega (arith, text_length units, h.least), omega (arith, text_length units, h.most))
 body_length (requests.Begin level) h = (omega arith, omega arith)
-body_length requests.Commit h = (omega arith, omega arith)
-body_length requests.Rollback h = (omega arith, omega arith)
+body_length (requests.Commit None) h = (omega arith, omega arith)
+body_length (requests.Commit (Some level)) h = (omega arith, omega arith)
+body_length (requests.Rollback None) h = (omega arith, omega arith)
+body_length (requests.Rollback (Some level)) h = (omega arith, omega arith)
 
 pub length_of_message : (kind : RequestKind) (descriptor : ℕ) (request : Request) (bytes : List ℕ) → IsRequest kind descriptor request bytes → (24 ≤ length bytes) × (length bytes ≤ 4022)
 length_of_message kind descriptor request bytes h =

@@ -1,5 +1,5 @@
 -- Each request, and the bytes that spell it: whole messages, without the headers of their packets. All numbers are little-endian.
-use Rattle.std.specs.Prelude.{◌≡◌, ℕ, ◌^◌, ◌<◌, List, [], ◌∷◌, ◌++◌}
+use Rattle.std.specs.Prelude.{◌≡◌, ℕ, ◌^◌, ◌<◌, List, [], ◌∷◌, ◌++◌, Option, None, Some, IfSome}
 use Rattle.std.specs.Int.{w16, w32, w64, to_le_bytes}
 use Rattle.std.specs.List.{flat_map}
 use Rattle.tds_packet.specs.declared.kind.Kind.{Kind}
@@ -14,8 +14,8 @@ use Rattle.tds_request.specs.Values.{IsBatchText, IsIsolation}
 abbrev pub kind_of_request : Request → RequestKind
 kind_of_request (requests.Batch units) = kinds.Batch
 kind_of_request (requests.Begin isolation) = kinds.Transaction
-kind_of_request requests.Commit = kinds.Transaction
-kind_of_request requests.Rollback = kinds.Transaction
+kind_of_request (requests.Commit anew) = kinds.Transaction
+kind_of_request (requests.Rollback anew) = kinds.Transaction
 
 -- The type of its packets (MS-TDS 2.2.3.1.1).
 abbrev pub packet_kind : RequestKind → Kind
@@ -38,16 +38,21 @@ text_bytes units = flat_map (λ unit. to_le_bytes w16 unit) units
 abbrev pub no_name : List ℕ
 no_name = 0 ∷ []
 
--- No flags: no new transaction is begun behind a commit or rollback. MS-TDS 2.2.6.9.
-abbrev pub no_flags : List ℕ
-no_flags = 0 ∷ []
+-- What begins a transaction: its isolation level and an empty name. MS-TDS 2.2.6.9.
+abbrev pub begun : ℕ → List ℕ
+begun isolation = isolation ∷ no_name
+
+-- The flags of a commit or rollback: 0, or 1 (fBeginXact) where the next transaction begins at once, and what begins it follows. MS-TDS 2.2.6.9.
+abbrev pub begun_anew : Option ℕ → List ℕ
+begun_anew None = 0 ∷ []
+begun_anew (Some isolation) = 1 ∷ begun isolation
 
 -- What stands behind ALL_HEADERS: the text of a batch (MS-TDS 2.2.6.7), or the request type of two bytes and its payload (MS-TDS 2.2.6.9).
 abbrev pub body_of : Request → List ℕ
 body_of (requests.Batch units) = text_bytes units
-body_of (requests.Begin isolation) = to_le_bytes w16 5 ++ (isolation ∷ no_name)
-body_of requests.Commit = to_le_bytes w16 7 ++ (no_name ++ no_flags)
-body_of requests.Rollback = to_le_bytes w16 8 ++ (no_name ++ no_flags)
+body_of (requests.Begin isolation) = to_le_bytes w16 5 ++ begun isolation
+body_of (requests.Commit anew) = to_le_bytes w16 7 ++ (no_name ++ begun_anew anew)
+body_of (requests.Rollback anew) = to_le_bytes w16 8 ++ (no_name ++ begun_anew anew)
 
 -- The whole message of a request in the transaction of this descriptor, or in none: then it is 0.
 abbrev pub spelling : ℕ → Request → List ℕ
@@ -57,8 +62,8 @@ spelling descriptor request = all_headers descriptor ++ body_of request
 abbrev pub Fits : Request → Type 0
 Fits (requests.Batch units) = IsBatchText units
 Fits (requests.Begin isolation) = IsIsolation isolation
-Fits requests.Commit = Unit {0}
-Fits requests.Rollback = Unit {0}
+Fits (requests.Commit anew) = IfSome anew IsIsolation
+Fits (requests.Rollback anew) = IfSome anew IsIsolation
 
 -- The bytes are a message of this kind, and spell this descriptor and this request.
 pub record IsRequest (kind : RequestKind) (descriptor : ℕ) (request : Request) (bytes : List ℕ) : Type 0 where

@@ -70,34 +70,41 @@ unfoldable pub batch_in : List ℕ → Result Request RequestFault
 batch_in bytes = if is_text_length (length bytes) then Ok (requests.Batch (units_of bytes)) else Err WrongTextLength
 
 -- Nothing stands behind the last field.
-abbrev pub ended : Request → List ℕ → Result Request RequestFault
-ended request rest = if length rest == 0 then Ok request else Err BytesLeftOver
+abbrev pub ended : {A : Type 0} → A → List ℕ → Result A RequestFault
+ended value rest = if length rest == 0 then Ok value else Err BytesLeftOver
 
 abbrev pub isolation_of : ℕ → Result ℕ RequestFault
 isolation_of number = if nat_le number 5 then Ok number else Err WrongIsolation
 
--- Begin: the isolation level and an empty name. MS-TDS 2.2.6.9.
-unfoldable pub begin_in : List ℕ → Result Request RequestFault
-begin_in payload = do
+-- What begins a transaction: the isolation level and an empty name. MS-TDS 2.2.6.9.
+unfoldable pub begun_in : List ℕ → Result ℕ RequestFault
+begun_in payload = do
   number ← byte_at payload
   level ← isolation_of number.0
   rest ← byte_is_at 0 WrongName number.1
-  ended (requests.Begin level) rest
+  ended level rest
 
--- Commit and rollback: an empty name and no flags. MS-TDS 2.2.6.9.
-unfoldable pub end_in : Request → List ℕ → Result Request RequestFault
-end_in request payload = do
-  flags ← byte_is_at 0 WrongName payload
-  rest ← byte_is_at 0 WrongFlags flags
-  ended request rest
+-- The flags say whether the next transaction begins at once. MS-TDS 2.2.6.9.
+unfoldable pub begun_anew_in : ℕ → List ℕ → Result (Option ℕ) RequestFault
+begun_anew_in flags rest =
+    if flags == 0 then ended None rest
+    else if flags == 1 then (begun_in rest >>= λ level. Ok (Some level))
+    else Err WrongFlags
+
+-- Commit and rollback: an empty name, the flags, and what they say follows. MS-TDS 2.2.6.9.
+unfoldable pub end_in : List ℕ → Result (Option ℕ) RequestFault
+end_in payload = do
+  name ← byte_is_at 0 WrongName payload
+  flags ← byte_at name
+  begun_anew_in flags.0 flags.1
 
 -- A transaction manager request: its type, and the payload of that type. MS-TDS 2.2.6.9.
 unfoldable pub transaction_in : List ℕ → Result Request RequestFault
 transaction_in bytes = do
   type ← number_at w16 bytes
-  if type.0 == 5 then begin_in type.1
-      else if type.0 == 7 then end_in requests.Commit type.1
-      else if type.0 == 8 then end_in requests.Rollback type.1
+  if type.0 == 5 then (begun_in type.1 >>= λ level. Ok (requests.Begin level))
+      else if type.0 == 7 then (end_in type.1 >>= λ anew. Ok (requests.Commit anew))
+      else if type.0 == 8 then (end_in type.1 >>= λ anew. Ok (requests.Rollback anew))
       else Err WrongRequestType
 
 abbrev pub body_in : RequestKind → List ℕ → Result Request RequestFault

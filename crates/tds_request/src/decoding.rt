@@ -5,7 +5,8 @@ ghost use Rattle.tds_request.specs.declared.request.Request.{Request};
 ghost use Rattle.tds_request.specs.Layout.{IsRequest};
 ghost use Rattle.tds_request.specs.Reading.{Answers, Gives, read_request, wrong_request};
 ghost use Rattle.tds_request.specs.Reading.{headers_at, header_fields_at, is_text_length, batch_in};
-ghost use Rattle.tds_request.specs.Reading.{transaction_in, begin_in, end_in, isolation_of};
+ghost use Rattle.tds_request.specs.Reading.{transaction_in, begun_in, begun_anew_in, end_in, ended as ended_at};
+ghost use Rattle.tds_request.specs.Reading.{isolation_of};
 
 use crate::fault::RequestFault;
 use crate::fields::{byte, byte_is, number16, number16_is, number32_is, number64};
@@ -102,38 +103,58 @@ fn transaction(bytes: &[u8]) -> Result<Request, RequestFault>
 {
     let (kind, payload) = number16(bytes)?;
     match kind {
-        5 => begin(payload),
-        7 => end(payload, Request::Commit),
-        8 => end(payload, Request::Rollback),
+        5 => Ok(Request::Begin(begun(payload)?)),
+        7 => Ok(Request::Commit(end(payload)?)),
+        8 => Ok(Request::Rollback(end(payload)?)),
         _ => Err(RequestFault::WrongRequestType),
     }
 }
 
-/// The begin with this payload: an isolation level and an empty name.
-#[tactic(auto, unfolding(crate::specs::Reading::begin_in))]
-fn begin(payload: &[u8]) -> Result<Request, RequestFault>
-    ensures { Gives (λ x. x) result (begin_in payload.now) }
+/// What begins a transaction: an isolation level and an empty name.
+#[tactic(auto, unfolding(crate::specs::Reading::begun_in))]
+fn begun(payload: &[u8]) -> Result<Isolation, RequestFault>
+    ensures { Gives (λ x. x) result (begun_in payload.now) }
 {
     let (number, rest) = byte(payload)?;
     let level = isolation(number)?;
     let rest = byte_is(rest, 0, RequestFault::WrongName)?;
-    if !rest.is_empty() {
-        return Err(RequestFault::BytesLeftOver);
-    }
-    Ok(Request::Begin(level))
+    ended(rest)?;
+    Ok(level)
 }
 
-/// The commit or rollback with this payload: an empty name and no flags.
+/// What the commit or rollback with this payload begins anew: behind an empty name stand the flags.
 #[tactic(auto, unfolding(crate::specs::Reading::end_in))]
-fn end(payload: &[u8], request: Request) -> Result<Request, RequestFault>
-    ensures { Gives (λ x. x) result (end_in request payload.now) }
+fn end(payload: &[u8]) -> Result<Option<Isolation>, RequestFault>
+    ensures { Gives (λ x. x) result (end_in payload.now) }
 {
     let rest = byte_is(payload, 0, RequestFault::WrongName)?;
-    let rest = byte_is(rest, 0, RequestFault::WrongFlags)?;
+    let (flags, rest) = byte(rest)?;
+    begun_anew(flags, rest)
+}
+
+/// What these flags and the bytes behind them begin anew.
+#[tactic(auto, unfolding(crate::specs::Reading::begun_anew_in))]
+fn begun_anew(flags: u8, rest: &[u8]) -> Result<Option<Isolation>, RequestFault>
+    ensures { Gives (λ x. x) result (begun_anew_in flags rest.now) }
+{
+    match flags {
+        0 => {
+            ended(rest)?;
+            Ok(None)
+        }
+        1 => Ok(Some(begun(rest)?)),
+        _ => Err(RequestFault::WrongFlags),
+    }
+}
+
+/// Nothing stands behind the last field.
+fn ended(rest: &[u8]) -> Result<(), RequestFault>
+    ensures { Gives (λ x. x) result (ended_at tt rest.now) }
+{
     if !rest.is_empty() {
         return Err(RequestFault::BytesLeftOver);
     }
-    Ok(request)
+    Ok(())
 }
 
 /// The isolation level of this number.

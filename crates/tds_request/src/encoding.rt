@@ -1,9 +1,11 @@
-ghost use Rattle.std.specs.Prelude.{◌≡◌, ◌++◌, ◌+◌, ◌*◌, ◌≤◌, IsOk, OnOk, OnErr, length};
+ghost use Rattle.std.specs.Prelude.{◌≡◌, ◌∷◌, ◌++◌, ◌+◌, ◌*◌, ◌≤◌, IsOk, OnOk, OnErr, IfSome, length};
 ghost use Rattle.std.specs.Vec.{vec_len, vec_capacity};
 ghost use Rattle.tds_request.specs.Layout.{IsRequest, kind_of_request, spelling};
-ghost use Rattle.tds_request.specs.Layout.{all_headers, text_bytes};
+ghost use Rattle.tds_request.specs.Values.{IsIsolation};
+ghost use Rattle.tds_request.specs.Layout.{all_headers, begun_anew, no_name, text_bytes};
 
 use crate::NoMemory;
+use crate::isolation::Isolation;
 use crate::request::Request;
 
 /// Appends the whole message of this request in the transaction of this descriptor, which is 0
@@ -22,8 +24,27 @@ pub fn encode(request: &Request, descriptor: u64, out: &mut Vec<u8>) -> Result<(
     match request {
         Request::Batch(text) => put_batch(descriptor, text.units(), out),
         Request::Begin(isolation) => put_message(descriptor, &[5, 0, isolation.get(), 0], out),
-        Request::Commit => put_message(descriptor, &[7, 0, 0, 0], out),
-        Request::Rollback => put_message(descriptor, &[8, 0, 0, 0], out),
+        Request::Commit(anew) => put_end(descriptor, 7, *anew, out),
+        Request::Rollback(anew) => put_end(descriptor, 8, *anew, out),
+    }
+}
+
+/// A commit or rollback: its request type, an empty name, the flags and what they say follows
+/// (MS-TDS 2.2.6.9).
+fn put_end(
+    descriptor: u64,
+    request_type: u8,
+    anew: Option<Isolation>,
+    out: &mut Vec<u8>,
+) -> Result<(), NoMemory>
+    ensures appended { OnOk result (out.new.items ≡ out.old.items ++ (all_headers descriptor
+        ++ (request_type ∷ 0 ∷ (no_name ++ begun_anew anew)))) }
+    ensures range { IfSome anew IsIsolation }
+    ensures unchanged { OnErr result (out.new.items ≡ out.old.items) }
+{
+    match anew {
+        None => put_message(descriptor, &[request_type, 0, 0, 0], out),
+        Some(level) => put_message(descriptor, &[request_type, 0, 0, 1, level.get(), 0], out),
     }
 }
 

@@ -23,7 +23,7 @@ pub enum RequestFault {
     WrongIsolation,
     /// The name of a transaction is not empty (MS-TDS 2.2.6.9).
     WrongName,
-    /// The flags of a commit or rollback are not 0 (MS-TDS 2.2.6.9).
+    /// The flags of a commit or rollback are neither 0 nor 1 (MS-TDS 2.2.6.9).
     WrongFlags,
     /// There are bytes behind the last field.
     BytesLeftOver,

@@ -12,10 +12,12 @@ pub enum Request {
     Batch(BatchText),
     /// To begin a transaction at this isolation level (MS-TDS 2.2.6.9).
     Begin(Isolation),
-    /// To commit the transaction (MS-TDS 2.2.6.9).
-    Commit,
-    /// To roll the transaction back (MS-TDS 2.2.6.9).
-    Rollback,
+    /// To commit the transaction and, with an isolation level, to begin the next one at once
+    /// (MS-TDS 2.2.6.9).
+    Commit(Option<Isolation>),
+    /// To roll the transaction back and, with an isolation level, to begin the next one at once
+    /// (MS-TDS 2.2.6.9).
+    Rollback(Option<Isolation>),
 }
 
 /// Which of the two messages a request is, as the type of its packets says it (MS-TDS 2.2.3.1.1).
@@ -35,8 +37,8 @@ impl Request {
         match self {
             Request::Batch(_) => RequestKind::Batch,
             Request::Begin(_) => RequestKind::Transaction,
-            Request::Commit => RequestKind::Transaction,
-            Request::Rollback => RequestKind::Transaction,
+            Request::Commit(_) => RequestKind::Transaction,
+            Request::Rollback(_) => RequestKind::Transaction,
         }
     }
 }

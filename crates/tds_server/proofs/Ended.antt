@@ -26,14 +26,14 @@ text_ended step s (Some qs) = batch_ended step s qs
 run_ended : {S : Type 0} (statements : List ℕ → Option (List S)) (step : SessionState → S → Effect) (s : SessionState) (q : Request) → EndsOnce (steps_of statements step s q)
 run_ended statements step s (request.Batch text) = text_ended step s (statements text)
 run_ended statements step s (request.Begin isolation) = refl
-run_ended statements step s request.Commit = refl
-run_ended statements step s request.Rollback = refl
+run_ended statements step s (request.Commit anew) = refl
+run_ended statements step s (request.Rollback anew) = refl
 
 refused_ended : (s : SessionState) (q : Request) → EndsOnce (wrong_descriptor s q)
 refused_ended s (request.Batch text) = (refl, refl)
 refused_ended s (request.Begin isolation) = refl
-refused_ended s request.Commit = refl
-refused_ended s request.Rollback = refl
+refused_ended s (request.Commit anew) = refl
+refused_ended s (request.Rollback anew) = refl
 
 either : (same : Bool) (xs ys : List Step) → EndsOnce xs → EndsOnce ys → EndsOnce (if same then xs else ys)
 either true xs ys x y = x

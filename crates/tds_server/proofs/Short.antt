@@ -1,29 +1,36 @@
 -- The steps that a server makes itself fit into a packet.
-use Rattle.std.proofs.Common.{rules, ℕ, ◌≤◌, ◌<◌, List, [], ◌∷◌, ◌++◌, length, arith, refl, ap, subst, sym, codes, ◌==◌, Bool, true, false, if◌then◌else◌, ◌≡◌, length-append, Option}
+use Rattle.std.proofs.Common.{rules, ℕ, ◌≤◌, ◌<◌, List, [], ◌∷◌, ◌++◌, length, arith, refl, ap, subst, sym, codes, ◌==◌, Bool, true, false, if◌then◌else◌, ◌≡◌, length-append, Option, Some, None}
 use Rattle.std.specs.List.{flat_map}
 use Rattle.std.proofs.lemmas.Bool.Decides.{nat_tests}
-use Rattle.std.proofs.lemmas.List.Elements.{All-cons, All-nil}
-use Rattle.tds_server.specs.Packets.{AreShort, FitsOnePacket, answer_packet, LeavesRoom, final}
-use Rattle.tds_session.specs.Effects.{error, done, Effect, begins, begin_by, ends, end_by}
+use Rattle.std.proofs.lemmas.Grind.{flat_map-append}
+use Rattle.std.proofs.lemmas.List.Elements.{All-append, All-cons, All-nil}
+use Rattle.tds_server.specs.Packets.{AreShort, FitsOnePacket, answer_packet, final}
+use Rattle.tds_session.specs.declared.transaction.Ending.{Ending}
+use Rattle.tds_session.specs.declared.transaction.Ending.TheVariants as ending
+use Rattle.tds_session.specs.Effects.{error, done, Effect, begins, begin_by, end_by, told_by, renew_by, completes}
 use Rattle.tds_session.specs.Session.{SessionState, IsSession}
 use Rattle.tds_session.specs.Lawful.{FitsPacket}
-use Rattle.tds_token.specs.declared.env_change.EnvChange.{EnvChange}
 use Rattle.tds_token.specs.declared.env_change.EnvChange.TheVariants as change
 use Rattle.tds_token.specs.Layout.{Fits, spelling, is_done_status, IsTokens}
 use Rattle.tds_token.specs.declared.token.Token.{Token}
 use Rattle.tds_token.specs.declared.token.Token.TheVariants as token
 
-pub one : (t : Token) → LeavesRoom t → FitsOnePacket (t ∷ [])
+-- A token that leaves room for a DONE.
+record LeavesRoom (t : Token) : Type 0 where
+  pub fits : Fits t
+  pub short : length (spelling t) ≤ 491
+
+one : (t : Token) → LeavesRoom t → FitsOnePacket (t ∷ [])
 one t s = record { fit = All-cons Fits t [] s.fits (All-nil Fits); short = omega (arith, length-append (spelling t) [], s.short) }
+
+one_short : (t : Token) → LeavesRoom t → AreShort (t ∷ [])
+one_short t s = record { fit = All-cons Fits t [] s.fits (All-nil Fits); short = omega (arith, length-append (spelling t) [], s.short) }
+
+two_short : (t u : Token) → Fits t → Fits u → length (flat_map spelling (t ∷ u ∷ [])) ≤ 491 → AreShort (t ∷ u ∷ [])
+two_short t u f g short = record { fit = All-cons Fits t (u ∷ []) f (All-cons Fits u [] g (All-nil Fits)); short = short }
 
 done_count : (status : ℕ) → length (spelling (done status)) ≡ 13
 done_count status = refl
-
-pub two : (t : Token) (status : ℕ) → LeavesRoom t → is_done_status status ≡ true → FitsOnePacket (t ∷ done status ∷ [])
-two t status s lawful = record {
-  fit = All-cons Fits t (done status ∷ []) s.fits (All-cons Fits (done status) [] lawful (All-nil Fits));
-  short = omega (arith, length-append (spelling t) (spelling (done status) ++ []), length-append (spelling (done status)) [], s.short, done_count status);
-}
 
 is_lawful_final : (failed : Bool) → is_done_status (if failed then 2 else 0) ≡ true
 unfolding is_done_status
@@ -40,17 +47,29 @@ acknowledging = one _ (short_done 32 refl)
 pub finished : (failed : Bool) → FitsOnePacket (final failed ∷ [])
 finished failed = one _ (short_done _ (is_lawful_final failed))
 
+final_count : (failed : Bool) → length (flat_map spelling (final failed ∷ [])) ≡ 13
+final_count failed = refl
+
 pub requested : (ts : List Token) (failed : Bool) → AreShort ts → FitsOnePacket (ts ++ final failed ∷ [])
-requested ts failed (t, is, room) = subst (λ (ts : List Token). FitsOnePacket (ts ++ final failed ∷ [])) (sym is) (two t _ room (is_lawful_final failed))
+requested ts failed room = record {
+  fit = All-append Fits ts (final failed ∷ []) room.fit (finished failed).fit;
+  short = omega (
+    arith,
+    ap length (flat_map-append spelling ts (final failed ∷ [])),
+    length-append (flat_map spelling ts) (flat_map spelling (final failed ∷ [])),
+    final_count failed,
+    room.short,
+  );
+}
 
 pub reset_done : FitsOnePacket (token.Env change.ResetDone ∷ [])
 reset_done = one _ (record { fits = tt; short = search rules })
 
-pub short_descriptor : LeavesRoom (error 50010 (codes "descriptor"))
+short_descriptor : LeavesRoom (error 50010 (codes "descriptor"))
 short_descriptor = record { fits = record { server = search rules; procedure = search rules; whole = search rules }; short = search rules }
 
 pub refused_short : (t : Token) → t ≡ error 50010 (codes "descriptor") → AreShort (t ∷ [])
-refused_short t e = (t, refl, subst LeavesRoom (sym e) short_descriptor)
+refused_short t e = one_short t (subst LeavesRoom (sym e) short_descriptor)
 
 pub descriptor_error : FitsOnePacket (error 50010 (codes "descriptor") ∷ [])
 descriptor_error = one _ short_descriptor
@@ -61,33 +80,57 @@ short_syntax = record { fits = record { server = search rules; procedure = searc
 pub syntax_error : FitsOnePacket (error 50001 (codes "syntax") ∷ [])
 syntax_error = one _ short_syntax
 
--- one token that leaves room
-abbrev pub IsSingle : Effect → Type 0
-IsSingle e = AreShort e.tokens
+-- an effect's tokens leave room
+abbrev pub IsShort : Effect → Type 0
+IsShort e = AreShort e.tokens
 
-begin_is_single : (none used_up : Bool) (s : SessionState) → IsSession s → IsSingle (begin_by none used_up s)
-begin_is_single false used_up s is = (_, refl, record { fits = record { server = search rules; procedure = search rules; whole = search rules }; short = search rules })
-begin_is_single true true s is = (_, refl, record { fits = record { server = search rules; procedure = search rules; whole = search rules }; short = search rules })
-begin_is_single true false s is = (_, refl, record { fits = is.next_some; short = search rules })
+no_transaction : AreShort (error 50003 (codes "no transaction") ∷ [])
+no_transaction = one_short _ (record { fits = record { server = search rules; procedure = search rules; whole = search rules }; short = search rules })
 
-short_alike : (e : Effect) (ts : List Token) → ts ≡ e.tokens → IsSingle e → AreShort ts
+no_descriptor : AreShort (error 50004 (codes "no descriptor") ∷ [])
+no_descriptor = one_short _ (record { fits = record { server = search rules; procedure = search rules; whole = search rules }; short = search rules })
+
+in_transaction : AreShort (error 50002 (codes "in transaction") ∷ [])
+in_transaction = one_short _ (record { fits = record { server = search rules; procedure = search rules; whole = search rules }; short = search rules })
+
+begin_is_short : (none used_up : Bool) (s : SessionState) → IsSession s → IsShort (begin_by none used_up s)
+begin_is_short false used_up s is = in_transaction
+begin_is_short true true s is = no_descriptor
+begin_is_short true false s is = one_short _ (record { fits = is.next_some; short = search rules })
+
+short_alike : (e : Effect) (ts : List Token) → ts ≡ e.tokens → IsShort e → AreShort ts
 short_alike e ts h s = subst AreShort (sym h) s
 
 pub begins_short : (s : SessionState) (ts : List Token) → IsSession s → ts ≡ (begins s).tokens → AreShort ts
-begins_short s ts is h = short_alike (begins s) ts h (begin_is_single _ _ s is)
+begins_short s ts is h = short_alike (begins s) ts h (begin_is_short _ _ s is)
 
 some_descriptor : (d : ℕ) → (d == 0) ≡ false → 0 < d
 some_descriptor d e = grind (arith, nat_tests)
 
-end_is_single : (none : Bool) (to : ℕ → EnvChange) (s : SessionState) → (s.descriptor == 0) ≡ none → (0 < s.descriptor → LeavesRoom (token.Env (to s.descriptor))) → IsSingle (end_by none to s)
-end_is_single true to s e short = (_, refl, record { fits = record { server = search rules; procedure = search rules; whole = search rules }; short = search rules })
-end_is_single false to s e short = (_, refl, short (some_descriptor s.descriptor e))
+-- the ENVCHANGE of an end leaves room, and so does that of a begin behind it
+end_told : (how : Ending) (d : ℕ) → 0 < d → LeavesRoom (token.Env (told_by how d))
+end_told ending.Commit d some = record { fits = some; short = search rules }
+end_told ending.Rollback d some = record { fits = some; short = search rules }
 
-pub commit_short : (s : SessionState) (ts : List Token) → ts ≡ (ends change.Commit s).tokens → AreShort ts
-commit_short s ts h = short_alike (ends change.Commit s) ts h (end_is_single _ change.Commit s refl (λ some. record { fits = some; short = search rules }))
+renewal_told : (how : Ending) (d next : ℕ) → 0 < d → 0 < next → AreShort (token.Env (told_by how d) ∷ token.Env (change.Begin next) ∷ [])
+renewal_told ending.Commit d next some more = two_short (token.Env (change.Commit d)) (token.Env (change.Begin next)) some more (search rules)
+renewal_told ending.Rollback d next some more = two_short (token.Env (change.Rollback d)) (token.Env (change.Begin next)) some more (search rules)
 
-pub rollback_short : (s : SessionState) (ts : List Token) → ts ≡ (ends change.Rollback s).tokens → AreShort ts
-rollback_short s ts h = short_alike (ends change.Rollback s) ts h (end_is_single _ change.Rollback s refl (λ some. record { fits = some; short = search rules }))
+end_is_short : (none : Bool) (how : Ending) (s : SessionState) → (s.descriptor == 0) ≡ none → IsShort (end_by none (told_by how) s)
+end_is_short true how s e = no_transaction
+end_is_short false how s e = one_short _ (end_told how s.descriptor (some_descriptor s.descriptor e))
+
+renewal_is_short : (none used_up : Bool) (how : Ending) (s : SessionState) → IsSession s → (s.descriptor == 0) ≡ none → IsShort (renew_by none used_up how s)
+renewal_is_short true used_up how s is e = no_transaction
+renewal_is_short false true how s is e = no_descriptor
+renewal_is_short false false how s is e = renewal_told how s.descriptor s.next_descriptor (some_descriptor s.descriptor e) is.next_some
+
+completion_is_short : (how : Ending) (anew : Option ℕ) (s : SessionState) → IsSession s → IsShort (completes how anew s)
+completion_is_short how None s is = end_is_short _ how s refl
+completion_is_short how (Some isolation) s is = renewal_is_short _ _ how s is refl
+
+pub completes_short : (how : Ending) (anew : Option ℕ) (s : SessionState) (ts : List Token) → IsSession s → ts ≡ (completes how anew s).tokens → AreShort ts
+completes_short how anew s ts is h = short_alike (completes how anew s) ts h (completion_is_short how anew s is)
 
 joined : {a b x y : List ℕ} → a ≡ x → b ≡ y → a ++ b ≡ x ++ y
 joined e f = cc

@@ -4,9 +4,9 @@ use Rattle.std.specs.declared.alloc.Global.{Global}
 use Rattle.std.specs.Prelude.{ℕ, List, Vec, [], ◌∷◌, drop, ◌==◌, ◌≡◌, if◌then◌else◌, Option, Some, None, is_none, codes}
 use Rattle.tds_packet.specs.declared.status.Reset.{Reset}
 use Rattle.tds_session.specs.Answer.{Step, batch_steps, steps_in, refused_batch, final_step, last_step, reset_step}
-use Rattle.tds_session.specs.Effects.{Effect, begins, ends, fails}
+use Rattle.tds_session.specs.declared.transaction.Ending.TheVariants as ending
+use Rattle.tds_session.specs.Effects.{Effect, begins, completes, fails}
 use Rattle.tds_session.specs.Session.{SessionState, after_reset}
-use Rattle.tds_token.specs.declared.env_change.EnvChange.TheVariants as change
 use Rattle.tds_token.specs.declared.token.Token.{Token}
 use Rattle.tds_server.specs.declared.answer.Answer.{Answer}
 use Rattle.tds_server.specs.declared.answer.Due.{Due}
@@ -22,15 +22,15 @@ abbrev pub statements_in : {S : Type 0} → Task S → List S
 statements_in (task.Batch None) = []
 statements_in (task.Batch (Some statements)) = statements.items
 statements_in task.Begin = []
-statements_in task.Commit = []
-statements_in task.Rollback = []
+statements_in (task.Commit anew) = []
+statements_in (task.Rollback anew) = []
 
 -- a task that is not begun: the request's descriptor differs, or it is run
 abbrev pub refused : {S : Type 0} → SessionState → Task S → List Step
 refused s (task.Batch found) = refused_batch 50010 (codes "descriptor") s
 refused s task.Begin = last_step (fails 50010 (codes "descriptor") s) ∷ []
-refused s task.Commit = last_step (fails 50010 (codes "descriptor") s) ∷ []
-refused s task.Rollback = last_step (fails 50010 (codes "descriptor") s) ∷ []
+refused s (task.Commit anew) = last_step (fails 50010 (codes "descriptor") s) ∷ []
+refused s (task.Rollback anew) = last_step (fails 50010 (codes "descriptor") s) ∷ []
 
 abbrev pub items_of : {S : Type 0} → Option (Vec S Global) → Option (List S)
 items_of None = None
@@ -39,8 +39,8 @@ items_of (Some statements) = Some statements.items
 abbrev pub run : {S : Type 0} → (SessionState → S → Effect) → SessionState → Task S → List Step
 run step s (task.Batch found) = steps_in step s (items_of found)
 run step s task.Begin = last_step (begins s) ∷ []
-run step s task.Commit = last_step (ends change.Commit s) ∷ []
-run step s task.Rollback = last_step (ends change.Rollback s) ∷ []
+run step s (task.Commit anew) = last_step (completes ending.Commit anew s) ∷ []
+run step s (task.Rollback anew) = last_step (completes ending.Rollback anew s) ∷ []
 
 unfoldable pub compared : {S : Type 0} → (SessionState → S → Effect) → SessionState → ℕ → Task S → List Step
 compared step s descriptor t = if descriptor == s.descriptor then run step s t else refused s t

@@ -1,5 +1,5 @@
 -- The packets that a server sends: each holds whole tokens (MS-TDS 2.2.3.1, 2.2.7).
-use Rattle.std.specs.Prelude.{◌≡◌, ℕ, ◌+◌, ◌%◌, ◌≤◌, List, [], ◌∷◌, ◌++◌, length, Bool, true, if◌then◌else◌}
+use Rattle.std.specs.Prelude.{ℕ, ◌+◌, ◌%◌, ◌≤◌, List, [], ◌∷◌, length, Bool, true, if◌then◌else◌}
 use Rattle.std.specs.List.{All, flat_map}
 use Rattle.tds_packet.specs.declared.kind.Kind.TheVariants as kind
 use Rattle.tds_packet.specs.Sent.{end_bit, sent_bytes}
@@ -13,14 +13,10 @@ pub record FitsOnePacket (tokens : List Token) : Type 0 where
   pub fit : All Fits tokens
   pub short : length (flat_map spelling tokens) ≤ 504
 
--- Such a token leaves room for a DONE behind it.
-pub record LeavesRoom (t : Token) : Type 0 where
-  pub fits : Fits t
-  pub short : length (spelling t) ≤ 491
-
--- What stands in front of such a DONE is one token that leaves it room.
-abbrev pub AreShort : List Token → Type 0
-AreShort tokens = (t : Token) × (tokens ≡ t ∷ []) × LeavesRoom t
+-- Such tokens leave room for a DONE behind them.
+pub record AreShort (tokens : List Token) : Type 0 where
+  pub fit : All Fits tokens
+  pub short : length (flat_map spelling tokens) ≤ 491
 
 -- the DONE that ends an answer: status 0, or `0002` after an ERROR (MS-TDS 2.2.7.6)
 abbrev pub final : Bool → Token

@@ -6,7 +6,7 @@ ghost use Rattle.tds_server.specs.declared.answer.Due.TheVariants as due;
 ghost use Rattle.tds_server.specs.Due.{IsNext, compared, refused, statements_in, steps_of, reset_in, first_of};
 ghost use Rattle.tds_server.specs.Packets.{AreShort, FitsOnePacket, final};
 ghost use Rattle.tds_session.specs.Answer.{answer_of, answer_to, batch_steps};
-ghost use Rattle.tds_session.specs.Effects.{Effect, is_error};
+ghost use Rattle.tds_session.specs.Effects.{Effect, completes, is_error};
 ghost use Rattle.tds_session.specs.Session.{SessionState, after_reset};
 ghost use Rattle.tds_token.specs.declared.env_change.EnvChange.TheVariants as change;
 ghost use Rattle.tds_token.specs.declared.token.Token.TheVariants as token;
@@ -14,9 +14,10 @@ ghost use Rattle.tds_token.specs.declared.token.Token.TheVariants as token;
 use crate::NoMemory;
 use std::alloc::Global;
 use tds_packet::Reset;
-use tds_request::Request;
+use tds_request::{Isolation, Request};
 use tds_session::{
-    Engine, Session, begin_transaction, commit_transaction, error_token, roll_back_transaction,
+    Ending, Engine, Session, begin_transaction, commit_transaction, error_token, renew_transaction,
+    roll_back_transaction,
 };
 use tds_token::done_status::ERROR;
 use tds_token::{EnvChange, Token};
@@ -27,8 +28,10 @@ pub(crate) enum Task<S: Drop> {
     /// To run these statements, or nothing where the text is not in the language.
     Batch(Option<Vec<S>>),
     Begin,
-    Commit,
-    Rollback,
+    /// To commit, and at this isolation level to begin anew.
+    Commit(Option<Isolation>),
+    /// To roll back, and at this isolation level to begin anew.
+    Rollback(Option<Isolation>),
 }
 
 /// What the next step of an answer does.
@@ -81,8 +84,8 @@ fn task_of<E: Engine>(
             Ok(Task::Batch(statements))
         }
         Request::Begin(_) => Ok(Task::Begin),
-        Request::Commit => Ok(Task::Commit),
-        Request::Rollback => Ok(Task::Rollback),
+        Request::Commit(anew) => Ok(Task::Commit(*anew)),
+        Request::Rollback(anew) => Ok(Task::Rollback(*anew)),
     }
 }
 
@@ -131,8 +134,8 @@ impl<S: Drop> Task<S> {
             Task::Batch(Some(statements)) => statements.get(place),
             Task::Batch(None) => None,
             Task::Begin => None,
-            Task::Commit => None,
-            Task::Rollback => None,
+            Task::Commit(_) => None,
+            Task::Rollback(_) => None,
         }
     }
 }
@@ -173,7 +176,7 @@ fn take_reset(alloc: Global, reset: Reset, session: &mut Session) -> Result<Done
 }
 
 /// Compares the descriptors, and does the first step of the task, or refuses it.
-#[tactic(auto, unfolding(crate::specs::Due::compared), using(crate::proofs::Short::begins_short, crate::proofs::Short::commit_short, crate::proofs::Short::rollback_short, crate::proofs::Short::syntax_error))]
+#[tactic(auto, unfolding(crate::specs::Due::compared), using(crate::proofs::Short::begins_short, crate::proofs::Short::completes_short, crate::proofs::Short::syntax_error))]
 fn begin_task<E: Engine>(
     alloc: Global,
     engine: &E,
@@ -196,17 +199,29 @@ fn begin_task<E: Engine>(
             begin_transaction(alloc, session, &mut tokens)?;
             end_request(tokens)
         }
-        Task::Commit => {
-            let mut tokens = Vec::new(alloc);
-            commit_transaction(alloc, session, &mut tokens)?;
-            end_request(tokens)
-        }
-        Task::Rollback => {
-            let mut tokens = Vec::new(alloc);
-            roll_back_transaction(alloc, session, &mut tokens)?;
-            end_request(tokens)
-        }
+        Task::Commit(anew) => end_request(complete(alloc, session, Ending::Commit, *anew)?),
+        Task::Rollback(anew) => end_request(complete(alloc, session, Ending::Rollback, *anew)?),
     }
+}
+
+/// Ends the transaction, and at an isolation level begins the next one in the same change.
+fn complete(
+    alloc: Global,
+    session: &mut Session,
+    ending: Ending,
+    anew: Option<Isolation>,
+) -> Result<Vec<Token>, NoMemory>
+    ensures tokens { IfOk result
+        (λ tokens. tokens.items ≡ (completes ending anew session.old).tokens) }
+    ensures session { OnOk result (session.new ≡ (completes ending anew session.old).after) }
+{
+    let mut tokens = Vec::new(alloc);
+    match (ending, anew) {
+        (_, Some(_)) => renew_transaction(alloc, session, ending, &mut tokens)?,
+        (Ending::Commit, None) => commit_transaction(alloc, session, &mut tokens)?,
+        (Ending::Rollback, None) => roll_back_transaction(alloc, session, &mut tokens)?,
+    }
+    Ok(tokens)
 }
 
 /// Refuses a task, since the request's descriptor is not the session's.
@@ -221,8 +236,8 @@ fn refuse<S: Drop>(alloc: Global, task: &Task<S>) -> Result<Done, NoMemory>
     match task {
         Task::Batch(_) => end_batch(alloc, error),
         Task::Begin => end_request(vec![in alloc; error]?),
-        Task::Commit => end_request(vec![in alloc; error]?),
-        Task::Rollback => end_request(vec![in alloc; error]?),
+        Task::Commit(_) => end_request(vec![in alloc; error]?),
+        Task::Rollback(_) => end_request(vec![in alloc; error]?),
     }
 }
 

@@ -40,7 +40,7 @@ differing : script_answers used 2 None (request.Batch (codes "get x")) ≡
     ∷ []
 differing = refl
 
-differing_commit : script_answers used 0 None request.Commit ≡
+differing_commit : script_answers used 0 None (request.Commit None) ≡
     record { tokens = error 50010 (codes "descriptor") ∷ done 2 ∷ []; last = true; reset = None; after = used } ∷ []
 differing_commit = refl
 

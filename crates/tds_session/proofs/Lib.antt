@@ -1,4 +1,5 @@
 mod Examples
+mod Renewals
 mod Rows
 mod Numbers
 mod Reading

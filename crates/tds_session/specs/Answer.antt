@@ -1,7 +1,8 @@
 -- Answers: the steps by which a server answers a request, one packet each.
 use Rattle.std.specs.Prelude.{◌≡◌, ℕ, List, [], ◌∷◌, ◌++◌, Bool, true, false, if◌then◌else◌, ◌==◌, Option, Some, None, codes}
 use Rattle.tds_session.specs.Session.{SessionState, after_reset}
-use Rattle.tds_session.specs.Effects.{Effect, has_error, fails, done, begins, ends}
+use Rattle.tds_session.specs.Effects.{Effect, has_error, fails, done, begins, completes}
+use Rattle.tds_session.specs.declared.transaction.Ending.TheVariants as ending
 use Rattle.tds_session.specs.Language as language
 use Rattle.tds_session.specs.Script as script
 use Rattle.tds_packet.specs.declared.status.Reset.{Reset}
@@ -54,8 +55,8 @@ steps_in step s (Some qs) = batch_steps step s qs
 abbrev pub steps_of : {S : Type 0} → (List ℕ → Option (List S)) → (SessionState → S → Effect) → SessionState → Request → List Step
 steps_of statements step s (request.Batch text) = steps_in step s (statements text)
 steps_of statements step s (request.Begin isolation) = last_step (begins s) ∷ []
-steps_of statements step s request.Commit = last_step (ends change.Commit s) ∷ []
-steps_of statements step s request.Rollback = last_step (ends change.Rollback s) ∷ []
+steps_of statements step s (request.Commit anew) = last_step (completes ending.Commit anew s) ∷ []
+steps_of statements step s (request.Rollback anew) = last_step (completes ending.Rollback anew s) ∷ []
 
 -- the steps of a request whose descriptor differs from the session's
 abbrev pub wrong_descriptor : SessionState → Request → List Step

@@ -1,7 +1,9 @@
 -- What a statement or a transaction request does: the tokens that it gives, and the session after.
-use Rattle.std.specs.Prelude.{ℕ, pos, List, [], ◌∷◌, Bool, true, false, ◌==◌, codes}
+use Rattle.std.specs.Prelude.{ℕ, pos, List, [], ◌∷◌, Bool, true, false, Option, Some, None, ◌==◌, codes}
 use Rattle.std.specs.List.{list_any}
-use Rattle.tds_session.specs.Session.{SessionState, begun, ended, last_descriptor}
+use Rattle.tds_session.specs.Session.{SessionState, begun, ended, renewed, last_descriptor}
+use Rattle.tds_session.specs.declared.transaction.Ending.{Ending}
+use Rattle.tds_session.specs.declared.transaction.Ending.TheVariants as ending
 use Rattle.tds_token.specs.declared.env_change.EnvChange.{EnvChange}
 use Rattle.tds_token.specs.declared.env_change.EnvChange.TheVariants as change
 use Rattle.tds_token.specs.declared.message.Message.{Message}
@@ -60,3 +62,28 @@ end_by false change s = record { tokens = token.Env (change s.descriptor) ∷ []
 -- what commit or rollback does
 abbrev pub ends : (ℕ → EnvChange) → SessionState → Effect
 ends change s = end_by (s.descriptor == 0) change s
+
+-- the ENVCHANGE that tells of an end: 9 or 10 (MS-TDS 2.2.7.9)
+abbrev pub told_by : Ending → ℕ → EnvChange
+told_by ending.Commit = change.Commit
+told_by ending.Rollback = change.Rollback
+
+-- The end of a transaction and the beginning of the next one, in one change: there is none to end,
+-- no descriptor is left and it stays, or the end is told and then the beginning.
+abbrev pub renew_by : Bool → Bool → Ending → SessionState → Effect
+renew_by true used_up how s = fails 50003 (codes "no transaction") s
+renew_by false true how s = fails 50004 (codes "no descriptor") s
+renew_by false false how s = record {
+  tokens = token.Env (told_by how s.descriptor) ∷ token.Env (change.Begin s.next_descriptor) ∷ [];
+  after = renewed s;
+}
+
+-- what commit or rollback does that begins anew
+abbrev pub renews : Ending → SessionState → Effect
+renews how s = renew_by (s.descriptor == 0) (s.next_descriptor == last_descriptor) how s
+
+-- what a request to commit or roll back does: where it asks for the isolation level of a new
+-- transaction, that one begins (MS-TDS 2.2.6.9)
+abbrev pub completes : Ending → Option ℕ → SessionState → Effect
+completes how None s = ends (told_by how) s
+completes how (Some isolation) s = renews how s

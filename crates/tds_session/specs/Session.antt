@@ -60,6 +60,15 @@ begun s = record s { descriptor = s.next_descriptor; next_descriptor = s.next_de
 abbrev pub ended : SessionState → SessionState
 ended s = record s { descriptor = 0 }
 
+-- whether a transaction can end and the next one begin at once: there is one, and a descriptor is
+-- left
+abbrev pub can_renew : SessionState → Bool
+can_renew s = is_in_transaction s && not (s.next_descriptor == last_descriptor)
+
+-- the session behind its transaction, in a new one of the next descriptor
+abbrev pub renewed : SessionState → SessionState
+renewed s = begun (ended s)
+
 -- the session after a reset (MS-TDS 2.2.3.1.2): its settings are gone, and its transaction too
 -- unless the reset keeps it; the next descriptor survives both, so that none comes twice
 abbrev pub after_reset : Reset → SessionState → SessionState

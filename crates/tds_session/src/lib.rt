@@ -18,7 +18,9 @@ pub use message::error_token;
 pub use script::ScriptEngine;
 pub use session::Session;
 pub use statement::{Key, Statement, Within, Word};
-pub use transaction::{begin_transaction, commit_transaction, roll_back_transaction};
+pub use transaction::{
+    Ending, begin_transaction, commit_transaction, renew_transaction, roll_back_transaction,
+};
 
 /// The answer of a growth that was refused.
 pub type NoMemory = std::alloc::AllocError;

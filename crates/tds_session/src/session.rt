@@ -1,6 +1,6 @@
 //! What a connection's server keeps for its user.
 ghost use Rattle.std.specs.Prelude.{◌≡◌, ◌≤◌, Some, None, if◌then◌else◌};
-ghost use Rattle.tds_session.specs.Session.{new_session, value_of, with_value, can_begin, begun, ended, is_in_transaction, after_reset, IsSession};
+ghost use Rattle.tds_session.specs.Session.{new_session, value_of, with_value, can_begin, begun, ended, is_in_transaction, can_renew, renewed, after_reset, IsSession};
 
 use std::marker::Model;
 use tds_packet::Reset;
@@ -113,6 +113,24 @@ impl Session {
         let descriptor = self.descriptor;
         self.descriptor = 0;
         Some(descriptor)
+    }
+
+    /// Ends the transaction and begins the next one, in one change, and answers the descriptors
+    /// ended and begun. Outside a transaction, and where the descriptors are used up, it answers
+    /// None and changes nothing.
+    pub fn renew(&mut self) -> Option<(u64, u64)>
+        ensures answer { result ≡ (if can_renew self.old
+            then Some (self.old.descriptor, self.old.next_descriptor) else None) }
+        ensures after { self.new ≡ (if can_renew self.old then renewed self.old else self.old) }
+    {
+        if self.descriptor == 0 || self.next_descriptor == u64::MAX {
+            return None;
+        }
+        let ended = self.descriptor;
+        let begun = self.next_descriptor;
+        self.descriptor = begun;
+        self.next_descriptor = begun + 1;
+        Some((ended, begun))
     }
 
     /// Resets the session (MS-TDS 2.2.3.1.2): its settings are gone, and after a full reset its

@@ -1,6 +1,6 @@
 //! How transactions begin and end, and the token that tells it.
 ghost use Rattle.std.specs.Prelude.{◌≡◌, ◌++◌, [], ◌∷◌, OnErr, IfOk, OnOk};
-ghost use Rattle.tds_session.specs.Effects.{begins, ends};
+ghost use Rattle.tds_session.specs.Effects.{begins, ends, renews, told_by};
 ghost use Rattle.tds_token.specs.declared.env_change.EnvChange.TheVariants as change;
 
 use crate::NoMemory;
@@ -8,6 +8,25 @@ use crate::message::error_token;
 use crate::session::Session;
 use std::alloc::Global;
 use tds_token::{EnvChange, Token};
+
+/// How a transaction ends.
+#[derive(Clone, Copy, Debug, PartialEq, Eq)]
+pub enum Ending {
+    Commit,
+    Rollback,
+}
+
+impl Ending {
+    /// The ENVCHANGE that tells of it (MS-TDS 2.2.7.9).
+    fn change(self, descriptor: u64) -> EnvChange
+        ensures { result ≡ told_by self descriptor }
+    {
+        match self {
+            Ending::Commit => EnvChange::Commit(descriptor),
+            Ending::Rollback => EnvChange::Rollback(descriptor),
+        }
+    }
+}
 
 /// Begins a transaction and appends its ENVCHANGE (MS-TDS 2.2.7.9). Inside a transaction it appends
 /// ERROR 50002, and where the descriptors are used up ERROR 50004; neither changes the session. At
@@ -68,6 +87,47 @@ pub fn roll_back_transaction(
     tokens.push(token)?;
     *session = after;
     Ok(())
+}
+
+/// Ends the transaction and begins the next one, in one change, and appends the ENVCHANGEs of both
+/// (MS-TDS 2.2.6.9, 2.2.7.9). Outside a transaction it appends ERROR 50003, and where the
+/// descriptors are used up ERROR 50004; neither changes the session. At want of memory nothing
+/// changes.
+pub fn renew_transaction(
+    alloc: Global,
+    session: &mut Session,
+    ending: Ending,
+    tokens: &mut Vec<Token>,
+) -> Result<(), NoMemory>
+    ensures tokens { OnOk result (tokens.new.items
+        ≡ tokens.old.items ++ (renews ending session.old).tokens) }
+    ensures session { OnOk result (session.new ≡ (renews ending session.old).after) }
+    ensures refused { OnErr result (session.new ≡ session.old) }
+    ensures nothing { OnErr result (tokens.new.items ≡ tokens.old.items) }
+{
+    let mut after = *session;
+    let mut told = renew(alloc, &mut after, ending)?;
+    tokens.append(&mut told)?;
+    *session = after;
+    Ok(())
+}
+
+/// The tokens of a renewal: both ENVCHANGEs, the end's first, or an ERROR.
+fn renew(alloc: Global, session: &mut Session, ending: Ending) -> Result<Vec<Token>, NoMemory>
+    ensures tokens { IfOk result (λ tokens. tokens.items ≡ (renews ending session.old).tokens) }
+    ensures session { OnOk result (session.new ≡ (renews ending session.old).after) }
+{
+    if session.descriptor() == 0 {
+        return Ok(vec![in alloc; error_token(alloc, 50003, b"no transaction")?]?);
+    }
+    match session.renew() {
+        Some((ended, begun)) => {
+            let end = Token::Env(ending.change(ended));
+            let begin = Token::Env(EnvChange::Begin(begun));
+            Ok(vec![in alloc; end, begin]?)
+        }
+        None => Ok(vec![in alloc; error_token(alloc, 50004, b"no descriptor")?]?),
+    }
 }
 
 /// The one token of a begin.

@@ -261,15 +261,14 @@ fn transaction(body: &[u8]) -> Result<(), u8> {
     let mut fields = Fields { rest: body };
     let kind = fields.count().ok_or(1)?;
     match kind {
-        5 => {
-            if fields.byte().ok_or(1)? > 5 {
-                return Err(7);
-            }
-            zero(&mut fields, 8)?;
-        }
+        5 => begun(&mut fields)?,
         7 | 8 => {
             zero(&mut fields, 8)?;
-            zero(&mut fields, 9)?;
+            match fields.byte().ok_or(1)? {
+                0 => {}
+                1 => begun(&mut fields)?,
+                _ => return Err(9),
+            }
         }
         _ => return Err(6),
     }
@@ -277,6 +276,14 @@ fn transaction(body: &[u8]) -> Result<(), u8> {
         true => Ok(()),
         false => Err(10),
     }
+}
+
+/// What begins a transaction: an isolation level and an empty name.
+fn begun(fields: &mut Fields<'_>) -> Result<(), u8> {
+    if fields.byte().ok_or(1)? > 5 {
+        return Err(7);
+    }
+    zero(fields, 8)
 }
 
 /// A byte that is 0, or else this fault.

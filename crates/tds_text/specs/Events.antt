@@ -5,9 +5,10 @@ use Rattle.serde_json.specs.Find.{as_array, as_str}
 use Rattle.tds_request.specs.declared.request.Request.TheVariants as request
 use Rattle.tds_world.specs.declared.event.Event.{Event}
 use Rattle.tds_world.specs.declared.event.Event.TheVariants as event
+use Rattle.tds_text.specs.declared.schedule.version.Version.{Version}
 use Rattle.tds_text.specs.declared.schedule.word.Word.{Word}
 use Rattle.tds_text.specs.declared.schedule.word.Word.TheVariants as word
-use Rattle.tds_text.specs.Fields.{alone, one_field, two_fields, number_of, isolation_of, batch_of}
+use Rattle.tds_text.specs.Fields.{alone, one_field, two_fields, number_of, isolation_of, batch_of, ended_lease}
 
 -- The words that an event's array begins with.
 abbrev pub words : List (List ℕ × Word)
@@ -27,31 +28,31 @@ word_among (w ∷ ws) text = if bytes_eq text w.0 then Some w.1 else word_among 
 abbrev pub word_of : List ℕ → Option Word
 word_of text = word_among words text
 
--- The event of a word and of what stands behind it: one line for each array of the format.
-abbrev pub event_with : Word → Items → Option Event
-event_with word.Lease fields = alone event.Lease fields
-event_with word.Resume fields = option_map (λ ticket. event.Resume ticket) (one_field number_of fields)
-event_with word.GiveBack fields = option_map (λ lease. event.GiveBack lease) (one_field number_of fields)
-event_with word.Keep fields = option_map (λ lease. event.Keep lease) (one_field number_of fields)
-event_with word.Abandon fields = option_map (λ ticket. event.Abandon ticket) (one_field number_of fields)
-event_with word.Batch fields = option_map (λ p. event.Ask p.0 (request.Batch p.1)) (two_fields number_of batch_of fields)
-event_with word.Begin fields = option_map (λ p. event.Ask p.0 (request.Begin p.1)) (two_fields number_of isolation_of fields)
-event_with word.Commit fields = option_map (λ lease. event.Ask lease request.Commit) (one_field number_of fields)
-event_with word.Rollback fields = option_map (λ lease. event.Ask lease request.Rollback) (one_field number_of fields)
-event_with word.Send fields = option_map (λ lease. event.Send lease) (one_field number_of fields)
-event_with word.Cancel fields = option_map (λ lease. event.Cancel lease) (one_field number_of fields)
-event_with word.Work fields = option_map (λ conn. event.Work conn) (one_field number_of fields)
-event_with word.ToServer fields = option_map (λ p. event.ToServer p.0 p.1) (two_fields number_of number_of fields)
-event_with word.ToClient fields = option_map (λ p. event.ToClient p.0 p.1) (two_fields number_of number_of fields)
-event_with word.Cut fields = option_map (λ conn. event.Cut conn) (one_field number_of fields)
-event_with word.RestartServer fields = alone event.RestartServer fields
-event_with word.RestartClient fields = alone event.RestartClient fields
+-- The event of a word and of what stands behind it: one line for each array of the format. The version says what may stand behind `commit` and `rollback`.
+abbrev pub event_with : Version → Word → Items → Option Event
+event_with version word.Lease fields = alone event.Lease fields
+event_with version word.Resume fields = option_map (λ ticket. event.Resume ticket) (one_field number_of fields)
+event_with version word.GiveBack fields = option_map (λ lease. event.GiveBack lease) (one_field number_of fields)
+event_with version word.Keep fields = option_map (λ lease. event.Keep lease) (one_field number_of fields)
+event_with version word.Abandon fields = option_map (λ ticket. event.Abandon ticket) (one_field number_of fields)
+event_with version word.Batch fields = option_map (λ p. event.Ask p.0 (request.Batch p.1)) (two_fields number_of batch_of fields)
+event_with version word.Begin fields = option_map (λ p. event.Ask p.0 (request.Begin p.1)) (two_fields number_of isolation_of fields)
+event_with version word.Commit fields = option_map (λ p. event.Ask p.0 (request.Commit p.1)) (ended_lease version fields)
+event_with version word.Rollback fields = option_map (λ p. event.Ask p.0 (request.Rollback p.1)) (ended_lease version fields)
+event_with version word.Send fields = option_map (λ lease. event.Send lease) (one_field number_of fields)
+event_with version word.Cancel fields = option_map (λ lease. event.Cancel lease) (one_field number_of fields)
+event_with version word.Work fields = option_map (λ conn. event.Work conn) (one_field number_of fields)
+event_with version word.ToServer fields = option_map (λ p. event.ToServer p.0 p.1) (two_fields number_of number_of fields)
+event_with version word.ToClient fields = option_map (λ p. event.ToClient p.0 p.1) (two_fields number_of number_of fields)
+event_with version word.Cut fields = option_map (λ conn. event.Cut conn) (one_field number_of fields)
+event_with version word.RestartServer fields = alone event.RestartServer fields
+event_with version word.RestartClient fields = alone event.RestartClient fields
 
 -- The event of an array's values.
-abbrev pub event_in : Items → Option Event
-event_in no_items = None
-event_in (item first fields) = option_and_then (λ w. event_with w fields) (option_and_then word_of (as_str first))
+abbrev pub event_in : Version → Items → Option Event
+event_in version no_items = None
+event_in version (item first fields) = option_and_then (λ w. event_with version w fields) (option_and_then word_of (as_str first))
 
 -- The event that a value spells.
-abbrev pub event_of : Data → Option Event
-event_of value = option_and_then event_in (as_array value)
+abbrev pub event_of : Version → Data → Option Event
+event_of version value = option_and_then (event_in version) (as_array value)

@@ -3,7 +3,10 @@ use Rattle.std.specs.Prelude.{ℕ, ◌^◌, ◌&&◌, nat_le, nat_lt, List, leng
 use Rattle.std.specs.Char.Escape.{encode_utf16}
 use Rattle.std.specs.Str.{chars}
 use Rattle.serde_json.specs.Data.{Data, Items, no_items, item}
+use Rattle.std.specs.Option.{option_or}
 use Rattle.serde_json.specs.Find.{as_number, as_str, as_u64}
+use Rattle.tds_text.specs.declared.schedule.version.Version.{Version}
+use Rattle.tds_text.specs.Versions.{may_begin_anew}
 
 -- Two values, if both are there.
 abbrev pub both : {A B : Type 0} → Option A → Option B → Option (A × B)
@@ -69,3 +72,15 @@ two_read first second (Some p) = both (first p.0) (second p.1)
 
 abbrev pub two_fields : {A B : Type 0} → (Data → Option A) → (Data → Option B) → Items → Option (A × B)
 two_fields first second fields = two_read first second (pair_of fields)
+
+-- A lease whose transaction ends, and nothing that begins.
+abbrev pub lease_alone : Items → Option (ℕ × Option ℕ)
+lease_alone fields = option_map (λ lease. (lease, None)) (one_field number_of fields)
+
+-- A lease whose transaction ends, and the isolation level of the one that begins at once.
+abbrev pub lease_and_next : Items → Option (ℕ × Option ℕ)
+lease_and_next fields = option_map (λ p. (p.0, Some p.1)) (two_fields number_of isolation_of fields)
+
+-- What stands behind `commit` and `rollback`: either, where the version has both.
+abbrev pub ended_lease : Version → Items → Option (ℕ × Option ℕ)
+ended_lease version fields = option_or (lease_alone fields) (if may_begin_anew version then lease_and_next fields else None)

@@ -5,6 +5,7 @@ pub mod Sessions
 pub mod Lines
 pub mod Written
 pub mod Faults
+pub mod Versions
 pub mod Fields
 pub mod Events
 pub mod Schedule

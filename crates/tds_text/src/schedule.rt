@@ -2,12 +2,14 @@
 ghost use Rattle.std.specs.Prelude.{◌≡◌, Some, None, List, ℕ, true, IfOk, IsErrOf, option_map};
 ghost use Rattle.serde_json.specs.View.{view, items_view};
 ghost use Rattle.tds_text.specs.Files.{Spells, IsWrongAt, IsNoJson};
-ghost use Rattle.tds_text.specs.Schedule.{IsSchedule, has_four_keys, is_version_one, setup_of, values_of, outer_of, events_of, wrong_event, wrong_place};
+ghost use Rattle.tds_text.specs.Schedule.{IsSchedule, has_keys, version_of, setup_of, values_of};
+ghost use Rattle.tds_text.specs.Schedule.{outer_of, events_of, wrong_event, wrong_place};
 
 mod event;
 mod fault;
 mod fields;
 mod laws;
+mod version;
 mod word;
 
 use event::read_event;
@@ -16,11 +18,13 @@ pub use laws::right_or_wrong_somewhere;
 use serde_json::Value;
 use std::alloc::Global;
 use tds_world::{Event, Setup};
+use version::Version;
 
-/// Reads a schedule file of version 1: a JSON object with the keys `version`, `packet_size`, `max`
-/// and `events`, each event an array. Where the bytes are JSON and memory is there, they are a
-/// schedule, or the fault tells the first wrong place: 0 outside the events, which are looked at
-/// after it, in order, from 1.
+/// Reads a schedule file of version 1 or 2: a JSON object with the keys `version`, `packet_size`,
+/// `max` and `events`, each event an array. Version 2 has the arrays of version 1, and those of a
+/// commit and a rollback that begin the next transaction. Where the bytes are JSON and memory is
+/// there, they are a schedule, or the fault tells the first wrong place: 0 outside the events, which
+/// are looked at after it, in order, from 1.
 pub fn read_schedule(alloc: Global, bytes: &[u8]) -> Result<(Setup, Vec<Event>), ScheduleFault>
     ensures ok { IfOk result (λ found. Spells bytes.now found.0 found.1.items) }
     ensures wrong { (place : ℕ) → IsErrOf result (ScheduleFault.Wrong place)
@@ -43,33 +47,37 @@ fn read_value(alloc: Global, value: &Value) -> Result<(Setup, Vec<Event>), Sched
 {
     match read_outer(value) {
         None => Err(ScheduleFault::Wrong { place: 0 }),
-        Some((setup, values)) => read_events(alloc, values).map(|events| (setup, events)),
+        Some((version, (setup, values))) => {
+            read_events(alloc, version, values).map(|events| (setup, events))
+        }
     }
 }
 
-fn read_outer(value: &Value) -> Option<(Setup, &[Value])>
-    ensures { option_map (λ found. (found.0, items_view found.1.now)) result
+fn read_outer(value: &Value) -> Option<(Version, (Setup, &[Value]))>
+    ensures { option_map (λ found. (found.0, (found.1.0, items_view found.1.1.now))) result
         ≡ outer_of (view value.now) }
 {
-    if !is_version_1(value) {
+    let version = read_version(value)?;
+    Some((version, (read_setup(value)?, read_values(value)?)))
+}
+
+fn read_version(value: &Value) -> Option<Version>
+    ensures { result ≡ version_of (view value.now) }
+{
+    let number = value.get("version").and_then(Value::as_u64)?;
+    let version = Version::new(number)?;
+    if !has_so_many(version.keys(), value) {
         return None;
     }
-    Some((read_setup(value)?, read_values(value)?))
+    Some(version)
 }
 
-fn is_version_1(value: &Value) -> bool
-    ensures { result ≡ is_version_one (view value.now) }
-{
-    let version = value.get("version").and_then(Value::as_u64);
-    has_four(value) && version == Some(1)
-}
-
-fn has_four(value: &Value) -> bool
-    ensures { result ≡ has_four_keys (view value.now) }
+fn has_so_many(count: usize, value: &Value) -> bool
+    ensures { result ≡ has_keys count (view value.now) }
 {
     match value.as_object() {
         None => false,
-        Some(members) => members.len() == 4,
+        Some(members) => members.len() == count,
     }
 }
 
@@ -90,15 +98,20 @@ fn read_values(value: &Value) -> Option<&[Value]>
     Some(value.get("events")?.as_array()?.as_slice())
 }
 
-fn read_events(alloc: Global, values: &[Value]) -> Result<Vec<Event>, ScheduleFault>
-    ensures ok { IfOk result (λ events. events_of (items_view values.now) ≡ Some events.items) }
+fn read_events(
+    alloc: Global,
+    version: Version,
+    values: &[Value],
+) -> Result<Vec<Event>, ScheduleFault>
+    ensures ok { IfOk result (λ events. events_of version (items_view values.now)
+        ≡ Some events.items) }
     ensures wrong { (place : ℕ) → IsErrOf result (ScheduleFault.Wrong place)
-        → wrong_event 1 (items_view values.now) ≡ Some place }
+        → wrong_event version 1 (items_view values.now) ≡ Some place }
     ensures json { ¬ IsErrOf result ScheduleFault.Json }
 {
     let mut events = Vec::new(alloc);
     for (index, value) in values.iter().enumerate() {
-        match read_event(alloc, value)? {
+        match read_event(alloc, version, value)? {
             Some(event) => events.push(event)?,
             None => return Err(ScheduleFault::Wrong { place: index + 1 }),
         }

@@ -1,5 +1,5 @@
 -- What lent columns show.
-use Rattle.std.specs.Prelude.{◌≡◌, ◌≤◌, List, length}
+use Rattle.std.specs.Prelude.{◌≡◌, ◌≤◌, List, [], length, Option, Some, None}
 use Rattle.tds_token.specs.declared.columns.Column.{Column}
 use Rattle.tds_token.specs.declared.columns.ColumnsRef.TheInside.{Inside}
 use Rattle.tds_token.specs.Reading.{columns_of}
@@ -13,3 +13,8 @@ pub record AreLentColumns (a : Inside) : Type 0 where
   pub whole : length (columns_of a.count a.bytes.now) ≡ a.count
   pub least : 1 ≤ a.count
   pub most : a.count ≤ 16
+
+-- The columns behind the first one, where there are any.
+abbrev pub others_of : Option (List Column) → List Column
+others_of None = []
+others_of (Some columns) = columns

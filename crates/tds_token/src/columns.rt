@@ -1,6 +1,7 @@
-ghost use Rattle.std.specs.Prelude.{◌≡◌, ◌≤◌, None, IfOk, length};
+ghost use Rattle.std.specs.Prelude.{◌≡◌, ◌≤◌, ◌∷◌, None, Some, IfOk, SomeIff, length};
 ghost use Rattle.tds_token.specs.Texts.{AreColumns};
 ghost use Rattle.tds_token.specs.Layout.{column_of, columns_after, token_of};
+ghost use Rattle.tds_token.specs.Lent.{others_of};
 ghost use Rattle.tds_token.specs.Reading.{columns_of};
 
 use crate::reading::column;
@@ -20,15 +21,15 @@ pub struct Column {
 
 /// A column whose name lies in a packet's data.
 #[derive(Debug, Drop)]
-pub(crate) struct ColumnRef<'a> {
-    pub(crate) user_type: u32,
-    pub(crate) flags: u16,
-    pub(crate) name: TextRef<'a>,
+pub struct ColumnRef<'a> {
+    pub user_type: u32,
+    pub flags: u16,
+    pub name: TextRef<'a>,
 }
 
 impl<'a> ColumnRef<'a> {
     /// The same column, in memory of its own.
-    fn own(&self, alloc: Global) -> Result<Column, AllocError>
+    pub fn own(&self, alloc: Global) -> Result<Column, AllocError>
         ensures { IfOk result (λ column. column ≡ column_of self.now) }
     {
         Ok(Column {
@@ -117,6 +118,20 @@ impl<'a> ColumnsRef<'a> {
         self.count
     }
 
+    /// The first column and the others, if there are any.
+    pub fn split_first(&self) -> (ColumnRef<'a>, Option<ColumnsRef<'a>>)
+        ensures { self.now ≡ column_of result.0 ∷ others_of result.1 }
+    {
+        let Ok((first, rest)) = column(self.bytes) else {
+            unreachable!();
+        };
+        let count = self.count - 1;
+        if count == 0 {
+            return (first, None);
+        }
+        (first, Some(ColumnsRef::new(count, rest)))
+    }
+
     /// The same columns, in memory of their own.
     pub fn own(&self, alloc: Global) -> Result<ColumnList, AllocError>
         ensures { IfOk result (λ columns. columns ≡ self.now) }
@@ -167,6 +182,16 @@ impl Columns {
         ensures { result ≡ None }
     {
         Columns(None)
+    }
+
+    /// This count of columns is known: 1 to 16. No other count is answered.
+    pub fn of(count: u8) -> Option<Columns>
+        ensures { SomeIff result (AreColumns (Some count)) (Some count) }
+    {
+        if count == 0 || count > 16 {
+            return None;
+        }
+        Some(Columns(Some(count)))
     }
 
     /// The count, where it is known.

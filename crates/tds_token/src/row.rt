@@ -1,4 +1,4 @@
-ghost use Rattle.std.specs.Prelude.{◌≡◌, IfOk};
+ghost use Rattle.std.specs.Prelude.{◌≡◌, [], ◌∷◌, IfOk, IfSome, IfNone};
 ghost use Rattle.tds_token.specs.Texts.{ints_of};
 
 use std::alloc::{AllocError, Global};
@@ -63,6 +63,27 @@ impl<'a> RowRef<'a> {
         ensures { result ≡ ints_of bytes.now }
     {
         RowRef { bytes }
+    }
+
+    /// The bytes in which the values lie, four a value, the low byte first.
+    pub fn bytes(&self) -> &'a [u8]
+        ensures { ints_of result.now ≡ self.now }
+    {
+        self.bytes
+    }
+
+    /// The first value and the others. None where no value is left.
+    pub fn split_first(&self) -> Option<(i32, RowRef<'a>)>
+        ensures some { IfSome result (λ x. self.now ≡ x.0 ∷ x.1) }
+        ensures none { IfNone result (self.now ≡ []) }
+    {
+        match self.bytes {
+            [a, b, c, d, rest @ ..] => {
+                let first = i32::from_le_bytes([*a, *b, *c, *d]);
+                Some((first, RowRef { bytes: rest }))
+            }
+            _ => None,
+        }
     }
 
     /// The same row, in memory of its own.

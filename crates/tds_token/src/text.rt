@@ -1,4 +1,4 @@
-ghost use Rattle.std.specs.Prelude.{◌≡◌, IfOk};
+ghost use Rattle.std.specs.Prelude.{◌≡◌, [], ◌∷◌, IfOk, IfSome, IfNone};
 ghost use Rattle.tds_token.specs.Texts.{units_of};
 
 use std::alloc::{AllocError, Global};
@@ -63,6 +63,27 @@ impl<'a> TextRef<'a> {
         ensures { result ≡ units_of bytes.now }
     {
         TextRef { bytes }
+    }
+
+    /// The bytes in which the units lie, two a unit, the low byte first.
+    pub fn bytes(&self) -> &'a [u8]
+        ensures { units_of result.now ≡ self.now }
+    {
+        self.bytes
+    }
+
+    /// The first unit and the others. None where no unit is left.
+    pub fn split_first(&self) -> Option<(u16, TextRef<'a>)>
+        ensures some { IfSome result (λ x. self.now ≡ x.0 ∷ x.1) }
+        ensures none { IfNone result (self.now ≡ []) }
+    {
+        match self.bytes {
+            [low, high, rest @ ..] => {
+                let first = u16::from(*low) + 256 * u16::from(*high);
+                Some((first, TextRef { bytes: rest }))
+            }
+            _ => None,
+        }
     }
 
     /// The same text, in memory of its own.

@@ -51,6 +51,13 @@ impl<'a> Tokens<'a> {
         self.columns
     }
 
+    /// The data that are left.
+    pub fn left(&self) -> &'a [u8]
+        ensures { result.now ≡ self.now.bytes }
+    {
+        self.bytes
+    }
+
     /// The next token, or the fault where none is spelled. None at the end of the data, and behind
     /// a fault.
     pub fn next(&mut self) -> Option<Result<TokenRef<'a>, TokenFault>>

@@ -27,6 +27,8 @@ pub mod TheLowestNumberIsLentFirst
 pub mod ARestartedClientHasNoTickets
 pub mod ARestartedServerHasNoTransactions
 pub mod EachTransactionBeginsOnce
+pub mod BegunAnew
+pub mod BegunAnewAndCancelled
 pub mod LinksThatFail
 pub mod PartOfAnAnswerComes
 pub mod LostAtACancel

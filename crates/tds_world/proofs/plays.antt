@@ -4,4 +4,6 @@ pub mod Few
 pub mod Marks
 pub mod Told
 pub mod Reports
+pub mod Alone
+pub mod Rest
 pub mod Headline

@@ -1,14 +1,18 @@
 -- A lease can't tell that it shares its connection: what is told to its requests, and how they are
 -- answered, is what a server of its own would have told them.
-use Rattle.std.specs.Prelude.{ℕ, zero, suc, ◌+◌, ◌≤◌, ◌≡◌, length, List, [], ◌∷◌, ◌==◌, Option, Some, None, filter}
+use Rattle.std.specs.Prelude.{ℕ, zero, suc, ◌+◌, ◌≤◌, ◌≡◌, length, List, [], ◌∷◌, ◌++◌, map, Bool, true, false, ◌==◌, if◌then◌else◌, Option, Some, None, filter}
+use Rattle.tds_packet.specs.declared.status.Reset.{Reset}
 use Rattle.tds_request.specs.declared.request.Request.{Request}
 use Rattle.tds_session.specs.Answer as answer
 use Rattle.tds_session.specs.Answer.{Answers}
-use Rattle.tds_session.specs.Session.{SessionState, new_session, no_settings, is_in_transaction, last_descriptor}
+use Rattle.tds_session.specs.Session.{SessionState, new_session, begun, is_in_transaction, last_descriptor}
+use Rattle.tds_token.specs.declared.token.Token.{Token}
 use Rattle.tds_token.specs.Told.{told}
 use Rattle.tds_world.specs.Connection.{Connection, records}
-use Rattle.tds_world.specs.Laws.{OfEachConnection, IsAnswer, whole_answer}
-use Rattle.tds_world.specs.Record.{Record}
+use Rattle.tds_world.specs.Entries.{Down, Step, Acknowledgement}
+use Rattle.tds_world.specs.Laws.{OfEachConnection, whole_answer}
+use Rattle.tds_world.specs.Record.{Record, is_finished}
+use Rattle.tds_world.specs.Steps.{sent_down}
 use Rattle.tds_world.specs.World.{World, Holding, numbered}
 
 -- Two sessions are alike: their settings are the same, and both are in a transaction or neither is.
@@ -16,6 +20,45 @@ use Rattle.tds_world.specs.World.{World, Holding, numbered}
 pub record AreAlike (s t : SessionState) : Type 0 where
   pub settings : s.settings ≡ t.settings
   pub transaction : is_in_transaction s ≡ is_in_transaction t
+
+-- ---- A request of a lease, and what came of it
+
+-- What it asked, the session that it ran in, how many steps of its answer were done, what its caller
+-- was given, and whether it is finished.
+pub record Exchange : Type 0 where
+  pub request : Request
+  pub ran : Option SessionState
+  pub done : ℕ
+  pub given : List Token
+  pub finished : Bool
+
+-- How many steps of the answer to a request are among these, its reset apart.
+abbrev pub counted : Option Reset → ℕ
+counted None = 1
+counted (Some r) = 0
+
+abbrev pub steps_among : ℕ → List Down → ℕ
+steps_among number [] = 0
+steps_among number (Step r place s ∷ es) =
+    (if r == number then counted s.reset else 0) + steps_among number es
+steps_among number (Acknowledgement r place ∷ es) = steps_among number es
+
+-- So many were done: each goes out as it is done.
+abbrev pub steps_done : Connection → ℕ → ℕ
+steps_done c number = steps_among number (sent_down c)
+
+abbrev pub exchange_of : Connection → Record → Exchange
+exchange_of c q = record {
+  request = q.asking.request;
+  ran = q.ran;
+  done = steps_done c q.number;
+  given = q.given;
+  finished = is_finished q.fate;
+}
+
+-- Those of a lease on a connection, in the order in which they were asked.
+abbrev pub exchanges_of : ℕ → Connection → List Exchange
+exchanges_of lease c = map (exchange_of c) (filter (λ (q : Record). q.lease == lease) (records c))
 
 -- ---- A server of one's own
 
@@ -29,66 +72,50 @@ session_after s zero steps = s
 session_after s (suc n) [] = s
 session_after s (suc n) (t ∷ ts) = session_after t.after n ts
 
--- A session without settings, in the transaction of this descriptor.
-abbrev pub kept_session : ℕ → SessionState
-kept_session descriptor = record {
-  settings = no_settings;
-  descriptor = descriptor;
-  next_descriptor = descriptor + 1;
-}
+-- What a lease's own session is before its first request: new; or in a transaction that was just
+-- begun, if the lease came from a ticket.
+abbrev pub session_from : Option ℕ → SessionState
+session_from None = new_session
+session_from (Some ticket) = begun new_session
 
--- What a lease's own session is before its first request: new; or without settings and in the
--- transaction that was kept, if the lease came from a ticket.
-abbrev pub session_of : Option Holding → SessionState
-session_of None = new_session
-session_of (Some ticket) = kept_session ticket.descriptor
-
-abbrev pub session_from : World → Option ℕ → SessionState
-session_from w None = new_session
-session_from w (Some ticket) = session_of (numbered w.tickets ticket)
-
-abbrev pub own_session : World → Option Holding → SessionState
-own_session w None = new_session
-own_session w (Some lease) = session_from w lease.resumed
-
--- A session has as many descriptors left as the request's answer has steps there.
-pub record HasRoom (answers : Answers) (s : SessionState) (q : Request) : Type 0 where
-  pub some : 1 ≤ s.next_descriptor
-  pub left : s.next_descriptor + length (own_steps answers s q) ≤ last_descriptor
+abbrev pub own_session : Option Holding → SessionState
+own_session None = new_session
+own_session (Some lease) = session_from lease.resumed
 
 -- ---- As if alone
 
--- It ran in such a session, and was told what a server of its own tells it in this one.
-pub record IsToldAlone (answers : Answers) (own ran : SessionState) (q : Record) : Type 0 where
+-- It ran in such a session, and was told what a server of its own tells it in this one: a beginning,
+-- and all of it where it is finished.
+pub record IsToldAlone (answers : Answers) (own ran : SessionState) (x : Exchange) : Type 0 where
   pub alike : AreAlike ran own
-  pub told : IsAnswer q.given (whole_answer answers own q.asking.request) q
+  pub begins : (rest : List Token) × (x.given ++ rest ≡ whole_answer answers own x.request)
+  pub ends : x.finished ≡ true → x.given ≡ whole_answer answers own x.request
 
--- One request on a server of its lease's own, and those behind it. One that did not run leaves the
--- session as it is; of the answer to one that ran some steps were done.
-abbrev pub RunsOne :
-    Answers → SessionState → Record → Option SessionState → (SessionState → Type 0) → Type 0
-RunsOne answers own q None Behind = Behind own
-RunsOne answers own q (Some ran) Behind =
-    HasRoom answers ran q.asking.request → HasRoom answers own q.asking.request
-    → IsToldAlone answers own ran q
-    × ((done : ℕ) × Behind (session_after own done (own_steps answers own q.asking.request)))
+-- One that did not run was told nothing.
+abbrev pub TellsAlone : Answers → SessionState → Exchange → Option SessionState → Type 0
+TellsAlone answers own x None = (x.given ≡ []) × (x.finished ≡ false)
+TellsAlone answers own x (Some ran) = IsToldAlone answers own ran x
 
--- A lease's requests, one after the other, on a server of its own, as long as descriptors are left.
-abbrev pub RunsAlone : Answers → SessionState → List Record → Type 0
+-- The requests of a lease, one after the other, on a server of its own, where as many steps of each
+-- answer are done as were done of it.
+abbrev pub RunsAlone : Answers → SessionState → List Exchange → Type 0
 RunsAlone answers own [] = Unit {0}
-RunsAlone answers own (q ∷ qs) = RunsOne answers own q q.ran (λ next. RunsAlone answers next qs)
-
--- The requests of a lease on a connection.
-abbrev pub requests_of : ℕ → Connection → List Record
-requests_of lease c = filter (λ (q : Record). q.lease == lease) (records c)
+RunsAlone answers own (x ∷ xs) =
+    TellsAlone answers own x x.ran
+    × RunsAlone answers (session_after own x.done (own_steps answers own x.request)) xs
 
 -- Each lease's requests are told what they would be told alone.
 abbrev pub AsIfAlone : Answers → World → Type 0
 AsIfAlone answers w =
     OfEachConnection (λ c.
-    (lease : ℕ) → RunsAlone answers (own_session w (numbered w.leases lease)) (requests_of lease c)) w
+    (lease : ℕ) → RunsAlone answers (own_session (numbered w.leases lease)) (exchanges_of lease c)) w
 
 -- ---- Answers that are blind to the numbers of transactions
+
+-- A session has as many descriptors left as the request's answer has steps there.
+pub record HasRoom (answers : Answers) (s : SessionState) (q : Request) : Type 0 where
+  pub some : 1 ≤ s.next_descriptor
+  pub left : s.next_descriptor + length (own_steps answers s q) ≤ last_descriptor
 
 -- A step and another one: the same is told, both are the last or neither is, and alike sessions are
 -- left.

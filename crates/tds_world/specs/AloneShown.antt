@@ -1,8 +1,8 @@
 -- What reports show of it that a lease can't tell that it shares its connection.
-use Rattle.std.specs.Prelude.{ℕ, ◌≡◌, List, [], ◌∷◌, Bool, true, false, ◌&&◌, ◌==◌, Option, Some, None}
+use Rattle.std.specs.Prelude.{ℕ, List, [], ◌∷◌, Bool, true, false, ◌&&◌, ◌==◌, if◌then◌else◌, Option, Some, None}
 use Rattle.std.specs.List.{AllByRecursion}
 use Rattle.tds_session.specs.Answer.{Answers}
-use Rattle.tds_session.specs.Session.{SessionState, new_session, no_settings, is_in_transaction}
+use Rattle.tds_session.specs.Session.{SessionState, new_session, begun}
 use Rattle.tds_world.specs.declared.event.Event.{Event}
 use Rattle.tds_world.specs.declared.outcome.Opened.{Opened}
 use Rattle.tds_world.specs.declared.outcome.Opened.TheVariants as opened
@@ -11,56 +11,76 @@ use Rattle.tds_world.specs.declared.outcome.Outcome.TheVariants as outcome
 use Rattle.tds_world.specs.declared.report.EventReport.{EventReport}
 use Rattle.tds_world.specs.declared.report.Report.{Report}
 use Rattle.tds_world.specs.declared.report.RequestReport.{RequestReport}
-use Rattle.tds_world.specs.Alone.{AreAlike, HasRoom, own_steps, session_after}
-use Rattle.tds_world.specs.Laws.{whole_answer}
-use Rattle.tds_world.specs.Reports.{Ask, asked_in, ShowsAnswer}
+use Rattle.tds_world.specs.declared.report.RequestStatus.{RequestStatus}
+use Rattle.tds_world.specs.declared.report.RequestStatus.TheVariants as status
+use Rattle.tds_world.specs.Alone.{Exchange, RunsAlone, steps_done}
+use Rattle.tds_world.specs.Connection.{Connection}
+use Rattle.tds_world.specs.Reports.{Ask, asked_in}
+use Rattle.tds_world.specs.World.{World, numbered}
 
--- The report shows that it ran in such a session, and its tokens are of what a server of its own tells
--- it in this one.
-pub record IsShownAlone (answers : Answers) (own ran : SessionState) (a : Ask) (r : RequestReport)
-    : Type 0 where
-  pub alike : AreAlike ran own
-  pub told : ShowsAnswer r (whole_answer answers own a.request)
+-- How many steps were done of the request of this number on this connection. A report doesn't say it:
+-- the world says it, by what was sent.
+abbrev pub StepsDone : Type 0
+StepsDone = (conn number : ℕ) → ℕ
 
--- One request on a server of its lease's own, and those behind it.
-abbrev pub ShowsOne :
-    Answers → SessionState → Ask → RequestReport → Option SessionState → (SessionState → Type 0) → Type 0
-ShowsOne answers own a r None Behind = Behind own
-ShowsOne answers own a r (Some ran) Behind =
-    HasRoom answers ran a.request → HasRoom answers own a.request
-    → IsShownAlone answers own ran a r
-    × ((done : ℕ) × Behind (session_after own done (own_steps answers own a.request)))
+abbrev pub steps_on : ℕ → Option Connection → ℕ
+steps_on number None = 0
+steps_on number (Some c) = steps_done c number
 
-abbrev pub IfSo : Bool → Type 0 → Type 0 → Type 0
-IfSo true So Else = So
-IfSo false So Else = Else
+abbrev pub steps_in : World → StepsDone
+steps_in w conn number = steps_on number (numbered w.connections conn)
 
--- The requests of this lease on its connection, one after the other, on a server of its own, as long as
--- descriptors are left. Those of others do nothing to it.
-abbrev pub ShowsAlone :
-    Answers → ℕ → ℕ → SessionState → List Ask → List RequestReport → Type 0
-ShowsAlone answers lease conn own [] [] = Unit {0}
-ShowsAlone answers lease conn own [] (r ∷ rs) = ⊥
-ShowsAlone answers lease conn own (a ∷ asks) [] = ⊥
-ShowsAlone answers lease conn own (a ∷ asks) (r ∷ rs) =
-    IfSo (r.conn == conn && r.lease == lease)
-    (ShowsOne answers own a r r.ran (λ next. ShowsAlone answers lease conn next asks rs))
-    (ShowsAlone answers lease conn own asks rs)
+abbrev pub is_shown_finished : RequestStatus → Bool
+is_shown_finished status.Finished = true
+is_shown_finished status.Open = false
+is_shown_finished status.Cancelling = false
+is_shown_finished status.Acknowledged = false
+is_shown_finished status.Unsent = false
+is_shown_finished status.Lost = false
+
+-- A request, and what came of it.
+abbrev pub exchange_shown : StepsDone → Ask → RequestReport → Exchange
+exchange_shown done a r = record {
+  request = a.request;
+  ran = r.ran;
+  done = done r.conn a.number;
+  given = r.tokens;
+  finished = is_shown_finished r.status;
+}
+
+-- Those of this lease on this connection, in the order in which they were asked.
+abbrev pub exchanges_shown : StepsDone → ℕ → ℕ → List Ask → List RequestReport → List Exchange
+exchanges_shown done lease conn [] rs = []
+exchanges_shown done lease conn (a ∷ asks) [] = []
+exchanges_shown done lease conn (a ∷ asks) (r ∷ rs) =
+    if r.conn == conn && r.lease == lease
+    then exchange_shown done a r ∷ exchanges_shown done lease conn asks rs
+    else exchanges_shown done lease conn asks rs
+
+-- A lease that is shown: how it came by its connection, and its requests there.
+pub record LeaseShown : Type 0 where
+  pub opened : Opened
+  pub exchanges : List Exchange
+
+abbrev pub lease_in : StepsDone → List Ask → List RequestReport → Outcome → List LeaseShown
+lease_in done asks rs (outcome.Leased lease conn opened) =
+    record { opened = opened; exchanges = exchanges_shown done lease conn asks rs } ∷ []
+lease_in done asks rs o = []
+
+-- P holds of each of them.
+abbrev pub OfEachLease : (LeaseShown → Type 0) → StepsDone → List Event → Report → Type 0
+OfEachLease P done events r =
+    AllByRecursion
+    (λ (e : EventReport). AllByRecursion P (lease_in done (asked_in events r.events) r.requests e.outcome))
+    r.events
 
 -- What a lease's own session is before its first request, by how the lease came by its connection.
-abbrev pub OwnBy : Opened → SessionState → Type 0
-OwnBy opened.New s = s ≡ new_session
-OwnBy opened.Reused s = s ≡ new_session
-OwnBy opened.Resumed s = (s.settings ≡ no_settings) × (is_in_transaction s ≡ true)
+abbrev pub own_by : Opened → SessionState
+own_by opened.New = new_session
+own_by opened.Reused = new_session
+own_by opened.Resumed = begun new_session
 
 -- Each lease that is shown is told what it would be told alone.
-abbrev pub AloneIfLeased : Answers → List Ask → List RequestReport → Outcome → Type 0
-AloneIfLeased answers asks rs (outcome.Leased lease conn opened) =
-    (own : SessionState) × OwnBy opened own × ShowsAlone answers lease conn own asks rs
-AloneIfLeased answers asks rs o = Unit {0}
-
-abbrev pub ShowsAsIfAlone : Answers → List Event → Report → Type 0
-ShowsAsIfAlone answers events r =
-    AllByRecursion
-    (λ (e : EventReport). AloneIfLeased answers (asked_in events r.events) r.requests e.outcome)
-    r.events
+abbrev pub ShowsAsIfAlone : Answers → StepsDone → List Event → Report → Type 0
+ShowsAsIfAlone answers done events r =
+    OfEachLease (λ (x : LeaseShown). RunsAlone answers (own_by x.opened) x.exchanges) done events r

@@ -35,4 +35,6 @@ pub mod PhaseTells
 pub mod Rest
 pub mod RestShown
 pub mod Alone
+pub mod Descriptors
 pub mod AloneShown
+pub mod TwoPlays

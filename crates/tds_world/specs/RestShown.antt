@@ -1,6 +1,6 @@
 -- What reports show of it that no connection is ever stuck: the report of a play, and that of the same
 -- play with the events behind it that bring a connection to rest.
-use Rattle.std.specs.Prelude.{ℕ, ◌≡◌, ◌+◌, ◌≤◌, List, [], ◌∷◌, ◌++◌, Some}
+use Rattle.std.specs.Prelude.{ℕ, ◌≡◌, ◌+◌, ◌≤◌, List, [], ◌∷◌, ◌++◌, map, Some}
 use Rattle.std.specs.List.{AllByRecursion}
 use Rattle.tds_session.specs.Answer.{Answers}
 use Rattle.tds_world.specs.declared.event.Event.{Event}
@@ -13,6 +13,7 @@ use Rattle.tds_world.specs.declared.report.RequestStatus.{RequestStatus}
 use Rattle.tds_world.specs.declared.report.RequestStatus.TheVariants as status
 use Rattle.tds_world.specs.declared.report.Snapshot.{Snapshot}
 use Rattle.tds_world.specs.Connection.{In}
+use Rattle.tds_world.specs.Losses.{Nothing, Played, marked, observed_with}
 use Rattle.tds_world.specs.Observed.{observed}
 use Rattle.tds_world.specs.Reports.{ShowsQuiet, snapshot_in}
 use Rattle.tds_world.specs.Rest.{rested_at, stopping, finishing}
@@ -34,13 +35,17 @@ pub record IsAtRest (s : Snapshot) (r : Report) : Type 0 where
   pub quiet : ShowsQuiet after
   pub place : after.place ≡ rested_at s.place
 
+-- The report of a play with these events behind it.
+abbrev pub Later : Type 0
+Later = List Event → Report
+
 -- With a cancel: for all bytes that are shown underway to the server, and 16 for the word to drop the
 -- request and the attention; and all that are shown underway to the client, and 21 for the
 -- acknowledgement. More do no harm.
-abbrev pub CanBeStopped : Setup → Answers → List Event → Snapshot → Type 0
-CanBeStopped setup answers events s =
+abbrev pub CanBeStopped : Later → Snapshot → Type 0
+CanBeStopped later s =
     (up down : ℕ) → s.to_server + 16 ≤ up → s.to_client + 21 ≤ down
-    → IsAtRest s (observed setup answers (events ++ stopping (In s.place) s.conn up down))
+    → IsAtRest s (later (stopping (In s.place) s.conn up down))
 
 -- What becomes of a request that is answered.
 abbrev pub BecomesOf : RequestStatus → RequestStatus → Type 0
@@ -61,19 +66,30 @@ pub record IsAnswered (s : Snapshot) (earlier later : Report) : Type 0 where
   pub requests : AreAnswered s.conn earlier.requests later.requests
 
 -- Without a cancel: there is a count from which on so many packets, bytes and steps are enough.
-abbrev pub CanBeFinished : Setup → Answers → List Event → Snapshot → Type 0
-CanBeFinished setup answers events s =
+abbrev pub CanBeFinished : Later → Report → Snapshot → Type 0
+CanBeFinished later r s =
     (least : ℕ)
     × ((packets up steps down : ℕ) → least ≤ packets → least ≤ up → least ≤ steps → least ≤ down
-    → IsAnswered s (observed setup answers events)
-    (observed setup answers (events ++ finishing (In s.place) s.conn packets up steps down)))
+    → IsAnswered s r (later (finishing (In s.place) s.conn packets up steps down)))
 
 -- Each connection that is shown after the last event can be brought to rest, both ways.
-pub record IsNeverStuck (setup : Setup) (answers : Answers) (events : List Event) (s : Snapshot)
-    : Type 0 where
-  pub stopped : CanBeStopped setup answers events s
-  pub finished : CanBeFinished setup answers events s
+pub record IsNeverStuck (later : Later) (r : Report) (s : Snapshot) : Type 0 where
+  pub stopped : CanBeStopped later s
+  pub finished : CanBeFinished later r s
 
 abbrev pub ShowsNeverStuck : Setup → Answers → List Event → Report → Type 0
 ShowsNeverStuck setup answers events r =
-    AllByRecursion (IsNeverStuck setup answers events) (last_snapshots r)
+    AllByRecursion (IsNeverStuck (λ more. observed setup answers (events ++ more)) r) (last_snapshots r)
+
+-- The same of a play over links that fail: the report marks what was lost before, and nothing is lost in
+-- the events behind it.
+abbrev pub unlost : List Event → List Played
+unlost events = map (λ e. record { event = e; loss = Nothing }) events
+
+abbrev pub later_with : Setup → Answers → List Played → Later
+later_with setup answers ps more = observed_with setup answers (ps ++ unlost more)
+
+abbrev pub ShowsNeverStuckWith : Setup → Answers → List Event → Report → Type 0
+ShowsNeverStuckWith setup answers events r =
+    AllByRecursion
+    (IsNeverStuck (later_with setup answers (marked events r.events)) r) (last_snapshots r)

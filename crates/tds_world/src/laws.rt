@@ -8,6 +8,7 @@ ghost use Rattle.tds_world.specs.Bounds.{BeginsOnce, FewUnderway, IsEvent, IsSet
 ghost use Rattle.tds_world.specs.Connection.{Connection};
 ghost use Rattle.tds_world.specs.Counts.{AreFew};
 ghost use Rattle.tds_world.specs.Deliveries.{DeliversExactly};
+ghost use Rattle.tds_world.specs.Descriptors.{AreFewEvents, UseFewDescriptors};
 ghost use Rattle.tds_world.specs.Dones.{FinalDoneAtEnd, HaveDones};
 ghost use Rattle.tds_world.specs.Events.{world_after};
 ghost use Rattle.tds_world.specs.Heard.{ChangesAreHeard};
@@ -25,6 +26,7 @@ ghost use Rattle.tds_world.specs.Requests.{RequestsAreSpelled};
 ghost use Rattle.tds_world.specs.Rest.{AreThere, NeverStuck};
 ghost use Rattle.tds_world.specs.Sessions.{AllInRange, StayInRange};
 ghost use Rattle.tds_world.specs.Steps.{AnswersEndOnce, MessagesEndOnce, StepsAreOfAnswers};
+ghost use Rattle.tds_world.specs.TwoPlays.{GiveAlike};
 ghost use Rattle.tds_world.specs.Underway.{FewToClients};
 ghost use Rattle.tds_world.specs.Welcome.{AllWelcome};
 ghost use Rattle.tds_world.specs.World.{new_world};
@@ -252,9 +254,28 @@ pub fn script_is_blind()
     ensures { BlindToNumbers script_answers }
 {}
 
+/// A server with the batch language uses at most one descriptor a step, and answers in few steps.
+pub fn script_uses_few()
+    ensures { UseFewDescriptors script_answers }
+{}
+
 /// A lease can't tell that it shares its connection: each of its requests that ran did so in a session
-/// alike to that of a server which nobody else ever had, and was told what is told there, as long as
-/// descriptors are left. It holds for answers that are blind to the numbers of transactions.
+/// alike to that of a server which nobody else ever had, where as many steps were done of each, and was
+/// told what is told there. It holds for answers that are blind to the numbers of transactions and use
+/// few of them, after up to 4,294,967,295 events: so many leave descriptors.
 pub fn as_if_alone()
-    ensures { (setup : Setup) (answers : Answers) → Lawful answers → BlindToNumbers answers → Always setup answers (AsIfAlone answers) }
+    ensures { (setup : Setup) (answers : Answers) → Lawful answers → BlindToNumbers answers
+        → UseFewDescriptors answers → (events : List Event) → AreFewEvents events
+        → AsIfAlone answers (world_after setup answers events new_world) }
+{}
+
+/// A lease in each of two plays, both from a ticket or neither: as long as they asked the same requests
+/// and as many steps were done of each, what is given in one and in the other is the same as far as
+/// both go, whatever else happens in the two plays.
+pub fn given_alike()
+    ensures { (setup there : Setup) (answers : Answers) → Lawful answers → BlindToNumbers answers
+        → UseFewDescriptors answers → (events events_there : List Event) → AreFewEvents events
+        → AreFewEvents events_there
+        → GiveAlike (world_after setup answers events new_world)
+        (world_after there answers events_there new_world) }
 {}

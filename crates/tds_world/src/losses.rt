@@ -9,6 +9,7 @@ ghost use Rattle.tds_world.specs.Alone.{AsIfAlone, BlindToNumbers};
 ghost use Rattle.tds_world.specs.Begins.{HandsOutNext};
 ghost use Rattle.tds_world.specs.Bounds.{BeginsOnce, IsEvent, OneAttention};
 ghost use Rattle.tds_world.specs.Counts.{AreFew};
+ghost use Rattle.tds_world.specs.Descriptors.{AreFewEvents, UseFewDescriptors};
 ghost use Rattle.tds_world.specs.Events.{world_after};
 ghost use Rattle.tds_world.specs.Lawful.{Lawful};
 ghost use Rattle.tds_world.specs.Losses.{Played, event_reports_with, marked, observed_with};
@@ -128,8 +129,9 @@ pub fn never_stuck()
 {}
 
 /// A lease can't tell that it shares its connection, where the answers are blind to the numbers of
-/// transactions.
+/// transactions and use few of them.
 pub fn as_if_alone()
     ensures { (setup : Setup) (answers : Answers) → Lawful answers → BlindToNumbers answers
-        → AlwaysWith setup answers (AsIfAlone answers) }
+        → UseFewDescriptors answers → (ps : List Played) → AreFewEvents (events_of ps)
+        → AsIfAlone answers (world_with setup answers ps new_world) }
 {}

@@ -10,6 +10,9 @@ use tds_world::Event;
 /// What stands before and behind a schedule's events.
 const HEAD: &str = "{\"version\":1,\"packet_size\":512,\"max\":1,\"events\":[";
 
+/// The same in version 2.
+const HEAD_OF_TWO: &str = "{\"version\":2,\"packet_size\":512,\"max\":1,\"events\":[";
+
 const END: &str = "]}";
 
 /// Up to the text of a batch that is the second event, and from there on.
@@ -38,6 +41,9 @@ const ARRAYS: &str = "[\"lease\"],[\"resume\",1],[\"give_back\",2],[\"keep\",3],
      [\"cancel\",10],[\"work\",11],[\"to_server\",12,13],[\"to_client\",14,4294967295],\
      [\"cut\",15],[\"restart_server\"],[\"restart_client\"]";
 
+/// Those that version 2 has besides.
+const ARRAYS_OF_TWO: &str = ",[\"commit\",18,2],[\"rollback\",19,0]";
+
 /// Whether it is the event of that array.
 fn is_at(place: usize, event: &Event) -> bool {
     match place {
@@ -55,8 +61,8 @@ fn is_at(place: usize, event: &Event) -> bool {
             Event::Ask(6, Request::Begin(isolation)) => isolation.get() == 5,
             _ => false,
         },
-        7 => matches!(event, Event::Ask(7, Request::Commit)),
-        8 => matches!(event, Event::Ask(8, Request::Rollback)),
+        7 => matches!(event, Event::Ask(7, Request::Commit(None))),
+        8 => matches!(event, Event::Ask(8, Request::Rollback(None))),
         9 => matches!(event, Event::Send(9)),
         10 => matches!(event, Event::Cancel(10)),
         11 => matches!(event, Event::Work(11)),
@@ -65,6 +71,14 @@ fn is_at(place: usize, event: &Event) -> bool {
         14 => matches!(event, Event::Cut(15)),
         15 => matches!(event, Event::RestartServer),
         16 => matches!(event, Event::RestartClient),
+        17 => match event {
+            Event::Ask(18, Request::Commit(Some(isolation))) => isolation.get() == 2,
+            _ => false,
+        },
+        18 => match event {
+            Event::Ask(19, Request::Rollback(Some(isolation))) => isolation.get() == 0,
+            _ => false,
+        },
         _ => false,
     }
 }
@@ -87,13 +101,16 @@ fn setup_of(alloc: Global, bytes: &[u8]) -> Result<(u16, u8, usize), Fail> {
 fn whole_schedules(rt: HostRuntime) -> Result<(), Fail> {
     let arrays = pieced(rt.alloc(), &[(HEAD, 1), (ARRAYS, 1), (END, 1)])?;
     assert_eq!(rt; setup_of(rt.alloc(), arrays.as_bytes())?, (512, 1, 17));
+    let pieces = [(HEAD_OF_TWO, 1), (ARRAYS, 1), (ARRAYS_OF_TWO, 1), (END, 1)];
+    let of_two = pieced(rt.alloc(), &pieces)?;
+    assert_eq!(rt; setup_of(rt.alloc(), of_two.as_bytes())?, (512, 1, 19));
     let empty = b"\n{ \"max\": 64, \"events\": [], \"packet_size\": 32767, \"version\": 1 }\n";
     assert_eq!(rt; setup_of(rt.alloc(), empty)?, (32767, 64, 0));
     Ok(())
 }
 
 /// Files that are answered with one fault each.
-const FILES: [(&str, (u8, usize)); 16] = [
+const FILES: [(&str, (u8, usize)); 19] = [
     // Wrong outside the events.
     ("[]", (2, 0)),
     ("null", (2, 0)),
@@ -109,6 +126,18 @@ const FILES: [(&str, (u8, usize)); 16] = [
     ),
     (
         "{\"version\":2,\"packet_size\":512,\"max\":1,\"events\":[]}",
+        (0, 0),
+    ),
+    (
+        "{\"version\":0,\"packet_size\":512,\"max\":1,\"events\":[]}",
+        (2, 0),
+    ),
+    (
+        "{\"version\":4,\"packet_size\":512,\"max\":1,\"events\":[]}",
+        (2, 0),
+    ),
+    (
+        "{\"version\":2,\"packet_size\":512,\"max\":1,\"events\":[],\"note\":0}",
         (2, 0),
     ),
     (
@@ -128,7 +157,7 @@ const FILES: [(&str, (u8, usize)); 16] = [
         (2, 0),
     ),
     (
-        "{\"version\":2,\"packet_size\":512,\"max\":1,\"events\":[[]]}",
+        "{\"version\":4,\"packet_size\":512,\"max\":1,\"events\":[[]]}",
         (2, 0),
     ),
     // No JSON.
@@ -136,17 +165,19 @@ const FILES: [(&str, (u8, usize)); 16] = [
     ("{", (1, 0)),
     // The later of two equal keys counts.
     (
-        "{\"version\":2,\"packet_size\":512,\"max\":1,\"events\":[],\"version\":1}",
+        "{\"version\":4,\"packet_size\":512,\"max\":1,\"events\":[],\"version\":1}",
         (0, 0),
     ),
     (
-        "{\"version\":1,\"packet_size\":512,\"max\":1,\"events\":[],\"version\":2}",
+        "{\"version\":1,\"packet_size\":512,\"max\":1,\"events\":[],\"version\":4}",
         (2, 0),
     ),
 ];
 
-/// Each is wrong, as a second event.
-const WRONG_EVENTS: [&str; 24] = [
+/// Each is wrong in version 1, as a second event.
+const WRONG_EVENTS: [&str; 26] = [
+    "[\"commit\",1,2]",
+    "[\"rollback\",1,0]",
     "[\"leases\"]",
     "[\"Lease\"]",
     "[]",
@@ -174,7 +205,18 @@ const WRONG_EVENTS: [&str; 24] = [
 ];
 
 /// Files by their pieces, each so many times.
-const PIECES: [(&[(&str, usize)], (u8, usize)); 11] = [
+const PIECES: [(&[(&str, usize)], (u8, usize)); 15] = [
+    // A commit or rollback that begins the next transaction, in version 2.
+    (&[(HEAD_OF_TWO, 1), ("[\"commit\",1,5]", 1), (END, 1)], (0, 0)),
+    (&[(HEAD_OF_TWO, 1), ("[\"commit\",1,6]", 1), (END, 1)], (2, 1)),
+    (
+        &[(HEAD_OF_TWO, 1), ("[\"rollback\",1,null]", 1), (END, 1)],
+        (2, 1),
+    ),
+    (
+        &[(HEAD_OF_TWO, 1), ("[\"commit\",1,2,0]", 1), (END, 1)],
+        (2, 1),
+    ),
     (&[(BATCH, 1), ("a", 2000), (BATCH_END, 1)], (0, 0)),
     (&[(BATCH, 1), ("a", 2001), (BATCH_END, 1)], (2, 2)),
     // U+10348 is two units, and U+FFFF one.

@@ -7,6 +7,7 @@ mod answers;
 mod driver;
 mod hostile;
 mod memory;
+mod renewals;
 mod requests;
 
 use driver::*;

@@ -26,6 +26,18 @@ const ROLLBACK: [u8; 26] = [
     0xFF, 0xFF, 0x01, 0x00, 0x00, 0x00, 0x08, 0x00, 0x00, 0x00,
 ];
 
+/// A commit of transaction 1, behind which the next one begins at isolation level 2.
+const COMMIT_THEN_BEGIN: [u8; 28] = [
+    0x16, 0x00, 0x00, 0x00, 0x12, 0x00, 0x00, 0x00, 0x02, 0x00, 0x01, 0x00, 0x00, 0x00, 0x00, 0x00,
+    0x00, 0x00, 0x01, 0x00, 0x00, 0x00, 0x07, 0x00, 0x00, 0x01, 0x02, 0x00,
+];
+
+/// A rollback of transaction 1, behind which the next one begins without a change of the level.
+const ROLLBACK_THEN_BEGIN: [u8; 28] = [
+    0x16, 0x00, 0x00, 0x00, 0x12, 0x00, 0x00, 0x00, 0x02, 0x00, 0x01, 0x00, 0x00, 0x00, 0x00, 0x00,
+    0x00, 0x00, 0x01, 0x00, 0x00, 0x00, 0x08, 0x00, 0x00, 0x01, 0x00, 0x00,
+];
+
 /// The number of the fault, or 0.
 fn fault(alloc: Global, kind: RequestKind, bytes: &[u8]) -> u8 {
     match decode(alloc, kind, bytes) {
@@ -57,7 +69,7 @@ fn each_wrong_field(rt: HostRuntime) -> Result<(), Fail> {
         (&BEGIN, 24, &[0x06], 7),
         (&BEGIN, 25, &[0x01], 8),
         (&COMMIT, 24, &[0x01], 8),
-        (&COMMIT, 25, &[0x01], 9),
+        (&COMMIT, 25, &[0x03], 9),
         (&ROLLBACK, 25, &[0x02], 9),
         // Two wrong fields: the first one is the fault.
         (
@@ -77,13 +89,38 @@ fn each_wrong_field(rt: HostRuntime) -> Result<(), Fail> {
     Ok(())
 }
 
+/// What stands behind the headers of a transaction manager request, and its fault.
+const BODIES: [(&[u8], u8); 18] = [
+    // The flags say whether an isolation level and a name follow.
+    (&[0x07, 0x00, 0x00, 0x02], 9),
+    (&[0x07, 0x00, 0x00, 0x01, 0x06, 0x00], 7),
+    (&[0x07, 0x00, 0x00, 0x01, 0x02, 0x01], 8),
+    (&[0x07, 0x00, 0x00, 0x01], 1),
+    (&[0x07, 0x00, 0x00, 0x01, 0x02], 1),
+    (&[0x07, 0x00, 0x00, 0x00, 0x02], 10),
+    (&[0x07, 0x00, 0x00, 0x00, 0x02, 0x00], 10),
+    (&[0x07, 0x00, 0x00, 0x01, 0x02, 0x00], 0),
+    (&[0x07, 0x00, 0x00, 0x01, 0x02, 0x00, 0x00], 10),
+    (&[0x08, 0x00, 0x00, 0x01, 0x05, 0x00], 0),
+    (&[0x08, 0x00, 0x00, 0x01, 0x06, 0x01], 7),
+    // The first name is looked at before the flags, and they before what follows.
+    (&[0x08, 0x00, 0x01, 0x02, 0x06, 0x01], 8),
+    (&[0x08, 0x00, 0x00, 0xFF, 0x06, 0x01], 9),
+    (&[0x08, 0x00, 0x00], 1),
+    // Bytes left over.
+    (&[0x05, 0x00, 0x00, 0x00, 0x00], 10),
+    (&[0x07, 0x00, 0x00, 0x00, 0x00], 10),
+    (&[0x08, 0x00, 0x00, 0x00, 0x00], 10),
+    (&[0x08, 0x00, 0x00, 0x01, 0x00, 0x00, 0x00], 10),
+];
+
 #[test]
-fn bytes_left_over(rt: HostRuntime) -> Result<(), Fail> {
-    for message in [&BEGIN, &COMMIT, &ROLLBACK] {
-        let mut longer = Vec::from_slice(rt.alloc(), message)?;
-        longer.push(0)?;
-        let found = fault(rt.alloc(), RequestKind::Transaction, longer.as_slice());
-        assert_eq!(rt; found, 10);
+fn bodies(rt: HostRuntime) -> Result<(), Fail> {
+    for (body, number) in BODIES {
+        let mut message = Vec::from_slice(rt.alloc(), &COMMIT[..22])?;
+        message.extend_from_slice(body)?;
+        let found = fault(rt.alloc(), RequestKind::Transaction, message.as_slice());
+        assert_eq!(rt; found, number, "of {body:?}");
     }
     Ok(())
 }
@@ -176,17 +213,20 @@ fn longest_text(rt: HostRuntime) -> Result<(), Fail> {
 
 #[test]
 fn transactions(rt: HostRuntime) -> Result<(), Fail> {
-    let level = Isolation::new(0).ok_or("no level")?;
-    let table = [
-        (Request::Begin(level), 0, &BEGIN),
-        (Request::Commit, 1, &COMMIT),
-        (Request::Rollback, u64::MAX, &ROLLBACK),
+    let same = Isolation::new(0).ok_or("no level")?;
+    let committed = Isolation::new(2).ok_or("no level")?;
+    let table: [(Request, u64, &[u8]); 5] = [
+        (Request::Begin(same), 0, &BEGIN),
+        (Request::Commit(None), 1, &COMMIT),
+        (Request::Rollback(None), u64::MAX, &ROLLBACK),
+        (Request::Commit(Some(committed)), 1, &COMMIT_THEN_BEGIN),
+        (Request::Rollback(Some(same)), 1, &ROLLBACK_THEN_BEGIN),
     ];
     for (request, descriptor, bytes) in table {
         assert_eq!(rt; request.kind(), RequestKind::Transaction);
         let out = written(rt.alloc(), &request, descriptor)?;
         let (_, message) = out.as_slice().split_first().ok_or("no byte")?;
-        assert_eq!(rt; message, bytes.as_slice());
+        assert_eq!(rt; message, bytes);
         let (heard, found) = decode(rt.alloc(), RequestKind::Transaction, bytes)?;
         assert_eq!(rt; heard, descriptor);
         let again = written(rt.alloc(), &found, heard)?;

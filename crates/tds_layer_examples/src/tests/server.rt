@@ -13,6 +13,7 @@ mod batches;
 mod engines;
 mod faults;
 mod messages;
+mod renewals;
 
 /// A begin at isolation level 0, with descriptor 0.
 const BEGIN: [u8; 34] = [

@@ -1,7 +1,7 @@
 use crate::showing::fault::ShowFault;
 use std::alloc::{AllocError, Global};
 use std::fmt::Write;
-use tds_request::{Request, RequestKind, decode};
+use tds_request::{Isolation, Request, RequestKind, decode};
 use tds_text::put_units;
 
 /// Appends the line of the request that a whole message spells, with the descriptor in its header.
@@ -24,7 +24,20 @@ fn put_line(text: &mut String, descriptor: u64, request: &Request) -> Result<(),
             text.push_str("\n")
         }
         Request::Begin(isolation) => writeln!(text, "  begin {descriptor} {}", isolation.get()),
-        Request::Commit => writeln!(text, "  commit {descriptor}"),
-        Request::Rollback => writeln!(text, "  rollback {descriptor}"),
+        Request::Commit(next) => put_end(text, "commit", descriptor, *next),
+        Request::Rollback(next) => put_end(text, "rollback", descriptor, *next),
+    }
+}
+
+/// The end of a transaction, and the isolation level of the one that begins at once.
+fn put_end(
+    text: &mut String,
+    word: &str,
+    descriptor: u64,
+    next: Option<Isolation>,
+) -> Result<(), AllocError> {
+    match next {
+        None => writeln!(text, "  {word} {descriptor}"),
+        Some(isolation) => writeln!(text, "  {word} {descriptor} then {}", isolation.get()),
     }
 }

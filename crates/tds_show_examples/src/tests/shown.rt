@@ -90,7 +90,7 @@ const VECTORS: [Row; 13] = [
 ];
 
 /// More requests and answers, and what no server would take.
-const REQUESTS_AND_ANSWERS: [Row; 10] = [
+const REQUESTS_AND_ANSWERS: [Row; 13] = [
     (
         "commit",
         "0E010022000001001600000012000000020001000000000000000100000007000000",
@@ -101,6 +101,24 @@ const REQUESTS_AND_ANSWERS: [Row; 10] = [
         "rollback",
         "0E0100220000010016000000120000000200FFFFFFFFFFFFFFFF0100000008000000",
         "packet 0e 01 34 0 1 0\n  rollback 18446744073709551615\n",
+        0,
+    ),
+    (
+        "a commit, and isolation level 2 for the next transaction",
+        "0E0100240000010016000000120000000200010000000000000001000000070000010200",
+        "packet 0e 01 36 0 1 0\n  commit 1 then 2\n",
+        0,
+    ),
+    (
+        "a rollback, and no change of the isolation level",
+        "0E0100240000010016000000120000000200030000000000000001000000080000010000",
+        "packet 0e 01 36 0 1 0\n  rollback 3 then 0\n",
+        0,
+    ),
+    (
+        "the answer to such a commit",
+        "0401003100000100E30B000900080100000000000000E30B000808020000000000000000FD000000000000000000000000",
+        "packet 04 01 49 0 1 0\n  env commit 1\n  env begin 2\n  done 0000 0\n",
         0,
     ),
     (

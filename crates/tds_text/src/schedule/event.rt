@@ -3,17 +3,22 @@ ghost use Rattle.serde_json.specs.View.{view, items_view};
 ghost use Rattle.tds_text.specs.Events.{event_of, event_with};
 
 use crate::schedule::fields::{
-    alone, number_and_isolation, number_and_text, one_number, two_numbers,
+    alone, ended_lease, number_and_isolation, number_and_text, one_number, two_numbers,
 };
+use crate::schedule::version::Version;
 use crate::schedule::word::Word;
 use serde_json::Value;
 use std::alloc::{AllocError, Global};
 use tds_request::Request;
 use tds_world::Event;
 
-/// The event that a value spells, if it spells one.
-pub(crate) fn read_event(alloc: Global, value: &Value) -> Result<Option<Event>, AllocError>
-    ensures { IfOk result (λ event. event ≡ event_of (view value.now)) }
+/// The event that a value spells in a file of this version, if it spells one.
+pub(crate) fn read_event(
+    alloc: Global,
+    version: Version,
+    value: &Value,
+) -> Result<Option<Event>, AllocError>
+    ensures { IfOk result (λ event. event ≡ event_of version (view value.now)) }
 {
     let Some(values) = value.as_array() else {
         return Ok(None);
@@ -23,12 +28,17 @@ pub(crate) fn read_event(alloc: Global, value: &Value) -> Result<Option<Event>, 
     };
     match first.as_str().and_then(Word::read) {
         None => Ok(None),
-        Some(word) => event_behind(alloc, word, fields),
+        Some(word) => event_behind(alloc, version, word, fields),
     }
 }
 
-fn event_behind(alloc: Global, word: Word, fields: &[Value]) -> Result<Option<Event>, AllocError>
-    ensures { IfOk result (λ event. event ≡ event_with word (items_view fields.now)) }
+fn event_behind(
+    alloc: Global,
+    version: Version,
+    word: Word,
+    fields: &[Value],
+) -> Result<Option<Event>, AllocError>
+    ensures { IfOk result (λ event. event ≡ event_with version word (items_view fields.now)) }
 {
     match word {
         Word::Lease => Ok(alone(Event::Lease, fields)),
@@ -44,8 +54,14 @@ fn event_behind(alloc: Global, word: Word, fields: &[Value]) -> Result<Option<Ev
             lease,
             Request::Begin(isolation),
         ))),
-        Word::Commit => Ok(one_number(fields).map(|lease| Event::Ask(lease, Request::Commit))),
-        Word::Rollback => Ok(one_number(fields).map(|lease| Event::Ask(lease, Request::Rollback))),
+        Word::Commit => Ok(ended_lease(version, fields).map(|(lease, next)| Event::Ask(
+            lease,
+            Request::Commit(next),
+        ))),
+        Word::Rollback => Ok(ended_lease(version, fields).map(|(lease, next)| Event::Ask(
+            lease,
+            Request::Rollback(next),
+        ))),
         Word::Send => Ok(one_number(fields).map(Event::Send)),
         Word::Cancel => Ok(one_number(fields).map(Event::Cancel)),
         Word::Work => Ok(one_number(fields).map(Event::Work)),

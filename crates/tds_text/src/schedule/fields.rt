@@ -1,7 +1,10 @@
 ghost use Rattle.std.specs.Prelude.{◌≡◌, IfOk, Some, option_map};
 ghost use Rattle.serde_json.specs.View.{view, items_view};
-ghost use Rattle.tds_text.specs.Fields.{alone as alone_of, one_field, pair_of, two_fields, number_below, number_of, isolation_of, units_of, such, is_batch, batch_of};
+ghost use Rattle.tds_text.specs.Fields.{alone as alone_of, one_field, pair_of, two_fields};
+ghost use Rattle.tds_text.specs.Fields.{number_below, number_of, isolation_of, units_of, such};
+ghost use Rattle.tds_text.specs.Fields.{is_batch, batch_of, ended_lease as ended_lease_of};
 
+use crate::schedule::version::Version;
 use serde_json::Value;
 use std::alloc::{AllocError, Global};
 use tds_request::{BatchText, Isolation};
@@ -41,6 +44,21 @@ pub(crate) fn number_and_isolation(fields: &[Value]) -> Option<(u32, Isolation)>
 {
     let (number, isolation) = pair(fields)?;
     Some((read_number(number)?, read_isolation(isolation)?))
+}
+
+/// A lease whose transaction ends and, where the version has it, the isolation level of the one that
+/// begins at once.
+pub(crate) fn ended_lease(version: Version, fields: &[Value]) -> Option<(u32, Option<Isolation>)>
+    ensures { result ≡ ended_lease_of version (items_view fields.now) }
+{
+    if let Some(lease) = one_number(fields) {
+        return Some((lease, None));
+    }
+    if !version.begins_anew() {
+        return None;
+    }
+    let (lease, isolation) = number_and_isolation(fields)?;
+    Some((lease, Some(isolation)))
 }
 
 /// The two fields, a number and a batch's text.

@@ -1,32 +1,41 @@
 -- A lease can't tell that it shares its connection.
-use Rattle.std.proofs.Common.{◌≡◌, ◌≤◌, ◌<◌, ℕ, zero, suc, List, [], ◌∷◌, ◌++◌, map, Bool, true, false, cond, not, eqb, refl, sym, ap, subst, ◌∙◌, flat_map, Option, Some, None, arith}
+use Rattle.std.proofs.Common.{◌≡◌, ◌≤◌, ◌<◌, ℕ, zero, suc, List, [], ◌∷◌, ◌++◌, map, length, Bool, true, false, cond, not, eqb, refl, sym, ap, subst, ◌∙◌, flat_map, Option, Some, None, arith}
 use Rattle.std.proofs.lemmas.Bool.Decides.{nat_tests}
 use Rattle.std.specs.List.{AllByRecursion}
-use Rattle.std.specs.Prelude.{filter, ◌==◌}
+use Rattle.std.specs.Prelude.{filter, slice_get, ◌==◌}
+use Rattle.tds_request.specs.Layout.{Fits}
 use Rattle.tds_session.specs.Answer as answer
 use Rattle.tds_session.specs.Answer.{Answers}
-use Rattle.tds_session.specs.Session.{SessionState, new_session}
+use Rattle.tds_session.specs.Session.{SessionState, new_session, begun}
 use Rattle.tds_token.specs.declared.token.Token.{Token}
 use Rattle.tds_token.specs.Told.{told}
+use Rattle.tds_world.specs.declared.event.Event.{Event}
 use Rattle.tds_world.specs.declared.event.Setup.{Setup}
-use Rattle.tds_world.specs.Alone.{AreAlike, own_steps, session_after, own_session, session_from, session_of, HasRoom, IsToldAlone, RunsOne, RunsAlone, requests_of, AsIfAlone, AllAlike, BlindToNumbers}
-use Rattle.tds_world.specs.Bounds.{RanInOwn}
+use Rattle.tds_world.specs.Alone.{AreAlike, Exchange, exchange_of, exchanges_of, steps_done, own_steps, session_after, own_session, session_from, HasRoom, IsToldAlone, TellsAlone, RunsAlone, AsIfAlone, AllAlike, BlindToNumbers}
+use Rattle.tds_world.specs.Bounds.{RanInOwn, IsEvent}
 use Rattle.tds_world.specs.Connection.{Connection, records}
+use Rattle.tds_world.specs.Descriptors.{UseFewDescriptors, AreFewEvents, most_events}
 use Rattle.tds_world.specs.Events.{world_after}
 use Rattle.tds_world.specs.Lawful.{Lawful}
-use Rattle.tds_world.specs.Laws.{Always, IsAnswer, whole_answer, IsOwnAnswer, HasKept, StartsFrom, StartsUnder, StartsFresh}
+use Rattle.tds_world.specs.Laws.{IsAnswer, whole_answer, IsOwnAnswer, HasKept, StartsFrom, StartsUnder, StartsFresh}
 use Rattle.tds_world.specs.Record.{Record}
 use Rattle.tds_world.specs.World.{World, new_world, Holding, numbered}
+use Rattle.tds_world.proofs.alone.Descriptors.{HasLeft, less_left, has_room, after_left, reset_left, new_left, many_left, few_on, all_fit}
+use Rattle.tds_world.proofs.alone.OpenTickets.{IsOne, FromOpen, from_open}
 use Rattle.tds_world.proofs.alone.Tenancy.{all_in_turn}
 use Rattle.tds_world.proofs.alone.Tenants.{Behind, InTurn, IsRan}
 use Rattle.tds_world.proofs.alone.Thread.{whole_of, Found, Thread, Threaded, all_threaded}
-use Rattle.tds_world.proofs.events.Worlds.{each_follows, each_both}
+use Rattle.tds_world.proofs.events.Words.{OfSome}
+use Rattle.tds_world.proofs.events.Worlds.{at_number}
 use Rattle.tds_world.proofs.reports.Asks.{else_is}
+use Rattle.tds_world.proofs.reports.Few.{few_of_each}
 use Rattle.tds_world.proofs.requests.Cores.{core_of}
 use Rattle.tds_world.proofs.requests.FreshStarts.{fresh_start}
+use Rattle.tds_world.proofs.requests.Order.{requests_in_order}
 use Rattle.tds_world.proofs.requests.Own.{told_two}
 use Rattle.tds_world.proofs.requests.OwnAnswers.{own_answers}
 use Rattle.tds_world.proofs.requests.OwnTransactions.{own_transaction}
+use Rattle.tds_world.proofs.requests.Ready.{OfTicket}
 use Rattle.tds_world.proofs.requests.Runs.{runs_in}
 
 -- ---- What is alike stays so
@@ -48,26 +57,33 @@ told_alike (x ∷ xs) (y ∷ ys) h =
     ∙ (ap (λ (us : List Token). told y.tokens ++ us) (told_alike xs ys h.1)
     ∙ sym (told_two y.tokens (flat_map (λ step. step.tokens) ys))))
 
-told_alone : (answers : Answers) (own ran : SessionState) (q : Record) → BlindToNumbers answers → AreAlike ran own → HasRoom answers ran q.asking.request → HasRoom answers own q.asking.request → IsAnswer q.given (whole_answer answers ran q.asking.request) q → IsToldAlone answers own ran q
-told_alone answers own ran q b a r o h = record {
-  alike = a;
-  told = subst (λ whole. IsAnswer q.given whole q)
-      (told_alike (own_steps answers ran q.asking.request) (own_steps answers own q.asking.request) (b ran own q.asking.request a r o)) h;
-}
+told_alone : (answers : Answers) (own ran : SessionState) (c : Connection) (q : Record) → BlindToNumbers answers → AreAlike ran own → HasRoom answers ran q.asking.request → HasRoom answers own q.asking.request → IsAnswer q.given (whole_answer answers ran q.asking.request) q → IsToldAlone answers own ran (exchange_of c q)
+told_alone answers own ran c q b a r o h =
+    let same : whole_answer answers ran q.asking.request ≡ whole_answer answers own q.asking.request =
+    told_alike (own_steps answers ran q.asking.request) (own_steps answers own q.asking.request) (b ran own q.asking.request a r o) in
+    record {
+      alike = a;
+      begins = (h.begins.0, h.begins.1 ∙ same);
+      ends = λ f. h.ends f ∙ same;
+    }
 
 -- ---- How a lease's own session starts
 
-from_alike : (w : World) (s : SessionState) (o : Option ℕ) → StartsFrom w o s → AreAlike s (session_from w o)
-from_alike w s None h = record { settings = h.0; transaction = ap (λ d. not (eqb d 0)) h.1 }
-from_alike w s (Some t) h = of_ticket (numbered w.tickets t) h
+from_alike : (w : World) (s : SessionState) (o : Option ℕ) → FromOpen w.tickets o → StartsFrom w o s → AreAlike s (session_from o)
+from_alike w s None f h = record { settings = h.0; transaction = ap (λ d. not (eqb d 0)) h.1 }
+from_alike w s (Some t) f h = of_ticket (numbered w.tickets t) f h
   where
-    of_ticket : (o : Option Holding) → HasKept o s → AreAlike s (session_of o)
-    of_ticket None k = absurd k
-    of_ticket (Some x) k = record { settings = k.0; transaction = ap (λ d. not (eqb d 0)) k.1 }
+    of_ticket : (o : Option Holding) → OfTicket IsOne o → HasKept o s → AreAlike s (begun new_session)
+    of_ticket None g k = absurd k
+    of_ticket (Some x) g k = record { settings = k.0; transaction = ap (λ d. not (eqb d 0)) k.1 ∙ ap not g }
 
-starts_alike : (w : World) (s : SessionState) (o : Option Holding) → StartsUnder w o s → AreAlike s (own_session w o)
-starts_alike w s None h = absurd h
-starts_alike w s (Some x) h = from_alike w s x.resumed h
+-- Each lease that came from a ticket came from one of a transaction.
+abbrev AllOpen : World → Type 0
+AllOpen w = (l : ℕ) (h : Holding) → numbered w.leases l ≡ Some h → FromOpen w.tickets h.resumed
+
+starts_alike : (w : World) (s : SessionState) (o : Option Holding) → ((h : Holding) → o ≡ Some h → FromOpen w.tickets h.resumed) → StartsUnder w o s → AreAlike s (own_session o)
+starts_alike w s None f h = absurd h
+starts_alike w s (Some x) f h = from_alike w s x.resumed (f x refl) h
 
 -- ---- What is known of a request
 
@@ -75,6 +91,12 @@ pub record Knows (answers : Answers) (w : World) (c : Connection) (q : Record) :
   pub fresh : StartsFresh w c q
   pub own : IsOwnAnswer answers q q.ran
   pub transaction : RanInOwn c q
+  pub fits : Fits q.asking.request
+
+-- And of the answers.
+pub record Good (answers : Answers) : Type 0 where
+  pub blind : BlindToNumbers answers
+  pub few : UseFewDescriptors answers
 
 is_same : (a b : ℕ) → eqb a b ≡ true → a ≡ b
 is_same a b e = grind (arith, nat_tests)
@@ -85,17 +107,29 @@ is_other a b e f = grind (arith, nat_tests)
 other_number : (a b : ℕ) → a < b → eqb b a ≡ false
 other_number a b l = grind (arith, nat_tests)
 
--- The requests of this lease among these.
-abbrev of_lease : ℕ → List Record → List Record
-of_lease l qs = filter (λ (q : Record). q.lease == l) qs
+-- What came of the requests of this lease among these.
+abbrev of_lease : ℕ → Connection → List Record → List Exchange
+of_lease l c qs = map (exchange_of c) (filter (λ (q : Record). q.lease == l) qs)
 
-none_left : (l : ℕ) (qs : List Record) → AllByRecursion (λ (q : Record). l < q.lease) qs → of_lease l qs ≡ []
-none_left l [] h = refl
-none_left l (q ∷ qs) h = else_is (eqb q.lease l) (q ∷ of_lease l qs) (of_lease l qs) (other_number l q.lease h.0) ∙ none_left l qs h.1
+none_among : (l : ℕ) (qs : List Record) → AllByRecursion (λ (q : Record). l < q.lease) qs → filter (λ (q : Record). q.lease == l) qs ≡ []
+none_among l [] h = refl
+none_among l (q ∷ qs) h =
+    else_is (eqb q.lease l) (q ∷ filter (λ (p : Record). p.lease == l) qs) (filter (λ (p : Record). p.lease == l) qs) (other_number l q.lease h.0)
+    ∙ none_among l qs h.1
+
+none_left : (l : ℕ) (c : Connection) (qs : List Record) → AllByRecursion (λ (q : Record). l < q.lease) qs → of_lease l c qs ≡ []
+none_left l c qs h = ap (map (exchange_of c)) (none_among l qs h)
 
 -- What one left, by the session's own descriptor.
 left_own : (answers : Answers) (c : Connection) (q : Record) (ran : SessionState) (n : ℕ) → RanInOwn c q → q.ran ≡ Some ran → session_after ran n (whole_of answers ran q.asking) ≡ session_after ran n (own_steps answers ran q.asking.request)
 left_own answers c q ran n t e = ap (λ d. session_after ran n (answers ran d None q.asking.request)) (t ran e)
+
+-- What one left that ran, in its session and in one like it.
+left_alike : (answers : Answers) (c : Connection) (q : Record) (ran own m m2 : SessionState) → BlindToNumbers answers → RanInOwn c q → q.ran ≡ Some ran → AreAlike ran own → HasRoom answers ran q.asking.request → HasRoom answers own q.asking.request → Found answers (steps_done c q.number) m q.asking (Some ran) m2 → AreAlike m2 (session_after own (steps_done c q.number) (own_steps answers own q.asking.request))
+left_alike answers c q ran own m m2 b t e a r o f =
+    let n : ℕ = steps_done c q.number in
+    subst (λ s. AreAlike s (session_after own n (own_steps answers own q.asking.request))) (sym (f.1 ∙ left_own answers c q ran n t e))
+    (after_alike n ran own (own_steps answers ran q.asking.request) (own_steps answers own q.asking.request) a (b ran own q.asking.request a r o))
 
 -- ---- Behind the first one that ran
 
@@ -103,23 +137,31 @@ left_own answers c q ran n t e = ap (λ d. session_after ran n (answers ran d No
 abbrev IsBehind : ℕ → Record → Type 0
 IsBehind l q = (l ≤ q.lease) × (q.lease ≡ l → q.asking.mark ≡ None)
 
-abbrev Goes : Answers → ℕ → List Record → Type 0
-Goes answers l qs = (m end own : SessionState) → AreAlike m own → Thread answers m (map core_of qs) end → RunsAlone answers own (of_lease l qs)
+abbrev Goes : Answers → ℕ → Connection → List Record → Type 0
+Goes answers l c qs =
+    (m end own : SessionState)
+    → AreAlike m own → HasLeft m qs → HasLeft own qs
+    → Thread answers (steps_done c) m (map core_of qs) end → RunsAlone answers own (of_lease l c qs)
 
-goes_on : (answers : Answers) (w : World) (c : Connection) (l : ℕ) (q : Record) (qs : List Record) (m m2 end own : SessionState) (ran : Option SessionState) → BlindToNumbers answers → Goes answers l qs → Knows answers w c q → q.asking.mark ≡ None → AreAlike m own → q.ran ≡ ran → Found answers m q.asking ran m2 → IsOwnAnswer answers q ran → Thread answers m2 (map core_of qs) end → RunsOne answers own q ran (λ next. RunsAlone answers next (of_lease l qs))
-goes_on answers w c l q qs m m2 end own None b ih k mark a e f h t = ih m2 end own (subst (λ s. AreAlike s own) f a) t
-goes_on answers w c l q qs m m2 end own (Some ran) b ih k mark a e f h t = λ r o.
+goes_on : (answers : Answers) (w : World) (c : Connection) (l : ℕ) (q : Record) (qs : List Record) (m m2 end own : SessionState) (ran : Option SessionState) → Good answers → Goes answers l c qs → Knows answers w c q → q.asking.mark ≡ None → AreAlike m own → HasLeft m (q ∷ qs) → HasLeft own (q ∷ qs) → q.ran ≡ ran → Found answers (steps_done c q.number) m q.asking ran m2 → IsOwnAnswer answers q ran → Thread answers (steps_done c) m2 (map core_of qs) end
+    → TellsAlone answers own (exchange_of c q) ran × RunsAlone answers (session_after own (steps_done c q.number) (own_steps answers own q.asking.request)) (of_lease l c qs)
+goes_on answers w c l q qs m m2 end own None b ih k mark a r o e f h t = (
+  h,
+  subst (λ n. RunsAlone answers (session_after own n (own_steps answers own q.asking.request)) (of_lease l c qs)) (sym f.1)
+      (ih m2 end own (subst (λ s. AreAlike s own) f.0 a) (subst (λ s. HasLeft s qs) f.0 (less_left m q qs r)) (less_left own q qs o) t),
+)
+goes_on answers w c l q qs m m2 end own (Some ran) b ih k mark a r o e f h t =
     let same : ran ≡ m = f.0 ∙ ap (λ x. runs_in x m) mark in
     let alike : AreAlike ran own = subst (λ s. AreAlike s own) (sym same) a in
-    let left : m2 ≡ session_after ran f.1.0 (own_steps answers ran q.asking.request) = f.1.1 ∙ left_own answers c q ran f.1.0 k.transaction e in
-    let next : SessionState = session_after own f.1.0 (own_steps answers own q.asking.request) in (
-      told_alone answers own ran q b alike r o h,
-      (
-        f.1.0,
-        ih m2 end next
-            (subst (λ s. AreAlike s next) (sym left)
-            (after_alike f.1.0 ran own (own_steps answers ran q.asking.request) (own_steps answers own q.asking.request) alike (b ran own q.asking.request alike r o))) t,
-      ),
+    let left : HasLeft ran (q ∷ qs) = subst (λ s. HasLeft s (q ∷ qs)) (sym same) r in
+    let room : HasRoom answers ran q.asking.request = has_room answers ran q qs b.few k.fits left in
+    let own_room : HasRoom answers own q.asking.request = has_room answers own q qs b.few k.fits o in
+    let n : ℕ = steps_done c q.number in (
+      told_alone answers own ran c q b.blind alike room own_room h,
+      ih m2 end (session_after own n (own_steps answers own q.asking.request))
+          (left_alike answers c q ran own m m2 b.blind k.transaction e alike room own_room f)
+          (subst (λ s. HasLeft s qs) (sym (f.1 ∙ left_own answers c q ran n k.transaction e)) (after_left answers ran q qs n b.few k.fits left))
+          (after_left answers own q qs n b.few k.fits o) t,
     )
 
 -- All that follow are of later leases.
@@ -130,15 +172,15 @@ all_later l q (p ∷ ps) h k = (let z : q.lease ≤ p.lease = k.0.lease in omega
 less_than : (l k : ℕ) → l ≤ k → eqb k l ≡ false → l < k
 less_than l k h e = grind (arith, nat_tests)
 
-goes_by : (answers : Answers) (w : World) (c : Connection) (l : ℕ) (q : Record) (qs : List Record) (test : Bool) (m end own : SessionState) → eqb q.lease l ≡ test → BlindToNumbers answers → Goes answers l qs → Knows answers w c q → IsBehind l q → AllByRecursion (Behind (core_of q)) (map core_of qs) → AreAlike m own → Thread answers m (map core_of (q ∷ qs)) end → RunsAlone answers own (cond test (q ∷ of_lease l qs) (of_lease l qs))
-goes_by answers w c l q qs true m end own e b ih k i g a t = goes_on answers w c l q qs m t.0 end own q.ran b ih k (i.1 (is_same q.lease l e)) a refl t.1.0 k.own t.1.1
-goes_by answers w c l q qs false m end own e b ih k i g a t =
-    subst (λ rs. RunsAlone answers own rs) (sym (none_left l qs (all_later l q qs (less_than l q.lease i.0 e) g))) tt
+goes_by : (answers : Answers) (w : World) (c : Connection) (l : ℕ) (q : Record) (qs : List Record) (test : Bool) (m end own : SessionState) → eqb q.lease l ≡ test → Good answers → Goes answers l c qs → Knows answers w c q → IsBehind l q → AllByRecursion (Behind (core_of q)) (map core_of qs) → AreAlike m own → HasLeft m (q ∷ qs) → HasLeft own (q ∷ qs) → Thread answers (steps_done c) m (map core_of (q ∷ qs)) end → RunsAlone answers own (map (exchange_of c) (cond test (q ∷ filter (λ (p : Record). p.lease == l) qs) (filter (λ (p : Record). p.lease == l) qs)))
+goes_by answers w c l q qs true m end own e b ih k i g a r o t = goes_on answers w c l q qs m t.0 end own q.ran b ih k (i.1 (is_same q.lease l e)) a r o refl t.1.0 k.own t.1.1
+goes_by answers w c l q qs false m end own e b ih k i g a r o t =
+    subst (λ xs. RunsAlone answers own xs) (sym (none_left l c qs (all_later l q qs (less_than l q.lease i.0 e) g))) tt
 
-goes : (answers : Answers) (w : World) (c : Connection) (l : ℕ) (qs : List Record) → BlindToNumbers answers → AllByRecursion (Knows answers w c) qs → AllByRecursion (IsBehind l) qs → InTurn (map core_of qs) → Goes answers l qs
-goes answers w c l [] b k i g m end own a t = tt
-goes answers w c l (q ∷ qs) b k i g m end own a t =
-    goes_by answers w c l q qs (eqb q.lease l) m end own refl b (goes answers w c l qs b k.1 i.1 g.1) k.0 i.0 g.0 a t
+goes : (answers : Answers) (w : World) (c : Connection) (l : ℕ) (qs : List Record) → Good answers → AllByRecursion (Knows answers w c) qs → AllByRecursion (IsBehind l) qs → InTurn (map core_of qs) → Goes answers l c qs
+goes answers w c l [] b k i g m end own a r o t = tt
+goes answers w c l (q ∷ qs) b k i g m end own a r o t =
+    goes_by answers w c l q qs (eqb q.lease l) m end own refl b (goes answers w c l qs b k.1 i.1 g.1) k.0 i.0 g.0 a r o t
 
 -- ---- Until the first one runs
 
@@ -151,7 +193,10 @@ abbrev Before : Connection → ℕ → List Record → Type 0
 Before c l qs = (number : ℕ) → AllByRecursion (NotRun l number) qs → AllByRecursion (NotRun l number) (records c)
 
 abbrev Starts : Answers → World → Connection → ℕ → List Record → Type 0
-Starts answers w c l qs = (m end : SessionState) → Before c l qs → Thread answers m (map core_of qs) end → RunsAlone answers (own_session w (numbered w.leases l)) (of_lease l qs)
+Starts answers w c l qs =
+    (m end : SessionState)
+    → Before c l qs → HasLeft m qs → HasLeft (own_session (numbered w.leases l)) qs
+    → Thread answers (steps_done c) m (map core_of qs) end → RunsAlone answers (own_session (numbered w.leases l)) (of_lease l c qs)
 
 later_not : (l : ℕ) (q : Record) (qs : List Record) → AllByRecursion (Behind (core_of q)) (map core_of qs) → AllByRecursion (NotRun l q.number) qs
 later_not l q [] g = tt
@@ -164,59 +209,111 @@ all_behind l q (p ∷ ps) e r g = (
   all_behind l q ps e r g.1,
 )
 
-starts_on : (answers : Answers) (w : World) (c : Connection) (l : ℕ) (q : Record) (qs : List Record) (m m2 end : SessionState) (ran : Option SessionState) → BlindToNumbers answers → Starts answers w c l qs → (IsRan q.ran → Goes answers l qs) → Knows answers w c q → q.lease ≡ l → AllByRecursion (Behind (core_of q)) (map core_of qs) → Before c l (q ∷ qs) → q.ran ≡ ran → Found answers m q.asking ran m2 → IsOwnAnswer answers q ran → Thread answers m2 (map core_of qs) end → RunsOne answers (own_session w (numbered w.leases l)) q ran (λ next. RunsAlone answers next (of_lease l qs))
-starts_on answers w c l q qs m m2 end None b ih go k is g before e f h t = ih m2 end (λ number n. before number ((λ i less. e), n)) t
-starts_on answers w c l q qs m m2 end (Some ran) b ih go k is g before e f h t = λ r o.
-    let own : SessionState = own_session w (numbered w.leases l) in
+starts_on : (answers : Answers) (w : World) (c : Connection) (l : ℕ) (q : Record) (qs : List Record) (m m2 end : SessionState) (ran : Option SessionState) → Good answers → AllOpen w → Starts answers w c l qs → (IsRan q.ran → Goes answers l c qs) → Knows answers w c q → q.lease ≡ l → AllByRecursion (Behind (core_of q)) (map core_of qs) → Before c l (q ∷ qs) → HasLeft m (q ∷ qs) → HasLeft (own_session (numbered w.leases l)) (q ∷ qs) → q.ran ≡ ran → Found answers (steps_done c q.number) m q.asking ran m2 → IsOwnAnswer answers q ran → Thread answers (steps_done c) m2 (map core_of qs) end
+    → TellsAlone answers (own_session (numbered w.leases l)) (exchange_of c q) ran × RunsAlone answers (session_after (own_session (numbered w.leases l)) (steps_done c q.number) (own_steps answers (own_session (numbered w.leases l)) q.asking.request)) (of_lease l c qs)
+starts_on answers w c l q qs m m2 end None b opens ih go k is g before r o e f h t =
+    let own : SessionState = own_session (numbered w.leases l) in (
+      h,
+      subst (λ n. RunsAlone answers (session_after own n (own_steps answers own q.asking.request)) (of_lease l c qs)) (sym f.1)
+          (ih m2 end (λ number n. before number ((λ i less. e), n)) (subst (λ s. HasLeft s qs) f.0 (less_left m q qs r)) (less_left own q qs o) t),
+    )
+starts_on answers w c l q qs m m2 end (Some ran) b opens ih go k is g before r o e f h t =
+    let own : SessionState = own_session (numbered w.leases l) in
     let none : AllByRecursion (NotRun l q.number) (records c) = before q.number ((λ i less. absurd (omega arith)), later_not l q qs g) in
     let first : AllByRecursion (NotRun q.lease q.number) (records c) = subst (λ x. AllByRecursion (NotRun x q.number) (records c)) (sym is) none in
-    let alike : AreAlike ran own = subst (λ x. AreAlike ran (own_session w (numbered w.leases x))) is (starts_alike w ran (numbered w.leases q.lease) (k.fresh ran e first)) in
-    let left : m2 ≡ session_after ran f.1.0 (own_steps answers ran q.asking.request) = f.1.1 ∙ left_own answers c q ran f.1.0 k.transaction e in
-    let next : SessionState = session_after own f.1.0 (own_steps answers own q.asking.request) in (
-      told_alone answers own ran q b alike r o h,
-      (
-        f.1.0,
-        go (subst IsRan (sym e) tt) m2 end next
-            (subst (λ s. AreAlike s next) (sym left)
-            (after_alike f.1.0 ran own (own_steps answers ran q.asking.request) (own_steps answers own q.asking.request) alike (b ran own q.asking.request alike r o))) t,
-      ),
+    let alike : AreAlike ran own = subst (λ x. AreAlike ran (own_session (numbered w.leases x))) is (starts_alike w ran (numbered w.leases q.lease) (opens q.lease) (k.fresh ran e first)) in
+    let left : HasLeft ran (q ∷ qs) = subst (λ s. HasLeft s (q ∷ qs)) (sym f.0) (reset_left q.asking.mark m (q ∷ qs) r) in
+    let room : HasRoom answers ran q.asking.request = has_room answers ran q qs b.few k.fits left in
+    let own_room : HasRoom answers own q.asking.request = has_room answers own q qs b.few k.fits o in
+    let n : ℕ = steps_done c q.number in (
+      told_alone answers own ran c q b.blind alike room own_room h,
+      go (subst IsRan (sym e) tt) m2 end (session_after own n (own_steps answers own q.asking.request))
+          (left_alike answers c q ran own m m2 b.blind k.transaction e alike room own_room f)
+          (subst (λ s. HasLeft s qs) (sym (f.1 ∙ left_own answers c q ran n k.transaction e)) (after_left answers ran q qs n b.few k.fits left))
+          (after_left answers own q qs n b.few k.fits o) t,
     )
 
-starts_by : (answers : Answers) (w : World) (c : Connection) (l : ℕ) (q : Record) (qs : List Record) (test : Bool) (m end : SessionState) → eqb q.lease l ≡ test → BlindToNumbers answers → Starts answers w c l qs → (q.lease ≡ l → IsRan q.ran → Goes answers l qs) → Knows answers w c q → AllByRecursion (Behind (core_of q)) (map core_of qs) → Before c l (q ∷ qs) → Thread answers m (map core_of (q ∷ qs)) end → RunsAlone answers (own_session w (numbered w.leases l)) (cond test (q ∷ of_lease l qs) (of_lease l qs))
-starts_by answers w c l q qs true m end e b ih go k g before t =
-    let is : q.lease ≡ l = is_same q.lease l e in
-    starts_on answers w c l q qs m t.0 end q.ran b ih (go is) k is g before refl t.1.0 k.own t.1.1
-starts_by answers w c l q qs false m end e b ih go k g before t =
-    ih t.0 end (λ number n. before number ((λ i less. absurd (is_other q.lease l e i)), n)) t.1.1
+-- Descriptors are left behind a request of another lease.
+passes_left : (answers : Answers) (w : World) (c : Connection) (q : Record) (qs : List Record) (m m2 : SessionState) (ran : Option SessionState) → Good answers → Knows answers w c q → HasLeft m (q ∷ qs) → q.ran ≡ ran → Found answers (steps_done c q.number) m q.asking ran m2 → HasLeft m2 qs
+passes_left answers w c q qs m m2 None b k r e f = subst (λ s. HasLeft s qs) f.0 (less_left m q qs r)
+passes_left answers w c q qs m m2 (Some ran) b k r e f =
+    let left : HasLeft ran (q ∷ qs) = subst (λ s. HasLeft s (q ∷ qs)) (sym f.0) (reset_left q.asking.mark m (q ∷ qs) r) in
+    subst (λ s. HasLeft s qs) (sym (f.1 ∙ left_own answers c q ran (steps_done c q.number) k.transaction e)) (after_left answers ran q qs (steps_done c q.number) b.few k.fits left)
 
-starts : (answers : Answers) (w : World) (c : Connection) (l : ℕ) (qs : List Record) → BlindToNumbers answers → AllByRecursion (Knows answers w c) qs → InTurn (map core_of qs) → Starts answers w c l qs
-starts answers w c l [] b k g m end before t = tt
-starts answers w c l (q ∷ qs) b k g m end before t =
-    starts_by answers w c l q qs (eqb q.lease l) m end refl b (starts answers w c l qs b k.1 g.1)
-    (λ e r. goes answers w c l qs b k.1 (all_behind l q qs e r g.0) g.1) k.0 g.0 before t
+starts_by : (answers : Answers) (w : World) (c : Connection) (l : ℕ) (q : Record) (qs : List Record) (test : Bool) (m end : SessionState) → eqb q.lease l ≡ test → Good answers → AllOpen w → Starts answers w c l qs → (q.lease ≡ l → IsRan q.ran → Goes answers l c qs) → Knows answers w c q → AllByRecursion (Behind (core_of q)) (map core_of qs) → Before c l (q ∷ qs) → HasLeft m (q ∷ qs) → HasLeft (own_session (numbered w.leases l)) (q ∷ qs) → Thread answers (steps_done c) m (map core_of (q ∷ qs)) end → RunsAlone answers (own_session (numbered w.leases l)) (map (exchange_of c) (cond test (q ∷ filter (λ (p : Record). p.lease == l) qs) (filter (λ (p : Record). p.lease == l) qs)))
+starts_by answers w c l q qs true m end e b opens ih go k g before r o t =
+    let is : q.lease ≡ l = is_same q.lease l e in
+    starts_on answers w c l q qs m t.0 end q.ran b opens ih (go is) k is g before r o refl t.1.0 k.own t.1.1
+starts_by answers w c l q qs false m end e b opens ih go k g before r o t =
+    ih t.0 end (λ number n. before number ((λ i less. absurd (is_other q.lease l e i)), n)) (passes_left answers w c q qs m t.0 q.ran b k r refl t.1.0) (less_left (own_session (numbered w.leases l)) q qs o) t.1.1
+
+starts : (answers : Answers) (w : World) (c : Connection) (l : ℕ) (qs : List Record) → Good answers → AllOpen w → AllByRecursion (Knows answers w c) qs → InTurn (map core_of qs) → Starts answers w c l qs
+starts answers w c l [] b opens k g m end before r o t = tt
+starts answers w c l (q ∷ qs) b opens k g m end before r o t =
+    starts_by answers w c l q qs (eqb q.lease l) m end refl b opens (starts answers w c l qs b opens k.1 g.1)
+    (λ e i. goes answers w c l qs b k.1 (all_behind l q qs e i g.0) g.1) k.0 g.0 before r o t
 
 -- ---- The law
 
-all_known : (answers : Answers) (w : World) (c : Connection) (qs : List Record) → AllByRecursion (StartsFresh w c) qs → AllByRecursion (λ q. IsOwnAnswer answers q q.ran) qs → AllByRecursion (RanInOwn c) qs → AllByRecursion (Knows answers w c) qs
-all_known answers w c [] f g h = tt
-all_known answers w c (q ∷ qs) f g h = (record { fresh = f.0; own = g.0; transaction = h.0 }, all_known answers w c qs f.1 g.1 h.1)
-
 -- All that a connection was shown to do.
-abbrev Shown : Answers → World → Connection → Type 0
-Shown answers w c =
-    (AllByRecursion (StartsFresh w c) (records c) × AllByRecursion (λ q. IsOwnAnswer answers q q.ran) (records c))
-    × (AllByRecursion (RanInOwn c) (records c) × (Threaded answers c × InTurn (map core_of (records c))))
+pub record Shown (answers : Answers) (w : World) (c : Connection) : Type 0 where
+  pub fresh : AllByRecursion (StartsFresh w c) (records c)
+  pub own : AllByRecursion (λ q. IsOwnAnswer answers q q.ran) (records c)
+  pub transaction : AllByRecursion (RanInOwn c) (records c)
+  pub fits : AllByRecursion (λ (q : Record). Fits q.asking.request) (records c)
+  pub thread : Threaded answers c
+  pub turn : InTurn (map core_of (records c))
 
-alone_on : (answers : Answers) (w : World) (c : Connection) → BlindToNumbers answers → Shown answers w c → (l : ℕ) → RunsAlone answers (own_session w (numbered w.leases l)) (requests_of l c)
-alone_on answers w c b h l =
-    starts answers w c l (records c) b (all_known answers w c (records c) h.0.0 h.0.1 h.1.0) h.1.1.1 new_session c.session (λ number n. n) h.1.1.0
+all_known : (answers : Answers) (w : World) (c : Connection) (qs : List Record) → AllByRecursion (StartsFresh w c) qs → AllByRecursion (λ q. IsOwnAnswer answers q q.ran) qs → AllByRecursion (RanInOwn c) qs → AllByRecursion (λ (q : Record). Fits q.asking.request) qs → AllByRecursion (Knows answers w c) qs
+all_known answers w c [] f g h i = tt
+all_known answers w c (q ∷ qs) f g h i =
+    (record { fresh = f.0; own = g.0; transaction = h.0; fits = i.0 }, all_known answers w c qs f.1 g.1 h.1 i.1)
 
-pub as_if_alone : (setup : Setup) (answers : Answers) → Lawful answers → BlindToNumbers answers → Always setup answers (AsIfAlone answers)
-as_if_alone setup answers l b events =
+own_left : (o : Option Holding) (qs : List Record) → HasLeft (begun new_session) qs → HasLeft (own_session o) qs
+own_left None qs h = new_left qs h
+own_left (Some x) qs h = by_ticket x.resumed
+  where
+    by_ticket : (t : Option ℕ) → HasLeft (session_from t) qs
+    by_ticket None = new_left qs h
+    by_ticket (Some n) = h
+
+alone_on : (answers : Answers) (w : World) (c : Connection) → Good answers → AllOpen w → HasLeft (begun new_session) (records c) → Shown answers w c → (l : ℕ) → RunsAlone answers (own_session (numbered w.leases l)) (exchanges_of l c)
+alone_on answers w c b opens r h l =
+    starts answers w c l (records c) b opens (all_known answers w c (records c) h.fresh h.own h.transaction h.fits) h.turn new_session c.session (λ number n. n)
+    (new_left (records c) r) (own_left (numbered w.leases l) (records c) r) h.thread
+
+-- What holds of the connection of each number.
+at_each : (P : Connection → Type 0) (cs : List Connection) (n : ℕ) (c : Connection) → numbered cs n ≡ Some c → AllByRecursion P cs → P c
+at_each P cs n c t h = subst (OfSome P) t (at_number P cs n h)
+
+each_numbered : (P : Connection → Type 0) (cs : List Connection) → ((n : ℕ) (c : Connection) → numbered cs n ≡ Some c → P c) → AllByRecursion P cs
+each_numbered P cs f = each_at cs (λ i c e. f (suc i) c e)
+  where
+    each_at : (ds : List Connection) → ((i : ℕ) (c : Connection) → slice_get ds i ≡ Some c → P c) → AllByRecursion P ds
+    each_at [] g = tt
+    each_at (d ∷ ds) g = (g 0 d refl, each_at ds (λ i c e. g (suc i) c e))
+
+-- Where so few requests were asked.
+pub as_if_alone : (setup : Setup) (answers : Answers) (events : List Event) → Lawful answers → BlindToNumbers answers → UseFewDescriptors answers → AllByRecursion IsEvent events → let w : World = world_after setup answers events new_world in length w.asked_on ≤ most_events → AsIfAlone answers w
+as_if_alone setup answers events l b u known few =
     let w : World = world_after setup answers events new_world in
     let cs : List Connection = w.connections in
-    each_follows (Shown answers w) (λ c. (x : ℕ) → RunsAlone answers (own_session w (numbered w.leases x)) (requests_of x c)) cs (λ c h. alone_on answers w c b h)
-    (each_both (λ c. AllByRecursion (StartsFresh w c) (records c) × AllByRecursion (λ q. IsOwnAnswer answers q q.ran) (records c)) (λ c. AllByRecursion (RanInOwn c) (records c) × (Threaded answers c × InTurn (map core_of (records c)))) cs
-    (each_both (λ c. AllByRecursion (StartsFresh w c) (records c)) (λ c. AllByRecursion (λ q. IsOwnAnswer answers q q.ran) (records c)) cs (fresh_start setup answers l events) (own_answers setup answers l events))
-    (each_both (λ c. AllByRecursion (RanInOwn c) (records c)) (λ c. Threaded answers c × InTurn (map core_of (records c))) cs (own_transaction setup answers l events)
-    (each_both (Threaded answers) (λ c. InTurn (map core_of (records c))) cs (all_threaded setup answers l events) (all_in_turn setup answers l events))))
+    let good : Good answers = record { blind = b; few = u } in
+    each_numbered (λ c. (x : ℕ) → RunsAlone answers (own_session (numbered w.leases x)) (exchanges_of x c)) cs
+    (λ n c t.
+    alone_on answers w c good (from_open setup answers events)
+    (many_left (records c) (few_on w n c (requests_in_order setup answers events) t few))
+    (record {
+      fresh = at_each (λ d. AllByRecursion (StartsFresh w d) (records d)) cs n c t (fresh_start setup answers l events);
+      own = at_each (λ d. AllByRecursion (λ q. IsOwnAnswer answers q q.ran) (records d)) cs n c t (own_answers setup answers l events);
+      transaction = at_each (λ d. AllByRecursion (RanInOwn d) (records d)) cs n c t (own_transaction setup answers l events);
+      fits = at_each (λ d. AllByRecursion (λ (q : Record). Fits q.asking.request) (records d)) cs n c t (all_fit setup answers events known);
+      thread = at_each (Threaded answers) cs n c t (all_threaded setup answers l events);
+      turn = at_each (λ d. InTurn (map core_of (records d))) cs n c t (all_in_turn setup answers l events);
+    }))
+
+-- Each event asks for one request at most.
+pub alone_after : (setup : Setup) (answers : Answers) → Lawful answers → BlindToNumbers answers → UseFewDescriptors answers → (events : List Event) → AreFewEvents events → AsIfAlone answers (world_after setup answers events new_world)
+alone_after setup answers l b u events h =
+    let few = few_of_each setup answers events in
+    as_if_alone setup answers events l b u h.known (let y : length (world_after setup answers events new_world).asked_on ≤ length events = few.asked in let z : length events ≤ most_events = h.few in omega arith)

@@ -7,7 +7,9 @@ use Rattle.tds_request.specs.declared.request.Request.{Request}
 use Rattle.tds_request.specs.declared.request.Request.TheVariants as request
 use Rattle.tds_session.specs.Answer as answer
 use Rattle.tds_session.specs.Answer.{Answers, script_answers, steps_of, steps_in, batch_steps, and_then, step_then, final_step, last_step, answer_to, wrong_descriptor, refused_batch}
-use Rattle.tds_session.specs.Effects.{Effect, has_error, is_error, begins, begin_by, ends, end_by, done}
+use Rattle.tds_session.specs.declared.transaction.Ending.{Ending}
+use Rattle.tds_session.specs.declared.transaction.Ending.TheVariants as ending
+use Rattle.tds_session.specs.Effects.{Effect, has_error, is_error, begins, begin_by, ends, end_by, told_by, renew_by, renews, completes, done}
 use Rattle.tds_session.specs.Language.{statements_of}
 use Rattle.tds_session.specs.Script.{step_of, with_more}
 use Rattle.tds_session.specs.Session.{SessionState, begun, ended, last_descriptor, value_of}
@@ -108,6 +110,30 @@ ends_alike x s t a =
     subst (λ b. AlikeEffects s t (end_by (eqb s.descriptor 0) x s) (end_by b x t) × AlikeEffects s t (with_more (end_by (eqb s.descriptor 0) x s)) (with_more (end_by b x t))) (none_open s t a)
     (end_alike (eqb s.descriptor 0) x s t a)
 
+-- Commit and rollback that begin anew.
+renewal_alike : (b : Bool) (how : Ending) (s t : SessionState) → AreAlike s t → 1 ≤ s.next_descriptor → 1 ≤ t.next_descriptor → AlikeEffects s t (renew_by b false how s) (renew_by b false how t)
+renewal_alike true how s t a h k = leaves_same s t _ _ a refl refl
+renewal_alike false how s t a h k = record {
+  told = refl;
+  error = refl;
+  after = begun_alike (ended s) (ended t) (ended_alike s t a) h k;
+  next_s = less_one s.next_descriptor;
+  most_s = plus_one s.next_descriptor;
+  next_t = less_one t.next_descriptor;
+  most_t = plus_one t.next_descriptor;
+}
+
+renews_alike : (how : Ending) (s t : SessionState) → AreAlike s t → 1 ≤ s.next_descriptor → 1 ≤ t.next_descriptor → s.next_descriptor < last_descriptor → t.next_descriptor < last_descriptor → AlikeEffects s t (renews how s) (renews how t)
+renews_alike how s t a h k m n =
+    subst (λ u. AlikeEffects s t (renew_by (eqb s.descriptor 0) u how s) (renews how t)) (sym (unused s.next_descriptor m))
+    (subst (λ u. AlikeEffects s t (renew_by (eqb s.descriptor 0) false how s) (renew_by (eqb t.descriptor 0) u how t)) (sym (unused t.next_descriptor n))
+    (subst (λ b. AlikeEffects s t (renew_by (eqb s.descriptor 0) false how s) (renew_by b false how t)) (none_open s t a)
+    (renewal_alike (eqb s.descriptor 0) how s t a h k)))
+
+completes_alike : (how : Ending) (anew : Option ℕ) (s t : SessionState) → AreAlike s t → 1 ≤ s.next_descriptor → 1 ≤ t.next_descriptor → s.next_descriptor < last_descriptor → t.next_descriptor < last_descriptor → AlikeEffects s t (completes how anew s) (completes how anew t)
+completes_alike how None s t a h k m n = (ends_alike (told_by how) s t a).0
+completes_alike how (Some isolation) s t a h k m n = renews_alike how s t a h k m n
+
 value_alike : (s t : SessionState) (k : ℕ) → AreAlike s t → value_of s k ≡ value_of t k
 value_alike s t k a = ap (λ xs. unwrap_or (slice_index_or xs (k - 97) None) (pos 0)) a.settings
 
@@ -191,14 +217,19 @@ last_alike s t e f h = (
 one_room : (s : SessionState) (u : answer.Step) → Room s (u ∷ []) → s.next_descriptor < last_descriptor
 one_room s u h = let z : s.next_descriptor + suc zero ≤ last_descriptor = h in omega arith
 
+completion_alike : (how : Ending) (anew : Option ℕ) (s t : SessionState) → AreAlike s t → 1 ≤ s.next_descriptor → 1 ≤ t.next_descriptor → Room s (last_step (completes how anew s) ∷ []) → Room t (last_step (completes how anew t) ∷ []) → AllAlike (last_step (completes how anew s) ∷ []) (last_step (completes how anew t) ∷ [])
+completion_alike how anew s t a h k m n =
+    last_alike s t (completes how anew s) (completes how anew t)
+    (completes_alike how anew s t a h k (one_room s (last_step (completes how anew s)) m) (one_room t (last_step (completes how anew t)) n))
+
 steps_alike : (q : Request) (s t : SessionState) → AreAlike s t → 1 ≤ s.next_descriptor → 1 ≤ t.next_descriptor → Room s (steps_of statements_of step_of s q) → Room t (steps_of statements_of step_of t q) → AllAlike (steps_of statements_of step_of s q) (steps_of statements_of step_of t q)
 steps_alike (request.Batch text) s t a h k m n = in_alike (statements_of text) s t a h k m n
 steps_alike (request.Begin isolation) s t a h k m n =
     last_alike s t (begins s) (begins t) (begins_alike s t a h k (one_room s (last_step (begins s)) m) (one_room t (last_step (begins t)) n)).0
-steps_alike request.Commit s t a h k m n = last_alike s t (ends change.Commit s) (ends change.Commit t) (ends_alike change.Commit s t a).0
-steps_alike request.Rollback s t a h k m n = last_alike s t (ends change.Rollback s) (ends change.Rollback t) (ends_alike change.Rollback s t a).0
+steps_alike (request.Commit anew) s t a h k m n = completion_alike ending.Commit anew s t a h k m n
+steps_alike (request.Rollback anew) s t a h k m n = completion_alike ending.Rollback anew s t a h k m n
 
-own_is : (s : SessionState) (q : Request) → own_steps script_answers s q ≡ steps_of statements_of step_of s q
+pub own_is : (s : SessionState) (q : Request) → own_steps script_answers s q ≡ steps_of statements_of step_of s q
 own_is s q = then_is (eqb s.descriptor s.descriptor) (steps_of statements_of step_of s q) (wrong_descriptor s q) (same_number s.descriptor)
 
 pub script_is_blind : BlindToNumbers script_answers

@@ -21,7 +21,7 @@ use Rattle.tds_world.proofs.examples.Shown.{with_max, Shows, asked, seen, sessio
 abbrev events : List Event
 events =
     event.Lease ∷ event.Ask 1 (Begin 0) ∷ event.Send 1 ∷ event.ToServer 1 34 ∷ event.Work 1 ∷
-    event.ToClient 1 35 ∷ event.Ask 1 Commit ∷ event.Send 1 ∷ event.ToServer 1 34 ∷
+    event.ToClient 1 35 ∷ event.Ask 1 (Commit None) ∷ event.Send 1 ∷ event.ToServer 1 34 ∷
     event.Work 1 ∷ event.ToClient 1 35 ∷ event.Ask 1 (Begin 0) ∷ event.Send 1 ∷
     event.ToServer 1 34 ∷ event.Work 1 ∷ event.ToClient 1 35 ∷ []
 

@@ -9,12 +9,11 @@ use Rattle.tds_world.specs.declared.event.Event.TheVariants as event
 use Rattle.tds_world.specs.declared.report.Place.TheVariants.{Free}
 use Rattle.tds_world.specs.declared.report.RequestStatus.{RequestStatus}
 use Rattle.tds_world.specs.declared.report.RequestStatus.TheVariants as status
-use Rattle.tds_world.specs.Alone.{requests_of, own_session, own_steps, session_after}
+use Rattle.tds_world.specs.Alone.{Exchange, exchanges_of, own_session, own_steps, session_after}
 use Rattle.tds_world.specs.Connection.{Connection, new_connection}
 use Rattle.tds_world.specs.Events.{world_after}
 use Rattle.tds_world.specs.Laws.{whole_answer}
 use Rattle.tds_world.specs.Observed.{observed}
-use Rattle.tds_world.specs.Record.{Record}
 use Rattle.tds_world.specs.World.{World, new_world, numbered}
 use Rattle.tds_world.proofs.examples.Shown.{with_max, session, value, done}
 
@@ -79,16 +78,20 @@ of (Some c) = c
 abbrev connection : Connection
 connection = of (numbered world.connections 1)
 
--- The same requests on a server of the lease's own, with two steps of the first one done and three of
--- the second: the session that each finds there, and all that it would be told.
-abbrev run_alone : SessionState → List Record → List ℕ → List (SessionState × List Token)
-run_alone own [] steps = []
-run_alone own (q ∷ qs) [] = []
-run_alone own (q ∷ qs) (n ∷ steps) =
-    (own, whole_answer script_answers own q.asking.request)
-    ∷ run_alone (session_after own n (own_steps script_answers own q.asking.request)) qs steps
+-- What came of the lease's requests: of the first one two steps were done, its reset apart, and of the
+-- second three.
+pub done_shared : map (λ (x : Exchange). x.done) (exchanges_of 2 connection) ≡ 2 ∷ 3 ∷ []
+done_shared = refl
 
-pub runs_alone : run_alone (own_session world (numbered world.leases 2)) (requests_of 2 connection) (2 ∷ 3 ∷ []) ≡
+-- The same requests on a server of the lease's own, with as many steps done of each: the session that
+-- each finds there, and all that it would be told.
+abbrev run_alone : SessionState → List Exchange → List (SessionState × List Token)
+run_alone own [] = []
+run_alone own (x ∷ xs) =
+    (own, whole_answer script_answers own x.request)
+    ∷ run_alone (session_after own x.done (own_steps script_answers own x.request)) xs
+
+pub runs_alone : run_alone (own_session (numbered world.leases 2)) (exchanges_of 2 connection) ≡
     (session 0 1, value 0 ∷ done 1 0 ∷ done 1 0 ∷ value 0 ∷ done 1 0 ∷ done 0 0 ∷ []) ∷
     (session 1 2, value 0 ∷ done 1 0 ∷ done 1 0 ∷ done 0 0 ∷ []) ∷ []
 runs_alone = refl

@@ -6,7 +6,9 @@ use Rattle.std.specs.Prelude.{codes, ◌==◌}
 use Rattle.tds_request.specs.declared.request.Request.{Request}
 use Rattle.tds_request.specs.declared.request.Request.TheVariants as request
 use Rattle.tds_session.specs.Answer.{Answers, Step, last_step, final_step, and_then, batch_steps, steps_in, steps_of, wrong_descriptor, answer_to, answer_of}
-use Rattle.tds_session.specs.Effects.{Effect, has_error, fails, begin_by, begins, end_by, ends}
+use Rattle.tds_session.specs.declared.transaction.Ending.{Ending}
+use Rattle.tds_session.specs.declared.transaction.Ending.TheVariants as ending
+use Rattle.tds_session.specs.Effects.{Effect, has_error, fails, begin_by, begins, end_by, told_by, renew_by, completes}
 use Rattle.tds_session.specs.Lawful.{IsStatementDone}
 use Rattle.tds_session.specs.Session.{SessionState, after_reset, last_descriptor}
 use Rattle.tds_token.specs.declared.env_change.EnvChange.TheVariants as change
@@ -40,13 +42,20 @@ begin_none false used_up s = fails_none 50002 (codes "in transaction") s
 begin_none true true s = fails_none 50004 (codes "no descriptor") s
 begin_none true false s = one _ tt
 
-commit_none : (outside : Bool) (s : SessionState) → NoneFinal (end_by outside change.Commit s)
-commit_none true s = fails_none 50003 (codes "no transaction") s
-commit_none false s = one _ tt
+end_none : (outside : Bool) (how : Ending) (s : SessionState) → NoneFinal (end_by outside (told_by how) s)
+end_none true how s = fails_none 50003 (codes "no transaction") s
+end_none false how s = one _ tt
 
-rollback_none : (outside : Bool) (s : SessionState) → NoneFinal (end_by outside change.Rollback s)
-rollback_none true s = fails_none 50003 (codes "no transaction") s
-rollback_none false s = one _ tt
+renewal_none : (outside used_up : Bool) (how : Ending) (s : SessionState) → NoneFinal (renew_by outside used_up how s)
+renewal_none true used_up how s = fails_none 50003 (codes "no transaction") s
+renewal_none false true how s = fails_none 50004 (codes "no descriptor") s
+renewal_none false false how s =
+    let begin : Token = token.Env (change.Begin s.next_descriptor) in
+    All-cons IsStatementDone (token.Env (told_by how s.descriptor)) (begin ∷ []) tt (one begin tt)
+
+completion_none : (how : Ending) (anew : Option ℕ) (s : SessionState) → NoneFinal (completes how anew s)
+completion_none how None s = end_none (s.descriptor == 0) how s
+completion_none how (Some isolation) s = renewal_none (s.descriptor == 0) (s.next_descriptor == last_descriptor) how s
 
 -- ---- Steps
 
@@ -81,14 +90,14 @@ in_has step h s (Some qs) = batch_has step h s qs
 of_has : {S : Type 0} (statements : List ℕ → Option (List S)) (step : SessionState → S → Effect) → ((s : SessionState) (q : S) → NoneFinal (step s q)) → (s : SessionState) (q : Request) → AllByRecursion HasDones (steps_of statements step s q)
 of_has statements step h s (request.Batch text) = in_has step h s (statements text)
 of_has statements step h s (request.Begin i) = last_alone (begins s) (begin_none (s.descriptor == 0) (s.next_descriptor == last_descriptor) s)
-of_has statements step h s request.Commit = last_alone (ends change.Commit s) (commit_none (s.descriptor == 0) s)
-of_has statements step h s request.Rollback = last_alone (ends change.Rollback s) (rollback_none (s.descriptor == 0) s)
+of_has statements step h s (request.Commit anew) = last_alone (completes ending.Commit anew s) (completion_none ending.Commit anew s)
+of_has statements step h s (request.Rollback anew) = last_alone (completes ending.Rollback anew s) (completion_none ending.Rollback anew s)
 
 wrong_has : (s : SessionState) (q : Request) → AllByRecursion HasDones (wrong_descriptor s q)
 wrong_has s (request.Batch text) = and_has true (fails 50010 (codes "descriptor") s) [] (fails_none 50010 (codes "descriptor") s) tt
 wrong_has s (request.Begin i) = last_alone (fails 50010 (codes "descriptor") s) (fails_none 50010 (codes "descriptor") s)
-wrong_has s request.Commit = last_alone (fails 50010 (codes "descriptor") s) (fails_none 50010 (codes "descriptor") s)
-wrong_has s request.Rollback = last_alone (fails 50010 (codes "descriptor") s) (fails_none 50010 (codes "descriptor") s)
+wrong_has s (request.Commit anew) = last_alone (fails 50010 (codes "descriptor") s) (fails_none 50010 (codes "descriptor") s)
+wrong_has s (request.Rollback anew) = last_alone (fails 50010 (codes "descriptor") s) (fails_none 50010 (codes "descriptor") s)
 
 to_has : {S : Type 0} (statements : List ℕ → Option (List S)) (step : SessionState → S → Effect) → ((s : SessionState) (q : S) → NoneFinal (step s q)) → (s : SessionState) (d : ℕ) (q : Request) → AllByRecursion HasDones (answer_to statements step s d q)
 to_has statements step h s d q = either (AllByRecursion HasDones) (eqb d s.descriptor) (steps_of statements step s q) (wrong_descriptor s q) (of_has statements step h s q) (wrong_has s q)

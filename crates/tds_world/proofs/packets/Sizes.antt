@@ -40,8 +40,10 @@ text_size (u ∷ us) = let more : length (text_bytes us) ≡ 2 * length us = tex
 body_size : (q : Request) → Fits q → length (body_of q) ≤ 4000
 body_size (request.Batch units) h = let most : length units ≤ 2000 = h.most in rw (text_size units) (omega arith)
 body_size (request.Begin level) h = omega arith
-body_size request.Commit h = omega arith
-body_size request.Rollback h = omega arith
+body_size (request.Commit None) h = omega arith
+body_size (request.Commit (Some isolation)) h = omega arith
+body_size (request.Rollback None) h = omega arith
+body_size (request.Rollback (Some isolation)) h = omega arith
 
 pub message_size : (descriptor : ℕ) (q : Request) → Fits q → length (spelling descriptor q) ≤ 4022
 message_size descriptor q h =

@@ -5,16 +5,22 @@ use Rattle.tds_session.specs.Answer.{Answers}
 use Rattle.tds_world.specs.declared.event.Event.{Event}
 use Rattle.tds_world.specs.declared.event.Setup.{Setup}
 use Rattle.tds_world.specs.declared.report.Report.{Report}
+use Rattle.tds_world.specs.Alone.{BlindToNumbers}
+use Rattle.tds_world.specs.AloneShown.{ShowsAsIfAlone, steps_in}
 use Rattle.tds_world.specs.Bounds.{IsEvent, IsSetup}
+use Rattle.tds_world.specs.Descriptors.{AreFewEvents, UseFewDescriptors}
 use Rattle.tds_world.specs.Events.{world_after}
 use Rattle.tds_world.specs.Lawful.{Lawful}
 use Rattle.tds_world.specs.Losses.{Played, marked, world_with, observed_with}
 use Rattle.tds_world.specs.Observed.{observed}
 use Rattle.tds_world.specs.Reports.{GivesNoMore, ShowsFewUnderway, ShowsFreshStart, ShowsIdleQuiet, ShowsKeptTransaction, ShowsLendsIdle, ShowsOwnAnswers, ShowsOwnTransaction}
-use Rattle.tds_world.specs.WithLosses.{AlwaysShownWith, AlwaysToldWith, GivesNoMoreWith, IsReportWith, MarksNothing, ShowsNoEndFaults}
+use Rattle.tds_world.specs.RestShown.{ShowsNeverStuckWith}
+use Rattle.tds_world.specs.WithLosses.{AlwaysShownWith, AlwaysToldWith, GivesNoMoreWith, IsReportWith, MarksNothing, ShowsNoEndFaults, events_of}
 use Rattle.tds_world.specs.World.{new_world}
+use Rattle.tds_world.proofs.plays.Alone as alone
 use Rattle.tds_world.proofs.plays.Marks as marks
 use Rattle.tds_world.proofs.plays.Reports as reports
+use Rattle.tds_world.proofs.plays.Rest as rest
 use Rattle.tds_world.proofs.plays.Worlds as worlds
 
 of_shown : (P : Report → Type 0) (setup : Setup) (answers : Answers) (events : List Event) (r : Report) → AlwaysShownWith setup answers P → IsReportWith setup answers events r → P r
@@ -49,6 +55,17 @@ few_underway setup answers events r s l x e =
 
 pub no_fault : (setup : Setup) (answers : Answers) (events : List Event) (r : Report) → IsReportWith setup answers events r → ShowsNoEndFaults r
 no_fault setup answers events r e = of_shown ShowsNoEndFaults setup answers events r (reports.no_fault setup answers) e
+
+pub told_alone : (setup : Setup) (answers : Answers) (events : List Event) (r : Report) → Lawful answers → BlindToNumbers answers → UseFewDescriptors answers → AreFewEvents events → IsReportWith setup answers events r → ShowsAsIfAlone answers (steps_in (world_with setup answers (marked events r.events) new_world)) events r
+told_alone setup answers events r l b u h e =
+    let ps : List Played = marked events r.events in
+    let same : events_of ps ≡ events = marks.events events r.events in
+    subst (ShowsAsIfAlone answers (steps_in (world_with setup answers ps new_world)) events) (sym e)
+    (subst (λ es. ShowsAsIfAlone answers (steps_in (world_with setup answers ps new_world)) es (observed_with setup answers ps)) same
+    (alone.as_if_alone_is_shown setup answers l b u ps (subst AreFewEvents (sym same) h)))
+
+pub comes_to_rest : (setup : Setup) (answers : Answers) (events : List Event) (r : Report) → IsSetup setup → Lawful answers → IsReportWith setup answers events r → ShowsNeverStuckWith setup answers events r
+comes_to_rest = rest.never_stuck_is_marked
 
 -- A front of the events is a front of the play.
 pub after_cancel : (setup : Setup) (answers : Answers) (front later : List Event) (r : Report) → Lawful answers → IsReportWith setup answers (front ++ later) r → GivesNoMoreWith setup answers front r

@@ -72,14 +72,14 @@ shown_at_rest setup answers events more n c p s b =
 whole_in : (p : Place) (s : Standing) → s ≡ In p → is_cut s ≡ false
 whole_in p s e = ap is_cut e
 
-one_stops : (setup : Setup) (answers : Answers) (events : List Event) (n : ℕ) (c : Connection) (p : Place) → Lawful answers → NeverStuck setup answers (world_after setup answers events new_world) → numbered (world_after setup answers events new_world).connections n ≡ Some c → c.standing ≡ In p → IsGood c → CanBeStopped setup answers events (snapshot_of n c p)
+one_stops : (setup : Setup) (answers : Answers) (events : List Event) (n : ℕ) (c : Connection) (p : Place) → Lawful answers → NeverStuck setup answers (world_after setup answers events new_world) → numbered (world_after setup answers events new_world).connections n ≡ Some c → c.standing ≡ In p → IsGood c → CanBeStopped (λ more. observed setup answers (events ++ more)) (snapshot_of n c p)
 one_stops setup answers events n c p l h t s g up down m k =
     let w : World = world_after setup answers events new_world in
     shown_at_rest setup answers events (stopping (In p) n up down) n c p s
     (subst (λ x. BringsToRest setup answers w n c (stopping x n up down)) s
     (h.stops n c up down (number_finds w n c t (whole_in p c.standing s)) (stop_counts answers c up down (cancels_good setup answers c l g).0 m k)))
 
-one_finishes : (setup : Setup) (answers : Answers) (events : List Event) (n : ℕ) (c : Connection) (p : Place) → IsSetup setup → Lawful answers → NeverStuck setup answers (world_after setup answers events new_world) → numbered (world_after setup answers events new_world).connections n ≡ Some c → c.standing ≡ In p → IsGood c → CanBeFinished setup answers events (snapshot_of n c p)
+one_finishes : (setup : Setup) (answers : Answers) (events : List Event) (n : ℕ) (c : Connection) (p : Place) → IsSetup setup → Lawful answers → NeverStuck setup answers (world_after setup answers events new_world) → numbered (world_after setup answers events new_world).connections n ≡ Some c → c.standing ≡ In p → IsGood c → CanBeFinished (λ more. observed setup answers (events ++ more)) (observed setup answers events) (snapshot_of n c p)
 one_finishes setup answers events n c p u l h t s g =
     let w : World = world_after setup answers events new_world in
     let enough = finish_counts setup answers c u l g in (
@@ -100,8 +100,8 @@ never_stuck_is_shown setup answers u l events =
     let h : NeverStuck setup answers w = never_stuck setup answers l events in
     let sound : AllByRecursion Sound w.connections = always Sound setup answers events (sound_kept setup answers l) in
     let within : AllByRecursion LanesWithin w.connections = always LanesWithin setup answers events (within_kept setup answers) in
-    subst (λ shown. AllByRecursion (IsNeverStuck setup answers events) shown) (sym (last_are setup answers events))
-    (each_seen (IsNeverStuck setup answers events) w (λ n c p t s.
+    subst (λ shown. AllByRecursion (IsNeverStuck (λ more. observed setup answers (events ++ more)) (observed setup answers events)) shown) (sym (last_are setup answers events))
+    (each_seen (IsNeverStuck (λ more. observed setup answers (events ++ more)) (observed setup answers events)) w (λ n c p t s.
     let good : IsGood c = (of_there Sound w n c t sound, of_there LanesWithin w n c t within) in
     record {
       stopped = one_stops setup answers events n c p l h t s good;

@@ -1,5 +1,5 @@
 -- Each step of an engine's answers fits one packet, from each session of the program on.
-use Rattle.std.proofs.Common.{◌≡◌, ◌≤◌, ◌<◌, ◌^◌, ℕ, ◌+◌, ◌&&◌, nat_le, List, [], ◌∷◌, ◌++◌, Bool, true, false, cond, length, length-append, refl, subst, Option, Some, None, eqb, arith, lit<, lit≤, codes}
+use Rattle.std.proofs.Common.{◌≡◌, ◌≤◌, ◌<◌, ◌^◌, ℕ, ◌+◌, ◌&&◌, nat_le, List, [], ◌∷◌, ◌++◌, Bool, true, false, cond, length, length-append, refl, sym, subst, Option, Some, None, eqb, arith, lit<, lit≤, codes}
 use Rattle.std.proofs.lemmas.Bool.Decides.{leb_tells, nat_tests}
 use Rattle.std.proofs.lemmas.Int.{fits_signed_from_abs}
 use Rattle.std.proofs.lemmas.List.Elements.{All-head, All-tail}
@@ -10,10 +10,12 @@ use Rattle.tds_packet.specs.declared.status.Reset.{Reset}
 use Rattle.tds_request.specs.declared.request.Request.{Request}
 use Rattle.tds_request.specs.declared.request.Request.TheVariants as request
 use Rattle.tds_session.specs.Answer.{Step, step_then, last_step, final_step, and_then, batch_steps, steps_in, steps_of, wrong_descriptor, answer_to, answer_of}
-use Rattle.tds_session.specs.Effects.{Effect, error, has_error, fails, done, begin_by, end_by}
+use Rattle.tds_session.specs.declared.transaction.Ending.{Ending}
+use Rattle.tds_session.specs.declared.transaction.Ending.TheVariants as ending
+use Rattle.tds_session.specs.Effects.{Effect, error, has_error, fails, done, begin_by, end_by, told_by, renew_by, completes}
 use Rattle.tds_session.specs.Lawful.{IsEffect, FitsPacket}
 use Rattle.tds_session.specs.Laws.Sessions.{begun_is_session, ended_is_session, reset_is_session}
-use Rattle.tds_session.specs.Session.{SessionState, IsSession, begun, ended, after_reset, last_descriptor}
+use Rattle.tds_session.specs.Session.{SessionState, IsSession, begun, ended, renewed, after_reset, last_descriptor}
 use Rattle.tds_token.specs.declared.env_change.EnvChange.{EnvChange}
 use Rattle.tds_token.specs.declared.env_change.EnvChange.TheVariants as change
 use Rattle.tds_token.specs.declared.token.Token.{Token}
@@ -97,9 +99,9 @@ record IsShort (t : Token) : Type 0 where
   pub ranged : Ranged t
   pub under : Under None t
   pub keeps : columns_after None t ≡ None
-  pub short : length (spelling t) ≤ 400
+  pub short : length (spelling t) ≤ 200
 
-short_error : (number : ℕ) (text : List ℕ) → number < 2 ^ 31 → AreUnits text → length text ≤ 100 → length (spelling (error number text)) ≤ 400 → IsShort (error number text)
+short_error : (number : ℕ) (text : List ℕ) → number < 2 ^ 31 → AreUnits text → length text ≤ 100 → length (spelling (error number text)) ≤ 200 → IsShort (error number text)
 short_error number text n units few short = record {
   fits = record { server = lit< tt; procedure = lit< tt; whole = omega (arith, few) };
   ranged = record { number = fits_signed_from_abs w32 (pos number) n; state = lit< tt; class = lit< tt; text = units; server = tt; procedure = tt; line = fits_signed_from_abs w32 (pos 0) (lit< tt) };
@@ -118,13 +120,21 @@ from_written ts most last reset s some few w h = record {
 
 alone_fits : (t : Token) (last : Bool) (reset : Option Reset) (s : SessionState) → IsShort t → IsSession s → FitsStep (record { tokens = t ∷ []; last = last; reset = reset; after = s })
 alone_fits t last reset s k h =
-    from_written (t ∷ []) 400 last reset s (lit< tt) (lit≤ tt) (behind None t [] 400 0 k.fits k.ranged k.under k.short (nothing (columns_after None t))) h
+    from_written (t ∷ []) 200 last reset s (lit< tt) (lit≤ tt) (behind None t [] 200 0 k.fits k.ranged k.under k.short (nothing (columns_after None t))) h
 
 last_fits : (t : Token) (s : SessionState) → IsShort t → IsSession s → FitsStep (last_step (record { tokens = t ∷ []; after = s }))
 last_fits t s k h =
     let failed : Bool = has_error (record { tokens = t ∷ []; after = s }) in
-    from_written (t ∷ done (cond failed 2 0) ∷ []) 413 true None s (lit< tt) (lit≤ tt)
-    (behind None t (done (cond failed 2 0) ∷ []) 400 13 k.fits k.ranged k.under k.short (final_written (columns_after None t) failed)) h
+    from_written (t ∷ done (cond failed 2 0) ∷ []) 213 true None s (lit< tt) (lit≤ tt)
+    (behind None t (done (cond failed 2 0) ∷ []) 200 13 k.fits k.ranged k.under k.short (final_written (columns_after None t) failed)) h
+
+-- Two such tokens, and the final DONE behind them.
+last_two_fit : (t u : Token) (s : SessionState) → IsShort t → IsShort u → IsSession s → FitsStep (last_step (record { tokens = t ∷ u ∷ []; after = s }))
+last_two_fit t u s k l h =
+    let failed : Bool = has_error (record { tokens = t ∷ u ∷ []; after = s }) in
+    let second : Written None (u ∷ done (cond failed 2 0) ∷ []) 213 = behind None u (done (cond failed 2 0) ∷ []) 200 13 l.fits l.ranged l.under l.short (final_written (columns_after None u) failed) in
+    from_written (t ∷ u ∷ done (cond failed 2 0) ∷ []) 413 true None s (lit< tt) (lit≤ tt)
+    (behind None t (u ∷ done (cond failed 2 0) ∷ []) 200 213 k.fits k.ranged k.under k.short (subst (λ columns. Written columns (u ∷ done (cond failed 2 0) ∷ []) 213) (sym k.keeps) second)) h
 
 final_fits : (b : Bool) (s : SessionState) → IsSession s → FitsStep (final_step (cond b 2 0) s)
 final_fits b s h = from_written (done (cond b 2 0) ∷ []) 13 true None s (lit< tt) (lit≤ tt) (final_written None b) h
@@ -158,7 +168,7 @@ no_descriptor = short_error 50004 (codes "no descriptor") (lit< tt) (units_of (c
 no_transaction : IsShort (error 50003 (codes "no transaction"))
 no_transaction = short_error 50003 (codes "no transaction") (lit< tt) (units_of (codes "no transaction") refl) (lit≤ tt) (lit≤ tt)
 
-short_change : (e : EnvChange) → FitsEnv e → RangedEnv e → length (spelling (token.Env e)) ≤ 400 → IsShort (token.Env e)
+short_change : (e : EnvChange) → FitsEnv e → RangedEnv e → length (spelling (token.Env e)) ≤ 200 → IsShort (token.Env e)
 short_change e fits ranged short = record { fits = fits; ranged = ranged; under = tt; keeps = refl; short = short }
 
 -- ---- A transaction's requests
@@ -173,13 +183,25 @@ begin_fits true false s e h =
 some_descriptor : (d : ℕ) → (d == 0) ≡ false → 0 < d
 some_descriptor d e = grind (arith, nat_tests)
 
-commit_fits : (outside : Bool) (s : SessionState) → (s.descriptor == 0) ≡ outside → IsSession s → FitsStep (last_step (end_by outside change.Commit s))
-commit_fits true s e h = last_fits (error 50003 (codes "no transaction")) s no_transaction h
-commit_fits false s e h = last_fits (token.Env (change.Commit s.descriptor)) (ended s) (short_change (change.Commit s.descriptor) (some_descriptor s.descriptor e) h.descriptor (lit≤ tt)) (ended_is_session s h)
+short_end : (how : Ending) (s : SessionState) → (s.descriptor == 0) ≡ false → IsSession s → IsShort (token.Env (told_by how s.descriptor))
+short_end ending.Commit s e h = short_change (change.Commit s.descriptor) (some_descriptor s.descriptor e) h.descriptor (lit≤ tt)
+short_end ending.Rollback s e h = short_change (change.Rollback s.descriptor) (some_descriptor s.descriptor e) h.descriptor (lit≤ tt)
 
-rollback_fits : (outside : Bool) (s : SessionState) → (s.descriptor == 0) ≡ outside → IsSession s → FitsStep (last_step (end_by outside change.Rollback s))
-rollback_fits true s e h = last_fits (error 50003 (codes "no transaction")) s no_transaction h
-rollback_fits false s e h = last_fits (token.Env (change.Rollback s.descriptor)) (ended s) (short_change (change.Rollback s.descriptor) (some_descriptor s.descriptor e) h.descriptor (lit≤ tt)) (ended_is_session s h)
+end_fits : (outside : Bool) (how : Ending) (s : SessionState) → (s.descriptor == 0) ≡ outside → IsSession s → FitsStep (last_step (end_by outside (told_by how) s))
+end_fits true how s e h = last_fits (error 50003 (codes "no transaction")) s no_transaction h
+end_fits false how s e h = last_fits (token.Env (told_by how s.descriptor)) (ended s) (short_end how s e h) (ended_is_session s h)
+
+renewal_fits : (outside used_up : Bool) (how : Ending) (s : SessionState) → (s.descriptor == 0) ≡ outside → (s.next_descriptor == last_descriptor) ≡ used_up → IsSession s → FitsStep (last_step (renew_by outside used_up how s))
+renewal_fits true used_up how s e u h = last_fits (error 50003 (codes "no transaction")) s no_transaction h
+renewal_fits false true how s e u h = last_fits (error 50004 (codes "no descriptor")) s no_descriptor h
+renewal_fits false false how s e u h =
+    let left : s.next_descriptor < 18446744073709551615 = grind (arith, nat_tests, h.next_fits) in
+    last_two_fit (token.Env (told_by how s.descriptor)) (token.Env (change.Begin s.next_descriptor)) (renewed s) (short_end how s e h)
+    (short_change (change.Begin s.next_descriptor) h.next_some h.next_fits (lit≤ tt)) (begun_is_session (ended s) (ended_is_session s h) left)
+
+completion_fits : (how : Ending) (anew : Option ℕ) (s : SessionState) → IsSession s → FitsStep (last_step (completes how anew s))
+completion_fits how None s h = end_fits (s.descriptor == 0) how s refl h
+completion_fits how (Some isolation) s h = renewal_fits (s.descriptor == 0) (s.next_descriptor == last_descriptor) how s refl refl h
 
 -- ---- Answers
 
@@ -212,14 +234,14 @@ Reads {S} IsOne statements = (text : List ℕ) (qs : List S) → statements text
 of_fit : {S : Type 0} (IsOne : S → Type 0) (statements : List ℕ → Option (List S)) (step : SessionState → S → Effect) → Reads IsOne statements → DoFit IsOne step → (s : SessionState) (q : Request) → IsSession s → AllByRecursion FitsStep (steps_of statements step s q)
 of_fit IsOne statements step r f s (request.Batch text) h = in_fit IsOne step f s (statements text) h (r text)
 of_fit IsOne statements step r f s (request.Begin i) h = (begin_fits (s.descriptor == 0) (s.next_descriptor == last_descriptor) s refl h, tt)
-of_fit IsOne statements step r f s request.Commit h = (commit_fits (s.descriptor == 0) s refl h, tt)
-of_fit IsOne statements step r f s request.Rollback h = (rollback_fits (s.descriptor == 0) s refl h, tt)
+of_fit IsOne statements step r f s (request.Commit anew) h = (completion_fits ending.Commit anew s h, tt)
+of_fit IsOne statements step r f s (request.Rollback anew) h = (completion_fits ending.Rollback anew s h, tt)
 
 wrong_fits : (s : SessionState) (q : Request) → IsSession s → AllByRecursion FitsStep (wrong_descriptor s q)
 wrong_fits s (request.Batch text) h = refused_fits 50010 (codes "descriptor") s descriptor h
 wrong_fits s (request.Begin i) h = (last_fits (error 50010 (codes "descriptor")) s descriptor h, tt)
-wrong_fits s request.Commit h = (last_fits (error 50010 (codes "descriptor")) s descriptor h, tt)
-wrong_fits s request.Rollback h = (last_fits (error 50010 (codes "descriptor")) s descriptor h, tt)
+wrong_fits s (request.Commit anew) h = (last_fits (error 50010 (codes "descriptor")) s descriptor h, tt)
+wrong_fits s (request.Rollback anew) h = (last_fits (error 50010 (codes "descriptor")) s descriptor h, tt)
 
 to_fit : {S : Type 0} (IsOne : S → Type 0) (statements : List ℕ → Option (List S)) (step : SessionState → S → Effect) → Reads IsOne statements → DoFit IsOne step → (s : SessionState) (d : ℕ) (q : Request) → IsSession s → AllByRecursion FitsStep (answer_to statements step s d q)
 to_fit IsOne statements step r f s d q h =

@@ -10,7 +10,9 @@ use Rattle.tds_request.specs.declared.request.Request.TheVariants as request
 use Rattle.tds_session.specs.Answer.{Step, last_step, and_then, batch_steps, steps_in, steps_of, wrong_descriptor, answer_to, answer_of, script_answers}
 use Rattle.tds_session.specs.declared.statement.Statement.{Statement}
 use Rattle.tds_session.specs.declared.statement.Statement.TheVariants as statement
-use Rattle.tds_session.specs.Effects.{Effect, is_error, has_error, done, begin_by, begins, end_by, ends}
+use Rattle.tds_session.specs.declared.transaction.Ending.{Ending}
+use Rattle.tds_session.specs.declared.transaction.Ending.TheVariants as ending
+use Rattle.tds_session.specs.Effects.{Effect, is_error, has_error, done, begin_by, begins, end_by, ends, told_by, renew_by, completes}
 use Rattle.tds_session.specs.Language.{statements_of}
 use Rattle.tds_session.specs.Script.{step_of, rows_from, with_more}
 use Rattle.tds_session.specs.Session.{SessionState, after_reset, last_descriptor}
@@ -55,6 +57,21 @@ rollback_counts : (outside : Bool) (s : SessionState) → Counts s (end_by outsi
 rollback_counts true s = refl
 rollback_counts false s = refl
 
+end_counts : (outside : Bool) (how : Ending) (s : SessionState) → Counts s (end_by outside (told_by how) s)
+end_counts outside ending.Commit s = commit_counts outside s
+end_counts outside ending.Rollback s = rollback_counts outside s
+
+-- One ends, and the next one begins: it alone has the next descriptor.
+renewal_counts : (outside used_up : Bool) (how : Ending) (s : SessionState) → Counts s (renew_by outside used_up how s)
+renewal_counts true used_up how s = refl
+renewal_counts false true how s = refl
+renewal_counts false false ending.Commit s = (refl, refl)
+renewal_counts false false ending.Rollback s = (refl, refl)
+
+completion_counts : (how : Ending) (anew : Option ℕ) (s : SessionState) → Counts s (completes how anew s)
+completion_counts how None s = end_counts (s.descriptor == 0) how s
+completion_counts how (Some isolation) s = renewal_counts (s.descriptor == 0) (s.next_descriptor == last_descriptor) how s
+
 -- ---- The answers of an engine whose statements do
 
 last_hands : (s : SessionState) (e : Effect) → Counts s e → HandsOut s (last_step e ∷ [])
@@ -75,14 +92,14 @@ in_hands step h s (Some qs) = batch_hands step h s qs
 of_hands : {S : Type 0} (statements : List ℕ → Option (List S)) (step : SessionState → S → Effect) → ((s : SessionState) (q : S) → Counts s (step s q)) → (s : SessionState) (q : Request) → HandsOut s (steps_of statements step s q)
 of_hands statements step h s (request.Batch text) = in_hands step h s (statements text)
 of_hands statements step h s (request.Begin i) = last_hands s (begins s) (begin_counts (s.descriptor == 0) (s.next_descriptor == last_descriptor) s)
-of_hands statements step h s request.Commit = last_hands s (ends change.Commit s) (commit_counts (s.descriptor == 0) s)
-of_hands statements step h s request.Rollback = last_hands s (ends change.Rollback s) (rollback_counts (s.descriptor == 0) s)
+of_hands statements step h s (request.Commit anew) = last_hands s (completes ending.Commit anew s) (completion_counts ending.Commit anew s)
+of_hands statements step h s (request.Rollback anew) = last_hands s (completes ending.Rollback anew s) (completion_counts ending.Rollback anew s)
 
 wrong_hands : (s : SessionState) (q : Request) → HandsOut s (wrong_descriptor s q)
 wrong_hands s (request.Batch text) = (refl, (refl, tt))
 wrong_hands s (request.Begin i) = (refl, tt)
-wrong_hands s request.Commit = (refl, tt)
-wrong_hands s request.Rollback = (refl, tt)
+wrong_hands s (request.Commit anew) = (refl, tt)
+wrong_hands s (request.Rollback anew) = (refl, tt)
 
 to_hands : {S : Type 0} (statements : List ℕ → Option (List S)) (step : SessionState → S → Effect) → ((s : SessionState) (q : S) → Counts s (step s q)) → (s : SessionState) (d : ℕ) (q : Request) → HandsOut s (answer_to statements step s d q)
 to_hands statements step h s d q = either (HandsOut s) (eqb d s.descriptor) (steps_of statements step s q) (wrong_descriptor s q) (of_hands statements step h s q) (wrong_hands s q)

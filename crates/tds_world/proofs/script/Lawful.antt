@@ -9,7 +9,9 @@ use Rattle.tds_request.specs.declared.request.Request.TheVariants as request
 use Rattle.tds_session.specs.Answer.{Step, step_then, last_step, final_step, and_then, batch_steps, refused_batch, steps_in, steps_of, wrong_descriptor, reset_step, answer_to, answer_of, EndsOnce}
 use Rattle.std.specs.List.{list_any}
 use Rattle.tds_session.specs.Script.{with_more}
-use Rattle.tds_session.specs.Effects.{Effect, is_error, has_error, fails, done, begin_by, begins, end_by, ends}
+use Rattle.tds_session.specs.declared.transaction.Ending.{Ending}
+use Rattle.tds_session.specs.declared.transaction.Ending.TheVariants as ending
+use Rattle.tds_session.specs.Effects.{Effect, is_error, has_error, fails, done, begin_by, begins, end_by, told_by, renew_by, completes}
 use Rattle.tds_session.specs.Session.{SessionState, after_reset, last_descriptor}
 use Rattle.tds_token.specs.declared.env_change.EnvChange.TheVariants as change
 use Rattle.tds_token.specs.declared.token.Token.{Token}
@@ -83,6 +85,21 @@ pub rollback_tells : (b : Bool) (s : SessionState) → Tells s (end_by b change.
 rollback_tells true s = refl
 rollback_tells false s = ap (λ (b : Bool). applied_on (λ next. applied no_reset next []) (cond {A = Option ℕ} b (Some 0) None)) (itself s.descriptor)
 
+end_tells : (b : Bool) (how : Ending) (s : SessionState) → Tells s (end_by b (told_by how) s)
+end_tells b ending.Commit s = commit_tells b s
+end_tells b ending.Rollback s = rollback_tells b s
+
+-- The end is told first: it takes the descriptor to 0, and the beginning takes it to the next one.
+renewal_tells : (b u : Bool) (how : Ending) (s : SessionState) → Tells s (renew_by b u how s)
+renewal_tells true u how s = refl
+renewal_tells false true how s = refl
+renewal_tells false false ending.Commit s = ap (λ (b : Bool). applied_on (λ next. applied no_reset next (change.Begin s.next_descriptor ∷ [])) (cond {A = Option ℕ} b (Some 0) None)) (itself s.descriptor)
+renewal_tells false false ending.Rollback s = ap (λ (b : Bool). applied_on (λ next. applied no_reset next (change.Begin s.next_descriptor ∷ [])) (cond {A = Option ℕ} b (Some 0) None)) (itself s.descriptor)
+
+completion_tells : (how : Ending) (anew : Option ℕ) (s : SessionState) → Tells s (completes how anew s)
+completion_tells how None s = end_tells (s.descriptor == 0) how s
+completion_tells how (Some isolation) s = renewal_tells (s.descriptor == 0) (s.next_descriptor == last_descriptor) how s
+
 -- ---- The answers of an engine whose statements tell what they change
 
 good_batch : {S : Type 0} (step : SessionState → S → Effect) → ((s : SessionState) (q : S) → Tells s (step s q)) → (s : SessionState) (qs : List S) → Good s (batch_steps step s qs)
@@ -101,14 +118,14 @@ good_of : {S : Type 0} (statements : List ℕ → Option (List S)) (step : Sessi
 good_of statements step h s (request.Batch text) = good_in step h s (statements text)
 good_of statements step h s (request.Begin i) =
     good_last s (begins s) (begin_tells (s.descriptor == 0) (s.next_descriptor == last_descriptor) s refl)
-good_of statements step h s request.Commit = good_last s (ends change.Commit s) (commit_tells (s.descriptor == 0) s)
-good_of statements step h s request.Rollback = good_last s (ends change.Rollback s) (rollback_tells (s.descriptor == 0) s)
+good_of statements step h s (request.Commit anew) = good_last s (completes ending.Commit anew s) (completion_tells ending.Commit anew s)
+good_of statements step h s (request.Rollback anew) = good_last s (completes ending.Rollback anew s) (completion_tells ending.Rollback anew s)
 
 good_wrong : (s : SessionState) (q : Request) → Good s (wrong_descriptor s q)
 good_wrong s (request.Batch text) = good_refused 50010 (codes "descriptor") s
 good_wrong s (request.Begin i) = good_last s (fails 50010 (codes "descriptor") s) refl
-good_wrong s request.Commit = good_last s (fails 50010 (codes "descriptor") s) refl
-good_wrong s request.Rollback = good_last s (fails 50010 (codes "descriptor") s) refl
+good_wrong s (request.Commit anew) = good_last s (fails 50010 (codes "descriptor") s) refl
+good_wrong s (request.Rollback anew) = good_last s (fails 50010 (codes "descriptor") s) refl
 
 good_to : {S : Type 0} (statements : List ℕ → Option (List S)) (step : SessionState → S → Effect) → ((s : SessionState) (q : S) → Tells s (step s q)) → (s : SessionState) (d : ℕ) (q : Request) → Good s (answer_to statements step s d q)
 good_to statements step h s d q =

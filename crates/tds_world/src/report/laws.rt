@@ -1,13 +1,21 @@
 //! What the session laws say of a report. Each is the contract of a function without a body: what
 //! holds of the report of the model, `observed`, whatever the events.
+ghost use Rattle.std.specs.Prelude.{List};
 ghost use Rattle.tds_session.specs.Answer.{Answers};
 ghost use Rattle.tds_world.specs.Alone.{BlindToNumbers};
-ghost use Rattle.tds_world.specs.AloneShown.{ShowsAsIfAlone};
+ghost use Rattle.tds_world.specs.AloneShown.{ShowsAsIfAlone, StepsDone, steps_in};
 ghost use Rattle.tds_world.specs.Bounds.{IsEvent, IsSetup};
+ghost use Rattle.tds_world.specs.Descriptors.{AreFewEvents, UseFewDescriptors};
+ghost use Rattle.tds_world.specs.Events.{world_after};
 ghost use Rattle.tds_world.specs.Lawful.{Lawful};
+ghost use Rattle.tds_world.specs.Observed.{observed};
 ghost use Rattle.tds_world.specs.Reports.{AlwaysShown, AlwaysShownOf, AlwaysTold, ShowsFewUnderway, ShowsFreshStart, ShowsIdleQuiet, ShowsKeptTransaction, ShowsLendsIdle, ShowsNoFault, ShowsNothingAfterCancel, ShowsOwnAnswers, ShowsOwnTransaction};
 ghost use Rattle.tds_world.specs.RestShown.{ShowsNeverStuck};
+ghost use Rattle.tds_world.specs.TwoPlays.{ShowGivenAlike};
+ghost use Rattle.tds_world.specs.World.{new_world};
+ghost use Rattle.tds_world.specs.declared.event.Event.{Event};
 ghost use Rattle.tds_world.specs.declared.event.Setup.{Setup};
+ghost use Rattle.tds_world.specs.declared.report.Report.{Report};
 
 /// In each snapshot whose client is idle both byte counts are 0, and the two descriptors are one.
 pub fn idle_is_quiet()
@@ -77,9 +85,23 @@ pub fn never_stuck()
 {}
 
 /// Each lease that is shown was told what it would be told alone: each of its requests that ran did so
-/// in a session alike to that of a server which nobody else ever had, and its tokens are a beginning
-/// of what is told there, all of it where it is finished; as long as descriptors are left. It holds
-/// for answers that are blind to the numbers of transactions.
+/// in a session alike to that of a server which nobody else ever had, where as many steps were done of
+/// each, and its tokens are a beginning of what is told there, all of it where it is finished. How many
+/// steps were done is read off the world. It holds for answers that are blind to the numbers of
+/// transactions and use few of them.
 pub fn as_if_alone()
-    ensures { (setup : Setup) (answers : Answers) → Lawful answers → BlindToNumbers answers → AlwaysTold setup answers (ShowsAsIfAlone answers) }
+    ensures { (setup : Setup) (answers : Answers) → Lawful answers → BlindToNumbers answers
+        → UseFewDescriptors answers → (events : List Event) → AreFewEvents events
+        → ShowsAsIfAlone answers (steps_in (world_after setup answers events new_world)) events
+        (observed setup answers events) }
+{}
+
+/// Two reports that show each lease to be told what it would be told alone, as those of any two plays
+/// do: a lease of each, both resumed or neither, is given the same as far as both go, as long as they
+/// asked the same requests and as many steps were done of each.
+pub fn given_alike()
+    ensures { (answers : Answers) (done done_there : StepsDone) (events events_there : List Event)
+        (r there : Report) → ShowsAsIfAlone answers done events r
+        → ShowsAsIfAlone answers done_there events_there there
+        → ShowGivenAlike done events r done_there events_there there }
 {}

@@ -4,16 +4,20 @@
 ghost use Rattle.std.specs.Prelude.{◌≡◌, ◌++◌, List};
 ghost use Rattle.std.specs.List.{AllByRecursion};
 ghost use Rattle.tds_session.specs.Answer.{Answers};
+ghost use Rattle.tds_world.specs.Alone.{BlindToNumbers};
+ghost use Rattle.tds_world.specs.AloneShown.{ShowsAsIfAlone, steps_in};
 ghost use Rattle.tds_world.specs.Bounds.{IsEvent, IsSetup};
+ghost use Rattle.tds_world.specs.Descriptors.{AreFewEvents, UseFewDescriptors};
 ghost use Rattle.tds_world.specs.Events.{world_after};
 ghost use Rattle.tds_world.specs.Lawful.{Lawful};
-ghost use Rattle.tds_world.specs.Losses.{marked, world_with};
+ghost use Rattle.tds_world.specs.Losses.{Played, marked, observed_with, world_with};
 ghost use Rattle.tds_world.specs.Observed.{observed};
 ghost use Rattle.tds_world.specs.Reports.{ShowsFewUnderway, ShowsFreshStart, ShowsIdleQuiet};
 ghost use Rattle.tds_world.specs.Reports.{ShowsKeptTransaction, ShowsLendsIdle, ShowsOwnAnswers};
 ghost use Rattle.tds_world.specs.Reports.{ShowsOwnTransaction};
+ghost use Rattle.tds_world.specs.RestShown.{ShowsNeverStuckWith};
 ghost use Rattle.tds_world.specs.WithLosses.{AlwaysShownOfEvents, AlwaysShownWith, AlwaysToldWith};
-ghost use Rattle.tds_world.specs.WithLosses.{GivesNoMoreWith, IsReportWith, MarksNothing};
+ghost use Rattle.tds_world.specs.WithLosses.{GivesNoMoreWith, IsReportWith, MarksNothing, events_of};
 ghost use Rattle.tds_world.specs.WithLosses.{ShowsNoEndFaults, ShowsNothingAfterCancelWith};
 ghost use Rattle.tds_world.specs.World.{new_world};
 ghost use Rattle.tds_world.specs.declared.event.Event.{Event};
@@ -80,6 +84,15 @@ pub fn lends_idle()
         → AlwaysShownWith setup answers ShowsLendsIdle }
 {}
 
+/// Each lease that is shown was told what it would be told alone, whatever others did and whatever was
+/// lost. How many steps were done of each request is read off the world.
+pub fn as_if_alone()
+    ensures { (setup : Setup) (answers : Answers) → Lawful answers → BlindToNumbers answers
+        → UseFewDescriptors answers → (ps : List Played) → AreFewEvents (events_of ps)
+        → ShowsAsIfAlone answers (steps_in (world_with setup answers ps new_world)) (events_of ps)
+        (observed_with setup answers ps) }
+{}
+
 /// All this of a report that is the model's of some events, with the losses that it marks itself.
 pub fn of_marked_report()
     ensures own_answers { (setup : Setup) (answers : Answers) (events : List Event) (r : Report)
@@ -105,6 +118,14 @@ pub fn of_marked_report()
         → IsReportWith setup answers events r → ShowsFewUnderway r }
     ensures no_fault { (setup : Setup) (answers : Answers) (events : List Event) (r : Report)
         → IsReportWith setup answers events r → ShowsNoEndFaults r }
+    ensures comes_to_rest { (setup : Setup) (answers : Answers) (events : List Event)
+        (r : Report) → IsSetup setup → Lawful answers → IsReportWith setup answers events r
+        → ShowsNeverStuckWith setup answers events r }
+    ensures told_alone { (setup : Setup) (answers : Answers) (events : List Event) (r : Report)
+        → Lawful answers → BlindToNumbers answers → UseFewDescriptors answers
+        → AreFewEvents events → IsReportWith setup answers events r
+        → ShowsAsIfAlone answers
+        (steps_in (world_with setup answers (marked events r.events) new_world)) events r }
     ensures whole { (setup : Setup) (answers : Answers) (events : List Event) (r : Report)
         → IsReportWith setup answers events r → MarksNothing r
         → r ≡ observed setup answers events }

@@ -195,7 +195,7 @@ const A_RESET_CANCELLED_WHEN_IT_IS_DONE: [Step; 7] = [
     Step::Told(b""),
 ];
 
-const ANSWERS: [Script; 11] = [
+const ANSWERS: [Script; 13] = [
     ("an answer in parts", &AN_ANSWER_IN_PARTS),
     ("rows in two packets", &ROWS_IN_TWO_PACKETS),
     ("rows in one packet", &ROWS_IN_ONE_PACKET),
@@ -216,6 +216,8 @@ const ANSWERS: [Script; 11] = [
         "a reset cancelled when it is done",
         &A_RESET_CANCELLED_WHEN_IT_IS_DONE,
     ),
+    ("a commit that begins anew", &renewals::HEARD),
+    ("a cancelled commit has begun anew", &renewals::CANCELLED),
 ];
 
 #[test]

@@ -14,8 +14,9 @@ pub enum Ask {
     Batch(&'static [u8]),
     /// A batch of this many letters.
     LongBatch(usize),
-    Commit,
-    Rollback,
+    /// A commit, which may begin anew at this isolation level.
+    Commit(Option<u8>),
+    Rollback(Option<u8>),
 }
 
 /// What goes out.
@@ -178,8 +179,15 @@ fn request(alloc: Global, ask: Ask) -> Result<Request, Fail> {
         Ask::Begin(level) => Ok(Request::Begin(Isolation::new(level).ok_or("level")?)),
         Ask::Batch(text) => batch(alloc, text),
         Ask::LongBatch(count) => long_batch(alloc, count),
-        Ask::Commit => Ok(Request::Commit),
-        Ask::Rollback => Ok(Request::Rollback),
+        Ask::Commit(anew) => Ok(Request::Commit(isolation(anew)?)),
+        Ask::Rollback(anew) => Ok(Request::Rollback(isolation(anew)?)),
+    }
+}
+
+fn isolation(level: Option<u8>) -> Result<Option<Isolation>, Fail> {
+    match level {
+        Some(level) => Ok(Some(Isolation::new(level).ok_or("level")?)),
+        None => Ok(None),
     }
 }
 

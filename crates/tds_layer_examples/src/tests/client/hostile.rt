@@ -157,7 +157,7 @@ const A_ROW_WITHOUT_COLUMNS: [Step; 11] = [
     Step::Fault(&ROW, 8),
 ];
 
-const HOSTILE: [Script; 13] = [
+const HOSTILE: [Script; 14] = [
     ("a row behind the final done", &A_ROW_BEHIND_THE_FINAL_DONE),
     ("an unasked acknowledgement", &AN_UNASKED_ACKNOWLEDGEMENT),
     ("a wrong change", &A_WRONG_CHANGE),
@@ -179,6 +179,10 @@ const HOSTILE: [Script; 13] = [
         &AN_ACKNOWLEDGEMENT_IN_CANCELLING,
     ),
     ("a fault behind a change", &A_FAULT_BEHIND_A_CHANGE),
+    (
+        "a begin before the end of the transaction",
+        &renewals::BEGUN_BEFORE_ITS_END,
+    ),
     ("refusals", &REFUSALS),
 ];
 

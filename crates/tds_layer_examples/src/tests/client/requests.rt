@@ -51,7 +51,7 @@ const A_BEGIN_AND_ITS_ANSWER: [Step; 10] = [
 const THE_DESCRIPTOR_HEARD_IS_IN_THE_NEXT_HEADER: [Step; 4] = [
     Step::Asks(Ask::Begin(0)),
     Step::Take(&BEGUN, Taken::Finished),
-    Step::Start(Ask::Commit),
+    Step::Start(Ask::Commit(None)),
     Step::Send(Sent::Last, Out::Is(&COMMIT)),
 ];
 
@@ -72,7 +72,7 @@ const A_RESET_THAT_KEEPS_THE_TRANSACTION: [Step; 10] = [
     Step::Asks(Ask::Begin(0)),
     Step::Take(&BEGUN, Taken::Finished),
     Step::Mark(Reset::KeepTransaction),
-    Step::Start(Ask::Rollback),
+    Step::Start(Ask::Rollback(None)),
     Step::Send(Sent::Last, Out::Is(&RESET_AND_ROLLBACK)),
     Step::Take(&RESET, Taken::More),
     Step::MarkIs(None),

@@ -7,6 +7,8 @@ use tds_token::EnvChange;
 enum Call {
     Begin(Option<u64>),
     End(Option<u64>),
+    /// Ends a transaction and begins the next one.
+    Renew(Option<(u64, u64)>),
     Reset(Reset),
     Descriptor(u64),
     /// Gives `a` a value.
@@ -19,18 +21,31 @@ enum Call {
     TellsBegin(u64),
     TellsCommit(u64),
     TellsRollback(u64),
+    /// The tokens of a renewal tell first the descriptor ended and then the one begun.
+    TellsRenewal(Ending, u64, u64),
+    /// The token of a renewal is the ERROR of this number.
+    RefusesRenewal(Ending, i32),
 }
 
-/// Whether a begin, a commit or a rollback appends one token, which tells the descriptor.
+/// Whether a begin, a commit or a rollback appends one token, which tells the descriptor, and a
+/// renewal the tokens that are expected of it.
 fn tells(alloc: Global, session: &mut Session, call: Call) -> Result<bool, Fail> {
     let mut tokens = Vec::new(alloc);
     match call {
         Call::TellsBegin(_) => begin_transaction(alloc, session, &mut tokens)?,
         Call::TellsCommit(_) => commit_transaction(alloc, session, &mut tokens)?,
         Call::TellsRollback(_) => roll_back_transaction(alloc, session, &mut tokens)?,
+        Call::TellsRenewal(ending, _, _) | Call::RefusesRenewal(ending, _) => {
+            renew_transaction(alloc, session, ending, &mut tokens)?;
+        }
         _ => {}
     }
-    Ok(match (tokens.as_slice(), call) {
+    Ok(is_told(tokens.as_slice(), call))
+}
+
+/// Whether these tokens are what such a call is expected to append.
+fn is_told(tokens: &[Token], call: Call) -> bool {
+    match (tokens, call) {
         ([Token::Env(EnvChange::Begin(found))], Call::TellsBegin(descriptor)) => {
             *found == descriptor
         }
@@ -40,8 +55,23 @@ fn tells(alloc: Global, session: &mut Session, call: Call) -> Result<bool, Fail>
         ([Token::Env(EnvChange::Rollback(found))], Call::TellsRollback(descriptor)) => {
             *found == descriptor
         }
+        (
+            [
+                Token::Env(EnvChange::Commit(end)),
+                Token::Env(EnvChange::Begin(begin)),
+            ],
+            Call::TellsRenewal(Ending::Commit, ended, begun),
+        ) => (*end, *begin) == (ended, begun),
+        (
+            [
+                Token::Env(EnvChange::Rollback(end)),
+                Token::Env(EnvChange::Begin(begin)),
+            ],
+            Call::TellsRenewal(Ending::Rollback, ended, begun),
+        ) => (*end, *begin) == (ended, begun),
+        ([Token::Error(error)], Call::RefusesRenewal(_, number)) => error.number == number,
         _ => false,
-    })
+    }
 }
 
 /// Whether a call goes as expected.
@@ -49,6 +79,7 @@ fn goes(alloc: Global, session: &mut Session, call: Call) -> Result<bool, Fail> 
     match call {
         Call::Begin(descriptor) => Ok(session.begin() == descriptor),
         Call::End(descriptor) => Ok(session.end() == descriptor),
+        Call::Renew(descriptors) => Ok(session.renew() == descriptors),
         Call::Reset(reset) => {
             session.reset(reset);
             Ok(true)
@@ -76,7 +107,7 @@ fn plays(alloc: Global, calls: &[Call]) -> Result<Option<usize>, Fail> {
     Ok(None)
 }
 
-const SCRIPTS: [(&str, &[Call]); 5] = [
+const SCRIPTS: [(&str, &[Call]); 8] = [
     (
         "descriptors rise through resets",
         &[
@@ -106,6 +137,38 @@ const SCRIPTS: [(&str, &[Call]); 5] = [
     (
         "a rollback tells the descriptor",
         &[Call::Begin(Some(1)), Call::TellsRollback(1)],
+    ),
+    (
+        "a renewal ends one transaction and begins the next",
+        &[
+            Call::Set(7),
+            Call::Begin(Some(1)),
+            Call::Renew(Some((1, 2))),
+            Call::Descriptor(2),
+            Call::Get(7),
+            Call::Renew(Some((2, 3))),
+            Call::End(Some(3)),
+            Call::Begin(Some(4)),
+        ],
+    ),
+    (
+        "outside a transaction nothing is renewed",
+        &[
+            Call::Renew(None),
+            Call::RefusesRenewal(Ending::Commit, 50003),
+            Call::RefusesRenewal(Ending::Rollback, 50003),
+            Call::Descriptor(0),
+            Call::Begin(Some(1)),
+        ],
+    ),
+    (
+        "a renewal tells the end and then the beginning",
+        &[
+            Call::Begin(Some(1)),
+            Call::TellsRenewal(Ending::Commit, 1, 2),
+            Call::TellsRenewal(Ending::Rollback, 2, 3),
+            Call::Descriptor(3),
+        ],
     ),
 ];
 

@@ -89,7 +89,7 @@ returns-clause-alike g c = λ setup is tells play.
     let order : RequestsInOrder w = subst RequestsInOrder (sym (world_is setup answers (marked (take i es) rs) new_world)) (c.worlds_hold.ensures.order setup (with_cuts setup answers (marked (take i es) rs) new_world)) in
     let laws = c.of_marked_report.ensures in
     in_the_end setup answers engine es i c.events.player _ rs c.new-2.result c.new-3.result
-    is c.events.invariant.known c.events.invariant.tied (omega (arith, c.events-test.false)) far c.new-2.ensures
+    is c.events.invariant.known c.requires.few c.events.invariant.tied (omega (arith, c.events-test.false)) far c.new-2.ensures
     (c.new-3.ensures ∙ c.in_ok-into_requests.ensures setup engine _ w far.play order)
     (laws.whole setup answers es) (laws.plain setup answers es)
 

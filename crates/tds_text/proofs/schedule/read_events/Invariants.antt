@@ -10,6 +10,6 @@ found_and_left found left = option_map (λ rest. found ++ rest) left
 
 abbrev pub invariant-loop-index : goal.invariant-loop-index
 invariant-loop-index l = record {
-  found : events_of (items_view l.values) ≡ found_and_left l.events.items (events_of (items_view (drop l.index l.values)));
-  passed : wrong_event 1 (items_view l.values) ≡ wrong_event (l.index + 1) (items_view (drop l.index l.values));
+  found : events_of l.version (items_view l.values) ≡ found_and_left l.events.items (events_of l.version (items_view (drop l.index l.values)));
+  passed : wrong_event l.version 1 (items_view l.values) ≡ wrong_event l.version (l.index + 1) (items_view (drop l.index l.values));
 }

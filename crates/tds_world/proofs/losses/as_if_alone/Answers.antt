@@ -1,8 +1,5 @@
-use Rattle.tds_world.specs.Alone.{AsIfAlone}
-use Rattle.tds_world.proofs.alone.AsIfAlone as alone
-use Rattle.tds_world.proofs.plays.Worlds as worlds
+use Rattle.tds_world.proofs.plays.Alone as alone
 use Rattle.tds_world.proofs.losses.as_if_alone.Goals as goal
 
 pub returns : goal.returns
-returns c setup answers l blind =
-    worlds.always_with (AsIfAlone answers) setup answers (alone.as_if_alone setup answers l blind)
+returns c = alone.as_if_alone

@@ -28,6 +28,12 @@ returns-clause-few_underway c = headline.few_underway
 pub returns-clause-no_fault : goal.returns-clause-no_fault
 returns-clause-no_fault c = headline.no_fault
 
+pub returns-clause-comes_to_rest : goal.returns-clause-comes_to_rest
+returns-clause-comes_to_rest c = headline.comes_to_rest
+
+pub returns-clause-told_alone : goal.returns-clause-told_alone
+returns-clause-told_alone c = headline.told_alone
+
 pub returns-clause-whole : goal.returns-clause-whole
 returns-clause-whole c = headline.whole
 

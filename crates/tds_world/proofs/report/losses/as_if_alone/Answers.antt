@@ -1,0 +1,5 @@
+use Rattle.tds_world.proofs.plays.Alone as alone
+use Rattle.tds_world.proofs.report.losses.as_if_alone.Goals as goal
+
+pub returns : goal.returns
+returns c = alone.as_if_alone_is_shown
