@@ -6,7 +6,7 @@ mod outside;
 mod places;
 mod refusals;
 
-use crate::explaining::event::put_event_fault;
+use crate::explaining::event::WrongEvent;
 use crate::explaining::json::put_json_fault;
 use crate::explaining::outside::{Outline, put_outside_faults};
 use crate::explaining::places::parts_of;
@@ -116,7 +116,17 @@ fn put_event(
     let events = value.get("events").and_then(Value::as_array);
     match events.and_then(|events| events.as_slice().get(index)) {
         None => Ok(()),
-        Some(event) => put_event_fault(alloc, text, page, place, at, parts.as_slice(), event),
+        Some(event) => {
+            let wrong = WrongEvent {
+                alloc,
+                page,
+                version: value.get("version").and_then(Value::as_u64).unwrap_or(1),
+                place,
+                at,
+                parts: parts.as_slice(),
+            };
+            wrong.put(text, event)
+        }
     }
 }
 

@@ -45,9 +45,13 @@ impl Field {
     }
 }
 
-/// What an event's array has behind its word; none where there is no such word.
-fn fields_of(word: &str) -> Option<&'static [Field]> {
+/// What an event's array has behind its word, of so many values, in a file of this version; none
+/// where there is no such word.
+fn fields_of(word: &str, count: usize, version: u64) -> Option<&'static [Field]> {
     match word {
+        "commit" | "rollback" if version == 2 && count == 2 => {
+            Some(&[Field::Lease, Field::Isolation])
+        }
         "lease" | "restart_server" | "restart_client" => Some(&[]),
         "resume" | "abandon" => Some(&[Field::Ticket]),
         "give_back" | "keep" | "commit" | "rollback" | "send" | "cancel" => Some(&[Field::Lease]),
@@ -63,87 +67,86 @@ fn fields_of(word: &str) -> Option<&'static [Field]> {
 const WORDS: &str = "lease, resume, give_back, keep, abandon, batch, begin, commit, rollback, \
     send, cancel, work, to_server, to_client, cut, restart_server and restart_client";
 
-/// Appends what is wrong with the event at a place, from 1, whose array begins behind so many bytes
-/// and has these parts.
-pub(crate) fn put_event_fault<'a>(
-    alloc: Global,
-    text: &mut String,
-    page: Page<'a>,
-    place: usize,
-    at: usize,
-    parts: &'a [usize],
-    event: &'a Value,
-) -> Result<(), AllocError> {
-    let Some(values) = event.as_array() else {
-        put_front(text, page, at, place)?;
-        text.push_str("an event is an array that begins with its word; here stands ")?;
-        put_value(alloc, text, event)?;
-        return text.push_str("\n");
-    };
-    let [first, fields @ ..] = values.as_slice() else {
-        put_front(text, page, at, place)?;
-        return text.push_str("an event's array begins with its word; here it is empty\n");
-    };
-    let word_at = parts.first().copied().unwrap_or(at);
-    let word = first.as_str().unwrap_or("");
-    let Some(wanted) = fields_of(word) else {
-        put_front(text, page, word_at, place)?;
-        text.push_str("there is no event ")?;
-        put_value(alloc, text, first)?;
-        return writeln!(text, "; the words are {WORDS}");
-    };
-    let event = Event {
-        alloc,
-        page,
-        place,
-        word,
-        parts,
-    };
-    event.put_fields(text, word_at, wanted, fields)
-}
-
-/// An event with a lawful word.
+/// An event that is wrong.
 #[derive(Clone, Copy)]
-struct Event<'a> {
-    alloc: Global,
-    page: Page<'a>,
-    place: usize,
-    word: &'a str,
-    parts: &'a [usize],
+pub(crate) struct WrongEvent<'a> {
+    pub(crate) alloc: Global,
+    pub(crate) page: Page<'a>,
+    /// The file's version.
+    pub(crate) version: u64,
+    /// The event's place, from 1, where it begins, and where its parts do.
+    pub(crate) place: usize,
+    pub(crate) at: usize,
+    pub(crate) parts: &'a [usize],
 }
 
-impl Event<'_> {
+impl WrongEvent<'_> {
+    /// Appends what is wrong with it.
+    pub(crate) fn put(&self, text: &mut String, event: &Value) -> Result<(), AllocError> {
+        let Some(values) = event.as_array() else {
+            self.put_front(text, self.at)?;
+            text.push_str("an event is an array that begins with its word; here stands ")?;
+            put_value(self.alloc, text, event)?;
+            return text.push_str("\n");
+        };
+        let [first, fields @ ..] = values.as_slice() else {
+            self.put_front(text, self.at)?;
+            return text.push_str("an event's array begins with its word; here it is empty\n");
+        };
+        let word = first.as_str().unwrap_or("");
+        match fields_of(word, fields.len(), self.version) {
+            Some(wanted) => self.put_fields(text, word, wanted, fields),
+            None => {
+                self.put_front(text, self.part(0))?;
+                text.push_str("there is no event ")?;
+                put_value(self.alloc, text, first)?;
+                writeln!(text, "; the words are {WORDS}")
+            }
+        }
+    }
+
+    /// Where a part of it begins.
+    fn part(&self, index: usize) -> usize {
+        self.parts.get(index).copied().unwrap_or(self.at)
+    }
+
+    fn put_front(&self, text: &mut String, at: usize) -> Result<(), AllocError> {
+        put_place(text, self.page, at)?;
+        write!(text, "event {}: ", self.place)
+    }
+
     /// Appends which field is wrong.
     fn put_fields(
         &self,
         text: &mut String,
-        word_at: usize,
+        word: &str,
         wanted: &[Field],
         fields: &[Value],
     ) -> Result<(), AllocError> {
-        let word = self.word;
         if fields.len() != wanted.len() {
-            put_front(text, self.page, word_at, self.place)?;
+            self.put_front(text, self.part(0))?;
             write!(text, "behind \"{word}\" ")?;
             put_wanted(text, wanted)?;
-            return writeln!(text, "; here {} stand", fields.len());
+            return match fields.len() {
+                1 => text.push_str("; here 1 stands\n"),
+                count => writeln!(text, "; here {count} stand"),
+            };
         }
         for (index, (value, wanted)) in fields.iter().zip(wanted.iter()).enumerate() {
             if wanted.takes(value) {
                 continue;
             }
-            let at = self.parts.get(index.saturating_add(1)).copied();
-            put_front(text, self.page, at.unwrap_or(word_at), self.place)?;
             let nth = index.saturating_add(1);
+            self.put_front(text, self.part(nth))?;
+            let wanted = wanted.wanted();
             write!(
                 text,
-                "value {nth} behind \"{word}\" is {}; here stands ",
-                wanted.wanted()
+                "value {nth} behind \"{word}\" is {wanted}; here stands "
             )?;
             put_value(self.alloc, text, value)?;
             return text.push_str("\n");
         }
-        put_front(text, self.page, word_at, self.place)?;
+        self.put_front(text, self.part(0))?;
         writeln!(text, "this version of schedules has no such \"{word}\"")
     }
 }
@@ -153,19 +156,12 @@ fn put_wanted(text: &mut String, wanted: &[Field]) -> Result<(), AllocError> {
     match wanted {
         [] => text.push_str("nothing stands"),
         [one] => write!(text, "1 value stands: {}", one.wanted()),
-        [first, second] => write!(
-            text,
-            "2 values stand: {}, and {}",
-            first.wanted(),
-            second.wanted()
-        ),
+        [first, second] => {
+            let (first, second) = (first.wanted(), second.wanted());
+            write!(text, "2 values stand: {first}, and {second}")
+        }
         _ => Ok(()),
     }
-}
-
-fn put_front(text: &mut String, page: Page<'_>, at: usize, place: usize) -> Result<(), AllocError> {
-    put_place(text, page, at)?;
-    write!(text, "event {place}: ")
 }
 
 /// How many characters of a text are shown.

@@ -160,7 +160,7 @@ fn put_value_fault(
         return Ok(());
     };
     let (is_right, wanted) = match key {
-        "version" => (value.as_u64() == Some(1), "the number 1"),
+        "version" => (matches!(value.as_u64(), Some(1 | 2)), "the number 1 or 2"),
         "packet_size" => (is_at_most(value, 65_535), "a whole number, 512 to 32767"),
         "max" => (is_at_most(value, 255), "a whole number, 1 to 64"),
         _ => (value.is_array(), "an array of events"),
