@@ -207,8 +207,14 @@ const WRONG_EVENTS: [&str; 26] = [
 /// Files by their pieces, each so many times.
 const PIECES: [(&[(&str, usize)], (u8, usize)); 15] = [
     // A commit or rollback that begins the next transaction, in version 2.
-    (&[(HEAD_OF_TWO, 1), ("[\"commit\",1,5]", 1), (END, 1)], (0, 0)),
-    (&[(HEAD_OF_TWO, 1), ("[\"commit\",1,6]", 1), (END, 1)], (2, 1)),
+    (
+        &[(HEAD_OF_TWO, 1), ("[\"commit\",1,5]", 1), (END, 1)],
+        (0, 0),
+    ),
+    (
+        &[(HEAD_OF_TWO, 1), ("[\"commit\",1,6]", 1), (END, 1)],
+        (2, 1),
+    ),
     (
         &[(HEAD_OF_TWO, 1), ("[\"rollback\",1,null]", 1), (END, 1)],
         (2, 1),
