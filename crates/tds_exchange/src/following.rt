@@ -46,7 +46,7 @@ pub fn play_kept(alloc: Global, setup: Setup, events: Vec<Event>) -> Result<Exch
 }
 
 /// How many bytes of a connection have come.
-#[derive(Clone, Copy, Drop)]
+#[derive(Clone, Copy)]
 struct Came {
     to_server: u64,
     to_client: u64,

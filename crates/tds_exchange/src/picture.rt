@@ -24,7 +24,7 @@ use std::alloc::{AllocError, Global};
 const SHOWN: usize = 300;
 
 /// What of an exchange is drawn, and how.
-#[derive(Clone, Copy, Debug)]
+#[derive(Clone, Copy)]
 pub struct Drawing {
     /// The first event and the last one, from 1. Without the last, 300 events are drawn.
     pub from: usize,

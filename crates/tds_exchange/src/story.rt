@@ -10,7 +10,7 @@ use tds_request::{Request, encode};
 use tds_session::{Engine, ScriptEngine};
 
 /// What a packet is to its request.
-#[derive(Clone, Copy, Debug, PartialEq, Eq)]
+#[derive(Clone, Copy, PartialEq, Eq)]
 pub(crate) enum Role {
     /// A part of it, or its end.
     Part { ends: bool },
@@ -25,7 +25,7 @@ pub(crate) enum Role {
 }
 
 /// A packet in its play.
-#[derive(Clone, Copy, Drop)]
+#[derive(Clone, Copy)]
 pub(crate) struct Leg {
     pub(crate) request: u32,
     pub(crate) role: Role,
@@ -39,7 +39,7 @@ pub(crate) struct Leg {
 }
 
 /// A part of a packet that came.
-#[derive(Clone, Copy, Drop)]
+#[derive(Clone, Copy)]
 pub(crate) struct Piece {
     /// The packet's place among all of them.
     pub(crate) packet: usize,

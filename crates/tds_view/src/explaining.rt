@@ -12,7 +12,7 @@ use crate::explaining::outside::{Outline, put_outside_faults};
 use crate::explaining::places::parts_of;
 use crate::explaining::refusals::put_refusals;
 use crate::fault::ViewFault;
-use crate::files::{play_bytes, read_file};
+use crate::files::play_bytes;
 use serde_json::Value;
 use std::alloc::{AllocError, Global};
 use std::fmt::Write as _;
@@ -20,19 +20,9 @@ use std::io::Write;
 use tds_play::{ScheduleFault, read_schedule};
 use tds_text::write_whole;
 
-/// Prints what is wrong with a file; of a schedule that is played, which events are refused, by which
-/// rule. It answers whether there is nothing of that.
+/// Prints what is wrong with the bytes of a file of this name; of a schedule that is played, which
+/// events are refused, by which rule. It answers whether there is nothing of that.
 pub(crate) fn print_explanation<W: Write>(
-    rt: &HostRuntime,
-    name: &str,
-    output: &mut W,
-) -> Result<bool, ViewFault> {
-    let bytes = read_file(rt, name)?;
-    explain(rt.alloc(), name, bytes.as_slice(), output)
-}
-
-/// The same of the bytes of a file of this name.
-pub(crate) fn explain<W: Write>(
     alloc: Global,
     name: &str,
     bytes: &[u8],

@@ -24,7 +24,7 @@ const CLIENT: [u8; 4] = [10, 0, 0, 1];
 const SERVER: [u8; 4] = [10, 0, 0, 2];
 
 /// How many bytes a connection's ends have sent.
-#[derive(Clone, Copy, Drop)]
+#[derive(Clone, Copy)]
 struct Sent {
     conn: u32,
     by_client: u32,

@@ -12,4 +12,4 @@ mod running;
 mod snapshots;
 mod words;
 
-pub use running::run_view;
+pub use running::{explain, run_view};

@@ -4,7 +4,7 @@ use crate::bytes::print_bytes;
 use crate::checking::print_check;
 use crate::explaining::print_explanation;
 use crate::fault::ViewFault;
-use crate::files::play_named;
+use crate::files::{play_named, read_file};
 use crate::snapshots::print_snapshots;
 use crate::words::{Command, read_words};
 use clap::Error;
@@ -39,6 +39,25 @@ pub fn run_view<W: Write, F: Write>(
     }
 }
 
+/// Prints what is wrong with the bytes of a schedule file of this name, as the command `explain` does
+/// of a file. It answers the exit status.
+pub fn explain<W: Write, F: Write>(
+    alloc: Global,
+    name: &str,
+    bytes: &[u8],
+    output: &mut W,
+    errors: &mut F,
+) -> u8 {
+    match print_explanation(alloc, name, bytes, output) {
+        Ok(true) => 0,
+        Ok(false) => 1,
+        Err(fault) => {
+            tell(&fault, errors);
+            1
+        }
+    }
+}
+
 /// Runs a command, and answers whether all is well.
 fn run<W: Write>(rt: &HostRuntime, command: Command, output: &mut W) -> Result<bool, ViewFault> {
     let alloc = rt.alloc();
@@ -58,7 +77,10 @@ fn run<W: Write>(rt: &HostRuntime, command: Command, output: &mut W) -> Result<b
             print_snapshots(alloc, exchange.report, output)?;
             Ok(true)
         }
-        Command::Explain(name) => print_explanation(rt, name.as_str(), output),
+        Command::Explain(name) => {
+            let bytes = read_file(rt, name.as_str())?;
+            print_explanation(alloc, name.as_str(), bytes.as_slice(), output)
+        }
         Command::Check(names) => print_check(rt, names.as_slice(), output),
     }
 }

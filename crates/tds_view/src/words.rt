@@ -15,7 +15,7 @@ pub(crate) enum Command {
 }
 
 /// How packets are spelled.
-#[derive(Clone, Copy, Debug, PartialEq, Eq)]
+#[derive(Clone, Copy, PartialEq, Eq)]
 pub(crate) enum BytesForm {
     /// A line of hexadecimal digits for each.
     Digits,

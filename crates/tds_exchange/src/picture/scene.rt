@@ -5,7 +5,7 @@ use std::alloc::Global;
 use tds_packet::Direction;
 
 /// How wide the zones of a painter are, in characters.
-#[derive(Clone, Copy, Debug)]
+#[derive(Clone, Copy)]
 pub(crate) struct Measure {
     /// An event as the file has it.
     pub(crate) event: usize,
@@ -46,7 +46,7 @@ impl Measure {
 }
 
 /// Where a text stands.
-#[derive(Clone, Copy, Debug, PartialEq, Eq)]
+#[derive(Clone, Copy, PartialEq, Eq)]
 pub(crate) enum Zone {
     /// Right of the caller: what it asks.
     Caller,
@@ -59,7 +59,7 @@ pub(crate) enum Zone {
 }
 
 /// How a text looks.
-#[derive(Clone, Copy, Debug, PartialEq, Eq)]
+#[derive(Clone, Copy, PartialEq, Eq)]
 pub(crate) enum Tone {
     Plain,
     Muted,
@@ -85,7 +85,7 @@ pub(crate) struct Words {
 }
 
 /// An arrow between the caller and the client.
-#[derive(Clone, Copy, Drop)]
+#[derive(Clone, Copy)]
 pub(crate) struct Call {
     pub(crate) panel: usize,
     pub(crate) line: usize,
@@ -94,7 +94,7 @@ pub(crate) struct Call {
 }
 
 /// What becomes of a packet.
-#[derive(Clone, Copy, Debug, PartialEq, Eq)]
+#[derive(Clone, Copy, PartialEq, Eq)]
 pub(crate) enum Fate {
     Comes,
     /// It comes, but nobody is given it.
@@ -104,7 +104,7 @@ pub(crate) enum Fate {
 }
 
 /// How a packet's arrow looks.
-#[derive(Clone, Copy, Debug, PartialEq, Eq)]
+#[derive(Clone, Copy, PartialEq, Eq)]
 pub(crate) enum Stroke {
     Plain,
     /// An attention, or its acknowledgement.
@@ -135,7 +135,7 @@ pub(crate) struct Flight {
 }
 
 /// What an end does.
-#[derive(Clone, Copy, Debug, PartialEq, Eq)]
+#[derive(Clone, Copy, PartialEq, Eq)]
 pub(crate) enum Doing {
     Sending,
     Reading,
@@ -145,7 +145,7 @@ pub(crate) enum Doing {
 }
 
 /// What an end does from one line to another.
-#[derive(Clone, Copy, Drop)]
+#[derive(Clone, Copy)]
 pub(crate) struct Bar {
     pub(crate) panel: usize,
     pub(crate) from: usize,
@@ -155,7 +155,7 @@ pub(crate) struct Bar {
 }
 
 /// Who holds a connection.
-#[derive(Clone, Copy, Debug, PartialEq, Eq)]
+#[derive(Clone, Copy, PartialEq, Eq)]
 pub(crate) enum Holder {
     Lease(u32),
     Ticket(u32),
@@ -164,7 +164,7 @@ pub(crate) enum Holder {
 }
 
 /// Who holds a connection from one line to another, where it ends.
-#[derive(Clone, Copy, Drop)]
+#[derive(Clone, Copy)]
 pub(crate) struct Stay {
     pub(crate) panel: usize,
     pub(crate) from: usize,
@@ -175,7 +175,7 @@ pub(crate) struct Stay {
 }
 
 /// A connection, from one line to another.
-#[derive(Clone, Copy, Drop)]
+#[derive(Clone, Copy)]
 pub(crate) struct Life {
     pub(crate) panel: usize,
     pub(crate) from: usize,

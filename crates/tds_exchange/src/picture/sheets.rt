@@ -15,14 +15,14 @@ use tds_play::{Outcome, Snapshot};
 const LISTED: usize = 20;
 
 /// The events that are drawn, from 1.
-#[derive(Clone, Copy, Debug)]
+#[derive(Clone, Copy)]
 pub(crate) struct Window {
     pub(crate) from: usize,
     pub(crate) to: usize,
 }
 
 /// Which connections a sheet has: those of a slot, or all.
-#[derive(Clone, Copy, Debug, PartialEq, Eq)]
+#[derive(Clone, Copy, PartialEq, Eq)]
 enum Chosen {
     Slot(usize),
     All,

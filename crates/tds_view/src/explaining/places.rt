@@ -6,7 +6,7 @@ use std::fmt::Write;
 
 /// A place in a file: so many bytes stand before it. Line and column count from 1, and a column is a
 /// character.
-#[derive(Clone, Copy, Drop)]
+#[derive(Clone, Copy)]
 pub(crate) struct Place {
     offset: usize,
     line: usize,

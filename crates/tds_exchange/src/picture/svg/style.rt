@@ -32,7 +32,7 @@ pub(crate) const STYLE: &str =
     .fk{fill:#e6edf3}}";
 
 /// The head of an arrow.
-#[derive(Clone, Copy, Debug, PartialEq, Eq)]
+#[derive(Clone, Copy, PartialEq, Eq)]
 pub(crate) enum Head {
     Arrow,
     Underway,
