@@ -65,11 +65,7 @@ fn opened_in(text: &[u8]) -> u32 {
 }
 
 /// The first line in which two texts differ, with what each has there.
-pub(crate) fn first_line(
-    alloc: Global,
-    printed: &[u8],
-    text: &[u8],
-) -> Result<Option<String>, AllocError> {
+fn first_line(alloc: Global, printed: &[u8], text: &[u8]) -> Result<Option<String>, AllocError> {
     let mut lines = printed.split(|byte| *byte == b'\n');
     let mut place = 0u64;
     for wanted in text.split(|byte| *byte == b'\n') {

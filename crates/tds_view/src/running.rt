@@ -11,7 +11,6 @@ use clap::Error;
 use clap::error::ErrorKind;
 use std::alloc::{AllocError, Global};
 use std::io::Write;
-use tds_exchange::picture_of;
 use tds_play::RenderFault;
 use tds_text::write_whole;
 
@@ -65,11 +64,6 @@ fn run<W: Write>(rt: &HostRuntime, command: Command, output: &mut W) -> Result<b
         Command::Bytes(name, form) => {
             let exchange = play_named(rt, name.as_str())?;
             print_bytes(alloc, &exchange, form, output)?;
-            Ok(true)
-        }
-        Command::Draw(name, drawing) => {
-            let exchange = play_named(rt, name.as_str())?;
-            write_whole(output, picture_of(alloc, &exchange, drawing)?.as_str())?;
             Ok(true)
         }
         Command::Snapshots(name) => {

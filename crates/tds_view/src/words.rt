@@ -1,14 +1,12 @@
 //! The words of the command line.
 
-use clap::{Arg, ArgAction, ArgMatches, Command as Parser, Error, value_parser};
+use clap::{Arg, ArgAction, ArgMatches, Command as Parser, Error};
 use std::alloc::{AllocError, Global};
-use tds_exchange::Drawing;
 
 /// What the words ask for.
 #[derive(Drop)]
 pub(crate) enum Command {
     Bytes(String, BytesForm),
-    Draw(String, Drawing),
     Snapshots(String),
     Explain(String),
     Check(Vec<String>),
@@ -29,26 +27,12 @@ pub(crate) enum BytesForm {
 pub(crate) fn read_words(alloc: Global, words: &[String]) -> Result<Command, Error> {
     let matches = parser(alloc)?.try_get_matches_from(words)?;
     match matches.subcommand() {
-        Some(("draw", used)) => Ok(Command::Draw(file_of(alloc, used)?, drawing_of(used))),
         Some(("snapshots", used)) => Ok(Command::Snapshots(file_of(alloc, used)?)),
         Some(("explain", used)) => Ok(Command::Explain(file_of(alloc, used)?)),
         Some(("check", used)) => Ok(Command::Check(files_of(alloc, used)?)),
         Some((_, used)) => Ok(Command::Bytes(file_of(alloc, used)?, form_of(used))),
         None => Ok(Command::Check(Vec::new(alloc))),
     }
-}
-
-fn drawing_of(used: &ArgMatches<'_>) -> Drawing {
-    Drawing {
-        from: number_of(used, "from").unwrap_or(1),
-        to: number_of(used, "to"),
-        is_text: used.get_flag("text"),
-        is_beside: used.get_flag("beside"),
-    }
-}
-
-fn number_of(used: &ArgMatches<'_>, id: &str) -> Option<usize> {
-    used.get_one::<u16>(id).map(usize::from)
 }
 
 fn form_of(used: &ArgMatches<'_>) -> BytesForm {
@@ -86,7 +70,6 @@ fn parser<'a>(alloc: Global) -> Result<Parser<'a>, AllocError> {
         .arg_required_else_help(true)
         .disable_help_subcommand(true)
         .subcommand(bytes(alloc)?)?
-        .subcommand(draw(alloc)?)?
         .subcommand(snapshots(alloc)?)?
         .subcommand(explain(alloc)?)?
         .subcommand(check(alloc)?)
@@ -107,35 +90,6 @@ fn bytes<'a>(alloc: Global) -> Result<Parser<'a>, AllocError> {
         .arg(show)?
         .arg(frames)?
         .arg(one_file(alloc))
-}
-
-fn draw<'a>(alloc: Global) -> Result<Parser<'a>, AllocError> {
-    let text = Arg::new(alloc, "text")
-        .long("text")
-        .action(ArgAction::SetTrue)
-        .help("Draws in characters, and not as SVG");
-    let beside = Arg::new(alloc, "beside")
-        .long("beside")
-        .action(ArgAction::SetTrue)
-        .conflicts_with("text")?
-        .help("Draws connections that are open at a time beside one another, and not below");
-    let from = event(alloc, "from").help("The first event that is drawn, from 1");
-    let to = event(alloc, "to").help("The last one; without it, 300 events are drawn");
-    Parser::new(alloc, "draw")
-        .about("Draws the exchange as a sequence picture, as SVG to standard output")
-        .arg(text)?
-        .arg(beside)?
-        .arg(from)?
-        .arg(to)?
-        .arg(one_file(alloc))
-}
-
-/// An option whose value is an event's number.
-fn event<'a>(alloc: Global, name: &'a str) -> Arg<'a> {
-    Arg::new(alloc, name)
-        .long(name)
-        .value_name("EVENT")
-        .value_parser(value_parser!(u16).range(1..=10_000))
 }
 
 fn snapshots<'a>(alloc: Global) -> Result<Parser<'a>, AllocError> {
