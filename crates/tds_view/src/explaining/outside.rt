@@ -1,0 +1,206 @@
+//! What stands outside of the events.
+
+use crate::explaining::Page;
+use crate::explaining::event::put_value;
+use crate::explaining::places::{is_space, parts_of, put_place};
+use serde_json::Value;
+use std::alloc::{AllocError, Global};
+use std::fmt::Write;
+use tds_play::Setup;
+
+/// The keys of a schedule.
+const KEYS: [&str; 4] = ["version", "packet_size", "max", "events"];
+
+/// A key of the outermost object, and where it and its value stand.
+#[derive(Drop)]
+pub(crate) struct Member {
+    pub(crate) key: String,
+    pub(crate) key_at: usize,
+    pub(crate) value_at: usize,
+}
+
+/// Where the parts of a schedule file stand.
+#[derive(Drop)]
+pub(crate) struct Outline {
+    /// Where the outermost value begins.
+    pub(crate) start: usize,
+    pub(crate) members: Vec<Member>,
+    /// Where each event begins.
+    pub(crate) events: Vec<usize>,
+}
+
+impl Outline {
+    /// Reads bytes that are JSON.
+    pub(crate) fn read(alloc: Global, bytes: &[u8]) -> Result<Outline, AllocError> {
+        let start = bytes.iter().position(|byte| !is_space(*byte)).unwrap_or(0);
+        let mut outline = Outline {
+            start,
+            members: Vec::new(alloc),
+            events: Vec::new(alloc),
+        };
+        if bytes.get(start) != Some(&b'{') {
+            return Ok(outline);
+        }
+        let parts = parts_of(alloc, bytes, start)?;
+        for pair in parts.as_slice().chunks(2) {
+            let [key_at, value_at] = pair else {
+                break;
+            };
+            outline.members.push(Member {
+                key: key_of(alloc, bytes.get(*key_at..*value_at).unwrap_or(&[]))?,
+                key_at: *key_at,
+                value_at: *value_at,
+            })?;
+        }
+        if let Some(at) = outline.value_at("events") {
+            outline.events = parts_of(alloc, bytes, at)?;
+        }
+        Ok(outline)
+    }
+
+    /// Where the value of a key stands: the last one, where there are several.
+    pub(crate) fn value_at(&self, key: &str) -> Option<usize> {
+        let found = self.members.iter().rev().find(|it| it.key.as_str() == key);
+        found.map(|it| it.value_at)
+    }
+
+    /// Where an event begins, from 0.
+    pub(crate) fn event_at(&self, index: usize) -> usize {
+        self.events
+            .as_slice()
+            .get(index)
+            .copied()
+            .unwrap_or(self.start)
+    }
+}
+
+/// The key that bytes spell which hold it and a colon.
+fn key_of(alloc: Global, bytes: &[u8]) -> Result<String, AllocError> {
+    let end = bytes.iter().rposition(|byte| *byte == b'"').unwrap_or(0);
+    let spelled = bytes.get(..=end).unwrap_or(&[]);
+    match Value::from_slice(alloc, spelled) {
+        Ok(value) => String::from_str(alloc, value.as_str().unwrap_or("")),
+        Err(_) => Err(AllocError),
+    }
+}
+
+/// Appends a line for each key that stands twice.
+pub(crate) fn put_doubled(
+    text: &mut String,
+    page: Page<'_>,
+    members: &[Member],
+) -> Result<(), AllocError> {
+    for (index, member) in members.iter().enumerate() {
+        let key = member.key.as_str();
+        let before = members.get(..index).unwrap_or(&[]);
+        if before.iter().any(|it| it.key.as_str() == key) {
+            put_place(text, page, member.key_at)?;
+            writeln!(
+                text,
+                "the key \"{key}\" stands twice, and the value here counts"
+            )?;
+        }
+    }
+    Ok(())
+}
+
+/// Appends a line for each thing that is wrong outside of the events.
+pub(crate) fn put_outside_faults(
+    alloc: Global,
+    text: &mut String,
+    page: Page<'_>,
+    outline: &Outline,
+    value: &Value,
+) -> Result<(), AllocError> {
+    if !value.is_object() {
+        put_place(text, page, outline.start)?;
+        text.push_str(
+            "a schedule is an object with the keys version, packet_size, max and events; ",
+        )?;
+        text.push_str("here stands ")?;
+        put_value(alloc, text, value)?;
+        return text.push_str("\n");
+    }
+    for key in &KEYS {
+        match outline.value_at(key) {
+            Some(at) => put_value_fault(alloc, text, page, at, key, value)?,
+            None => {
+                put_place(text, page, outline.start)?;
+                writeln!(text, "the key \"{key}\" is missing")?;
+            }
+        }
+    }
+    for member in outline.members.iter() {
+        let key = member.key.as_str();
+        if !KEYS.iter().any(|it| *it == key) {
+            put_place(text, page, member.key_at)?;
+            text.push_str("the key \"")?;
+            put_escaped(text, key)?;
+            text.push_str("\" is none of version, packet_size, max and events\n")?;
+        }
+    }
+    put_doubled(text, page, outline.members.as_slice())
+}
+
+/// Appends a text with what isn't printed as `\u{..}`.
+fn put_escaped(text: &mut String, shown: &str) -> Result<(), AllocError> {
+    write!(text, "{}", shown.escape_debug())
+}
+
+/// Appends a line where the value of a key isn't one that a schedule has there.
+fn put_value_fault(
+    alloc: Global,
+    text: &mut String,
+    page: Page<'_>,
+    at: usize,
+    key: &str,
+    value: &Value,
+) -> Result<(), AllocError> {
+    let Some(value) = value.get(key) else {
+        return Ok(());
+    };
+    let (is_right, wanted) = match key {
+        "version" => (matches!(value.as_u64(), Some(1 | 2)), "the number 1 or 2"),
+        "packet_size" => (is_at_most(value, 65_535), "a whole number, 512 to 32767"),
+        "max" => (is_at_most(value, 255), "a whole number, 1 to 64"),
+        _ => (value.is_array(), "an array of events"),
+    };
+    if is_right {
+        return Ok(());
+    }
+    put_place(text, page, at)?;
+    write!(text, "\"{key}\" is {wanted}; here stands ")?;
+    put_value(alloc, text, value)?;
+    text.push_str("\n")
+}
+
+fn is_at_most(value: &Value, most: u64) -> bool {
+    value.as_u64().is_some_and(|number| number <= most)
+}
+
+/// Appends a line for each limit of a play that a schedule doesn't keep.
+pub(crate) fn put_limits(
+    text: &mut String,
+    page: Page<'_>,
+    outline: &Outline,
+    setup: Setup,
+    events: usize,
+) -> Result<(), AllocError> {
+    let Setup { packet_size, max } = setup;
+    if !(512..=32_767).contains(&packet_size) {
+        put_place(text, page, outline.value_at("packet_size").unwrap_or(0))?;
+        writeln!(
+            text,
+            "\"packet_size\" is 512 to 32767; here stands {packet_size}"
+        )?;
+    }
+    if !(1..=64).contains(&max) {
+        put_place(text, page, outline.value_at("max").unwrap_or(0))?;
+        writeln!(text, "\"max\" is 1 to 64; here stands {max}")?;
+    }
+    if events > 10_000 {
+        put_place(text, page, outline.event_at(10_000))?;
+        writeln!(text, "there are {events} events; a play takes 10000")?;
+    }
+    Ok(())
+}

@@ -1,0 +1,144 @@
+//! Where in a file something stands.
+
+use crate::explaining::Page;
+use std::alloc::{AllocError, Global};
+use std::fmt::Write;
+
+/// A place in a file: so many bytes stand before it. Line and column count from 1, and a column is a
+/// character.
+#[derive(Clone, Copy)]
+pub(crate) struct Place {
+    offset: usize,
+    line: usize,
+    column: usize,
+}
+
+impl Place {
+    /// Where a file begins.
+    pub(crate) fn start() -> Place {
+        Place {
+            offset: 0,
+            line: 1,
+            column: 1,
+        }
+    }
+
+    /// Goes on to where so many bytes stand before it.
+    pub(crate) fn go_to(&mut self, bytes: &[u8], offset: usize) {
+        for byte in bytes.get(self.offset..offset).unwrap_or(&[]) {
+            if *byte == b'\n' {
+                self.line = self.line.saturating_add(1);
+                self.column = 1;
+            } else if !is_within_character(*byte) {
+                self.column = self.column.saturating_add(1);
+            }
+        }
+        self.offset = offset;
+    }
+
+    /// Appends the front of a line about it.
+    pub(crate) fn put(&self, text: &mut String, name: &str) -> Result<(), AllocError> {
+        write!(text, "{name}:{}:{}: ", self.line, self.column)
+    }
+}
+
+/// Appends the front of a line about what stands behind so many bytes.
+pub(crate) fn put_place(
+    text: &mut String,
+    page: Page<'_>,
+    offset: usize,
+) -> Result<(), AllocError> {
+    let mut place = Place::start();
+    place.go_to(page.bytes, offset);
+    place.put(text, page.name)
+}
+
+/// Whether a byte of UTF-8 isn't its character's first.
+fn is_within_character(byte: u8) -> bool {
+    (0x80..0xc0).contains(&byte)
+}
+
+/// Where a scan of JSON stands.
+#[derive(Drop)]
+struct Scan {
+    /// How many arrays and objects are open.
+    depth: usize,
+    is_text: bool,
+    is_escaped: bool,
+    /// A part of the outermost one may begin.
+    is_due: bool,
+}
+
+impl Scan {
+    /// Takes the next byte, and answers whether a part begins with it.
+    fn take(&mut self, byte: u8) -> bool {
+        if self.is_text {
+            self.take_in_text(byte);
+            return false;
+        }
+        match byte {
+            b' ' | b'\t' | b'\n' | b'\r' => false,
+            b',' | b':' => {
+                self.is_due = self.depth == 1;
+                false
+            }
+            b']' | b'}' => {
+                self.depth = self.depth.saturating_sub(1);
+                false
+            }
+            _ => self.begin(byte),
+        }
+    }
+
+    fn take_in_text(&mut self, byte: u8) {
+        if self.is_escaped {
+            self.is_escaped = false;
+        } else {
+            self.is_escaped = byte == b'\\';
+            self.is_text = byte != b'"';
+        }
+    }
+
+    /// Takes a byte that begins a value, or goes on with one.
+    fn begin(&mut self, byte: u8) -> bool {
+        let begins = self.is_due && self.depth == 1;
+        if begins {
+            self.is_due = false;
+        }
+        if byte == b'[' || byte == b'{' {
+            self.depth = self.depth.saturating_add(1);
+            self.is_due = self.depth == 1;
+        }
+        self.is_text = byte == b'"';
+        begins
+    }
+}
+
+/// Where the parts begin of the array or object that begins behind so many bytes: the items of an
+/// array, the keys and values of an object in turn. Of another value there are none.
+pub(crate) fn parts_of(
+    alloc: Global,
+    bytes: &[u8],
+    offset: usize,
+) -> Result<Vec<usize>, AllocError> {
+    let mut parts = Vec::new(alloc);
+    let mut scan = Scan {
+        depth: 0,
+        is_text: false,
+        is_escaped: false,
+        is_due: false,
+    };
+    for (index, byte) in bytes.iter().enumerate().skip(offset) {
+        if scan.take(*byte) {
+            parts.push(index)?;
+        }
+        if scan.depth == 0 && !is_space(*byte) {
+            break;
+        }
+    }
+    Ok(parts)
+}
+
+pub(crate) fn is_space(byte: u8) -> bool {
+    matches!(byte, b' ' | b'\t' | b'\n' | b'\r')
+}

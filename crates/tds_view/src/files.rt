@@ -1,0 +1,52 @@
+//! Files that are read.
+
+use crate::explaining::why_unplayed;
+use crate::fault::ViewFault;
+use std::alloc::Global;
+use std::fs;
+use std::io::{ErrorKind, Read};
+use tds_exchange::{Exchange, play_kept};
+use tds_play::{ScheduleFault, read_schedule};
+
+/// The most bytes of a file, as of `tdsplay`.
+const FILE_LIMIT: usize = 33_554_432;
+
+/// All bytes of a file.
+pub(crate) fn read_file(rt: &HostRuntime, name: &str) -> Result<Vec<u8>, ViewFault> {
+    let alloc = rt.alloc();
+    let mut bytes = Vec::new(alloc);
+    let read = match fs::open(rt, name) {
+        Ok(file) => file.take(FILE_LIMIT as u64 + 1).read_to_end(&mut bytes),
+        Err(error) => Err(error),
+    };
+    match read {
+        Ok(_) if bytes.len() <= FILE_LIMIT => Ok(bytes),
+        Ok(_) => Err(told(format!(in alloc; "{name}: it has more than 32 MiB")?)),
+        Err(error) if error.kind() == ErrorKind::OutOfMemory => Err(ViewFault::Memory),
+        Err(error) => Err(told(format!(in alloc; "{name}: {error}")?)),
+    }
+}
+
+fn told(text: String) -> ViewFault {
+    ViewFault::Told(text)
+}
+
+/// The play of the schedule in a file. Where it isn't played, the fault says what is wrong, and where.
+pub(crate) fn play_named(rt: &HostRuntime, name: &str) -> Result<Exchange, ViewFault> {
+    let bytes = read_file(rt, name)?;
+    play_bytes(rt.alloc(), name, bytes.as_slice())
+}
+
+/// The play of the schedule in bytes of a file of this name.
+pub(crate) fn play_bytes(alloc: Global, name: &str, bytes: &[u8]) -> Result<Exchange, ViewFault> {
+    let played = match read_schedule(alloc, bytes) {
+        Ok((setup, events)) => play_kept(alloc, setup, events),
+        Err(ScheduleFault::Memory) => return Err(ViewFault::Memory),
+        Err(_) => return Err(ViewFault::Told(why_unplayed(alloc, name, bytes)?)),
+    };
+    match played {
+        Ok(exchange) => Ok(exchange),
+        Err(tds_play::PlayRefusal::Memory) => Err(ViewFault::Memory),
+        Err(_) => Err(ViewFault::Told(why_unplayed(alloc, name, bytes)?)),
+    }
+}

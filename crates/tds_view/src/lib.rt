@@ -1,0 +1,15 @@
+//! What `tdsview` does: it plays a schedule and shows more of it than its report does, and says what
+//! is wrong with a file.
+#![tactic(auto)]
+
+mod bytes;
+mod checking;
+mod explaining;
+mod fault;
+mod files;
+mod frames;
+mod running;
+mod snapshots;
+mod words;
+
+pub use running::{explain, run_view};

@@ -1,0 +1,123 @@
+//! The words of the command line.
+
+use clap::{Arg, ArgAction, ArgMatches, Command as Parser, Error};
+use std::alloc::{AllocError, Global};
+
+/// What the words ask for.
+#[derive(Drop)]
+pub(crate) enum Command {
+    Bytes(String, BytesForm),
+    Snapshots(String),
+    Explain(String),
+    Check(Vec<String>),
+}
+
+/// How packets are spelled.
+#[derive(Clone, Copy, PartialEq, Eq)]
+pub(crate) enum BytesForm {
+    /// A line of hexadecimal digits for each.
+    Digits,
+    /// The same, and what they mean.
+    Shown,
+    /// As `text2pcap` of Wireshark takes it.
+    Frames,
+}
+
+/// Reads the words behind the program's name.
+pub(crate) fn read_words(alloc: Global, words: &[String]) -> Result<Command, Error> {
+    let matches = parser(alloc)?.try_get_matches_from(words)?;
+    match matches.subcommand() {
+        Some(("snapshots", used)) => Ok(Command::Snapshots(file_of(alloc, used)?)),
+        Some(("explain", used)) => Ok(Command::Explain(file_of(alloc, used)?)),
+        Some(("check", used)) => Ok(Command::Check(files_of(alloc, used)?)),
+        Some((_, used)) => Ok(Command::Bytes(file_of(alloc, used)?, form_of(used))),
+        None => Ok(Command::Check(Vec::new(alloc))),
+    }
+}
+
+fn form_of(used: &ArgMatches<'_>) -> BytesForm {
+    if used.get_flag("text2pcap") {
+        return BytesForm::Frames;
+    }
+    if used.get_flag("show") {
+        return BytesForm::Shown;
+    }
+    BytesForm::Digits
+}
+
+fn file_of(alloc: Global, used: &ArgMatches<'_>) -> Result<String, AllocError> {
+    String::from_str(alloc, used.get_str("FILE").unwrap_or(""))
+}
+
+fn files_of(alloc: Global, used: &ArgMatches<'_>) -> Result<Vec<String>, AllocError> {
+    let mut files = Vec::new(alloc);
+    for name in used.get_strs("FILE").unwrap_or(&[]) {
+        files.push(String::from_str(alloc, name)?)?;
+    }
+    Ok(files)
+}
+
+fn parser<'a>(alloc: Global) -> Result<Parser<'a>, AllocError> {
+    Parser::new(alloc, "tdsview")
+        .version("unreleased")
+        .about("Plays a schedule over memory, and shows more of it than tdsplay prints")
+        .after_help(
+            "FILE is a schedule (docs/SCHEDULES.md), or a pipe as /dev/stdin.\n\
+             Exit status: 0 all is well; 1 it isn't, and the text or a line says why; \
+             2 the words are wrong",
+        )
+        .subcommand_required(true)
+        .arg_required_else_help(true)
+        .disable_help_subcommand(true)
+        .subcommand(bytes(alloc)?)?
+        .subcommand(snapshots(alloc)?)?
+        .subcommand(explain(alloc)?)?
+        .subcommand(check(alloc)?)
+}
+
+fn bytes<'a>(alloc: Global) -> Result<Parser<'a>, AllocError> {
+    let show = Arg::new(alloc, "show")
+        .long("show")
+        .action(ArgAction::SetTrue)
+        .help("Spells each packet out, as tdsplay show does");
+    let frames = Arg::new(alloc, "text2pcap")
+        .long("text2pcap")
+        .action(ArgAction::SetTrue)
+        .conflicts_with("show")?
+        .help("Prints what Wireshark's text2pcap takes as it is, with each connection as TCP");
+    Parser::new(alloc, "bytes")
+        .about("Prints every packet, in the order of the events, with its event and its bytes")
+        .arg(show)?
+        .arg(frames)?
+        .arg(one_file(alloc))
+}
+
+fn snapshots<'a>(alloc: Global) -> Result<Parser<'a>, AllocError> {
+    Parser::new(alloc, "snapshots")
+        .about("Prints each event's line, with the lines of the connections after it")
+        .arg(one_file(alloc))
+}
+
+fn explain<'a>(alloc: Global) -> Result<Parser<'a>, AllocError> {
+    Parser::new(alloc, "explain")
+        .about(
+            "Says what is wrong with a schedule, and where; or which events are refused, and why",
+        )
+        .arg(one_file(alloc))
+}
+
+fn check<'a>(alloc: Global) -> Result<Parser<'a>, AllocError> {
+    let files = one_file(alloc).action(ArgAction::Append).num_args(1..).help(
+        "Schedules, each with the text beside it that it must print",
+    );
+    Parser::new(alloc, "check")
+        .about("Plays each schedule, and compares what is printed with the text beside it")
+        .arg(files)
+}
+
+fn one_file<'a>(alloc: Global) -> Arg<'a> {
+    Arg::new(alloc, "FILE")
+        .required(true)
+        .action(ArgAction::Set)
+        .help("A schedule")
+}
