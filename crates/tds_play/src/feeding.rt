@@ -103,7 +103,7 @@ pub(crate) fn feed_server<E: Engine + Drop>(
     requires { reader.old.direction ≡ ToServer }
     ensures reads { reader.new.direction ≡ ToServer }
     ensures engine { server.new.engine ≡ server.old.engine }
-    ensures session { server.new.session ≡ server.old.session }
+    ensures on_attention { server.new.on_attention ≡ server.old.on_attention }
     // Whatever comes, the reader has read all of it, or a fault of it is answered.
     ensures any { (size : ℕ) (bytes : List ℕ)
         → ServerHasRead (new_reader ToServer size) reader.old bytes

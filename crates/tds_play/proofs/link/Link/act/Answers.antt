@@ -16,6 +16,7 @@ use Rattle.tds_play.specs.Failures.{calls_of}
 use Rattle.tds_play.proofs.Failing.{whole_as}
 use Rattle.tds_play.proofs.Failing as failing
 use Rattle.tds_world.specs.declared.event.Event.{Event}
+use Rattle.tds_session.specs.declared.attention.OnAttention.TheVariants.{Keep}
 use Rattle.tds_world.specs.declared.report.Place.TheVariants.{Leased}
 use Rattle.tds_world.specs.Connection.{new_connection}
 use Rattle.tds_play.specs.declared.link.Done.{Done}
@@ -232,8 +233,8 @@ returns-in-Cut-clause-failed g c = λ fine.
 
 pub returns-then-self-clause-reads : goal.returns-then-self-clause-reads
 returns-then-self-clause-reads g c = λ size reads.
-    gone_on size c.args.event.now c.on_cut.result.outcome (new_connection (Leased 0)) c.args.self.now (g.C.Carrier.pipes c.args.carrier.now c.args.self.now.number)
-    (ap (λ (d : Done). d.outcome) (c.on_cut.ensures.value (new_connection (Leased 0)))) reads
+    gone_on size c.args.event.now c.on_cut.result.outcome (new_connection Keep (Leased 0)) c.args.self.now (g.C.Carrier.pipes c.args.carrier.now c.args.self.now.number)
+    (ap (λ (d : Done). d.outcome) (c.on_cut.ensures.value (new_connection Keep (Leased 0)))) reads
 
 pub returns-in-Lease-clause-reads : goal.returns-in-Lease-clause-reads
 returns-in-Lease-clause-reads g c = λ size reads.
