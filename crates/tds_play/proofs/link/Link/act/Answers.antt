@@ -1,6 +1,7 @@
 use Rattle.std.proofs.Common.{◌∙◌, ap, ℕ, Option, refl, subst, sym, inl, inr}
 use Rattle.tds_packet.specs.declared.status.Reset.TheVariants.{Full, KeepTransaction}
 use Rattle.tds_session.specs.Answer.{Answers, answer_of}
+use Rattle.tds_session.specs.declared.attention.OnAttention.TheVariants.{Keep}
 use Rattle.tds_world.specs.declared.event.Event.TheVariants as event
 use Rattle.tds_world.specs.declared.outcome.Opened.TheVariants as opened
 use Rattle.tds_world.specs.Caller.{cancels}
@@ -235,8 +236,8 @@ returns-in-Cut-clause-failed g c = λ fine.
 
 pub returns-then-self-clause-reads : goal.returns-then-self-clause-reads
 returns-then-self-clause-reads g c = λ size reads.
-    gone_on size c.args.event.now c.on_cut.result.outcome (new_connection (Leased 0)) c.args.self.now c.args.seat.now.client.columns (g.C.Carrier.pipes c.args.carrier.now c.args.self.now.number)
-    (ap (λ (d : Done). d.outcome) (c.on_cut.ensures.value (new_connection (Leased 0)))) reads
+    gone_on size c.args.event.now c.on_cut.result.outcome (new_connection Keep (Leased 0)) c.args.self.now c.args.seat.now.client.columns (g.C.Carrier.pipes c.args.carrier.now c.args.self.now.number)
+    (ap (λ (d : Done). d.outcome) (c.on_cut.ensures.value (new_connection Keep (Leased 0)))) reads
 
 pub returns-in-Lease-clause-reads : goal.returns-in-Lease-clause-reads
 returns-in-Lease-clause-reads g c = λ size reads.
