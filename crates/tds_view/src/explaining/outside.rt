@@ -186,7 +186,11 @@ pub(crate) fn put_limits(
     setup: Setup,
     events: usize,
 ) -> Result<(), AllocError> {
-    let Setup { packet_size, max } = setup;
+    let Setup {
+        packet_size,
+        max,
+        ..
+    } = setup;
     if !(512..=32_767).contains(&packet_size) {
         put_place(text, page, outline.value_at("packet_size").unwrap_or(0))?;
         writeln!(
