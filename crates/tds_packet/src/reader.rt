@@ -152,7 +152,8 @@ impl PacketReader {
     pub fn packet(&self) -> Option<PacketRef<'_>>
         ensures whole { IsSome result ↔ IsWhole self.now }
         ensures lent { IfSome result
-            (λ packet. IsPacket self.now.direction self.now.size self.now.taken packet.header packet.data.now) }
+            (λ packet. IsPacket self.now.direction self.now.size self.now.taken packet.header
+            packet.data.now) }
     {
         match &self.state {
             State::Start => None,

@@ -40,7 +40,8 @@ impl Flags for Status {
 
     ghost exact = { ⊤ };
 
-    ghost table = { (codes "END_OF_MESSAGE", 1) ∷ (codes "IGNORE", 2) ∷ (codes "RESET", 8) ∷ (codes "RESET_KEEP_TRANSACTION", 16) ∷ [] };
+    ghost table = { (codes "END_OF_MESSAGE", 1) ∷ (codes "IGNORE", 2) ∷ (codes "RESET", 8)
+        ∷ (codes "RESET_KEEP_TRANSACTION", 16) ∷ [] };
 
     ghost set_of = { λ s. bits_of s };
 

@@ -25,16 +25,20 @@ pub trait Carrier {
 
     /// Opens this connection.
     fn open(&mut self, conn: u32) -> Result<(), CarrierError>
-        ensures ok { OnOk result (Changes (pipes self.old) (pipes self.new) conn (Some (new_pipe 0))) }
-        ensures lost { result ≡ Err Lost → Changes (pipes self.old) (pipes self.new) conn (Some (new_pipe 1)) }
+        ensures ok { OnOk result
+            (Changes (pipes self.old) (pipes self.new) conn (Some (new_pipe 0))) }
+        ensures lost { result ≡ Err Lost
+            → Changes (pipes self.old) (pipes self.new) conn (Some (new_pipe 1)) }
         ensures tells { result ≢ Err Memory → tells self.old → tells self.new };
 
     /// Hands bytes over. They are underway then, also where the connection failed.
     fn send(&mut self, conn: u32, direction: Direction, bytes: &[u8]) -> Result<(), CarrierError>
         requires some { 0 < length bytes.now }
         requires there { IsOpen (pipes self.old conn) }
-        ensures ok { OnOk result (Changes (pipes self.old) (pipes self.new) conn (sent_on (pipes self.old conn) direction bytes.now 0)) }
-        ensures lost { result ≡ Err Lost → Changes (pipes self.old) (pipes self.new) conn (sent_on (pipes self.old conn) direction bytes.now 1) }
+        ensures ok { OnOk result (Changes (pipes self.old) (pipes self.new) conn
+            (sent_on (pipes self.old conn) direction bytes.now 0)) }
+        ensures lost { result ≡ Err Lost → Changes (pipes self.old) (pipes self.new) conn
+            (sent_on (pipes self.old conn) direction bytes.now 1) }
         ensures tells { result ≢ Err Memory → tells self.old → tells self.new };
 
     /// Takes bytes out, at least one and `most` at most, and appends them to `out`. It answers how
@@ -48,20 +52,27 @@ pub trait Carrier {
     ) -> Result<usize, CarrierError>
         requires some { 0 < most }
         requires there { IsOpen (pipes self.old conn) }
-        requires underway { length (traffic (pipes self.old conn) direction).came + most ≤ length (traffic (pipes self.old conn) direction).handed }
+        requires underway { length (traffic (pipes self.old conn) direction).came + most
+            ≤ length (traffic (pipes self.old conn) direction).handed }
         ensures least { IfOk result (λ n. 0 < n) }
         ensures most { IfOk result (λ n. n ≤ most) }
         ensures count { IfOk result (λ n. length out.new.items ≡ length out.old.items + n) }
         ensures kept { OnOk result (take (length out.old.items) out.new.items ≡ out.old.items) }
-        ensures ok { OnOk result (Changes (pipes self.old) (pipes self.new) conn (carried_on (pipes self.old conn) direction (drop (length out.old.items) out.new.items))) }
-        ensures bytes { IfOk result (λ n. tells self.old → out.new.items ≡ out.old.items ++ take n (drop (length (traffic (pipes self.old conn) direction).came) (traffic (pipes self.old conn) direction).handed)) }
-        ensures lost { result ≡ Err Lost → Changes (pipes self.old) (pipes self.new) conn (stuck_on (pipes self.old conn) direction) }
+        ensures ok { OnOk result (Changes (pipes self.old) (pipes self.new) conn
+            (carried_on (pipes self.old conn) direction
+            (drop (length out.old.items) out.new.items))) }
+        ensures bytes { IfOk result (λ n. tells self.old → out.new.items ≡ out.old.items
+            ++ take n (drop (length (traffic (pipes self.old conn) direction).came)
+            (traffic (pipes self.old conn) direction).handed)) }
+        ensures lost { result ≡ Err Lost → Changes (pipes self.old) (pipes self.new) conn
+            (stuck_on (pipes self.old conn) direction) }
         ensures nothing { result ≡ Err Lost → out.new.items ≡ out.old.items }
         ensures tells { result ≢ Err Memory → tells self.old → tells self.new };
 
     /// Cuts this connection.
     fn cut(&mut self, conn: u32)
         requires { IsUncut (pipes self.old conn) }
-        ensures cut { Changes (pipes self.old) (pipes self.new) conn (cut_pipe (pipes self.old conn)) }
+        ensures cut { Changes (pipes self.old) (pipes self.new) conn
+            (cut_pipe (pipes self.old conn)) }
         ensures tells { tells self.old → tells self.new };
 }

@@ -62,7 +62,8 @@ impl From<PlayRefusal> for RunFault {
 impl RunFault {
     /// Appends the fault's line.
     fn put(&self, line: &mut String) -> Result<(), AllocError>
-        ensures { OnOk result (string_bytes line.new ≡ string_bytes line.old ++ fault_line self.now) }
+        ensures { OnOk result
+            (string_bytes line.new ≡ string_bytes line.old ++ fault_line self.now) }
     {
         use std::fmt::Write;
 
@@ -175,8 +176,10 @@ fn play_file<C: Carrier>(alloc: Global, bytes: &[u8], carrier: &mut C) -> Result
 }
 
 fn print_report<W: Write>(alloc: Global, report: &Report, output: &mut W) -> Result<(), RunFault>
-    ensures whole { OnOk result (Appends (W.contents output.old) (W.contents output.new) (text_of report.now)) }
-    ensures begun { IfErr result (λ fault. WritesBeginning (W.contents output.old) (W.contents output.new) (text_of report.now)) }
+    ensures whole { OnOk result
+        (Appends (W.contents output.old) (W.contents output.new) (text_of report.now)) }
+    ensures begun { IfErr result (λ fault.
+        WritesBeginning (W.contents output.old) (W.contents output.new) (text_of report.now)) }
     ensures fault { IfErr result (λ fault. (fault ≡ Output) ⊎ (fault ≡ Memory)) }
 {
     match render(alloc, report, output) {

@@ -78,7 +78,8 @@ impl Numbers {
     pub(crate) fn push(&mut self, number: u32, key: usize) -> Result<(), AllocError>
         requires few { length self.old < 64 }
         requires below { AreBelow number self.old }
-        ensures ok { OnOk result (self.new ≡ self.old ++ (record { number = number; key = key }) ∷ []) }
+        ensures ok { OnOk result
+            (self.new ≡ self.old ++ (record { number = number; key = key }) ∷ []) }
         ensures err { OnErr result (self.new ≡ self.old) }
     {
         self.entries.push(Entry { number, key })?;

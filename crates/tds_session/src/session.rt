@@ -20,12 +20,23 @@ impl Model for Session {
 
     ghost Value = { SessionState };
 
-    ghost view = { λ a. record { settings = a.settings; descriptor = a.descriptor; next_descriptor = a.next_descriptor } };
+    ghost view = { λ a. record {
+      settings = a.settings;
+      descriptor = a.descriptor;
+      next_descriptor = a.next_descriptor;
+    } };
 
-    ghost invariant = { λ a. IsSession
-        (record { settings = a.settings; descriptor = a.descriptor; next_descriptor = a.next_descriptor }) };
+    ghost invariant = { λ a. IsSession (record {
+      settings = a.settings;
+      descriptor = a.descriptor;
+      next_descriptor = a.next_descriptor;
+    }) };
 
-    ghost inverse = { λ s. record { settings = s.settings; descriptor = s.descriptor; next_descriptor = s.next_descriptor } };
+    ghost inverse = { λ s. record {
+      settings = s.settings;
+      descriptor = s.descriptor;
+      next_descriptor = s.next_descriptor;
+    } };
 }
 
 impl Session {

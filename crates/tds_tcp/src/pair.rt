@@ -92,7 +92,8 @@ impl<S: Read + Write + OpenStream + Drop> Pair<S> {
         ensures kept { OnOk result (take (length out.old.items) out.new.items ≡ out.old.items) }
         ensures ok { OnOk result (
             Some (pipe_of self.new)
-            ≡ carried_on (Some (pipe_of self.old)) direction (drop (length out.old.items) out.new.items)) }
+            ≡ carried_on (Some (pipe_of self.old)) direction
+            (drop (length out.old.items) out.new.items)) }
         ensures lost { result ≡ Err Lost
             → Some (pipe_of self.new) ≡ stuck_on (Some (pipe_of self.old)) direction }
         ensures nothing { result ≡ Err Lost → out.new.items ≡ out.old.items }

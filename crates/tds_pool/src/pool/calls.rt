@@ -52,7 +52,8 @@ impl Pool {
     fn leased_key(&self, lease: &Lease) -> Option<usize>
         ensures found { IfSome result (λ key. (key ≡ lease.now.key)
             × (option_map (λ (seat : Seat). seat.client) (get self.now.seats lease.now.key)
-            ≡ option_map (λ (c : Connection). c.client) (lent_to lease.now (connections self.now)))) }
+            ≡ option_map (λ (c : Connection). c.client)
+            (lent_to lease.now (connections self.now)))) }
         ensures unknown { IfNone result (lent_to lease.now (connections self.now) ≡ None) }
         ensures writes { IsSome (lent_to lease.now (connections self.now))
             → (client : ClientSession)
@@ -83,7 +84,8 @@ impl Pool {
     /// The key of this number; none if there is no such connection.
     fn key_of(&self, number: u32) -> Option<usize>
         ensures key { result ≡ key_of self.now.entries number }
-        ensures found { IfSome result (λ key. option_map (λ (seat : Seat). seat.client) (get self.now.seats key)
+        ensures found { IfSome result (λ key.
+            option_map (λ (seat : Seat). seat.client) (get self.now.seats key)
             ≡ option_map (λ (c : Connection). c.client) (numbered number (connections self.now))) }
         ensures unknown { IfNone result (numbered number (connections self.now) ≡ None) }
         ensures writes { (client : ClientSession)

@@ -33,9 +33,12 @@ impl Pool {
     fn held(&self, key: usize, number: u32) -> Option<&Seat>
         ensures there { IfSome result (λ seat. (get self.now.seats key ≡ Some seat.now)
             × (seat.now.number ≡ number)) }
-        ensures found { IfSome result (λ seat. (test : Place → Bool) → test seat.now.place ≡ Bool.true
-            → standing test key number (connections self.now) ≡ Some (connection_of number key seat.now)) }
-        ensures elsewhere { IfSome result (λ seat. (test : Place → Bool) → test seat.now.place ≡ Bool.false
+        ensures found { IfSome result (λ seat. (test : Place → Bool)
+            → test seat.now.place ≡ Bool.true
+            → standing test key number (connections self.now)
+            ≡ Some (connection_of number key seat.now)) }
+        ensures elsewhere { IfSome result (λ seat. (test : Place → Bool)
+            → test seat.now.place ≡ Bool.false
             → standing test key number (connections self.now) ≡ None) }
         ensures writes { IfSome result (λ seat. (client : ClientSession)
             → connections (with_client_under self.now key client)
