@@ -109,7 +109,12 @@ fn a_failing_call_ends_its_connection_alone(rt: HostRuntime) -> Result<(), Fail>
         };
         let mut carrier = FailingCarrier::new(alloc, plan);
         let found = printed(alloc, run.schedule, &mut carrier)?;
-        assert_eq!(rt; found.as_slice(), run.text.as_bytes(), "call {}", run.failing);
+        assert_eq!(rt;
+            found.as_slice(),
+            run.text.as_bytes(),
+            "call {}",
+            run.failing
+        );
         assert_eq!(rt; carrier.calls(), run.calls);
         assert_eq!(rt; carrier.lost(), [run.lost].as_slice());
     }
