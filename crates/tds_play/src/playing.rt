@@ -105,8 +105,9 @@ pub fn play<C: Carrier>(
     ensures played { OnOk result (first_refusal setup.now (length events.now) ≡ None) }
     ensures named { IfErr result (λ why. why ≢ Memory
         → first_refusal setup.now (length events.now) ≡ Some why) }
-    // Whatever bytes the carrier brings: a delivery answers a fault of the packet reader exactly where
-    // the bytes that came by then have one, and the callers are given some of the tokens that come.
+    // Whatever bytes the carrier brings: a delivery answers a fault of the packet reader only where
+    // the bytes that came by then have it, and some fault where they have one; and the callers are
+    // given some of the tokens that come.
     ensures reads { IfOk result (λ report. ReadsBytes setup.now.packet_size events.now report
         (C.pipes carrier.new)) }
     // Where the carrier brings the bytes that it was handed, the report is the model's of the events
@@ -195,8 +196,9 @@ pub fn play_with<E: Engine + Copy, C: Carrier>(
     ensures played { OnOk result (first_refusal setup.now (length events.now) ≡ None) }
     ensures named { IfErr result (λ why. why ≢ Memory
         → first_refusal setup.now (length events.now) ≡ Some why) }
-    // Whatever bytes the carrier brings: a delivery answers a fault of the packet reader exactly where
-    // the bytes that came by then have one, and the callers are given some of the tokens that come.
+    // Whatever bytes the carrier brings: a delivery answers a fault of the packet reader only where
+    // the bytes that came by then have it, and some fault where they have one; and the callers are
+    // given some of the tokens that come.
     ensures reads { IfOk result (λ report. ReadsBytes setup.now.packet_size events.now report
         (C.pipes carrier.new)) }
     // Where the carrier brings the bytes that it was handed, the play is the model's with the losses
