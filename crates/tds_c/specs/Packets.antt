@@ -10,7 +10,7 @@ use Rattle.tds_packet.specs.Size.{IsPacketSize}
 use Rattle.tds_client.specs.declared.fault.ClientFault.{ClientFault}
 use Rattle.tds_client.specs.declared.state.Taken.{Taken}
 use Rattle.tds_client.specs.Session.{ClientSession}
-use Rattle.tds_client.specs.Taking.{Hears, Took, broken_by, taken}
+use Rattle.tds_client.specs.Taking.{Hears, ClientMove, broken_by, taken}
 use Rattle.tds_c.specs.declared.answers.Stop.{Stop}
 use Rattle.tds_c.specs.declared.answers.Stop.TheVariants as stops
 use Rattle.tds_c.specs.declared.client.TdsClient.{TdsClient}
@@ -72,7 +72,7 @@ Reads (Some direction) size bytes old new result = ReadsTo direction size bytes 
 -- ---- A packet of an answer
 
 -- What the core makes of a packet with this header and these data.
-abbrev pub taken_by : ClientSession → Header → List ℕ → Result Took ClientFault
+abbrev pub taken_by : ClientSession → Header → List ℕ → Result ClientMove ClientFault
 taken_by s header content = taken s (has_bit (bits_of header.status) 1) content
 
 -- The bytes are one packet of an answer, and no more.

@@ -30,7 +30,7 @@ use Rattle.tds_client.specs.Packets.{attention, ignore}
 use Rattle.tds_client.specs.Promises.{Packet, IsPart, ArePackets, one_if, is_attention, attentions, acknowledgements, AtMostAttentions, AsksOnce, LeavesBy, ends_message}
 use Rattle.tds_client.specs.Sending.{Effect, room, started, sent, sent_in, cancelled, cancelled_in, cancelled_sending}
 use Rattle.tds_client.specs.Session.{ClientSession, Stage, Idle, Sending, Reading, Cancelling, Broken, new_session, with_stage, lost_stage, marked, unless_idle}
-use Rattle.tds_client.specs.Taking.{Took, taken, taken_in, taken_reading, taken_cancelling, read, skipped, skipped_to_end, goes_on, ended, broken_by}
+use Rattle.tds_client.specs.Taking.{ClientMove, taken, taken_in, taken_reading, taken_cancelling, read, skipped, skipped_to_end, goes_on, ended, broken_by}
 use Rattle.tds_client.proofs.Parts.{fills_last, part, room_is, to_server, last_one, more_one, by_test}
 
 -- ---- A client that is called
@@ -243,7 +243,7 @@ skips : (size : ℕ) (s : ClientSession) (ends : Bool) (heard : Heard) (contents
 skips size s false heard contents h e = quiet size 1 (goes_on s heard contents.columns) h.size_is h.kind (omega (arith, ap out e))
 skips size s true heard contents h e = skips_to_end size s heard heard.done h
 
-heard_keeps : (size : ℕ) (s : ClientSession) (stage : Stage) (r : Result Heard ClientFault) (f : Heard → Took) → IsCalled size s → ((heard : Heard) → Keeps size (out stage) (took_of s (Ok (f heard))))
+heard_keeps : (size : ℕ) (s : ClientSession) (stage : Stage) (r : Result Heard ClientFault) (f : Heard → ClientMove) → IsCalled size s → ((heard : Heard) → Keeps size (out stage) (took_of s (Ok (f heard))))
     → Keeps size (out stage) (took_of s (r >>= λ heard. Ok (f heard)))
 heard_keeps size s stage (Ok heard) f h keeps = keeps heard
 heard_keeps size s stage (Err fault) f h keeps = breaks size s fault stage h

@@ -16,7 +16,7 @@ use Rattle.tds_client.specs.Hearing.{◌>>=◌, hear_packet}
 use Rattle.tds_client.specs.Promises.{final_done, Coming, nothing_yet, with_packet, coming_behind, coming, ends_message, message_with, ends_acknowledged}
 use Rattle.tds_client.specs.Sending.{Effect, started, sent_in, sent_of, cancelled_in, cancelled_sending}
 use Rattle.tds_client.specs.Session.{ClientSession, Stage, Idle, Sending, Reading, Cancelling, Broken, new_session, with_stage, lost_stage, marked, unless_idle}
-use Rattle.tds_client.specs.Taking.{Took, taken_in, taken_of, taken_reading, taken_cancelling, read, skipped, skipped_to_end}
+use Rattle.tds_client.specs.Taking.{ClientMove, taken_in, taken_of, taken_reading, taken_cancelling, read, skipped, skipped_to_end}
 use Rattle.tds_client.proofs.Finals.{done_of, done_behind, also, is_final, final_so, is_acknowledging, acknowledging_so, packet_heard}
 
 -- ---- What is known of the message that comes, unless the client is broken
@@ -38,13 +38,13 @@ Follows s m = is_broken s.stage ≡ false → Knows s m
 -- ---- A packet that is taken
 
 -- What was heard of it.
-record Hears (cancelling : Bool) (s : ClientSession) (m : Coming) (packet : PacketRef) (f : Heard → Took) (took : Took) : Type 0 where
+record Hears (cancelling : Bool) (s : ClientSession) (m : Coming) (packet : PacketRef) (f : Heard → ClientMove) (took : ClientMove) : Type 0 where
   heard : Heard
   is : took ≡ f heard
   done : heard.done ≡ done_of (final_done (with_packet m packet).tokens)
   final : ends_message packet ≡ true → is_final heard.done ≡ true
 
-hears_by : (cancelling : Bool) (s : ClientSession) (m : Coming) (packet : PacketRef) (f : Heard → Took) (took : Took) (columns : Option ℕ) (r : Result Heard ClientFault) → Knows s m → columns ≡ m.columns
+hears_by : (cancelling : Bool) (s : ClientSession) (m : Coming) (packet : PacketRef) (f : Heard → ClientMove) (took : ClientMove) (columns : Option ℕ) (r : Result Heard ClientFault) → Knows s m → columns ≡ m.columns
     → hear_packet cancelling s.heard (ends_message packet) (contents_of columns packet.«data».now) ≡ r → (r >>= λ heard. Ok (f heard)) ≡ Ok took → Hears cancelling s m packet f took
 hears_by cancelling s m packet f took columns (Ok heard) k c said e =
     let p = packet_heard cancelling s.heard heard (ends_message packet) columns packet.«data».now said in
@@ -59,17 +59,17 @@ hears_by cancelling s m packet f took columns (Ok heard) k c said e =
     }
 hears_by cancelling s m packet f took columns (Err fault) k c said e = absurd cc
 
-abbrev reads : ClientSession → PacketRef → Heard → Took
+abbrev reads : ClientSession → PacketRef → Heard → ClientMove
 reads s packet heard = read s (ends_message packet) heard (contents_of s.columns packet.«data».now)
 
-abbrev skips : ClientSession → PacketRef → Heard → Took
+abbrev skips : ClientSession → PacketRef → Heard → ClientMove
 skips s packet heard = skipped s (ends_message packet) heard (contents_of s.columns packet.«data».now)
 
-hears_reading : (s : ClientSession) (m : Coming) (packet : PacketRef) (took : Took) → Knows s m → taken_reading s (ends_message packet) packet.«data».now ≡ Ok took → Hears false s m packet (reads s packet) took
+hears_reading : (s : ClientSession) (m : Coming) (packet : PacketRef) (took : ClientMove) → Knows s m → taken_reading s (ends_message packet) packet.«data».now ≡ Ok took → Hears false s m packet (reads s packet) took
 unfolding taken_reading
 hears_reading s m packet took k e = hears_by false s m packet (reads s packet) took s.columns (hear_packet false s.heard (ends_message packet) (contents_of s.columns packet.«data».now)) k k.columns refl e
 
-hears_cancelling : (s : ClientSession) (m : Coming) (packet : PacketRef) (took : Took) → Knows s m → taken_cancelling s (ends_message packet) packet.«data».now ≡ Ok took → Hears true s m packet (skips s packet) took
+hears_cancelling : (s : ClientSession) (m : Coming) (packet : PacketRef) (took : ClientMove) → Knows s m → taken_cancelling s (ends_message packet) packet.«data».now ≡ Ok took → Hears true s m packet (skips s packet) took
 unfolding taken_cancelling
 hears_cancelling s m packet took k e = hears_by true s m packet (skips s packet) took s.columns (hear_packet true s.heard (ends_message packet) (contents_of s.columns packet.«data».now)) k k.columns refl e
 
@@ -92,22 +92,22 @@ skip_knows : (s : ClientSession) (m : Coming) (packet : PacketRef) (ends : Bool)
 skip_knows s m packet false heard c d = record { columns = ap (λ (x : Option ℕ). (contents_of x packet.«data».now).columns) c; done = d }
 skip_knows s m packet true heard c d = skip_knows_to_end s heard heard.done
 
-took_knows : (s : ClientSession) (m : Coming) (packet : PacketRef) (took : Took) (stage : Stage) → (is_broken stage ≡ false → Knows s m) → taken_in stage s (ends_message packet) packet.«data».now ≡ Ok took
+took_knows : (s : ClientSession) (m : Coming) (packet : PacketRef) (took : ClientMove) (stage : Stage) → (is_broken stage ≡ false → Knows s m) → taken_in stage s (ends_message packet) packet.«data».now ≡ Ok took
     → Knows took.session (behind_packet (ends_message packet) m packet)
 took_knows s m packet took Idle k e = absurd cc
 took_knows s m packet took (Sending kind left before) k e = absurd cc
 took_knows s m packet took Reading k e =
     let h = hears_reading s m packet took (k refl) e in
-    subst (λ (t : Took). Knows t.session (behind_packet (ends_message packet) m packet)) (sym h.is) (read_knows s m packet (ends_message packet) h.heard (k refl).columns h.done)
+    subst (λ (t : ClientMove). Knows t.session (behind_packet (ends_message packet) m packet)) (sym h.is) (read_knows s m packet (ends_message packet) h.heard (k refl).columns h.done)
 took_knows s m packet took Cancelling k e =
     let h = hears_cancelling s m packet took (k refl) e in
-    subst (λ (t : Took). Knows t.session (behind_packet (ends_message packet) m packet)) (sym h.is) (skip_knows s m packet (ends_message packet) h.heard (k refl).columns h.done)
+    subst (λ (t : ClientMove). Knows t.session (behind_packet (ends_message packet) m packet)) (sym h.is) (skip_knows s m packet (ends_message packet) h.heard (k refl).columns h.done)
 took_knows s m packet took (Broken fault) k e = absurd cc
 
 broken_not : true ≡ false → ⊥
 broken_not e = cc
 
-take_follows : (s : ClientSession) (m : Coming) (packet : PacketRef) (r : Result Took ClientFault) → Follows s m → taken_of s packet ≡ r → Follows (took_of s r).session (behind_packet (ends_message packet) m packet)
+take_follows : (s : ClientSession) (m : Coming) (packet : PacketRef) (r : Result ClientMove ClientFault) → Follows s m → taken_of s packet ≡ r → Follows (took_of s r).session (behind_packet (ends_message packet) m packet)
 take_follows s m packet (Ok took) f said whole = took_knows s m packet took s.stage f said
 take_follows s m packet (Err fault) f said whole = absurd (broken_not whole)
 
@@ -190,7 +190,7 @@ follows_so size calls s e = subst (λ (x : ClientSession). Follows x (coming not
 -- ---- The end of a message
 
 -- What is answered, and where the client is.
-abbrev EndsSo : Bool → Taken → Stage → Took → Type 0
+abbrev EndsSo : Bool → Taken → Stage → ClientMove → Type 0
 EndsSo idle there going took = (took.answer ≡ (if idle then there else takes.More)) × (took.session.stage ≡ (if idle then Idle else going))
 
 skip_ends_by : (s : ClientSession) (heard : Heard) (done : FinalDone) (b : Bool) → is_acknowledging done ≡ b → EndsSo b takes.Acknowledged Cancelling (skipped_to_end s heard done)
@@ -206,7 +206,7 @@ skip_ends : (s : ClientSession) (ends : Bool) (heard : Heard) (contents : Conten
 skip_ends s false heard contents b c e = (refl, c)
 skip_ends s true heard contents b c e = skip_ends_by s heard heard.done b e
 
-pub ends_cancelling : (size : ℕ) (calls : List Call) (s : ClientSession) (packet : PacketRef) (took : Took) → s ≡ after (new_session size) calls → s.stage ≡ Cancelling → taken_of s packet ≡ Ok took
+pub ends_cancelling : (size : ℕ) (calls : List Call) (s : ClientSession) (packet : PacketRef) (took : ClientMove) → s ≡ after (new_session size) calls → s.stage ≡ Cancelling → taken_of s packet ≡ Ok took
     → EndsSo (ends_acknowledged calls packet) takes.Acknowledged Cancelling took
 ends_cancelling size calls s packet took is c e =
     let f = follows_so size calls s is (ap is_broken c) in
@@ -219,19 +219,19 @@ read_ends : (s : ClientSession) (ends : Bool) (heard : Heard) (contents : Conten
 read_ends s false heard contents c = (refl, c)
 read_ends s true heard contents c = (refl, refl)
 
-ends_reading_by : (s : ClientSession) (ends : Bool) (contents : Contents) (took : Took) (r : Result Heard ClientFault) → s.stage ≡ Reading → (r >>= λ heard. Ok (read s ends heard contents)) ≡ Ok took
+ends_reading_by : (s : ClientSession) (ends : Bool) (contents : Contents) (took : ClientMove) (r : Result Heard ClientFault) → s.stage ≡ Reading → (r >>= λ heard. Ok (read s ends heard contents)) ≡ Ok took
     → EndsSo ends takes.Finished Reading took
 ends_reading_by s ends contents took (Ok heard) c e = let is : read s ends heard contents ≡ took = cc in subst (EndsSo ends takes.Finished Reading) is (read_ends s ends heard contents c)
 ends_reading_by s ends contents took (Err fault) c e = absurd cc
 
-pub ends_reading : (s : ClientSession) (packet : PacketRef) (took : Took) → s.stage ≡ Reading → taken_of s packet ≡ Ok took → EndsSo (ends_message packet) takes.Finished Reading took
+pub ends_reading : (s : ClientSession) (packet : PacketRef) (took : ClientMove) → s.stage ≡ Reading → taken_of s packet ≡ Ok took → EndsSo (ends_message packet) takes.Finished Reading took
 unfolding taken_reading
 ends_reading s packet took c e =
     let said : taken_reading s (ends_message packet) packet.«data».now ≡ Ok took = ap (λ (stage : Stage). taken_in stage s (ends_message packet) packet.«data».now) (sym c) ∙ e in
     ends_reading_by s (ends_message packet) _ took (hear_packet false s.heard (ends_message packet) (contents_of s.columns packet.«data».now)) c said
 
 -- a message ends with its final DONE
-finishes_in : (s : ClientSession) (m : Coming) (packet : PacketRef) (took : Took) (stage : Stage) → (is_broken stage ≡ false → Knows s m) → taken_in stage s (ends_message packet) packet.«data».now ≡ Ok took
+finishes_in : (s : ClientSession) (m : Coming) (packet : PacketRef) (took : ClientMove) (stage : Stage) → (is_broken stage ≡ false → Knows s m) → taken_in stage s (ends_message packet) packet.«data».now ≡ Ok took
     → ends_message packet ≡ true → is_some (final_done (with_packet m packet).tokens) ≡ true
 finishes_in s m packet took Idle k e ends = absurd cc
 finishes_in s m packet took (Sending kind left before) k e ends = absurd cc
@@ -243,6 +243,6 @@ finishes_in s m packet took Cancelling k e ends =
     sym (final_so (final_done (with_packet m packet).tokens)) ∙ (sym (ap is_final h.done) ∙ h.final ends)
 finishes_in s m packet took (Broken fault) k e ends = absurd cc
 
-pub finishes : (size : ℕ) (calls : List Call) (s : ClientSession) (packet : PacketRef) (took : Took) → s ≡ after (new_session size) calls → taken_of s packet ≡ Ok took → ends_message packet ≡ true
+pub finishes : (size : ℕ) (calls : List Call) (s : ClientSession) (packet : PacketRef) (took : ClientMove) → s ≡ after (new_session size) calls → taken_of s packet ≡ Ok took → ends_message packet ≡ true
     → is_some (final_done (message_with calls packet)) ≡ true
 finishes size calls s packet took is e ends = finishes_in s (coming nothing_yet calls) packet took s.stage (follows_so size calls s is) e ends

@@ -10,7 +10,7 @@ use Rattle.tds_client.specs.declared.state.Taken.{Taken}
 use Rattle.tds_client.specs.declared.state.Taken.TheVariants as takes
 use Rattle.tds_client.specs.Session.{ClientSession, lost, marked, unless_idle}
 use Rattle.tds_client.specs.Sending.{Effect, started, sent, cancelled}
-use Rattle.tds_client.specs.Taking.{Took, taken_of, broken_by}
+use Rattle.tds_client.specs.Taking.{ClientMove, taken_of, broken_by}
 
 pub data Call : Type 0 where
   MarkReset : (reset : Reset) → Call
@@ -44,7 +44,7 @@ is_acknowledged takes.Finished = false
 is_acknowledged takes.Acknowledged = true
 is_acknowledged takes.NoMemory = false
 
-abbrev pub took_of : ClientSession → Result Took ClientFault → Turn
+abbrev pub took_of : ClientSession → Result ClientMove ClientFault → Turn
 took_of s (Ok took) = record { session = took.session; bytes = []; acknowledged = is_acknowledged took.answer }
 took_of s (Err fault) = silent (broken_by s fault)
 

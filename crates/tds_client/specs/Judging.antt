@@ -7,7 +7,7 @@ use Rattle.tds_client.specs.declared.client.taking.Judged.{Judged}
 use Rattle.tds_client.specs.declared.state.Taken.{Taken}
 use Rattle.tds_client.specs.declared.state.Taken.TheVariants as takes
 use Rattle.tds_client.specs.Session.{ClientSession, Stage, Idle, Sending, Reading, Cancelling, Broken}
-use Rattle.tds_client.specs.Taking.{Took}
+use Rattle.tds_client.specs.Taking.{ClientMove}
 
 -- where the client is then
 abbrev pub stage_behind : Taken → Stage → Stage
@@ -34,7 +34,7 @@ told_in Cancelling contents = []
 told_in (Broken fault) contents = []
 
 -- all that it does
-abbrev pub took_by : ClientSession → Contents → Judged → Took
+abbrev pub took_by : ClientSession → Contents → Judged → ClientMove
 took_by s contents next = record {
   answer = next.answer;
   session = judged s next;

@@ -16,7 +16,7 @@ use Rattle.tds_client.specs.Hearing.{◌>>=◌, with_done, hear_packet}
 use Rattle.tds_client.specs.Session.{ClientSession, Stage, Idle, Sending, Reading, Cancelling, Broken, with_stage}
 
 -- What a packet does: the answer, the client behind it, and the tokens that the caller is told.
-pub record Took : Type 0 where
+pub record ClientMove : Type 0 where
   pub answer : Taken
   pub session : ClientSession
   pub tokens : List Token
@@ -30,30 +30,30 @@ abbrev pub ended : ClientSession → Stage → Heard → ClientSession
 ended s stage heard = record { size = s.size; stage = stage; heard = with_done heard Awaited; columns = None }
 
 -- In reading, the tokens are told.
-abbrev pub read : ClientSession → Bool → Heard → Contents → Took
+abbrev pub read : ClientSession → Bool → Heard → Contents → ClientMove
 read s false heard contents = record { answer = takes.More; session = goes_on s heard contents.columns; tokens = told contents.tokens }
 read s true heard contents = record { answer = takes.Finished; session = ended s Idle heard; tokens = told contents.tokens }
 
 -- In cancelling, none is. The attention is acknowledged by the end of a message whose final DONE says so, and by
 -- nothing else: the answer that was underway may end before.
-abbrev pub skipped_to_end : ClientSession → Heard → FinalDone → Took
+abbrev pub skipped_to_end : ClientSession → Heard → FinalDone → ClientMove
 skipped_to_end s heard Awaited = record { answer = takes.More; session = ended s Cancelling heard; tokens = [] }
 skipped_to_end s heard Answered = record { answer = takes.More; session = ended s Cancelling heard; tokens = [] }
 skipped_to_end s heard Acknowledged = record { answer = takes.Acknowledged; session = ended s Idle heard; tokens = [] }
 
-abbrev pub skipped : ClientSession → Bool → Heard → Contents → Took
+abbrev pub skipped : ClientSession → Bool → Heard → Contents → ClientMove
 skipped s false heard contents = record { answer = takes.More; session = goes_on s heard contents.columns; tokens = [] }
 skipped s true heard contents = skipped_to_end s heard heard.done
 
-unfoldable pub taken_reading : ClientSession → Bool → List ℕ → Result Took ClientFault
+unfoldable pub taken_reading : ClientSession → Bool → List ℕ → Result ClientMove ClientFault
 taken_reading s ends bytes =
     hear_packet false s.heard ends (contents_of s.columns bytes) >>= λ heard. Ok (read s ends heard (contents_of s.columns bytes))
 
-unfoldable pub taken_cancelling : ClientSession → Bool → List ℕ → Result Took ClientFault
+unfoldable pub taken_cancelling : ClientSession → Bool → List ℕ → Result ClientMove ClientFault
 taken_cancelling s ends bytes =
     hear_packet true s.heard ends (contents_of s.columns bytes) >>= λ heard. Ok (skipped s ends heard (contents_of s.columns bytes))
 
-abbrev pub taken_in : Stage → ClientSession → Bool → List ℕ → Result Took ClientFault
+abbrev pub taken_in : Stage → ClientSession → Bool → List ℕ → Result ClientMove ClientFault
 taken_in Idle s ends bytes = Err faults.AnswerInIdle
 taken_in (Sending kind left packets) s ends bytes = Err faults.AnswerInSending
 taken_in Reading s ends bytes = taken_reading s ends bytes
@@ -61,11 +61,11 @@ taken_in Cancelling s ends bytes = taken_cancelling s ends bytes
 taken_in (Broken fault) s ends bytes = Err fault
 
 -- Taking a packet of an answer, which ends its message or not, with these data; want of memory aside.
-abbrev pub taken : ClientSession → Bool → List ℕ → Result Took ClientFault
+abbrev pub taken : ClientSession → Bool → List ℕ → Result ClientMove ClientFault
 taken s ends bytes = taken_in s.stage s ends bytes
 
 -- The same, of a packet that is lent.
-abbrev pub taken_of : ClientSession → PacketRef → Result Took ClientFault
+abbrev pub taken_of : ClientSession → PacketRef → Result ClientMove ClientFault
 taken_of s packet = taken s (has_bit (bits_of packet.header.status) 1) packet.«data».now
 
 -- A fault breaks the client, and changes nothing else.
@@ -73,25 +73,25 @@ abbrev pub broken_by : ClientSession → ClientFault → ClientSession
 broken_by s fault = with_stage s (Broken fault)
 
 -- What a call did is what it is to do: it answered so, the client is that one, and the tokens told are appended.
-abbrev pub DoesTake : Result Took ClientFault → Taken → ClientSession → List Token → List Token → Type 0
+abbrev pub DoesTake : Result ClientMove ClientFault → Taken → ClientSession → List Token → List Token → Type 0
 DoesTake wanted answer session before after =
     (more : List Token) × (wanted ≡ Ok (record { answer = answer; session = session; tokens = more })) × (after ≡ before ++ more)
 
 -- At want of memory everything is as it was. It is wanted only where tokens are told, and where there is no fault.
-pub record LeftUntaken (wanted : Result Took ClientFault) (old new : ClientSession) (before after : List Token) : Type 0 where
+pub record LeftUntaken (wanted : Result ClientMove ClientFault) (old new : ClientSession) (before after : List Token) : Type 0 where
   pub lawful : IsOk wanted
   pub reading : old.stage ≡ Reading
   pub session : new ≡ old
   pub tokens : after ≡ before
 
 -- What an answer says.
-abbrev pub Takes : Result Took ClientFault → Taken → ClientSession → ClientSession → List Token → List Token → Type 0
+abbrev pub Takes : Result ClientMove ClientFault → Taken → ClientSession → ClientSession → List Token → List Token → Type 0
 Takes wanted takes.More old new before after = DoesTake wanted takes.More new before after
 Takes wanted takes.Finished old new before after = DoesTake wanted takes.Finished new before after
 Takes wanted takes.Acknowledged old new before after = DoesTake wanted takes.Acknowledged new before after
 Takes wanted takes.NoMemory old new before after = LeftUntaken wanted old new before after
 
 -- The packet is heard: it answered so, and the client is that one. What it tells, nobody is told.
-abbrev pub Hears : Result Took ClientFault → Taken → ClientSession → Type 0
+abbrev pub Hears : Result ClientMove ClientFault → Taken → ClientSession → Type 0
 Hears wanted answer session =
     (tokens : List Token) × (wanted ≡ Ok (record { answer = answer; session = session; tokens = tokens }))

@@ -26,19 +26,19 @@ ghost use Rattle.tds_client.specs.Promises.{AreParts, AsksOnce, AtMostAttentions
 ghost use Rattle.tds_client.specs.Sending.{Effect, cancelled, started};
 ghost use Rattle.tds_client.specs.Session.{ClientSession, new_session};
 ghost use Rattle.tds_client.specs.Session.{Idle, Reading, Cancelling};
-ghost use Rattle.tds_client.specs.Taking.{Took, taken_of};
+ghost use Rattle.tds_client.specs.Taking.{ClientMove, taken_of};
 
 /// A packet that is taken in reading tells all of its tokens but the ENVCHANGEs, in their order.
 /// One that is taken in cancelling tells nothing. Its data are tokens to their end, without a
 /// fault.
 #[tactic(auto, unfolding(crate::specs::Hearing::hear_packet, crate::specs::Taking::taken_reading, crate::specs::Taking::taken_cancelling))]
 pub fn all_is_told()
-    ensures reading { (s : ClientSession) (packet : PacketRef) (took : Took)
+    ensures reading { (s : ClientSession) (packet : PacketRef) (took : ClientMove)
         → s.stage ≡ Reading → taken_of s packet ≡ Ok took
         → took.tokens ≡ told (contents_of s.columns packet.«data».now).tokens }
-    ensures cancelling { (s : ClientSession) (packet : PacketRef) (took : Took)
+    ensures cancelling { (s : ClientSession) (packet : PacketRef) (took : ClientMove)
         → s.stage ≡ Cancelling → taken_of s packet ≡ Ok took → took.tokens ≡ [] }
-    ensures whole { (s : ClientSession) (packet : PacketRef) (took : Took)
+    ensures whole { (s : ClientSession) (packet : PacketRef) (took : ClientMove)
         → taken_of s packet ≡ Ok took → (contents_of s.columns packet.«data».now).fault ≡ None }
 {}
 
@@ -94,17 +94,17 @@ pub fn one_attention()
 /// without a final DONE. All packets of the message count, those too that came before a cancel.
 pub fn idle_by_acknowledgement()
     ensures cancelling { (size : ℕ) (calls : List Call) (s : ClientSession)
-        (packet : PacketRef) (took : Took)
+        (packet : PacketRef) (took : ClientMove)
         → s ≡ after (new_session size) calls → s.stage ≡ Cancelling → taken_of s packet ≡ Ok took
         → (took.answer
         ≡ (if ends_acknowledged calls packet then takes.Acknowledged else takes.More))
         × (took.session.stage ≡ (if ends_acknowledged calls packet then Idle else Cancelling)) }
-    ensures reading { (s : ClientSession) (packet : PacketRef) (took : Took)
+    ensures reading { (s : ClientSession) (packet : PacketRef) (took : ClientMove)
         → s.stage ≡ Reading → taken_of s packet ≡ Ok took
         → (took.answer ≡ (if ends_message packet then takes.Finished else takes.More))
         × (took.session.stage ≡ (if ends_message packet then Idle else Reading)) }
     ensures finished { (size : ℕ) (calls : List Call) (s : ClientSession)
-        (packet : PacketRef) (took : Took)
+        (packet : PacketRef) (took : ClientMove)
         → s ≡ after (new_session size) calls → taken_of s packet ≡ Ok took
         → ends_message packet ≡ true
         → is_some (final_done (message_with calls packet)) ≡ true }

@@ -21,7 +21,7 @@ use Rattle.tds_world.specs.Messages.{bits_behind, IsSpelled, IsNext, came_with, 
 use Rattle.tds_world.specs.Packets.{IsSized}
 use Rattle.tds_world.specs.Record.{Record}
 use Rattle.tds_world.specs.Welcome.{ServerExpects, WelcomeToServer, WelcomeToClient}
-use Rattle.tds_ends.specs.Alike.{ArriveAlike}
+use Rattle.tds_ends.specs.Refines.{RefinesArrive}
 use Rattle.tds_ends.specs.Deliveries.{up_coming, AllArrive}
 use Rattle.tds_ends.specs.Feeding.{IsComing}
 use Rattle.tds_ends.specs.Stands.{MatchesServer}
@@ -119,7 +119,7 @@ expects c (Attention r) h = h
 abbrev pub ArrivesAlike : Type 0 → Type 0
 ArrivesAlike E =
     (answers : Answers) (s : ServerState E) (c : Connection) (q : Record) (e : Up) → Lawful answers → MatchesServer s c → c.current ≡ Some q → IsSpelled q.asking → IsNext q.asking c.parts e → ServerExpects c e
-    → ArriveAlike answers c e (taken answers s (up_packet e).header (up_packet e).body)
+    → RefinesArrive answers c e (taken answers s (up_packet e).header (up_packet e).body)
 
 arrive_on : (E : Type 0) → ArrivesAlike E → (answers : Answers) (r : Reading) (c : Connection) (es : List Up) (current : Option Record) → Lawful answers → r.direction ≡ ToServer → c.current ≡ current → AreNextIn current c.parts es → WelcomeToServer answers c es → AllByRecursion (λ e. IsSized r.size (up_packet e)) es → AllArrive E answers r c es
 arrive_on E one answers r c [] current l to is next welcome sized = tt

@@ -6,7 +6,7 @@ use Rattle.tds_client.specs.declared.heard.FinalDone.{FinalDone}
 use Rattle.tds_client.specs.declared.heard.FinalDone.TheVariants.{Awaited, Answered, Acknowledged}
 use Rattle.tds_client.specs.Hearing.{◌>>=◌}
 use Rattle.tds_client.specs.Session.{ClientSession, Stage, Idle, Sending, Reading, Cancelling, Broken}
-use Rattle.tds_client.specs.Taking.{Took, read, skipped, skipped_to_end, taken, taken_in, taken_reading, taken_cancelling}
+use Rattle.tds_client.specs.Taking.{ClientMove, read, skipped, skipped_to_end, taken, taken_in, taken_reading, taken_cancelling}
 use Rattle.tds_packet.specs.Layout.{bits_of, has_bit}
 use Rattle.tds_packet.specs.Reading as reader
 use Rattle.tds_token.specs.declared.token.Token.{Token}
@@ -25,7 +25,7 @@ use Rattle.tds_ends.proofs.SomeOf.{all_of, none_of, some_of_both}
 -- ---- A packet
 
 -- The tokens that it tells are some of those that it spells, and the columns behind it are theirs.
-record TellsSome (s : ClientSession) (ends : Bool) (bytes : List ℕ) (t : Took) : Type 0 where
+record TellsSome (s : ClientSession) (ends : Bool) (bytes : List ℕ) (t : ClientMove) : Type 0 where
   pub columns : t.session.columns ≡ columns_by ends (contents_of s.columns bytes).columns
   pub some : AreSomeOf t.tokens (told (contents_of s.columns bytes).tokens)
 
@@ -42,21 +42,21 @@ skipped_tells : (s : ClientSession) (ends : Bool) (heard : Heard) (bytes : List 
 skipped_tells s false heard bytes = record { columns = refl; some = none_of (told (contents_of s.columns bytes).tokens) }
 skipped_tells s true heard bytes = skipped_end_tells s heard heard.done bytes
 
-by_bind : (P : Took → Type 0) (found : Result Heard ClientFault) (f : Heard → Took) (t : Took) → ((h : Heard) → P (f h)) → (found >>= λ h. Ok (f h)) ≡ Ok t → P t
+by_bind : (P : ClientMove → Type 0) (found : Result Heard ClientFault) (f : Heard → ClientMove) (t : ClientMove) → ((h : Heard) → P (f h)) → (found >>= λ h. Ok (f h)) ≡ Ok t → P t
 by_bind P (Ok h) f t each is = let same : f h ≡ t = cc in subst P same (each h)
 by_bind P (Err e) f t each is = absurd (cc)
 
-reading_tells : (s : ClientSession) (ends : Bool) (bytes : List ℕ) (t : Took) → taken_reading s ends bytes ≡ Ok t → TellsSome s ends bytes t
+reading_tells : (s : ClientSession) (ends : Bool) (bytes : List ℕ) (t : ClientMove) → taken_reading s ends bytes ≡ Ok t → TellsSome s ends bytes t
 unfolding taken_reading
 reading_tells s ends bytes t is =
     by_bind (TellsSome s ends bytes) _ (λ heard. read s ends heard (contents_of s.columns bytes)) t (λ heard. read_tells s ends heard bytes) is
 
-cancelling_tells : (s : ClientSession) (ends : Bool) (bytes : List ℕ) (t : Took) → taken_cancelling s ends bytes ≡ Ok t → TellsSome s ends bytes t
+cancelling_tells : (s : ClientSession) (ends : Bool) (bytes : List ℕ) (t : ClientMove) → taken_cancelling s ends bytes ≡ Ok t → TellsSome s ends bytes t
 unfolding taken_cancelling
 cancelling_tells s ends bytes t is =
     by_bind (TellsSome s ends bytes) _ (λ heard. skipped s ends heard (contents_of s.columns bytes)) t (λ heard. skipped_tells s ends heard bytes) is
 
-packet_tells : (stage : Stage) (s : ClientSession) (ends : Bool) (bytes : List ℕ) (t : Took) → taken_in stage s ends bytes ≡ Ok t → TellsSome s ends bytes t
+packet_tells : (stage : Stage) (s : ClientSession) (ends : Bool) (bytes : List ℕ) (t : ClientMove) → taken_in stage s ends bytes ≡ Ok t → TellsSome s ends bytes t
 packet_tells Idle s ends bytes t is = absurd (cc)
 packet_tells (Sending kind left packets) s ends bytes t is = absurd (cc)
 packet_tells Reading s ends bytes t is = reading_tells s ends bytes t is
@@ -71,7 +71,7 @@ record TellSome (columns : Option ℕ) (before : List Token) (ps : List Coming) 
   pub some : AreSomeOf more (told_by columns ps)
   pub columns_are : then.session.columns ≡ columns_after columns ps
 
-by_taken : (P : Type 0) (found : Result Took ClientFault) (next : Took → Option Listened) (then : Listened) → ((t : Took) → found ≡ Ok t → next t ≡ Some then → P) → on_taken found next ≡ Some then → P
+by_taken : (P : Type 0) (found : Result ClientMove ClientFault) (next : ClientMove → Option Listened) (then : Listened) → ((t : ClientMove) → found ≡ Ok t → next t ≡ Some then → P) → on_taken found next ≡ Some then → P
 by_taken P (Ok t) next then later is = later t refl is
 by_taken P (Err fault) next then later is = absurd (cc)
 

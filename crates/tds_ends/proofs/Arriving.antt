@@ -30,7 +30,7 @@ use Rattle.tds_world.specs.Entries.{Packet, Asking, Up, Part, End, Drop, Attenti
 use Rattle.tds_world.specs.Lawful.{Lawful}
 use Rattle.tds_world.specs.Record.{Record}
 use Rattle.tds_world.specs.Welcome.{ServerExpects}
-use Rattle.tds_ends.specs.Alike.{ArriveAlike}
+use Rattle.tds_ends.specs.Refines.{RefinesArrive}
 use Rattle.tds_world.specs.Messages.{IsSpelled, message_of, bits_behind, IsNext}
 use Rattle.tds_ends.specs.Stands.{MatchesServer, MatchesPhase, IsOf, Sends, kind_asked}
 use Rattle.tds_ends.proofs.Lanes.{appended, unsent}
@@ -204,9 +204,9 @@ stop_is s c m =
 
 -- ---- The whole
 
-by_move : {E : Type 0} (answers : Answers) (s : ServerState E) (c : Connection) (e : Up) (m : Move) → moved answers s.on_attention s.session s.phase (up_packet e).header (up_packet e).body ≡ Ok m → s.on_attention ≡ (server_acts answers c e).on_attention → m.session ≡ (server_acts answers c e).session → MatchesPhase m.phase (server_acts answers c e) → Sends down_bytes m.reply c.to_client (server_acts answers c e).to_client → ArriveAlike answers c e (taken answers s (up_packet e).header (up_packet e).body)
+by_move : {E : Type 0} (answers : Answers) (s : ServerState E) (c : Connection) (e : Up) (m : Move) → moved answers s.on_attention s.session s.phase (up_packet e).header (up_packet e).body ≡ Ok m → s.on_attention ≡ (server_acts answers c e).on_attention → m.session ≡ (server_acts answers c e).session → MatchesPhase m.phase (server_acts answers c e) → Sends down_bytes m.reply c.to_client (server_acts answers c e).to_client → RefinesArrive answers c e (taken answers s (up_packet e).header (up_packet e).body)
 by_move answers s c e m is told session phase sends =
-    subst (λ r. ArriveAlike answers c e (taken_as s r)) (sym is)
+    subst (λ r. RefinesArrive answers c e (taken_as s r)) (sym is)
     (record { took = m.took; lawful = refl; matches = record { told = told; session = session; phase = phase }; sends = sends })
 
 some_behind : (xs ys : List ℕ) → ys ≢ [] → xs ++ ys ≢ []
@@ -217,7 +217,7 @@ some_due : (due : List answer.Step) → EndsOnce due → due ≢ []
 some_due [] ends = absurd ends
 some_due (s ∷ ss) ends = λ e. absurd (cc)
 
-pub arrive_alike : {E : Type 0} → SpelledIsRead → (answers : Answers) (s : ServerState E) (c : Connection) (q : Record) (e : Up) → Lawful answers → MatchesServer s c → c.current ≡ Some q → IsSpelled q.asking → IsNext q.asking c.parts e → ServerExpects c e → ArriveAlike answers c e (taken answers s (up_packet e).header (up_packet e).body)
+pub arrive_alike : {E : Type 0} → SpelledIsRead → (answers : Answers) (s : ServerState E) (c : Connection) (q : Record) (e : Up) → Lawful answers → MatchesServer s c → c.current ≡ Some q → IsSpelled q.asking → IsNext q.asking c.parts e → ServerExpects c e → RefinesArrive answers c e (taken answers s (up_packet e).header (up_packet e).body)
 arrive_alike is_read answers s c q (Part r p) w m is spelled next none =
     by_move answers s c (Part r p) (goes_on s.session (server.Receiving (so_far q (c.parts ++ p.body))) took.More)
     (move_is answers s.on_attention s.session s.phase c q p (0 + bits_behind c.parts q.asking.mark) (so_far q c.parts) m.phase next.0.kind next.0.status (message_is false s.phase c q m.phase none is)

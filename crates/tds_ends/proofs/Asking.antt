@@ -12,7 +12,7 @@ use Rattle.tds_world.specs.Caller.{asks}
 use Rattle.tds_world.specs.Connection.{Connection, is_idle}
 use Rattle.tds_world.specs.Events.{asks_by}
 use Rattle.tds_packet.specs.Resets.{header_descriptor}
-use Rattle.tds_ends.specs.Alike.{AskAlike}
+use Rattle.tds_ends.specs.Refines.{RefinesAsk}
 use Rattle.tds_ends.specs.Stands.{MatchesClient, stage_in}
 use Rattle.tds_ends.proofs.Phases.{idle_in}
 
@@ -36,14 +36,14 @@ asked_matches s c number lease n q m = record {
   begins = refl;
 }
 
-pub ask_alike : (s : ClientSession) (c : Connection) (number lease n : ℕ) (q : Request) → MatchesClient s c → AskAlike number (started s q) (unless_idle s.stage) (asks_by (is_idle c) number lease n q c)
+pub ask_alike : (s : ClientSession) (c : Connection) (number lease n : ℕ) (q : Request) → MatchesClient s c → RefinesAsk number (started s q) (unless_idle s.stage) (asks_by (is_idle c) number lease n q c)
 ask_alike s c number lease n q m =
     let at : unless_idle s.stage ≡ unless_idle (stage_in c.current) = ap unless_idle m.stage in
     elim (idle_in c.current) [
       | inl h ↦
-          subst (λ o. AskAlike number (started s q) o (asks_by (is_idle c) number lease n q c)) (sym (at ∙ h.0))
-          (subst (λ (b : Bool). AskAlike number (started s q) None (asks_by b number lease n q c)) (sym h.1) (refl, asked_matches s c number lease n q m))
+          subst (λ o. RefinesAsk number (started s q) o (asks_by (is_idle c) number lease n q c)) (sym (at ∙ h.0))
+          (subst (λ (b : Bool). RefinesAsk number (started s q) None (asks_by b number lease n q c)) (sym h.1) (refl, asked_matches s c number lease n q m))
       | inr h ↦
-          subst (λ o. AskAlike number (started s q) o (asks_by (is_idle c) number lease n q c)) (sym (at ∙ h.0))
-          (subst (λ (b : Bool). AskAlike number (started s q) (Some refused.NotIdle) (asks_by b number lease n q c)) (sym h.1) (refl, refl))
+          subst (λ o. RefinesAsk number (started s q) o (asks_by (is_idle c) number lease n q c)) (sym (at ∙ h.0))
+          (subst (λ (b : Bool). RefinesAsk number (started s q) (Some refused.NotIdle) (asks_by b number lease n q c)) (sym h.1) (refl, refl))
     ]

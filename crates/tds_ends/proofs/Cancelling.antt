@@ -16,7 +16,7 @@ use Rattle.tds_world.specs.Lane.{Lane, append}
 use Rattle.tds_world.specs.Phase.{Phase, Settled, Asked, Sending, Reading, Cancelling, phase_by, phase_in, phase_of}
 use Rattle.tds_world.specs.Record as record_of
 use Rattle.tds_world.specs.Record.{Record, Out, NotBegun, Begun, Whole, packets_of}
-use Rattle.tds_ends.specs.Alike.{CancelAlike, DoesCancel}
+use Rattle.tds_ends.specs.Refines.{RefinesCancel, DoesCancel}
 use Rattle.tds_ends.specs.Stands.{MatchesClient, BeginsBy, BeginsIn, Sends, kind_asked, stage_by, stage_in}
 use Rattle.tds_ends.proofs.Lanes.{appended, unsent}
 use Rattle.tds_world.specs.PhaseTells.{PhaseTells}
@@ -97,7 +97,7 @@ by_current : PhasesTell → (current : Option Record) (s : ClientSession) (c : C
 by_current tells None s c m b = (_, refl, refl, m, unsent up_bytes c.to_server)
 by_current tells (Some q) s c m b = by_phase (phase_of q) s c q (tells q) m b
 
-pub cancel_alike : PhasesTell → (s : ClientSession) (c : Connection) → MatchesClient s c → CancelAlike s c
+pub cancel_alike : PhasesTell → (s : ClientSession) (c : Connection) → MatchesClient s c → RefinesCancel s c
 cancel_alike tells s c m =
     subst (λ (stage : client.Stage). DoesCancel c (cancelled_in s stage) (model.cancel_outcome (phase_in c.current)) (cancels c)) (sym m.stage)
     (by_current tells c.current s c m m.begins)

@@ -32,7 +32,7 @@ use Rattle.tds_world.specs.Welcome.{ClientExpects, WelcomeToServer, WelcomeToCli
 use Rattle.tds_world.specs.World.{World}
 use Rattle.tds_ends.specs.Deliveries.{down_coming, AllHeard}
 use Rattle.tds_ends.specs.Feeding.{IsComing}
-use Rattle.tds_ends.specs.Hearing.{IsSaid, IsAwaited, HearAlike}
+use Rattle.tds_ends.specs.Hearing.{IsSaid, IsAwaited, RefinesHear}
 use Rattle.tds_ends.specs.Stands.{MatchesClient}
 use Rattle.tds_ends.proofs.Said.{AreSaid}
 
@@ -128,12 +128,12 @@ in_phase : (c : Connection) (q : Record) (e : Down) → c.current ≡ Some q →
 in_phase c q e same x = subst (λ o. ClientExpects (state_of (phase_in o)) e) same x
 
 -- What is promised of one entry: a client hears it as the model does.
-abbrev pub HearsAlike : Type 0
-HearsAlike =
+abbrev pub RefinesHears : Type 0
+RefinesHears =
     (s : ClientSession) (c : Connection) (q : Record) (e : Down) → MatchesClient s c → c.current ≡ Some q → IsAwaited c q e
-    → HearAlike c q e (taken s (has_bit (bits_of (down_packet e).header.status) 1) (down_packet e).body)
+    → RefinesHear c q e (taken s (has_bit (bits_of (down_packet e).header.status) 1) (down_packet e).body)
 
-pub all_heard : HearsAlike → (r : Reading) (c : Connection) (es : List Down) → r.direction ≡ ToClient → 512 ≤ r.size → WelcomeToClient c es → HearsOfNewest c es → AreHeardOn c es → OfSteps FitsStep es → OfAcknowledgements FitsAcknowledgement es → OfSteps IsSaid es → AllHeard r c es
+pub all_heard : RefinesHears → (r : Reading) (c : Connection) (es : List Down) → r.direction ≡ ToClient → 512 ≤ r.size → WelcomeToClient c es → HearsOfNewest c es → AreHeardOn c es → OfSteps FitsStep es → OfAcknowledgements FitsAcknowledgement es → OfSteps IsSaid es → AllHeard r c es
 all_heard hears r c [] d size w n h f g a = tt
 all_heard hears r c (e ∷ es) d size w n h f g a =
     let one : FirstOf FitsStep e × OfSteps FitsStep es = first_of FitsStep e es f in
@@ -155,14 +155,14 @@ all_heard hears r c (e ∷ es) d size w n h f g a =
 abbrev Hears : ℕ → Connection → Type 0
 Hears size c = (r : Reading) → r.direction ≡ ToClient → r.size ≡ size → AllHeard r c c.to_client.waiting
 
-on_one : HearsAlike → (answers : Answers) (size : ℕ) (c : Connection) → 512 ≤ size → AreSaid answers → WelcomeToClient c c.to_client.waiting → ActsOnNewest c → AreHeardOn c c.to_client.waiting → IsInRange c → OfSteps (IsStepOf answers) (sent_down c) → Hears size c
+on_one : RefinesHears → (answers : Answers) (size : ℕ) (c : Connection) → 512 ≤ size → AreSaid answers → WelcomeToClient c c.to_client.waiting → ActsOnNewest c → AreHeardOn c c.to_client.waiting → IsInRange c → OfSteps (IsStepOf answers) (sent_down c) → Hears size c
 on_one hears answers size c least a w n h f o r d same =
     all_heard hears r c c.to_client.waiting d (subst (λ x. 512 ≤ x) (sym same) least) w n.hears h
     (waiting_of FitsStep c.to_client.arrived c.to_client.waiting f.sent)
     (told_waiting FitsAcknowledgement c.to_client.arrived c.to_client.waiting f.told)
     (all_said answers c.to_client.waiting a (waiting_of (IsStepOf answers) c.to_client.arrived c.to_client.waiting o))
 
-on_each : HearsAlike → (answers : Answers) (size : ℕ) (cs : List Connection) → 512 ≤ size → AreSaid answers
+on_each : RefinesHears → (answers : Answers) (size : ℕ) (cs : List Connection) → 512 ≤ size → AreSaid answers
     → AllByRecursion (λ c. WelcomeToServer answers c c.to_server.waiting × WelcomeToClient c c.to_client.waiting) cs
     → AllByRecursion ActsOnNewest cs → AllByRecursion (λ c. AreHeardOn c c.to_client.waiting) cs → AllByRecursion IsInRange cs
     → AllByRecursion (λ c. OfSteps (IsStepOf answers) (sent_down c) × AllByRecursion (IsStepOf answers) c.due) cs → AllByRecursion (Hears size) cs
@@ -170,7 +170,7 @@ on_each hears answers size [] least a w n h f o = tt
 on_each hears answers size (c ∷ cs) least a w n h f o =
     (on_one hears answers size c least a w.0.1 n.0 h.0 f.0 o.0.0, on_each hears answers size cs least a w.1 n.1 h.1 f.1 o.1)
 
-pub worlds_hear : HearsAlike → (setup : Setup) (answers : Answers) (w : World) → IsSetup setup → AreSaid answers → AllWelcome answers w → ActOnNewest w → ChangesAreHeard w → AllInRange w → StepsAreOfAnswers answers w → OfEachConnection (Hears setup.packet_size) w
+pub worlds_hear : RefinesHears → (setup : Setup) (answers : Answers) (w : World) → IsSetup setup → AreSaid answers → AllWelcome answers w → ActOnNewest w → ChangesAreHeard w → AllInRange w → StepsAreOfAnswers answers w → OfEachConnection (Hears setup.packet_size) w
 worlds_hear hears setup answers w s a e n h f o =
     let least : 512 ≤ setup.packet_size = grind (arith, nat_tests) in
     on_each hears answers setup.packet_size w.connections least a e n h f o

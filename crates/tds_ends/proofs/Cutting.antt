@@ -7,7 +7,7 @@ use Rattle.tds_client.specs.declared.fault.ClientFault.{ClientFault}
 use Rattle.tds_client.specs.declared.state.Taken.{Taken}
 use Rattle.tds_client.specs.declared.state.Taken.TheVariants as takes
 use Rattle.tds_client.specs.Session.{ClientSession}
-use Rattle.tds_client.specs.Taking.{Took, taken}
+use Rattle.tds_client.specs.Taking.{ClientMove, taken}
 use Rattle.tds_packet.specs.Layout.{bits_of, has_bit}
 use Rattle.tds_packet.specs.Reading.{Reading, with_taken, fault_of, end_of, up_to_end}
 use Rattle.tds_packet.specs.Stream.{IsLess}
@@ -100,7 +100,7 @@ settles_last takes.NoMemory before first = refl
 abbrev with_settled : Option RequestStatus → Listened → Listened
 with_settled first then = record then { settled = settled_last then.settled first }
 
-on_each : (found : Result Took ClientFault) (f g : Took → Option Listened) (then other : Listened) → ((t : Took) → f t ≡ Some then → g t ≡ Some other) → on_taken found f ≡ Some then → on_taken found g ≡ Some other
+on_each : (found : Result ClientMove ClientFault) (f g : ClientMove → Option Listened) (then other : Listened) → ((t : ClientMove) → f t ≡ Some then → g t ≡ Some other) → on_taken found f ≡ Some then → on_taken found g ≡ Some other
 on_each (Ok t) f g then other later is = later t is
 on_each (Err fault) f g then other later is = absurd (cc)
 

@@ -4,7 +4,7 @@ use Rattle.tds_client.specs.declared.fault.ClientFault.{ClientFault}
 use Rattle.tds_client.specs.declared.state.Taken.{Taken}
 use Rattle.tds_client.specs.declared.state.Taken.TheVariants.{More, Finished, Acknowledged, NoMemory}
 use Rattle.tds_client.specs.Session.{ClientSession}
-use Rattle.tds_client.specs.Taking.{Took, Takes, DoesTake, taken}
+use Rattle.tds_client.specs.Taking.{ClientMove, Takes, DoesTake, taken}
 use Rattle.tds_packet.specs.declared.header.Header.{Header}
 use Rattle.tds_packet.specs.Layout.{IsPacket, bits_of, has_bit}
 use Rattle.tds_packet.specs.Reading.{Reading, with_taken}
@@ -24,12 +24,12 @@ nothing_yet r piece s told = record { packets = []; bytes = begins r piece; took
 
 -- ---- Packets, and then more of them
 
-on_both : {A : Type 0} (found : Result Took ClientFault) (f g : Took → Option A) (P : Option A → Option A → Type 0) → P None None → ((t : Took) → P (f t) (g t)) → P (on_taken found f) (on_taken found g)
+on_both : {A : Type 0} (found : Result ClientMove ClientFault) (f g : ClientMove → Option A) (P : Option A → Option A → Type 0) → P None None → ((t : ClientMove) → P (f t) (g t)) → P (on_taken found f) (on_taken found g)
 on_both (Ok t) f g P none each = each t
 on_both (Err e) f g P none each = none
 
 -- A packet, and those behind it: what is made of the packets behind is known for each client.
-on_first : (found : Result Took ClientFault) (f g : Took → Option Listened) (then : Listened) (o : Option Listened) → ((t : Took) → f t ≡ Some then → g t ≡ o) → on_taken found f ≡ Some then → on_taken found g ≡ o
+on_first : (found : Result ClientMove ClientFault) (f g : ClientMove → Option Listened) (then : Listened) (o : Option Listened) → ((t : ClientMove) → f t ≡ Some then → g t ≡ o) → on_taken found f ≡ Some then → on_taken found g ≡ o
 on_first (Ok t) f g then o later is = later t is
 on_first (Err fault) f g then o later is = absurd (cc)
 
@@ -44,14 +44,14 @@ then_more s settled told (p ∷ ps) qs then is =
 -- ---- The packet that the reader holds
 
 -- What an answer says that isn't want of memory.
-pub does_take : (wanted : Result Took ClientFault) (answer : Taken) (old new : ClientSession) (before after : List Token) → ¬ (answer ≡ NoMemory) → Takes wanted answer old new before after → DoesTake wanted answer new before after
+pub does_take : (wanted : Result ClientMove ClientFault) (answer : Taken) (old new : ClientSession) (before after : List Token) → ¬ (answer ≡ NoMemory) → Takes wanted answer old new before after → DoesTake wanted answer new before after
 does_take wanted More old new before after some is = is
 does_take wanted Finished old new before after some is = is
 does_take wanted Acknowledged old new before after some is = is
 does_take wanted NoMemory old new before after some is = absurd (some refl)
 
 -- At want of memory everything is as it was.
-pub untaken : (wanted : Result Took ClientFault) (answer : Taken) (old new : ClientSession) (before after : List Token) → answer ≡ NoMemory → Takes wanted answer old new before after → (new ≡ old) × (after ≡ before)
+pub untaken : (wanted : Result ClientMove ClientFault) (answer : Taken) (old new : ClientSession) (before after : List Token) → answer ≡ NoMemory → Takes wanted answer old new before after → (new ≡ old) × (after ≡ before)
 untaken wanted More old new before after none is = absurd (cc)
 untaken wanted Finished old new before after none is = absurd (cc)
 untaken wanted Acknowledged old new before after none is = absurd (cc)
@@ -64,6 +64,6 @@ goes_on r now gone piece content header count s session then told out more settl
   bytes = done_on r now gone piece content header count packets bytes is done;
   took =
       then_more s None told packets (record { bytes = now.taken; header = header; content = content } ∷ []) _ so
-      ∙ ap (λ (x : Result Took ClientFault). on_taken x (λ t. Some (record { session = t.session; settled = settled_by t.answer settled; told = before ++ t.tokens }))) does
+      ∙ ap (λ (x : Result ClientMove ClientFault). on_taken x (λ t. Some (record { session = t.session; settled = settled_by t.answer settled; told = before ++ t.tokens }))) does
       ∙ rw (out_is, settles_is) refl;
 }

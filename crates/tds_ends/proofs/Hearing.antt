@@ -32,7 +32,7 @@ use Rattle.tds_world.specs.Phase.{Phase, Settled, Reading, Cancelling, phase_by,
 use Rattle.tds_world.specs.Record as world
 use Rattle.tds_world.specs.Record.{Record, Out, NotBegun, Begun, Whole, gives, acknowledges, when, if_numbered}
 use Rattle.tds_world.specs.Sessions.{HasSpelling, FitsAcknowledgement}
-use Rattle.tds_ends.specs.Hearing.{IsSaid, IsSaidBy, IsAwaited, HearAlike}
+use Rattle.tds_ends.specs.Hearing.{IsSaid, IsSaidBy, IsAwaited, RefinesHear}
 use Rattle.tds_ends.specs.Stands.{MatchesClient, BeginsBy, BeginsIn, stage_by, stage_in}
 use Rattle.tds_ends.proofs.Heard.{at, behind, descriptor_behind, tokens_heard, reset_heard, packet_heard, acknowledgement_heard}
 use Rattle.tds_world.specs.PhaseTells.{PhaseTells}
@@ -166,7 +166,7 @@ client_is after c q r place step d p is same applies phase begins stage heard kn
           (subst (λ (x : Phase). BeginsBy x (gives step q) (mark_after step.reset c.mark)) (sym phase) begins);
     }
 
-reads_alike : (last : Bool) (s : ClientSession) (c : Connection) (q : Record) (r place : ℕ) (step : answer.Step) → step.last ≡ last → MatchesClient s c → c.current ≡ Some q → r ≡ q.number → s.stage ≡ client.Reading → PhaseTells Reading q.fate q.out → (k : IsRead false s c step) → HearAlike c q (Step r place step) (Ok (read s last (behind k.heard.descriptor (mark_after step.reset c.mark) last) (contents_of s.columns (flat_map spelling step.tokens))))
+reads_alike : (last : Bool) (s : ClientSession) (c : Connection) (q : Record) (r place : ℕ) (step : answer.Step) → step.last ≡ last → MatchesClient s c → c.current ≡ Some q → r ≡ q.number → s.stage ≡ client.Reading → PhaseTells Reading q.fate q.out → (k : IsRead false s c step) → RefinesHear c q (Step r place step) (Ok (read s last (behind k.heard.descriptor (mark_after step.reset c.mark) last) (contents_of s.columns (flat_map spelling step.tokens))))
 reads_alike true s c q r place step ends m is same stage phase k =
     let one : ReadStep q.fate q.out step.last = read_step q.fate q.out step.last phase in record {
       took = read s true (behind k.heard.descriptor (mark_after step.reset c.mark) true) (contents_of s.columns (flat_map spelling step.tokens));
@@ -204,7 +204,7 @@ reads_alike false s c q r place step ends m is same stage phase k =
       );
     }
 
-skips_alike : (last : Bool) (s : ClientSession) (c : Connection) (q : Record) (r place : ℕ) (step : answer.Step) → step.last ≡ last → MatchesClient s c → c.current ≡ Some q → r ≡ q.number → s.stage ≡ client.Cancelling → PhaseTells Cancelling q.fate q.out → (k : IsRead true s c step) → HearAlike c q (Step r place step) (Ok (skipped s last (behind k.heard.descriptor (mark_after step.reset c.mark) last) (contents_of s.columns (flat_map spelling step.tokens))))
+skips_alike : (last : Bool) (s : ClientSession) (c : Connection) (q : Record) (r place : ℕ) (step : answer.Step) → step.last ≡ last → MatchesClient s c → c.current ≡ Some q → r ≡ q.number → s.stage ≡ client.Cancelling → PhaseTells Cancelling q.fate q.out → (k : IsRead true s c step) → RefinesHear c q (Step r place step) (Ok (skipped s last (behind k.heard.descriptor (mark_after step.reset c.mark) last) (contents_of s.columns (flat_map spelling step.tokens))))
 skips_alike true s c q r place step ends m is same stage phase k =
     let one : SkippedStep q.fate q.out step.last = skipped_step q.fate q.out step.last phase in record {
       took = skipped s true (behind k.heard.descriptor (mark_after step.reset c.mark) true) (contents_of s.columns (flat_map spelling step.tokens));
@@ -247,22 +247,22 @@ stage_is : (s : ClientSession) (c : Connection) (q : Record) (p : Phase) → Mat
 stage_is s c q p m is phase = m.stage ∙ (ap stage_in is ∙ ap (λ (x : Phase). stage_by x q) phase)
 
 -- At this stage, with the end's bit as the packet has it.
-at_stage : (s : ClientSession) (c : Connection) (q : Record) (e : Down) (stage : client.Stage) (last : Bool) → s.stage ≡ stage → has_bit (bits_of (down_packet e).header.status) 1 ≡ last → HearAlike c q e (taken_in stage s last (down_packet e).body) → HearAlike c q e (taken s (has_bit (bits_of (down_packet e).header.status) 1) (down_packet e).body)
+at_stage : (s : ClientSession) (c : Connection) (q : Record) (e : Down) (stage : client.Stage) (last : Bool) → s.stage ≡ stage → has_bit (bits_of (down_packet e).header.status) 1 ≡ last → RefinesHear c q e (taken_in stage s last (down_packet e).body) → RefinesHear c q e (taken s (has_bit (bits_of (down_packet e).header.status) 1) (down_packet e).body)
 at_stage s c q e stage last is bit h =
-    subst (λ (x : client.Stage). HearAlike c q e (taken_in x s (has_bit (bits_of (down_packet e).header.status) 1) (down_packet e).body)) (sym is)
-    (subst (λ (b : Bool). HearAlike c q e (taken_in stage s b (down_packet e).body)) (sym bit) h)
+    subst (λ (x : client.Stage). RefinesHear c q e (taken_in x s (has_bit (bits_of (down_packet e).header.status) 1) (down_packet e).body)) (sym is)
+    (subst (λ (b : Bool). RefinesHear c q e (taken_in stage s b (down_packet e).body)) (sym bit) h)
 
-step_alike : AreRead → (s : ClientSession) (c : Connection) (q : Record) (r place : ℕ) (step : answer.Step) → MatchesClient s c → c.current ≡ Some q → r ≡ q.number → (phase_of q ≡ Reading) ⊎ (phase_of q ≡ Cancelling) → HasSpelling step → IsHeardOn c (Step r place step) → IsSaid step → HearAlike c q (Step r place step) (taken s (has_bit (bits_of (down_packet (Step r place step)).header.status) 1) (down_packet (Step r place step)).body)
+step_alike : AreRead → (s : ClientSession) (c : Connection) (q : Record) (r place : ℕ) (step : answer.Step) → MatchesClient s c → c.current ≡ Some q → r ≡ q.number → (phase_of q ≡ Reading) ⊎ (phase_of q ≡ Cancelling) → HasSpelling step → IsHeardOn c (Step r place step) → IsSaid step → RefinesHear c q (Step r place step) (taken s (has_bit (bits_of (down_packet (Step r place step)).header.status) 1) (down_packet (Step r place step)).body)
 step_alike again s c q r place step m is same phase spelled heard said = elim phase [
   | inl e ↦
       let k : IsRead false s c step = step_read again false s c step m spelled (by_reset false step.reset c step refl heard.0.0 heard.0.1 heard.1 said) in
       at_stage s c q (Step r place step) client.Reading step.last (stage_is s c q Reading m is e) (end_bit step.last)
-      (subst (λ x. HearAlike c q (Step r place step) x) (sym (reading_is s c step k))
+      (subst (λ x. RefinesHear c q (Step r place step) x) (sym (reading_is s c step k))
       (reads_alike step.last s c q r place step refl m is same (stage_is s c q Reading m is e) (told_at again.tells Reading q e) k))
   | inr e ↦
       let k : IsRead true s c step = step_read again true s c step m spelled (by_reset true step.reset c step refl heard.0.0 heard.0.1 heard.1 said) in
       at_stage s c q (Step r place step) client.Cancelling step.last (stage_is s c q Cancelling m is e) (end_bit step.last)
-      (subst (λ x. HearAlike c q (Step r place step) x) (sym (skipping_is s c step k))
+      (subst (λ x. RefinesHear c q (Step r place step) x) (sym (skipping_is s c step k))
       (skips_alike step.last s c q r place step refl m is same (stage_is s c q Cancelling m is e) (told_at again.tells Cancelling q e) k))
 ]
 
@@ -292,12 +292,12 @@ acknowledged_is again s c changes m fits d applies =
           ∙ ap (λ x. x >>= λ heard. Ok (skipped s true heard contents)) (acknowledgement_heard c.heard d c.mark changes here.0 applies));
     }
 
-acknowledgement_alike : AreRead → (s : ClientSession) (c : Connection) (q : Record) (r place : ℕ) (changes : List EnvChange) → MatchesClient s c → c.current ≡ Some q → r ≡ q.number → phase_of q ≡ Cancelling → IsAcknowledged s c changes → HearAlike c q (Acknowledgement r place changes) (taken s (has_bit (bits_of (down_packet (Acknowledgement r place changes)).header.status) 1) (down_packet (Acknowledgement r place changes)).body)
+acknowledgement_alike : AreRead → (s : ClientSession) (c : Connection) (q : Record) (r place : ℕ) (changes : List EnvChange) → MatchesClient s c → c.current ≡ Some q → r ≡ q.number → phase_of q ≡ Cancelling → IsAcknowledged s c changes → RefinesHear c q (Acknowledgement r place changes) (taken s (has_bit (bits_of (down_packet (Acknowledgement r place changes)).header.status) 1) (down_packet (Acknowledgement r place changes)).body)
 acknowledgement_alike again s c q r place changes m is same phase k =
     let one : SkippedStep q.fate q.out true = skipped_step q.fate q.out true (told_at again.tells Cancelling q phase) in
     let now : option_map (if_numbered r acknowledges) c.current ≡ Some (acknowledges q) = changed r acknowledges c.current q is same in
     at_stage s c q (Acknowledgement r place changes) client.Cancelling true (stage_is s c q Cancelling m is phase) refl
-    (subst (λ x. HearAlike c q (Acknowledgement r place changes) x) (sym k.taken) (record {
+    (subst (λ x. RefinesHear c q (Acknowledgement r place changes) x) (sym k.taken) (record {
       took = skipped s true (with_done (at k.descriptor c.mark) Acknowledged) k.contents;
       lawful = refl;
       matches = record {
@@ -311,6 +311,6 @@ acknowledgement_alike again s c q r place changes m is same phase k =
       told = (acknowledges q, now, record { given = sym (append-nil q.given); status = one.ends });
     }))
 
-pub hear_alike : AreRead → (s : ClientSession) (c : Connection) (q : Record) (e : Down) → MatchesClient s c → c.current ≡ Some q → IsAwaited c q e → HearAlike c q e (taken s (has_bit (bits_of (down_packet e).header.status) 1) (down_packet e).body)
+pub hear_alike : AreRead → (s : ClientSession) (c : Connection) (q : Record) (e : Down) → MatchesClient s c → c.current ≡ Some q → IsAwaited c q e → RefinesHear c q e (taken s (has_bit (bits_of (down_packet e).header.status) 1) (down_packet e).body)
 hear_alike again s c q (Step r place step) m is a = step_alike again s c q r place step m is a.0 a.1 a.2 a.3 a.4
 hear_alike again s c q (Acknowledgement r place changes) m is a = acknowledgement_alike again s c q r place changes m is a.0 a.1 (acknowledged_is again s c changes m a.2 a.3.0 a.3.1)

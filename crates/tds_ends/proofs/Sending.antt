@@ -18,7 +18,7 @@ use Rattle.tds_world.specs.Phase.{Phase, Settled, Asked, Sending, Reading, Cance
 use Rattle.tds_world.specs.Pool.{Does}
 use Rattle.tds_world.specs.Record.{Record, Out, NotBegun, Begun, Whole, packets_of}
 use Rattle.tds_world.specs.declared.outcome.Outcome.TheVariants as outcome
-use Rattle.tds_ends.specs.Alike.{SendAlike}
+use Rattle.tds_ends.specs.Refines.{RefinesSend}
 use Rattle.tds_ends.specs.Stands.{MatchesClient, BeginsBy, BeginsIn, stage_by, stage_in, kind_asked}
 use Rattle.tds_ends.proofs.Lanes.{appended}
 use Rattle.tds_world.specs.PhaseTells.{PhaseTells}
@@ -72,7 +72,7 @@ more_effect s q = record {
   bytes = packets.packet_bytes (kind_asked q.asking) (0 + mark_bit (packets_of q.out) s.heard.mark) (packets_of q.out) (take (room s) q.left);
 }
 
-last_alike : (s : ClientSession) (c : Connection) (q : Record) → MatchesClient s c → IsGoing q c.mark → SendAlike c (Ok (last_effect s q)) (Does (outcome.Sent (sent_as true)) (sends_by true (room s) q c))
+last_alike : (s : ClientSession) (c : Connection) (q : Record) → MatchesClient s c → IsGoing q c.mark → RefinesSend c (Ok (last_effect s q)) (Does (outcome.Sent (sent_as true)) (sends_by true (room s) q c))
 last_alike s c q m g =
     let q' : Record = record q { left = []; out = Whole (packets_of q.out + 1) } in
     let reads : phase_of q' ≡ Reading = g.goes.last (packets_of q.out + 1) in (
@@ -90,7 +90,7 @@ last_alike s c q m g =
           (g.first ∙ ap (λ (mark : Option Reset). mark_bit (packets_of q.out) mark) (sym m.mark))),
     )
 
-more_alike : (s : ClientSession) (c : Connection) (q : Record) → MatchesClient s c → IsGoing q c.mark → SendAlike c (Ok (more_effect s q)) (Does (outcome.Sent (sent_as false)) (sends_by false (room s) q c))
+more_alike : (s : ClientSession) (c : Connection) (q : Record) → MatchesClient s c → IsGoing q c.mark → RefinesSend c (Ok (more_effect s q)) (Does (outcome.Sent (sent_as false)) (sends_by false (room s) q c))
 more_alike s c q m g =
     let q' : Record = record q { left = drop (room s) q.left; out = Begun (packets_of q.out + 1) } in
     let sends : phase_of q' ≡ Sending = g.goes.more (packets_of q.out + 1) in (
@@ -108,28 +108,28 @@ more_alike s c q m g =
           (g.first ∙ ap (λ (mark : Option Reset). mark_bit (packets_of q.out) mark) (sym m.mark))),
     )
 
-by_last : (b : Bool) (s : ClientSession) (c : Connection) (q : Record) → MatchesClient s c → IsGoing q c.mark → SendAlike c (Ok (cond b (last_effect s q) (more_effect s q))) (Does (outcome.Sent (sent_as b)) (sends_by b (room s) q c))
+by_last : (b : Bool) (s : ClientSession) (c : Connection) (q : Record) → MatchesClient s c → IsGoing q c.mark → RefinesSend c (Ok (cond b (last_effect s q) (more_effect s q))) (Does (outcome.Sent (sent_as b)) (sends_by b (room s) q c))
 by_last true s c q m g = last_alike s c q m g
 by_last false s c q m g = more_alike s c q m g
 
-going_alike : (s : ClientSession) (c : Connection) (q : Record) → MatchesClient s c → IsGoing q c.mark → SendAlike c (Ok (sent_of s (kind_asked q.asking) q.left (packets_of q.out))) (Does (outcome.Sent (sent_as (sends_last (room s) q))) (sends_by (sends_last (room s) q) (room s) q c))
+going_alike : (s : ClientSession) (c : Connection) (q : Record) → MatchesClient s c → IsGoing q c.mark → RefinesSend c (Ok (sent_of s (kind_asked q.asking) q.left (packets_of q.out))) (Does (outcome.Sent (sent_as (sends_last (room s) q))) (sends_by (sends_last (room s) q) (room s) q c))
 unfolding sent_of
 going_alike s c q m g = by_last (sends_last (room s) q) s c q m g
 
 -- ---- By the newest request
 
-by_phase : (p : Phase) (s : ClientSession) (c : Connection) (q : Record) → PhaseTells p q.fate q.out → MatchesClient s c → BeginsBy p q c.mark → SendAlike c (sent_in s (stage_by p q)) (sends_in p (room s) (Some q) c)
+by_phase : (p : Phase) (s : ClientSession) (c : Connection) (q : Record) → PhaseTells p q.fate q.out → MatchesClient s c → BeginsBy p q c.mark → RefinesSend c (sent_in s (stage_by p q)) (sends_in p (room s) (Some q) c)
 by_phase Settled s c q e m b = (refl, refl)
 by_phase Asked s c q e m b = going_alike s c q m (going_asked q c.mark e b)
 by_phase Sending s c q e m b = going_alike s c q m (going_begun q c.mark e b)
 by_phase Reading s c q e m b = (refl, refl)
 by_phase Cancelling s c q e m b = (refl, refl)
 
-by_current : PhasesTell → (current : Option Record) (s : ClientSession) (c : Connection) → MatchesClient s c → BeginsIn current c.mark → SendAlike c (sent_in s (stage_in current)) (sends_in (phase_in current) (room s) current c)
+by_current : PhasesTell → (current : Option Record) (s : ClientSession) (c : Connection) → MatchesClient s c → BeginsIn current c.mark → RefinesSend c (sent_in s (stage_in current)) (sends_in (phase_in current) (room s) current c)
 by_current tells None s c m b = (refl, refl)
 by_current tells (Some q) s c m b = by_phase (phase_of q) s c q (tells q) m b
 
-pub send_alike : PhasesTell → (s : ClientSession) (c : Connection) → MatchesClient s c → SendAlike c (sent s) (sends_in (phase c) (room s) c.current c)
+pub send_alike : PhasesTell → (s : ClientSession) (c : Connection) → MatchesClient s c → RefinesSend c (sent s) (sends_in (phase c) (room s) c.current c)
 send_alike tells s c m =
-    subst (λ (stage : client.Stage). SendAlike c (sent_in s stage) (sends_in (phase c) (room s) c.current c)) (sym m.stage)
+    subst (λ (stage : client.Stage). RefinesSend c (sent_in s stage) (sends_in (phase c) (room s) c.current c)) (sym m.stage)
     (by_current tells c.current s c m m.begins)

@@ -5,14 +5,14 @@ use Rattle.tds_packet.specs.Reading.{Reading}
 use Rattle.tds_server.specs.declared.fault.ServerFault.{ServerFault}
 use Rattle.tds_server.specs.declared.outcome.ServerTook.{ServerTook}
 use Rattle.tds_server.specs.State.{ServerState}
-use Rattle.tds_server.specs.Taking.{Taken, taken}
+use Rattle.tds_server.specs.Taking.{ServerMove, taken}
 use Rattle.tds_session.specs.Answer.{Answers}
 use Rattle.tds_world.specs.Arrivals.{server_acts, reach_server}
 use Rattle.tds_world.specs.Connection.{Connection}
 use Rattle.tds_world.specs.Entries.{Up, up_packet, up_bytes, down_bytes}
 use Rattle.tds_world.specs.Lane.{Lane, passed, with_waiting}
-use Rattle.tds_ends.specs.Alike.{ArriveAlike}
-use Rattle.tds_ends.specs.Deliveries.{up_coming, AllArrive, ServesAlike}
+use Rattle.tds_ends.specs.Refines.{RefinesArrive}
+use Rattle.tds_ends.specs.Deliveries.{up_coming, AllArrive, RefinesServes}
 use Rattle.tds_ends.specs.Feeding.{IsComing, served, unless_refused, bytes_of}
 use Rattle.tds_ends.specs.Stands.{MatchesServer, Sends}
 use Rattle.tds_ends.proofs.Cuts.{cut_inside, cut_behind, begun_by}
@@ -48,7 +48,7 @@ taken_by : {A : Type 0} → (took : ServerTook) (answer : Result ServerTook Serv
 taken_by took answer next e = ap (λ a. unless_refused a next) e
 
 -- Nothing whole comes.
-none_whole : {E : Type 0} (answers : Answers) (r : Reading) (c : Connection) (e : Up) (es : List Up) (k : ℕ) (s : ServerState E) (reply : List ℕ) → IsComing r (up_coming e) → MatchesServer s c → ltb k (length (up_bytes e)) ≡ true → ServesAlike E answers r (take k (flat_map up_bytes (e ∷ es))) c (record c { to_server = with_waiting (e ∷ es) k c.to_server }) s reply
+none_whole : {E : Type 0} (answers : Answers) (r : Reading) (c : Connection) (e : Up) (es : List Up) (k : ℕ) (s : ServerState E) (reply : List ℕ) → IsComing r (up_coming e) → MatchesServer s c → ltb k (length (up_bytes e)) ≡ true → RefinesServes E answers r (take k (flat_map up_bytes (e ∷ es))) c (record c { to_server = with_waiting (e ∷ es) k c.to_server }) s reply
 none_whole answers r c e es k s reply is m less =
     let cut : take k (flat_map up_bytes (e ∷ es)) ≡ take k (up_bytes e) = cut_inside k (up_bytes e) (flat_map up_bytes es) less in
     record {
@@ -65,12 +65,12 @@ none_whole answers r c e es k s reply is m less =
 -- The first entry is whole: it is taken, and then those behind it.
 first_whole : {E : Type 0} (answers : Answers) (r : Reading) (c d : Connection) (e : Up) (es : List Up) (k : ℕ) (s : ServerState E) (reply : List ℕ)
     → IsComing r (up_coming e)
-    → (a : ArriveAlike answers (record c { to_server = passed e c.to_server }) e (taken answers s (up_packet e).header (up_packet e).body))
+    → (a : RefinesArrive answers (record c { to_server = passed e c.to_server }) e (taken answers s (up_packet e).header (up_packet e).body))
     → ltb k (length (up_bytes e)) ≡ false
-    → ServesAlike E answers r (take (k - length (up_bytes e)) (flat_map up_bytes es)) (server_acts answers (record c { to_server = passed e c.to_server }) e) d (taken answers s (up_packet e).header (up_packet e).body).state (reply ++ (taken answers s (up_packet e).header (up_packet e).body).reply)
-    → ServesAlike E answers r (take k (flat_map up_bytes (e ∷ es))) c d s reply
+    → RefinesServes E answers r (take (k - length (up_bytes e)) (flat_map up_bytes es)) (server_acts answers (record c { to_server = passed e c.to_server }) e) d (taken answers s (up_packet e).header (up_packet e).body).state (reply ++ (taken answers s (up_packet e).header (up_packet e).body).reply)
+    → RefinesServes E answers r (take k (flat_map up_bytes (e ∷ es))) c d s reply
 first_whole {E} answers r c d e es k s reply is a more later =
-    let t : Taken E = taken answers s (up_packet e).header (up_packet e).body in
+    let t : ServerMove E = taken answers s (up_packet e).header (up_packet e).body in
     record {
       packets = up_coming e ∷ later.packets;
       rest = later.rest;
@@ -95,13 +95,13 @@ first_whole {E} answers r c d e es k s reply is a more later =
 
 -- ---- A delivery
 
-by_size : {E : Type 0} (b : Bool) (answers : Answers) (r : Reading) (bytes : List ℕ) (c x y : Connection) (s : ServerState E) (reply : List ℕ) → (b ≡ true → ServesAlike E answers r bytes c x s reply) → (b ≡ false → ServesAlike E answers r bytes c y s reply) → ServesAlike E answers r bytes c (cond b x y) s reply
+by_size : {E : Type 0} (b : Bool) (answers : Answers) (r : Reading) (bytes : List ℕ) (c x y : Connection) (s : ServerState E) (reply : List ℕ) → (b ≡ true → RefinesServes E answers r bytes c x s reply) → (b ≡ false → RefinesServes E answers r bytes c y s reply) → RefinesServes E answers r bytes c (cond b x y) s reply
 by_size true answers r bytes c x y s reply f g = f refl
 by_size false answers r bytes c x y s reply f g = g refl
 
 -- Of the entries that wait, a server that stands for the connection takes those that come whole as the
 -- model does.
-pub serve_alike : {E : Type 0} (answers : Answers) (r : Reading) (c : Connection) (es : List Up) (k : ℕ) (s : ServerState E) (reply : List ℕ) → AllArrive E answers r c es → MatchesServer s c → ServesAlike E answers r (take k (flat_map up_bytes es)) c (reach_server answers c es k) s reply
+pub serve_alike : {E : Type 0} (answers : Answers) (r : Reading) (c : Connection) (es : List Up) (k : ℕ) (s : ServerState E) (reply : List ℕ) → AllArrive E answers r c es → MatchesServer s c → RefinesServes E answers r (take k (flat_map up_bytes es)) c (reach_server answers c es k) s reply
 serve_alike answers r c [] k s reply all m = record {
   packets = [];
   rest = [];
@@ -114,7 +114,7 @@ serve_alike answers r c [] k s reply all m = record {
 }
 serve_alike {E} answers r c (e ∷ es) k s reply all m =
     let came : Connection = record c { to_server = passed e c.to_server } in
-    let a : ArriveAlike answers came e (taken answers s (up_packet e).header (up_packet e).body) = all.1 s (matches_on s c (passed e c.to_server) m) in
+    let a : RefinesArrive answers came e (taken answers s (up_packet e).header (up_packet e).body) = all.1 s (matches_on s c (passed e c.to_server) m) in
     by_size (ltb k (length (up_bytes e))) answers r (take k (flat_map up_bytes (e ∷ es))) c (record c { to_server = with_waiting (e ∷ es) k c.to_server }) (reach_server answers (server_acts answers came e) es (k - length (up_bytes e))) s reply
     (λ less. none_whole answers r c e es k s reply all.0 m less)
     (λ more. first_whole answers r c (reach_server answers (server_acts answers came e) es (k - length (up_bytes e))) e es k s reply all.0 a more

@@ -3,7 +3,7 @@ use Rattle.std.proofs.Common.{◌≡◌, ◌∙◌, ◌≢◌, ℕ, List, [], �
 use Rattle.std.specs.List.{AllByRecursion}
 use Rattle.tds_client.specs.declared.fault.ClientFault.{ClientFault}
 use Rattle.tds_client.specs.Session.{ClientSession}
-use Rattle.tds_client.specs.Taking.{Took, taken}
+use Rattle.tds_client.specs.Taking.{ClientMove, taken}
 use Rattle.tds_packet.specs.declared.header.Header.{Header}
 use Rattle.tds_packet.specs.Layout.{IsPacket, bits_of, has_bit}
 use Rattle.tds_packet.specs.Reading.{Reading, with_taken, fault_of}
@@ -30,7 +30,7 @@ abbrev All : Option ClientStop → Reading → List ℕ → ClientSession → Li
 All stop new rest now at then =
     (stop ≡ None) × (now ≡ then.session) × (at ≡ then) × (new.taken ≡ rest)
 
-refused : (found : Result Took ClientFault) (next : Took → Option Listened) (then : Listened) (fault : ClientFault) → found ≡ Err fault → on_taken found next ≡ Some then → ⊥
+refused : (found : Result ClientMove ClientFault) (next : ClientMove → Option Listened) (then : Listened) (fault : ClientFault) → found ≡ Err fault → on_taken found next ≡ Some then → ⊥
 refused found next then fault e is =
     let none : None ≡ Some then = subst (λ x. on_taken x next ≡ Some then) e is in
     absurd (cc)

@@ -14,7 +14,7 @@ use Rattle.tds_world.specs.Entries.{Step, down_bytes}
 use Rattle.tds_world.specs.Events.{work_outcome}
 use Rattle.tds_session.specs.Answer.{EndsOnce}
 use Rattle.tds_world.specs.Steps.{EndsIfDue}
-use Rattle.tds_ends.specs.Alike.{WorkAlike, worked_outcome}
+use Rattle.tds_ends.specs.Refines.{RefinesWork, worked_outcome}
 use Rattle.tds_ends.specs.Stands.{MatchesServer, MatchesPhase, Sends}
 use Rattle.tds_ends.proofs.Lanes.{appended, unsent}
 
@@ -67,7 +67,7 @@ by_phase s c (server.Receiving message) m p ends = let k = idle_alike s c c.due 
 by_phase s c (server.Answering due id begun) m p ends = subst (λ (d : List answer.Step). IsAlike s c (server.Answering d id begun) c.due) (sym p.1) (due_alike s c c.due id begun m.told ends p.2 p.0 p.3)
 by_phase s c (server.Broken fault) m p ends = absurd p
 
-pub work_alike : {E : Type 0} (s : ServerState E) (c : Connection) → MatchesServer s c → EndsIfDue c.due → WorkAlike c (worked s)
+pub work_alike : {E : Type 0} (s : ServerState E) (c : Connection) → MatchesServer s c → EndsIfDue c.due → RefinesWork c (worked s)
 work_alike s c m ends =
     let k : IsAlike s c s.phase c.due = by_phase s c s.phase m m.phase ends in
     record { outcome = k.outcome; matches = k.matches; sends = k.sends }

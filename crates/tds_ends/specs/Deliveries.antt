@@ -3,7 +3,7 @@ use Rattle.std.specs.Prelude.{ℕ, ◌≡◌, List, [], ◌∷◌, ◌++◌, tak
 use Rattle.tds_client.specs.declared.fault.ClientFault.{ClientFault}
 use Rattle.tds_client.specs.Session.{ClientSession}
 use Rattle.tds_client.specs.Taking as client
-use Rattle.tds_client.specs.Taking.{Took}
+use Rattle.tds_client.specs.Taking.{ClientMove}
 use Rattle.tds_packet.specs.Layout.{bits_of, has_bit}
 use Rattle.tds_packet.specs.Reading.{Reading}
 use Rattle.tds_server.specs.State.{ServerState}
@@ -17,9 +17,9 @@ use Rattle.tds_world.specs.Entries.{Up, up_packet, up_bytes, Down, down_packet, 
 use Rattle.tds_world.specs.Lane.{passed}
 use Rattle.tds_world.specs.Phase.{status_of}
 use Rattle.tds_world.specs.Record.{Record}
-use Rattle.tds_ends.specs.Alike.{ArriveAlike}
+use Rattle.tds_ends.specs.Refines.{RefinesArrive}
 use Rattle.tds_ends.specs.Feeding.{Coming, Comes, IsComing, Served, served, Listened, listened}
-use Rattle.tds_ends.specs.Hearing.{HearAlike}
+use Rattle.tds_ends.specs.Hearing.{RefinesHear}
 use Rattle.tds_ends.specs.Stands.{MatchesServer, MatchesClient, Sends}
 
 -- An entry as the packet that comes.
@@ -33,7 +33,7 @@ AllArrive E answers r c [] = Unit {0}
 AllArrive E answers r c (e ∷ es) =
     IsComing r (up_coming e)
     × ((s : ServerState E) → MatchesServer s (record c { to_server = passed e c.to_server })
-    → ArriveAlike answers (record c { to_server = passed e c.to_server }) e (taken answers s (up_packet e).header (up_packet e).body))
+    → RefinesArrive answers (record c { to_server = passed e c.to_server }) e (taken answers s (up_packet e).header (up_packet e).body))
     × AllArrive E answers r (server_acts answers (record c { to_server = passed e c.to_server }) e) es
 
 -- More was appended, and more was sent.
@@ -44,7 +44,7 @@ SendsMore c d before after =
 -- Bytes that come to a server, and the connection then: they are packets and the beginning of one; the
 -- server takes them all, stands for the connection then, and has appended what the connection sent;
 -- and what is left of the bytes is what has come of the entry that is cut.
-pub record ServesAlike (E : Type 0) (answers : Answers) (r : Reading) (bytes : List ℕ) (c d : Connection)
+pub record RefinesServes (E : Type 0) (answers : Answers) (r : Reading) (bytes : List ℕ) (c d : Connection)
     (s : ServerState E) (reply : List ℕ) : Type 0 where
   pub packets : List Coming
   pub rest : List ℕ
@@ -61,7 +61,7 @@ abbrev pub down_coming : Down → Coming
 down_coming e = record { bytes = down_bytes e; header = (down_packet e).header; content = (down_packet e).body }
 
 -- What a client makes of an entry's packet.
-abbrev pub heard_of : ClientSession → Down → Result Took ClientFault
+abbrev pub heard_of : ClientSession → Down → Result ClientMove ClientFault
 heard_of s e = client.taken s (has_bit (bits_of (down_packet e).header.status) 1) (down_packet e).body
 
 -- Each of these entries is a packet to this reader, somebody waits for it, and a client that stands for
@@ -71,7 +71,7 @@ AllHeard r c [] = Unit {0}
 AllHeard r c (e ∷ es) =
     IsComing r (down_coming e)
     × ((s : ClientSession) → MatchesClient s (record c { to_client = passed e c.to_client })
-    → (q : Record) × (c.current ≡ Some q) × HearAlike (record c { to_client = passed e c.to_client }) q e (heard_of s e))
+    → (q : Record) × (c.current ≡ Some q) × RefinesHear (record c { to_client = passed e c.to_client }) q e (heard_of s e))
     × AllHeard r (client_acts (record c { to_client = passed e c.to_client }) e) es
 
 -- A status, unless it was settled since.
@@ -92,7 +92,7 @@ TellsMore c d settled told then =
 -- Bytes that come to a client, and the connection then: they are packets and the beginning of one; the
 -- client takes them all, stands for the connection then, and told the newest request's caller what the
 -- model gave; and what is left of the bytes is what has come of the entry that is cut.
-pub record ListensAlike (r : Reading) (bytes : List ℕ) (c d : Connection) (s : ClientSession)
+pub record RefinesListens (r : Reading) (bytes : List ℕ) (c d : Connection) (s : ClientSession)
     (settled : Option RequestStatus) (told : List Token) : Type 0 where
   pub packets : List Coming
   pub rest : List ℕ

@@ -92,7 +92,7 @@ settled_by took.Finished before = Some status.Finished
 settled_by took.Acknowledged before = Some status.Acknowledged
 settled_by took.NoMemory before = before
 
-abbrev pub on_taken : {A : Type 0} → Result client.Took ClientFault → (client.Took → Option A) → Option A
+abbrev pub on_taken : {A : Type 0} → Result client.ClientMove ClientFault → (client.ClientMove → Option A) → Option A
 on_taken (Ok t) next = next t
 on_taken (Err fault) next = None
 

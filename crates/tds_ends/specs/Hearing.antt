@@ -3,7 +3,7 @@ use Rattle.std.specs.Prelude.{ℕ, ◌≡◌, ◌⊎◌, [], ◌∷◌, ◌++◌
 use Rattle.tds_client.specs.declared.fault.ClientFault.{ClientFault}
 use Rattle.tds_client.specs.declared.state.Taken.{Taken}
 use Rattle.tds_client.specs.declared.state.Taken.TheVariants as taken
-use Rattle.tds_client.specs.Taking.{Took}
+use Rattle.tds_client.specs.Taking.{ClientMove}
 use Rattle.tds_packet.specs.declared.status.Reset.{Reset}
 use Rattle.tds_session.specs.Answer as answer
 use Rattle.tds_token.specs.declared.env_change.EnvChange.TheVariants.{ResetDone}
@@ -48,15 +48,15 @@ status_after taken.NoMemory before = before
 
 -- The newest request after it: its caller was given these tokens, and its status is what the client
 -- answered.
-pub record IsTold (before after : Record) (took : Took) : Type 0 where
+pub record IsTold (before after : Record) (took : ClientMove) : Type 0 where
   pub given : after.given ≡ before.given ++ took.tokens
   pub status : status_of false after ≡ status_after took.answer (status_of false before)
 
 -- A client that takes the packet of an entry and the connection where it arrives: there is no fault,
 -- the caller is told the same, and the client matches the connection then.
-pub record HearAlike (c : Connection) (q : Record) (e : Down) (result : Result Took ClientFault)
+pub record RefinesHear (c : Connection) (q : Record) (e : Down) (result : Result ClientMove ClientFault)
     : Type 0 where
-  pub took : Took
+  pub took : ClientMove
   pub lawful : result ≡ Ok took
   pub matches : MatchesClient took.session (client_acts c e)
   pub told : (after : Record) × ((client_acts c e).current ≡ Some after) × IsTold q after took

@@ -3,8 +3,8 @@ pub mod Ends
 pub mod AllBytes
 pub mod Stands
 pub mod Stays
-pub mod Alike
+pub mod Refines
 pub mod Hearing
 pub mod Deliveries
-pub mod Promises
+pub mod ModelGives
 pub mod Lending

@@ -23,6 +23,6 @@ pub record PoolIsUnseen (E : Type 0) : Type 0 where
       → ServerStays E (λ c. record c { mark = mark; standing = standing })
 
 -- A client that stands for a connection is idle exactly where the connection is.
-abbrev pub IdleAlike : Type 0
-IdleAlike = (s : ClientSession) (c : Connection)
+abbrev pub RefinesIdle : Type 0
+RefinesIdle = (s : ClientSession) (c : Connection)
     → MatchesClient s c → is_none (unless_idle s.stage) ≡ is_idle c

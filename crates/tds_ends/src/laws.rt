@@ -8,15 +8,15 @@ ghost use Rattle.std.specs.Prelude.{flat_map, take, Option};
 ghost use Rattle.tds_client.specs.Sending.{started, sent, room};
 ghost use Rattle.tds_client.specs.Session.{ClientSession, marked, new_session, unless_idle};
 ghost use Rattle.tds_client.specs.Taking.{taken as client_taken};
-ghost use Rattle.tds_ends.specs.Alike.{AskAlike, CancelAlike, SendAlike, WorkAlike, ArriveAlike};
-ghost use Rattle.tds_ends.specs.Deliveries.{AllArrive, ServesAlike, AllHeard, ListensAlike};
+ghost use Rattle.tds_ends.specs.Refines.{RefinesAsk, RefinesCancel, RefinesSend, RefinesWork, RefinesArrive};
+ghost use Rattle.tds_ends.specs.Deliveries.{AllArrive, RefinesServes, AllHeard, RefinesListens};
 ghost use Rattle.tds_ends.specs.Ends.{Listens, Serves, ClientGoesOn, ServerGoesOn};
 ghost use Rattle.tds_ends.specs.Ends.{client_fed_twice, server_fed_twice};
 ghost use Rattle.tds_ends.specs.Feeding.{Coming, Comes, Spells, Listened, IsListened, listened};
 ghost use Rattle.tds_ends.specs.Feeding.{Served, IsServed, served};
-ghost use Rattle.tds_ends.specs.Hearing.{HearAlike, IsAwaited, IsSaid};
+ghost use Rattle.tds_ends.specs.Hearing.{RefinesHear, IsAwaited, IsSaid};
 ghost use Rattle.tds_ends.specs.Stands.{MatchesClient, MatchesServer, Sends};
-ghost use Rattle.tds_ends.specs.Stays.{ClientStays, ServerStays, PoolIsUnseen, IdleAlike};
+ghost use Rattle.tds_ends.specs.Stays.{ClientStays, ServerStays, PoolIsUnseen, RefinesIdle};
 ghost use Rattle.tds_ends.specs.declared.listening.ClientFed.{ClientFed};
 ghost use Rattle.tds_ends.specs.declared.listening.ClientStop.TheVariants as client_stop;
 ghost use Rattle.tds_ends.specs.declared.serving.ServerFed.{ServerFed};
@@ -128,14 +128,14 @@ pub fn whole_packets_are_served<E: Engine>()
 pub fn asks_alike()
     ensures { (s : ClientSession) (c : Connection) (number lease n : ℕ) (q : Request)
         → MatchesClient s c
-        → AskAlike number (started s q) (unless_idle s.stage)
+        → RefinesAsk number (started s q) (unless_idle s.stage)
         (asks_by (is_idle c) number lease n q c) }
 {}
 
 /// A client sends exactly where the model does: the bytes of the same entry.
 pub fn sends_alike()
     ensures { (s : ClientSession) (c : Connection) → MatchesClient s c
-        → SendAlike c (sent s) (sends_in (phase c) (room s) c.current c) }
+        → RefinesSend c (sent s) (sends_in (phase c) (room s) c.current c) }
 {
     phases_tell();
 }
@@ -144,7 +144,7 @@ pub fn sends_alike()
 /// same entry.
 pub fn works_alike<E: Engine>()
     ensures { (s : ServerState E) (c : Connection) → MatchesServer s c → EndsIfDue c.due
-        → WorkAlike c (worked s) }
+        → RefinesWork c (worked s) }
 {}
 
 /// A server takes the packet of each entry that arrives as the model does, without a fault: it
@@ -154,7 +154,7 @@ pub fn arrives_alike<E: Engine>()
         → Lawful answers
         → MatchesServer s c → c.current ≡ Some q → IsSpelled q.asking → IsNext q.asking c.parts e
         → ServerExpects c e
-        → ArriveAlike answers c e (taken answers s (up_packet e).header (up_packet e).body) }
+        → RefinesArrive answers c e (taken answers s (up_packet e).header (up_packet e).body) }
 {
     spelled_is_read();
 }
@@ -165,7 +165,7 @@ pub fn hears_alike()
     ensures { (s : ClientSession) (c : Connection) (q : Record) (e : Down) → MatchesClient s c
         → c.current ≡ Some q
         → IsAwaited c q e
-        → HearAlike c q e (client_taken s
+        → RefinesHear c q e (client_taken s
         (has_bit (bits_of (down_packet e).header.status) 1) (down_packet e).body) }
 {
     spelled_are_read();
@@ -199,12 +199,12 @@ pub fn pool_is_unseen<E: Engine>()
 
 /// A client that stands for a connection is idle exactly where nobody waits for an answer there.
 pub fn idle_alike()
-    ensures { IdleAlike }
+    ensures { RefinesIdle }
 {}
 
 /// A client cancels as the model does, in each phase: it sends the bytes of the same entries.
 pub fn cancels_alike()
-    ensures { (s : ClientSession) (c : Connection) → MatchesClient s c → CancelAlike s c }
+    ensures { (s : ClientSession) (c : Connection) → MatchesClient s c → RefinesCancel s c }
 {
     phases_tell();
 }
@@ -239,7 +239,7 @@ pub fn serves_alike<E: Engine>()
     ensures { (answers : Answers) (r : Reading) (c : Connection) (es : List Up) (k : ℕ)
         (s : ServerState E) (reply : List ℕ)
         → AllArrive E answers r c es → MatchesServer s c
-        → ServesAlike E answers r (take k (flat_map up_bytes es)) c
+        → RefinesServes E answers r (take k (flat_map up_bytes es)) c
         (reach_server answers c es k) s reply }
 {}
 
@@ -262,7 +262,8 @@ pub fn listens_alike()
     ensures { (r : Reading) (c : Connection) (es : List Down) (k : ℕ) (s : ClientSession)
         (settled : Option RequestStatus) (told : List Token)
         → AllHeard r c es → MatchesClient s c
-        → ListensAlike r (take k (flat_map down_bytes es)) c (reach_client c es k) s settled told }
+        → RefinesListens r (take k (flat_map down_bytes es)) c
+        (reach_client c es k) s settled told }
 {}
 
 /// What an end sends is appended to all that was sent on its lane.

@@ -8,7 +8,7 @@ use Rattle.tds_world.specs.declared.event.Setup.{Setup}
 use Rattle.tds_world.specs.Losses.{Loss, Nothing, Failed, Played, is_lost, link_of, world_then, world_with}
 use Rattle.tds_world.specs.WithLosses.{LosesNothing}
 use Rattle.tds_world.specs.World.{World, new_world}
-use Rattle.tds_play.specs.declared.link.Done.{Done}
+use Rattle.tds_play.specs.declared.link.EventDone.{EventDone}
 use Rattle.tds_play.specs.declared.link.Link.{Link}
 use Rattle.tds_play.specs.declared.seat.Seated.{Seated}
 use Rattle.tds_play.specs.Failures.{Call, Open, AccountFor, Fails, FailsAs, FailsNoMore, FailsOn, HasFailed, HasNoFailure, IsFailureOf, LiveAreSound, TellFailures, UseLinks, UsesLink, all_known, calls_of, failures, known_at, lost_by, lost_on}
@@ -63,11 +63,11 @@ sound_push {E} {S} links new pipes pipes' sound same here =
 -- ---- An event on one connection
 
 -- What the event came to there.
-fine_then : {E S : Type 0} (calls : List Call) (done : Done) (new : Link E S) (pipe : Option Pipe) (b : Bool) → done.lost ≡ b → FailsAs calls done new pipe → new.is_cut ≡ false → HasNoFailure pipe
+fine_then : {E S : Type 0} (calls : List Call) (done : EventDone) (new : Link E S) (pipe : Option Pipe) (b : Bool) → done.lost ≡ b → FailsAs calls done new pipe → new.is_cut ≡ false → HasNoFailure pipe
 fine_then calls done new pipe true is fails live = let cut = fails.cut is in absurd (cc)
 fine_then calls done new pipe false is fails live = subst (λ (x : Bool). Fails calls x pipe) is fails.failed
 
-pub act_sound : {E S : Type 0} (calls : List Call) (done : Done) (link new : Link E S) (before after : Option Pipe) (b : Bool) → link.is_cut ≡ b
+pub act_sound : {E S : Type 0} (calls : List Call) (done : EventDone) (link new : Link E S) (before after : Option Pipe) (b : Bool) → link.is_cut ≡ b
     → (link.is_cut ≡ false → HasNoFailure before) → (HasNoFailure before → FailsAs calls done new after) → (link.is_cut ≡ true → new ≡ link)
     → new.is_cut ≡ false → HasNoFailure after
 act_sound {E} {S} calls done link new before after true is fine fails gone live =
@@ -94,7 +94,7 @@ acts_by e false link count place pipes pipes' less same fine fails at = λ other
     (known_no_more count place (pipes (suc place)) (pipes' (suc place)) (λ call. fails call ∙ sym (fine call))))
     (λ t. other_known count place pipes pipes' same other (is_other other place t))
 
-pub act_lost : {E S : Type 0} (e : Event) (done : Done) (at : Option ℕ) (count place : ℕ) (link new : Link E S) (pipes pipes' : ℕ → Option Pipe) (b : Bool) → link.is_cut ≡ b
+pub act_lost : {E S : Type 0} (e : Event) (done : EventDone) (at : Option ℕ) (count place : ℕ) (link new : Link E S) (pipes pipes' : ℕ → Option Pipe) (b : Bool) → link.is_cut ≡ b
     → place < count → AreSame pipes pipes' (suc place)
     → (link.is_cut ≡ false → HasNoFailure (pipes (suc place))) → (HasNoFailure (pipes (suc place)) → FailsAs (calls_of e) done new (pipes' (suc place)))
     → (link.is_cut ≡ true → (pipes' ≡ pipes) × (done.lost ≡ false))
@@ -131,7 +131,7 @@ opens_lost false link count pipes pipes' same at fails = λ other.
     (λ t. opened_other count pipes pipes' same other (is_other other count t))
 
 -- An event that meets no call.
-pub none_lost : (e : Event) (done : Done) (link : Option ℕ) (count count' : ℕ) (pipes pipes' : ℕ → Option Pipe) → done.lost ≡ false → count' ≡ count
+pub none_lost : (e : Event) (done : EventDone) (link : Option ℕ) (count count' : ℕ) (pipes pipes' : ℕ → Option Pipe) → done.lost ≡ false → count' ≡ count
     → ((n : ℕ) → FailsNoMore (pipes n) (pipes' n)) → FailsOn e done.lost link (all_known count pipes) (all_known count' pipes')
 none_lost e done link count count' pipes pipes' whole many same =
     subst (λ (x : Bool). FailsOn e x link (all_known count pipes) (all_known count' pipes')) (sym whole)
@@ -261,11 +261,11 @@ there_number {E} {S} links place x pipes tied there is = ap (λ (l : Seated E S)
 there_sound : {E S : Type 0} (links : List (Seated E S)) (place : ℕ) (x : Seated E S) (pipes : ℕ → Option Pipe) → LiveAreSound links pipes → place < length links → x ≡ get_or links place x → x.link.is_cut ≡ false → HasNoFailure (pipes (suc place))
 there_sound {E} {S} links place x pipes sound there is live = sound place x there (sym (ap (λ (l : Seated E S). l.link.is_cut) is) ∙ live)
 
-fails_there : {E S : Type 0} (n m : ℕ) (calls : List Call) (done : Done) (new : Link E S) (pipes pipes' : ℕ → Option Pipe) → n ≡ m
+fails_there : {E S : Type 0} (n m : ℕ) (calls : List Call) (done : EventDone) (new : Link E S) (pipes pipes' : ℕ → Option Pipe) → n ≡ m
     → (HasNoFailure (pipes n) → FailsAs calls done new (pipes' n)) → HasNoFailure (pipes m) → FailsAs calls done new (pipes' m)
 fails_there {E} {S} n m calls done new pipes pipes' is fails = subst (λ (k : ℕ). HasNoFailure (pipes k) → FailsAs calls done new (pipes' k)) is fails
 
-pub acted_sound : {E S : Type 0} (links : List (Seated E S)) (place : ℕ) (x y : Seated E S) (pipes pipes' : ℕ → Option Pipe) (calls : List Call) (done : Done)
+pub acted_sound : {E S : Type 0} (links : List (Seated E S)) (place : ℕ) (x y : Seated E S) (pipes pipes' : ℕ → Option Pipe) (calls : List Call) (done : EventDone)
     → AreTied links pipes → place < length links → x ≡ get_or links place x → AreSame pipes pipes' x.link.number
     → (HasNoFailure (pipes x.link.number) → FailsAs calls done y.link (pipes' x.link.number)) → (x.link.is_cut ≡ true → y.link ≡ x.link)
     → LiveAreSound links pipes → LiveAreSound (set links place y) pipes'
@@ -276,7 +276,7 @@ acted_sound {E} {S} links place x y pipes pipes' calls done tied there is same f
     (act_sound calls done x.link y.link (pipes (suc place)) (pipes' (suc place)) x.link.is_cut refl (there_sound links place x pipes sound there is)
     (fails_there x.link.number (suc place) calls done y.link pipes pipes' number fails) gone)
 
-pub acted_lost : {E S : Type 0} (links : List (Seated E S)) (place count : ℕ) (x y : Seated E S) (pipes pipes' : ℕ → Option Pipe) (e : Event) (done : Done) (at : Option ℕ)
+pub acted_lost : {E S : Type 0} (links : List (Seated E S)) (place count : ℕ) (x y : Seated E S) (pipes pipes' : ℕ → Option Pipe) (e : Event) (done : EventDone) (at : Option ℕ)
     → AreTied links pipes → place < length links → x ≡ get_or links place x → AreSame pipes pipes' x.link.number
     → (HasNoFailure (pipes x.link.number) → FailsAs (calls_of e) done y.link (pipes' x.link.number))
     → (x.link.is_cut ≡ true → (pipes' ≡ pipes) × (done.lost ≡ false)) → (done.lost ≡ true → at ≡ Some (suc place)) → count ≡ length links

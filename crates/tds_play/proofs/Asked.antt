@@ -21,13 +21,13 @@ use Rattle.tds_play.specs.Lending.{standing_by}
 use Rattle.tds_play.specs.Links.{IsAsked, IsAskedOn, behind}
 use Rattle.tds_play.specs.Links as links
 use Rattle.tds_play.specs.Pipe.{Pipe, traffic}
-use Rattle.tds_play.specs.Plays.{IsPlayed}
+use Rattle.tds_play.specs.Plays.{RepresentsConnection}
 use Rattle.tds_play.specs.Requests.{AreOlder, IsNewest}
 use Rattle.tds_play.specs.Seen.{done_as}
-use Rattle.tds_ends.specs.Alike.{AskAlike}
+use Rattle.tds_ends.specs.Refines.{RefinesAsk}
 use Rattle.tds_ends.specs.Stands.{MatchesClient, MatchesServer}
-use Rattle.tds_ends.specs.Stays.{IdleAlike}
-use Rattle.tds_play.specs.declared.link.Done.{Done}
+use Rattle.tds_ends.specs.Stays.{RefinesIdle}
+use Rattle.tds_play.specs.declared.link.EventDone.{EventDone}
 use Rattle.tds_play.specs.declared.link.Link.{Link}
 use Rattle.tds_play.specs.declared.seat.Seat.{Seat}
 use Rattle.tds_play.specs.declared.request.Record.{Record}
@@ -36,15 +36,15 @@ use Rattle.tds_play.proofs.Placed.{DoesWhole, idle_settled, idle_unless}
 -- ---- The ends
 
 -- What is promised of them: a client takes a request where the model does, and the server stays.
-pub record AsksAlike (E : Type 0) : Type 0 where
-  pub waits : IdleAlike
-  pub takes : (s : ClientSession) (c : Connection) (number lease n : ℕ) (q : Request) → MatchesClient s c → AskAlike number (started s q) (unless_idle s.stage) (asks_by (is_idle c) number lease n q c)
+pub record RefinesAsks (E : Type 0) : Type 0 where
+  pub waits : RefinesIdle
+  pub takes : (s : ClientSession) (c : Connection) (number lease n : ℕ) (q : Request) → MatchesClient s c → RefinesAsk number (started s q) (unless_idle s.stage) (asks_by (is_idle c) number lease n q c)
   pub stays : (number lease n : ℕ) (q : Request) (s : ServerState E) (c : Connection) → c.parts ≡ [] → MatchesServer s c → MatchesServer s (asks number lease n q c)
 
-asked_matches : {E : Type 0} → AsksAlike E → (s : ClientSession) (c : Connection) (number lease n : ℕ) (q : Request) → MatchesClient s c → is_idle c ≡ true → MatchesClient (started s q) (asks number lease n q c)
+asked_matches : {E : Type 0} → RefinesAsks E → (s : ClientSession) (c : Connection) (number lease n : ℕ) (q : Request) → MatchesClient s c → is_idle c ≡ true → MatchesClient (started s q) (asks number lease n q c)
 asked_matches a s c number lease n q m idle =
-    (subst (λ (b : Bool). AskAlike number (started s q) None (asks_by b number lease n q c)) idle
-    (subst (λ o. AskAlike number (started s q) o (asks_by (is_idle c) number lease n q c)) (idle_unless a.waits s c m idle) (a.takes s c number lease n q m))).1
+    (subst (λ (b : Bool). RefinesAsk number (started s q) None (asks_by b number lease n q c)) idle
+    (subst (λ o. RefinesAsk number (started s q) o (asks_by (is_idle c) number lease n q c)) (idle_unless a.waits s c m idle) (a.takes s c number lease n q m))).1
 
 -- ---- The requests
 
@@ -72,10 +72,10 @@ newest_asked id number lease heard q mark asked (Some r) same h = record {
 
 -- ---- The connection then
 
-asked_played : {E S : Type 0} → AsksAlike E → (number size id lease : ℕ) (engine : E) (q : Request) (link new : Link E S) (seat next : Seat) (pipe : Option Pipe) (c : Connection)
-    → IsPlayed number size engine link seat pipe c → link.is_cut ≡ false → is_idle c ≡ true → c.parts ≡ []
+asked_played : {E S : Type 0} → RefinesAsks E → (number size id lease : ℕ) (engine : E) (q : Request) (link new : Link E S) (seat next : Seat) (pipe : Option Pipe) (c : Connection)
+    → RepresentsConnection number size engine link seat pipe c → link.is_cut ≡ false → is_idle c ≡ true → c.parts ≡ []
     → next ≡ record seat { client = started seat.client q } → IsAskedOn lease seat.client.heard.mark link new
-    → IsPlayed number size engine new next pipe (asks id lease number q c)
+    → RepresentsConnection number size engine new next pipe (asks id lease number q c)
 asked_played {E} {S} alike number size id lease engine q link new seat next pipe c i live idle rests at h =
     let d : Connection = asks id lease number q c in
     let v = i.lives live in
@@ -111,8 +111,8 @@ asked_played {E} {S} alike number size id lease engine q link new seat next pipe
       gone = λ cut. i.gone (sym (ap (λ l. l.is_cut) h.rest) ∙ cut);
     }
 
-asked_by : {E S : Type 0} → AsksAlike E → (number size id lease : ℕ) (engine : E) (q : Request) (link new : Link E S) (seat next : Seat) (pipe : Option Pipe) (c : Connection) (done : Done) (idle : Bool)
-    → IsPlayed number size engine link seat pipe c → link.is_cut ≡ false → is_idle c ≡ idle → (idle ≡ true → c.parts ≡ [])
+asked_by : {E S : Type 0} → RefinesAsks E → (number size id lease : ℕ) (engine : E) (q : Request) (link new : Link E S) (seat next : Seat) (pipe : Option Pipe) (c : Connection) (done : EventDone) (idle : Bool)
+    → RepresentsConnection number size engine link seat pipe c → link.is_cut ≡ false → is_idle c ≡ idle → (idle ≡ true → c.parts ≡ [])
     → (idle ≡ false → (done ≡ done_as (outcome.Refused NotIdle)) × (new ≡ link) × (next ≡ seat))
     → (idle ≡ true → (done ≡ done_as (outcome.Asked id)) × (next ≡ record seat { client = started seat.client q }) × IsAskedOn lease seat.client.heard.mark link new)
     → DoesWhole number size engine done new next pipe (asks_by idle id lease number q c) c
@@ -124,8 +124,8 @@ asked_by alike number size id lease engine q link new seat next pipe c done true
 ok_one : {A B : Type 0} (x y : A) (r : Result A B) → r ≡ Ok x → r ≡ Ok y → x ≡ y
 ok_one x y r e f = let same : Ok x ≡ Ok y = sym e ∙ f in cc
 
-pub asked_alike : {E S B : Type 0} → AsksAlike E → (number size id lease : ℕ) (engine : E) (q : Request) (link new : Link E S) (seat next : Seat) (pipe : Option Pipe) (c : Connection) (done : Done) (r : Result Done B)
-    → IsPlayed number size engine link seat pipe c → link.is_cut ≡ false → (is_idle c ≡ true → c.parts ≡ [])
+pub asked_alike : {E S B : Type 0} → RefinesAsks E → (number size id lease : ℕ) (engine : E) (q : Request) (link new : Link E S) (seat next : Seat) (pipe : Option Pipe) (c : Connection) (done : EventDone) (r : Result EventDone B)
+    → RepresentsConnection number size engine link seat pipe c → link.is_cut ≡ false → (is_idle c ≡ true → c.parts ≡ [])
     → r ≡ Ok done
     → (is_none (unless_idle seat.client.stage) ≡ false → (r ≡ Ok (done_as (outcome.Refused NotIdle))) × (new ≡ link) × (next ≡ seat))
     → (is_none (unless_idle seat.client.stage) ≡ true → IfOk r (λ done. (done ≡ done_as (outcome.Asked id)) × (next ≡ record seat { client = started seat.client q }) × IsAskedOn lease seat.client.heard.mark link new))
@@ -137,8 +137,8 @@ asked_alike {E} {S} alike number size id lease engine q link new seat next pipe 
     (λ e. subst (λ x. IfOk x (λ done. (done ≡ done_as (outcome.Asked id)) × (next ≡ record seat { client = started seat.client q }) × IsAskedOn lease seat.client.heard.mark link new)) is (asked (same ∙ e)))
 
 -- So it is where the call had memory.
-pub asked_ok : {E S B : Type 0} → AsksAlike E → (number size told id lease : ℕ) (engine : E) (q : Request) (link new : Link E S) (seat next : Seat) (pipe : Option Pipe) (c : Connection) (r : Result Done B)
-    → IsPlayed number size engine link seat pipe c → link.is_cut ≡ false → (is_idle c ≡ true → c.parts ≡ []) → told ≡ id
+pub asked_ok : {E S B : Type 0} → RefinesAsks E → (number size told id lease : ℕ) (engine : E) (q : Request) (link new : Link E S) (seat next : Seat) (pipe : Option Pipe) (c : Connection) (r : Result EventDone B)
+    → RepresentsConnection number size engine link seat pipe c → link.is_cut ≡ false → (is_idle c ≡ true → c.parts ≡ []) → told ≡ id
     → (is_none (unless_idle seat.client.stage) ≡ false → (r ≡ Ok (done_as (outcome.Refused NotIdle))) × (new ≡ link) × (next ≡ seat))
     → (is_none (unless_idle seat.client.stage) ≡ true → IfOk r (λ done. (done ≡ done_as (outcome.Asked told)) × (next ≡ record seat { client = started seat.client q }) × IsAskedOn lease seat.client.heard.mark link new))
     → IfOk r (λ done. DoesWhole number size engine done new next pipe (asks_by (is_idle c) id lease number q c) c)

@@ -20,16 +20,16 @@ use Rattle.tds_world.specs.PhaseTells.{PhaseTells}
 use Rattle.tds_world.specs.Pool.{comes_back, place_back, returned_as}
 use Rattle.tds_world.specs.Record.{Out, NotBegun, Begun, Whole}
 use Rattle.tds_world.specs.Record as world
-use Rattle.tds_ends.specs.Alike.{cancel_outcome}
+use Rattle.tds_ends.specs.Refines.{cancel_outcome}
 use Rattle.tds_play.specs.Acts.{cancelled_as, with_status}
-use Rattle.tds_ends.specs.Alike.{CancelAlike}
+use Rattle.tds_ends.specs.Refines.{RefinesCancel}
 use Rattle.tds_play.specs.Lending.{standing_by}
 use Rattle.tds_play.specs.Seats.{seated}
 use Rattle.tds_play.specs.Pipe.{Pipe}
-use Rattle.tds_play.specs.Plays.{IsPlayed, after, outcome_of}
+use Rattle.tds_play.specs.Plays.{RepresentsConnection, after, outcome_of}
 use Rattle.tds_play.specs.Requests.{IsNewest}
 use Rattle.tds_ends.specs.Stands.{Sends}
-use Rattle.tds_ends.specs.Stays.{IdleAlike, PoolIsUnseen, ServerStays}
+use Rattle.tds_ends.specs.Stays.{RefinesIdle, PoolIsUnseen, ServerStays}
 use Rattle.tds_play.specs.declared.link.Link.{Link}
 use Rattle.tds_play.specs.declared.seat.Seat.{Seat}
 use Rattle.tds_play.specs.declared.request.Record.{Record}
@@ -137,26 +137,26 @@ newest_in tells (Some q) a number r c is told h = newest_by (phase_of q) a numbe
 
 -- What is promised of the ends and of the model: what a client sends is appended, a phase tells what it
 -- does, the server stays, and neither end sees the pool.
-pub record CancelsAlike (E : Type 0) : Type 0 where
+pub record RefinesCancels (E : Type 0) : Type 0 where
   pub appends : SentMore up_bytes
   pub tells : (q : world.Record) → PhaseTells (phase_of q) q.fate q.out
   pub stays : ServerStays E cancels
   pub unseen : PoolIsUnseen E
 
 -- It was cancelled, and the connection may stand elsewhere then.
-cancelled_at : {E S : Type 0} → CancelsAlike E → (number size : ℕ) (engine : E) (link new : Link E S) (seat : Seat) (p : Place) (pipe then : Option Pipe) (c d : Connection) (bytes : List ℕ)
-    → IsPlayed number size engine link seat pipe c → link.is_cut ≡ false
-    → (a : CancelAlike seat.client c) → bytes ≡ a.0.bytes
+cancelled_at : {E S : Type 0} → RefinesCancels E → (number size : ℕ) (engine : E) (link new : Link E S) (seat : Seat) (p : Place) (pipe then : Option Pipe) (c d : Connection) (bytes : List ℕ)
+    → RepresentsConnection number size engine link seat pipe c → link.is_cut ≡ false
+    → (a : RefinesCancel seat.client c) → bytes ≡ a.0.bytes
     → d ≡ record (cancels c) { standing = In p }
     → up_underway (cancels c) ≤ 18446744073709551615
     → HandedUp (record link { current = current_behind a.0.answer link.current }) new pipe then bytes
-    → IsPlayed number size engine new (seated p a.0.session) then d
+    → RepresentsConnection number size engine new (seated p a.0.session) then d
 cancelled_at {E} {S} so number size engine link new seat p pipe then c d bytes i live a out at few h =
     let e = a.0 in
     let v = (i.lives live).stands in
     let l = leaves_in c.current c in
     let x : Connection = record (cancels c) { standing = In p } in
-    subst (λ (y : Connection). IsPlayed number size engine new (seated p e.session) then y) (sym at)
+    subst (λ (y : Connection). RepresentsConnection number size engine new (seated p e.session) then y) (sym at)
     (sent_played so.appends number size engine link new seat e.session (current_behind e.answer link.current) p pipe then c x bytes i live h refl
     (size_in seat.client.stage seat.client e a.1)
     (so.unseen.client (In p) e.session (cancels c) a.3)
@@ -166,12 +166,12 @@ cancelled_at {E} {S} so number size engine link new seat p pipe then c d bytes i
     (newest_in so.tells c.current e.answer number link.current c refl a.2 (subst (λ (b : Bool). IsNewest number b link.current c.current) live i.newest))
     few)
 
-pub cancelled_played : {E S : Type 0} → CancelsAlike E → (number size : ℕ) (engine : E) (link mid new : Link E S) (seat : Seat) (pipe then : Option Pipe) (c : Connection) (bytes : List ℕ)
-    → IsPlayed number size engine link seat pipe c → link.is_cut ≡ false
-    → (a : CancelAlike seat.client c) → mid ≡ cancelled_as a.0.answer link → bytes ≡ a.0.bytes
+pub cancelled_played : {E S : Type 0} → RefinesCancels E → (number size : ℕ) (engine : E) (link mid new : Link E S) (seat : Seat) (pipe then : Option Pipe) (c : Connection) (bytes : List ℕ)
+    → RepresentsConnection number size engine link seat pipe c → link.is_cut ≡ false
+    → (a : RefinesCancel seat.client c) → mid ≡ cancelled_as a.0.answer link → bytes ≡ a.0.bytes
     → up_underway (cancels c) ≤ 18446744073709551615
     → HandedUp mid new pipe then bytes
-    → IsPlayed number size engine new (seated seat.place a.0.session) then (cancels c)
+    → RepresentsConnection number size engine new (seated seat.place a.0.session) then (cancels c)
 cancelled_played {E} {S} so number size engine link mid new seat pipe then c bytes i live a is out few h =
     let l = leaves_in c.current c in
     cancelled_at so number size engine link new seat seat.place pipe then c (cancels c) bytes i live a out
@@ -180,13 +180,13 @@ cancelled_played {E} {S} so number size engine link mid new seat pipe then c byt
     (subst (λ (x : Link E S). HandedUp x new pipe then bytes) (is ∙ link_by a.0.answer link) h)
 
 -- The lease ends then.
-pub back_played : {E S : Type 0} → CancelsAlike E → IdleAlike → (number size : ℕ) (engine : E) (link mid new : Link E S) (seat : Seat) (idle : Bool) (pipe then : Option Pipe) (c : Connection) (bytes : List ℕ)
-    → IsPlayed number size engine link seat pipe c → link.is_cut ≡ false
-    → (a : CancelAlike seat.client c) → mid ≡ cancelled_as a.0.answer link → bytes ≡ a.0.bytes
+pub back_played : {E S : Type 0} → RefinesCancels E → RefinesIdle → (number size : ℕ) (engine : E) (link mid new : Link E S) (seat : Seat) (idle : Bool) (pipe then : Option Pipe) (c : Connection) (bytes : List ℕ)
+    → RepresentsConnection number size engine link seat pipe c → link.is_cut ≡ false
+    → (a : RefinesCancel seat.client c) → mid ≡ cancelled_as a.0.answer link → bytes ≡ a.0.bytes
     → idle ≡ is_none (unless_idle a.0.session.stage)
     → up_underway (cancels c) ≤ 18446744073709551615
     → HandedUp mid new pipe then bytes
-    → (outcome.GivenBack (returned_as idle) ≡ outcome_of (comes_back (cancels c))) × IsPlayed number size engine new (seated (place_back idle) a.0.session) then (after (comes_back (cancels c)) c)
+    → (outcome.GivenBack (returned_as idle) ≡ outcome_of (comes_back (cancels c))) × RepresentsConnection number size engine new (seated (place_back idle) a.0.session) then (after (comes_back (cancels c)) c)
 back_played {E} {S} so alike number size engine link mid new seat idle pipe then c bytes i live a is out waits few h =
     let same : idle ≡ is_idle (cancels c) = waits ∙ alike a.0.session (cancels c) a.3 in (
       ap (λ (b : Bool). outcome.GivenBack (returned_as b)) same,

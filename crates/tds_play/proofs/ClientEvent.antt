@@ -14,31 +14,31 @@ use Rattle.tds_world.specs.declared.report.RequestStatus.{RequestStatus}
 use Rattle.tds_world.specs.Entries.{Up, Down, Step, Acknowledgement, up_bytes, down_bytes}
 use Rattle.tds_world.specs.Lane.{Lane, passed, with_waiting}
 use Rattle.tds_world.specs.Record.{Record, Open, gives, acknowledges, when, if_numbered}
-use Rattle.tds_play.specs.Between.{IsLane, Stands}
-use Rattle.tds_ends.specs.Deliveries.{AllHeard, ListensAlike}
+use Rattle.tds_play.specs.Between.{IsLane, RepresentsEnds}
+use Rattle.tds_ends.specs.Deliveries.{AllHeard, RefinesListens}
 use Rattle.tds_play.specs.declared.link.Link.{Link}
 use Rattle.tds_play.specs.declared.seat.Seat.{Seat}
 use Rattle.tds_play.specs.Seats.{drained_at}
 use Rattle.tds_play.specs.Listening.{told_in}
 use Rattle.tds_play.specs.Pipe.{Pipe, traffic, carried, next_of}
 use Rattle.tds_ends.specs.Stands.{MatchesClient}
-use Rattle.tds_ends.specs.Stays.{IdleAlike, PoolIsUnseen, ServerStays}
+use Rattle.tds_ends.specs.Stays.{RefinesIdle, PoolIsUnseen, ServerStays}
 use Rattle.tds_play.proofs.Between.{offered_front, lane_delivered, lane_stuck}
 
 -- ---- What comes is heard
 
 -- A client that is fed the bytes of entries hears those that come whole as the model does.
 abbrev pub ListensAll : Type 0
-ListensAll = (r : Reading) (c : Connection) (es : List Down) (k : ℕ) (s : ClientSession) (settled : Option RequestStatus) (told : List Token) → AllHeard r c es → MatchesClient s c → ListensAlike r (take k (flat_map down_bytes es)) c (reach_client c es k) s settled told
+ListensAll = (r : Reading) (c : Connection) (es : List Down) (k : ℕ) (s : ClientSession) (settled : Option RequestStatus) (told : List Token) → AllHeard r c es → MatchesClient s c → RefinesListens r (take k (flat_map down_bytes es)) c (reach_client c es k) s settled told
 
-pub come_heard : {E S : Type 0} → ListensAll → (link : Link E S) (seat : Seat) (pipe : Option Pipe) (c : Connection) (most n : ℕ) → Stands link seat pipe c → n ≡ min most link.to_client → AllHeard link.client_reader c c.to_client.waiting → ListensAlike link.client_reader (link.client_reader.taken ++ next_of (traffic pipe ToClient) n) c (reach_client c c.to_client.waiting (c.to_client.part + min most (down_underway c))) seat.client None (told_in link.current)
+pub come_heard : {E S : Type 0} → ListensAll → (link : Link E S) (seat : Seat) (pipe : Option Pipe) (c : Connection) (most n : ℕ) → RepresentsEnds link seat pipe c → n ≡ min most link.to_client → AllHeard link.client_reader c c.to_client.waiting → RefinesListens link.client_reader (link.client_reader.taken ++ next_of (traffic pipe ToClient) n) c (reach_client c c.to_client.waiting (c.to_client.part + min most (down_underway c))) seat.client None (told_in link.current)
 come_heard listens link seat pipe c most n s count all =
     let k : ℕ = c.to_client.part + min most (down_underway c) in
     let same : c.to_client.part + n ≡ k = ap (λ (x : ℕ). c.to_client.part + x) (count ∙ ap (min most) s.down.counts) in
     let bytes : link.client_reader.taken ++ next_of (traffic pipe ToClient) n ≡ take k (flat_map down_bytes c.to_client.waiting) =
     offered_front down_bytes (traffic pipe ToClient) c.to_client link.client_reader.taken link.to_client n s.down
     ∙ ap (λ (x : ℕ). take x (flat_map down_bytes c.to_client.waiting)) same in
-    subst (λ (bs : List ℕ). ListensAlike link.client_reader bs c (reach_client c c.to_client.waiting k) seat.client None (told_in link.current)) (sym bytes)
+    subst (λ (bs : List ℕ). RefinesListens link.client_reader bs c (reach_client c c.to_client.waiting k) seat.client None (told_in link.current)) (sym bytes)
     (listens link.client_reader c c.to_client.waiting k seat.client None (told_in link.current) all s.client)
 
 -- ---- The requests
@@ -90,7 +90,7 @@ drained_by true place.Draining = refl
 drained_by false p = refl
 
 -- A connection that is drained stands where the model's does.
-pub stands_drained : IdleAlike → (s : ClientSession) (d : Connection) (p : Place) → MatchesClient s d → d.standing ≡ In p → In (drained_at (is_none (unless_idle s.stage)) p) ≡ (drains d).standing
+pub stands_drained : RefinesIdle → (s : ClientSession) (d : Connection) (p : Place) → MatchesClient s d → d.standing ≡ In p → In (drained_at (is_none (unless_idle s.stage)) p) ≡ (drains d).standing
 stands_drained waits s d p m is =
     drained_by (is_none (unless_idle s.stage)) p
     ∙ ap (λ b. drained b (In p)) (waits s d m)
@@ -110,12 +110,12 @@ pub record Heard {E S : Type 0} (old new : Link E S) (pipe after : Option Pipe) 
   pub down : traffic after ToClient ≡ record (carried (traffic pipe ToClient) (next_of (traffic pipe ToClient) n)) { carry_failures = stuck }
 
 pub heard_alike : {E S : Type 0} → PoolIsUnseen E → ((most : ℕ) → ServerStays E (to_client most)) → (old new : Link E S) (seat next : Seat) (pipe after : Option Pipe) (c : Connection) (most n : ℕ) (session : ClientSession) (left : List ℕ)
-    → Stands old seat pipe c → n ≡ min most old.to_client
+    → RepresentsEnds old seat pipe c → n ≡ min most old.to_client
     → IsDelivered down_bytes most c.to_client (to_client most c).to_client
     → MatchesClient session (reach_client c c.to_client.waiting (c.to_client.part + min most (down_underway c)))
     → left ≡ take (to_client most c).to_client.part (flat_map down_bytes (to_client most c).to_client.waiting)
     → Heard old new pipe after n left → next.client ≡ session
-    → Stands new next after (to_client most c)
+    → RepresentsEnds new next after (to_client most c)
 heard_alike unseen stays old new seat next pipe after c most n session left s count lanes m rest h is =
     let k : ℕ = c.to_client.part + min most (down_underway c) in
     let d : Connection = reach_client c c.to_client.waiting k in

@@ -6,7 +6,7 @@ use Rattle.tds_client.specs.declared.heard.FinalDone.TheVariants.{Awaited, Answe
 use Rattle.tds_client.specs.declared.heard.Heard.{Heard}
 use Rattle.tds_client.specs.Hearing.{◌>>=◌}
 use Rattle.tds_client.specs.Session.{ClientSession, Stage, Idle, Sending, Reading, Cancelling, Broken}
-use Rattle.tds_client.specs.Taking.{Took, read, skipped, skipped_to_end, taken, taken_in, taken_reading, taken_cancelling}
+use Rattle.tds_client.specs.Taking.{ClientMove, read, skipped, skipped_to_end, taken, taken_in, taken_reading, taken_cancelling}
 use Rattle.tds_packet.specs.Layout.{bits_of, has_bit}
 use Rattle.tds_token.specs.Contents.{Contents}
 use Rattle.tds_token.specs.declared.token.Token.{Token}
@@ -26,28 +26,28 @@ skipped_size : (s : ClientSession) (ends : Bool) (heard : Heard) (contents : Con
 skipped_size s true heard contents = to_end_size s heard heard.done
 skipped_size s false heard contents = refl
 
-made : {A : Type 0} (r : Result A ClientFault) (f : A → Took) (t : Took) (size : ℕ) → (r >>= λ x. Ok (f x)) ≡ Ok t → ((x : A) → (f x).session.size ≡ size) → t.session.size ≡ size
+made : {A : Type 0} (r : Result A ClientFault) (f : A → ClientMove) (t : ClientMove) (size : ℕ) → (r >>= λ x. Ok (f x)) ≡ Ok t → ((x : A) → (f x).session.size ≡ size) → t.session.size ≡ size
 made (Ok x) f t size is all =
     let same : f x ≡ t = cc in
     ap (λ k. k.session.size) (sym same) ∙ all x
 made (Err e) f t size is all = absurd (cc)
 
-reading_size : (s : ClientSession) (ends : Bool) (bytes : List ℕ) (t : Took) → taken_reading s ends bytes ≡ Ok t → t.session.size ≡ s.size
+reading_size : (s : ClientSession) (ends : Bool) (bytes : List ℕ) (t : ClientMove) → taken_reading s ends bytes ≡ Ok t → t.session.size ≡ s.size
 unfolding taken_reading
 reading_size s ends bytes t is = made _ _ t s.size is (λ heard. read_size s ends heard _)
 
-cancelling_size : (s : ClientSession) (ends : Bool) (bytes : List ℕ) (t : Took) → taken_cancelling s ends bytes ≡ Ok t → t.session.size ≡ s.size
+cancelling_size : (s : ClientSession) (ends : Bool) (bytes : List ℕ) (t : ClientMove) → taken_cancelling s ends bytes ≡ Ok t → t.session.size ≡ s.size
 unfolding taken_cancelling
 cancelling_size s ends bytes t is = made _ _ t s.size is (λ heard. skipped_size s ends heard _)
 
-taken_size : (stage : Stage) (s : ClientSession) (ends : Bool) (bytes : List ℕ) (t : Took) → taken_in stage s ends bytes ≡ Ok t → t.session.size ≡ s.size
+taken_size : (stage : Stage) (s : ClientSession) (ends : Bool) (bytes : List ℕ) (t : ClientMove) → taken_in stage s ends bytes ≡ Ok t → t.session.size ≡ s.size
 taken_size Idle s ends bytes t is = absurd (cc)
 taken_size (Sending kind left packets) s ends bytes t is = absurd (cc)
 taken_size Reading s ends bytes t is = reading_size s ends bytes t is
 taken_size Cancelling s ends bytes t is = cancelling_size s ends bytes t is
 taken_size (Broken fault) s ends bytes t is = absurd (cc)
 
-on_took : {A P : Type 0} (r : Result Took ClientFault) (next : Took → Option A) (then : A) → on_taken r next ≡ Some then → ((t : Took) → r ≡ Ok t → next t ≡ Some then → P) → P
+on_took : {A P : Type 0} (r : Result ClientMove ClientFault) (next : ClientMove → Option A) (then : A) → on_taken r next ≡ Some then → ((t : ClientMove) → r ≡ Ok t → next t ≡ Some then → P) → P
 on_took (Ok t) next then is f = f t refl is
 on_took (Err e) next then is f = absurd (cc)
 

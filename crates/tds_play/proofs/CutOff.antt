@@ -8,7 +8,7 @@ use Rattle.tds_world.specs.Record as world
 use Rattle.tds_play.specs.Lending.{standing_by}
 use Rattle.tds_play.specs.Links.{lost_record, lost_status}
 use Rattle.tds_play.specs.Pipe.{Pipe, IsUncut, traffic, cut_pipe, is_cut_at}
-use Rattle.tds_play.specs.Plays.{IsPlayed}
+use Rattle.tds_play.specs.Plays.{RepresentsConnection}
 use Rattle.tds_play.specs.Requests.{MatchesRecord, AreOlder, IsNewest}
 use Rattle.tds_play.specs.declared.link.Link.{Link}
 use Rattle.tds_play.specs.declared.seat.Seat.{Seat}
@@ -96,10 +96,10 @@ cut_off None known = absurd known
 cut_off (Some p) known = refl
 
 pub cut_played : {E S : Type 0} (number size : ℕ) (engine : E) (link new : Link E S) (seat : Seat) (pipe after : Option Pipe) (c : Connection)
-    → IsPlayed number size engine link seat pipe c → link.is_cut ≡ false
+    → RepresentsConnection number size engine link seat pipe c → link.is_cut ≡ false
     → new.number ≡ link.number → new.is_cut ≡ true → new.past ≡ link.past → new.current ≡ option_map lost_record link.current
     → IsUncut pipe → after ≡ cut_pipe pipe
-    → IsPlayed number size engine new seat after (cut c)
+    → RepresentsConnection number size engine new seat after (cut c)
 cut_played number size engine link new seat pipe after c p live same is past current known off = record {
   numbered = same ∙ p.numbered;
   standing = ap (λ (b : Bool). standing_by b seat.place) is;

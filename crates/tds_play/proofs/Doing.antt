@@ -5,25 +5,25 @@ use Rattle.tds_world.specs.declared.outcome.Outcome.{Outcome}
 use Rattle.tds_world.specs.Connection.{Connection}
 use Rattle.tds_world.specs.Pool.{Acted}
 use Rattle.tds_play.specs.Pipe.{Pipe}
-use Rattle.tds_play.specs.Plays.{DoesAlike, IsPlayed, after, cut_where, outcome_of}
-use Rattle.tds_play.specs.declared.link.Done.{Done}
+use Rattle.tds_play.specs.Plays.{RefinesAct, RepresentsConnection, after, cut_where, outcome_of}
+use Rattle.tds_play.specs.declared.link.EventDone.{EventDone}
 use Rattle.tds_play.specs.declared.link.Link.{Link}
 use Rattle.tds_play.specs.declared.seat.Seat.{Seat}
 
-pub does_so : {E S : Type 0} (number size : ℕ) (engine : E) (done : Done) (what : Outcome) (lost : Bool) (new : Link E S) (seat : Seat) (pipe : Option Pipe) (acted : Acted) (c : Connection)
+pub does_so : {E S : Type 0} (number size : ℕ) (engine : E) (done : EventDone) (what : Outcome) (lost : Bool) (new : Link E S) (seat : Seat) (pipe : Option Pipe) (acted : Acted) (c : Connection)
     → done ≡ record { outcome = what; lost = lost } → what ≡ outcome_of acted
-    → IsPlayed number size engine new seat pipe (cut_where lost (after acted c))
-    → DoesAlike number size engine done new seat pipe acted c
+    → RepresentsConnection number size engine new seat pipe (cut_where lost (after acted c))
+    → RefinesAct number size engine done new seat pipe acted c
 does_so {E} {S} number size engine done what lost new seat pipe acted c is same then =
-    subst (λ (d : Done). DoesAlike number size engine d new seat pipe acted c) (sym is) (record { outcome = same; played = then })
+    subst (λ (d : EventDone). RefinesAct number size engine d new seat pipe acted c) (sym is) (record { outcome = same; played = then })
 
 -- The end of an event, on the connection of this number.
 pub ended : {E S : Type 0} (n m size : ℕ) (engine : E) (mid new : Link E S) (seat : Seat) (before after : ℕ → Option Pipe) (lost : Bool) (c : Connection)
     → m ≡ n
-    → (IsPlayed m size engine mid seat (before m) c → IsPlayed m size engine new seat (after m) (cut_where lost c))
-    → IsPlayed n size engine mid seat (before n) c → IsPlayed n size engine new seat (after n) (cut_where lost c)
+    → (RepresentsConnection m size engine mid seat (before m) c → RepresentsConnection m size engine new seat (after m) (cut_where lost c))
+    → RepresentsConnection n size engine mid seat (before n) c → RepresentsConnection n size engine new seat (after n) (cut_where lost c)
 ended {E} {S} n m size engine mid new seat before after lost c at ends =
-    subst (λ (k : ℕ). IsPlayed k size engine mid seat (before k) c → IsPlayed k size engine new seat (after k) (cut_where lost c)) at ends
+    subst (λ (k : ℕ). RepresentsConnection k size engine mid seat (before k) c → RepresentsConnection k size engine new seat (after k) (cut_where lost c)) at ends
 
 -- ---- What a call answered
 

@@ -4,7 +4,7 @@ use Rattle.std.specs.Prelude.{Err, IfOk, Ok, OnOk, Result}
 use Rattle.tds_packet.specs.declared.kind.Direction.{Direction}
 use Rattle.tds_packet.specs.declared.kind.Direction.TheVariants.{ToServer, ToClient}
 use Rattle.tds_play.specs.Failures.{Call, Open, Send, Carry, Fails, FailsAs, FailsNoMore, HasFailed, HasNoFailure, IsOneOf, failures}
-use Rattle.tds_play.specs.declared.link.Done.{Done}
+use Rattle.tds_play.specs.declared.link.EventDone.{EventDone}
 use Rattle.tds_play.specs.declared.link.Link.{Link}
 use Rattle.tds_world.specs.declared.outcome.Outcome.{Outcome}
 use Rattle.tds_play.specs.Pipe.{Pipe, IsOpen, carried_on, cut_pipe, new_pipe, sent_on, stuck_on}
@@ -169,14 +169,14 @@ new_fine (Carry ToClient) = refl
 -- ---- How an event ends
 
 -- A connection that is cut where it was lost.
-pub ended_as : {E S : Type 0} (calls : List Call) (done : Done) (what : Outcome) (lost : Bool) (new : Link E S) (before after : Option Pipe)
+pub ended_as : {E S : Type 0} (calls : List Call) (done : EventDone) (what : Outcome) (lost : Bool) (new : Link E S) (before after : Option Pipe)
     → done ≡ record { outcome = what; lost = lost } → (lost ≡ true → new.is_cut ≡ true) → FailsNoMore before after
     → Fails calls lost before → FailsAs calls done new after
 ended_as {E} {S} calls done what lost new before after is cut same fails =
-    subst (λ (d : Done). FailsAs calls d new after) (sym is) (record { failed = fails_no_more calls lost before after same fails; cut = cut })
+    subst (λ (d : EventDone). FailsAs calls d new after) (sym is) (record { failed = fails_no_more calls lost before after same fails; cut = cut })
 
 -- An event that meets no call.
-pub whole_as : {E S : Type 0} (calls : List Call) (done : Done) (new : Link E S) (pipe : Option Pipe)
+pub whole_as : {E S : Type 0} (calls : List Call) (done : EventDone) (new : Link E S) (pipe : Option Pipe)
     → done.lost ≡ false → HasNoFailure pipe → FailsAs calls done new pipe
 whole_as calls done new pipe whole fine = record {
   failed = subst (λ (b : Bool). Fails calls b pipe) (sym whole) fine;
@@ -184,7 +184,7 @@ whole_as calls done new pipe whole fine = record {
 }
 
 -- The connection's number is the same.
-pub as_numbered : {E S : Type 0} (m n : ℕ) (calls : List Call) (done : Done) (new : Link E S) (pipes : ℕ → Option Pipe)
+pub as_numbered : {E S : Type 0} (m n : ℕ) (calls : List Call) (done : EventDone) (new : Link E S) (pipes : ℕ → Option Pipe)
     → m ≡ n → FailsAs calls done new (pipes m) → FailsAs calls done new (pipes n)
 as_numbered {E} {S} m n calls done new pipes is h = subst (λ (k : ℕ). FailsAs calls done new (pipes k)) is h
 
@@ -192,7 +192,7 @@ pub fails_numbered : (m n : ℕ) (calls : List Call) (lost : Bool) (pipes : ℕ 
 fails_numbered m n calls lost pipes is h = subst (λ (k : ℕ). Fails calls lost (pipes k)) is h
 
 -- A connection that hands bytes over, which it had counted under the number m, and k at the end.
-pub sent_as : {E S : Type 0} (conn m k : ℕ) (calls : List Call) (done : Done) (lost : Bool) (new : Link E S) (old mid after : ℕ → Option Pipe)
+pub sent_as : {E S : Type 0} (conn m k : ℕ) (calls : List Call) (done : EventDone) (lost : Bool) (new : Link E S) (old mid after : ℕ → Option Pipe)
     → m ≡ conn → k ≡ m
     → (Fails [] false (old m) → Fails calls lost (mid m))
     → (Fails calls lost (mid k) → FailsAs calls done new (after k))
@@ -202,12 +202,12 @@ sent_as conn m k calls done lost new old mid after put out hands ends fine =
     (ends (fails_numbered m k calls lost mid (sym out) (hands (fails_numbered conn m [] false old (sym put) fine))))
 
 -- One that brought bytes, under its number.
-pub brought_as : {E S : Type 0} (conn k : ℕ) (calls : List Call) (done : Done) (lost : Bool) (new : Link E S) (mid after : ℕ → Option Pipe)
+pub brought_as : {E S : Type 0} (conn k : ℕ) (calls : List Call) (done : EventDone) (lost : Bool) (new : Link E S) (mid after : ℕ → Option Pipe)
     → k ≡ conn → (Fails calls lost (mid k) → FailsAs calls done new (after k)) → Fails calls lost (mid conn) → FailsAs calls done new (after conn)
 brought_as conn k calls done lost new mid after same ends fails =
     as_numbered k conn calls done new after same (ends (fails_numbered conn k calls lost mid (sym same) fails))
 
-pub whole_ok : {E S B : Type 0} (calls : List Call) (r : Result Done B) (new : Link E S) (pipe : Option Pipe)
+pub whole_ok : {E S B : Type 0} (calls : List Call) (r : Result EventDone B) (new : Link E S) (pipe : Option Pipe)
     → IfOk r (λ done. done.lost ≡ false) → HasNoFailure pipe → IfOk r (λ done. FailsAs calls done new pipe)
 whole_ok calls (Ok done) new pipe whole fine = whole_as calls done new pipe whole fine
 whole_ok calls (Err why) new pipe whole fine = whole

@@ -22,7 +22,7 @@ use Rattle.tds_world.specs.World as world
 use Rattle.tds_play.specs.declared.pool.Found.{Found}
 use Rattle.tds_play.specs.declared.pool.Found.TheVariants.{Missing, Here, Opens}
 use Rattle.tds_play.specs.Holdings.{conn_in, conn_of}
-use Rattle.tds_play.specs.Lending.{FoundAlike, lent, numbered_of}
+use Rattle.tds_play.specs.Lending.{RefinesFound, lent, numbered_of}
 use Rattle.tds_play.specs.Noted.{about_of, held_of}
 use Rattle.tds_play.specs.Plays.{IsReady, MayLose, acts_at, acts_on, held_by, holdings_of, on_cut}
 use Rattle.tds_play.proofs.Held.{conn_held}
@@ -203,7 +203,7 @@ lives_acts setup answers w e n c lives = by_standing c.standing lives
     by_standing (In p) e = refl
     by_standing Cut e = absurd (cc)
 
-lent_happens : (setup : Setup) (answers : Answers) (w : World) (f : Found) (g : world.Found) → to_lend setup w ≡ g → FoundAlike w f g → LendsIdle setup w → HappensBy setup answers w event.Lease f (happens_at setup answers event.Lease w g)
+lent_happens : (setup : Setup) (answers : Answers) (w : World) (f : Found) (g : world.Found) → to_lend setup w ≡ g → RefinesFound w f g → LendsIdle setup w → HappensBy setup answers w event.Lease f (happens_at setup answers event.Lease w g)
 lent_happens setup answers w (Missing why) (world.Missing because) is alike ready = ap (λ (r : Refusal). (outcome.Refused r, w)) (sym alike)
 lent_happens setup answers w (Missing why) (world.Here n c) is alike ready = absurd alike
 lent_happens setup answers w (Missing why) (world.Opens n) is alike ready = absurd alike
@@ -305,7 +305,7 @@ numbered_by setup answers w e n refused ready =
     subst (λ (k : ℕ). HappensBy setup answers w e (numbered_of k n refusal.UnknownConnection) (happens_at setup answers e w (uncut_in refusal.UnknownConnection n (numbered w.connections n))))
     (sym (length-map w.connections (λ c. c.standing))) (numbered_happens setup answers w e n refused ready)
 
-pub happens_found : (setup : Setup) (answers : Answers) (w : World) (e : Event) → FoundAlike w (lent (map (λ c. c.standing) w.connections) setup.max) (to_lend setup w) → LendsIdle setup w → IsAboutOne e → HappensBy setup answers w e (about_of e (map (λ c. c.standing) w.connections) setup.max (holdings_of w.leases) (holdings_of w.tickets)) (happens setup answers e w)
+pub happens_found : (setup : Setup) (answers : Answers) (w : World) (e : Event) → RefinesFound w (lent (map (λ c. c.standing) w.connections) setup.max) (to_lend setup w) → LendsIdle setup w → IsAboutOne e → HappensBy setup answers w e (about_of e (map (λ c. c.standing) w.connections) setup.max (holdings_of w.leases) (holdings_of w.tickets)) (happens setup answers e w)
 happens_found setup answers w event.Lease alike ready one =
     lent_happens setup answers w (lent (map (λ c. c.standing) w.connections) setup.max) (to_lend setup w) refl alike ready
 happens_found setup answers w (event.Resume ticket) alike ready one = ticket_happens setup answers w ticket ready

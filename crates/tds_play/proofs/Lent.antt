@@ -11,7 +11,7 @@ use Rattle.tds_world.specs.World.{World, numbered, next_number}
 use Rattle.tds_world.specs.World as model
 use Rattle.tds_world.specs.declared.outcome.Refusal.TheVariants.{AllInUse}
 use Rattle.tds_play.specs.declared.pool.Found.TheVariants as play
-use Rattle.tds_play.specs.Lending.{FoundAlike, is_in_pool, lent, lent_by}
+use Rattle.tds_play.specs.Lending.{RefinesFound, is_in_pool, lent, lent_by}
 
 -- ---- Places and counts of a list that stands for another one
 
@@ -84,25 +84,25 @@ found_at i j (c ∷ cs) e = by_first (is_free c.standing) (λ k. found_at (i + 1
     by_first true rest e = let same : i ≡ j = cc in record { place = 0; at = omega (arith, same); connection = c; there = refl }
     by_first false rest e = let k : StandsAt cs (i + 1) j = rest e in record { place = suc k.place; at = omega (arith, k.at); connection = k.connection; there = k.there }
 
-by_found : (setup : Setup) (w : World) (o : Option ℕ) → position_from is_free 0 (map (λ c. c.standing) w.connections) ≡ o → FoundAlike w (lent_by o (pool_count w.connections) setup.max) (to_lend_by setup w (option_map suc o))
+by_found : (setup : Setup) (w : World) (o : Option ℕ) → position_from is_free 0 (map (λ c. c.standing) w.connections) ≡ o → RefinesFound w (lent_by o (pool_count w.connections) setup.max) (to_lend_by setup w (option_map suc o))
 by_found setup w None e = by_room (ltb (pool_count w.connections) setup.max)
   where
-    by_room : (b : Bool) → FoundAlike w (cond b play.Opens (play.Missing AllInUse)) (cond b (model.Opens (next_number w.connections)) (model.Missing AllInUse))
+    by_room : (b : Bool) → RefinesFound w (cond b play.Opens (play.Missing AllInUse)) (cond b (model.Opens (next_number w.connections)) (model.Missing AllInUse))
     by_room true = refl
     by_room false = refl
 by_found setup w (Some j) e =
     let k : StandsAt w.connections 0 j = found_at 0 j w.connections e in
     let same : j ≡ k.place = omega (arith, k.at) in
     let there : slice_get w.connections j ≡ Some k.connection = ap (λ (n : ℕ). slice_get w.connections n) same ∙ k.there in
-    subst (λ (o : Option Connection). FoundAlike w (play.Here j) (model.there AllInUse (suc j) o)) (sym there) (refl, there)
+    subst (λ (o : Option Connection). RefinesFound w (play.Here j) (model.there AllInUse (suc j) o)) (sym there) (refl, there)
 
 position_is : (ss : List Standing) → position is_free ss ≡ position_from is_free 0 ss
 position_is ss = position_from-zero is_free ss
 
-pub lends_alike : (setup : Setup) (w : World) → FoundAlike w (lent (map (λ c. c.standing) w.connections) setup.max) (to_lend setup w)
+pub lends_alike : (setup : Setup) (w : World) → RefinesFound w (lent (map (λ c. c.standing) w.connections) setup.max) (to_lend setup w)
 lends_alike setup w =
     let standings : List Standing = map (λ c. c.standing) w.connections in
-    subst (λ (o : Option ℕ). FoundAlike w (lent_by o (length (filter is_in_pool standings)) setup.max) (to_lend setup w)) (sym (position_is standings))
-    (subst (λ (n : ℕ). FoundAlike w (lent_by (position_from is_free 0 standings) n setup.max) (to_lend setup w)) (pool_is w.connections)
-    (subst (λ (o : Option ℕ). FoundAlike w (lent_by (position_from is_free 0 standings) (pool_count w.connections) setup.max) (to_lend_by setup w o)) (sym (lowest_is 0 w.connections))
+    subst (λ (o : Option ℕ). RefinesFound w (lent_by o (length (filter is_in_pool standings)) setup.max) (to_lend setup w)) (sym (position_is standings))
+    (subst (λ (n : ℕ). RefinesFound w (lent_by (position_from is_free 0 standings) n setup.max) (to_lend setup w)) (pool_is w.connections)
+    (subst (λ (o : Option ℕ). RefinesFound w (lent_by (position_from is_free 0 standings) (pool_count w.connections) setup.max) (to_lend_by setup w o)) (sym (lowest_is 0 w.connections))
     (by_found setup w (position_from is_free 0 standings) refl)))

@@ -35,9 +35,4 @@ pub mod LossWorld
 pub mod Turns
 pub mod PlayerActs
 pub mod PlayerFinds
-pub mod Fed
-pub mod Stays
-pub mod Brought
-pub mod Answered
-pub mod Given
-pub mod Places
+pub mod any_bytes

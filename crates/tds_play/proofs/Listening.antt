@@ -13,15 +13,15 @@ use Rattle.tds_world.specs.Record as world
 use Rattle.tds_play.specs.declared.link.Link.{Link}
 use Rattle.tds_play.specs.declared.seat.Seat.{Seat}
 use Rattle.tds_play.specs.declared.request.Record.{Record}
-use Rattle.tds_play.specs.Between.{Stands}
-use Rattle.tds_ends.specs.Stays.{IdleAlike}
-use Rattle.tds_ends.specs.Deliveries.{ListensAlike, status_under}
+use Rattle.tds_play.specs.Between.{RepresentsEnds}
+use Rattle.tds_ends.specs.Stays.{RefinesIdle}
+use Rattle.tds_ends.specs.Deliveries.{RefinesListens, status_under}
 use Rattle.tds_ends.specs.Feeding.{Listened}
 use Rattle.tds_play.specs.Lending.{standing_by}
 use Rattle.tds_play.specs.Seats.{drained, drained_at}
 use Rattle.tds_play.specs.Listening.{HasListened, IsToldSo, told_in}
 use Rattle.tds_play.specs.Pipe.{Pipe, traffic, brought_on, carried, next_of, IsOpen}
-use Rattle.tds_play.specs.Plays.{IsPlayed}
+use Rattle.tds_play.specs.Plays.{RepresentsConnection}
 use Rattle.tds_play.specs.Requests.{IsNewest, MatchesRecord}
 use Rattle.tds_play.specs.Ties.{with_counted}
 use Rattle.tds_play.proofs.Between.{lane_came}
@@ -147,13 +147,13 @@ listened_by old one new seat next client pipe after n then left lost open_ first
 
 -- ---- What it stands for
 
-pub listened_on : {E S : Type 0} → IdleAlike → (number size most n : ℕ) (engine : E) (bytes : List ℕ) (old new : Link E S) (seat next : Seat) (pipe after : Option Pipe) (c : Connection)
-    → IsPlayed number size engine old seat pipe c → old.is_cut ≡ false
+pub listened_on : {E S : Type 0} → RefinesIdle → (number size most n : ℕ) (engine : E) (bytes : List ℕ) (old new : Link E S) (seat next : Seat) (pipe after : Option Pipe) (c : Connection)
+    → RepresentsConnection number size engine old seat pipe c → old.is_cut ≡ false
     → (to_client most c).past ≡ c.past
-    → (a : ListensAlike old.client_reader bytes c (reach_client c c.to_client.waiting (c.to_client.part + min most (down_underway c))) seat.client None (told_in old.current))
+    → (a : RefinesListens old.client_reader bytes c (reach_client c c.to_client.waiting (c.to_client.part + min most (down_underway c))) seat.client None (told_in old.current))
     → ListenedOn old new seat next pipe after n a.then a.rest
-    → Stands new next after (to_client most c)
-    → IsPlayed number size engine new next after (to_client most c)
+    → RepresentsEnds new next after (to_client most c)
+    → RepresentsConnection number size engine new next after (to_client most c)
 listened_on waits number size most n engine bytes old new seat next pipe after c p live past a d s =
     let k : ℕ = c.to_client.part + min most (down_underway c) in
     let reached : Connection = reach_client c c.to_client.waiting k in

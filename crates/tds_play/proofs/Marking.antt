@@ -11,11 +11,11 @@ use Rattle.tds_world.specs.declared.report.Snapshot.{Snapshot}
 use Rattle.tds_world.specs.Losses.{Nothing, Played, is_lost, link_of, loss_by, marked, world_with}
 use Rattle.tds_world.specs.WithLosses.{LosesNothing}
 use Rattle.tds_world.specs.World.{new_world}
-use Rattle.tds_play.specs.declared.link.Done.{Done}
+use Rattle.tds_play.specs.declared.link.EventDone.{EventDone}
 use Rattle.tds_play.specs.declared.player.Player.{Player}
 use Rattle.tds_play.specs.Failures.{FailNowhere, FailsOn, TellFailures, all_known}
 use Rattle.tds_play.specs.Pipe.{Pipe}
-use Rattle.tds_play.specs.Player.{IsPlay}
+use Rattle.tds_play.specs.Player.{RepresentsWorld}
 use Rattle.tds_play.specs.Plays.{loss_of}
 use Rattle.tds_play.proofs.Accounts.{AreTold, known_fine, told_all, told_more}
 use Rattle.tds_play.proofs.AllPlayed.{as_many}
@@ -25,7 +25,7 @@ marks_lost : (b : Bool) (o : Outcome) → b ≡ is_lost (loss_by b o)
 marks_lost true o = refl
 marks_lost false o = refl
 
-pub told_one_more : (setup : Setup) (answers : Answers) (es : List Event) (i : ℕ) (e : Event) (reports told : List EventReport) (done : Done) (seen : List Snapshot) (before after : ℕ → Option Pipe)
+pub told_one_more : (setup : Setup) (answers : Answers) (es : List Event) (i : ℕ) (e : Event) (reports told : List EventReport) (done : EventDone) (seen : List Snapshot) (before after : ℕ → Option Pipe)
     → i < length es → e ≡ slice_index_or es i e → length reports ≡ i
     → told ≡ reports ++ record { outcome = done.outcome; lost = done.lost; snapshots = seen } ∷ []
     → FailsOn e done.lost (link_of setup (world_with setup answers (marked (take i es) reports) new_world) e) before after
@@ -41,7 +41,7 @@ told_one_more setup answers es i e reports told done seen before after less is c
     (subst (λ (b : Bool). FailsOn e b (link_of setup (world_with setup answers (marked (take i es) reports) new_world) e) before after) (marks_lost done.lost done.outcome) fails) far)
 
 pub told_in_the_end : {E S : Type 0} (setup : Setup) (answers : Answers) (engine : E) (es : List Event) (i : ℕ) (player : Player E S) (pipes : ℕ → Option Pipe) (so_far reports : List EventReport)
-    → length es ≤ i → reports ≡ so_far → IsPlay setup engine player pipes (world_with setup answers (marked (take i es) so_far) new_world)
+    → length es ≤ i → reports ≡ so_far → RepresentsWorld setup engine player pipes (world_with setup answers (marked (take i es) so_far) new_world)
     → AreTold setup answers (marked (take i es) so_far) (all_known (length player.links.items) pipes) → TellFailures setup answers (marked es reports) pipes
 told_in_the_end setup answers engine es i player pipes so_far reports over same play told =
     let ps : marked (take i es) so_far ≡ marked es reports = ap (λ xs. marked xs so_far) (take_all i es over) ∙ ap (marked es) (sym same) in

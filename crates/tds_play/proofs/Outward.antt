@@ -13,7 +13,7 @@ use Rattle.tds_play.specs.Between.{IsLane}
 use Rattle.tds_play.specs.Lending.{standing_by}
 use Rattle.tds_play.specs.Seats.{seated}
 use Rattle.tds_play.specs.Pipe.{Pipe, Traffic, traffic, sent, sent_on, IsOpen}
-use Rattle.tds_play.specs.Plays.{IsPlayed}
+use Rattle.tds_play.specs.Plays.{RepresentsConnection}
 use Rattle.tds_play.specs.Requests.{AreOlder, IsNewest}
 use Rattle.tds_ends.specs.Stands.{MatchesClient, MatchesServer, Sends}
 use Rattle.tds_play.specs.Ties.{saturated, with_counted}
@@ -120,14 +120,14 @@ SentMore {Entry} bytes = (more : List ℕ) (old new : Lane Entry) → Sends byte
 
 -- The client did it: it sent these bytes, and the connection's newest request and place may have changed.
 pub sent_played : {E S : Type 0} → SentMore up_bytes → (number size : ℕ) (engine : E) (link new : Link E S) (seat : Seat) (s : ClientSession) (q : Option Record) (p : Place) (pipe after : Option Pipe) (c d : Connection) (bytes : List ℕ)
-    → IsPlayed number size engine link seat pipe c → link.is_cut ≡ false
+    → RepresentsConnection number size engine link seat pipe c → link.is_cut ≡ false
     → HandedUp (record link { current = q }) new pipe after bytes
     → d.standing ≡ In p → s.size ≡ seat.client.size
     → MatchesClient s d → MatchesServer link.server d
     → Sends up_bytes bytes c.to_server d.to_server → d.to_client ≡ c.to_client
     → d.past ≡ c.past → IsNewest number false q d.current
     → up_underway d ≤ 18446744073709551615
-    → IsPlayed number size engine new (seated p s) after d
+    → RepresentsConnection number size engine new (seated p s) after d
 sent_played {E} {S} appends number size engine link new seat s q p pipe after c d bytes i live h standing sized client server sends below past newest few = record {
   numbered = ap (λ l. l.number) h.link ∙ i.numbered;
   standing = ap (λ (l : Link E S). standing_by l.is_cut p) h.link ∙ ap (λ (b : Bool). standing_by b p) live ∙ sym standing;
@@ -172,14 +172,14 @@ sent_played {E} {S} appends number size engine link new seat s q p pipe after c 
 
 -- The server did it: it sent these bytes, and the newest request may have changed.
 pub replied_played : {E S : Type 0} → SentMore down_bytes → (number size : ℕ) (engine : E) (link new : Link E S) (seat : Seat) (s : ServerState E) (q : Option Record) (pipe after : Option Pipe) (c d : Connection) (bytes : List ℕ)
-    → IsPlayed number size engine link seat pipe c → link.is_cut ≡ false
+    → RepresentsConnection number size engine link seat pipe c → link.is_cut ≡ false
     → HandedDown (record link { server = s; current = q }) new pipe after bytes
     → d.standing ≡ c.standing → s.engine ≡ link.server.engine
     → MatchesClient seat.client d → MatchesServer s d
     → Sends down_bytes bytes c.to_client d.to_client → d.to_server ≡ c.to_server
     → d.past ≡ c.past → IsNewest number false q d.current
     → down_underway d ≤ 18446744073709551615
-    → IsPlayed number size engine new seat after d
+    → RepresentsConnection number size engine new seat after d
 replied_played {E} {S} appends number size engine link new seat s q pipe after c d bytes i live h standing same client server sends above past newest few = record {
   numbered = ap (λ l. l.number) h.link ∙ i.numbered;
   standing = ap (λ (l : Link E S). standing_by l.is_cut seat.place) h.link ∙ i.standing ∙ sym standing;

@@ -15,11 +15,11 @@ use Rattle.tds_world.specs.Pool.{Acted, is_full, keeps, keeps_by}
 use Rattle.tds_play.specs.Lending.{standing_by}
 use Rattle.tds_play.specs.Seats.{lent_as, placed_at, unless_kept, unless_kept_by}
 use Rattle.tds_play.specs.Pipe.{Pipe}
-use Rattle.tds_play.specs.Plays.{IsPlayed, after, outcome_of}
+use Rattle.tds_play.specs.Plays.{RepresentsConnection, after, outcome_of}
 use Rattle.tds_play.specs.Seen.{done_as}
 use Rattle.tds_ends.specs.Stands.{MatchesClient}
-use Rattle.tds_ends.specs.Stays.{IdleAlike, PoolIsUnseen}
-use Rattle.tds_play.specs.declared.link.Done.{Done}
+use Rattle.tds_ends.specs.Stays.{RefinesIdle, PoolIsUnseen}
+use Rattle.tds_play.specs.declared.link.EventDone.{EventDone}
 use Rattle.tds_play.specs.declared.link.Link.{Link}
 use Rattle.tds_play.specs.declared.seat.Seat.{Seat}
 
@@ -39,14 +39,14 @@ none_where : {A : Type 0} (o : Option A) → is_none o ≡ true → o ≡ None
 none_where None e = refl
 none_where (Some x) e = absurd (cc)
 
-pub idle_unless : IdleAlike → (s : ClientSession) (c : Connection) → MatchesClient s c → is_idle c ≡ true → unless_idle s.stage ≡ None
+pub idle_unless : RefinesIdle → (s : ClientSession) (c : Connection) → MatchesClient s c → is_idle c ≡ true → unless_idle s.stage ≡ None
 idle_unless waits s c m e = none_where (unless_idle s.stage) (waits s c m ∙ e)
 
 -- ---- Elsewhere in the pool
 
 pub placed_played : {E S : Type 0} → PoolIsUnseen E → (number size : ℕ) (engine : E) (link : Link E S) (seat : Seat) (pipe : Option Pipe) (c : Connection) (p : Place)
-    → IsPlayed number size engine link seat pipe c → link.is_cut ≡ false
-    → IsPlayed number size engine link (placed_at p seat) pipe (record c { standing = In p })
+    → RepresentsConnection number size engine link seat pipe c → link.is_cut ≡ false
+    → RepresentsConnection number size engine link (placed_at p seat) pipe (record c { standing = In p })
 placed_played unseen number size engine link seat pipe c p i live = record {
   numbered = i.numbered;
   standing = ap (λ (b : Bool). standing_by b p) live;
@@ -77,20 +77,20 @@ placed_played unseen number size engine link seat pipe c p i live = record {
 }
 
 -- A client that is marked for a reset stands for a connection that is lent again.
-abbrev pub MarksAlike : Type 0
-MarksAlike = (s : ClientSession) (c : Connection) (r : Reset) (standing : Standing) → MatchesClient s c → phase c ≡ Settled → MatchesClient (marked s r) (record c { mark = strongest (Some r) c.mark; standing = standing })
+abbrev pub RefinesMarks : Type 0
+RefinesMarks = (s : ClientSession) (c : Connection) (r : Reset) (standing : Standing) → MatchesClient s c → phase c ≡ Settled → MatchesClient (marked s r) (record c { mark = strongest (Some r) c.mark; standing = standing })
 
-pub lent_played : {E S : Type 0} → PoolIsUnseen E → IdleAlike → MarksAlike → (number size lease : ℕ) (mark : Reset) (engine : E) (link : Link E S) (seat new : Seat) (pipe : Option Pipe) (c : Connection)
-    → IsPlayed number size engine link seat pipe c → link.is_cut ≡ false → is_idle c ≡ true
+pub lent_played : {E S : Type 0} → PoolIsUnseen E → RefinesIdle → RefinesMarks → (number size lease : ℕ) (mark : Reset) (engine : E) (link : Link E S) (seat new : Seat) (pipe : Option Pipe) (c : Connection)
+    → RepresentsConnection number size engine link seat pipe c → link.is_cut ≡ false → is_idle c ≡ true
     → (unless_idle seat.client.stage ≡ None → new ≡ lent_as lease mark seat)
-    → IsPlayed number size engine link new pipe (record c { mark = strongest (Some mark) c.mark; standing = In (place.Leased lease) })
+    → RepresentsConnection number size engine link new pipe (record c { mark = strongest (Some mark) c.mark; standing = In (place.Leased lease) })
 lent_played {E} {S} unseen waits marks number size lease mark engine link seat new pipe c i live idle is =
     rw (is (idle_unless waits seat.client c (i.lives live).stands.client idle)) here
   where
     d : Connection
     d = record c { mark = strongest (Some mark) c.mark; standing = In (place.Leased lease) }
 
-    here : IsPlayed number size engine link (lent_as lease mark seat) pipe d
+    here : RepresentsConnection number size engine link (lent_as lease mark seat) pipe d
     here = record {
       numbered = i.numbered;
       standing = ap (λ (b : Bool). standing_by b (place.Leased lease)) live;
@@ -123,12 +123,12 @@ lent_played {E} {S} unseen waits marks number size lease mark engine link seat n
 -- ---- Keeping
 
 -- What is done on a connection without its carrier, and that it stands for the model's then.
-abbrev pub DoesWhole : {E S : Type 0} → ℕ → ℕ → E → Done → Link E S → Seat → Option Pipe → Acted → Connection → Type 0
+abbrev pub DoesWhole : {E S : Type 0} → ℕ → ℕ → E → EventDone → Link E S → Seat → Option Pipe → Acted → Connection → Type 0
 DoesWhole number size engine done link seat pipe a c =
-    (done ≡ done_as (outcome_of a)) × IsPlayed number size engine link seat pipe (after a c)
+    (done ≡ done_as (outcome_of a)) × RepresentsConnection number size engine link seat pipe (after a c)
 
-kept_by : {E S : Type 0} → PoolIsUnseen E → (number size ticket : ℕ) (engine : E) (link : Link E S) (seat new : Seat) (pipe : Option Pipe) (c : Connection) (done : Done) (idle nothing : Bool)
-    → IsPlayed number size engine link seat pipe c → link.is_cut ≡ false
+kept_by : {E S : Type 0} → PoolIsUnseen E → (number size ticket : ℕ) (engine : E) (link : Link E S) (seat new : Seat) (pipe : Option Pipe) (c : Connection) (done : EventDone) (idle nothing : Bool)
+    → RepresentsConnection number size engine link seat pipe c → link.is_cut ≡ false
     → ((why : Refusal) → unless_kept_by idle nothing ≡ Some why → (done ≡ done_as (Refused why)) × (new ≡ seat))
     → (unless_kept_by idle nothing ≡ None → (done ≡ done_as (Kept ticket)) × (new ≡ placed_at (place.Kept ticket) seat))
     → DoesWhole number size engine done link new pipe (keeps_by idle nothing ticket c) c
@@ -139,8 +139,8 @@ kept_by unseen number size ticket engine link seat new pipe c done true true i l
 kept_by unseen number size ticket engine link seat new pipe c done true false i live refused kept =
     let h = kept refl in (h.0, rw h.1 (placed_played unseen number size engine link seat pipe c (place.Kept ticket) i live))
 
-pub kept_alike : {E S : Type 0} → PoolIsUnseen E → IdleAlike → (number size ticket : ℕ) (engine : E) (link : Link E S) (seat new : Seat) (pipe : Option Pipe) (c : Connection) (done : Done)
-    → IsPlayed number size engine link seat pipe c → link.is_cut ≡ false
+pub kept_alike : {E S : Type 0} → PoolIsUnseen E → RefinesIdle → (number size ticket : ℕ) (engine : E) (link : Link E S) (seat new : Seat) (pipe : Option Pipe) (c : Connection) (done : EventDone)
+    → RepresentsConnection number size engine link seat pipe c → link.is_cut ≡ false
     → ((why : Refusal) → unless_kept seat.client ≡ Some why → (done ≡ done_as (Refused why)) × (new ≡ seat))
     → (unless_kept seat.client ≡ None → (done ≡ done_as (Kept ticket)) × (new ≡ placed_at (place.Kept ticket) seat))
     → DoesWhole number size engine done link new pipe (keeps ticket c) c

@@ -7,21 +7,21 @@ use Rattle.tds_world.specs.Arrivals.{server_acts, reach_server, to_server}
 use Rattle.tds_world.specs.Connection.{Connection}
 use Rattle.tds_world.specs.Entries.{Up, Part, End, Drop, Attention, up_bytes, down_bytes}
 use Rattle.tds_world.specs.Lane.{passed, with_waiting}
-use Rattle.tds_play.specs.declared.link.Done.{Done}
+use Rattle.tds_play.specs.declared.link.EventDone.{EventDone}
 use Rattle.tds_play.specs.declared.link.Link.{Link}
 use Rattle.tds_play.specs.declared.seat.Seat.{Seat}
-use Rattle.tds_play.specs.Between.{Stands}
+use Rattle.tds_play.specs.Between.{RepresentsEnds}
 use Rattle.tds_play.specs.Lending.{standing_by}
 use Rattle.tds_play.specs.Links.{recounted}
 use Rattle.tds_play.specs.Pipe.{Pipe, traffic}
-use Rattle.tds_play.specs.Plays.{IsPlayed}
+use Rattle.tds_play.specs.Plays.{RepresentsConnection}
 use Rattle.tds_play.specs.Seen.{done_as}
 use Rattle.tds_play.specs.Ties.{with_counted}
 use Rattle.tds_play.proofs.Between.{lane_came}
 
 -- ---- The outcome
 
-pub done_is : (d : Done) (o : Outcome) → d.outcome ≡ o → d.lost ≡ false → d ≡ done_as o
+pub done_is : (d : EventDone) (o : Outcome) → d.outcome ≡ o → d.lost ≡ false → d ≡ done_as o
 done_is d o e f =
     ap (λ (x : Outcome). record { outcome = x; lost = d.lost }) e ∙ ap (λ (b : Bool). record { outcome = o; lost = b }) f
 
@@ -85,8 +85,8 @@ pub record Ends {E S : Type 0} (size : ℕ) (engine : E) (link : Link E S) : Typ
   pub server_size : link.server_reader.size ≡ size
 
 pub served_on : {E S : Type 0} (answers : Answers) (number size most : ℕ) (engine : E) (old new : Link E S) (seat : Seat) (pipe after : Option Pipe) (c : Connection)
-    → IsPlayed number size engine old seat pipe c → old.is_cut ≡ false → Stays old new → Ends size engine new
-    → Stands new seat after (to_server answers most c) → IsPlayed number size engine new seat after (to_server answers most c)
+    → RepresentsConnection number size engine old seat pipe c → old.is_cut ≡ false → Stays old new → Ends size engine new
+    → RepresentsEnds new seat after (to_server answers most c) → RepresentsConnection number size engine new seat after (to_server answers most c)
 served_on answers number size most engine old new seat pipe after c p live stays ends s =
     let same = reach_same answers c c.to_server.waiting _ in
     record {

@@ -20,15 +20,15 @@ use Rattle.tds_world.specs.Phase.{Phase, Settled, Asked, Sending, Reading, Cance
 use Rattle.tds_world.specs.Pool.{Acted, Refuses, Does, abandons_at, gives_back_at, is_full, keeps_by}
 use Rattle.tds_world.specs.Record.{Record}
 use Rattle.tds_world.specs.World.{World, next_number, put, put_numbered}
-use Rattle.tds_play.specs.declared.link.Done.{Done}
+use Rattle.tds_play.specs.declared.link.EventDone.{EventDone}
 use Rattle.tds_play.specs.declared.seat.Seated.{Seated}
 use Rattle.tds_play.specs.declared.player.Player.{Player}
 use Rattle.tds_play.specs.Lending.{standing_by}
 use Rattle.tds_play.specs.Noted.{asked_after, leases_after, tickets_after}
 use Rattle.tds_play.specs.Pipe.{Pipe, AreSame}
-use Rattle.tds_play.specs.Player.{HappensAlike, IsFound, IsPlay}
-use Rattle.tds_ends.specs.Promises.{IsCountable}
-use Rattle.tds_play.specs.Plays.{ArePlayed, DoesAlike, IsPlayed, IsReady, MayLose, acts_at, acts_on, after, cut_where, holdings_of, loss_of, outcome_of}
+use Rattle.tds_play.specs.Player.{RefinesEvent, IsFound, RepresentsWorld}
+use Rattle.tds_ends.specs.ModelGives.{IsCountable}
+use Rattle.tds_play.specs.Plays.{RepresentConnections, RefinesAct, RepresentsConnection, IsReady, MayLose, acts_at, acts_on, after, cut_where, holdings_of, loss_of, outcome_of}
 use Rattle.tds_play.proofs.AllCut.{played_there, put_changed}
 use Rattle.tds_play.proofs.LossWorld.{IsMoved, put_there, settled_moved}
 use Rattle.tds_play.proofs.Held.{asked_noted, connections_noted, leases_noted, tickets_noted}
@@ -130,20 +130,20 @@ lives_by b p s e is = sym (ap is_cut e) ∙ ap (λ (x : Bool). is_cut (standing_
 -- ---- The whole player
 
 -- What an event, as it was met, came to on its connection, and all connections then.
-pub record ActsAlike {E S : Type 0} (size : ℕ) (engine : E) (place : ℕ) (c : Connection) (cs : List Connection) (acted : Acted) (done : Done) (ls : List (Seated E S)) (pipes : ℕ → Option Pipe) : Type 0 where
+pub record RefinesActs {E S : Type 0} (size : ℕ) (engine : E) (place : ℕ) (c : Connection) (cs : List Connection) (acted : Acted) (done : EventDone) (ls : List (Seated E S)) (pipes : ℕ → Option Pipe) : Type 0 where
   pub same : done.outcome ≡ outcome_of acted
-  pub all : ArePlayed 1 size engine ls pipes (put place (cut_where done.lost (after acted c)) cs)
+  pub all : RepresentConnections 1 size engine ls pipes (put place (cut_where done.lost (after acted c)) cs)
 
-pub acts_alike : {E S : Type 0} (setup : Setup) (engine : E) (answers : Answers) (w : World) (e : Event) (place : ℕ) (c : Connection) (player : Player E S) (pipes pipes' : ℕ → Option Pipe) (x y : Seated E S) (done : Done)
-    → IsPlay setup engine player pipes w → x ≡ get_or player.links.items place x → place < length player.links.items
+pub acts_alike : {E S : Type 0} (setup : Setup) (engine : E) (answers : Answers) (w : World) (e : Event) (place : ℕ) (c : Connection) (player : Player E S) (pipes pipes' : ℕ → Option Pipe) (x y : Seated E S) (done : EventDone)
+    → RepresentsWorld setup engine player pipes w → x ≡ get_or player.links.items place x → place < length player.links.items
     → AreSame pipes pipes' x.link.number → IsFound setup answers w e place c
     → ((k : ℕ) → OfEachConnection IsCountable (happens setup answers (bringing k e) w).1)
-    → (IsPlayed x.link.number setup.packet_size engine x.link x.seat (pipes x.link.number) c
+    → (RepresentsConnection x.link.number setup.packet_size engine x.link x.seat (pipes x.link.number) c
     → ((k : ℕ) → IsCountable (after (acts_on setup answers w (bringing k e) x.link.number c) c)) → (x.link.is_cut ≡ false → IsReady e c)
-    → DoesAlike x.link.number setup.packet_size engine done y.link y.seat (pipes' x.link.number) (acts_on setup answers w (met (loss_of done) e) x.link.number c) c)
-    → ActsAlike setup.packet_size engine place c w.connections (acts_on setup answers w (met (loss_of done) e) (suc place) c) done (set player.links.items place y) pipes'
+    → RefinesAct x.link.number setup.packet_size engine done y.link y.seat (pipes' x.link.number) (acts_on setup answers w (met (loss_of done) e) x.link.number c) c)
+    → RefinesActs setup.packet_size engine place c w.connections (acts_on setup answers w (met (loss_of done) e) (suc place) c) done (set player.links.items place y) pipes'
 acts_alike {E} {S} setup engine answers w e place c player pipes pipes' x y done is link_is less same_others found countable act =
-    let played : IsPlayed (suc place) setup.packet_size engine x.link x.seat (pipes (suc place)) c = played_there setup.packet_size engine player.links.items pipes w.connections place x c link_is is.connections found.there in
+    let played : RepresentsConnection (suc place) setup.packet_size engine x.link x.seat (pipes (suc place)) c = played_there setup.packet_size engine player.links.items pipes w.connections place x c link_is is.connections found.there in
     let number : x.link.number ≡ suc place = played.numbered in
     let m : Event = met (loss_of done) e in
     let counts : (k : ℕ) → IsCountable (after (acts_on setup answers w (bringing k e) x.link.number c) c) = (λ k.
@@ -153,18 +153,18 @@ acts_alike {E} {S} setup engine answers w e place c player pipes pipes' x y done
     let is_ready : (x.link.is_cut ≡ false → IsReady e c) = (λ lives. found.ready (lives_by x.link.is_cut x.seat.place c.standing played.standing lives)) in
     record {
       same = subst (λ (n : ℕ). done.outcome ≡ outcome_of (acts_on setup answers w m n c)) number
-          (act (subst (λ (n : ℕ). IsPlayed n setup.packet_size engine x.link x.seat (pipes n) c) (sym number) played) counts is_ready).outcome;
-      all = subst (λ (n : ℕ). ArePlayed 1 setup.packet_size engine (set player.links.items place y) pipes' (put place (cut_where done.lost (after (acts_on setup answers w m n c) c)) w.connections)) number
+          (act (subst (λ (n : ℕ). RepresentsConnection n setup.packet_size engine x.link x.seat (pipes n) c) (sym number) played) counts is_ready).outcome;
+      all = subst (λ (n : ℕ). RepresentConnections 1 setup.packet_size engine (set player.links.items place y) pipes' (put place (cut_where done.lost (after (acts_on setup answers w m n c) c)) w.connections)) number
           (put_changed setup.packet_size engine player.links.items pipes pipes' w.connections place x y c (cut_where done.lost (after (acts_on setup answers w m x.link.number c) c)) link_is less same_others found.there is.connections
           (λ p. (act p counts is_ready).played));
     }
 
 -- An event that may be lost uses the link of the connection at this place.
 pub lost_there : {E S : Type 0} (setup : Setup) (engine : E) (answers : Answers) (w : World) (e : Event) (place : ℕ) (c : Connection) (player : Player E S) (pipes : ℕ → Option Pipe) (x : Seated E S) (lost : Bool)
-    → IsPlay setup engine player pipes w → x ≡ get_or player.links.items place x → IsFound setup answers w e place c
+    → RepresentsWorld setup engine player pipes w → x ≡ get_or player.links.items place x → IsFound setup answers w e place c
     → (lost ≡ true → MayLose x.link.is_cut e) → lost ≡ true → link_of setup w e ≡ Some (suc place)
 lost_there setup engine answers w e place c player pipes x lost is link_is found loses failed =
-    let played : IsPlayed (suc place) setup.packet_size engine x.link x.seat (pipes (suc place)) c = played_there setup.packet_size engine player.links.items pipes w.connections place x c link_is is.connections found.there in
+    let played : RepresentsConnection (suc place) setup.packet_size engine x.link x.seat (pipes (suc place)) c = played_there setup.packet_size engine player.links.items pipes w.connections place x c link_is is.connections found.there in
     found.link (subst (λ (b : Bool). MayLose b e) (stands_cut x.link.is_cut x.seat.place c.standing played.standing) (loses failed))
 
 -- What an event came to and what the world is then, by what it came to on its connection.
@@ -200,12 +200,12 @@ noted_met (Failed k) event.RestartServer n heard w = refl
 noted_met (Failed k) event.RestartClient n heard w = refl
 
 -- An event that was refused is not noted.
-pub refused_alike : {E S : Type 0} (setup : Setup) (engine : E) (answers : Answers) (w : World) (e : Event) (place : ℕ) (c : Connection) (player new : Player E S) (pipes pipes' : ℕ → Option Pipe) (done : Done) (why : Refusal)
-    → IsPlay setup engine player pipes w → IsFound setup answers w e place c
+pub refused_alike : {E S : Type 0} (setup : Setup) (engine : E) (answers : Answers) (w : World) (e : Event) (place : ℕ) (c : Connection) (player new : Player E S) (pipes pipes' : ℕ → Option Pipe) (done : EventDone) (why : Refusal)
+    → RepresentsWorld setup engine player pipes w → IsFound setup answers w e place c
     → (done.lost ≡ true → link_of setup w e ≡ Some (suc place))
-    → ActsAlike setup.packet_size engine place c w.connections (acts_on setup answers w (met (loss_of done) e) (suc place) c) done new.links.items pipes'
+    → RefinesActs setup.packet_size engine place c w.connections (acts_on setup answers w (met (loss_of done) e) (suc place) c) done new.links.items pipes'
     → new ≡ record player { links = new.links } → done.outcome ≡ outcome.Refused why
-    → HappensAlike setup engine answers done new pipes' e w
+    → RefinesEvent setup engine answers done new pipes' e w
 refused_alike {E} {S} setup engine answers w e place c player new pipes pipes' done why is found link acts rest refused =
     let m : Event = met (loss_of done) e in
     let acted : Acted = acts_on setup answers w m (suc place) c in
@@ -215,7 +215,7 @@ refused_alike {E} {S} setup engine answers w e place c player new pipes pipes' d
     record {
       outcome = acts.same ∙ settled_outcome m (suc place) w acted ∙ sym (ap (λ (next : Outcome × World). next.0) (found.settles (loss_of done)));
       then = record {
-        connections = subst (ArePlayed 1 setup.packet_size engine new.links.items pipes') (sym moved.connections) acts.all;
+        connections = subst (RepresentConnections 1 setup.packet_size engine new.links.items pipes') (sym moved.connections) acts.all;
         leases = ap (λ (p : Player E S). p.leases) rest ∙ is.leases ∙ ap (λ (x : World). holdings_of x.leases) (sym same) ∙ ap holdings_of (sym moved.leases);
         tickets = ap (λ (p : Player E S). p.tickets) rest ∙ is.tickets ∙ ap (λ (x : World). holdings_of x.tickets) (sym same) ∙ ap holdings_of (sym moved.tickets);
         asked = ap (λ (p : Player E S). p.asked_on.items) rest ∙ is.asked ∙ ap (λ (x : World). x.asked_on) (sym same) ∙ sym moved.asked;
@@ -227,13 +227,13 @@ refused_alike {E} {S} setup engine answers w e place c player new pipes pipes' d
     }
 
 -- One that applied is.
-pub noted_alike : {E S : Type 0} (setup : Setup) (engine : E) (answers : Answers) (w : World) (e : Event) (place n : ℕ) (c : Connection) (player new : Player E S) (pipes pipes' : ℕ → Option Pipe) (done : Done)
-    → IsPlay setup engine player pipes w → IsFound setup answers w e place c → n ≡ suc place
+pub noted_alike : {E S : Type 0} (setup : Setup) (engine : E) (answers : Answers) (w : World) (e : Event) (place n : ℕ) (c : Connection) (player new : Player E S) (pipes pipes' : ℕ → Option Pipe) (done : EventDone)
+    → RepresentsWorld setup engine player pipes w → IsFound setup answers w e place c → n ≡ suc place
     → (done.lost ≡ true → link_of setup w e ≡ Some (suc place))
-    → ActsAlike setup.packet_size engine place c w.connections (acts_on setup answers w (met (loss_of done) e) (suc place) c) done new.links.items pipes'
+    → RefinesActs setup.packet_size engine place c w.connections (acts_on setup answers w (met (loss_of done) e) (suc place) c) done new.links.items pipes'
     → new.engine ≡ player.engine → new.max ≡ player.max → new.size ≡ player.size → new.on_attention ≡ player.on_attention → new.leases ≡ leases_after e n player.leases → new.tickets ≡ tickets_after e n player.tickets → new.asked_on.items ≡ asked_after e n player.asked_on.items
     → ((why : Refusal) → done.outcome ≡ outcome.Refused why → ⊥)
-    → HappensAlike setup engine answers done new pipes' e w
+    → RefinesEvent setup engine answers done new pipes' e w
 noted_alike setup engine answers w e place n c player new pipes pipes' done is found number link acts engine_same max_same size_same told_same leases tickets asked applied =
     let l : Loss = loss_of done in
     let m : Event = met l e in
@@ -244,7 +244,7 @@ noted_alike setup engine answers w e place n c player new pipes pipes' done is f
     record {
       outcome = acts.same ∙ settled_outcome m (suc place) w acted ∙ sym (ap (λ (next : Outcome × World). next.0) (found.settles l));
       then = record {
-        connections = subst (ArePlayed 1 setup.packet_size engine new.links.items pipes') (sym moved.connections) acts.all;
+        connections = subst (RepresentConnections 1 setup.packet_size engine new.links.items pipes') (sym moved.connections) acts.all;
         leases =
             leases
             ∙ ap (λ (x : ℕ). leases_after e x player.leases) number

@@ -12,7 +12,7 @@ use Rattle.tds_world.specs.Events.{happens, settles}
 use Rattle.tds_world.specs.Lending.{LendsIdle}
 use Rattle.tds_world.specs.Losses.{Loss, Nothing, Failed, bringing, met}
 use Rattle.tds_world.specs.World.{World}
-use Rattle.tds_play.specs.declared.link.Done.{Done}
+use Rattle.tds_play.specs.declared.link.EventDone.{EventDone}
 use Rattle.tds_play.specs.declared.seat.Seated.{Seated}
 use Rattle.tds_play.specs.declared.player.Player.{Player}
 use Rattle.tds_play.specs.declared.pool.Found.{Found}
@@ -21,8 +21,8 @@ use Rattle.tds_play.specs.Holdings.{all_ended}
 use Rattle.tds_play.specs.Lending.{standing_of}
 use Rattle.tds_play.specs.Noted.{about_of}
 use Rattle.tds_play.specs.Pipe.{Pipe}
-use Rattle.tds_play.specs.Player.{HappensAlike, IsFound, IsPlay}
-use Rattle.tds_play.specs.Plays.{ArePlayed, acts_on, holdings_of}
+use Rattle.tds_play.specs.Player.{RefinesEvent, IsFound, RepresentsWorld}
+use Rattle.tds_play.specs.Plays.{RepresentConnections, acts_on, holdings_of}
 use Rattle.tds_play.specs.Seen.{done_as}
 use Rattle.tds_play.proofs.AllPlayed.{same_standings}
 use Rattle.tds_play.proofs.Found.{HappensBy, IsAboutOne, Settles, happens_found, link_found}
@@ -47,7 +47,7 @@ about_one event.RestartServer server client = server refl
 about_one event.RestartClient server client = client refl
 
 -- What the player's lists say of it and what the world's do.
-about_world : {E S : Type 0} (setup : Setup) (engine : E) (w : World) (e : Event) (player : Player E S) (pipes : ℕ → Option Pipe) → IsPlay setup engine player pipes w
+about_world : {E S : Type 0} (setup : Setup) (engine : E) (w : World) (e : Event) (player : Player E S) (pipes : ℕ → Option Pipe) → RepresentsWorld setup engine player pipes w
     → about_of e (map standing_of player.links.items) player.max player.leases player.tickets ≡ about_of e (map (λ c. c.standing) w.connections) setup.max (holdings_of w.leases) (holdings_of w.tickets)
 about_world setup engine w e player pipes is =
     let standings : map standing_of player.links.items ≡ map (λ c. c.standing) w.connections = same_standings 1 setup.packet_size engine player.links.items pipes w.connections is.connections in
@@ -57,7 +57,7 @@ about_world setup engine w e player pipes is =
     ∙ ap (λ (tickets : List (Option ℕ)). about_of e (map (λ c. c.standing) w.connections) setup.max (holdings_of w.leases) tickets) is.tickets
 
 -- What the model makes of an event, by what the player found.
-pub found_alike : {E S : Type 0} (setup : Setup) (engine : E) (answers : Answers) (w : World) (e : Event) (player : Player E S) (pipes : ℕ → Option Pipe) (f : Found) → IsPlay setup engine player pipes w → LendsIdle setup w → IsAboutOne e → f ≡ about_of e (map standing_of player.links.items) player.max player.leases player.tickets → HappensBy setup answers w e f (happens setup answers e w)
+pub found_alike : {E S : Type 0} (setup : Setup) (engine : E) (answers : Answers) (w : World) (e : Event) (player : Player E S) (pipes : ℕ → Option Pipe) (f : Found) → RepresentsWorld setup engine player pipes w → LendsIdle setup w → IsAboutOne e → f ≡ about_of e (map standing_of player.links.items) player.max player.leases player.tickets → HappensBy setup answers w e f (happens setup answers e w)
 found_alike setup engine answers w e player pipes f is idle one found =
     let same : f ≡ about_of e (map (λ c. c.standing) w.connections) setup.max (holdings_of w.leases) (holdings_of w.tickets) =
     found ∙ about_world setup engine w e player pipes is in
@@ -65,19 +65,19 @@ found_alike setup engine answers w e player pipes f is idle one found =
     (happens_found setup answers w e (lends_alike setup w) idle one)
 
 -- An event that is refused before it comes to a connection.
-pub missing_alike : {E S : Type 0} (setup : Setup) (engine : E) (answers : Answers) (w : World) (e : Event) (player : Player E S) (pipes : ℕ → Option Pipe) (done : Done) (why : Refusal)
-    → IsPlay setup engine player pipes w → done ≡ done_as (outcome.Refused why) → happens setup answers e w ≡ (outcome.Refused why, w)
-    → HappensAlike setup engine answers done player pipes e w
+pub missing_alike : {E S : Type 0} (setup : Setup) (engine : E) (answers : Answers) (w : World) (e : Event) (player : Player E S) (pipes : ℕ → Option Pipe) (done : EventDone) (why : Refusal)
+    → RepresentsWorld setup engine player pipes w → done ≡ done_as (outcome.Refused why) → happens setup answers e w ≡ (outcome.Refused why, w)
+    → RefinesEvent setup engine answers done player pipes e w
 missing_alike setup engine answers w e player pipes done why is refused same =
-    subst (λ (d : Done). HappensAlike setup engine answers d player pipes e w) (sym refused) (record {
+    subst (λ (d : EventDone). RefinesEvent setup engine answers d player pipes e w) (sym refused) (record {
       outcome = ap (λ (next : Outcome × World). next.0) (sym same);
-      then = subst (IsPlay setup engine player pipes) (ap (λ (next : Outcome × World). next.1) (sym same)) is;
+      then = subst (RepresentsWorld setup engine player pipes) (ap (λ (next : Outcome × World). next.1) (sym same)) is;
     })
 
 -- The server is restarted: every connection is cut.
-pub server_restarts : {E S : Type 0} (setup : Setup) (engine : E) (answers : Answers) (w : World) (e : Event) (player new : Player E S) (pipes pipes' : ℕ → Option Pipe) → e ≡ event.RestartServer → IsPlay setup engine player pipes w → ArePlayed 1 setup.packet_size engine new.links.items pipes' (map cut w.connections) → new ≡ record player { links = new.links } → HappensAlike setup engine answers (done_as outcome.RestartedServer) new pipes' e w
+pub server_restarts : {E S : Type 0} (setup : Setup) (engine : E) (answers : Answers) (w : World) (e : Event) (player new : Player E S) (pipes pipes' : ℕ → Option Pipe) → e ≡ event.RestartServer → RepresentsWorld setup engine player pipes w → RepresentConnections 1 setup.packet_size engine new.links.items pipes' (map cut w.connections) → new ≡ record player { links = new.links } → RefinesEvent setup engine answers (done_as outcome.RestartedServer) new pipes' e w
 server_restarts {E} {S} setup engine answers w e player new pipes pipes' same is all rest =
-    subst (λ (f : Event). HappensAlike setup engine answers (done_as outcome.RestartedServer) new pipes' f w) (sym same) (record {
+    subst (λ (f : Event). RefinesEvent setup engine answers (done_as outcome.RestartedServer) new pipes' f w) (sym same) (record {
       outcome = refl;
       then = record {
         connections = all;
@@ -92,12 +92,12 @@ server_restarts {E} {S} setup engine answers w e player new pipes pipes' same is
     })
 
 -- The client is restarted: every lease and ticket ends too.
-pub client_restarts : {E S : Type 0} (setup : Setup) (engine : E) (answers : Answers) (w : World) (e : Event) (player cuts new : Player E S) (pipes pipes' : ℕ → Option Pipe) → e ≡ event.RestartClient → IsPlay setup engine player pipes w → ArePlayed 1 setup.packet_size engine cuts.links.items pipes' (map cut w.connections) → cuts ≡ record player { links = cuts.links } → new ≡ record cuts { leases = new.leases; tickets = new.tickets } → new.leases ≡ all_ended cuts.leases → new.tickets ≡ all_ended cuts.tickets → HappensAlike setup engine answers (done_as outcome.RestartedClient) new pipes' e w
+pub client_restarts : {E S : Type 0} (setup : Setup) (engine : E) (answers : Answers) (w : World) (e : Event) (player cuts new : Player E S) (pipes pipes' : ℕ → Option Pipe) → e ≡ event.RestartClient → RepresentsWorld setup engine player pipes w → RepresentConnections 1 setup.packet_size engine cuts.links.items pipes' (map cut w.connections) → cuts ≡ record player { links = cuts.links } → new ≡ record cuts { leases = new.leases; tickets = new.tickets } → new.leases ≡ all_ended cuts.leases → new.tickets ≡ all_ended cuts.tickets → RefinesEvent setup engine answers (done_as outcome.RestartedClient) new pipes' e w
 client_restarts {E} {S} setup engine answers w e player cuts new pipes pipes' same is all rest ends leases tickets =
-    subst (λ (f : Event). HappensAlike setup engine answers (done_as outcome.RestartedClient) new pipes' f w) (sym same) (record {
+    subst (λ (f : Event). RefinesEvent setup engine answers (done_as outcome.RestartedClient) new pipes' f w) (sym same) (record {
       outcome = refl;
       then = record {
-        connections = subst (λ (ls : List (Seated E S)). ArePlayed 1 setup.packet_size engine ls pipes' (map cut w.connections)) (sym (ap (λ (p : Player E S). p.links.items) ends)) all;
+        connections = subst (λ (ls : List (Seated E S)). RepresentConnections 1 setup.packet_size engine ls pipes' (map cut w.connections)) (sym (ap (λ (p : Player E S). p.links.items) ends)) all;
         leases = leases ∙ ap (λ (p : Player E S). all_ended p.leases) rest ∙ ap all_ended is.leases ∙ all_held w.leases;
         tickets = tickets ∙ ap (λ (p : Player E S). all_ended p.tickets) rest ∙ ap all_ended is.tickets ∙ all_held w.tickets;
         asked = ap (λ (p : Player E S). p.asked_on.items) ends ∙ ap (λ (p : Player E S). p.asked_on.items) rest ∙ is.asked;
@@ -162,7 +162,7 @@ pub record FoundHere (setup : Setup) (answers : Answers) (w : World) (e : Event)
   pub is : IsFound setup answers w e place connection
 
 pub found_here : {E S : Type 0} (setup : Setup) (engine : E) (answers : Answers) (w : World) (e : Event) (player : Player E S) (pipes : ℕ → Option Pipe) (place : ℕ)
-    → IsPlay setup engine player pipes w → LendsIdle setup w → IsAboutOne e
+    → RepresentsWorld setup engine player pipes w → LendsIdle setup w → IsAboutOne e
     → Here place ≡ about_of e (map standing_of player.links.items) player.max player.leases player.tickets
     → FoundHere setup answers w e place
 found_here setup engine answers w e player pipes place is idle one found =

@@ -15,31 +15,31 @@ use Rattle.tds_world.specs.World.{World, Opens, next_number, put}
 use Rattle.tds_play.specs.declared.seat.Seated.{Seated}
 use Rattle.tds_play.specs.declared.player.Player.{Player}
 use Rattle.tds_play.specs.Pipe.{Pipe, AreSame}
-use Rattle.tds_play.specs.Player.{HappensAlike, IsPlay}
-use Rattle.tds_play.specs.Plays.{ArePlayed, IsPlayed, cut_where, holdings_of}
+use Rattle.tds_play.specs.Player.{RefinesEvent, RepresentsWorld}
+use Rattle.tds_play.specs.Plays.{RepresentConnections, RepresentsConnection, cut_where, holdings_of}
 use Rattle.tds_play.proofs.AllPlayed.{push_played}
 use Rattle.tds_play.proofs.Held.{given_held}
 use Rattle.tds_play.proofs.LossWorld.{IsMoved, opened_moved, opened_outcome}
 
 -- A new connection, under a new lease; it is cut where the carrier failed.
 pub opens_alike : {E S : Type 0} (setup : Setup) (engine : E) (answers : Answers) (w : World) (player new : Player E S) (pipes pipes' : ℕ → Option Pipe) (x : Seated E S) (lease conn : ℕ) (lost : Bool)
-    → IsPlay setup engine player pipes w → to_lend setup w ≡ Opens (next_number w.connections)
+    → RepresentsWorld setup engine player pipes w → to_lend setup w ≡ Opens (next_number w.connections)
     → lease ≡ next_number w.leases → conn ≡ next_number w.connections
-    → IsPlayed conn player.size player.engine x.link x.seat (pipes' conn) (cut_where lost (new_connection player.on_attention (Leased lease)))
+    → RepresentsConnection conn player.size player.engine x.link x.seat (pipes' conn) (cut_where lost (new_connection player.on_attention (Leased lease)))
     → AreSame pipes pipes' conn → new.links.items ≡ player.links.items ++ x ∷ [] → new.leases ≡ player.leases ++ Some conn ∷ []
     → new ≡ record player { links = new.links; leases = new.leases }
-    → HappensAlike setup engine answers (record { outcome = outcome.Leased lease conn opened.New; lost = lost }) new pipes' event.Lease w
+    → RefinesEvent setup engine answers (record { outcome = outcome.Leased lease conn opened.New; lost = lost }) new pipes' event.Lease w
 opens_alike {E} {S} setup engine answers w player new pipes pipes' x lease conn lost is lends at_lease at_conn played same links leases rest =
     let cs : List Connection = w.connections in
     let n : ℕ = next_number cs in
     let fresh : Connection = cut_where lost (new_connection setup.on_attention (Leased (next_number w.leases))) in
     let said : Outcome = outcome.Leased lease conn opened.New in
-    let sized : IsPlayed conn setup.packet_size engine x.link x.seat (pipes' conn) (cut_where lost (new_connection setup.on_attention (Leased lease))) =
-    subst (λ o. IsPlayed conn setup.packet_size engine x.link x.seat (pipes' conn) (cut_where lost (new_connection o (Leased lease)))) is.told
-    (subst (λ (k : ℕ). IsPlayed conn k engine x.link x.seat (pipes' conn) (cut_where lost (new_connection player.on_attention (Leased lease)))) is.size
-    (subst (λ (e : E). IsPlayed conn player.size e x.link x.seat (pipes' conn) (cut_where lost (new_connection player.on_attention (Leased lease)))) is.engine_is played)) in
-    let as_new : IsPlayed conn setup.packet_size engine x.link x.seat (pipes' conn) fresh =
-    subst (λ (l : ℕ). IsPlayed conn setup.packet_size engine x.link x.seat (pipes' conn) (cut_where lost (new_connection setup.on_attention (Leased l)))) at_lease sized in
+    let sized : RepresentsConnection conn setup.packet_size engine x.link x.seat (pipes' conn) (cut_where lost (new_connection setup.on_attention (Leased lease))) =
+    subst (λ o. RepresentsConnection conn setup.packet_size engine x.link x.seat (pipes' conn) (cut_where lost (new_connection o (Leased lease)))) is.told
+    (subst (λ (k : ℕ). RepresentsConnection conn k engine x.link x.seat (pipes' conn) (cut_where lost (new_connection player.on_attention (Leased lease)))) is.size
+    (subst (λ (e : E). RepresentsConnection conn player.size e x.link x.seat (pipes' conn) (cut_where lost (new_connection player.on_attention (Leased lease)))) is.engine_is played)) in
+    let as_new : RepresentsConnection conn setup.packet_size engine x.link x.seat (pipes' conn) fresh =
+    subst (λ (l : ℕ). RepresentsConnection conn setup.packet_size engine x.link x.seat (pipes' conn) (cut_where lost (new_connection setup.on_attention (Leased l)))) at_lease sized in
     let moved : IsMoved (world_then setup answers w (record { event = event.Lease; loss = loss_by lost said })) (settles event.Lease n w (opens setup.on_attention (next_number w.leases) n)).1 (put (length cs) fresh cs) =
     opened_moved setup answers w lost said lends in
     record {
@@ -49,8 +49,8 @@ opens_alike {E} {S} setup engine answers w player new pipes pipes' x lease conn 
           ∙ sym (opened_outcome setup answers w lost said lends);
       then = record {
         connections =
-            subst (ArePlayed 1 setup.packet_size engine new.links.items pipes') (sym moved.connections)
-            (subst (λ (ls : List (Seated E S)). ArePlayed 1 setup.packet_size engine ls pipes' (put (length cs) fresh cs)) (sym links)
+            subst (RepresentConnections 1 setup.packet_size engine new.links.items pipes') (sym moved.connections)
+            (subst (λ (ls : List (Seated E S)). RepresentConnections 1 setup.packet_size engine ls pipes' (put (length cs) fresh cs)) (sym links)
             (push_played 1 conn setup.packet_size engine player.links.items pipes pipes' cs x fresh is.connections (omega (arith, at_conn)) same as_new));
         leases =
             leases

@@ -14,7 +14,7 @@ use Rattle.tds_world.specs.Steps.{EndsIfDue}
 use Rattle.tds_world.specs.World.{World}
 use Rattle.tds_ends.specs.Deliveries.{AllArrive, AllHeard}
 use Rattle.tds_play.specs.Player.{IsSmall}
-use Rattle.tds_ends.specs.Promises.{Promises, IsCountable}
+use Rattle.tds_ends.specs.ModelGives.{ModelGives, IsCountable}
 
 -- ---- A connection
 
@@ -36,7 +36,7 @@ settled Cancelling e = absurd (cc)
 countable : (n : ℕ) (c : Connection) → n ≤ 20000 → up_underway c ≤ 4094 → down_underway c ≤ 512 * suc n → IsCountable c
 countable n c few up down = (omega (arith, up), omega (arith, few, down))
 
-promised : (E : Type 0) (answers : Answers) (size n : ℕ) (c : Connection) → n ≤ 20000 → Arrives E answers size c → IsHeard size c → DeliversOn answers c → EndsIfDue c.due → QuietIfIdle c → WorksOnNewest c c.due → ActsOnNewest c → down_underway c ≤ 512 * suc n → Promises E answers size c
+promised : (E : Type 0) (answers : Answers) (size n : ℕ) (c : Connection) → n ≤ 20000 → Arrives E answers size c → IsHeard size c → DeliversOn answers c → EndsIfDue c.due → QuietIfIdle c → WorksOnNewest c c.due → ActsOnNewest c → down_underway c ≤ 512 * suc n → ModelGives E answers size c
 promised E answers size n c few arrives heard delivers ends quiet newest acts down = record {
   delivers = delivers;
   arrive = arrives.0;
@@ -49,7 +49,7 @@ promised E answers size n c few arrives heard delivers ends quiet newest acts do
   countable = countable n c few arrives.1 down;
 }
 
-pub each_promised : (E : Type 0) (answers : Answers) (size n : ℕ) (cs : List Connection) → n ≤ 20000 → AllByRecursion (Arrives E answers size) cs → AllByRecursion (IsHeard size) cs → AllByRecursion (DeliversOn answers) cs → AllByRecursion (λ c. EndsIfDue c.due) cs → AllByRecursion QuietIfIdle cs → AllByRecursion (λ c. WorksOnNewest c c.due) cs → AllByRecursion ActsOnNewest cs → AllByRecursion (λ c. down_underway c ≤ 512 * suc n) cs → AllByRecursion (Promises E answers size) cs
+pub each_promised : (E : Type 0) (answers : Answers) (size n : ℕ) (cs : List Connection) → n ≤ 20000 → AllByRecursion (Arrives E answers size) cs → AllByRecursion (IsHeard size) cs → AllByRecursion (DeliversOn answers) cs → AllByRecursion (λ c. EndsIfDue c.due) cs → AllByRecursion QuietIfIdle cs → AllByRecursion (λ c. WorksOnNewest c c.due) cs → AllByRecursion ActsOnNewest cs → AllByRecursion (λ c. down_underway c ≤ 512 * suc n) cs → AllByRecursion (ModelGives E answers size) cs
 each_promised E answers size n [] few a h d e q w s u = tt
 each_promised E answers size n (c ∷ cs) few a h d e q w s u =
     (promised E answers size n c few a.0 h.0 d.0 e.0 q.0 w.0 s.0 u.0, each_promised E answers size n cs few a.1 h.1 d.1 e.1 q.1 w.1 s.1 u.1)

@@ -17,7 +17,7 @@ use Rattle.tds_play.specs.Lending.{standing_by}
 use Rattle.tds_play.specs.Links.{behind, newest_first, newest_there, report_of}
 use Rattle.tds_world.specs.Order.{number_if, numbers_on, IsInOrder, RequestsInOrder}
 use Rattle.tds_play.specs.Pipe.{Pipe}
-use Rattle.tds_play.specs.Plays.{IsPlayed, ArePlayed}
+use Rattle.tds_play.specs.Plays.{RepresentsConnection, RepresentConnections}
 use Rattle.tds_play.specs.Requests.{MatchesRecord, AreOlder, IsNewest}
 use Rattle.tds_play.specs.declared.link.Link.{Link}
 use Rattle.tds_play.specs.declared.seat.Seated.{Seated}
@@ -79,7 +79,7 @@ cut_is true p = refl
 cut_is false p = refl
 
 left_at_first : {E S : Type 0} (n size : ℕ) (engine : E) (link : Link E S) (seat : Seat) (pipe : Option Pipe) (c : Connection) (asked_on : List ℕ)
-    → IsPlayed n size engine link seat pipe c → IsInOrder n asked_on c → LeftOn n 1 asked_on (newest_first link) c
+    → RepresentsConnection n size engine link seat pipe c → IsInOrder n asked_on c → LeftOn n 1 asked_on (newest_first link) c
 left_at_first n size engine link seat pipe c asked_on p o =
     let cut : link.is_cut ≡ is_cut c.standing = sym (cut_is link.is_cut seat.place) ∙ ap is_cut p.standing in
     record {
@@ -94,7 +94,7 @@ left_at_first n size engine link seat pipe c asked_on p o =
     }
 
 all_at_first : {E S : Type 0} (n size : ℕ) (engine : E) (links : List (Seated E S)) (pipes : ℕ → Option Pipe) (cs : List Connection) (asked_on : List ℕ)
-    → ArePlayed n size engine links pipes cs
+    → RepresentConnections n size engine links pipes cs
     → ((i m : ℕ) (c : Connection) → m ≡ n + i → slice_get cs i ≡ Some c → IsInOrder m asked_on c)
     → AllLeft n 1 asked_on (map newest_there links) cs
 all_at_first n size engine [] pipes [] asked_on p o = tt
@@ -280,7 +280,7 @@ tells_next w number zero ms stacks reports t = let none = t.known.0.1 in absurd 
 tells_next w number (suc i) ms stacks reports t = tells_known w number i ms stacks reports t.known.0.0 t.known.0.1 t
 
 pub telling_at_first : {E S : Type 0} (size : ℕ) (engine : E) (links : List (Seated E S)) (pipes : ℕ → Option Pipe) (w : World)
-    → ArePlayed 1 size engine links pipes w.connections → RequestsInOrder w → Telling w 1 w.asked_on (map newest_there links) []
+    → RepresentConnections 1 size engine links pipes w.connections → RequestsInOrder w → Telling w 1 w.asked_on (map newest_there links) []
 telling_at_first size engine links pipes w p o = record {
   left = all_at_first 1 size engine links pipes w.connections w.asked_on p
       (λ i m c e at.

@@ -21,11 +21,11 @@ use Rattle.tds_world.specs.PhaseTells.{PhaseTells}
 use Rattle.tds_world.specs.Pool.{Acted, Refuses, Does}
 use Rattle.tds_world.specs.Record.{Out, NotBegun, Begun, Whole, packets_of}
 use Rattle.tds_world.specs.Record as world
-use Rattle.tds_ends.specs.Alike.{SendAlike, send_outcome}
+use Rattle.tds_ends.specs.Refines.{RefinesSend, send_outcome}
 use Rattle.tds_play.specs.Lending.{standing_by}
 use Rattle.tds_play.specs.Pipe.{Pipe}
 use Rattle.tds_play.specs.Seats.{seated}
-use Rattle.tds_play.specs.Plays.{IsPlayed, after, outcome_of}
+use Rattle.tds_play.specs.Plays.{RepresentsConnection, after, outcome_of}
 use Rattle.tds_play.specs.Requests.{IsNewest}
 use Rattle.tds_ends.specs.Stands.{is_sending, MatchesServer}
 use Rattle.tds_play.specs.declared.link.Link.{Link}
@@ -112,12 +112,12 @@ newest_sent false room number (Some r) q c e h = record { lease = h.lease; conn 
 
 -- What the model's sending came to: the newest request sent this.
 next_sent : {E S : Type 0} → SentMore up_bytes → ((q : world.Record) → PhaseTells (phase_of q) q.fate q.out) → (number size room : ℕ) (engine : E) (link new : Link E S) (seat : Seat) (pipe then : Option Pipe) (c : Connection) (e : Effect Sent) (a : Acted)
-    → IsPlayed number size engine link seat pipe c → link.is_cut ≡ false
+    → RepresentsConnection number size engine link seat pipe c → link.is_cut ≡ false
     → ((q : world.Record) → c.current ≡ Some q → MatchesServer link.server (sends room q c))
-    → sends_in (phase c) room c.current c ≡ a → SendAlike c (Ok e) a → e.session.size ≡ seat.client.size
+    → sends_in (phase c) room c.current c ≡ a → RefinesSend c (Ok e) a → e.session.size ≡ seat.client.size
     → up_underway (after a c) ≤ 18446744073709551615
     → HandedUp link new pipe then e.bytes
-    → (outcome.Sent (send_outcome e.answer) ≡ outcome_of a) × IsPlayed number size engine new (seated seat.place e.session) then (after a c)
+    → (outcome.Sent (send_outcome e.answer) ≡ outcome_of a) × RepresentsConnection number size engine new (seated seat.place e.session) then (after a c)
 next_sent appends tells number size room engine link new seat pipe then c e (Refuses why) i live stays is alike sized few h = absurd alike
 next_sent appends tells number size room engine link new seat pipe then c e (Does what d) i live stays is alike sized few h =
     let w = sent_where (phase c) room c.current c d what is in
@@ -139,43 +139,43 @@ next_sent appends tells number size room engine link new seat pipe then c e (Doe
     )
 
 pub packet_played : {E S : Type 0} → SentMore up_bytes → ((q : world.Record) → PhaseTells (phase_of q) q.fate q.out) → (number size : ℕ) (engine : E) (link mid new : Link E S) (seat : Seat) (pipe then : Option Pipe) (c : Connection) (bytes : List ℕ) (e : Effect Sent)
-    → IsPlayed number size engine link seat pipe c → link.is_cut ≡ false
-    → SendAlike c (sent seat.client) (sends_in (phase c) (room seat.client) c.current c)
+    → RepresentsConnection number size engine link seat pipe c → link.is_cut ≡ false
+    → RefinesSend c (sent seat.client) (sends_in (phase c) (room seat.client) c.current c)
     → ((q : world.Record) → c.current ≡ Some q → MatchesServer link.server (sends (size - 8) q c))
     → sent seat.client ≡ Ok e
     → up_underway (after (sends_in (phase c) (size - 8) c.current c) c) ≤ 18446744073709551615
     → mid ≡ link → bytes ≡ e.bytes
     → HandedUp mid new pipe then bytes
     → (outcome.Sent (send_outcome e.answer) ≡ outcome_of (sends_in (phase c) (size - 8) c.current c))
-    × IsPlayed number size engine new (seated seat.place e.session) then (after (sends_in (phase c) (size - 8) c.current c) c)
+    × RepresentsConnection number size engine new (seated seat.place e.session) then (after (sends_in (phase c) (size - 8) c.current c) c)
 packet_played {E} {S} appends tells number size engine link mid new seat pipe then c bytes e i live goes stays is few at out h =
     let v = i.lives live in
-    let alike : SendAlike c (Ok e) (sends_in (phase c) (size - 8) c.current c) =
-    subst (λ (n : ℕ). SendAlike c (Ok e) (sends_in (phase c) (n - 8) c.current c)) v.size_is
-    (subst (λ r. SendAlike c r (sends_in (phase c) (room seat.client) c.current c)) is goes) in
+    let alike : RefinesSend c (Ok e) (sends_in (phase c) (size - 8) c.current c) =
+    subst (λ (n : ℕ). RefinesSend c (Ok e) (sends_in (phase c) (n - 8) c.current c)) v.size_is
+    (subst (λ r. RefinesSend c r (sends_in (phase c) (room seat.client) c.current c)) is goes) in
     next_sent appends tells number size (size - 8) engine link new seat pipe then c e (sends_in (phase c) (size - 8) c.current c) i live stays refl alike (size_in seat.client.stage seat.client e is) few
     (subst (λ (l : Link E S). HandedUp l new pipe then e.bytes) at (subst (λ (bs : List ℕ). HandedUp mid new pipe then bs) out h))
 
 -- ---- Refusing
 
-refuses_alike : (c : Connection) (r : Result (Effect Sent) ClientRefusal) (a : Acted) → is_ok r ≡ false → SendAlike c r a → a ≡ Refuses NotSending
+refuses_alike : (c : Connection) (r : Result (Effect Sent) ClientRefusal) (a : Acted) → is_ok r ≡ false → RefinesSend c r a → a ≡ Refuses NotSending
 refuses_alike c (Ok e) a err h = absurd (cc)
 refuses_alike c (Err why) (Refuses because) err h = ap Refuses h.1
 refuses_alike c (Err why) (Does what d) err h = absurd h
 
 pub packet_refused : {E S : Type 0} (number size : ℕ) (engine : E) (link new : Link E S) (seat next : Seat) (pipe : Option Pipe) (c : Connection)
-    → IsPlayed number size engine link seat pipe c → link.is_cut ≡ false
-    → SendAlike c (sent seat.client) (sends_in (phase c) (room seat.client) c.current c)
+    → RepresentsConnection number size engine link seat pipe c → link.is_cut ≡ false
+    → RefinesSend c (sent seat.client) (sends_in (phase c) (room seat.client) c.current c)
     → is_ok (sent seat.client) ≡ false → new ≡ link → next ≡ seat
     → (outcome.Refused NotSending ≡ outcome_of (sends_in (phase c) (size - 8) c.current c))
-    × IsPlayed number size engine new next pipe (after (sends_in (phase c) (size - 8) c.current c) c)
+    × RepresentsConnection number size engine new next pipe (after (sends_in (phase c) (size - 8) c.current c) c)
 packet_refused {E} {S} number size engine link new seat next pipe c i live goes err same stays =
     let v = i.lives live in
     let is : sends_in (phase c) (size - 8) c.current c ≡ Refuses NotSending =
     subst (λ (n : ℕ). sends_in (phase c) (n - 8) c.current c ≡ Refuses NotSending) v.size_is
     (refuses_alike c (sent seat.client) (sends_in (phase c) (room seat.client) c.current c) err goes) in (
       ap outcome_of (sym is),
-      subst (λ (a : Acted). IsPlayed number size engine new next pipe (after a c)) (sym is)
+      subst (λ (a : Acted). RepresentsConnection number size engine new next pipe (after a c)) (sym is)
           (rw (same, stays) i),
     )
 

@@ -10,8 +10,8 @@ use Rattle.tds_world.specs.Connection.{Connection, up_underway, down_underway}
 use Rattle.tds_world.specs.Deliveries.{IsDelivered}
 use Rattle.tds_world.specs.Entries.{Up, up_bytes, down_bytes}
 use Rattle.tds_world.specs.Lane.{underway}
-use Rattle.tds_play.specs.Between.{IsLane, Stands}
-use Rattle.tds_ends.specs.Deliveries.{AllArrive, ServesAlike}
+use Rattle.tds_play.specs.Between.{IsLane, RepresentsEnds}
+use Rattle.tds_ends.specs.Deliveries.{AllArrive, RefinesServes}
 use Rattle.tds_play.specs.Pipe.{Pipe, Traffic, traffic, brought_on, carried, next_of, sent, sent_on, IsOpen}
 use Rattle.tds_ends.specs.Stands.{MatchesServer}
 use Rattle.tds_ends.specs.Stays.{ClientStays}
@@ -24,16 +24,16 @@ use Rattle.tds_play.proofs.Between.{offered_front, lane_delivered, lane_sent, la
 
 -- A server that is fed the bytes of entries takes those that come whole as the model does.
 abbrev pub ServesAll : Type 0 → Type 0
-ServesAll E = (answers : Answers) (r : Reading) (c : Connection) (es : List Up) (k : ℕ) (s : ServerState E) (reply : List ℕ) → AllArrive E answers r c es → MatchesServer s c → ServesAlike E answers r (take k (flat_map up_bytes es)) c (reach_server answers c es k) s reply
+ServesAll E = (answers : Answers) (r : Reading) (c : Connection) (es : List Up) (k : ℕ) (s : ServerState E) (reply : List ℕ) → AllArrive E answers r c es → MatchesServer s c → RefinesServes E answers r (take k (flat_map up_bytes es)) c (reach_server answers c es k) s reply
 
-pub come_served : {E S : Type 0} → ServesAll E → (answers : Answers) (link : Link E S) (seat : Seat) (pipe : Option Pipe) (c : Connection) (most n : ℕ) → Stands link seat pipe c → n ≡ min most link.to_server → AllArrive E answers link.server_reader c c.to_server.waiting → ServesAlike E answers link.server_reader (link.server_reader.taken ++ next_of (traffic pipe ToServer) n) c (to_server answers most c) link.server []
+pub come_served : {E S : Type 0} → ServesAll E → (answers : Answers) (link : Link E S) (seat : Seat) (pipe : Option Pipe) (c : Connection) (most n : ℕ) → RepresentsEnds link seat pipe c → n ≡ min most link.to_server → AllArrive E answers link.server_reader c c.to_server.waiting → RefinesServes E answers link.server_reader (link.server_reader.taken ++ next_of (traffic pipe ToServer) n) c (to_server answers most c) link.server []
 come_served {E} serves answers link seat pipe c most n s count all =
     let k : ℕ = c.to_server.part + min most (up_underway c) in
     let same : c.to_server.part + n ≡ k = ap (λ (x : ℕ). c.to_server.part + x) (count ∙ ap (min most) s.up.counts) in
     let bytes : link.server_reader.taken ++ next_of (traffic pipe ToServer) n ≡ take k (flat_map up_bytes c.to_server.waiting) =
     offered_front up_bytes (traffic pipe ToServer) c.to_server link.server_reader.taken link.to_server n s.up
     ∙ ap (λ (x : ℕ). take x (flat_map up_bytes c.to_server.waiting)) same in
-    subst (λ (bs : List ℕ). ServesAlike E answers link.server_reader bs c (to_server answers most c) link.server []) (sym bytes)
+    subst (λ (bs : List ℕ). RefinesServes E answers link.server_reader bs c (to_server answers most c) link.server []) (sym bytes)
     (serves answers link.server_reader c c.to_server.waiting k link.server [] all s.server)
 
 -- ---- What the carrier did
@@ -105,13 +105,13 @@ count_by old new (b ∷ bs) none some few =
     e ∙ omega (arith, few)
 
 pub delivered_alike : {E S : Type 0} (answers : Answers) → ((most : ℕ) → ClientStays (to_server answers most)) → (old new : Link E S) (seat : Seat) (pipe after : Option Pipe) (c : Connection) (most n : ℕ) (bytes reply : List ℕ)
-    → Stands old seat pipe c → n ≡ min most old.to_server
+    → RepresentsEnds old seat pipe c → n ≡ min most old.to_server
     → IsDelivered up_bytes most c.to_server (to_server answers most c).to_server
     → down_underway (to_server answers most c) ≤ 18446744073709551615
-    → (a : ServesAlike E answers old.server_reader bytes c (to_server answers most c) old.server [])
+    → (a : RefinesServes E answers old.server_reader bytes c (to_server answers most c) old.server [])
     → reply ≡ a.then.reply
     → Delivered old new pipe after n a.then.state a.rest reply
-    → Stands new seat after (to_server answers most c)
+    → RepresentsEnds new seat after (to_server answers most c)
 delivered_alike {E} answers stays old new seat pipe after c most n bytes reply s count lanes few a told d =
     let w : Connection = to_server answers most c in
     let more : List ℕ = a.sends.0 in

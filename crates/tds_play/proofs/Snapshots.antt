@@ -14,7 +14,7 @@ use Rattle.tds_world.specs.Phase.{Phase, Settled, Asked, Sending, Reading, Cance
 use Rattle.tds_world.specs.Record.{Record}
 use Rattle.tds_play.specs.Lending.{standing_by}
 use Rattle.tds_play.specs.Pipe.{Pipe}
-use Rattle.tds_play.specs.Plays.{IsPlayed, Lives, ArePlayed}
+use Rattle.tds_play.specs.Plays.{RepresentsConnection, RepresentsLive, RepresentConnections}
 use Rattle.tds_play.specs.Seen.{view_of, snapshot_as, seen_by, seen_in, seen_of}
 use Rattle.tds_ends.specs.Stands.{stage_by, stage_in}
 use Rattle.tds_play.specs.declared.link.Link.{Link}
@@ -64,7 +64,7 @@ shown conn client place descriptor mark server up down = record {
 }
 
 shown_alike : {E S : Type 0} (number size : ℕ) (engine : E) (link : Link E S) (seat : Seat) (pipe : Option Pipe) (c : Connection)
-    → link.number ≡ number → Lives size engine link seat pipe c → snapshot_as link seat (state_of (phase c)) ≡ snapshot_of number c seat.place
+    → link.number ≡ number → RepresentsLive size engine link seat pipe c → snapshot_as link seat (state_of (phase c)) ≡ snapshot_of number c seat.place
 shown_alike number size engine link seat pipe c numbered l =
     let view : ClientView = state_of (phase c) in
     ap (λ n. shown n view seat.place seat.client.heard.descriptor seat.client.heard.mark link.server.session link.to_server link.to_client) numbered
@@ -75,7 +75,7 @@ shown_alike number size engine link seat pipe c numbered l =
     ∙ ap (λ n. shown number view seat.place c.heard c.mark c.session (up_underway c) n) l.stands.down.counts
 
 by_cut : {E S : Type 0} (number size : ℕ) (engine : E) (link : Link E S) (seat : Seat) (pipe : Option Pipe) (c : Connection) (cut : Bool)
-    → link.number ≡ number → (cut ≡ false → Lives size engine link seat pipe c)
+    → link.number ≡ number → (cut ≡ false → RepresentsLive size engine link seat pipe c)
     → cons_option (seen_by cut link seat) [] ≡ seen number c (standing_by cut seat.place)
 by_cut number size engine link seat pipe c true numbered lives = refl
 by_cut number size engine link seat pipe c false numbered lives =
@@ -84,7 +84,7 @@ by_cut number size engine link seat pipe c false numbered lives =
     ∙ ap (λ s. s ∷ []) (shown_alike number size engine link seat pipe c numbered l)
 
 pub seen_alike : {E S : Type 0} (number size : ℕ) (engine : E) (link : Link E S) (seat : Seat) (pipe : Option Pipe) (c : Connection)
-    → IsPlayed number size engine link seat pipe c → cons_option (seen_in link seat) [] ≡ seen number c c.standing
+    → RepresentsConnection number size engine link seat pipe c → cons_option (seen_in link seat) [] ≡ seen number c c.standing
 seen_alike number size engine link seat pipe c p =
     by_cut number size engine link seat pipe c link.is_cut p.numbered p.lives ∙ ap (seen number c) p.standing
 
@@ -95,7 +95,7 @@ before_rest None ys = refl
 before_rest (Some y) ys = refl
 
 pub all_seen_alike : {E S : Type 0} (number size : ℕ) (engine : E) (links : List (Seated E S)) (pipes : ℕ → Option Pipe) (cs : List Connection)
-    → ArePlayed number size engine links pipes cs → filter_map seen_of links ≡ snapshots_from number cs
+    → RepresentConnections number size engine links pipes cs → filter_map seen_of links ≡ snapshots_from number cs
 all_seen_alike number size engine [] pipes [] p = refl
 all_seen_alike number size engine [] pipes (c ∷ cs) p = absurd p
 all_seen_alike number size engine (l ∷ ls) pipes [] p = absurd p

@@ -24,19 +24,19 @@ use Rattle.tds_world.specs.Losses.{Loss, Nothing, Failed, Played, bringing, cuts
 use Rattle.tds_world.specs.WithLosses.{IsReportWith, MarksNothing}
 use Rattle.tds_world.specs.Observed.{observed, snapshots, request_reports, bytes_in, bytes_of}
 use Rattle.tds_world.specs.World.{World, new_world, numbered}
-use Rattle.tds_play.specs.declared.link.Done.{Done}
+use Rattle.tds_play.specs.declared.link.EventDone.{EventDone}
 use Rattle.tds_play.specs.declared.link.Link.{Link}
 use Rattle.tds_play.specs.declared.seat.Seat.{Seat}
 use Rattle.tds_play.specs.declared.seat.Seated.{Seated}
 use Rattle.tds_play.specs.declared.player.Player.{Player}
 use Rattle.tds_play.specs.Lending.{standing_by}
 use Rattle.tds_play.specs.Pipe.{Pipe, IsOpen, is_cut_at, traffic}
-use Rattle.tds_play.specs.Player.{IsPlay, HappensAlike}
-use Rattle.tds_play.specs.Plays.{ArePlayed, IsPlayed, loss_of}
-use Rattle.tds_ends.specs.Promises.{Promises, IsCountable}
+use Rattle.tds_play.specs.Player.{RepresentsWorld, RefinesEvent}
+use Rattle.tds_play.specs.Plays.{RepresentConnections, RepresentsConnection, loss_of}
+use Rattle.tds_ends.specs.ModelGives.{ModelGives, IsCountable}
 use Rattle.tds_play.specs.Seen.{seen_of}
 use Rattle.tds_play.specs.Ties.{AreTied, IsTied}
-use Rattle.tds_play.specs.WholePlay.{IsCutAs, IsPlayOf, come_on}
+use Rattle.tds_play.specs.WholePlay.{IsCutAs, IsReportOfPlay, come_on}
 use Rattle.tds_play.proofs.AllPlayed.{as_many, played_at}
 use Rattle.tds_play.proofs.Snapshots.{all_seen_alike}
 
@@ -104,7 +104,7 @@ pub known_so_far : (P : Event → Type 0) (es : List Event) (i : ℕ) (e : Event
     → AllByRecursion P (take i es) → P e → AllByRecursion P (take (i + 1) es)
 known_so_far P es i e less is h p = subst (AllByRecursion P) (sym (one_taken es i e less is)) (all_so_far P (take i es) e h p)
 
-each_countable : (E : Type 0) (answers : Answers) (size : ℕ) (cs : List Connection) → AllByRecursion (Promises E answers size) cs → AllByRecursion IsCountable cs
+each_countable : (E : Type 0) (answers : Answers) (size : ℕ) (cs : List Connection) → AllByRecursion (ModelGives E answers size) cs → AllByRecursion IsCountable cs
 each_countable E answers size [] h = tt
 each_countable E answers size (c ∷ cs) h = (h.0.countable, each_countable E answers size cs h.1)
 
@@ -176,7 +176,7 @@ of_play_then P n setup answers es rs e few known one law =
 
 -- The bytes of a world whose promises hold can be counted.
 pub countable_then : (E : Type 0) (setup : Setup) (answers : Answers) (w : World)
-    → OfEachConnection (Promises E answers setup.packet_size) w → OfEachConnection IsCountable w
+    → OfEachConnection (ModelGives E answers setup.packet_size) w → OfEachConnection IsCountable w
 countable_then E setup answers w h = each_countable E answers setup.packet_size w.connections h
 
 pub so_many : {A : Type 0} (i : ℕ) (xs : List A) → i ≤ length xs → length (take i xs) ≡ i
@@ -188,7 +188,7 @@ so_many i xs most = length-take-le i xs most
 -- this is what the model tells of them.
 pub record IsSoFar {E S : Type 0} (setup : Setup) (answers : Answers) (engine : E) (events : List Event) (player : Player E S)
     (pipes : ℕ → Option Pipe) (reports : List EventReport) : Type 0 where
-  pub play : IsPlay setup engine player pipes (world_with setup answers (marked events reports) new_world)
+  pub play : RepresentsWorld setup engine player pipes (world_with setup answers (marked events reports) new_world)
   pub told : reports ≡ event_reports_with setup answers (marked events reports) new_world
 
 report_as : Outcome → Bool → List Snapshot → EventReport
@@ -198,8 +198,8 @@ marks_lost : (b : Bool) (o : Outcome) → b ≡ is_lost (loss_by b o)
 marks_lost true o = refl
 marks_lost false o = refl
 
-told_of : {E S : Type 0} (setup : Setup) (engine : E) (answers : Answers) (done : Done) (player : Player E S) (pipes : ℕ → Option Pipe) (e : Event) (w : World) (seen : List Snapshot)
-    → HappensAlike setup engine answers done player pipes e w
+told_of : {E S : Type 0} (setup : Setup) (engine : E) (answers : Answers) (done : EventDone) (player : Player E S) (pipes : ℕ → Option Pipe) (e : Event) (w : World) (seen : List Snapshot)
+    → RefinesEvent setup engine answers done player pipes e w
     → seen ≡ snapshots (world_then setup answers w (record { event = e; loss = loss_of done }))
     → report_as done.outcome done.lost seen ≡ report_then setup answers w (record { event = e; loss = loss_of done })
 unfolding report_as
@@ -210,9 +210,9 @@ told_of setup engine answers done player pipes e w seen alike shown =
     ∙ ap (λ (ss : List Snapshot). report_as (happens setup answers (met (loss_of done) e) w).0 (is_lost (loss_of done)) ss) shown
 
 pub one_event_more : {E S : Type 0} (setup : Setup) (answers : Answers) (engine : E) (es : List Event) (i : ℕ) (e : Event) (player then : Player E S)
-    (pipes after : ℕ → Option Pipe) (reports told : List EventReport) (done : Done) (seen : List Snapshot)
+    (pipes after : ℕ → Option Pipe) (reports told : List EventReport) (done : EventDone) (seen : List Snapshot)
     → i < length es → e ≡ slice_index_or es i e → length reports ≡ i
-    → HappensAlike setup engine answers done then after e (world_with setup answers (marked (take i es) reports) new_world)
+    → RefinesEvent setup engine answers done then after e (world_with setup answers (marked (take i es) reports) new_world)
     → seen ≡ filter_map seen_of then.links.items
     → told ≡ reports ++ record { outcome = done.outcome; lost = done.lost; snapshots = seen } ∷ []
     → IsSoFar setup answers engine (take i es) player pipes reports → IsSoFar setup answers engine (take (i + 1) es) then after told
@@ -230,7 +230,7 @@ one_event_more setup answers engine es i e player then pipes after reports told 
     let same : seen ≡ snapshots (world_then setup answers w p) =
     shown ∙ all_seen_alike 1 setup.packet_size engine then.links.items after (world_then setup answers w p).connections alike.then.connections in
     record {
-      play = subst (IsPlay setup engine then after) (sym world) alike.then;
+      play = subst (RepresentsWorld setup engine then after) (sym world) alike.then;
       told =
           more
           ∙ ap (λ x. reports ++ x ∷ []) (told_of setup engine answers done then after e w seen alike same)
@@ -247,7 +247,7 @@ none_tied links pipes none =
 -- ---- The end
 
 bytes_at : {E S : Type 0} (n m i size : ℕ) (engine : E) (links : List (Seated E S)) (pipes : ℕ → Option Pipe) (cs : List Connection) (direction : Direction)
-    → ArePlayed n size engine links pipes cs → i < length cs → m ≡ n + i → (traffic (pipes m) direction).handed ≡ bytes_in direction (slice_get cs i)
+    → RepresentConnections n size engine links pipes cs → i < length cs → m ≡ n + i → (traffic (pipes m) direction).handed ≡ bytes_in direction (slice_get cs i)
 bytes_at n m i size engine [] pipes [] direction all less at = absurd (omega (arith, less))
 bytes_at n m i size engine [] pipes (c ∷ cs) direction all less at = absurd all
 bytes_at n m i size engine (l ∷ ls) pipes [] direction all less at = absurd all
@@ -259,7 +259,7 @@ bytes_at n m (suc i) size engine (l ∷ ls) pipes (c ∷ cs) direction all less 
     bytes_at (suc n) m i size engine ls pipes cs direction all.1 (omega (arith, less)) (omega (arith, at))
 
 bytes_handed : {E S : Type 0} (size : ℕ) (engine : E) (links : List (Seated E S)) (pipes : ℕ → Option Pipe) (w : World) (n : ℕ) (direction : Direction)
-    → ArePlayed 1 size engine links pipes w.connections → 0 < n → n ≤ length w.connections → (traffic (pipes n) direction).handed ≡ bytes_of w n direction
+    → RepresentConnections 1 size engine links pipes w.connections → 0 < n → n ≤ length w.connections → (traffic (pipes n) direction).handed ≡ bytes_of w n direction
 bytes_handed size engine links pipes w zero direction all some most = absurd (omega (arith, some))
 bytes_handed size engine links pipes w (suc i) direction all some most =
     bytes_at 1 (suc i) i size engine links pipes w.connections direction all (omega (arith, most)) (omega arith)
@@ -267,12 +267,12 @@ bytes_handed size engine links pipes w (suc i) direction all some most =
 -- ---- What came
 
 came_on : {E S : Type 0} (number size : ℕ) (engine : E) (link : Link E S) (seat : Seat) (p : Option Pipe) (c : Connection) (direction : Direction)
-    → IsPlayed number size engine link seat p c → (traffic p direction).came ≡ come_on direction c
+    → RepresentsConnection number size engine link seat p c → (traffic p direction).came ≡ come_on direction c
 came_on number size engine link seat p c ToServer is = is.came_up
 came_on number size engine link seat p c ToClient is = is.came_down
 
 bytes_carried : {E S : Type 0} (size : ℕ) (engine : E) (links : List (Seated E S)) (pipes : ℕ → Option Pipe) (cs : List Connection) (n : ℕ) (c : Connection) (direction : Direction)
-    → ArePlayed 1 size engine links pipes cs → numbered cs n ≡ Some c → (traffic (pipes n) direction).came ≡ come_on direction c
+    → RepresentConnections 1 size engine links pipes cs → numbered cs n ≡ Some c → (traffic (pipes n) direction).came ≡ come_on direction c
 bytes_carried size engine links pipes cs zero c direction all at = absurd (cc)
 bytes_carried size engine [] pipes [] (suc i) c direction all at = absurd (cc)
 bytes_carried size engine [] pipes (d ∷ cs) (suc i) c direction all at = absurd all
@@ -291,12 +291,12 @@ cut_by false place s (Some p) at gone live = (live refl).0 ∙ ap is_cut at
 
 -- Where a connection of the play lives, the carrier holds it open; where not, it was cut there too.
 cut_as : {E S : Type 0} (number size : ℕ) (engine : E) (link : Link E S) (seat : Seat) (p : Option Pipe) (c : Connection)
-    → IsPlayed number size engine link seat p c → IsTied link p → IsCutAs (is_cut c.standing) p
+    → RepresentsConnection number size engine link seat p c → IsTied link p → IsCutAs (is_cut c.standing) p
 cut_as number size engine link seat p c is tied =
     cut_by link.is_cut seat.place c.standing p is.standing is.gone (λ live. (tied.holds live).is_open)
 
 all_cut : {E S : Type 0} (size : ℕ) (engine : E) (links : List (Seated E S)) (pipes : ℕ → Option Pipe) (cs : List Connection) (n : ℕ) (c : Connection)
-    → ArePlayed 1 size engine links pipes cs → AreTied links pipes → numbered cs n ≡ Some c → IsCutAs (is_cut c.standing) (pipes n)
+    → RepresentConnections 1 size engine links pipes cs → AreTied links pipes → numbered cs n ≡ Some c → IsCutAs (is_cut c.standing) (pipes n)
 all_cut size engine links pipes cs zero c all tied at = absurd (cc)
 all_cut size engine [] pipes [] (suc i) c all tied at = absurd (cc)
 all_cut size engine [] pipes (d ∷ cs) (suc i) c all tied at = absurd all
@@ -312,13 +312,13 @@ pub in_the_end : {E S : Type 0} (setup : Setup) (answers : Answers) (engine : E)
     → requests ≡ request_reports (world_with setup answers (marked (take i es) so_far) new_world) 1 (world_with setup answers (marked (take i es) so_far) new_world).asked_on
     → ((r : Report) → IsReportWith setup answers es r → MarksNothing r → r ≡ observed setup answers es)
     → ((r : Report) → MarksNothing r → world_with setup answers (marked es r.events) new_world ≡ world_after setup answers es new_world)
-    → IsPlayOf setup answers es (record { events = reports; requests = requests }) pipes
+    → IsReportOfPlay setup answers es (record { events = reports; requests = requests }) pipes
 in_the_end setup answers engine es i player pipes so_far reports requests in_range known few tied over far same asked plain_report plain_world =
     let whole : take i es ≡ es = take_all i es over in
     let ps : marked (take i es) so_far ≡ marked es reports = ap (λ xs. marked xs so_far) whole ∙ ap (marked es) (sym same) in
     let w : World = world_with setup answers (marked es reports) new_world in
-    let all : ArePlayed 1 setup.packet_size engine player.links.items pipes w.connections =
-    subst (λ xs. ArePlayed 1 setup.packet_size engine player.links.items pipes (world_with setup answers xs new_world).connections) ps far.play.connections in
+    let all : RepresentConnections 1 setup.packet_size engine player.links.items pipes w.connections =
+    subst (λ xs. RepresentConnections 1 setup.packet_size engine player.links.items pipes (world_with setup answers xs new_world).connections) ps far.play.connections in
     let told : record { events = reports; requests = requests } ≡ observed_with setup answers (marked es reports) =
     ap (λ (rs : List EventReport). record { events = rs; requests = requests }) (same ∙ far.told ∙ ap (λ xs. event_reports_with setup answers xs new_world) ps)
     ∙ ap (λ (qs : List RequestReport). record { events = event_reports_with setup answers (marked es reports) new_world; requests = qs })

@@ -17,11 +17,11 @@ use Rattle.tds_world.specs.Events.{work_outcome}
 use Rattle.tds_world.specs.Record.{ran_in, runs}
 use Rattle.tds_world.specs.Record as world
 use Rattle.tds_play.specs.Acts.{worked_as, worked_by}
-use Rattle.tds_ends.specs.Alike.{WorkAlike, worked_outcome}
+use Rattle.tds_ends.specs.Refines.{RefinesWork, worked_outcome}
 use Rattle.tds_ends.specs.Stands.{MatchesClient}
 use Rattle.tds_play.specs.Links.{stepped}
 use Rattle.tds_play.specs.Pipe.{Pipe}
-use Rattle.tds_play.specs.Plays.{IsPlayed}
+use Rattle.tds_play.specs.Plays.{RepresentsConnection}
 use Rattle.tds_world.specs.Newest.{WorksOnNewest}
 use Rattle.tds_play.specs.Requests.{MatchesRecord, IsNewest}
 use Rattle.tds_play.specs.declared.link.Link.{Link}
@@ -117,12 +117,12 @@ newest_by number (s ∷ ss) server.Finished before after c r e told w from to h 
 -- ---- The connection then
 
 pub worked_played : {E S : Type 0} → SentMore down_bytes → (number size : ℕ) (engine : E) (link mid new : Link E S) (seat : Seat) (pipe after : Option Pipe) (c : Connection) (bytes : List ℕ)
-    → IsPlayed number size engine link seat pipe c → link.is_cut ≡ false
-    → WorkAlike c (worked link.server) → MatchesClient seat.client (works c)
+    → RepresentsConnection number size engine link seat pipe c → link.is_cut ≡ false
+    → RefinesWork c (worked link.server) → MatchesClient seat.client (works c)
     → WorksOnNewest c c.due → (works c).past ≡ c.past → down_underway (works c) ≤ 18446744073709551615
     → mid ≡ worked_as (worked link.server) link → bytes ≡ (worked link.server).packet
     → HandedDown mid new pipe after bytes
-    → (worked_outcome (worked link.server).answer ≡ work_outcome c.due) × IsPlayed number size engine new seat after (works c)
+    → (worked_outcome (worked link.server).answer ≡ work_outcome c.due) × RepresentsConnection number size engine new seat after (works c)
 worked_played {E} {S} appends number size engine link mid new seat pipe after c bytes i live a stays newest past few is sent h =
     let w = worked link.server in
     let v = (i.lives live).stands in

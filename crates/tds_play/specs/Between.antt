@@ -22,7 +22,7 @@ pub record IsLane {Entry : Type 0} (bytes : Entry → List ℕ) (t : Traffic) (l
   pub counts : count ≡ underway bytes lane
 
 -- What a connection of the player, in its seat, stands for in the model.
-pub record Stands {E S : Type 0} (link : Link E S) (seat : Seat) (pipe : Option Pipe)
+pub record RepresentsEnds {E S : Type 0} (link : Link E S) (seat : Seat) (pipe : Option Pipe)
     (c : Connection) : Type 0 where
   pub client : MatchesClient seat.client c
   pub server : MatchesServer link.server c

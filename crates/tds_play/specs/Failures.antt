@@ -3,7 +3,7 @@ use Rattle.std.specs.Prelude.{ℕ, zero, suc, slice_index_or, ◌≡◌, ◌≢�
 use Rattle.tds_packet.specs.declared.kind.Direction.{Direction}
 use Rattle.tds_packet.specs.declared.kind.Direction.TheVariants.{ToServer, ToClient}
 use Rattle.tds_session.specs.Answer.{Answers}
-use Rattle.tds_play.specs.declared.link.Done.{Done}
+use Rattle.tds_play.specs.declared.link.EventDone.{EventDone}
 use Rattle.tds_play.specs.declared.link.Link.{Link}
 use Rattle.tds_play.specs.declared.seat.Seated.{Seated}
 use Rattle.tds_play.specs.Pipe.{Pipe, traffic_of}
@@ -73,7 +73,7 @@ IsFailureOf e pipe = HasFailed (calls_of e) pipe
 
 -- An event came to this on a connection without a failure: some of these calls failed exactly where it
 -- was lost, and then the connection is cut.
-pub record FailsAs {E S : Type 0} (calls : List Call) (done : Done) (link : Link E S) (pipe : Option Pipe)
+pub record FailsAs {E S : Type 0} (calls : List Call) (done : EventDone) (link : Link E S) (pipe : Option Pipe)
     : Type 0 where
   pub failed : Fails calls done.lost pipe
   pub cut : done.lost ≡ true → link.is_cut ≡ true

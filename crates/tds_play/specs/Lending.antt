@@ -39,14 +39,14 @@ numbered_of count zero why = Missing why
 numbered_of count (suc place) why = if nat_lt place count then Here place else Missing why
 
 -- What a lease of the play finds and what one of the model finds, in this world, are the same.
-abbrev pub FoundAlike : World → Found → world.Found → Type 0
-FoundAlike w (Missing why) (world.Missing because) = why ≡ because
-FoundAlike w (Missing why) (world.Here n c) = ⊥
-FoundAlike w (Missing why) (world.Opens n) = ⊥
-FoundAlike w (Here place) (world.Missing because) = ⊥
-FoundAlike w (Here place) (world.Here n c) =
+abbrev pub RefinesFound : World → Found → world.Found → Type 0
+RefinesFound w (Missing why) (world.Missing because) = why ≡ because
+RefinesFound w (Missing why) (world.Here n c) = ⊥
+RefinesFound w (Missing why) (world.Opens n) = ⊥
+RefinesFound w (Here place) (world.Missing because) = ⊥
+RefinesFound w (Here place) (world.Here n c) =
     (n ≡ suc place) × (numbered w.connections n ≡ Some c)
-FoundAlike w (Here place) (world.Opens n) = ⊥
-FoundAlike w Opens (world.Missing because) = ⊥
-FoundAlike w Opens (world.Here n c) = ⊥
-FoundAlike w Opens (world.Opens n) = n ≡ next_number w.connections
+RefinesFound w (Here place) (world.Opens n) = ⊥
+RefinesFound w Opens (world.Missing because) = ⊥
+RefinesFound w Opens (world.Here n c) = ⊥
+RefinesFound w Opens (world.Opens n) = n ≡ next_number w.connections

@@ -95,8 +95,8 @@ IsNewest lease mark None = ⊥
 IsNewest lease mark (Some r) = IsAsked lease mark r
 
 -- The newest request stands with those before it, and the next one may come.
-abbrev pub IsPutBy : {E S : Type 0} → Link E S → Link E S → Type 0
-IsPutBy old new =
+abbrev pub IsRetired : {E S : Type 0} → Link E S → Link E S → Type 0
+IsRetired old new =
     (new.past.items ≡ behind old.past.items old.current)
     × (new ≡ record old { current = None; past = new.past })
 

@@ -9,16 +9,16 @@ use Rattle.tds_world.specs.Laws.{OfEachConnection}
 use Rattle.tds_world.specs.Lending.{LendsIdle}
 use Rattle.tds_world.specs.Losses.{Loss, link_of, met, world_then}
 use Rattle.tds_world.specs.World.{World}
-use Rattle.tds_play.specs.declared.link.Done.{Done}
+use Rattle.tds_play.specs.declared.link.EventDone.{EventDone}
 use Rattle.tds_play.specs.declared.player.Player.{Player}
 use Rattle.tds_play.specs.Pipe.{Pipe}
-use Rattle.tds_play.specs.Plays.{ArePlayed, IsReady, MayLose, acts_on, holdings_of, loss_of}
-use Rattle.tds_ends.specs.Promises.{Promises}
+use Rattle.tds_play.specs.Plays.{RepresentConnections, IsReady, MayLose, acts_on, holdings_of, loss_of}
+use Rattle.tds_ends.specs.ModelGives.{ModelGives}
 
 -- The player and the world: the connections, leases, tickets and requests are the world's.
-pub record IsPlay {E S : Type 0} (setup : Setup) (engine : E) (player : Player E S) (pipes : ℕ → Option Pipe)
+pub record RepresentsWorld {E S : Type 0} (setup : Setup) (engine : E) (player : Player E S) (pipes : ℕ → Option Pipe)
     (w : World) : Type 0 where
-  pub connections : ArePlayed 1 setup.packet_size engine player.links.items pipes w.connections
+  pub connections : RepresentConnections 1 setup.packet_size engine player.links.items pipes w.connections
   pub leases : player.leases ≡ holdings_of w.leases
   pub tickets : player.tickets ≡ holdings_of w.tickets
   pub asked : player.asked_on.items ≡ w.asked_on
@@ -39,10 +39,10 @@ pub record IsFound (setup : Setup) (answers : Answers) (w : World) (e : Event) (
 
 -- An event, as it was met, came to in the play what it came to in the model, and the player is the
 -- world after it and after the cut where it was lost.
-pub record HappensAlike {E S : Type 0} (setup : Setup) (engine : E) (answers : Answers) (done : Done)
+pub record RefinesEvent {E S : Type 0} (setup : Setup) (engine : E) (answers : Answers) (done : EventDone)
     (player : Player E S) (pipes : ℕ → Option Pipe) (e : Event) (w : World) : Type 0 where
   pub outcome : done.outcome ≡ (happens setup answers (met (loss_of done) e) w).0
-  pub then : IsPlay setup engine player pipes
+  pub then : RepresentsWorld setup engine player pipes
       (world_then setup answers w (record { event = e; loss = loss_of done }))
 
 -- There are so few of each that their numbers fit.
@@ -53,7 +53,7 @@ pub record IsSmall (w : World) : Type 0 where
   pub asked : length w.asked_on < 20000
 
 -- What the model promises of a world before an event.
-pub record PromisesAll (E : Type 0) (answers : Answers) (setup : Setup) (w : World) : Type 0 where
-  pub each : OfEachConnection (Promises E answers setup.packet_size) w
+pub record ModelGivesEach (E : Type 0) (answers : Answers) (setup : Setup) (w : World) : Type 0 where
+  pub each : OfEachConnection (ModelGives E answers setup.packet_size) w
   pub idle : LendsIdle setup w
   pub small : IsSmall w

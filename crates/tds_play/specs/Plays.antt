@@ -3,12 +3,12 @@
 use Rattle.std.specs.Prelude.{ℕ, suc, ◌≡◌, List, [], ◌∷◌, map, min, Bool, true, false, Option, Some, None, if◌then◌else◌}
 use Rattle.tds_packet.specs.declared.kind.Direction.TheVariants.{ToServer, ToClient}
 use Rattle.tds_session.specs.Answer.{Answers}
-use Rattle.tds_play.specs.declared.link.Done.{Done}
+use Rattle.tds_play.specs.declared.link.EventDone.{EventDone}
 use Rattle.tds_play.specs.declared.link.Link.{Link}
 use Rattle.tds_play.specs.declared.seat.Seat.{Seat}
 use Rattle.tds_play.specs.declared.seat.Seated.{Seated}
 use Rattle.tds_play.specs.declared.link.acts.Next.{Next}
-use Rattle.tds_play.specs.Between.{Stands}
+use Rattle.tds_play.specs.Between.{RepresentsEnds}
 use Rattle.tds_play.specs.Lending.{standing_by}
 use Rattle.tds_play.specs.Pipe.{Pipe, is_cut_at, traffic}
 use Rattle.tds_play.specs.Requests.{AreOlder, IsNewest}
@@ -32,9 +32,9 @@ use Rattle.tds_world.specs.World.{World, Holding, next_number}
 -- ---- A connection
 
 -- A connection that isn't cut: both ends, with this engine and this greatest size of packets.
-pub record Lives {E S : Type 0} (size : ℕ) (engine : E) (link : Link E S) (seat : Seat)
+pub record RepresentsLive {E S : Type 0} (size : ℕ) (engine : E) (link : Link E S) (seat : Seat)
     (pipe : Option Pipe) (c : Connection) : Type 0 where
-  pub stands : Stands link seat pipe c
+  pub stands : RepresentsEnds link seat pipe c
   pub engine_is : link.server.engine ≡ engine
   pub size_is : seat.client.size ≡ size
   pub server_reads : link.server_reader.direction ≡ ToServer
@@ -44,7 +44,7 @@ pub record Lives {E S : Type 0} (size : ℕ) (engine : E) (link : Link E S) (sea
 
 -- The connection of this number, in its seat, and the model's. One that is cut was cut at the carrier; that no other
 -- one was is a part of `IsTied`.
-pub record IsPlayed {E S : Type 0} (number size : ℕ) (engine : E) (link : Link E S) (seat : Seat)
+pub record RepresentsConnection {E S : Type 0} (number size : ℕ) (engine : E) (link : Link E S) (seat : Seat)
     (pipe : Option Pipe) (c : Connection) : Type 0 where
   pub numbered : link.number ≡ number
   pub standing : standing_by link.is_cut seat.place ≡ c.standing
@@ -54,7 +54,7 @@ pub record IsPlayed {E S : Type 0} (number size : ℕ) (engine : E) (link : Link
   pub to_client : (traffic pipe ToClient).handed ≡ sent_bytes down_bytes c.to_client
   pub came_up : (traffic pipe ToServer).came ≡ come_bytes up_bytes c.to_server
   pub came_down : (traffic pipe ToClient).came ≡ come_bytes down_bytes c.to_client
-  pub lives : link.is_cut ≡ false → Lives size engine link seat pipe c
+  pub lives : link.is_cut ≡ false → RepresentsLive size engine link seat pipe c
   pub gone : link.is_cut ≡ true → is_cut_at pipe ≡ true
 
 -- ---- An event on it
@@ -93,10 +93,10 @@ cut_where false c = c
 
 -- What an event came to on its connection is what the model's act comes to, and the connection is the
 -- model's then; where the carrier failed, it is cut in both.
-pub record DoesAlike {E S : Type 0} (number size : ℕ) (engine : E) (done : Done) (link : Link E S)
+pub record RefinesAct {E S : Type 0} (number size : ℕ) (engine : E) (done : EventDone) (link : Link E S)
     (seat : Seat) (pipe : Option Pipe) (acted : Acted) (c : Connection) : Type 0 where
   pub outcome : done.outcome ≡ outcome_of acted
-  pub played : IsPlayed number size engine link seat pipe (cut_where done.lost (after acted c))
+  pub played : RepresentsConnection number size engine link seat pipe (cut_where done.lost (after acted c))
 
 -- A delivery, each way, of so many bytes at most.
 abbrev pub delivers_up : Answers → ℕ → Connection → Acted
@@ -110,11 +110,11 @@ abbrev pub count_by : Bool → Outcome → ℕ → ℕ
 count_by true o count = came_in o
 count_by false o count = count
 
-abbrev pub count_of : Done → ℕ → ℕ
+abbrev pub count_of : EventDone → ℕ → ℕ
 count_of done count = count_by done.lost done.outcome count
 
 -- What an event lost: nothing, or what came before the carrier failed.
-abbrev pub loss_of : Done → Loss
+abbrev pub loss_of : EventDone → Loss
 loss_of done = loss_by done.lost done.outcome
 
 -- Which events may be lost on a connection that is cut or isn't: those that hand bytes over or bring
@@ -146,14 +146,14 @@ pub record AreNext (w : World) (next : Next) : Type 0 where
 -- ---- All of them
 
 -- The connections, of which the first has this number.
-abbrev pub ArePlayed : {E S : Type 0} → ℕ → ℕ → E → List (Seated E S) → (ℕ → Option Pipe)
+abbrev pub RepresentConnections : {E S : Type 0} → ℕ → ℕ → E → List (Seated E S) → (ℕ → Option Pipe)
     → List Connection → Type 0
-ArePlayed number size engine [] pipes [] = Unit {0}
-ArePlayed number size engine [] pipes (c ∷ cs) = ⊥
-ArePlayed number size engine (x ∷ xs) pipes [] = ⊥
-ArePlayed number size engine (x ∷ xs) pipes (c ∷ cs) =
-    IsPlayed number size engine x.link x.seat (pipes number) c
-    × ArePlayed (suc number) size engine xs pipes cs
+RepresentConnections number size engine [] pipes [] = Unit {0}
+RepresentConnections number size engine [] pipes (c ∷ cs) = ⊥
+RepresentConnections number size engine (x ∷ xs) pipes [] = ⊥
+RepresentConnections number size engine (x ∷ xs) pipes (c ∷ cs) =
+    RepresentsConnection number size engine x.link x.seat (pipes number) c
+    × RepresentConnections (suc number) size engine xs pipes cs
 
 -- Leases or tickets: the connection of each that has not ended.
 abbrev pub held_by : Holding → Option ℕ

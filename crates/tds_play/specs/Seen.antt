@@ -7,7 +7,7 @@ use Rattle.tds_world.specs.declared.report.ClientView.{ClientView}
 use Rattle.tds_world.specs.declared.report.ClientView.TheVariants as view
 use Rattle.tds_world.specs.declared.report.Snapshot.{Snapshot}
 use Rattle.tds_play.specs.declared.feeding.Fault.{Fault}
-use Rattle.tds_play.specs.declared.link.Done.{Done}
+use Rattle.tds_play.specs.declared.link.EventDone.{EventDone}
 use Rattle.tds_play.specs.declared.link.Link.{Link}
 use Rattle.tds_play.specs.declared.seat.Seat.{Seat}
 use Rattle.tds_play.specs.declared.seat.Seated.{Seated}
@@ -48,7 +48,7 @@ seen_of x = seen_in x.link x.seat
 -- ---- What an event came to
 
 -- This outcome, and the carrier did not fail.
-abbrev pub done_as : Outcome → Done
+abbrev pub done_as : Outcome → EventDone
 done_as what = record { outcome = what; lost = false }
 
 abbrev pub outcome_of : Fault → Outcome

@@ -61,7 +61,7 @@ pub record IsWholePlayOf (setup : Setup) (answers : Answers) (events : List Even
 -- The play of these events from nothing: its report is the model's with the losses that it marks, and
 -- so are the bytes that were handed over, those that came, and what is cut. It is one that is played:
 -- its setup is in range, its requests have a spelling, and its events are not too many.
-pub record IsPlayOf (setup : Setup) (answers : Answers) (events : List Event) (report : Report)
+pub record IsReportOfPlay (setup : Setup) (answers : Answers) (events : List Event) (report : Report)
     (pipes : ℕ → Option Pipe) : Type 0 where
   pub in_range : IsSetup setup
   pub known : AllByRecursion IsEvent events

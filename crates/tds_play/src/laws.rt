@@ -2,7 +2,7 @@
 //! fails. The functions do nothing when they run: their contracts are the laws.
 ghost use Rattle.std.specs.Prelude.{map};
 ghost use Rattle.tds_play.specs.Failures.{FailNowhere};
-ghost use Rattle.tds_play.specs.Lending.{FoundAlike, lent};
+ghost use Rattle.tds_play.specs.Lending.{RefinesFound, lent};
 ghost use Rattle.tds_play.specs.declared.memory.MemoryCarrier.{MemoryCarrier};
 ghost use Rattle.tds_world.specs.Pool.{to_lend};
 ghost use Rattle.tds_world.specs.World.{World};
@@ -15,7 +15,7 @@ use crate::memory::MemoryCarrier;
 /// else a new one, or none, by where each connection stands.
 pub fn lends_alike()
     ensures { (setup : Setup) (w : World)
-        → FoundAlike w (lent (map (λ c. c.standing) w.connections) setup.max) (to_lend setup w) }
+        → RefinesFound w (lent (map (λ c. c.standing) w.connections) setup.max) (to_lend setup w) }
 {}
 
 /// No call of a carrier in memory has failed on any connection, whatever it was asked.

@@ -5,7 +5,7 @@ ghost use Rattle.tds_play.specs.Failures.{Fails, Open};
 ghost use Rattle.tds_play.specs.Links.{IsNewLink, newest_first};
 ghost use Rattle.tds_play.specs.Seats.{seated};
 ghost use Rattle.tds_play.specs.Seen.{seen_in};
-ghost use Rattle.tds_play.specs.Plays.{IsPlayed, cut_where};
+ghost use Rattle.tds_play.specs.Plays.{RepresentsConnection, cut_where};
 ghost use Rattle.tds_packet.specs.declared.kind.Direction.{Direction};
 ghost use Rattle.tds_play.specs.Pipe.{new_pipe, traffic};
 ghost use Rattle.tds_play.specs.Reads.{IsReading};
@@ -32,7 +32,7 @@ use tds_world::{ClientView, Outcome, Snapshot};
 
 /// What an event came to on its connection.
 #[derive(Clone, Copy, Debug)]
-pub(crate) struct Done {
+pub(crate) struct EventDone {
     pub(crate) outcome: Outcome,
     /// Whether the carrier failed, so that the connection was cut.
     pub(crate) lost: bool,
@@ -105,7 +105,8 @@ impl<E: Engine + Drop> Link<E> {
             × ((d : Direction) → (traffic (C.pipes carrier.new number) d).came ≡ [])) }
         // With a new seat it stands for a new connection of the model, cut where the carrier
         // failed.
-        ensures alike { (lease : ℕ) → IfOk result (λ opened. IsPlayed number size engine
+        ensures refines { (lease : ℕ)
+            → IfOk result (λ opened. RepresentsConnection number size engine
             opened.0 (seated (Leased lease) (new_session size)) (C.pipes carrier.new number)
             (cut_where opened.1 (new_connection on_attention (Leased lease)))) }
     {

@@ -6,9 +6,9 @@ ghost use Rattle.tds_play.specs.Lending.{standing_of};
 ghost use Rattle.tds_play.specs.Links.{newest_there};
 ghost use Rattle.tds_play.specs.Noted.{about_of, asked_after, held_of, leases_after, tickets_after};
 ghost use Rattle.tds_play.specs.Pipe.{Pipe};
-ghost use Rattle.tds_play.specs.Player.{HappensAlike, IsFound, IsPlay, IsSmall, PromisesAll};
-ghost use Rattle.tds_play.specs.Plays.{ArePlayed};
-ghost use Rattle.tds_ends.specs.Promises.{IsCountable};
+ghost use Rattle.tds_play.specs.Player.{RefinesEvent, IsFound, RepresentsWorld, IsSmall, ModelGivesEach};
+ghost use Rattle.tds_play.specs.Plays.{RepresentConnections};
+ghost use Rattle.tds_ends.specs.ModelGives.{IsCountable};
 ghost use Rattle.tds_play.specs.Reads.{AllRead, Answers as Answered, IsAbout, TakesLast, TellsGiven, answers_then};
 ghost use Rattle.tds_play.specs.Seen.{seen_of};
 ghost use Rattle.tds_play.specs.Ties.{AreTied};
@@ -29,7 +29,7 @@ ghost use Rattle.tds_world.specs.declared.event.Setup.{Setup};
 use crate::NoMemory;
 use crate::carrier::Carrier;
 use crate::link::acts::{Next, refused};
-use crate::link::{Done, Link};
+use crate::link::{EventDone, Link};
 use crate::pool::{Found, Holdings, by_number, next_number, to_lend};
 use crate::request::Record;
 use crate::seat::{Seat, Seated};
@@ -90,7 +90,7 @@ impl<E: Engine + Copy> Player<E> {
         &mut self,
         carrier: &mut C,
         event: &Event,
-    ) -> Result<Done, NoMemory>
+    ) -> Result<EventDone, NoMemory>
         requires tied { AreTied self.old.links.items (C.pipes carrier.old) }
         requires few { length self.old.links.items < 10000 }
         ensures tied { OnOk result (AreTied self.new.links.items (C.pipes carrier.new)) }
@@ -108,24 +108,24 @@ impl<E: Engine + Copy> Player<E> {
         // Where it was lost, calls that it makes failed on the connection whose link it uses.
         ensures lost { (setup : Setup) (engine : E) (w : World)
             → LiveAreSound self.old.links.items (C.pipes carrier.old)
-            → IsPlay setup engine self.old (C.pipes carrier.old) w
-            → PromisesAll E (answer_of (E.statements_of engine) (E.step_of engine)) setup w
+            → RepresentsWorld setup engine self.old (C.pipes carrier.old) w
+            → ModelGivesEach E (answer_of (E.statements_of engine) (E.step_of engine)) setup w
             → IfOk result (λ done. FailsOn event.now done.lost (link_of setup w event.now)
             (all_known (length self.old.links.items) (C.pipes carrier.old))
             (all_known (length self.new.links.items) (C.pipes carrier.new))) }
-        ensures alike { (setup : Setup) (engine : E) (w : World) → C.tells carrier.old
-            → IsPlay setup engine self.old (C.pipes carrier.old) w
-            → PromisesAll E (answer_of (E.statements_of engine) (E.step_of engine)) setup w
+        ensures refines { (setup : Setup) (engine : E) (w : World) → C.tells carrier.old
+            → RepresentsWorld setup engine self.old (C.pipes carrier.old) w
+            → ModelGivesEach E (answer_of (E.statements_of engine) (E.step_of engine)) setup w
             → ((k : ℕ) → OfEachConnection IsCountable (happens setup
             (answer_of (E.statements_of engine) (E.step_of engine)) (bringing k event.now) w).1)
-            → IfOk result (λ done. HappensAlike setup engine
+            → IfOk result (λ done. RefinesEvent setup engine
             (answer_of (E.statements_of engine) (E.step_of engine)) done self.new
             (C.pipes carrier.new) event.now w) }
     {
         match event {
             Event::RestartServer => {
                 self.cut_all(carrier);
-                Ok(Done {
+                Ok(EventDone {
                     outcome: Outcome::RestartedServer,
                     lost: false,
                 })
@@ -134,7 +134,7 @@ impl<E: Engine + Copy> Player<E> {
                 self.cut_all(carrier);
                 self.leases.end_all();
                 self.tickets.end_all();
-                Ok(Done {
+                Ok(EventDone {
                     outcome: Outcome::RestartedClient,
                     lost: false,
                 })
@@ -190,7 +190,7 @@ impl<E: Engine + Copy> Player<E> {
         carrier: &mut C,
         place: usize,
         event: &Event,
-    ) -> Result<Done, NoMemory>
+    ) -> Result<EventDone, NoMemory>
         requires tied { AreTied self.old.links.items (C.pipes carrier.old) }
         requires there { place < length self.old.links.items }
         ensures tied { OnOk result (AreTied self.new.links.items (C.pipes carrier.new)) }
@@ -206,20 +206,20 @@ impl<E: Engine + Copy> Player<E> {
             (C.pipes carrier.new) (answers_then event.now done.outcome answers)) }
         ensures lost { (setup : Setup) (engine : E) (w : World) (c : Connection)
             → LiveAreSound self.old.links.items (C.pipes carrier.old)
-            → IsPlay setup engine self.old (C.pipes carrier.old) w
+            → RepresentsWorld setup engine self.old (C.pipes carrier.old) w
             → IsFound setup (answer_of (E.statements_of engine) (E.step_of engine)) w event.now
             place c
             → IfOk result (λ done. FailsOn event.now done.lost (link_of setup w event.now)
             (all_known (length self.old.links.items) (C.pipes carrier.old))
             (all_known (length self.new.links.items) (C.pipes carrier.new))) }
-        ensures alike { (setup : Setup) (engine : E) (w : World) (c : Connection)
-            → C.tells carrier.old → IsPlay setup engine self.old (C.pipes carrier.old) w
-            → PromisesAll E (answer_of (E.statements_of engine) (E.step_of engine)) setup w
+        ensures refines { (setup : Setup) (engine : E) (w : World) (c : Connection)
+            → C.tells carrier.old → RepresentsWorld setup engine self.old (C.pipes carrier.old) w
+            → ModelGivesEach E (answer_of (E.statements_of engine) (E.step_of engine)) setup w
             → IsFound setup (answer_of (E.statements_of engine) (E.step_of engine)) w event.now
             place c
             → ((k : ℕ) → OfEachConnection IsCountable (happens setup
             (answer_of (E.statements_of engine) (E.step_of engine)) (bringing k event.now) w).1)
-            → IfOk result (λ done. HappensAlike setup engine
+            → IfOk result (λ done. RefinesEvent setup engine
             (answer_of (E.statements_of engine) (E.step_of engine)) done self.new
             (C.pipes carrier.new) event.now w) }
     {
@@ -278,7 +278,7 @@ impl<E: Engine + Copy> Player<E> {
     }
 
     /// A new connection is opened and lent.
-    fn open<C: Carrier>(&mut self, carrier: &mut C) -> Result<Done, NoMemory>
+    fn open<C: Carrier>(&mut self, carrier: &mut C) -> Result<EventDone, NoMemory>
         requires tied { AreTied self.old.links.items (C.pipes carrier.old) }
         requires few { length self.old.links.items < 10000 }
         ensures tied { OnOk result (AreTied self.new.links.items (C.pipes carrier.new)) }
@@ -293,15 +293,15 @@ impl<E: Engine + Copy> Player<E> {
             → IfOk result (λ done. AllRead self.old.size self.new.links.items
             (C.pipes carrier.new) answers) }
         ensures lost { (setup : Setup) (engine : E) (w : World)
-            → IsPlay setup engine self.old (C.pipes carrier.old) w → IsSmall w
+            → RepresentsWorld setup engine self.old (C.pipes carrier.old) w → IsSmall w
             → to_lend setup w ≡ Opens (next_number w.connections)
             → IfOk result (λ done. FailsOn event.Lease done.lost (link_of setup w event.Lease)
             (all_known (length self.old.links.items) (C.pipes carrier.old))
             (all_known (length self.new.links.items) (C.pipes carrier.new))) }
-        ensures alike { (setup : Setup) (engine : E) (answers : Answers) (w : World)
-            → IsPlay setup engine self.old (C.pipes carrier.old) w → IsSmall w
+        ensures refines { (setup : Setup) (engine : E) (answers : Answers) (w : World)
+            → RepresentsWorld setup engine self.old (C.pipes carrier.old) w → IsSmall w
             → to_lend setup w ≡ Opens (next_number w.connections)
-            → IfOk result (λ done. HappensAlike setup engine answers done self.new
+            → IfOk result (λ done. RefinesEvent setup engine answers done self.new
             (C.pipes carrier.new) event.Lease w) }
     {
         let conn = next_number(self.links.len());
@@ -322,7 +322,7 @@ impl<E: Engine + Copy> Player<E> {
             conn,
             opened: Opened::New,
         };
-        Ok(Done { outcome, lost })
+        Ok(EventDone { outcome, lost })
     }
 
     /// Every connection is cut.
@@ -339,9 +339,10 @@ impl<E: Engine + Copy> Player<E> {
             → AllRead size self.new.links.items (C.pipes carrier.new) answers }
         ensures failed { (n : ℕ) → FailsNoMore (C.pipes carrier.old n) (C.pipes carrier.new n) }
         // What stands for connections of the model stands for them, all cut.
-        ensures alike { (size : ℕ) (engine : E) (cs : List Connection)
-            → ArePlayed 1 size engine self.old.links.items (C.pipes carrier.old) cs
-            → ArePlayed 1 size engine self.new.links.items (C.pipes carrier.new) (map cut cs) }
+        ensures refines { (size : ℕ) (engine : E) (cs : List Connection)
+            → RepresentConnections 1 size engine self.old.links.items (C.pipes carrier.old) cs
+            → RepresentConnections 1 size engine self.new.links.items (C.pipes carrier.new)
+            (map cut cs) }
     {
         'links: for place in 0..self.links.len() {
             self.cut_at(carrier, place);
@@ -362,10 +363,10 @@ impl<E: Engine + Copy> Player<E> {
             → AllRead size self.old.links.items (C.pipes carrier.old) answers
             → AllRead size self.new.links.items (C.pipes carrier.new) answers }
         ensures failed { (n : ℕ) → FailsNoMore (C.pipes carrier.old n) (C.pipes carrier.new n) }
-        ensures alike { (size : ℕ) (engine : E) (cs : List Connection) (c : Connection)
+        ensures refines { (size : ℕ) (engine : E) (cs : List Connection) (c : Connection)
             → slice_get cs place ≡ Some c
-            → ArePlayed 1 size engine self.old.links.items (C.pipes carrier.old) cs
-            → ArePlayed 1 size engine self.new.links.items (C.pipes carrier.new)
+            → RepresentConnections 1 size engine self.old.links.items (C.pipes carrier.old) cs
+            → RepresentConnections 1 size engine self.new.links.items (C.pipes carrier.new)
             (put place (cut c) cs) }
     {
         let link = &mut self.links[place].link;
@@ -395,7 +396,7 @@ impl<E: Engine + Copy> Player<E> {
         ensures given { IfOk result (λ reports. (n : ℕ)
             → TellsGiven self.links.items reports.items n) }
         ensures told { (setup : Setup) (engine : E) (pipes : ℕ → Option Pipe) (w : World)
-            → IsPlay setup engine self pipes w → RequestsInOrder w
+            → RepresentsWorld setup engine self pipes w → RequestsInOrder w
             → IfOk result (λ reports. reports.items ≡ request_reports w 1 w.asked_on) }
     {
         let Player {

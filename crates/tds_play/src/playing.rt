@@ -2,18 +2,18 @@
 ghost use Rattle.std.specs.Prelude.{◌≡◌, ◌≢◌, ◌≤◌, List, [], ◌++◌, length, None, Some, Err, IfErr, IfOk, OnOk};
 ghost use Rattle.tds_play.specs.AnyBytes.{ReadsBytes};
 ghost use Rattle.tds_play.specs.Failures.{FailNowhere, TellFailures};
-ghost use Rattle.tds_play.specs.Player.{IsPlay};
+ghost use Rattle.tds_play.specs.Player.{RepresentsWorld};
 ghost use Rattle.tds_play.specs.Refused.{first_refusal, play_refusal_number};
-ghost use Rattle.tds_play.specs.WholePlay.{CarriesBytesOf, CutsThoseOf, HandsBytesOf, IsPlayOf, IsWholePlayOf, world_of};
+ghost use Rattle.tds_play.specs.WholePlay.{CarriesBytesOf, CutsThoseOf, HandsBytesOf, IsReportOfPlay, IsWholePlayOf, world_of};
 ghost use Rattle.tds_play.specs.declared.playing.PlayRefusal.TheVariants.{Memory};
 ghost use Rattle.tds_play.specs.declared.playing.PlayRefusal.{PlayRefusal};
 ghost use Rattle.tds_session.specs.Answer.{answer_of, script_answers};
 ghost use Rattle.tds_world.specs.Losses.{marked};
-ghost use Rattle.tds_world.specs.Alone.{AsIfAlone};
-ghost use Rattle.tds_world.specs.AloneShown.{ShowsAsIfAlone, far_in};
+ghost use Rattle.tds_world.specs.alone.Alone.{AsIfAlone};
+ghost use Rattle.tds_world.specs.alone.AloneShown.{ShowsAsIfAlone, far_in};
 ghost use Rattle.tds_world.specs.Bounds.{BeginsOnce, IsEvent, IsSetup, OneAttention};
-ghost use Rattle.tds_world.specs.Rest.{NeverStuck};
-ghost use Rattle.tds_world.specs.RestShown.{ShowsNeverStuckWith};
+ghost use Rattle.tds_world.specs.rest.Rest.{NeverStuck};
+ghost use Rattle.tds_world.specs.rest.RestShown.{ShowsNeverStuckWith};
 ghost use Rattle.tds_world.specs.Reports.{ShowsFewUnderway, ShowsFreshStart, ShowsIdleQuiet, ShowsKeptTransaction, ShowsLendsIdle, ShowsOwnAnswers, ShowsOwnTransaction};
 ghost use Rattle.tds_world.specs.WithLosses.{GivesNoMoreWith, IsReportWith, MarksNothing, ShowsNoEndFaults};
 ghost use Rattle.tds_world.specs.World.{new_world};
@@ -203,7 +203,7 @@ pub fn play_with<E: Engine + Copy, C: Carrier>(
         (C.pipes carrier.new)) }
     // Where the carrier brings the bytes that it was handed, the play is the model's with the losses
     // that its report marks: what is told, what was handed over, what came, and what is cut.
-    ensures alike { C.tells carrier.old → IfOk result (λ report. IsPlayOf setup.now
+    ensures refines { C.tells carrier.old → IfOk result (λ report. IsReportOfPlay setup.now
         (answer_of (E.statements_of engine) (E.step_of engine)) events.now report
         (C.pipes carrier.new)) }
     // An event is marked lost exactly where calls that it makes failed on the connection whose link
@@ -277,18 +277,18 @@ fn play_events<E: Engine + Copy, C: Carrier>(
     requires few { length events.now ≤ 10000 }
     ensures memory { IfErr result (λ why. why ≡ Memory) }
     ensures unfailing { (setup : Setup) → IsSetup setup → C.tells carrier.old
-        → IsPlay setup player.engine player (C.pipes carrier.old) new_world
+        → RepresentsWorld setup player.engine player (C.pipes carrier.old) new_world
         → FailNowhere (C.pipes carrier.new) → IfOk result MarksNothing }
     ensures lost { (setup : Setup) → IsSetup setup → C.tells carrier.old
-        → IsPlay setup player.engine player (C.pipes carrier.old) new_world
+        → RepresentsWorld setup player.engine player (C.pipes carrier.old) new_world
         → IfOk result (λ report. TellFailures setup
         (answer_of (E.statements_of player.engine) (E.step_of player.engine))
         (marked events.now report.events) (C.pipes carrier.new)) }
     ensures reads { IfOk result (λ report. ReadsBytes player.size events.now report
         (C.pipes carrier.new)) }
-    ensures alike { (setup : Setup) → IsSetup setup → C.tells carrier.old
-        → IsPlay setup player.engine player (C.pipes carrier.old) new_world
-        → IfOk result (λ report. IsPlayOf setup
+    ensures refines { (setup : Setup) → IsSetup setup → C.tells carrier.old
+        → RepresentsWorld setup player.engine player (C.pipes carrier.old) new_world
+        → IfOk result (λ report. IsReportOfPlay setup
         (answer_of (E.statements_of player.engine) (E.step_of player.engine)) events.now report
         (C.pipes carrier.new)) }
 {

@@ -11,7 +11,7 @@ ghost use Rattle.tds_world.specs.declared.outcome.Outcome.TheVariants.{Abandoned
 ghost use Rattle.tds_world.specs.declared.report.Place.TheVariants as place;
 
 use crate::link::acts::{Next, done, refused};
-use crate::link::{Done, Link};
+use crate::link::{EventDone, Link};
 use std::alloc::Global;
 use tds_client::{Client, ClientState};
 use tds_packet::{PacketSize, Reset};
@@ -51,7 +51,7 @@ impl Seat {
     }
 
     /// The connection of this number is lent, and its next request is to ask for this reset.
-    pub(crate) fn lend(&mut self, conn: u32, next: Next, mark: Reset, opened: Opened) -> Done
+    pub(crate) fn lend(&mut self, conn: u32, next: Next, mark: Reset, opened: Opened) -> EventDone
         ensures lent { unless_idle self.old.client.stage ≡ None
             → self.new ≡ lent_as next.lease mark self.old }
         ensures done { result ≡ done_as (Leased next.lease conn opened) }
@@ -84,7 +84,7 @@ impl Seat {
     }
 
     /// The lease becomes a ticket, which keeps the transaction that the client heard of.
-    pub(crate) fn keep(&mut self, next: Next) -> Done
+    pub(crate) fn keep(&mut self, next: Next) -> EventDone
         ensures refused { (why : Refusal) → unless_kept self.old.client ≡ Some why
             → (result ≡ done_as (Refused why)) × (self.new ≡ self.old) }
         ensures whole { result.lost ≡ false }
@@ -103,7 +103,7 @@ impl Seat {
     }
 
     /// The ticket ends. The connection that it kept is idle, so it is free then.
-    pub(crate) fn abandon(&mut self) -> Done
+    pub(crate) fn abandon(&mut self) -> EventDone
         ensures value { self.new ≡ placed_at place.Free self.old }
         ensures done { result ≡ done_as (Abandoned abandoned.Free) }
         ensures columns { self.new.client.columns ≡ self.old.client.columns }

@@ -1,8 +1,8 @@
 //! What holds in every world of the model, with an engine's answers.
 ghost use Rattle.std.specs.Prelude.{◌≡◌, ◌≤◌, ◌<◌, List, length};
 ghost use Rattle.std.specs.List.{AllByRecursion};
-ghost use Rattle.tds_play.specs.Player.{PromisesAll};
-ghost use Rattle.tds_ends.specs.Promises.{Promises};
+ghost use Rattle.tds_play.specs.Player.{ModelGivesEach};
+ghost use Rattle.tds_ends.specs.ModelGives.{ModelGives};
 ghost use Rattle.tds_session.specs.Answer.{answer_of};
 ghost use Rattle.tds_world.specs.Bounds.{IsEvent, IsSetup};
 ghost use Rattle.tds_world.specs.Events.{world_after};
@@ -25,13 +25,13 @@ use tds_world::laws::{
 pub(crate) fn worlds_hold<E: Engine>(engine: &E)
     ensures each { (setup : Setup) (events : List Event) → IsSetup setup
         → AllByRecursion IsEvent events → length events ≤ 20000
-        → OfEachConnection (Promises E
+        → OfEachConnection (ModelGives E
         (answer_of (E.statements_of engine.now) (E.step_of engine.now)) setup.packet_size)
         (world_after setup (answer_of (E.statements_of engine.now) (E.step_of engine.now))
         events new_world) }
     ensures before { (setup : Setup) (events : List Event) → IsSetup setup
         → AllByRecursion IsEvent events → length events < 20000
-        → PromisesAll E (answer_of (E.statements_of engine.now) (E.step_of engine.now)) setup
+        → ModelGivesEach E (answer_of (E.statements_of engine.now) (E.step_of engine.now)) setup
         (world_after setup (answer_of (E.statements_of engine.now) (E.step_of engine.now))
         events new_world) }
     ensures order { (setup : Setup) (events : List Event)

@@ -2,7 +2,7 @@
 #![tactic(auto)]
 
 ghost use Rattle.std.specs.Prelude.{◌≡◌, ◌<◌, ◌≤◌, length};
-ghost use Rattle.tds_play_c.specs.Plays.{IsPlayed};
+ghost use Rattle.tds_play_c.specs.Plays.{RepresentsConnection};
 
 use std::alloc::Global;
 use tds_play::{MemoryCarrier, run_play};
@@ -12,7 +12,7 @@ use tds_play::{MemoryCarrier, run_play};
 /// room: `count` says how much is wanted.
 #[unsafe(no_mangle)]
 pub extern "C" fn tds_play(alloc: Global, schedule: &[u8], out: &mut [u8], count: &mut usize) -> u8
-    ensures played { result ≡ 0 → IsPlayed schedule.now out.old out.new count.new }
+    ensures played { result ≡ 0 → RepresentsConnection schedule.now out.old out.new count.new }
     ensures room { result ≡ 2 → (out.new ≡ out.old) × (length out.old < count.new) }
     ensures within { (result ≡ 2 → ⊥) → count.new ≤ length out.old }
 {

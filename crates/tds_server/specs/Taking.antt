@@ -191,12 +191,12 @@ Moves found took session phase before after =
     × (after ≡ before ++ more)
 
 -- the server then, its answer, and what is appended; a fault breaks it
-pub record Taken (E : Type 0) : Type 0 where
+pub record ServerMove (E : Type 0) : Type 0 where
   pub state : ServerState E
   pub answer : Result ServerTook ServerFault
   pub reply : List ℕ
 
-abbrev pub taken_as : {E : Type 0} → ServerState E → Result Move ServerFault → Taken E
+abbrev pub taken_as : {E : Type 0} → ServerState E → Result Move ServerFault → ServerMove E
 taken_as s (Ok m) = record {
   state = record s { session = m.session; phase = m.phase };
   answer = Ok m.took;
@@ -205,6 +205,6 @@ taken_as s (Ok m) = record {
 taken_as s (Err fault) = record { state = record s { phase = Broken fault }; answer = Err fault; reply = [] }
 
 -- what comes of a packet with this header and these data
-abbrev pub taken : {E : Type 0} → Answers → ServerState E → Header → List ℕ → Taken E
+abbrev pub taken : {E : Type 0} → Answers → ServerState E → Header → List ℕ → ServerMove E
 taken answers s header content =
     taken_as s (moved answers s.on_attention s.session s.phase header content)

@@ -7,7 +7,7 @@ use Rattle.tds_request.specs.Layout.{Fits}
 use Rattle.tds_session.specs.Answer.{Answers, Step}
 use Rattle.tds_session.specs.Session.{SessionState}
 use Rattle.tds_world.specs.declared.event.Event.{Event}
-use Rattle.tds_world.specs.Alone.{own_steps}
+use Rattle.tds_world.specs.alone.Alone.{own_steps}
 use Rattle.tds_world.specs.Bounds.{IsEvent}
 
 -- From this session on, each step uses one descriptor at most, and none comes back.

@@ -32,10 +32,7 @@ pub mod Reports
 pub mod Losses
 pub mod WithLosses
 pub mod PhaseTells
-pub mod Rest
-pub mod RestShown
+pub mod rest
 pub mod Rollback
-pub mod Alone
+pub mod alone
 pub mod Descriptors
-pub mod AloneShown
-pub mod TwoPlays

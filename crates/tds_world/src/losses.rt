@@ -5,7 +5,7 @@
 ghost use Rattle.std.specs.Prelude.{◌≡◌, ◌++◌, List, false, length};
 ghost use Rattle.std.specs.List.{AllByRecursion};
 ghost use Rattle.tds_session.specs.Answer.{Answers};
-ghost use Rattle.tds_world.specs.Alone.{AsIfAlone, BlindToNumbers};
+ghost use Rattle.tds_world.specs.alone.Alone.{AsIfAlone, BlindToNumbers};
 ghost use Rattle.tds_world.specs.Begins.{HandsOutNext};
 ghost use Rattle.tds_world.specs.Bounds.{BeginsOnce, IsEvent, OneAttention};
 ghost use Rattle.tds_world.specs.Counts.{AreFew};
@@ -15,7 +15,7 @@ ghost use Rattle.tds_world.specs.Lawful.{Lawful};
 ghost use Rattle.tds_world.specs.Losses.{Played, event_reports_with, marked, observed_with};
 ghost use Rattle.tds_world.specs.Losses.{with_cuts, world_with};
 ghost use Rattle.tds_world.specs.Observed.{observed};
-ghost use Rattle.tds_world.specs.Rest.{NeverStuck};
+ghost use Rattle.tds_world.specs.rest.Rest.{NeverStuck};
 ghost use Rattle.tds_world.specs.Sessions.{StayInRange};
 ghost use Rattle.tds_world.specs.Underway.{FewToClients};
 ghost use Rattle.tds_world.specs.WithLosses.{AlwaysWith, AreEvents, AreMarked, LosesNothing};

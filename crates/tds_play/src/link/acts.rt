@@ -3,12 +3,12 @@ ghost use Rattle.std.specs.Prelude.{[], ◌∷◌, ◌≡◌, ◌≤◌, ◌-◌
 ghost use Rattle.tds_client.specs.Session.{unless_idle};
 ghost use Rattle.tds_packet.specs.declared.kind.Direction.TheVariants.{ToClient, ToServer};
 ghost use Rattle.tds_play.specs.Failures.{FailsAs, HasNoFailure, Send, calls_of};
-ghost use Rattle.tds_play.specs.Links.{IsAskedOn, IsPutBy, recounted};
-ghost use Rattle.tds_ends.specs.Alike.{cancel_outcome};
+ghost use Rattle.tds_play.specs.Links.{IsAskedOn, IsRetired, recounted};
+ghost use Rattle.tds_ends.specs.Refines.{cancel_outcome};
 ghost use Rattle.tds_play.specs.Acts.{cancelled_as, unless_lost, worked_as};
-ghost use Rattle.tds_ends.specs.Alike.{send_outcome, worked_outcome};
-ghost use Rattle.tds_play.specs.Plays.{AreNext, DoesAlike, IsPlayed, IsReady, MayLose, acts_on, after, loss_of, on_cut, outcome_of};
-ghost use Rattle.tds_ends.specs.Promises.{IsCountable, Promises};
+ghost use Rattle.tds_ends.specs.Refines.{send_outcome, worked_outcome};
+ghost use Rattle.tds_play.specs.Plays.{AreNext, RefinesAct, RepresentsConnection, IsReady, MayLose, acts_on, after, loss_of, on_cut, outcome_of};
+ghost use Rattle.tds_ends.specs.ModelGives.{IsCountable, ModelGives};
 ghost use Rattle.tds_world.specs.Newest.{WorksOnNewest};
 ghost use Rattle.tds_world.specs.Steps.{EndsIfDue};
 ghost use Rattle.tds_play.specs.Seats.{seated};
@@ -34,7 +34,7 @@ ghost use Rattle.tds_play.specs.Pipe.{Pipe};
 ghost use Rattle.tds_play.specs.Reads.{IsReading, ReadsNoMore, ReadsOn};
 ghost use Rattle.tds_play.specs.Ties.{IsTied, KeepsTies};
 
-use super::{Done, Link};
+use super::{EventDone, Link};
 use crate::NoMemory;
 use crate::carrier::Carrier;
 use crate::request::Record;
@@ -64,26 +64,26 @@ pub(crate) struct Next {
 }
 
 /// An event that doesn't apply.
-pub(crate) fn refused(refusal: Refusal) -> Done
+pub(crate) fn refused(refusal: Refusal) -> EventDone
     ensures { result ≡ done_as (Refused refusal) }
 {
-    Done {
+    EventDone {
         outcome: Outcome::Refused(refusal),
         lost: false,
     }
 }
 
-pub(crate) fn done(outcome: Outcome) -> Done
+pub(crate) fn done(outcome: Outcome) -> EventDone
     ensures { result ≡ done_as outcome }
 {
-    Done {
+    EventDone {
         outcome,
         lost: false,
     }
 }
 
 /// What an event comes to whose connection is cut.
-fn on_cut(event: &Event) -> Done
+fn on_cut(event: &Event) -> EventDone
     ensures value { (c : Connection) → result ≡ done_as (outcome_of (on_cut event.now c)) }
     ensures whole { result.lost ≡ false }
 {
@@ -131,7 +131,7 @@ impl<E: Engine + Drop> Link<E> {
         seat: &mut Seat,
         next: Next,
         event: &Event,
-    ) -> Result<Done, NoMemory>
+    ) -> Result<EventDone, NoMemory>
         requires { IsTied self.old (C.pipes carrier.old self.old.number) }
         ensures number { self.new.number ≡ self.old.number }
         ensures ties { OnOk result (KeepsTies self.old.number self.new (C.pipes carrier.old)
@@ -152,19 +152,21 @@ impl<E: Engine + Drop> Link<E> {
             → IsReading size self.old seat.old.client.columns
             (C.pipes carrier.old self.old.number)
             → IfOk result (λ done. ReadsOn size event.now done.outcome self.new
-            seat.new.client.columns (C.pipes carrier.old self.old.number) (C.pipes carrier.new self.old.number)) }
+            seat.new.client.columns (C.pipes carrier.old self.old.number)
+            (C.pipes carrier.new self.old.number)) }
         // A connection that stands for one of the model stands for what the event, as it was met,
         // makes of it, cut where the carrier failed.
-        ensures alike { (setup : Setup) (w : World) (c : Connection) (engine : E)
+        ensures refines { (setup : Setup) (w : World) (c : Connection) (engine : E)
             → C.tells carrier.old
-            → IsPlayed self.old.number setup.packet_size engine self.old seat.old
+            → RepresentsConnection self.old.number setup.packet_size engine self.old seat.old
             (C.pipes carrier.old self.old.number) c
-            → Promises E (answer_of (E.statements_of engine) (E.step_of engine)) setup.packet_size c
+            → ModelGives E (answer_of (E.statements_of engine)
+            (E.step_of engine)) setup.packet_size c
             → ((k : ℕ) → IsCountable (after (acts_on setup
             (answer_of (E.statements_of engine) (E.step_of engine)) w
             (bringing k event.now) self.old.number c) c))
             → AreNext w next → (self.old.is_cut ≡ false → IsReady event.now c)
-            → IfOk result (λ done. DoesAlike self.old.number setup.packet_size engine done self.new
+            → IfOk result (λ done. RefinesAct self.old.number setup.packet_size engine done self.new
             seat.new (C.pipes carrier.new self.old.number)
             (acts_on setup (answer_of (E.statements_of engine) (E.step_of engine)) w
             (met (loss_of done) event.now) self.old.number c) c) }
@@ -208,7 +210,7 @@ impl<E: Engine + Drop> Link<E> {
         next: Next,
         lease: u32,
         request: &Request,
-    ) -> Result<Done, NoMemory>
+    ) -> Result<EventDone, NoMemory>
         ensures refused { is_none (unless_idle client.old.stage) ≡ false
             → (result ≡ Ok (done_as (Refused NotIdle))) × (self.new ≡ self.old)
             × (client.new ≡ client.old) }
@@ -230,14 +232,14 @@ impl<E: Engine + Drop> Link<E> {
         if client.start(request).is_err() {
             return Err(AllocError);
         }
-        self.put_by()?;
+        self.retire_newest()?;
         self.current = Some(Record::new(alloc, lease, mark));
         Ok(done(Outcome::Asked(next.request)))
     }
 
     /// The newest request is put by those before it.
-    fn put_by(&mut self) -> Result<(), NoMemory>
-        ensures value { OnOk result (IsPutBy self.old self.new) }
+    fn retire_newest(&mut self) -> Result<(), NoMemory>
+        ensures value { OnOk result (IsRetired self.old self.new) }
         ensures number { self.new.number ≡ self.old.number }
         ensures tied { (pipe : Option Pipe) → IsTied self.old pipe → IsTied self.new pipe }
         ensures still { (pipe : Option Pipe)
@@ -255,7 +257,7 @@ impl<E: Engine + Drop> Link<E> {
         alloc: Global,
         carrier: &mut C,
         client: &mut Client,
-    ) -> Result<Done, NoMemory>
+    ) -> Result<EventDone, NoMemory>
         requires live { self.old.is_cut ≡ false }
         requires tied { IsTied self.old (C.pipes carrier.old self.old.number) }
         ensures number { self.new.number ≡ self.old.number }
@@ -275,13 +277,14 @@ impl<E: Engine + Drop> Link<E> {
             → IfOk result (λ done. FailsAs (Send ToServer ∷ []) done self.new
             (C.pipes carrier.new self.old.number)) }
         // A connection that stands for one of the model stands for what the same send makes of it.
-        ensures alike { (size : ℕ) (engine : E) (p : Place) (c : Connection)
-            → IsPlayed self.old.number size engine self.old (seated p client.old)
+        ensures refines { (size : ℕ) (engine : E) (p : Place) (c : Connection)
+            → RepresentsConnection self.old.number size engine self.old (seated p client.old)
             (C.pipes carrier.old self.old.number) c
             → up_underway (after (sends_in (phase c) (size - 8) c.current c) c)
             ≤ 18446744073709551615
-            → IfOk result (λ done. DoesAlike self.old.number size engine done self.new
-            (seated p client.new) (C.pipes carrier.new self.old.number) (sends_in (phase c) (size - 8) c.current c) c) }
+            → IfOk result (λ done. RefinesAct self.old.number size engine done self.new
+            (seated p client.new) (C.pipes carrier.new self.old.number) (sends_in (phase c)
+            (size - 8) c.current c) c) }
     {
         sends_alike();
         sends_append();
@@ -333,7 +336,7 @@ impl<E: Engine + Drop> Link<E> {
         alloc: Global,
         carrier: &mut C,
         client: &mut Client,
-    ) -> Result<Done, NoMemory>
+    ) -> Result<EventDone, NoMemory>
         requires live { self.old.is_cut ≡ false }
         requires tied { IsTied self.old (C.pipes carrier.old self.old.number) }
         ensures number { self.new.number ≡ self.old.number }
@@ -352,11 +355,11 @@ impl<E: Engine + Drop> Link<E> {
             (C.pipes carrier.new self.old.number)) }
         // A connection that stands for one of the model stands for what the same cancel makes of
         // it.
-        ensures alike { (size : ℕ) (engine : E) (p : Place) (c : Connection)
-            → IsPlayed self.old.number size engine self.old (seated p client.old)
+        ensures refines { (size : ℕ) (engine : E) (p : Place) (c : Connection)
+            → RepresentsConnection self.old.number size engine self.old (seated p client.old)
             (C.pipes carrier.old self.old.number) c
             → up_underway (cancels c) ≤ 18446744073709551615
-            → IfOk result (λ done. DoesAlike self.old.number size engine done self.new
+            → IfOk result (λ done. RefinesAct self.old.number size engine done self.new
             (seated p client.new) (C.pipes carrier.new self.old.number)
             (Does (outcome.Cancel (model.cancel_outcome (phase c))) (cancels c)) c) }
     {
@@ -397,7 +400,7 @@ impl<E: Engine + Drop> Link<E> {
     }
 
     /// The server does the next step of the answer that is due.
-    fn work<C: Carrier>(&mut self, alloc: Global, carrier: &mut C) -> Result<Done, NoMemory>
+    fn work<C: Carrier>(&mut self, alloc: Global, carrier: &mut C) -> Result<EventDone, NoMemory>
         requires live { self.old.is_cut ≡ false }
         requires tied { IsTied self.old (C.pipes carrier.old self.old.number) }
         ensures number { self.new.number ≡ self.old.number }
@@ -414,12 +417,12 @@ impl<E: Engine + Drop> Link<E> {
             → IfOk result (λ done. FailsAs (Send ToClient ∷ []) done self.new
             (C.pipes carrier.new self.old.number)) }
         // A connection that stands for one of the model stands for what the same work makes of it.
-        ensures alike { (size : ℕ) (engine : E) (seat : Seat) (c : Connection)
-            → IsPlayed self.old.number size engine self.old seat
+        ensures refines { (size : ℕ) (engine : E) (seat : Seat) (c : Connection)
+            → RepresentsConnection self.old.number size engine self.old seat
             (C.pipes carrier.old self.old.number) c
             → EndsIfDue c.due → WorksOnNewest c c.due → (works c).past ≡ c.past
             → down_underway (works c) ≤ 18446744073709551615
-            → IfOk result (λ done. DoesAlike self.old.number size engine done self.new seat
+            → IfOk result (λ done. RefinesAct self.old.number size engine done self.new seat
             (C.pipes carrier.new self.old.number)
             (Does (outcome.Work (work_outcome c.due)) (works c)) c) }
     {

@@ -4,14 +4,14 @@ ghost use Rattle.tds_packet.specs.declared.kind.Direction.TheVariants.{ToServer,
 ghost use Rattle.tds_play.specs.Failures.{Call, Carry, Fails, FailsAs, FailsNoMore, HasNoFailure, Send};
 ghost use Rattle.tds_play.specs.Links.{cut_of, recounted};
 ghost use Rattle.tds_play.specs.Pipe.{Brings, IsUncut, cut_pipe, sent_on};
-ghost use Rattle.tds_play.specs.Plays.{IsPlayed, cut_where};
+ghost use Rattle.tds_play.specs.Plays.{RepresentsConnection, cut_where};
 ghost use Rattle.tds_play.specs.Reads.{BringsAny, ReadsNoMore};
 ghost use Rattle.tds_play.specs.Seen.{outcome_of};
 ghost use Rattle.tds_play.specs.declared.seat.Seat.{Seat};
 ghost use Rattle.tds_play.specs.Ties.{IsTied, KeepsTies, counted, with_counted, saturated};
 ghost use Rattle.tds_world.specs.Connection.{Connection, cut};
 
-use super::{Done, Link};
+use super::{EventDone, Link};
 use crate::NoMemory;
 use crate::carrier::{Carrier, CarrierError};
 use crate::feeding::Fault;
@@ -152,11 +152,11 @@ impl<E: Engine + Drop> Link<E> {
         ensures failed { FailsNoMore (C.pipes carrier.old self.old.number)
             (C.pipes carrier.new self.old.number) }
         // A connection that stands for one of the model stands for that one, cut.
-        ensures alike { (size : ℕ) (engine : E) (seat : Seat) (c : Connection)
-            → IsPlayed self.old.number size engine self.old seat
+        ensures refines { (size : ℕ) (engine : E) (seat : Seat) (c : Connection)
+            → RepresentsConnection self.old.number size engine self.old seat
             (C.pipes carrier.old self.old.number) c
             → self.old.is_cut ≡ false
-            → IsPlayed self.old.number size engine self.new seat
+            → RepresentsConnection self.old.number size engine self.new seat
             (C.pipes carrier.new self.old.number) (cut c) }
     {
         carrier.cut(self.number);
@@ -168,7 +168,12 @@ impl<E: Engine + Drop> Link<E> {
     }
 
     /// The end of an event: where the carrier failed, the connection is cut.
-    pub(super) fn end<C: Carrier>(&mut self, carrier: &mut C, outcome: Outcome, lost: bool) -> Done
+    pub(super) fn end<C: Carrier>(
+        &mut self,
+        carrier: &mut C,
+        outcome: Outcome,
+        lost: bool,
+    ) -> EventDone
         requires live { self.old.is_cut ≡ false }
         requires tied { IsTied self.old (C.pipes carrier.old self.old.number) }
         ensures number { self.new.number ≡ self.old.number }
@@ -184,16 +189,16 @@ impl<E: Engine + Drop> Link<E> {
             → FailsAs calls result self.new (C.pipes carrier.new self.old.number) }
         // A connection that stands for one of the model stands for that one, cut where the
         // carrier failed.
-        ensures alike { (size : ℕ) (engine : E) (seat : Seat) (c : Connection)
-            → IsPlayed self.old.number size engine self.old seat
+        ensures refines { (size : ℕ) (engine : E) (seat : Seat) (c : Connection)
+            → RepresentsConnection self.old.number size engine self.old seat
             (C.pipes carrier.old self.old.number) c
-            → IsPlayed self.old.number size engine self.new seat
+            → RepresentsConnection self.old.number size engine self.new seat
             (C.pipes carrier.new self.old.number) (cut_where lost c) }
     {
         if lost {
             self.cut(carrier);
         }
-        Done { outcome, lost }
+        EventDone { outcome, lost }
     }
 
     /// The end of a delivery that an end refused: the connection is cut.
@@ -202,7 +207,7 @@ impl<E: Engine + Drop> Link<E> {
         carrier: &mut C,
         fault: Fault,
         lost: bool,
-    ) -> Done
+    ) -> EventDone
         requires live { self.old.is_cut ≡ false }
         requires tied { IsTied self.old (C.pipes carrier.old self.old.number) }
         ensures number { self.new.number ≡ self.old.number }
@@ -217,7 +222,7 @@ impl<E: Engine + Drop> Link<E> {
             → FailsAs calls result self.new (C.pipes carrier.new self.old.number) }
     {
         self.cut(carrier);
-        Done {
+        EventDone {
             outcome: fault.outcome(),
             lost,
         }

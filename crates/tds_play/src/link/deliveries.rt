@@ -2,13 +2,13 @@
 ghost use Rattle.std.specs.Prelude.{[], ◌∷◌, ◌≡◌, ◌≤◌, ◌||◌, ◌++◌, ℕ, List, false, min, None, Option, Some, IfOk, OnOk};
 ghost use Rattle.tds_packet.specs.declared.kind.Direction.TheVariants.{ToClient, ToServer};
 ghost use Rattle.tds_play.specs.Failures.{Carry, FailsAs, HasNoFailure, Send};
-ghost use Rattle.tds_play.specs.Between.{Stands};
+ghost use Rattle.tds_play.specs.Between.{RepresentsEnds};
 ghost use Rattle.tds_ends.specs.Deliveries.{AllArrive};
 ghost use Rattle.tds_ends.specs.Feeding.{Comes, Coming, Listened, listened};
 ghost use Rattle.tds_play.specs.Listening.{HasListened, told_in};
 ghost use Rattle.tds_play.specs.Pipe.{Pipe};
-ghost use Rattle.tds_play.specs.Plays.{DoesAlike, IsPlayed, count_of, delivers_down, delivers_up};
-ghost use Rattle.tds_ends.specs.Promises.{IsCountable, Promises};
+ghost use Rattle.tds_play.specs.Plays.{RefinesAct, RepresentsConnection, count_of, delivers_down, delivers_up};
+ghost use Rattle.tds_ends.specs.ModelGives.{IsCountable, ModelGives};
 ghost use Rattle.tds_play.specs.declared.seat.Seat.{Seat};
 ghost use Rattle.tds_ends.specs.AllBytes.{ClientHasRead, new_reader};
 ghost use Rattle.tds_play.specs.Reads.{ClientIsFed, IsReading, ReadsOn, given_by};
@@ -20,7 +20,7 @@ ghost use Rattle.tds_world.specs.Connection.{Connection, down_underway, up_under
 ghost use Rattle.tds_world.specs.Deliveries.{DeliversOn};
 ghost use Rattle.tds_world.specs.declared.outcome.Outcome.TheVariants as outcome;
 
-use super::{Done, Link};
+use super::{EventDone, Link};
 use crate::NoMemory;
 use crate::carrier::Carrier;
 use crate::feeding::{Heard, feed_client, feed_server};
@@ -58,7 +58,7 @@ impl<E: Engine + Drop> Link<E> {
         alloc: Global,
         carrier: &mut C,
         most: u32,
-    ) -> Result<Done, NoMemory>
+    ) -> Result<EventDone, NoMemory>
         requires live { self.old.is_cut ≡ false }
         requires tied { IsTied self.old (C.pipes carrier.old self.old.number) }
         ensures number { self.new.number ≡ self.old.number }
@@ -74,14 +74,14 @@ impl<E: Engine + Drop> Link<E> {
             columns (C.pipes carrier.old self.old.number) (C.pipes carrier.new self.old.number)) }
         // A connection that stands for one of the model stands for what the delivery of as many
         // bytes as came makes of it, cut where the carrier failed.
-        ensures alike { (size : ℕ) (engine : E) (seat : Seat) (c : Connection)
+        ensures refines { (size : ℕ) (engine : E) (seat : Seat) (c : Connection)
             → C.tells carrier.old
-            → IsPlayed self.old.number size engine self.old seat
+            → RepresentsConnection self.old.number size engine self.old seat
             (C.pipes carrier.old self.old.number) c
-            → Promises E (answer_of (E.statements_of engine) (E.step_of engine)) size c
+            → ModelGives E (answer_of (E.statements_of engine) (E.step_of engine)) size c
             → ((k : ℕ) → IsCountable (to_server (answer_of (E.statements_of engine)
             (E.step_of engine)) k c))
-            → IfOk result (λ done. DoesAlike self.old.number size engine done self.new seat
+            → IfOk result (λ done. RefinesAct self.old.number size engine done self.new seat
             (C.pipes carrier.new self.old.number)
             (delivers_up (answer_of (E.statements_of engine) (E.step_of engine))
             (count_of done most) c) c) }
@@ -111,7 +111,7 @@ impl<E: Engine + Drop> Link<E> {
         carrier: &mut C,
         seat: &mut Seat,
         most: u32,
-    ) -> Result<Done, NoMemory>
+    ) -> Result<EventDone, NoMemory>
         requires live { self.old.is_cut ≡ false }
         requires tied { IsTied self.old (C.pipes carrier.old self.old.number) }
         ensures number { self.new.number ≡ self.old.number }
@@ -125,13 +125,14 @@ impl<E: Engine + Drop> Link<E> {
             → IsReading size self.old seat.old.client.columns
             (C.pipes carrier.old self.old.number)
             → IfOk result (λ done. ReadsOn size (event.ToClient n most) done.outcome self.new
-            seat.new.client.columns (C.pipes carrier.old self.old.number) (C.pipes carrier.new self.old.number)) }
-        ensures alike { (answers : Answers) (size : ℕ) (engine : E) (c : Connection)
+            seat.new.client.columns (C.pipes carrier.old self.old.number)
+            (C.pipes carrier.new self.old.number)) }
+        ensures refines { (answers : Answers) (size : ℕ) (engine : E) (c : Connection)
             → C.tells carrier.old
-            → IsPlayed self.old.number size engine self.old seat.old
+            → RepresentsConnection self.old.number size engine self.old seat.old
             (C.pipes carrier.old self.old.number) c
-            → Promises E answers size c
-            → IfOk result (λ done. DoesAlike self.old.number size engine done self.new seat.new
+            → ModelGives E answers size c
+            → IfOk result (λ done. RefinesAct self.old.number size engine done self.new seat.new
             (C.pipes carrier.new self.old.number) (delivers_down (count_of done most) c) c) }
     {
         listens_alike();

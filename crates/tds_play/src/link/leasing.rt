@@ -6,7 +6,7 @@ ghost use Rattle.tds_play.specs.Failures.{FailsAs, HasNoFailure, Send};
 ghost use Rattle.tds_play.specs.Links.{recounted};
 ghost use Rattle.tds_play.specs.Seats.{seated};
 ghost use Rattle.tds_play.specs.Acts.{cancelled_as, unless_lost};
-ghost use Rattle.tds_play.specs.Plays.{DoesAlike, IsPlayed};
+ghost use Rattle.tds_play.specs.Plays.{RefinesAct, RepresentsConnection};
 ghost use Rattle.tds_world.specs.Caller.{cancels};
 ghost use Rattle.tds_world.specs.Connection.{Connection, up_underway};
 ghost use Rattle.tds_world.specs.Pool.{comes_back, place_back, returned_as};
@@ -15,7 +15,7 @@ ghost use Rattle.tds_world.specs.declared.outcome.Outcome.TheVariants as outcome
 ghost use Rattle.tds_play.specs.Reads.{ReadsNoMore};
 ghost use Rattle.tds_play.specs.Ties.{IsTied, KeepsTies};
 
-use super::{Done, Link};
+use super::{EventDone, Link};
 use crate::NoMemory;
 use crate::carrier::Carrier;
 use crate::seat::Seat;
@@ -33,7 +33,7 @@ impl<E: Engine + Drop> Link<E> {
         alloc: Global,
         carrier: &mut C,
         seat: &mut Seat,
-    ) -> Result<Done, NoMemory>
+    ) -> Result<EventDone, NoMemory>
         requires live { self.old.is_cut ≡ false }
         requires tied { IsTied self.old (C.pipes carrier.old self.old.number) }
         ensures number { self.new.number ≡ self.old.number }
@@ -51,11 +51,11 @@ impl<E: Engine + Drop> Link<E> {
             → IfOk result (λ done. FailsAs (Send ToServer ∷ []) done self.new
             (C.pipes carrier.new self.old.number)) }
         // A connection that stands for one of the model stands for what comes back there.
-        ensures alike { (size : ℕ) (engine : E) (c : Connection)
-            → IsPlayed self.old.number size engine self.old seat.old
+        ensures refines { (size : ℕ) (engine : E) (c : Connection)
+            → RepresentsConnection self.old.number size engine self.old seat.old
             (C.pipes carrier.old self.old.number) c
             → up_underway (cancels c) ≤ 18446744073709551615
-            → IfOk result (λ done. DoesAlike self.old.number size engine done self.new seat.new
+            → IfOk result (λ done. RefinesAct self.old.number size engine done self.new seat.new
             (C.pipes carrier.new self.old.number) (comes_back (cancels c)) c) }
     {
         cancels_alike();

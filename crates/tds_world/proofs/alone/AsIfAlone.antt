@@ -13,7 +13,7 @@ use Rattle.tds_token.specs.declared.token.Token.{Token}
 use Rattle.tds_token.specs.Told.{told}
 use Rattle.tds_world.specs.declared.event.Event.{Event}
 use Rattle.tds_world.specs.declared.event.Setup.{Setup}
-use Rattle.tds_world.specs.Alone.{AreAlike, Exchange, exchange_of, exchanges_of, progress_of, own_steps, session_after, left_by, left_alone, MayRollBack, own_session, session_from, HasRoom, IsToldAlone, TellsAlone, RunsAlone, AsIfAlone, AllAlike, BlindToNumbers}
+use Rattle.tds_world.specs.alone.Alone.{AreAlike, Exchange, exchange_of, exchanges_of, progress_of, own_steps, session_after, left_by, left_alone, MayRollBack, own_session, session_from, HasRoom, IsToldAlone, TellsAlone, RunsAlone, AsIfAlone, AllAlike, BlindToNumbers}
 use Rattle.tds_world.specs.Bounds.{RanInOwn, IsEvent}
 use Rattle.tds_world.specs.Connection.{Connection, records}
 use Rattle.tds_world.specs.Descriptors.{UseFewDescriptors, AreFewEvents, most_events}

@@ -20,7 +20,7 @@ use Rattle.tds_token.specs.declared.env_change.EnvChange.TheVariants as change
 use Rattle.tds_token.specs.declared.token.Token.{Token}
 use Rattle.tds_token.specs.declared.token.Token.TheVariants as token
 use Rattle.tds_token.specs.Told.{told}
-use Rattle.tds_world.specs.Alone.{AreAlike, own_steps, AllAlike, BlindToNumbers}
+use Rattle.tds_world.specs.alone.Alone.{AreAlike, own_steps, AllAlike, BlindToNumbers}
 use Rattle.tds_world.proofs.reports.Asks.{same_number, then_is}
 use Rattle.tds_world.proofs.requests.Own.{told_two}
 

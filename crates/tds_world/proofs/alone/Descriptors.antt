@@ -11,7 +11,7 @@ use Rattle.tds_session.specs.Answer.{Answers}
 use Rattle.tds_session.specs.Session.{SessionState, new_session, begun, last_descriptor}
 use Rattle.tds_world.specs.declared.event.Event.{Event}
 use Rattle.tds_world.specs.declared.event.Setup.{Setup}
-use Rattle.tds_world.specs.Alone.{HasRoom, Progress, left_by, own_steps, session_after}
+use Rattle.tds_world.specs.alone.Alone.{HasRoom, Progress, left_by, own_steps, session_after}
 use Rattle.tds_world.specs.Arrivals.{server_acts, client_acts}
 use Rattle.tds_world.specs.Bounds.{IsEvent}
 use Rattle.tds_world.specs.Caller.{cancels_by, sends_by}

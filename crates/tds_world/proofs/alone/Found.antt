@@ -9,7 +9,7 @@ use Rattle.tds_session.specs.Attention.{rolls_back, stop_by}
 use Rattle.tds_session.specs.Session.{SessionState, new_session}
 use Rattle.tds_token.specs.declared.env_change.EnvChange.{EnvChange}
 use Rattle.tds_token.specs.declared.env_change.EnvChange.TheVariants as change
-use Rattle.tds_world.specs.Alone.{session_after, left_by, rolls_among, Progress, MayRollBack}
+use Rattle.tds_world.specs.alone.Alone.{session_after, left_by, rolls_among, Progress, MayRollBack}
 use Rattle.tds_world.specs.Arrivals.{server_acts, acknowledged_at, is_midway}
 use Rattle.tds_world.specs.Connection.{Connection}
 use Rattle.tds_world.specs.Entries.{Asking, Packet, Up, Part, End, Drop, Attention, Down, Acknowledgement}

@@ -7,7 +7,7 @@ use Rattle.tds_session.specs.declared.attention.OnAttention.TheVariants as on_at
 use Rattle.tds_session.specs.Answer as answer
 use Rattle.tds_session.specs.Answer.{Answers, reset_step}
 use Rattle.tds_token.specs.declared.env_change.EnvChange.{EnvChange}
-use Rattle.tds_world.specs.Alone.{counted, steps_among, rolls_among, tells_back, Progress, progress_among, MayRollBack}
+use Rattle.tds_world.specs.alone.Alone.{counted, steps_among, rolls_among, tells_back, Progress, progress_among, MayRollBack}
 use Rattle.tds_world.specs.Entries.{Down, Step, Acknowledgement}
 use Rattle.tds_world.proofs.flow.Arrivals.{same_number}
 use Rattle.tds_world.proofs.reports.Asks.{else_is, then_is}

@@ -9,7 +9,7 @@ use Rattle.tds_session.specs.Answer as answer
 use Rattle.tds_session.specs.Answer.{Answers, reset_step}
 use Rattle.tds_session.specs.Session.{SessionState, new_session, after_reset}
 use Rattle.tds_world.specs.declared.event.Setup.{Setup}
-use Rattle.tds_world.specs.Alone.{session_after, counted, steps_among, Progress, progress_of}
+use Rattle.tds_world.specs.alone.Alone.{session_after, counted, steps_among, Progress, progress_of}
 use Rattle.tds_world.specs.Arrivals.{client_acts, works_on}
 use Rattle.tds_world.specs.Caller.{asks, cancels_by, sends_by}
 use Rattle.tds_world.specs.Connection.{Connection, records, phase}

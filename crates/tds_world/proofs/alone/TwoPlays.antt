@@ -10,12 +10,12 @@ use Rattle.tds_world.specs.declared.outcome.Opened.{Opened}
 use Rattle.tds_world.specs.declared.outcome.Opened.TheVariants as opened
 use Rattle.tds_world.specs.declared.report.EventReport.{EventReport}
 use Rattle.tds_world.specs.declared.report.Report.{Report}
-use Rattle.tds_world.specs.Alone.{AreAlike, Exchange, exchanges_of, own_session, session_from, left_by, left_alone, own_steps, session_after, Progress, IsToldAlone, TellsAlone, RunsAlone, AsIfAlone}
-use Rattle.tds_world.specs.AloneShown.{LeaseShown, lease_in, OfEachLease, own_by, HowFar, ShowsAsIfAlone}
+use Rattle.tds_world.specs.alone.Alone.{AreAlike, Exchange, exchanges_of, own_session, session_from, left_by, left_alone, own_steps, session_after, Progress, IsToldAlone, TellsAlone, RunsAlone, AsIfAlone}
+use Rattle.tds_world.specs.alone.AloneShown.{LeaseShown, lease_in, OfEachLease, own_by, HowFar, ShowsAsIfAlone}
 use Rattle.tds_world.specs.Connection.{Connection}
 use Rattle.tds_world.specs.Laws.{whole_answer}
 use Rattle.tds_world.specs.Reports.{asked_in}
-use Rattle.tds_world.specs.TwoPlays.{AgreeSoFar, AreGivenAlike, AllGivenAlike, GiveAlike, is_from, is_resumed, was_resumed, LeasesAlike, ShowGivenAlike}
+use Rattle.tds_world.specs.alone.TwoPlays.{AgreeSoFar, AreGivenAlike, AllGivenAlike, GiveAlike, is_from, is_resumed, was_resumed, LeasesAlike, ShowGivenAlike}
 use Rattle.tds_world.specs.World.{World, Holding, numbered}
 use Rattle.tds_world.proofs.events.Words.{OfSome}
 use Rattle.tds_world.proofs.events.Worlds.{at_number}

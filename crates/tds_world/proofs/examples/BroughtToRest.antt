@@ -14,7 +14,7 @@ use Rattle.tds_world.specs.declared.report.Snapshot.{Snapshot}
 use Rattle.tds_world.specs.Connection.{In}
 use Rattle.tds_world.specs.Observed.{observed, snapshots}
 use Rattle.tds_world.specs.Events.{world_after}
-use Rattle.tds_world.specs.Rest.{stopping, finishing}
+use Rattle.tds_world.specs.rest.Rest.{stopping, finishing}
 use Rattle.tds_world.specs.World.{new_world}
 use Rattle.tds_world.proofs.examples.Shown.{with_max}
 

@@ -11,7 +11,7 @@ use Rattle.tds_world.specs.declared.event.Setup.{Setup}
 use Rattle.tds_world.specs.declared.report.Place.TheVariants.{Free}
 use Rattle.tds_world.specs.declared.report.RequestStatus.{RequestStatus}
 use Rattle.tds_world.specs.declared.report.RequestStatus.TheVariants as status
-use Rattle.tds_world.specs.Alone.{Exchange, Progress, exchanges_of, left_alone, own_session}
+use Rattle.tds_world.specs.alone.Alone.{Exchange, Progress, exchanges_of, left_alone, own_session}
 use Rattle.tds_world.specs.Connection.{Connection, new_connection}
 use Rattle.tds_world.specs.Events.{world_after}
 use Rattle.tds_world.specs.Laws.{whole_answer}

@@ -8,8 +8,8 @@ use Rattle.tds_world.specs.declared.event.Event.{Event}
 use Rattle.tds_world.specs.declared.event.Setup.{Setup}
 use Rattle.tds_world.specs.declared.report.EventReport.{EventReport}
 use Rattle.tds_world.specs.declared.report.RequestReport.{RequestReport}
-use Rattle.tds_world.specs.Alone.{BlindToNumbers, RunsAlone, AsIfAlone}
-use Rattle.tds_world.specs.AloneShown.{LeaseShown, lease_in, own_by, far_in, ShowsAsIfAlone}
+use Rattle.tds_world.specs.alone.Alone.{BlindToNumbers, RunsAlone, AsIfAlone}
+use Rattle.tds_world.specs.alone.AloneShown.{LeaseShown, lease_in, own_by, far_in, ShowsAsIfAlone}
 use Rattle.tds_world.specs.Bounds.{IsEvent}
 use Rattle.tds_world.specs.Descriptors.{UseFewDescriptors, AreFewEvents, most_events}
 use Rattle.tds_world.specs.Events.{world_after}

@@ -5,8 +5,8 @@ use Rattle.tds_session.specs.Answer.{Answers}
 use Rattle.tds_world.specs.declared.event.Event.{Event}
 use Rattle.tds_world.specs.declared.event.Setup.{Setup}
 use Rattle.tds_world.specs.declared.report.Report.{Report}
-use Rattle.tds_world.specs.Alone.{BlindToNumbers}
-use Rattle.tds_world.specs.AloneShown.{ShowsAsIfAlone, far_in}
+use Rattle.tds_world.specs.alone.Alone.{BlindToNumbers}
+use Rattle.tds_world.specs.alone.AloneShown.{ShowsAsIfAlone, far_in}
 use Rattle.tds_world.specs.Bounds.{IsEvent, IsSetup}
 use Rattle.tds_world.specs.Descriptors.{AreFewEvents, UseFewDescriptors}
 use Rattle.tds_world.specs.Events.{world_after}
@@ -14,7 +14,7 @@ use Rattle.tds_world.specs.Lawful.{Lawful}
 use Rattle.tds_world.specs.Losses.{Played, marked, world_with, observed_with}
 use Rattle.tds_world.specs.Observed.{observed}
 use Rattle.tds_world.specs.Reports.{GivesNoMore, ShowsFewUnderway, ShowsFreshStart, ShowsIdleQuiet, ShowsKeptTransaction, ShowsLendsIdle, ShowsOwnAnswers, ShowsOwnTransaction}
-use Rattle.tds_world.specs.RestShown.{ShowsNeverStuckWith}
+use Rattle.tds_world.specs.rest.RestShown.{ShowsNeverStuckWith}
 use Rattle.tds_world.specs.WithLosses.{AlwaysShownWith, AlwaysToldWith, GivesNoMoreWith, IsReportWith, MarksNothing, ShowsNoEndFaults, events_of}
 use Rattle.tds_world.specs.World.{new_world}
 use Rattle.tds_world.proofs.plays.Alone as alone

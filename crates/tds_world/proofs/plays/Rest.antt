@@ -13,8 +13,8 @@ use Rattle.tds_world.specs.Lawful.{Lawful}
 use Rattle.tds_world.specs.Losses.{Played, marked, with_cuts, world_then, world_with, event_reports_with, observed_with}
 use Rattle.tds_world.specs.Observed.{observed, request_reports, snapshots}
 use Rattle.tds_world.specs.Reports.{snapshot_in}
-use Rattle.tds_world.specs.Rest.{finishing, stopping}
-use Rattle.tds_world.specs.RestShown.{AreAnswered, IsAnswered, IsAtRest, IsNeverStuck, Later, ShowsNeverStuckWith, last_of, last_snapshots, later_with, unlost}
+use Rattle.tds_world.specs.rest.Rest.{finishing, stopping}
+use Rattle.tds_world.specs.rest.RestShown.{AreAnswered, IsAnswered, IsAtRest, IsNeverStuck, Later, ShowsNeverStuckWith, last_of, last_snapshots, later_with, unlost}
 use Rattle.tds_world.specs.WithLosses.{IsReportWith, LosesNothing, events_of}
 use Rattle.tds_world.specs.World.{World, new_world}
 use Rattle.tds_world.proofs.plays.Worlds.{lost_no_event, plain_worlds, schedule_fronts}

@@ -18,8 +18,8 @@ use Rattle.tds_world.specs.Order.{RequestsInOrder}
 use Rattle.tds_world.specs.Phase.{Cancelling, phase_by, phase_of, is_settled, status_by, status_of}
 use Rattle.tds_world.specs.Record.{Record, Out, NotBegun, Begun, Whole, Fate, Open, Finished, Cancelled, Acknowledged, is_cancelled}
 use Rattle.tds_world.specs.Reports.{Ask, asked_in}
-use Rattle.tds_world.specs.Rest.{Became, Finishes}
-use Rattle.tds_world.specs.RestShown.{BecomesOf, AreAnswered}
+use Rattle.tds_world.specs.rest.Rest.{Became, Finishes}
+use Rattle.tds_world.specs.rest.RestShown.{BecomesOf, AreAnswered}
 use Rattle.tds_world.specs.World.{World, new_world, numbered}
 use Rattle.tds_world.proofs.events.Agreement.{new_agrees}
 use Rattle.tds_world.proofs.events.Grows.{Grown, after_grow, after_both, after_agrees}

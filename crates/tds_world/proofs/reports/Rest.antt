@@ -14,8 +14,8 @@ use Rattle.tds_world.specs.Lawful.{Lawful}
 use Rattle.tds_world.specs.Observed.{observed, snapshot_of, seen, snapshots_from, snapshots, event_reports}
 use Rattle.tds_world.specs.Phase.{state_of}
 use Rattle.tds_world.specs.Reports.{AlwaysTold, snapshot_in}
-use Rattle.tds_world.specs.Rest.{rested_at, rested, BringsToRest, Finishes, stopping, finishing, NeverStuck}
-use Rattle.tds_world.specs.RestShown.{last_of, last_snapshots, acknowledgement_most, IsAtRest, CanBeStopped, CanBeFinished, IsNeverStuck, ShowsNeverStuck}
+use Rattle.tds_world.specs.rest.Rest.{rested_at, rested, BringsToRest, Finishes, stopping, finishing, NeverStuck}
+use Rattle.tds_world.specs.rest.RestShown.{last_of, last_snapshots, acknowledgement_most, IsAtRest, CanBeStopped, CanBeFinished, IsNeverStuck, ShowsNeverStuck}
 use Rattle.tds_world.specs.World.{World, new_world, numbered}
 use Rattle.tds_world.proofs.events.Grows.{after_both}
 use Rattle.tds_world.proofs.events.Worlds.{always}

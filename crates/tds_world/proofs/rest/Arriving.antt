@@ -13,7 +13,7 @@ use Rattle.tds_world.specs.Lane.{Lane, passed, with_waiting, underway, IsLongest
 use Rattle.tds_world.specs.Lawful.{Lawful}
 use Rattle.tds_world.specs.Phase.{Phase, Settled, Asked, Sending, Reading, Cancelling, phase_in, phase_of, is_settled}
 use Rattle.tds_world.specs.Record.{Record, gives, acknowledges, runs, when, if_numbered}
-use Rattle.tds_world.specs.Rest.{times}
+use Rattle.tds_world.specs.rest.Rest.{times}
 use Rattle.tds_world.proofs.events.Moves.{to_server_keeps, to_client_keeps, works_keeps, cancels_keeps}
 use Rattle.tds_world.proofs.events.Words.{either}
 use Rattle.tds_world.proofs.flow.Busy.{busy_down}

@@ -14,7 +14,7 @@ use Rattle.tds_world.specs.Lawful.{Lawful}
 use Rattle.tds_world.specs.Phase.{Phase, Settled, Asked, Sending, Reading, Cancelling, phase_in, phase_of, phase_by}
 use Rattle.tds_world.specs.Record.{Record, Fate, Open, Finished, Cancelled, Acknowledged, is_cancelled, stepped, Out, NotBegun, Begun, packets_of, gives, acknowledges, runs, when, if_numbered}
 use Rattle.tds_world.specs.Record as request
-use Rattle.tds_world.specs.Rest.{Became, times, after_act, sends_next}
+use Rattle.tds_world.specs.rest.Rest.{Became, times, after_act, sends_next}
 use Rattle.tds_world.proofs.events.Words.{either}
 use Rattle.tds_world.proofs.flow.Fates.{step_cancels_none}
 use Rattle.tds_world.proofs.flow.Flow.{FlowIn, number_in, SoundWith}

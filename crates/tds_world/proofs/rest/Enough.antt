@@ -9,7 +9,7 @@ use Rattle.tds_world.specs.Caller.{cancels}
 use Rattle.tds_world.specs.Connection.{Connection, phase, up_underway, down_underway}
 use Rattle.tds_world.specs.Phase.{Phase, Settled, Asked, Sending, Reading, Cancelling}
 use Rattle.tds_world.specs.Record.{Record}
-use Rattle.tds_world.specs.Rest.{AreAll, AreThere, AreEnough, HoldsAll, HoldAll, times, sends_next}
+use Rattle.tds_world.specs.rest.Rest.{AreAll, AreThere, AreEnough, HoldsAll, HoldAll, times, sends_next}
 use Rattle.tds_world.proofs.packets.Ranges.{packet_least}
 
 same : (n : ℕ) → n ≤ n

@@ -10,7 +10,7 @@ use Rattle.tds_world.specs.Connection.{Connection, phase, up_underway, down_unde
 use Rattle.tds_world.specs.Lawful.{Lawful}
 use Rattle.tds_world.specs.Phase.{Phase, Settled, Asked, Sending, Reading, Cancelling}
 use Rattle.tds_world.specs.Record.{Record}
-use Rattle.tds_world.specs.Rest.{AreEnough, HoldsAll, HoldAll, times, sends_next}
+use Rattle.tds_world.specs.rest.Rest.{AreEnough, HoldsAll, HoldAll, times, sends_next}
 use Rattle.tds_world.proofs.packets.Ranges.{packet_least}
 use Rattle.tds_world.proofs.rest.Arriving.{IsGood, server_good, Worked, all_worked}
 use Rattle.tds_world.proofs.rest.Enough.{packets_for, holds_in}

@@ -17,7 +17,7 @@ use Rattle.tds_world.specs.Laws.{Always}
 use Rattle.tds_world.specs.Phase.{Phase, Settled, Asked, Sending, Reading, Cancelling, is_settled}
 use Rattle.tds_world.specs.Pool.{Acted, Refuses, Does}
 use Rattle.tds_world.specs.Record.{Record}
-use Rattle.tds_world.specs.Rest.{rested, ComesToRest, BringsToRest, arriving, stopping, AreAll, answering, finishing, times, after_act, sends_next, AreEnough, NeverStuck}
+use Rattle.tds_world.specs.rest.Rest.{rested, ComesToRest, BringsToRest, arriving, stopping, AreAll, answering, finishing, times, after_act, sends_next, AreEnough, NeverStuck}
 use Rattle.tds_world.specs.World.{World, new_world, Found, Missing, Here, numbered, put_numbered, uncut_in, by_number, by_lease, not_cut}
 use Rattle.tds_world.proofs.events.Agreement.{happens_agrees, new_agrees}
 use Rattle.tds_world.proofs.events.Grows.{notes_leave, after_both, after_agrees}

@@ -8,7 +8,7 @@ use Rattle.tds_world.specs.Connection.{Connection, phase}
 use Rattle.tds_world.specs.Events.{sends_in}
 use Rattle.tds_world.specs.Phase.{Phase, Settled, Asked, Sending, Reading, Cancelling, phase_in, phase_of, phase_by}
 use Rattle.tds_world.specs.Record.{Record, Fate, Out, Begun, Whole, packets_of}
-use Rattle.tds_world.specs.Rest.{times, sends_next, after_act, HoldsAll, HoldAll}
+use Rattle.tds_world.specs.rest.Rest.{times, sends_next, after_act, HoldsAll, HoldAll}
 use Rattle.tds_world.proofs.events.Standings.{sends_stand}
 use Rattle.tds_world.proofs.flow.Fates.{is_sending, when_going}
 use Rattle.tds_world.proofs.flow.Keeps.{sends_keeps_by}

@@ -16,8 +16,8 @@ use Rattle.tds_world.specs.Entries.{Up, Part, End, Drop, Attention, Acknowledgem
 use Rattle.tds_world.specs.Lane.{Lane, append, passed, with_waiting, underway}
 use Rattle.tds_world.specs.Phase.{Phase, Settled, Asked, Sending, Reading, Cancelling, phase_of}
 use Rattle.tds_world.specs.Record.{Record}
-use Rattle.tds_world.specs.Rest.{AreAll}
-use Rattle.tds_world.specs.RestShown.{acknowledgement_most}
+use Rattle.tds_world.specs.rest.Rest.{AreAll}
+use Rattle.tds_world.specs.rest.RestShown.{acknowledgement_most}
 use Rattle.tds_world.proofs.events.Options.{server_told, cancels_told}
 use Rattle.tds_world.proofs.events.Words.{either}
 use Rattle.tds_world.proofs.flow.Counts.{at_most_one}

@@ -3,16 +3,16 @@
 ghost use Rattle.std.specs.Prelude.{List};
 ghost use Rattle.tds_session.specs.Answer.{Answers};
 ghost use Rattle.tds_session.specs.declared.attention.OnAttention.{OnAttention};
-ghost use Rattle.tds_world.specs.Alone.{BlindToNumbers};
-ghost use Rattle.tds_world.specs.AloneShown.{ShowsAsIfAlone, HowFar, far_in};
+ghost use Rattle.tds_world.specs.alone.Alone.{BlindToNumbers};
+ghost use Rattle.tds_world.specs.alone.AloneShown.{ShowsAsIfAlone, HowFar, far_in};
 ghost use Rattle.tds_world.specs.Bounds.{IsEvent, IsSetup};
 ghost use Rattle.tds_world.specs.Descriptors.{AreFewEvents, UseFewDescriptors};
 ghost use Rattle.tds_world.specs.Events.{world_after};
 ghost use Rattle.tds_world.specs.Lawful.{Lawful};
 ghost use Rattle.tds_world.specs.Observed.{observed};
 ghost use Rattle.tds_world.specs.Reports.{AlwaysShown, AlwaysShownOf, AlwaysTold, ShowsFewUnderway, ShowsFreshStart, ShowsIdleQuiet, ShowsKeptTransaction, ShowsLendsIdle, ShowsNoFault, ShowsNothingAfterCancel, ShowsOwnAnswers, ShowsOwnTransaction};
-ghost use Rattle.tds_world.specs.RestShown.{ShowsNeverStuck};
-ghost use Rattle.tds_world.specs.TwoPlays.{ShowGivenAlike};
+ghost use Rattle.tds_world.specs.rest.RestShown.{ShowsNeverStuck};
+ghost use Rattle.tds_world.specs.alone.TwoPlays.{ShowGivenAlike};
 ghost use Rattle.tds_world.specs.World.{new_world};
 ghost use Rattle.tds_world.specs.declared.event.Event.{Event};
 ghost use Rattle.tds_world.specs.declared.event.Setup.{Setup};
@@ -95,7 +95,8 @@ pub fn as_if_alone()
     ensures { (setup : Setup) (answers : Answers) → Lawful answers → BlindToNumbers answers
         → UseFewDescriptors answers → (events : List Event) → AreFewEvents events
         → ShowsAsIfAlone setup.on_attention answers
-        (far_in (world_after setup answers events new_world)) events (observed setup answers events) }
+        (far_in (world_after setup answers events new_world)) events
+        (observed setup answers events) }
 {}
 
 /// Two reports that show each lease to be told what it would be told alone, as those of any two

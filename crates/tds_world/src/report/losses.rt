@@ -4,8 +4,8 @@
 ghost use Rattle.std.specs.Prelude.{◌≡◌, ◌++◌, List};
 ghost use Rattle.std.specs.List.{AllByRecursion};
 ghost use Rattle.tds_session.specs.Answer.{Answers};
-ghost use Rattle.tds_world.specs.Alone.{BlindToNumbers};
-ghost use Rattle.tds_world.specs.AloneShown.{ShowsAsIfAlone, far_in};
+ghost use Rattle.tds_world.specs.alone.Alone.{BlindToNumbers};
+ghost use Rattle.tds_world.specs.alone.AloneShown.{ShowsAsIfAlone, far_in};
 ghost use Rattle.tds_world.specs.Bounds.{IsEvent, IsSetup};
 ghost use Rattle.tds_world.specs.Descriptors.{AreFewEvents, UseFewDescriptors};
 ghost use Rattle.tds_world.specs.Events.{world_after};
@@ -15,7 +15,7 @@ ghost use Rattle.tds_world.specs.Observed.{observed};
 ghost use Rattle.tds_world.specs.Reports.{ShowsFewUnderway, ShowsFreshStart, ShowsIdleQuiet};
 ghost use Rattle.tds_world.specs.Reports.{ShowsKeptTransaction, ShowsLendsIdle, ShowsOwnAnswers};
 ghost use Rattle.tds_world.specs.Reports.{ShowsOwnTransaction};
-ghost use Rattle.tds_world.specs.RestShown.{ShowsNeverStuckWith};
+ghost use Rattle.tds_world.specs.rest.RestShown.{ShowsNeverStuckWith};
 ghost use Rattle.tds_world.specs.WithLosses.{AlwaysShownOfEvents, AlwaysShownWith, AlwaysToldWith};
 ghost use Rattle.tds_world.specs.WithLosses.{GivesNoMoreWith, IsReportWith, MarksNothing, events_of};
 ghost use Rattle.tds_world.specs.WithLosses.{ShowsNoEndFaults, ShowsNothingAfterCancelWith};
@@ -90,7 +90,8 @@ pub fn as_if_alone()
     ensures { (setup : Setup) (answers : Answers) → Lawful answers → BlindToNumbers answers
         → UseFewDescriptors answers → (ps : List Played) → AreFewEvents (events_of ps)
         → ShowsAsIfAlone setup.on_attention answers
-        (far_in (world_with setup answers ps new_world)) (events_of ps) (observed_with setup answers ps) }
+        (far_in (world_with setup answers ps new_world)) (events_of ps)
+        (observed_with setup answers ps) }
 {}
 
 /// All this of a report that is the model's of some events, with the losses that it marks itself.

@@ -28,15 +28,18 @@ impl Engine for Counts<'_> {
 
     ghost statements_of = { λ _ text. Some text };
 
-    ghost step_of = { λ _ session _. step_of session (Set 97 (int_wrapping_add w32 (value_of session 97) (pos 1))) };
+    ghost step_of = { λ _ session _. step_of session (Set 97 (int_wrapping_add w32
+        (value_of session 97) (pos 1))) };
 
     ghost is_statement = { λ _ _. Unit {0} };
 
     ghost spells = { λ _ text found e k d h. tt };
 
-    ghost is_effect = { λ _ session _. step_is session (Set 97 (int_wrapping_add w32 (value_of session 97) (pos 1))) };
+    ghost is_effect = { λ _ session _. step_is session (Set 97 (int_wrapping_add w32
+        (value_of session 97) (pos 1))) };
 
-    ghost fits_packet = { λ _ session _ h _. step_fits session (Set 97 (int_wrapping_add w32 (value_of session 97) (pos 1))) h (record { least = lit≤ tt; most = lit≤ tt }, sfits_to_z (Prim.search (rules, arith))) };
+    ghost fits_packet = { λ _ session _ h _. step_fits session (Set 97 (int_wrapping_add w32
+        (value_of session 97) (pos 1))) h (record { least = lit≤ tt; most = lit≤ tt }, sfits_to_z (Prim.search (rules, arith))) };
 
     fn parse(&self, alloc: Global, text: &[u16]) -> Result<Option<Vec<u16>>, NoMemory> {
         Ok(Some(text.to_vec(alloc)?))

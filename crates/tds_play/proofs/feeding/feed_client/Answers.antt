@@ -3,7 +3,7 @@ use Rattle.tds_ends.specs.declared.listening.ClientStop.{ClientStop}
 use Rattle.tds_ends.specs.declared.listening.ClientStop.TheVariants.{NoMemory}
 use Rattle.tds_ends.specs.AllBytes.{ClientReads, new_reader}
 use Rattle.tds_packet.specs.declared.kind.Direction.TheVariants.{ToClient}
-use Rattle.tds_play.proofs.Fed.{client_refused}
+use Rattle.tds_play.proofs.any_bytes.Fed.{client_refused}
 use Rattle.tds_play.proofs.feeding.feed_client.Goals as goal
 
 pub returns-in-None-clause-listened : goal.returns-in-None-clause-listened

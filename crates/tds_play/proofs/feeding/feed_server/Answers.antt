@@ -3,7 +3,7 @@ use Rattle.tds_ends.specs.declared.serving.ServerStop.{ServerStop}
 use Rattle.tds_ends.specs.declared.serving.ServerStop.TheVariants.{NoMemory}
 use Rattle.tds_ends.specs.AllBytes.{ServerReads, new_reader}
 use Rattle.tds_packet.specs.declared.kind.Direction.TheVariants.{ToServer}
-use Rattle.tds_play.proofs.Fed.{server_refused}
+use Rattle.tds_play.proofs.any_bytes.Fed.{server_refused}
 use Rattle.tds_play.proofs.feeding.feed_server.Goals as goal
 
 pub returns-in-None-clause-served : goal.returns-in-None-clause-served

@@ -1,6 +1,6 @@
 use Rattle.tds_play.proofs.Requested.{taken_last}
 use Rattle.std.proofs.Common.{◌∙◌, ap, arith, sym}
-use Rattle.tds_play.proofs.Given.{takes_last}
+use Rattle.tds_play.proofs.any_bytes.Given.{takes_last}
 use Rattle.tds_play.proofs.player.next_of.Goals as goal
 
 pub returns-clause-next : goal.returns-clause-next

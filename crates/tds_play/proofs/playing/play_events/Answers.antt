@@ -6,8 +6,8 @@ use Rattle.tds_session.specs.Answer.{Answers, answer_of}
 use Rattle.tds_world.specs.Bounds.{IsEvent}
 use Rattle.tds_world.specs.Events.{happens}
 use Rattle.tds_world.specs.World.{World, new_world}
-use Rattle.tds_play.specs.Player.{PromisesAll}
-use Rattle.tds_ends.specs.Promises.{IsCountable, Promises}
+use Rattle.tds_play.specs.Player.{ModelGivesEach}
+use Rattle.tds_ends.specs.ModelGives.{IsCountable, ModelGives}
 use Rattle.tds_play.specs.Failures.{LiveAreSound}
 use Rattle.tds_play.proofs.Accounts.{told_none}
 use Rattle.tds_play.proofs.Marking.{told_in_the_end, told_one_more, unfailing_in_the_end}
@@ -15,8 +15,8 @@ use Rattle.tds_play.proofs.Turns.{brought_known, known_so_far, countable_then, o
 use Rattle.std.proofs.Common.{List, refl}
 use Rattle.tds_world.specs.declared.report.EventReport.{EventReport}
 use Rattle.tds_play.specs.Reads.{AllRead}
-use Rattle.tds_play.proofs.Answered.{answers_of, none_read, read_more}
-use Rattle.tds_play.proofs.Given.{read_in_the_end}
+use Rattle.tds_play.proofs.any_bytes.Answered.{answers_of, none_read, read_more}
+use Rattle.tds_play.proofs.any_bytes.Given.{read_in_the_end}
 use Rattle.tds_play.proofs.playing.play_events.Goals as goal
 
 pub events-init : goal.events-init
@@ -33,7 +33,7 @@ events-init g c = record {
       subst (λ (rs : List EventReport). AllRead c.args.player.size c.args.player.links.items (g.C.Carrier.pipes c.args.carrier.now) (answers_of (take 0 c.args.events.now) rs)) (sym c.new-reports.ensures.items)
       (none_read c.args.player.size c.args.player.links.items (g.C.Carrier.pipes c.args.carrier.now) c.args.events.now c.requires.begins);
   lost = λ setup is tells play. rw (c.requires.begins) (told_none setup _ (g.C.Carrier.pipes c.args.carrier.now));
-  alike = λ setup is tells play. record { play = play; told = c.new-reports.ensures.items };
+  refines = λ setup is tells play. record { play = play; told = c.new-reports.ensures.items };
 }
 
 pub events-preserved : goal.events-preserved
@@ -65,21 +65,21 @@ events-preserved g c =
           read_more c.args.player.size c.events.player.size c.happen.new.self.links.items (g.C.Carrier.pipes c.happen.new.carrier) es i c.event-item.result rs _ r
           c.events-test.true c.event-item.is inv.count c.in_ok-push.ensures.items inv.size (said.reads (answers_of (take i es) rs) before);
       lost = λ setup is tells play.
-          let far = inv.alike setup is tells play in
+          let far = inv.refines setup is tells play in
           let w : World = world_with setup answers (marked (take i es) rs) new_world in
-          let before : PromisesAll g.row.E.Denot answers setup w = of_play (PromisesAll g.row.E.Denot answers setup) 20000 setup answers (take i es) rs so_far inv.known (λ fs all few. c.worlds_hold.ensures.before setup fs is all few) in
+          let before : ModelGivesEach g.row.E.Denot answers setup w = of_play (ModelGivesEach g.row.E.Denot answers setup) 20000 setup answers (take i es) rs so_far inv.known (λ fs all few. c.worlds_hold.ensures.before setup fs is all few) in
           told_one_more setup answers es i c.event-item.result rs _ c.in_ok-done.done c.new.result _ _ c.events-test.true c.event-item.is inv.count c.in_ok-push.ensures.items
           (said.lost setup engine w inv.sound far.play before) (inv.lost setup is tells play);
-      alike = λ setup is tells play.
-          let far = inv.alike setup is tells play in
+      refines = λ setup is tells play.
+          let far = inv.refines setup is tells play in
           let w : World = world_with setup answers (marked (take i es) rs) new_world in
-          let before : PromisesAll g.row.E.Denot answers setup w = of_play (PromisesAll g.row.E.Denot answers setup) 20000 setup answers (take i es) rs so_far inv.known (λ fs all few. c.worlds_hold.ensures.before setup fs is all few) in
+          let before : ModelGivesEach g.row.E.Denot answers setup w = of_play (ModelGivesEach g.row.E.Denot answers setup) 20000 setup answers (take i es) rs so_far inv.known (λ fs all few. c.worlds_hold.ensures.before setup fs is all few) in
           let countable : (k : ℕ) → OfEachConnection IsCountable (happens setup answers (bringing k c.event-item.result) w).1 = (λ k.
           countable_then g.row.E.Denot setup answers (happens setup answers (bringing k c.event-item.result) w).1
-          (of_play_then (OfEachConnection (Promises g.row.E.Denot answers setup.packet_size)) 20000 setup answers (take i es) rs (bringing k c.event-item.result) so_far inv.known
+          (of_play_then (OfEachConnection (ModelGives g.row.E.Denot answers setup.packet_size)) 20000 setup answers (take i es) rs (bringing k c.event-item.result) so_far inv.known
           (brought_known k c.event-item.result c.known.ensures) (λ fs all few. c.worlds_hold.ensures.each setup fs is all few))) in
           one_event_more setup answers engine es i c.event-item.result c.events.player c.happen.new.self _ _ rs _ c.in_ok-done.done c.new.result
-          c.events-test.true c.event-item.is inv.count (said.alike setup engine w (inv.tells tells) far.play before countable)
+          c.events-test.true c.event-item.is inv.count (said.refines setup engine w (inv.tells tells) far.play before countable)
           (c.new.ensures ∙ c.in_ok-snapshots.ensures) c.in_ok-push.ensures.items far;
     }
 
@@ -93,14 +93,14 @@ returns-clause-unfailing g c = λ setup is tells play fine.
     unfailing_in_the_end setup answers es i (length c.events.player.links.items) (g.C.Carrier.pipes c.events.carrier) rs c.new-2.result
     (omega (arith, c.events-test.false)) c.events.invariant.within c.new-2.ensures (c.events.invariant.lost setup is tells play) fine
 
-pub returns-clause-alike : goal.returns-clause-alike
-returns-clause-alike g c = λ setup is tells play.
+pub returns-clause-refines : goal.returns-clause-refines
+returns-clause-refines g c = λ setup is tells play.
     let i : ℕ = c.events.event-index in
     let es = c.args.events.now in
     let rs = c.events.reports.items in
     let engine = c.args.player.engine in
     let answers : Answers = answer_of (g.E.Engine.statements_of engine) (g.E.Engine.step_of engine) in
-    let far = c.events.invariant.alike setup is tells play in
+    let far = c.events.invariant.refines setup is tells play in
     let w : World = world_with setup answers (marked (take i es) rs) new_world in
     let order : RequestsInOrder w = subst RequestsInOrder (sym (world_is setup answers (marked (take i es) rs) new_world)) (c.worlds_hold.ensures.order setup (with_cuts setup answers (marked (take i es) rs) new_world)) in
     let laws = c.of_marked_report.ensures in
@@ -116,7 +116,7 @@ returns-clause-lost g c = λ setup is tells play.
     let rs = c.events.reports.items in
     let engine = c.args.player.engine in
     let answers : Answers = answer_of (g.E.Engine.statements_of engine) (g.E.Engine.step_of engine) in
-    let far = c.events.invariant.alike setup is tells play in
+    let far = c.events.invariant.refines setup is tells play in
     told_in_the_end setup answers engine es i c.events.player (g.C.Carrier.pipes c.events.carrier) rs c.new-2.result (omega (arith, c.events-test.false)) c.new-2.ensures far.play (c.events.invariant.lost setup is tells play)
 
 pub returns-clause-reads : goal.returns-clause-reads

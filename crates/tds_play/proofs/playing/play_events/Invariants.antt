@@ -7,11 +7,11 @@ use Rattle.tds_world.specs.declared.event.Setup.{Setup}
 use Rattle.tds_world.specs.Losses.{marked}
 use Rattle.tds_play.specs.Failures.{LiveAreSound, all_known}
 use Rattle.tds_play.proofs.Accounts.{AreTold}
-use Rattle.tds_play.specs.Player.{IsPlay}
+use Rattle.tds_play.specs.Player.{RepresentsWorld}
 use Rattle.tds_play.specs.Ties.{AreTied}
 use Rattle.tds_play.proofs.Turns.{IsSoFar}
 use Rattle.tds_play.specs.Reads.{AllRead}
-use Rattle.tds_play.proofs.Answered.{answers_of}
+use Rattle.tds_play.proofs.any_bytes.Answered.{answers_of}
 use Rattle.tds_play.proofs.playing.play_events.Given as goal
 
 abbrev pub invariant-events : goal.invariant-events
@@ -29,10 +29,10 @@ invariant-events g l =
       size : l.player.size ≡ l.fn.player.size;
       reads : AllRead l.fn.player.size l.player.links.items (pipes l.carrier) (answers_of (take l.event-index l.events) l.reports.items);
       lost : (setup : Setup) → IsSetup setup → g.C.Carrier.tells l.fn.carrier
-          → IsPlay setup engine l.fn.player (pipes l.fn.carrier) new_world
+          → RepresentsWorld setup engine l.fn.player (pipes l.fn.carrier) new_world
           → AreTold setup (answer_of (g.E.Engine.statements_of engine) (g.E.Engine.step_of engine)) (marked (take l.event-index l.events) l.reports.items)
           (all_known (length l.player.links.items) (pipes l.carrier));
-      alike : (setup : Setup) → IsSetup setup → g.C.Carrier.tells l.fn.carrier
-          → IsPlay setup engine l.fn.player (pipes l.fn.carrier) new_world
+      refines : (setup : Setup) → IsSetup setup → g.C.Carrier.tells l.fn.carrier
+          → RepresentsWorld setup engine l.fn.player (pipes l.fn.carrier) new_world
           → IsSoFar setup (answer_of (g.E.Engine.statements_of engine) (g.E.Engine.step_of engine)) engine (take l.event-index l.events) l.player (pipes l.carrier) l.reports.items;
     }

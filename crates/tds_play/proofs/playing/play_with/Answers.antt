@@ -2,9 +2,9 @@ use Rattle.std.proofs.Common.{◌≡◌, ℕ, List, [], subst, sym, refl, ◌∙
 use Rattle.std.specs.Prelude.{IfOk, Option}
 use Rattle.tds_play.specs.Failures.{TellFailures}
 use Rattle.tds_play.specs.Pipe.{Pipe}
-use Rattle.tds_play.specs.Player.{IsPlay}
-use Rattle.tds_play.specs.Plays.{ArePlayed}
-use Rattle.tds_play.specs.WholePlay.{IsPlayOf}
+use Rattle.tds_play.specs.Player.{RepresentsWorld}
+use Rattle.tds_play.specs.Plays.{RepresentConnections}
+use Rattle.tds_play.specs.WholePlay.{IsReportOfPlay}
 use Rattle.tds_play.specs.declared.seat.Seated.{Seated}
 use Rattle.tds_play.specs.declared.player.Player.{Player}
 use Rattle.tds_session.specs.Answer.{answer_of}
@@ -16,9 +16,9 @@ use Rattle.tds_play.proofs.playing.play_with.Goals as goal
 
 -- A player before any event.
 begins : {E S : Type 0} (setup : Setup) (player : Player E S) (pipes : ℕ → Option Pipe) → player.links.items ≡ [] → player.leases ≡ [] → player.tickets ≡ []
-    → player.asked_on.items ≡ [] → player.max ≡ setup.max → player.size ≡ setup.packet_size → player.on_attention ≡ setup.on_attention → IsPlay setup player.engine player pipes new_world
+    → player.asked_on.items ≡ [] → player.max ≡ setup.max → player.size ≡ setup.packet_size → player.on_attention ≡ setup.on_attention → RepresentsWorld setup player.engine player pipes new_world
 begins {E} {S} setup player pipes links leases tickets asked max size told = record {
-  connections = subst (λ (ls : List (Seated E S)). ArePlayed 1 setup.packet_size player.engine ls pipes []) (sym links) tt;
+  connections = subst (λ (ls : List (Seated E S)). RepresentConnections 1 setup.packet_size player.engine ls pipes []) (sym links) tt;
   leases = leases;
   tickets = tickets;
   asked = asked;
@@ -28,12 +28,12 @@ begins {E} {S} setup player pipes links leases tickets asked max size told = rec
   told = told;
 }
 
-pub returns-in-Ok-clause-alike : goal.returns-in-Ok-clause-alike
-returns-in-Ok-clause-alike g c = λ tells.
+pub returns-in-Ok-clause-refines : goal.returns-in-Ok-clause-refines
+returns-in-Ok-clause-refines g c = λ tells.
     let new = c.new-player.ensures in
-    subst (λ engine. IfOk c.play_events.result (λ report. IsPlayOf c.args.setup.now (answer_of (g.E.Engine.statements_of engine) (g.E.Engine.step_of engine)) c.args.events.now report (g.C.Carrier.pipes c.play_events.new.carrier)))
+    subst (λ engine. IfOk c.play_events.result (λ report. IsReportOfPlay c.args.setup.now (answer_of (g.E.Engine.statements_of engine) (g.E.Engine.step_of engine)) c.args.events.now report (g.C.Carrier.pipes c.play_events.new.carrier)))
     new.engine
-    (c.play_events.ensures.alike c.args.setup.now c.in-Ok.ensures.setup tells
+    (c.play_events.ensures.refines c.args.setup.now c.in-Ok.ensures.setup tells
     (begins c.args.setup.now c.new-player.result (g.C.Carrier.pipes c.args.carrier.now) new.links new.leases new.tickets new.asked new.max (new.size ∙ c.in-Ok.ensures.size) new.told))
 
 pub returns-in-Ok-clause-lost : goal.returns-in-Ok-clause-lost

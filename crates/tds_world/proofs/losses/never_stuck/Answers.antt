@@ -1,4 +1,4 @@
-use Rattle.tds_world.specs.Rest.{NeverStuck}
+use Rattle.tds_world.specs.rest.Rest.{NeverStuck}
 use Rattle.tds_world.proofs.plays.Worlds as worlds
 use Rattle.tds_world.proofs.rest.NeverStuck as stuck
 use Rattle.tds_world.proofs.losses.never_stuck.Goals as goal

@@ -4,7 +4,7 @@ use Rattle.tds_world.specs.declared.outcome.Outcome.TheVariants as outcome
 use Rattle.tds_client.specs.Session.{ClientSession}
 use Rattle.tds_world.specs.Caller.{cancels}
 use Rattle.tds_play.specs.Pipe.{Pipe}
-use Rattle.tds_play.specs.Plays.{IsPlayed}
+use Rattle.tds_play.specs.Plays.{RepresentsConnection}
 use Rattle.tds_play.specs.Seats.{seated}
 use Rattle.tds_play.proofs.Cancelled.{cancelled_played}
 use Rattle.tds_play.proofs.Doing.{does_so, ended, ok_so}
@@ -12,11 +12,11 @@ use Rattle.tds_play.proofs.Outward.{given_up}
 use Rattle.tds_play.specs.Failures.{Send}
 use Rattle.tds_packet.specs.declared.kind.Direction.TheVariants.{ToServer}
 use Rattle.tds_play.proofs.Failing.{sent_as}
-use Rattle.tds_play.proofs.Stays.{stays_numbered, stays_twice}
+use Rattle.tds_play.proofs.any_bytes.Stays.{stays_numbered, stays_twice}
 use Rattle.tds_play.proofs.link.Link.cancel.Goals as goal
 
-pub returns-clause-alike : goal.returns-clause-alike
-returns-clause-alike g c = λ size engine p d played few.
+pub returns-clause-refines : goal.returns-clause-refines
+returns-clause-refines g c = λ size engine p d played few.
     let conn : ℕ = c.args.self.now.number in
     let old : ℕ → Option Pipe = g.C.Carrier.pipes c.args.carrier.now in
     let put = c.in_ok-cancelled.ensures in
@@ -30,8 +30,8 @@ returns-clause-alike g c = λ size engine p d played few.
     does_so conn size engine c.end.result _ c.in_ok-lost.lost c.end.new.self (seated p c.cancel_request.new.client) (g.C.Carrier.pipes c.end.new.carrier conn) _ d c.end.ensures.done
     (ap outcome.Cancel (does.0 ∙ sym a.2))
     (ended conn c.hand_over.new.self.number size engine c.hand_over.new.self c.end.new.self (seated p c.cancel_request.new.client) (g.C.Carrier.pipes c.hand_over.new.carrier) (g.C.Carrier.pipes c.end.new.carrier) c.in_ok-lost.lost _
-    (out.number ∙ put.number) (c.end.ensures.alike size engine (seated p c.cancel_request.new.client) _)
-    (subst (λ (s : ClientSession). IsPlayed conn size engine c.hand_over.new.self (seated p s) (g.C.Carrier.pipes c.hand_over.new.carrier conn) (cancels d)) (sym does.1)
+    (out.number ∙ put.number) (c.end.ensures.refines size engine (seated p c.cancel_request.new.client) _)
+    (subst (λ (s : ClientSession). RepresentsConnection conn size engine c.hand_over.new.self (seated p s) (g.C.Carrier.pipes c.hand_over.new.carrier conn) (cancels d)) (sym does.1)
     (cancelled_played (record { appends = c.sends_append.ensures.to_server; tells = c.phases_tell.ensures; stays = c.the_other_stays.ensures.cancels; unseen = c.pool_is_unseen.ensures }) conn size engine c.args.self.now c.cancel_request.new.self c.hand_over.new.self (seated p c.args.client.now) (old conn) (g.C.Carrier.pipes c.hand_over.new.carrier conn) d c.as_slice.result.now
     played c.requires.live a does.2 bytes few handed)))
 

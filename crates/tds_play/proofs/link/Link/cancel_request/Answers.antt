@@ -1,4 +1,4 @@
-use Rattle.tds_play.proofs.Stays.{cancelling_columns, newest_stays}
+use Rattle.tds_play.proofs.any_bytes.Stays.{cancelling_columns, newest_stays}
 use Rattle.tds_play.proofs.link.Link.cancel_request.Goals as goal
 
 pub returns-in-Ok-Nothing-clause-columns : goal.returns-in-Ok-Nothing-clause-columns

@@ -5,13 +5,13 @@ use Rattle.tds_play.specs.Failures.{failures}
 use Rattle.tds_play.proofs.Failing.{cut_no_more}
 use Rattle.tds_play.proofs.link.Link.cut.Goals as goal
 
-pub returns-in-Some-clause-alike : goal.returns-in-Some-clause-alike
-returns-in-Some-clause-alike g c = λ size engine seat d p live.
+pub returns-in-Some-clause-refines : goal.returns-in-Some-clause-refines
+returns-in-Some-clause-refines g c = λ size engine seat d p live.
     cut_played c.args.self.now.number size engine c.args.self.now _ seat (g.C.Carrier.pipes c.args.carrier.now c.args.self.now.number) _ d p live refl refl refl
     (ap Some c.lose.ensures ∙ sym (ap (option_map lost_record) c.in-Some.is)) c.requires.uncut c.cut.ensures.cut.here
 
-pub returns-in_default-clause-alike : goal.returns-in_default-clause-alike
-returns-in_default-clause-alike g c = λ size engine seat d p live.
+pub returns-in_default-clause-refines : goal.returns-in_default-clause-refines
+returns-in_default-clause-refines g c = λ size engine seat d p live.
     cut_played c.args.self.now.number size engine c.args.self.now _ seat (g.C.Carrier.pipes c.args.carrier.now c.args.self.now.number) _ d p live refl refl refl
     (c.in_default.is ∙ sym (ap (option_map lost_record) c.in_default.is)) c.requires.uncut c.cut.ensures.cut.here
 

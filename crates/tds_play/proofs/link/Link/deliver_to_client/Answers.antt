@@ -2,7 +2,7 @@ use Rattle.std.proofs.Common.{[], ◌∷◌, ◌≡◌, ◌∙◌, ◌++◌, ℕ
 use Rattle.tds_packet.specs.declared.kind.Direction.TheVariants.{ToClient}
 use Rattle.tds_world.specs.Arrivals.{to_client}
 use Rattle.tds_play.specs.Pipe.{Pipe, traffic, next_of}
-use Rattle.tds_play.specs.Plays.{IsPlayed}
+use Rattle.tds_play.specs.Plays.{RepresentsConnection}
 use Rattle.tds_play.proofs.ClientEvent.{come_heard, heard_alike}
 use Rattle.tds_play.proofs.Doing.{ended}
 use Rattle.tds_play.proofs.Listening.{listened_by, listened_on}
@@ -11,17 +11,17 @@ use Rattle.tds_play.specs.Failures.{Carry}
 use Rattle.tds_play.proofs.Failing.{brought_as}
 use Rattle.std.proofs.Common.{subst, refl, Some, None}
 use Rattle.tds_ends.specs.AllBytes.{ClientHasRead, new_reader}
-use Rattle.tds_play.specs.declared.link.Done.{Done}
+use Rattle.tds_play.specs.declared.link.EventDone.{EventDone}
 use Rattle.tds_play.specs.declared.feeding.Fault.{Fault}
 use Rattle.tds_play.specs.Reads.{ClientIsFed, given_by}
-use Rattle.tds_play.proofs.Brought.{faulty_heard, heard_reads}
+use Rattle.tds_play.proofs.any_bytes.Brought.{faulty_heard, heard_reads}
 use Rattle.tds_play.specs.declared.seat.Seat.{Seat}
-use Rattle.tds_play.proofs.Stays.{stays_numbered}
+use Rattle.tds_play.proofs.any_bytes.Stays.{stays_numbered}
 use Rattle.tds_play.proofs.link.Link.deliver_to_client.Goals as goal
 
 -- The client takes all that came, so it finds no fault.
-pub returns-in-Some-clause-alike : goal.returns-in-Some-clause-alike
-returns-in-Some-clause-alike g c = λ answers size engine m tells played promises.
+pub returns-in-Some-clause-refines : goal.returns-in-Some-clause-refines
+returns-in-Some-clause-refines g c = λ answers size engine m tells played promises.
     let live = played.lives c.requires.live in
     let pipe : Option Pipe = g.C.Carrier.pipes c.args.carrier.now c.args.self.now.number in
     let k : ℕ = c.in_ok-carried.carried.count in
@@ -36,8 +36,8 @@ returns-in-Some-clause-alike g c = λ answers size engine m tells played promise
     let none = sym c.in-Some.is ∙ heard.0 in
     absurd (cc)
 
-pub returns-clause-alike : goal.returns-clause-alike
-returns-clause-alike g c = λ answers size engine m tells played promises.
+pub returns-clause-refines : goal.returns-clause-refines
+returns-clause-refines g c = λ answers size engine m tells played promises.
     let live = played.lives c.requires.live in
     let conn : ℕ = c.args.self.now.number in
     let pipe : Option Pipe = g.C.Carrier.pipes c.args.carrier.now conn in
@@ -55,13 +55,13 @@ returns-clause-alike g c = λ answers size engine m tells played promises.
     let then = listened_by c.args.self.now c.carry.new.self c.hear.new.self c.args.seat.now c.drain.new.self c.hear.new.client pipe after k a.then a.rest c.in_ok-carried.carried.lost
     (c.requires.tied.holds c.requires.live).is_open counted heard.1 heard.2 c.drain.ensures brought.pipe in
     let stands = heard_alike c.pool_is_unseen.ensures c.the_other_stays.ensures.listens c.args.self.now c.hear.new.self c.args.seat.now c.drain.new.self pipe after m k k a.then.session a.rest live.stands exact (promises.delivers k).1 a.matches a.left then.heard then.client in
-    let listened : IsPlayed conn size engine c.hear.new.self c.drain.new.self after (to_client k m) =
+    let listened : RepresentsConnection conn size engine c.hear.new.self c.drain.new.self after (to_client k m) =
     listened_on c.idle_alike.ensures conn size k k engine _ c.args.self.now c.hear.new.self c.args.seat.now c.drain.new.self pipe after m played c.requires.live (promises.hears_past k) a then stands in
     delivered_down conn size c.args.most k engine c.end.result c.in_ok-carried.carried.lost c.end.new.self c.drain.new.self (g.C.Carrier.pipes c.end.new.carrier conn) m c.end.ensures.done
     (λ whole. c.in_ok-carried.ensures.all whole ∙ c.at_most-count.ensures.value ∙ ap (min c.args.most) here)
     (omega (arith, c.in_ok-carried.ensures.within, c.at_most-count.ensures.within, here))
     (ended conn c.hear.new.self.number size engine c.hear.new.self c.end.new.self c.drain.new.self (g.C.Carrier.pipes c.carry.new.carrier) (g.C.Carrier.pipes c.end.new.carrier) c.in_ok-carried.carried.lost (to_client k m)
-    (then.number) (c.end.ensures.alike size engine c.drain.new.self _) listened)
+    (then.number) (c.end.ensures.refines size engine c.drain.new.self _) listened)
 
 pub returns-in-Some-clause-failed : goal.returns-in-Some-clause-failed
 returns-in-Some-clause-failed g c = λ fine.
@@ -94,7 +94,7 @@ returns-clause-reads g c = λ size n reads.
     (c.given_are_told.ensures (new_reader ToClient size) c.hear.new.self.client_reader c.hear.new.client.columns _ (given_by c.hear.new.self) fed)
     (c.no_fault_is_read.ensures (new_reader ToClient size) c.hear.new.self.client_reader _ fed.packets fed.read)
     ended (ap (λ (s : Seat). s.client.columns) c.drain.ensures)
-    (ap (λ (d : Done). d.outcome) c.end.ensures.done)
+    (ap (λ (d : EventDone). d.outcome) c.end.ensures.done)
 
 pub returns-in-Some-clause-reads : goal.returns-in-Some-clause-reads
 returns-in-Some-clause-reads g c = λ size n reads.
@@ -110,4 +110,4 @@ returns-in-Some-clause-reads g c = λ size n reads.
     (c.in_ok-heard.ensures.any size (traffic pipe ToClient).came before) in
     let ended = stays_numbered c.hear.new.self.number conn c.hear.new.self c.end_by_fault.new.self (g.C.Carrier.pipes c.carry.new.carrier) (g.C.Carrier.pipes c.end_by_fault.new.carrier) (c.in_ok-heard.ensures.number ∙ c.in_ok-carried.ensures.number) c.end_by_fault.ensures.still in
     faulty_heard size n c.args.most c.in_ok-carried.carried.count c.args.self.now c.hear.new.self c.end_by_fault.new.self c.args.seat.now.client.columns c.hear.new.client.columns pipe mid (g.C.Carrier.pipes c.end_by_fault.new.carrier conn) c.new-piece.result.items c.carry.new.out.items c.as_slice.result.now c.end_by_fault.result.outcome c.in-Some.fault
-    reads b piece fed.0 fed.1 ended (ap (λ l. l.is_cut) c.end_by_fault.ensures.value) (ap (λ (d : Done). d.outcome) c.end_by_fault.ensures.done)
+    reads b piece fed.0 fed.1 ended (ap (λ l. l.is_cut) c.end_by_fault.ensures.value) (ap (λ (d : EventDone). d.outcome) c.end_by_fault.ensures.done)

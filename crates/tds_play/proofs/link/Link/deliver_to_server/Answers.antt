@@ -4,11 +4,11 @@ use Rattle.tds_packet.specs.Reading.{with_taken}
 use Rattle.tds_session.specs.Answer.{Answers, answer_of}
 use Rattle.tds_world.specs.Arrivals.{to_server}
 use Rattle.tds_world.specs.Deliveries.{DeliversOn}
-use Rattle.tds_ends.specs.Promises.{IsCountable}
-use Rattle.tds_play.specs.Between.{Stands}
+use Rattle.tds_ends.specs.ModelGives.{IsCountable}
+use Rattle.tds_play.specs.Between.{RepresentsEnds}
 use Rattle.tds_ends.specs.Deliveries.{AllArrive}
 use Rattle.tds_play.specs.Pipe.{Pipe, traffic, next_of, sent_on}
-use Rattle.tds_play.specs.Plays.{IsPlayed}
+use Rattle.tds_play.specs.Plays.{RepresentsConnection}
 use Rattle.tds_play.proofs.Doing.{ended}
 use Rattle.tds_play.proofs.Losing.{delivered_up}
 use Rattle.tds_play.proofs.Played.{Ends, served_on, stays_by}
@@ -17,15 +17,15 @@ use Rattle.tds_play.specs.Failures.{Carry, Fails, Send}
 use Rattle.tds_play.proofs.Failing.{brought_as, fails_numbered, fails_of_more}
 use Rattle.tds_ends.specs.AllBytes.{ServerHasRead, new_reader}
 use Rattle.tds_play.specs.declared.feeding.Fault.{Fault}
-use Rattle.tds_play.specs.declared.link.Done.{Done}
+use Rattle.tds_play.specs.declared.link.EventDone.{EventDone}
 use Rattle.tds_play.specs.Reads.{ServerIsFed, given_by}
-use Rattle.tds_play.proofs.Brought.{faulty_served, fed_so, served_reads}
-use Rattle.tds_play.proofs.Stays.{stays_numbered, stays_twice}
+use Rattle.tds_play.proofs.any_bytes.Brought.{faulty_served, fed_so, served_reads}
+use Rattle.tds_play.proofs.any_bytes.Stays.{stays_numbered, stays_twice}
 use Rattle.tds_play.proofs.link.Link.deliver_to_server.Goals as goal
 
 -- The server takes all that came, so it finds no fault.
-pub returns-clause-alike : goal.returns-clause-alike
-returns-clause-alike g c = λ size engine seat m tells played promises few.
+pub returns-clause-refines : goal.returns-clause-refines
+returns-clause-refines g c = λ size engine seat m tells played promises few.
     let live = played.lives c.requires.live in
     let at = sym live.engine_is in
     let answers : Answers = answer_of (g.E.Engine.statements_of c.args.self.now.server.engine) (g.E.Engine.step_of c.args.self.now.server.engine) in
@@ -42,8 +42,8 @@ returns-clause-alike g c = λ size engine seat m tells played promises few.
     let fed = c.in_ok-feed_server.ensures.served a.packets a.rest a.then (rw (reader, piece) a.comes) (rw (server, c.new-reply.ensures.items) a.serves) in
     absurd (none_told c.in-Some.fault c.in_ok-feed_server.field-0 c.feed_server.result c.in-Some.is c.in_ok-feed_server.was (c.in_ok-feed_server.was ∙ fed.0))
 
-pub returns-in-None-clause-alike : goal.returns-in-None-clause-alike
-returns-in-None-clause-alike g c = λ size engine seat m tells played promises few.
+pub returns-in-None-clause-refines : goal.returns-in-None-clause-refines
+returns-in-None-clause-refines g c = λ size engine seat m tells played promises few.
     let conn : ℕ = c.args.self.now.number in
     let live = played.lives c.requires.live in
     let at = sym live.engine_is in
@@ -74,7 +74,7 @@ returns-in-None-clause-alike g c = λ size engine seat m tells played promises f
     )) in
     let countable = subst (λ e. (k : ℕ) → IsCountable (to_server (answer_of (g.E.Engine.statements_of e) (g.E.Engine.step_of e)) k m)) at few in
     let lanes = subst (λ e. DeliversOn (answer_of (g.E.Engine.statements_of e) (g.E.Engine.step_of e)) m) at promises.delivers in
-    let stands : Stands c.hand_over.new.self seat after (to_server answers k m) =
+    let stands : RepresentsEnds c.hand_over.new.self seat after (to_server answers k m) =
     delivered_alike answers (c.the_other_stays.ensures.serves answers) c.args.self.now c.hand_over.new.self seat pipe after m k k _ c.as_slice.result.now live.stands exact (lanes k).0 (countable k).1 a (c.as_slice.ensures.value ∙ fed.1.1) (rw fed.1.0 at by) in
     let last = c.hand_over.ensures.rest in
     let reads = ap (λ l. l.server_reader) last ∙ fed.2 ∙ ap (λ r. with_taken r a.rest) reader in
@@ -84,15 +84,15 @@ returns-in-None-clause-alike g c = λ size engine seat m tells played promises f
       server_size = ap (λ r. r.size) reads ∙ live.server_size;
     } in
     let same : Answers = answer_of (g.E.Engine.statements_of engine) (g.E.Engine.step_of engine) in
-    let served : IsPlayed conn size engine c.hand_over.new.self seat after (to_server same k m) =
+    let served : RepresentsConnection conn size engine c.hand_over.new.self seat after (to_server same k m) =
     served_on same conn size k engine c.args.self.now c.hand_over.new.self seat pipe after m played c.requires.live
     (stays_by c.args.self.now c.carry.new.self turned c.hand_over.new.self _ _ _ counted refl last) ends
-    (subst (λ e. Stands c.hand_over.new.self seat after (to_server (answer_of (g.E.Engine.statements_of e) (g.E.Engine.step_of e)) k m)) live.engine_is stands) in
+    (subst (λ e. RepresentsEnds c.hand_over.new.self seat after (to_server (answer_of (g.E.Engine.statements_of e) (g.E.Engine.step_of e)) k m)) live.engine_is stands) in
     delivered_up conn size c.args.most k engine c.end.result c.either.result c.end.new.self seat (g.C.Carrier.pipes c.end.new.carrier conn) same m c.end.ensures.done
     (λ whole. c.in_ok-carried.ensures.all (both_false _ _ (sym c.either.ensures ∙ whole)).0 ∙ c.at_most-count.ensures.value ∙ ap (min c.args.most) here)
     (omega (arith, c.in_ok-carried.ensures.within, c.at_most-count.ensures.within, here))
     (ended conn c.hand_over.new.self.number size engine c.hand_over.new.self c.end.new.self seat (g.C.Carrier.pipes c.hand_over.new.carrier) (g.C.Carrier.pipes c.end.new.carrier) c.either.result (to_server same k m)
-    (out.number ∙ c.in_ok-carried.ensures.number) (c.end.ensures.alike size engine seat _) served)
+    (out.number ∙ c.in_ok-carried.ensures.number) (c.end.ensures.refines size engine seat _) served)
 
 pub returns-clause-failed : goal.returns-clause-failed
 returns-clause-failed g c = λ fine.
@@ -139,7 +139,7 @@ returns-in-None-clause-reads g c = λ size n columns reads.
     reads live b piece (ap (λ l. l.client_reader) counted) (ap given_by counted)
     fed (c.no_fault_is_read.ensures (new_reader ToServer size) c.feed_server.new.reader _ fed.0 fed.1)
     (stays_twice turned c.hand_over.new.self c.end.new.self mid (g.C.Carrier.pipes c.hand_over.new.carrier conn) (g.C.Carrier.pipes c.end.new.carrier conn) handed ended)
-    (ap (λ (d : Done). d.outcome) c.end.ensures.done)
+    (ap (λ (d : EventDone). d.outcome) c.end.ensures.done)
 
 pub returns-clause-reads : goal.returns-clause-reads
 returns-clause-reads g c = λ size n columns reads.
@@ -159,4 +159,4 @@ returns-clause-reads g c = λ size n columns reads.
     (c.feed_server.ensures.any size (traffic pipe ToServer).came before) in
     let ended = stays_numbered c.carry.new.self.number conn turned c.end_by_fault.new.self (g.C.Carrier.pipes c.carry.new.carrier) (g.C.Carrier.pipes c.end_by_fault.new.carrier) number c.end_by_fault.ensures.still in
     faulty_served size n c.args.most c.in_ok-carried.carried.count c.args.self.now turned c.end_by_fault.new.self columns pipe mid (g.C.Carrier.pipes c.end_by_fault.new.carrier conn) c.new-piece.result.items c.carry.new.out.items c.as_slice-piece.result.now c.end_by_fault.result.outcome c.in-Some.fault
-    reads b piece (ap given_by counted) fed ended (ap (λ l. l.is_cut) c.end_by_fault.ensures.value) (ap (λ (d : Done). d.outcome) c.end_by_fault.ensures.done)
+    reads b piece (ap given_by counted) fed ended (ap (λ l. l.is_cut) c.end_by_fault.ensures.value) (ap (λ (d : EventDone). d.outcome) c.end_by_fault.ensures.done)

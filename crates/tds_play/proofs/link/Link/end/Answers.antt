@@ -1,13 +1,13 @@
 use Rattle.std.proofs.Common.{ap, refl, sym, subst}
-use Rattle.tds_play.specs.Plays.{IsPlayed, cut_where}
+use Rattle.tds_play.specs.Plays.{RepresentsConnection, cut_where}
 use Rattle.tds_play.proofs.Failing.{ended_as}
 use Rattle.tds_play.proofs.link.Link.end.Goals as goal
 
-pub returns-then-lost-clause-alike : goal.returns-then-lost-clause-alike
-returns-then-lost-clause-alike g c = λ size engine seat d played.
+pub returns-then-lost-clause-refines : goal.returns-then-lost-clause-refines
+returns-then-lost-clause-refines g c = λ size engine seat d played.
     let conn = c.args.self.now.number in
-    subst (λ b. IsPlayed conn size engine c.cut.new.self seat (g.C.Carrier.pipes c.cut.new.carrier conn) (cut_where b d)) (sym c.if-lost.true)
-    (c.cut.ensures.alike size engine seat d played c.requires.live)
+    subst (λ b. RepresentsConnection conn size engine c.cut.new.self seat (g.C.Carrier.pipes c.cut.new.carrier conn) (cut_where b d)) (sym c.if-lost.true)
+    (c.cut.ensures.refines size engine seat d played c.requires.live)
 
 pub returns-then-lost-clause-failed : goal.returns-then-lost-clause-failed
 returns-then-lost-clause-failed g c = λ calls fails.

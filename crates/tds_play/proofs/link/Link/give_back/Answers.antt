@@ -6,7 +6,7 @@ use Rattle.tds_world.specs.declared.outcome.Outcome.TheVariants as outcome
 use Rattle.tds_world.specs.Caller.{cancels}
 use Rattle.tds_world.specs.Connection.{Connection}
 use Rattle.tds_world.specs.Pool.{comes_back, place_back}
-use Rattle.tds_play.specs.Plays.{IsPlayed, after}
+use Rattle.tds_play.specs.Plays.{RepresentsConnection, after}
 use Rattle.tds_play.specs.Seats.{seated}
 use Rattle.tds_play.specs.declared.seat.Seat.{Seat}
 use Rattle.tds_play.specs.Pipe.{Pipe}
@@ -16,11 +16,11 @@ use Rattle.tds_play.proofs.Outward.{given_up}
 use Rattle.tds_play.specs.Failures.{Send}
 use Rattle.tds_packet.specs.declared.kind.Direction.TheVariants.{ToServer}
 use Rattle.tds_play.proofs.Failing.{sent_as}
-use Rattle.tds_play.proofs.Stays.{stays_numbered, stays_twice}
+use Rattle.tds_play.proofs.any_bytes.Stays.{stays_numbered, stays_twice}
 use Rattle.tds_play.proofs.link.Link.give_back.Goals as goal
 
-pub returns-clause-alike : goal.returns-clause-alike
-returns-clause-alike g c = λ size engine d played few.
+pub returns-clause-refines : goal.returns-clause-refines
+returns-clause-refines g c = λ size engine d played few.
     let conn : ℕ = c.args.self.now.number in
     let old : ℕ → Option Pipe = g.C.Carrier.pipes c.args.carrier.now in
     let put = c.in_ok-cancel_request.ensures in
@@ -40,8 +40,8 @@ returns-clause-alike g c = λ size engine d played few.
     does_so conn size engine c.end.result _ c.in_ok-lost.lost c.end.new.self c.come_back-returned.new.self (g.C.Carrier.pipes c.end.new.carrier conn) _ d c.end.ensures.done
     (ap outcome.GivenBack c.come_back-returned.ensures.outcome ∙ then.0)
     (ended conn c.hand_over.new.self.number size engine c.hand_over.new.self c.end.new.self c.come_back-returned.new.self (g.C.Carrier.pipes c.hand_over.new.carrier) (g.C.Carrier.pipes c.end.new.carrier) c.in_ok-lost.lost back
-    (out.number ∙ at) (c.end.ensures.alike size engine c.come_back-returned.new.self back)
-    (subst (λ (s : Seat). IsPlayed conn size engine c.hand_over.new.self s (g.C.Carrier.pipes c.hand_over.new.carrier conn) back)
+    (out.number ∙ at) (c.end.ensures.refines size engine c.come_back-returned.new.self back)
+    (subst (λ (s : Seat). RepresentsConnection conn size engine c.hand_over.new.self s (g.C.Carrier.pipes c.hand_over.new.carrier conn) back)
     (ap (λ (s : ClientSession). seated (place_back idle) s) (sym does.1) ∙ sym c.come_back-returned.ensures.value) then.1))
 
 pub returns-clause-failed : goal.returns-clause-failed

@@ -7,7 +7,7 @@ use Rattle.tds_ends.specs.AllBytes.{ClientHasRead, new_reader}
 use Rattle.tds_packet.specs.declared.kind.Direction.TheVariants.{ToClient}
 use Rattle.tds_token.specs.declared.token.Token.{Token}
 use Rattle.tds_play.specs.Reads.{given_by}
-use Rattle.tds_play.proofs.Fed.{fewer_fed}
+use Rattle.tds_play.proofs.any_bytes.Fed.{fewer_fed}
 use Rattle.tds_play.proofs.link.Link.hear.Goals as goal
 
 pub returns-in-None-clause-heard : goal.returns-in-None-clause-heard

@@ -1,7 +1,7 @@
 use Rattle.std.proofs.Common.{◌≡◌, ◌∙◌, [], ap}
 use Rattle.tds_packet.specs.declared.kind.Direction.{Direction}
 use Rattle.tds_play.specs.Pipe.{traffic}
-use Rattle.tds_play.proofs.Stays.{new_came, new_reads}
+use Rattle.tds_play.proofs.any_bytes.Stays.{new_came, new_reads}
 use Rattle.tds_play.proofs.link.Link.open.Goals as goal
 
 pub returns-in-Ok-clause-reads : goal.returns-in-Ok-clause-reads

@@ -3,7 +3,7 @@ use Rattle.tds_client.specs.Sending.{sent}
 use Rattle.tds_world.specs.declared.outcome.Outcome.TheVariants as outcome
 use Rattle.tds_client.specs.Session.{ClientSession}
 use Rattle.tds_play.specs.Pipe.{Pipe}
-use Rattle.tds_play.specs.Plays.{IsPlayed, after}
+use Rattle.tds_play.specs.Plays.{RepresentsConnection, after}
 use Rattle.tds_world.specs.Connection.{Connection, phase}
 use Rattle.tds_world.specs.Events.{sends_in}
 use Rattle.tds_play.specs.Seats.{seated}
@@ -13,11 +13,11 @@ use Rattle.tds_play.proofs.Sent.{packet_played, packet_refused, none_sent, some_
 use Rattle.tds_play.specs.Failures.{Send}
 use Rattle.tds_packet.specs.declared.kind.Direction.TheVariants.{ToServer}
 use Rattle.tds_play.proofs.Failing.{sent_as, whole_as}
-use Rattle.tds_play.proofs.Stays.{stays_numbered, stays_twice}
+use Rattle.tds_play.proofs.any_bytes.Stays.{stays_numbered, stays_twice}
 use Rattle.tds_play.proofs.link.Link.send.Goals as goal
 
-pub returns-clause-alike : goal.returns-clause-alike
-returns-clause-alike g c = λ size engine p d played few.
+pub returns-clause-refines : goal.returns-clause-refines
+returns-clause-refines g c = λ size engine p d played few.
     let conn : ℕ = c.args.self.now.number in
     let old : ℕ → Option Pipe = g.C.Carrier.pipes c.args.carrier.now in
     let put = c.in_ok-sent.ensures in
@@ -36,11 +36,11 @@ returns-clause-alike g c = λ size engine p d played few.
     does_so conn size engine c.end.result _ c.in_ok-lost.lost c.end.new.self (seated p c.put_next.new.client) (g.C.Carrier.pipes c.end.new.carrier conn) _ d c.end.ensures.done
     (ap outcome.Sent (some_is c.in-Some.sent _ c.in_ok-sent.field-0 c.in-Some.is sends.0) ∙ then.0)
     (ended conn c.hand_over.new.self.number size engine c.hand_over.new.self c.end.new.self (seated p c.put_next.new.client) (g.C.Carrier.pipes c.hand_over.new.carrier) (g.C.Carrier.pipes c.end.new.carrier) c.in_ok-lost.lost then_is
-    out.number (c.end.ensures.alike size engine (seated p c.put_next.new.client) then_is)
-    (subst (λ (s : ClientSession). IsPlayed conn size engine c.hand_over.new.self (seated p s) (g.C.Carrier.pipes c.hand_over.new.carrier conn) then_is) (sym sends.1) then.1))
+    out.number (c.end.ensures.refines size engine (seated p c.put_next.new.client) then_is)
+    (subst (λ (s : ClientSession). RepresentsConnection conn size engine c.hand_over.new.self (seated p s) (g.C.Carrier.pipes c.hand_over.new.carrier conn) then_is) (sym sends.1) then.1))
 
-pub returns-in_default-clause-alike : goal.returns-in_default-clause-alike
-returns-in_default-clause-alike g c = λ size engine p d played few.
+pub returns-in_default-clause-refines : goal.returns-in_default-clause-refines
+returns-in_default-clause-refines g c = λ size engine p d played few.
     let put = c.in_ok-sent.ensures in
     let err = none_sent (sent c.args.client.now) c.in_ok-sent.field-0 _ (λ e h. h.0) c.in_default.is put.sent in
     let goes = c.sends_alike.ensures c.args.client.now d (played.lives c.requires.live).stands.client in

@@ -8,11 +8,11 @@ use Rattle.tds_play.proofs.Worked.{worked_played}
 use Rattle.tds_play.specs.Failures.{Send}
 use Rattle.tds_packet.specs.declared.kind.Direction.TheVariants.{ToClient}
 use Rattle.tds_play.proofs.Failing.{sent_as}
-use Rattle.tds_play.proofs.Stays.{stays_numbered, stays_twice}
+use Rattle.tds_play.proofs.any_bytes.Stays.{stays_numbered, stays_twice}
 use Rattle.tds_play.proofs.link.Link.work.Goals as goal
 
-pub returns-clause-alike : goal.returns-clause-alike
-returns-clause-alike g c = λ size engine seat d played ends newest past few.
+pub returns-clause-refines : goal.returns-clause-refines
+returns-clause-refines g c = λ size engine seat d played ends newest past few.
     let conn : ℕ = c.args.self.now.number in
     let old : ℕ → Option Pipe = g.C.Carrier.pipes c.args.carrier.now in
     let w = worked c.args.self.now.server in
@@ -28,7 +28,7 @@ returns-clause-alike g c = λ size engine seat d played ends newest past few.
     does_so conn size engine c.end.result _ c.in_ok-lost.lost c.end.new.self seat (g.C.Carrier.pipes c.end.new.carrier conn) _ d c.end.ensures.done
     (ap outcome.Work (step.outcome ∙ then.0))
     (ended conn c.hand_over.new.self.number size engine c.hand_over.new.self c.end.new.self seat (g.C.Carrier.pipes c.hand_over.new.carrier) (g.C.Carrier.pipes c.end.new.carrier) c.in_ok-lost.lost _
-    (out.number ∙ step.number) (c.end.ensures.alike size engine seat _) then.1)
+    (out.number ∙ step.number) (c.end.ensures.refines size engine seat _) then.1)
 
 pub returns-clause-failed : goal.returns-clause-failed
 returns-clause-failed g c =

@@ -1,4 +1,4 @@
-use Rattle.tds_play.proofs.Stays.{sending_columns}
+use Rattle.tds_play.proofs.any_bytes.Stays.{sending_columns}
 use Rattle.tds_play.proofs.link.acts.put_next.Goals as goal
 
 pub returns-in-Ok-More-clause-columns : goal.returns-in-Ok-More-clause-columns

@@ -5,21 +5,21 @@ use Rattle.tds_session.specs.Answer.{Answers, answer_of}
 use Rattle.tds_play.specs.declared.seat.Seated.{Seated}
 use Rattle.tds_play.specs.declared.player.Player.{Player}
 use Rattle.tds_play.specs.Plays.{AreNext, acts_on, held_by, loss_of}
-use Rattle.tds_ends.specs.Promises.{Promises}
+use Rattle.tds_ends.specs.ModelGives.{ModelGives}
 use Rattle.tds_world.specs.Losses.{met}
 use Rattle.tds_play.specs.Ties.{AreTied}
 use Rattle.tds_play.proofs.AllPlayed.{as_many}
 use Rattle.tds_play.proofs.Listed.{changed}
-use Rattle.tds_play.proofs.PlayerActs.{ActsAlike, acts_alike, all_at, lost_there, noted_alike, refused_alike}
+use Rattle.tds_play.proofs.PlayerActs.{RefinesActs, acts_alike, all_at, lost_there, noted_alike, refused_alike}
 use Rattle.tds_play.specs.Failures.{LiveAreSound, calls_of}
 use Rattle.tds_play.proofs.Accounts.{acted_lost, acted_sound}
 use Rattle.tds_play.specs.Reads.{AllRead, answers_then}
-use Rattle.tds_play.proofs.Answered.{acted_reads}
+use Rattle.tds_play.proofs.any_bytes.Answered.{acted_reads}
 use Rattle.tds_play.proofs.player.Player.act_at.Goals.{in-Refused, in_default}
 use Rattle.tds_play.proofs.player.Player.act_at.Goals as goal
 
-pub returns-in_ok-note-clause-alike : goal.returns-in_ok-note-clause-alike
-returns-in_ok-note-clause-alike g c = λ setup engine w c' tells is promised found countable.
+pub returns-in_ok-note-clause-refines : goal.returns-in_ok-note-clause-refines
+returns-in_ok-note-clause-refines g c = λ setup engine w c' tells is promised found countable.
     let answers : Answers = answer_of (g.E.Engine.statements_of engine) (g.E.Engine.step_of engine) in
     let pipes = g.C.Carrier.pipes in
     let leases : length c.args.self.now.leases ≡ length w.leases = ap length is.leases ∙ length-map w.leases held_by in
@@ -31,10 +31,10 @@ returns-in_ok-note-clause-alike g c = λ setup engine w c' tells is promised fou
       ticket = c.next-2.ensures ∙ omega (arith, tickets, promised.small.tickets);
       request = c.next_number.ensures.few (omega (arith, count, promised.small.asked)) ∙ ap suc count;
     } in
-    let promise : Promises g.row.E.Denot answers setup.packet_size c' = all_at (Promises g.row.E.Denot answers setup.packet_size) w.connections c.args.place c' promised.each found.there in
+    let promise : ModelGives g.row.E.Denot answers setup.packet_size c' = all_at (ModelGives g.row.E.Denot answers setup.packet_size) w.connections c.args.place c' promised.each found.there in
     let acts = acts_alike setup engine answers w c.args.event.now c.args.place c' c.args.self.now (pipes c.args.carrier.now) (pipes c.act.new.carrier) c.index_mut.result.now (record c.index_mut.result.now { link = c.act.new.self; seat = c.act.new.seat }) c.in_ok-done.done
     is c.index_mut.ensures.value c.requires.there c.in_ok-done.ensures.ties.others found countable
-    (λ played counts is_ready. c.in_ok-done.ensures.alike setup w c' engine tells played promise counts next is_ready) in
+    (λ played counts is_ready. c.in_ok-done.ensures.refines setup w c' engine tells played promise counts next is_ready) in
     let link = lost_there setup engine answers w c.args.event.now c.args.place c' c.args.self.now (pipes c.args.carrier.now) c.index_mut.result.now c.in_ok-done.done.lost
     is c.index_mut.ensures.value found c.in_ok-done.ensures.loses in
     let links : c.note.new.self.links.items ≡ set c.args.self.now.links.items c.args.place (record c.index_mut.result.now { link = c.act.new.self; seat = c.act.new.seat }) = ap (λ (p : Player g.row.E.Denot g.row.E-Stmt.Denot). p.links.items) c.in_ok-note.ensures.rest ∙ refl in
@@ -42,7 +42,7 @@ returns-in_ok-note-clause-alike g c = λ setup engine w c' tells is promised fou
     c.args.self.now c.note.new.self (pipes c.args.carrier.now) (pipes c.act.new.carrier) c.in_ok-done.done is found
     (c.next_number-then-not-matches.ensures.few (omega (arith, c.requires.there, as_many 1 setup.packet_size engine c.args.self.now.links.items (pipes c.args.carrier.now) w.connections is.connections, promised.small.connections)))
     link
-    (subst (λ (ls : List (Seated g.row.E.Denot g.row.E-Stmt.Denot)). ActsAlike setup.packet_size engine c.args.place c' w.connections (acts_on setup answers w (met (loss_of c.in_ok-done.done) c.args.event.now) (suc c.args.place) c') c.in_ok-done.done ls (pipes c.act.new.carrier)) (sym links) acts)
+    (subst (λ (ls : List (Seated g.row.E.Denot g.row.E-Stmt.Denot)). RefinesActs setup.packet_size engine c.args.place c' w.connections (acts_on setup answers w (met (loss_of c.in_ok-done.done) c.args.event.now) (suc c.args.place) c') c.in_ok-done.done ls (pipes c.act.new.carrier)) (sym links) acts)
     (ap (λ (p : Player g.row.E.Denot g.row.E-Stmt.Denot). p.engine) c.in_ok-note.ensures.rest)
     (ap (λ (p : Player g.row.E.Denot g.row.E-Stmt.Denot). p.max) c.in_ok-note.ensures.rest)
     (ap (λ (p : Player g.row.E.Denot g.row.E-Stmt.Denot). p.size) c.in_ok-note.ensures.rest)
@@ -53,8 +53,8 @@ returns-in_ok-note-clause-alike g c = λ setup engine w c' tells is promised fou
       | in_default v ↦ v.in_default.not-Refused
     ])
 
-pub returns-else-not-matches-clause-alike : goal.returns-else-not-matches-clause-alike
-returns-else-not-matches-clause-alike g c = λ setup engine w c' tells is promised found countable.
+pub returns-else-not-matches-clause-refines : goal.returns-else-not-matches-clause-refines
+returns-else-not-matches-clause-refines g c = λ setup engine w c' tells is promised found countable.
     let answers : Answers = answer_of (g.E.Engine.statements_of engine) (g.E.Engine.step_of engine) in
     let pipes = g.C.Carrier.pipes in
     let leases : length c.args.self.now.leases ≡ length w.leases = ap length is.leases ∙ length-map w.leases held_by in
@@ -66,10 +66,10 @@ returns-else-not-matches-clause-alike g c = λ setup engine w c' tells is promis
       ticket = c.next-2.ensures ∙ omega (arith, tickets, promised.small.tickets);
       request = c.next_number.ensures.few (omega (arith, count, promised.small.asked)) ∙ ap suc count;
     } in
-    let promise : Promises g.row.E.Denot answers setup.packet_size c' = all_at (Promises g.row.E.Denot answers setup.packet_size) w.connections c.args.place c' promised.each found.there in
+    let promise : ModelGives g.row.E.Denot answers setup.packet_size c' = all_at (ModelGives g.row.E.Denot answers setup.packet_size) w.connections c.args.place c' promised.each found.there in
     let acts = acts_alike setup engine answers w c.args.event.now c.args.place c' c.args.self.now (pipes c.args.carrier.now) (pipes c.act.new.carrier) c.index_mut.result.now (record c.index_mut.result.now { link = c.act.new.self; seat = c.act.new.seat }) c.in_ok-done.done
     is c.index_mut.ensures.value c.requires.there c.in_ok-done.ensures.ties.others found countable
-    (λ played counts is_ready. c.in_ok-done.ensures.alike setup w c' engine tells played promise counts next is_ready) in
+    (λ played counts is_ready. c.in_ok-done.ensures.refines setup w c' engine tells played promise counts next is_ready) in
     let link = lost_there setup engine answers w c.args.event.now c.args.place c' c.args.self.now (pipes c.args.carrier.now) c.index_mut.result.now c.in_ok-done.done.lost
     is c.index_mut.ensures.value found c.in_ok-done.ensures.loses in
     elim c.match-matches.branch [

@@ -12,11 +12,11 @@ links-preserved g c = record {
   reads = λ size answers all. c.cut_at.ensures.reads size answers (c.links.invariant.reads size answers all);
   failed = λ n call. c.cut_at.ensures.failed n call ∙ c.links.invariant.failed n call;
   tells = λ tells. c.cut_at.ensures.tells (c.links.invariant.tells tells);
-  alike = λ size engine cs all. cuts_next size engine c.links.self.links.items c.cut_at.new.self.links.items (g.C.Carrier.pipes c.links.carrier) (g.C.Carrier.pipes c.cut_at.new.carrier) cs c.links.place (c.links.place + 1) (omega (arith, c.links-test.true, c.len-place-end.ensures, c.args.self.now.links.ok.0, c.links.invariant.count)) (omega (arith))
-      (c.links.invariant.alike size engine cs all) (c.cut_at.ensures.alike size engine);
+  refines = λ size engine cs all. cuts_next size engine c.links.self.links.items c.cut_at.new.self.links.items (g.C.Carrier.pipes c.links.carrier) (g.C.Carrier.pipes c.cut_at.new.carrier) cs c.links.place (c.links.place + 1) (omega (arith, c.links-test.true, c.len-place-end.ensures, c.args.self.now.links.ok.0, c.links.invariant.count)) (omega (arith))
+      (c.links.invariant.refines size engine cs all) (c.cut_at.ensures.refines size engine);
 }
 
-pub returns-clause-alike : goal.returns-clause-alike
-returns-clause-alike g c = λ size engine cs all.
+pub returns-clause-refines : goal.returns-clause-refines
+returns-clause-refines g c = λ size engine cs all.
     cuts_whole size engine c.args.self.now.links.items c.links.self.links.items (g.C.Carrier.pipes c.args.carrier.now) (g.C.Carrier.pipes c.links.carrier) cs c.links.place (omega (arith, c.links-test.false, c.links.auto.place-end, c.len-place-end.ensures, c.args.self.now.links.ok.0)) all
-    (c.links.invariant.alike size engine cs all)
+    (c.links.invariant.refines size engine cs all)

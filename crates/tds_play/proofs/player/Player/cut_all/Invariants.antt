@@ -1,7 +1,7 @@
 use Rattle.std.proofs.Common.{◌≡◌, ℕ, List, length}
 use Rattle.tds_world.specs.Connection.{Connection}
 use Rattle.tds_play.specs.Failures.{FailsNoMore, LiveAreSound}
-use Rattle.tds_play.specs.Plays.{ArePlayed}
+use Rattle.tds_play.specs.Plays.{RepresentConnections}
 use Rattle.tds_play.specs.Ties.{AreTied}
 use Rattle.tds_play.proofs.AllCut.{cut_front}
 use Rattle.tds_play.specs.Reads.{AllRead, Answers}
@@ -18,6 +18,6 @@ invariant-links g l =
       reads : (size : ℕ) (answers : Answers) → AllRead size l.fn.self.links.items (pipes l.fn.carrier) answers → AllRead size l.self.links.items (pipes l.carrier) answers;
       failed : (n : ℕ) → FailsNoMore (pipes l.fn.carrier n) (pipes l.carrier n);
       tells : g.C.Carrier.tells l.fn.carrier → g.C.Carrier.tells l.carrier;
-      alike : (size : ℕ) (engine : g.row.E.Denot) (cs : List Connection) → ArePlayed 1 size engine l.fn.self.links.items (pipes l.fn.carrier) cs
-          → ArePlayed 1 size engine l.self.links.items (pipes l.carrier) (cut_front l.place cs);
+      refines : (size : ℕ) (engine : g.row.E.Denot) (cs : List Connection) → RepresentConnections 1 size engine l.fn.self.links.items (pipes l.fn.carrier) cs
+          → RepresentConnections 1 size engine l.self.links.items (pipes l.carrier) (cut_front l.place cs);
     }

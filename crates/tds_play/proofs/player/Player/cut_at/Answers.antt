@@ -2,21 +2,21 @@ use Rattle.std.proofs.Common.{suc, ap, refl}
 use Rattle.tds_world.specs.Connection.{cut}
 use Rattle.tds_play.proofs.AllCut.{put_changed, stays_cut}
 use Rattle.tds_play.proofs.Accounts.{all_no_more, sound_set}
-use Rattle.tds_play.proofs.Answered.{cut_reads, still_at}
-use Rattle.tds_play.proofs.Stays.{stays}
+use Rattle.tds_play.proofs.any_bytes.Answered.{cut_reads, still_at}
+use Rattle.tds_play.proofs.any_bytes.Stays.{stays}
 use Rattle.tds_play.proofs.player.Player.cut_at.Goals as goal
 
-pub returns-then-link-clause-alike : goal.returns-then-link-clause-alike
-returns-then-link-clause-alike g c = λ size engine cs c' there all.
+pub returns-then-link-clause-refines : goal.returns-then-link-clause-refines
+returns-then-link-clause-refines g c = λ size engine cs c' there all.
     stays_cut size engine c.args.self.now.links.items (g.C.Carrier.pipes c.args.carrier.now) cs c.args.place c.index_mut.result.now c'
     c.index_mut.ensures.value c.requires.there c.if-link.true there all
 
-pub returns-clause-alike : goal.returns-clause-alike
-returns-clause-alike g c = λ size engine cs c' there all.
+pub returns-clause-refines : goal.returns-clause-refines
+returns-clause-refines g c = λ size engine cs c' there all.
     put_changed size engine c.args.self.now.links.items (g.C.Carrier.pipes c.args.carrier.now) (g.C.Carrier.pipes c.cut.new.carrier) cs c.args.place
     c.index_mut.result.now (record c.index_mut.result.now { link = c.cut.new.self }) c' (cut c')
     c.index_mut.ensures.value c.requires.there c.cut.ensures.ties.others there all
-    (λ is. c.cut.ensures.alike size engine c.index_mut.result.now.seat c' is c.if-link.false)
+    (λ is. c.cut.ensures.refines size engine c.index_mut.result.now.seat c' is c.if-link.false)
 
 pub returns-then-link-clause-sound : goal.returns-then-link-clause-sound
 returns-then-link-clause-sound g c = λ sound.

@@ -15,7 +15,7 @@ use Rattle.tds_packet.specs.declared.kind.Direction.{Direction}
 use Rattle.tds_play.specs.Pipe.{traffic}
 use Rattle.std.proofs.Common.{None}
 use Rattle.tds_play.specs.Reads.{AllRead, IsReading}
-use Rattle.tds_play.proofs.Answered.{read_opened}
+use Rattle.tds_play.proofs.any_bytes.Answered.{read_opened}
 use Rattle.tds_play.proofs.player.Player.open.Goals as goal
 
 pub returns-clause-tied : goal.returns-clause-tied
@@ -31,8 +31,8 @@ returns-clause-tied g c =
     (subst (λ (n : ℕ). IsTied c.in_ok-link.link (pipes c.open.new.carrier n)) conn said.ties.tied)
     (subst (λ (n : ℕ). AreSame (pipes c.args.carrier.now) (pipes c.open.new.carrier) n) conn said.ties.others)
 
-pub returns-clause-alike : goal.returns-clause-alike
-returns-clause-alike g c = λ setup engine answers w is small lends.
+pub returns-clause-refines : goal.returns-clause-refines
+returns-clause-refines g c = λ setup engine answers w is small lends.
     let links : length c.args.self.now.links.items ≡ length w.connections = as_many 1 setup.packet_size engine c.args.self.now.links.items (g.C.Carrier.pipes c.args.carrier.now) w.connections is.connections in
     let leases : length c.args.self.now.leases ≡ length w.leases = ap length is.leases ∙ length-map w.leases held_by in
     let count : c.len.result ≡ length w.connections = omega (arith, c.len.ensures, c.args.self.now.links.ok.0, links) in
@@ -40,7 +40,7 @@ returns-clause-alike g c = λ setup engine answers w is small lends.
     is lends
     (c.next-lease.ensures ∙ omega (arith, leases, small.leases))
     (c.next_number-conn.ensures.few (omega (arith, count, small.connections)) ∙ ap suc count)
-    (rw c.new-seat.ensures (c.in_ok-link.ensures.alike c.next-lease.result)) c.in_ok-link.ensures.ties.others c.in_ok-push.ensures.items c.in_ok-give.ensures.ok refl
+    (rw c.new-seat.ensures (c.in_ok-link.ensures.refines c.next-lease.result)) c.in_ok-link.ensures.ties.others c.in_ok-push.ensures.items c.in_ok-give.ensures.ok refl
 
 pub returns-clause-sound : goal.returns-clause-sound
 returns-clause-sound g c = λ sound.

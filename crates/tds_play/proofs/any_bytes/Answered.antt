@@ -19,7 +19,7 @@ use Rattle.tds_play.specs.Pipe.{Pipe, AreSame, traffic}
 use Rattle.tds_play.specs.Reads.{AllRead, Answers, BringsBy, IsAbout, ReadsNoMore, ReadsThere, ReadsOn, answers_then, delivers}
 use Rattle.tds_play.specs.Ties.{AreTied}
 use Rattle.tds_play.proofs.Listed.{by_test, is_at, is_other, push_each, set_each}
-use Rattle.tds_play.proofs.Stays.{reading_stays}
+use Rattle.tds_play.proofs.any_bytes.Stays.{reading_stays}
 use Rattle.tds_play.proofs.Turns.{all_so_far, one_taken, so_many}
 
 -- ---- The deliveries of a connection

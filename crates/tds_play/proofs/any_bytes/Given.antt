@@ -23,10 +23,10 @@ use Rattle.tds_play.specs.AnyBytes.{AreAnswered, IsRefused, ReadsBytes, given_on
 use Rattle.tds_play.specs.Links.{behind, newest_there, report_of}
 use Rattle.tds_play.specs.Pipe.{Pipe, traffic}
 use Rattle.tds_play.specs.Reads.{AllRead, ReadsThere, TakesLast, TellsGiven, given_at, given_by, tokens_of}
-use Rattle.tds_play.proofs.Answered.{answers_of}
-use Rattle.tds_play.proofs.Fed.{fewer_told}
+use Rattle.tds_play.proofs.any_bytes.Answered.{answers_of}
+use Rattle.tds_play.proofs.any_bytes.Fed.{fewer_told}
 use Rattle.tds_play.proofs.Listed.{by_test, is_at, is_other}
-use Rattle.tds_play.proofs.Stays.{given_behind}
+use Rattle.tds_play.proofs.any_bytes.Stays.{given_behind}
 
 -- ---- What is left to be told
 

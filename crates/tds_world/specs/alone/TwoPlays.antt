@@ -7,8 +7,8 @@ use Rattle.tds_world.specs.declared.event.Event.{Event}
 use Rattle.tds_world.specs.declared.outcome.Opened.{Opened}
 use Rattle.tds_world.specs.declared.outcome.Opened.TheVariants as opened
 use Rattle.tds_world.specs.declared.report.Report.{Report}
-use Rattle.tds_world.specs.Alone.{AreAlike, Exchange, exchanges_of}
-use Rattle.tds_world.specs.AloneShown.{LeaseShown, OfEachLease, HowFar}
+use Rattle.tds_world.specs.alone.Alone.{AreAlike, Exchange, exchanges_of}
+use Rattle.tds_world.specs.alone.AloneShown.{LeaseShown, OfEachLease, HowFar}
 use Rattle.tds_world.specs.Connection.{Connection}
 use Rattle.tds_world.specs.World.{World, Holding, numbered}
 

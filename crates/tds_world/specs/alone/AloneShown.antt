@@ -14,7 +14,7 @@ use Rattle.tds_world.specs.declared.report.Report.{Report}
 use Rattle.tds_world.specs.declared.report.RequestReport.{RequestReport}
 use Rattle.tds_world.specs.declared.report.RequestStatus.{RequestStatus}
 use Rattle.tds_world.specs.declared.report.RequestStatus.TheVariants as status
-use Rattle.tds_world.specs.Alone.{Exchange, Progress, RunsAlone, progress_of}
+use Rattle.tds_world.specs.alone.Alone.{Exchange, Progress, RunsAlone, progress_of}
 use Rattle.tds_world.specs.Connection.{Connection}
 use Rattle.tds_world.specs.Reports.{Ask, asked_in}
 use Rattle.tds_world.specs.World.{World, numbered}

@@ -15,7 +15,7 @@ abbrev pub IsCountable : Connection → Type 0
 IsCountable c = (up_underway c ≤ 18446744073709551615) × (down_underway c ≤ 18446744073709551615)
 
 -- Packets have this greatest size.
-pub record Promises (E : Type 0) (answers : Answers) (size : ℕ) (c : Connection) : Type 0 where
+pub record ModelGives (E : Type 0) (answers : Answers) (size : ℕ) (c : Connection) : Type 0 where
   pub delivers : DeliversOn answers c
   pub arrive : (r : Reading) → r.direction ≡ ToServer → r.size ≡ size → AllArrive E answers r c c.to_server.waiting
   pub heard : (r : Reading) → r.direction ≡ ToClient → r.size ≡ size → AllHeard r c c.to_client.waiting

@@ -11,7 +11,7 @@ use Rattle.tds_client.specs.Session.{ClientSession}
 use Rattle.tds_server.specs.declared.outcome.Worked.{Worked}
 use Rattle.tds_server.specs.declared.outcome.Worked.TheVariants as server
 use Rattle.tds_server.specs.declared.outcome.ServerTook.{ServerTook}
-use Rattle.tds_server.specs.Taking.{Taken}
+use Rattle.tds_server.specs.Taking.{ServerMove}
 use Rattle.tds_server.specs.Working.{Work}
 use Rattle.tds_session.specs.Answer.{Answers}
 use Rattle.tds_world.specs.declared.outcome.CancelOutcome.{CancelOutcome}
@@ -40,11 +40,11 @@ send_outcome client.Last = sent.Last
 
 -- A client that sends and its connection: both refuse; or both do it, the client appends the bytes
 -- of the entry that the connection appends, and matches the connection then.
-abbrev pub SendAlike : Connection → Result (Effect Sent) ClientRefusal → Acted → Type 0
-SendAlike c (Err why) (Refuses because) = (why ≡ refused.NotSending) × (because ≡ refusal.NotSending)
-SendAlike c (Err why) (Does what d) = ⊥
-SendAlike c (Ok e) (Refuses because) = ⊥
-SendAlike c (Ok e) (Does what d) =
+abbrev pub RefinesSend : Connection → Result (Effect Sent) ClientRefusal → Acted → Type 0
+RefinesSend c (Err why) (Refuses because) = (why ≡ refused.NotSending) × (because ≡ refusal.NotSending)
+RefinesSend c (Err why) (Does what d) = ⊥
+RefinesSend c (Ok e) (Refuses because) = ⊥
+RefinesSend c (Ok e) (Does what d) =
     (what ≡ outcome.Sent (send_outcome e.answer))
     × MatchesClient e.session d
     × Sends up_bytes e.bytes c.to_server d.to_server
@@ -59,7 +59,7 @@ worked_outcome server.Finished = work.Finished
 
 -- A server that works and its connection: the server appends the bytes of the step that the
 -- connection appends, or neither does anything, and it matches the connection then.
-pub record WorkAlike {E : Type 0} (c : Connection) (w : Work E) : Type 0 where
+pub record RefinesWork {E : Type 0} (c : Connection) (w : Work E) : Type 0 where
   pub outcome : work_outcome c.due ≡ worked_outcome w.answer
   pub matches : MatchesServer w.state (works c)
   pub sends : Sends down_bytes w.packet c.to_client (works c).to_client
@@ -68,17 +68,17 @@ pub record WorkAlike {E : Type 0} (c : Connection) (w : Work E) : Type 0 where
 
 -- A client that is asked and its connection: both refuse, or both take the request, and the client
 -- matches the connection then.
-abbrev pub AskAlike : ℕ → ClientSession → Option ClientRefusal → Acted → Type 0
-AskAlike number s (Some why) (Refuses because) = (why ≡ refused.NotIdle) × (because ≡ refusal.NotIdle)
-AskAlike number s (Some why) (Does what d) = ⊥
-AskAlike number s None (Refuses because) = ⊥
-AskAlike number s None (Does what d) = (what ≡ outcome.Asked number) × MatchesClient s d
+abbrev pub RefinesAsk : ℕ → ClientSession → Option ClientRefusal → Acted → Type 0
+RefinesAsk number s (Some why) (Refuses because) = (why ≡ refused.NotIdle) × (because ≡ refusal.NotIdle)
+RefinesAsk number s (Some why) (Does what d) = ⊥
+RefinesAsk number s None (Refuses because) = ⊥
+RefinesAsk number s None (Does what d) = (what ≡ outcome.Asked number) × MatchesClient s d
 
 -- ---- Arriving at the server
 
 -- A server that takes the packet of an entry and the connection where it arrives: there is no fault,
 -- the server appends the bytes of what the connection appends, and matches it then.
-pub record ArriveAlike {E : Type 0} (answers : Answers) (c : Connection) (e : Up) (t : Taken E)
+pub record RefinesArrive {E : Type 0} (answers : Answers) (c : Connection) (e : Up) (t : ServerMove E)
     : Type 0 where
   pub took : ServerTook
   pub lawful : t.answer ≡ Ok took
@@ -104,5 +104,5 @@ DoesCancel c result what d =
     × MatchesClient e.session d
     × Sends up_bytes e.bytes c.to_server d.to_server
 
-abbrev pub CancelAlike : ClientSession → Connection → Type 0
-CancelAlike s c = DoesCancel c (cancelled s) (model.cancel_outcome (phase c)) (cancels c)
+abbrev pub RefinesCancel : ClientSession → Connection → Type 0
+RefinesCancel s c = DoesCancel c (cancelled s) (model.cancel_outcome (phase c)) (cancels c)

@@ -21,7 +21,7 @@ use Rattle.tds_play.specs.Plays.{on_cut}
 use Rattle.tds_play.specs.Plays as plays
 use Rattle.tds_play.specs.Reads.{BringsAny, BringsBy, IsReading, ReadsNoMore, ReadsOn, delivers, given_by}
 use Rattle.tds_play.specs.Seen as seen
-use Rattle.tds_play.proofs.Stays.{reading_stays, stays}
+use Rattle.tds_play.proofs.any_bytes.Stays.{reading_stays, stays}
 
 pub on_done : {A B : Type 0} (r : Result A B) (P : Type 0) (Q : A → Type 0) → OnOk r P → ((x : A) → P → Q x) → IfOk r Q
 on_done (Ok x) P Q h f = f x h

@@ -18,7 +18,7 @@ use Rattle.tds_world.specs.Connection.{In}
 use Rattle.tds_world.specs.Losses.{Nothing, Played, marked, observed_with}
 use Rattle.tds_world.specs.Observed.{observed}
 use Rattle.tds_world.specs.Reports.{ShowsQuiet, snapshot_in}
-use Rattle.tds_world.specs.Rest.{rested_at, stopping, finishing}
+use Rattle.tds_world.specs.rest.Rest.{rested_at, stopping, finishing}
 
 -- The snapshots after the last event, or these where there was none.
 abbrev pub last_of : List Snapshot → List EventReport → List Snapshot

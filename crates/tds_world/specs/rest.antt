@@ -1,0 +1,3 @@
+-- A connection that is whole never hangs.
+pub mod Rest
+pub mod RestShown
