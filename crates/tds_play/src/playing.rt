@@ -8,8 +8,9 @@ ghost use Rattle.tds_play.specs.WholePlay.{CarriesBytesOf, CutsThoseOf, HandsByt
 ghost use Rattle.tds_play.specs.declared.playing.PlayRefusal.TheVariants.{Memory};
 ghost use Rattle.tds_play.specs.declared.playing.PlayRefusal.{PlayRefusal};
 ghost use Rattle.tds_session.specs.Answer.{answer_of, script_answers};
-ghost use Rattle.tds_world.specs.Losses.{marked};
-ghost use Rattle.tds_world.specs.alone.Alone.{AsIfAlone};
+ghost use Rattle.tds_world.specs.Descriptors.{UseFewDescriptors};
+ghost use Rattle.tds_world.specs.Losses.{marked, world_with};
+ghost use Rattle.tds_world.specs.alone.Alone.{AsIfAlone, BlindToNumbers};
 ghost use Rattle.tds_world.specs.alone.AloneShown.{ShowsAsIfAlone, far_in};
 ghost use Rattle.tds_world.specs.Bounds.{BeginsOnce, IsEvent, IsSetup, OneAttention};
 ghost use Rattle.tds_world.specs.rest.Rest.{NeverStuck};
@@ -27,7 +28,9 @@ use std::alloc::{AllocError, AllocFailed, Global};
 use tds_packet::PacketSize;
 use tds_request::Request;
 use tds_session::{Engine, ScriptEngine};
-use tds_world::laws::{script_hands_out_next, script_is_blind, script_is_lawful, script_uses_few};
+use tds_world::laws::{
+    engine_is_lawful, script_hands_out_next, script_is_blind, script_is_lawful, script_uses_few,
+};
 use tds_world::losses::{as_if_alone, begins_once, marks_of_a_report, never_stuck, one_attention};
 use tds_world::report::losses::of_marked_report;
 use tds_world::{Event, EventReport, Report, Sequence, Setup};
@@ -177,7 +180,6 @@ pub fn play<C: Carrier>(
     one_attention();
     begins_once();
     never_stuck();
-    as_if_alone();
     play_with(alloc, setup, events, ScriptEngine, carrier)
 }
 
@@ -213,7 +215,27 @@ pub fn play_with<E: Engine + Copy, C: Carrier>(
         (C.pipes carrier.new)) }
     ensures unfailing { C.tells carrier.old → FailNowhere (C.pipes carrier.new)
         → IfOk result MarksNothing }
+    // No lease can tell that it shares, where what the engine answers doesn't depend on the numbers
+    // of transactions and uses few of them.
+    ensures as_if_alone { C.tells carrier.old
+        → BlindToNumbers (answer_of (E.statements_of engine) (E.step_of engine))
+        → UseFewDescriptors (answer_of (E.statements_of engine) (E.step_of engine))
+        → IfOk result (λ report. AsIfAlone setup.now.on_attention
+        (answer_of (E.statements_of engine) (E.step_of engine))
+        (world_with setup.now (answer_of (E.statements_of engine) (E.step_of engine))
+        (marked events.now report.events) new_world)) }
+    ensures told_alone { C.tells carrier.old
+        → BlindToNumbers (answer_of (E.statements_of engine) (E.step_of engine))
+        → UseFewDescriptors (answer_of (E.statements_of engine) (E.step_of engine))
+        → IfOk result (λ report. ShowsAsIfAlone setup.now.on_attention
+        (answer_of (E.statements_of engine) (E.step_of engine))
+        (far_in (world_with setup.now (answer_of (E.statements_of engine) (E.step_of engine))
+        (marked events.now report.events) new_world)) events.now report) }
 {
+    engine_is_lawful(&engine);
+    of_marked_report();
+    marks_of_a_report();
+    as_if_alone();
     match packet_size(setup, events.len()) {
         Ok(size) => {
             let player = Player::new(alloc, engine, size, setup.max, setup.on_attention);

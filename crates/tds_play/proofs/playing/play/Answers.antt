@@ -1,12 +1,8 @@
-use Rattle.std.proofs.Common.{◌≤◌, List, length, sym, subst, arith}
+use Rattle.std.proofs.Common.{List, subst}
 use Rattle.std.proofs.lemmas.Result.{IfOk-weaker}
-use Rattle.std.specs.List.{AllByRecursion}
 use Rattle.tds_session.specs.Answer.{script_answers}
-use Rattle.tds_world.specs.alone.Alone.{AsIfAlone}
-use Rattle.tds_world.specs.alone.AloneShown.{ShowsAsIfAlone, far_in}
 use Rattle.tds_world.specs.declared.event.Event.{Event}
-use Rattle.tds_world.specs.Bounds.{BeginsOnce, IsEvent, OneAttention}
-use Rattle.tds_world.specs.Descriptors.{AreFewEvents}
+use Rattle.tds_world.specs.Bounds.{BeginsOnce, OneAttention}
 use Rattle.tds_world.specs.Losses.{marked}
 use Rattle.tds_world.specs.Reports.{ShowsFewUnderway, ShowsFreshStart, ShowsIdleQuiet, ShowsKeptTransaction, ShowsLendsIdle, ShowsOwnAnswers, ShowsOwnTransaction}
 use Rattle.tds_world.specs.rest.Rest.{NeverStuck}
@@ -14,10 +10,6 @@ use Rattle.tds_world.specs.rest.RestShown.{ShowsNeverStuckWith}
 use Rattle.tds_world.specs.WithLosses.{GivesNoMoreWith, IsReportWith, MarksNothing, ShowsNoEndFaults}
 use Rattle.tds_play.specs.WholePlay.{CarriesBytesOf, CutsThoseOf, HandsBytesOf, IsReportOfPlay, IsWholePlayOf, world_of}
 use Rattle.tds_play.proofs.playing.play.Goals as goal
-
--- A play's events leave descriptors.
-few_events : {events : List Event} → AllByRecursion IsEvent events → length events ≤ 10000 → AreFewEvents events
-few_events {events} known few = record { known = known; few = (let n : length events ≤ 10000 = few in omega arith) }
 
 pub returns-clause-report : goal.returns-clause-report
 returns-clause-report g c = λ tells.
@@ -125,11 +117,7 @@ returns-clause-never_stuck g c = λ tells.
 
 pub returns-clause-as_if_alone : goal.returns-clause-as_if_alone
 returns-clause-as_if_alone g c = λ tells.
-    IfOk-weaker c.play_with.result (λ report. IsReportOfPlay c.args.setup.now script_answers c.args.events.now report (g.C.Carrier.pipes c.play_with.new.carrier))
-    (λ report. AsIfAlone c.args.setup.now.on_attention script_answers (world_of c.args.setup.now c.args.events.now report.events))
-    (λ report is. c.as_if_alone.ensures c.args.setup.now script_answers c.script_is_lawful.ensures c.script_is_blind.ensures c.script_uses_few.ensures (marked c.args.events.now report.events)
-    (subst AreFewEvents (sym (c.marks_of_a_report.ensures.events c.args.events.now report.events)) (few_events is.known is.few)))
-    (c.play_with.ensures.refines tells)
+    c.play_with.ensures.as_if_alone tells c.script_is_blind.ensures c.script_uses_few.ensures
 
 pub returns-clause-comes_to_rest : goal.returns-clause-comes_to_rest
 returns-clause-comes_to_rest g c = λ tells.
@@ -140,7 +128,4 @@ returns-clause-comes_to_rest g c = λ tells.
 
 pub returns-clause-told_alone : goal.returns-clause-told_alone
 returns-clause-told_alone g c = λ tells.
-    IfOk-weaker c.play_with.result (λ report. IsReportOfPlay c.args.setup.now script_answers c.args.events.now report (g.C.Carrier.pipes c.play_with.new.carrier))
-    (λ report. ShowsAsIfAlone c.args.setup.now.on_attention script_answers (far_in (world_of c.args.setup.now c.args.events.now report.events)) c.args.events.now report)
-    (λ report is. c.of_marked_report.ensures.told_alone c.args.setup.now script_answers c.args.events.now report c.script_is_lawful.ensures c.script_is_blind.ensures c.script_uses_few.ensures (few_events is.known is.few) is.told)
-    (c.play_with.ensures.refines tells)
+    c.play_with.ensures.told_alone tells c.script_is_blind.ensures c.script_uses_few.ensures

@@ -1,4 +1,6 @@
-use Rattle.std.proofs.Common.{◌≡◌, ℕ, List, [], subst, sym, refl, ◌∙◌}
+use Rattle.std.proofs.Common.{◌≡◌, ◌≤◌, ℕ, List, [], length, subst, sym, refl, ◌∙◌, arith}
+use Rattle.std.proofs.lemmas.Result.{IfOk-weaker}
+use Rattle.std.specs.List.{AllByRecursion}
 use Rattle.std.specs.Prelude.{IfOk, Option}
 use Rattle.tds_play.specs.Failures.{TellFailures}
 use Rattle.tds_play.specs.Pipe.{Pipe}
@@ -8,11 +10,20 @@ use Rattle.tds_play.specs.WholePlay.{IsReportOfPlay}
 use Rattle.tds_play.specs.declared.seat.Seated.{Seated}
 use Rattle.tds_play.specs.declared.player.Player.{Player}
 use Rattle.tds_session.specs.Answer.{answer_of}
-use Rattle.tds_world.specs.Losses.{marked}
+use Rattle.tds_world.specs.alone.Alone.{AsIfAlone}
+use Rattle.tds_world.specs.alone.AloneShown.{ShowsAsIfAlone, far_in}
+use Rattle.tds_world.specs.Bounds.{IsEvent}
+use Rattle.tds_world.specs.Descriptors.{AreFewEvents}
+use Rattle.tds_world.specs.Losses.{marked, world_with}
 use Rattle.tds_world.specs.World.{new_world}
+use Rattle.tds_world.specs.declared.event.Event.{Event}
 use Rattle.tds_world.specs.declared.event.Setup.{Setup}
 use Rattle.tds_play.specs.AnyBytes.{ReadsBytes}
 use Rattle.tds_play.proofs.playing.play_with.Goals as goal
+
+-- A play's events leave descriptors.
+few_events : {events : List Event} → AllByRecursion IsEvent events → length events ≤ 10000 → AreFewEvents events
+few_events {events} known few = record { known = known; few = (let n : length events ≤ 10000 = few in omega arith) }
 
 -- A player before any event.
 begins : {E S : Type 0} (setup : Setup) (player : Player E S) (pipes : ℕ → Option Pipe) → player.links.items ≡ [] → player.leases ≡ [] → player.tickets ≡ []
@@ -55,3 +66,20 @@ pub returns-in-Ok-clause-reads : goal.returns-in-Ok-clause-reads
 returns-in-Ok-clause-reads g c =
     subst (λ (size : ℕ). IfOk c.play_events.result (λ report. ReadsBytes size c.args.events.now report (g.C.Carrier.pipes c.play_events.new.carrier))) (c.new-player.ensures.size ∙ c.in-Ok.ensures.size)
     c.play_events.ensures.reads
+
+pub returns-in-Ok-clause-as_if_alone : goal.returns-in-Ok-clause-as_if_alone
+returns-in-Ok-clause-as_if_alone g c = λ tells blind uses.
+    let answers = answer_of (g.E.Engine.statements_of c.args.engine) (g.E.Engine.step_of c.args.engine) in
+    IfOk-weaker c.play_events.result (λ report. IsReportOfPlay c.args.setup.now answers c.args.events.now report (g.C.Carrier.pipes c.play_events.new.carrier))
+    (λ report. AsIfAlone c.args.setup.now.on_attention answers (world_with c.args.setup.now answers (marked c.args.events.now report.events) new_world))
+    (λ report is. c.as_if_alone.ensures c.args.setup.now answers c.engine_is_lawful.ensures blind uses (marked c.args.events.now report.events)
+    (subst AreFewEvents (sym (c.marks_of_a_report.ensures.events c.args.events.now report.events)) (few_events is.known is.few)))
+    (returns-in-Ok-clause-refines g c tells)
+
+pub returns-in-Ok-clause-told_alone : goal.returns-in-Ok-clause-told_alone
+returns-in-Ok-clause-told_alone g c = λ tells blind uses.
+    let answers = answer_of (g.E.Engine.statements_of c.args.engine) (g.E.Engine.step_of c.args.engine) in
+    IfOk-weaker c.play_events.result (λ report. IsReportOfPlay c.args.setup.now answers c.args.events.now report (g.C.Carrier.pipes c.play_events.new.carrier))
+    (λ report. ShowsAsIfAlone c.args.setup.now.on_attention answers (far_in (world_with c.args.setup.now answers (marked c.args.events.now report.events) new_world)) c.args.events.now report)
+    (λ report is. c.of_marked_report.ensures.told_alone c.args.setup.now answers c.args.events.now report c.engine_is_lawful.ensures blind uses (few_events is.known is.few) is.told)
+    (returns-in-Ok-clause-refines g c tells)
