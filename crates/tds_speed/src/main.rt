@@ -28,9 +28,17 @@ enum Walk {
     Tokens,
     /// A client takes each packet, and the values of its rows are summed.
     Values,
+    /// The same, and the client tells the tokens in memory of their own.
+    Take,
 }
 
-const WALKS: [Walk; 4] = [Walk::Packets, Walk::Hear, Walk::Tokens, Walk::Values];
+const WALKS: [Walk; 5] = [
+    Walk::Packets,
+    Walk::Hear,
+    Walk::Tokens,
+    Walk::Values,
+    Walk::Take,
+];
 
 impl Walk {
     fn name(self) -> &'static str {
@@ -39,6 +47,7 @@ impl Walk {
             Walk::Hear => "hear",
             Walk::Tokens => "tokens",
             Walk::Values => "values",
+            Walk::Take => "take",
         }
     }
 
@@ -48,6 +57,7 @@ impl Walk {
             Walk::Hear => walks::hear(alloc, size, bytes),
             Walk::Tokens => walks::tokens(size, bytes),
             Walk::Values => walks::values(alloc, size, bytes),
+            Walk::Take => walks::take(alloc, size, bytes),
         }
     }
 }

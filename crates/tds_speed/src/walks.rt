@@ -7,7 +7,7 @@ use std::fmt::{self, Display, Formatter, Write};
 use tds_client::{Client, Sent, Taken};
 use tds_packet::PacketSize;
 use tds_request::{BatchText, Request};
-use tds_token::{Columns, TokenRef, Tokens};
+use tds_token::{Columns, Token, TokenRef, Tokens};
 
 /// What a walk met.
 #[derive(Clone, Copy, Debug)]
@@ -195,6 +195,45 @@ pub fn values(alloc: Global, size: PacketSize, bytes: &[u8]) -> Result<Counted, 
         if matches!(&taken, Taken::Finished) {
             columns = Columns::none();
             asker.ask()?;
+        }
+    }
+    Ok(counted)
+}
+
+/// Sums the values of the rows that were told.
+fn sum_told(told: &[Token], counted: &mut Counted) {
+    for token in told {
+        counted.tokens = counted.tokens.wrapping_add(1);
+        if let Token::Row(row) = token {
+            counted.rows = counted.rows.wrapping_add(1);
+            for value in row.as_slice() {
+                counted.add(u64::from(value.cast_unsigned()));
+            }
+        }
+    }
+}
+
+/// A client takes each packet and tells its tokens, in memory of their own; the values of the rows
+/// are summed.
+pub fn take(alloc: Global, size: PacketSize, bytes: &[u8]) -> Result<Counted, SpeedFault> {
+    let mut counted = Counted::none();
+    let mut asker = Asker::new(alloc, size)?;
+    let mut told = Vec::new(alloc);
+    let mut rest = bytes;
+    for _ in 0..u64::MAX {
+        if rest.is_empty() {
+            break;
+        }
+        let (packet, behind) = front(rest, size)?;
+        rest = behind;
+        counted.packets = counted.packets.wrapping_add(1);
+        let taken = asker.client.take(packet, &mut told)?;
+        sum_told(told.as_slice(), &mut counted);
+        told.clear();
+        match taken {
+            Taken::Finished => asker.ask()?,
+            Taken::NoMemory => return Err(SpeedFault::Memory),
+            _ => {}
         }
     }
     Ok(counted)
