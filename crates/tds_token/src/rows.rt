@@ -64,8 +64,8 @@ impl<'a> Rows<'a> {
         self.count
     }
 
-    /// The rows as they lie there, and nothing else: each is its token byte `D1` and its values, four
-    /// bytes a value, the low byte first, and all have the same count of values.
+    /// The rows as they lie there, and nothing else: each is its token byte `D1` and its values,
+    /// four bytes a value, the low byte first, and all have the same count of values.
     pub fn bytes(&self) -> &'a [u8]
         ensures { (columns : ℕ) × IsRun columns result.now self.now [] }
     {
