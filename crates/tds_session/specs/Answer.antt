@@ -8,6 +8,7 @@ use Rattle.tds_session.specs.Script as script
 use Rattle.tds_packet.specs.declared.status.Reset.{Reset}
 use Rattle.tds_request.specs.declared.request.Request.{Request}
 use Rattle.tds_request.specs.declared.request.Request.TheVariants as request
+use Rattle.tds_token.specs.DoneStatus as done_status
 use Rattle.tds_token.specs.declared.env_change.EnvChange.TheVariants as change
 use Rattle.tds_token.specs.declared.token.Token.{Token}
 use Rattle.tds_token.specs.declared.token.Token.TheVariants as token
@@ -25,7 +26,7 @@ step_then e = record { tokens = e.tokens; last = false; reset = None; after = e.
 
 -- the last step: an effect's tokens, and the final DONE: 0, or `0002` after an ERROR
 abbrev pub last_step : Effect → Step
-last_step e = record { tokens = e.tokens ++ done (if has_error e then 2 else 0) ∷ []; last = true; reset = None; after = e.after }
+last_step e = record { tokens = e.tokens ++ done (if has_error e then done_status.error else 0) ∷ []; last = true; reset = None; after = e.after }
 
 -- the last step of a batch, after its statements: the final DONE alone
 abbrev pub final_step : ℕ → SessionState → Step
@@ -33,7 +34,7 @@ final_step status s = record { tokens = done status ∷ []; last = true; reset =
 
 -- a statement's step, and the rest of the batch; after an ERROR the batch ends
 abbrev pub and_then : Bool → Effect → List Step → List Step
-and_then true e rest = step_then e ∷ final_step 2 e.after ∷ []
+and_then true e rest = step_then e ∷ final_step done_status.error e.after ∷ []
 and_then false e rest = step_then e ∷ rest
 
 -- the steps of a batch's statements, one each, up to and with the first one that gives an ERROR

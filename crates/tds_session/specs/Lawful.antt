@@ -7,13 +7,14 @@ use Rattle.tds_token.specs.declared.env_change.EnvChange.{EnvChange}
 use Rattle.tds_token.specs.declared.env_change.EnvChange.TheVariants.{Begin, Commit, Rollback, ResetDone}
 use Rattle.tds_token.specs.declared.token.Token.{Token}
 use Rattle.tds_token.specs.declared.token.Token.TheVariants as token
+use Rattle.tds_token.specs.DoneStatus as done_status
 use Rattle.tds_token.specs.Layout.{Fits, IsTokens}
 use Rattle.tds_token.specs.Told.{applied, changes_of, no_reset}
 
 -- a DONE among a statement's tokens says that more follows (`0001`), and acknowledges no
 -- attention (`0020`) (MS-TDS 2.2.7.6)
 abbrev pub IsStatementDone : Token → Type 0
-IsStatementDone (token.Done status cur_cmd rows) = (bit_and status 1 ≡ 1) × (bit_and status 32 ≡ 0)
+IsStatementDone (token.Done status cur_cmd rows) = (bit_and status done_status.more ≡ done_status.more) × (bit_and status done_status.attention ≡ 0)
 IsStatementDone t = Unit {0}
 
 -- it isn't the end of a reset

@@ -4,7 +4,7 @@ use crate::fault::ViewFault;
 use crate::files::{play_bytes, read_file};
 use std::alloc::{AllocError, Global};
 use std::io::Write;
-use tds_play::render;
+use tds_listing::report_text;
 use tds_text::write_whole;
 
 /// Plays each schedule and prints a line for it; where its text differs, the first line that does,
@@ -42,8 +42,7 @@ fn difference(rt: &HostRuntime, name: &str) -> Result<Option<String>, ViewFault>
     let beside = format!(in alloc; "{}.txt", name.strip_suffix(".json").unwrap_or(name))?;
     let wanted = read_file(rt, beside.as_str())?;
     let exchange = play_bytes(alloc, name, schedule.as_slice())?;
-    let mut printed = Vec::new(alloc);
-    render(alloc, &exchange.report, &mut printed)?;
+    let printed = report_text(alloc, &exchange.report)?;
     Ok(first_difference(alloc, printed.as_slice(), wanted.as_slice())?)
 }
 

@@ -1,11 +1,11 @@
 //! Files that are read.
 
-use crate::explaining::why_unplayed;
 use crate::fault::ViewFault;
 use std::alloc::Global;
 use std::fs;
 use std::io::{ErrorKind, Read};
 use tds_exchange::{Exchange, play_kept};
+use tds_explain::why_unplayed;
 use tds_play::{ScheduleFault, read_schedule};
 
 /// The most bytes of a file, as of `tdsplay`.

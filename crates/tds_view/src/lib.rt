@@ -2,14 +2,11 @@
 //! is wrong with a file.
 #![tactic(auto)]
 
-mod bytes;
 mod checking;
 mod explaining;
 mod fault;
 mod files;
-mod frames;
 mod running;
-mod snapshots;
 mod words;
 
 pub use running::{explain, run_view};

@@ -1,17 +1,15 @@
 //! A run of the program, from its words to its exit status.
 
-use crate::bytes::print_bytes;
 use crate::checking::print_check;
 use crate::explaining::print_explanation;
 use crate::fault::ViewFault;
 use crate::files::{play_named, read_file};
-use crate::snapshots::print_snapshots;
 use crate::words::{Command, read_words};
 use clap::Error;
 use clap::error::ErrorKind;
 use std::alloc::{AllocError, Global};
 use std::io::Write;
-use tds_play::RenderFault;
+use tds_listing::{print_bytes, print_snapshots};
 use tds_text::write_whole;
 
 /// Does what the words behind the program's name ask for. It answers the exit status: 0 where all is
@@ -111,15 +109,14 @@ fn answer_words<W: Write, F: Write>(
         tell(&ViewFault::Memory, errors);
         return 1;
     }
-    let written = match error.use_stderr() {
-        true => write_whole(errors, text.as_str()),
-        false => write_whole(output, text.as_str()),
-    };
-    match written {
-        Ok(()) if error.use_stderr() => 2,
+    if error.use_stderr() {
+        // Where that fails, there is nobody to tell.
+        let _ = write_whole(errors, text.as_str());
+        return 2;
+    }
+    match write_whole(output, text.as_str()) {
         Ok(()) => 0,
-        Err(RenderFault::Memory) => 1,
-        Err(RenderFault::Write) => {
+        Err(_) => {
             tell(&ViewFault::Output, errors);
             1
         }

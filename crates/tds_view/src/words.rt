@@ -2,6 +2,7 @@
 
 use clap::{Arg, ArgAction, ArgMatches, Command as Parser, Error};
 use std::alloc::{AllocError, Global};
+use tds_listing::BytesForm;
 
 /// What the words ask for.
 #[derive(Drop)]
@@ -10,17 +11,6 @@ pub(crate) enum Command {
     Snapshots(String),
     Explain(String),
     Check(Vec<String>),
-}
-
-/// How packets are spelled.
-#[derive(Clone, Copy, PartialEq, Eq)]
-pub(crate) enum BytesForm {
-    /// A line of hexadecimal digits for each.
-    Digits,
-    /// The same, and what they mean.
-    Shown,
-    /// As `text2pcap` of Wireshark takes it.
-    Frames,
 }
 
 /// Reads the words behind the program's name.

@@ -7,6 +7,7 @@ use Rattle.tds_session.specs.Answer as answer
 use Rattle.tds_session.specs.Answer.{Answers}
 use Rattle.tds_session.specs.Lawful.{IsStatementDone}
 use Rattle.tds_session.specs.Session.{SessionState}
+use Rattle.tds_token.specs.DoneStatus as done_status
 use Rattle.tds_token.specs.declared.token.Token.{Token}
 use Rattle.tds_token.specs.declared.token.Token.TheVariants as token
 use Rattle.tds_world.specs.Laws.{OfEachConnection}
@@ -15,7 +16,7 @@ use Rattle.tds_world.specs.World.{World}
 
 -- No more follows, and no attention is acknowledged.
 abbrev pub IsFinal : ℕ → Type 0
-IsFinal status = (bit_and status 1 ≡ 0) × (bit_and status 32 ≡ 0)
+IsFinal status = (bit_and status done_status.more ≡ 0) × (bit_and status done_status.attention ≡ 0)
 
 -- The tokens of a last step end with a final DONE, of this command and this count of rows, and each
 -- other DONE says that more follows.

@@ -11,12 +11,12 @@ fn main(rt: HostRuntime) -> ExitCode {
     let words = match words(&rt) {
         Ok(words) => words,
         Err(error) => {
-            let line = match error.kind() {
-                ErrorKind::OutOfMemory => "error: memory",
-                _ => "error: a word isn't UTF-8",
+            let (line, status) = match error.kind() {
+                ErrorKind::OutOfMemory => ("error: memory", 1),
+                _ => ("error: a word isn't UTF-8", 2),
             };
             let _ = eprintln!(rt; "{line}");
-            return ExitCode::from(2);
+            return ExitCode::from(status);
         }
     };
     let mut output = rt.stdout();

@@ -96,5 +96,11 @@ reading_finishes = (refl, refl)
 pub in_the_middle_finishes : (after (in_the_middle ++ finishes) ≡ rest) × (became (in_the_middle ++ finishes) ≡ status.Finished ∷ [])
 in_the_middle_finishes = (refl, refl)
 
+pub behind_the_end_finishes : (after (behind_the_end ++ finishes) ≡ rest) × (became (behind_the_end ++ finishes) ≡ status.Finished ∷ [])
+behind_the_end_finishes = (refl, refl)
+
 pub crossing_finishes : (after (crossing ++ finishes) ≡ rest) × (became (crossing ++ finishes) ≡ status.Acknowledged ∷ [])
 crossing_finishes = (refl, refl)
+
+pub draining_finishes : (after (draining ++ finishing (In Draining) 1 2 4294967295 2 4294967295) ≡ (Idle, (Free, (0, 0))) ∷ []) × (became (draining ++ finishing (In Draining) 1 2 4294967295 2 4294967295) ≡ status.Acknowledged ∷ [])
+draining_finishes = (refl, refl)

@@ -1,7 +1,7 @@
 //! One event that is wrong.
 
-use crate::explaining::Page;
-use crate::explaining::places::put_place;
+use crate::page::Page;
+use crate::places::put_place;
 use serde_json::Value;
 use std::alloc::{AllocError, Global};
 use std::fmt::Write;
@@ -49,7 +49,7 @@ impl Field {
 /// where there is no such word.
 fn fields_of(word: &str, count: usize, version: u64) -> Option<&'static [Field]> {
     match word {
-        "commit" | "rollback" if version == 2 && count == 2 => {
+        "commit" | "rollback" if version >= 2 && count == 2 => {
             Some(&[Field::Lease, Field::Isolation])
         }
         "lease" | "restart_server" | "restart_client" => Some(&[]),

@@ -1,23 +1,32 @@
 //! The packets of a play as bytes.
 
-use crate::fault::ViewFault;
 use crate::frames::print_frames;
-use crate::words::BytesForm;
 use std::alloc::{AllocError, Global};
 use std::fmt::Write as _;
 use std::io::Write;
 use tds_exchange::{Exchange, Packet};
 use tds_packet::Direction;
-use tds_play::run_show;
+use tds_play::{RenderFault, run_show};
 use tds_text::write_whole;
 
-/// Prints every packet, in the order of the events.
-pub(crate) fn print_bytes<W: Write>(
+/// How packets are spelled.
+#[derive(Clone, Copy, PartialEq, Eq)]
+pub enum BytesForm {
+    /// A line for each: its event, its connection, its direction, and two hexadecimal digits a byte.
+    Digits,
+    /// The same, and below it what the packet means.
+    Shown,
+    /// As `text2pcap` of Wireshark takes it.
+    Frames,
+}
+
+/// Prints every packet of a play, in the order of the events.
+pub fn print_bytes<W: Write>(
     alloc: Global,
     exchange: &Exchange,
     form: BytesForm,
     output: &mut W,
-) -> Result<(), ViewFault> {
+) -> Result<(), RenderFault> {
     let packets = exchange.packets.as_slice();
     match form {
         BytesForm::Digits => print_digits(alloc, packets, output),
@@ -30,7 +39,7 @@ fn print_digits<W: Write>(
     alloc: Global,
     packets: &[Packet],
     output: &mut W,
-) -> Result<(), ViewFault> {
+) -> Result<(), RenderFault> {
     let mut line = String::new(alloc);
     for packet in packets {
         line.clear();
@@ -71,21 +80,30 @@ fn print_shown<W: Write>(
     alloc: Global,
     packets: &[Packet],
     output: &mut W,
-) -> Result<(), ViewFault> {
+) -> Result<(), RenderFault> {
     let mut messages = Vec::new(alloc);
-    let mut text = String::new(alloc);
     for packet in packets {
-        text.clear();
-        put_line(&mut text, packet)?;
-        let mut message = message_of(alloc, &mut messages, packet);
-        put_digits(&mut message.digits, packet.bytes.as_slice())?;
-        put_last_shown(alloc, &mut text, message.digits.as_str())?;
+        let text = shown_text(alloc, &mut messages, packet)?;
         write_whole(output, text.as_str())?;
-        if !packet.header.status.ends() {
-            messages.push(message)?;
-        }
     }
     Ok(())
+}
+
+/// A packet's line, and what the packet means behind those of its message that came before it.
+fn shown_text(
+    alloc: Global,
+    messages: &mut Vec<Message>,
+    packet: &Packet,
+) -> Result<String, AllocError> {
+    let mut text = String::new(alloc);
+    put_line(&mut text, packet)?;
+    let mut message = message_of(alloc, messages, packet);
+    put_digits(&mut message.digits, packet.bytes.as_slice())?;
+    put_last_shown(alloc, &mut text, message.digits.as_str())?;
+    if !packet.header.status.ends() {
+        messages.push(message)?;
+    }
+    Ok(text)
 }
 
 /// Takes the message out that a packet goes on with, or begins one.

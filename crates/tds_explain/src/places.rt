@@ -1,6 +1,6 @@
 //! Where in a file something stands.
 
-use crate::explaining::Page;
+use crate::page::Page;
 use std::alloc::{AllocError, Global};
 use std::fmt::Write;
 

@@ -1,12 +1,11 @@
 //! Events that don't apply.
 
-use crate::explaining::Page;
-use crate::explaining::outside::Outline;
-use crate::explaining::places::Place;
+use crate::outside::Outline;
+use crate::page::Page;
+use crate::places::Place;
 use std::alloc::{AllocError, Global};
 use std::fmt::Write;
-use tds_exchange::Exchange;
-use tds_play::{Outcome, Refusal};
+use tds_play::{Outcome, Refusal, Report};
 
 /// The rule by which an event doesn't apply.
 fn rule_of(why: Refusal) -> &'static str {
@@ -28,10 +27,10 @@ pub(crate) fn put_refusals(
     text: &mut String,
     page: Page<'_>,
     outline: &Outline,
-    exchange: &Exchange,
+    report: &Report,
 ) -> Result<(), AllocError> {
     let mut place = Place::start();
-    for (index, told) in exchange.report.events.as_slice().iter().enumerate() {
+    for (index, told) in report.events.as_slice().iter().enumerate() {
         let Outcome::Refused(why) = told.outcome else {
             continue;
         };

@@ -1,15 +1,18 @@
 //! What stands outside of the events.
 
-use crate::explaining::Page;
-use crate::explaining::event::put_value;
-use crate::explaining::places::{is_space, parts_of, put_place};
+use crate::event::put_value;
+use crate::page::Page;
+use crate::places::{is_space, parts_of, put_place};
 use serde_json::Value;
 use std::alloc::{AllocError, Global};
 use std::fmt::Write;
 use tds_play::Setup;
 
+/// The key that a schedule has in version 3 alone.
+const LATE_KEY: &str = "rollback_on_attention";
+
 /// The keys of a schedule.
-const KEYS: [&str; 4] = ["version", "packet_size", "max", "events"];
+const KEYS: [&str; 5] = ["version", "packet_size", "max", LATE_KEY, "events"];
 
 /// A key of the outermost object, and where it and its value stand.
 #[derive(Drop)]
@@ -121,25 +124,42 @@ pub(crate) fn put_outside_faults(
         put_value(alloc, text, value)?;
         return text.push_str("\n");
     }
+    let version = value.get("version").and_then(Value::as_u64);
     for key in &KEYS {
         match outline.value_at(key) {
             Some(at) => put_value_fault(alloc, text, page, at, key, value)?,
+            None if *key == LATE_KEY && version != Some(3) => {}
             None => {
                 put_place(text, page, outline.start)?;
                 writeln!(text, "the key \"{key}\" is missing")?;
             }
         }
     }
-    for member in outline.members.iter() {
+    put_unknown(text, page, outline.members.as_slice(), version)?;
+    put_doubled(text, page, outline.members.as_slice())
+}
+
+/// Appends a line for each key that a schedule of this version doesn't have.
+fn put_unknown(
+    text: &mut String,
+    page: Page<'_>,
+    members: &[Member],
+    version: Option<u64>,
+) -> Result<(), AllocError> {
+    for member in members {
         let key = member.key.as_str();
-        if !KEYS.iter().any(|it| *it == key) {
+        if key == LATE_KEY && matches!(version, Some(1 | 2)) {
+            put_place(text, page, member.key_at)?;
+            writeln!(text, "the key \"{key}\" stands in version 3 alone")?;
+        } else if !KEYS.iter().any(|it| *it == key) {
             put_place(text, page, member.key_at)?;
             text.push_str("the key \"")?;
             put_escaped(text, key)?;
-            text.push_str("\" is none of version, packet_size, max and events\n")?;
+            text.push_str("\" is none of version, packet_size, max, ")?;
+            text.push_str("rollback_on_attention and events\n")?;
         }
     }
-    put_doubled(text, page, outline.members.as_slice())
+    Ok(())
 }
 
 /// Appends a text with what isn't printed as `\u{..}`.
@@ -160,10 +180,14 @@ fn put_value_fault(
         return Ok(());
     };
     let (is_right, wanted) = match key {
-        "version" => (matches!(value.as_u64(), Some(1 | 2)), "the number 1 or 2"),
+        "version" => (
+            matches!(value.as_u64(), Some(1..=3)),
+            "the number 1, 2 or 3",
+        ),
         "packet_size" => (is_at_most(value, 65_535), "a whole number, 512 to 32767"),
         "max" => (is_at_most(value, 255), "a whole number, 1 to 64"),
-        _ => (value.is_array(), "an array of events"),
+        "events" => (value.is_array(), "an array of events"),
+        _ => (value.is_boolean(), "true or false"),
     };
     if is_right {
         return Ok(());

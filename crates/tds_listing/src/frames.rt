@@ -1,12 +1,12 @@
 //! The packets of a play as frames of Ethernet, in the hexadecimal dump that Wireshark's text2pcap
 //! reads. Each connection is a TCP connection of its own, to port 1433, so Wireshark knows it as TDS.
 
-use crate::fault::ViewFault;
 use std::alloc::{AllocError, Global};
 use std::fmt::Write as _;
 use std::io::Write;
 use tds_exchange::Packet;
 use tds_packet::Direction;
+use tds_play::RenderFault;
 use tds_text::write_whole;
 
 /// The port of SQL Server.
@@ -36,7 +36,7 @@ pub(crate) fn print_frames<W: Write>(
     alloc: Global,
     packets: &[Packet],
     output: &mut W,
-) -> Result<(), ViewFault> {
+) -> Result<(), RenderFault> {
     let mut all_sent = Vec::new(alloc);
     let mut text = String::new(alloc);
     for packet in packets {

@@ -1,0 +1,155 @@
+/* The walks of tds_speed (crates/tds_speed/src/walks.rt), by the calls of include/tds.h.
+ *
+ * usage: calls FILE SIZE TIMES      prints a walk's name, its nanoseconds, and what it counts:
+ *                                   packets, tokens, rows and a sum
+ */
+#define _POSIX_C_SOURCE 199309L
+#include "tds.h"
+#include <stdio.h>
+#include <stdlib.h>
+#include <string.h>
+#include <time.h>
+
+struct counted {
+    uint64_t packets, tokens, rows, sum;
+};
+
+static void stop(const char *why, unsigned number) {
+    fprintf(stderr, "calls: %s %u\n", why, number);
+    exit(1);
+}
+
+static size_t front(const uint8_t *bytes, size_t length, uint16_t size) {
+    struct tds_packet packet;
+    uint8_t answer = tds_packet_read(bytes, length, size, TDS_TO_CLIENT, &packet);
+    if (answer != TDS_OK) stop("packet", answer);
+    return packet.length;
+}
+
+static struct counted packets(const uint8_t *bytes, size_t length, uint16_t size) {
+    struct counted counted = {0, 0, 0, 0};
+    while (length > 0) {
+        size_t whole = front(bytes, length, size);
+        bytes += whole, length -= whole;
+        counted.packets += 1, counted.sum += whole;
+    }
+    return counted;
+}
+
+static struct tds_client client;
+static uint8_t message[TDS_MESSAGE_MOST], out[4096];
+
+/* Sends a request, which is one packet. */
+static void ask(void) {
+    static const uint16_t text[] = {'s', 'e', 'l', 'e', 'c', 't', ' ', 'a', ' ', 'f', 'r', 'o', 'm', ' ', 'b'};
+    size_t count = 0, sent = 0;
+    uint8_t answer = tds_client_start_batch(&client, text, sizeof text / 2, message, sizeof message, &count);
+    if (answer != TDS_OK) stop("start", answer);
+    answer = tds_client_send(&client, message, count, out, sizeof out, &sent);
+    if (answer != TDS_LAST) stop("send", answer);
+}
+
+static struct counted hear(const uint8_t *bytes, size_t length, uint16_t size) {
+    struct counted counted = {0, 0, 0, 0};
+    tds_client_new(size, &client);
+    ask();
+    while (length > 0) {
+        size_t whole = front(bytes, length, size);
+        uint8_t answer = tds_client_take(&client, bytes, whole);
+        if (answer >= TDS_NO_CLIENT) stop("take", answer);
+        bytes += whole, length -= whole;
+        counted.packets += 1, counted.sum += answer;
+        if (answer == TDS_FINISHED) ask();
+    }
+    return counted;
+}
+
+static uint8_t count_tokens(const uint8_t *data, size_t length, uint8_t columns, struct counted *counted) {
+    struct tds_cursor cursor = {0, columns};
+    struct tds_token token;
+    uint8_t answer;
+    while ((answer = tds_token_next(data, length, &cursor, &token)) == TDS_OK) {
+        counted->tokens += 1;
+        if (token.kind == TDS_ROW) counted->rows += 1;
+        else if (token.kind == TDS_DONE) counted->sum += token.value;
+    }
+    if (answer != TDS_END) stop("token", answer);
+    return cursor.columns;
+}
+
+static struct counted tokens(const uint8_t *bytes, size_t length, uint16_t size) {
+    struct counted counted = {0, 0, 0, 0};
+    uint8_t columns = 0;
+    while (length > 0) {
+        size_t whole = front(bytes, length, size);
+        columns = count_tokens(bytes + 8, whole - 8, columns, &counted);
+        bytes += whole, length -= whole;
+        counted.packets += 1;
+    }
+    return counted;
+}
+
+static void sum_values(const uint8_t *data, size_t length, uint8_t columns, struct counted *counted) {
+    struct tds_cursor cursor = {0, columns};
+    struct tds_token token;
+    uint8_t answer;
+    while ((answer = tds_token_next(data, length, &cursor, &token)) == TDS_OK) {
+        counted->tokens += 1;
+        if (token.kind != TDS_ROW) continue;
+        counted->rows += 1;
+        for (uint8_t i = 0; i < token.count; i++) {
+            uint32_t value;
+            memcpy(&value, data + token.start + 1 + 4u * i, 4);
+            counted->sum += value;
+        }
+    }
+    if (answer != TDS_END) stop("token", answer);
+}
+
+static struct counted values(const uint8_t *bytes, size_t length, uint16_t size) {
+    struct counted counted = {0, 0, 0, 0};
+    tds_client_new(size, &client);
+    ask();
+    while (length > 0) {
+        size_t whole = front(bytes, length, size);
+        uint8_t columns = client.columns, answer = tds_client_take(&client, bytes, whole);
+        if (answer >= TDS_NO_CLIENT) stop("take", answer);
+        sum_values(bytes + 8, whole - 8, columns, &counted);
+        bytes += whole, length -= whole;
+        counted.packets += 1;
+        if (answer == TDS_FINISHED) ask();
+    }
+    return counted;
+}
+
+static const struct {
+    const char *name;
+    struct counted (*walk)(const uint8_t *, size_t, uint16_t);
+} WALKS[] = {{"packets", packets}, {"hear", hear}, {"tokens", tokens}, {"values", values}};
+
+static uint64_t now(void) {
+    struct timespec time;
+    clock_gettime(CLOCK_MONOTONIC, &time);
+    return (uint64_t)time.tv_sec * 1000000000 + (uint64_t)time.tv_nsec;
+}
+
+int main(int argc, char **argv) {
+    if (argc != 4) return 2;
+    FILE *file = fopen(argv[1], "rb");
+    if (file == NULL || fseek(file, 0, SEEK_END) != 0) return 2;
+    size_t length = (size_t)ftell(file);
+    uint8_t *bytes = malloc(length + 1);
+    rewind(file);
+    if (bytes == NULL || fread(bytes, 1, length, file) != length) return 2;
+    for (long times = strtol(argv[3], NULL, 10); times > 0; times--)
+        for (size_t i = 0; i < sizeof WALKS / sizeof WALKS[0]; i++) {
+            uint64_t start = now();
+            struct counted c = WALKS[i].walk(bytes, length, (uint16_t)atoi(argv[2]));
+            uint64_t nanoseconds = now() - start;
+            printf("%s %llu %llu %llu %llu %llu\n", WALKS[i].name, (unsigned long long)nanoseconds,
+                   (unsigned long long)c.packets, (unsigned long long)c.tokens, (unsigned long long)c.rows,
+                   (unsigned long long)c.sum);
+        }
+    free(bytes);
+    return 0;
+}

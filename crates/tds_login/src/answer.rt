@@ -1,0 +1,203 @@
+//! What a login is answered with (MS-TDS 2.2.6.5, 2.2.7.6, 2.2.7.9, 2.2.7.10, 2.2.7.14).
+
+use crate::NoMemory;
+use byteorder::{BigEndian, ByteOrder, LittleEndian};
+use std::alloc::Global;
+use tds_packet::{Kind, PacketSize, Status, put_sent};
+
+/// What a message of the login is answered with.
+#[derive(Clone, Copy, Debug, PartialEq, Eq)]
+pub enum LoginAnswer {
+    /// PRELOGIN: the server does not encrypt.
+    Prepare,
+    /// LOGIN7: the connection is logged in.
+    LetIn(Terms),
+    /// LOGIN7: the connection is refused, and is to be closed behind the answer.
+    Refuse(Refusal),
+}
+
+/// What holds on a connection that is let in.
+#[derive(Clone, Copy, Debug, PartialEq, Eq)]
+pub struct Terms {
+    /// The version of TDS, as LOGIN7 names it.
+    pub version: u32,
+    pub size: PacketSize,
+}
+
+/// Why a connection is refused.
+#[derive(Clone, Copy, Debug, PartialEq, Eq)]
+pub enum Refusal {
+    /// It asked for a version before TDS 7.2.
+    OldVersion,
+    /// It demanded encryption.
+    Encryption,
+}
+
+/// The name of this server in LOGINACK and in errors.
+const NAME: &[u8] = b"tdsserve";
+
+/// The answer to PRELOGIN (MS-TDS 2.2.6.5): version 11.0, and encryption is not supported.
+const PREPARED: [u8; 18] = [0, 0, 11, 0, 6, 1, 0, 17, 0, 1, 0xff, 11, 0, 0, 0, 0, 0, 2];
+
+/// The layout of tokens from TDS 7.2 on, or before it.
+#[derive(Clone, Copy, Debug, PartialEq, Eq)]
+enum Layout {
+    /// Rows are counted in eight bytes, lines in four.
+    Wide,
+    /// Rows are counted in four bytes, lines in two.
+    Narrow,
+}
+
+/// Appends the packet of an answer.
+pub fn put_answer(alloc: Global, out: &mut Vec<u8>, answer: LoginAnswer) -> Result<(), NoMemory> {
+    match answer {
+        LoginAnswer::Prepare => put_packet(out, &PREPARED),
+        LoginAnswer::LetIn(terms) => put_let_in(alloc, out, terms),
+        LoginAnswer::Refuse(Refusal::OldVersion) => put_error_as(
+            alloc,
+            out,
+            Layout::Narrow,
+            17_832,
+            b"This server speaks TDS 7.2 to 7.4, and the client asked for an older version.",
+        ),
+        LoginAnswer::Refuse(Refusal::Encryption) => put_error(
+            alloc,
+            out,
+            17_835,
+            b"This server does not encrypt, and the client demanded encryption.",
+        ),
+    }
+}
+
+/// Appends an answer of one ERROR with this number, and DONE. Of the text, in ASCII, 200 bytes count.
+pub fn put_error(
+    alloc: Global,
+    out: &mut Vec<u8>,
+    number: u32,
+    text: &[u8],
+) -> Result<(), NoMemory> {
+    put_error_as(alloc, out, Layout::Wide, number, text)
+}
+
+/// Appends an answer of DONE alone.
+pub fn put_done(alloc: Global, out: &mut Vec<u8>) -> Result<(), NoMemory> {
+    let mut data = Vec::new(alloc);
+    put_done_token(&mut data, Layout::Wide, 0)?;
+    put_packet(out, data.as_slice())
+}
+
+/// Appends a packet of an answer, the last of its message. Data that no packet holds are left out.
+fn put_packet(out: &mut Vec<u8>, data: &[u8]) -> Result<(), NoMemory> {
+    let data = &data[..data.len().min(4_088)];
+    put_sent(out, Kind::Answer, Status::of_answer(true), 1, data)
+}
+
+/// Appends the answer to a login that is let in: database, collation, LOGINACK, packet size, DONE.
+fn put_let_in(alloc: Global, out: &mut Vec<u8>, terms: Terms) -> Result<(), NoMemory> {
+    let mut data = Vec::new(alloc);
+    put_env_change(alloc, &mut data, 1, b"main", b"master")?;
+    put_counted(&mut data, 0xe3, &[7, 5, 0x09, 0x04, 0xd0, 0, 0x34, 0])?;
+    put_acknowledgement(alloc, &mut data, terms.version)?;
+    let digits = format!(in alloc; "{}", terms.size.get())?;
+    put_env_change(alloc, &mut data, 4, digits.as_bytes(), b"4096")?;
+    put_done_token(&mut data, Layout::Wide, 0)?;
+    put_packet(out, data.as_slice())
+}
+
+/// Appends LOGINACK (MS-TDS 2.2.7.14).
+fn put_acknowledgement(alloc: Global, data: &mut Vec<u8>, version: u32) -> Result<(), NoMemory> {
+    let mut bytes = [0u8; 4];
+    BigEndian::write_u32(&mut bytes, version);
+    let mut body = Vec::new(alloc);
+    body.push(1)?;
+    body.extend_from_slice(&bytes)?;
+    put_text(&mut body, NAME)?;
+    body.extend_from_slice(&[11, 0, 0, 1])?;
+    put_counted(data, 0xad, body.as_slice())
+}
+
+/// Appends an answer of one ERROR (MS-TDS 2.2.7.10) and DONE, in this layout.
+fn put_error_as(
+    alloc: Global,
+    out: &mut Vec<u8>,
+    layout: Layout,
+    number: u32,
+    text: &[u8],
+) -> Result<(), NoMemory> {
+    let text = &text[..text.len().min(200)];
+    let mut body = Vec::new(alloc);
+    put_u32(&mut body, number)?;
+    body.extend_from_slice(&[1, 20])?;
+    put_u16(&mut body, text.len() as u16)?;
+    put_units(&mut body, text)?;
+    put_text(&mut body, NAME)?;
+    put_text(&mut body, b"")?;
+    match layout {
+        Layout::Wide => put_u32(&mut body, 1)?,
+        Layout::Narrow => put_u16(&mut body, 1)?,
+    }
+    let mut data = Vec::new(alloc);
+    put_counted(&mut data, 0xaa, body.as_slice())?;
+    put_done_token(&mut data, layout, 2)?;
+    put_packet(out, data.as_slice())
+}
+
+/// Appends ENVCHANGE (MS-TDS 2.2.7.9) of this type, from one text to another.
+fn put_env_change(
+    alloc: Global,
+    data: &mut Vec<u8>,
+    kind: u8,
+    new: &[u8],
+    old: &[u8],
+) -> Result<(), NoMemory> {
+    let mut body = Vec::new(alloc);
+    body.push(kind)?;
+    put_text(&mut body, new)?;
+    put_text(&mut body, old)?;
+    put_counted(data, 0xe3, body.as_slice())
+}
+
+/// Appends DONE (MS-TDS 2.2.7.6) with this status.
+fn put_done_token(data: &mut Vec<u8>, layout: Layout, status: u8) -> Result<(), NoMemory> {
+    data.extend_from_slice(&[0xfd, status, 0, 0, 0])?;
+    match layout {
+        Layout::Wide => data.extend_from_slice(&[0; 8]),
+        Layout::Narrow => data.extend_from_slice(&[0; 4]),
+    }
+}
+
+/// Appends a token with the count of its bytes in front.
+fn put_counted(data: &mut Vec<u8>, kind: u8, body: &[u8]) -> Result<(), NoMemory> {
+    data.push(kind)?;
+    put_u16(data, u16::try_from(body.len()).unwrap_or(0))?;
+    data.extend_from_slice(body)
+}
+
+/// Appends a text behind its count of units.
+fn put_text(data: &mut Vec<u8>, text: &[u8]) -> Result<(), NoMemory> {
+    data.push(u8::try_from(text.len()).unwrap_or(255))?;
+    put_units(data, text)
+}
+
+/// Appends a text of ASCII, each byte a unit.
+fn put_units(data: &mut Vec<u8>, text: &[u8]) -> Result<(), NoMemory> {
+    for byte in text {
+        data.push(*byte)?;
+        data.push(0)?;
+    }
+    Ok(())
+}
+
+/// Appends two bytes, the lower one first.
+fn put_u16(data: &mut Vec<u8>, number: u16) -> Result<(), NoMemory> {
+    let mut bytes = [0u8; 2];
+    LittleEndian::write_u16(&mut bytes, number);
+    data.extend_from_slice(&bytes)
+}
+
+/// Appends four bytes, the lowest one first.
+fn put_u32(data: &mut Vec<u8>, number: u32) -> Result<(), NoMemory> {
+    let mut bytes = [0u8; 4];
+    LittleEndian::write_u32(&mut bytes, number);
+    data.extend_from_slice(&bytes)
+}

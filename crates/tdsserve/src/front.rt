@@ -1,0 +1,112 @@
+//! What stands between a logged-in peer and the server's end: it hands on each packet, a batch without
+//! the line ends behind its text, and answers a setting that a driver sends by itself.
+ghost use Rattle.std.specs.Prelude.{◌≡◌, ◌≤◌, length, IfOk};
+ghost use Rattle.tds_packet.specs.declared.kind.Direction.TheVariants.{ToServer};
+
+use std::alloc::{AllocError, Global};
+use tds_ends::{ServerEnd, ServerStop};
+use tds_login::{is_own_setting, put_done, without_line_ends};
+use tds_packet::{Direction, Kind, PacketReader, PacketSize, Status, put_sent};
+use tds_session::ScriptEngine;
+
+/// What came of bytes.
+#[derive(Clone, Copy, Debug, PartialEq, Eq)]
+pub enum Took {
+    /// A part of a packet or of a message, or a message that is to be ignored.
+    Part,
+    /// A batch.
+    Batch,
+    /// A transaction manager request.
+    Transaction,
+    /// An attention. It is acknowledged.
+    Attention,
+    /// A setting of the driver's own. It is answered.
+    Setting,
+    /// The server's end does not take it, and is broken.
+    Fault,
+}
+
+/// The front of a connection that is logged in.
+#[derive(Drop)]
+pub struct Front {
+    reader: PacketReader,
+    /// The packet as it is handed on.
+    packet: Vec<u8>,
+    /// Whether a message has begun and not ended.
+    inside: bool,
+    ghost reads: { reader.direction ≡ ToServer },
+}
+
+impl Front {
+    /// A front for packets of this size.
+    pub fn new(alloc: Global, size: PacketSize) -> Result<Front, AllocError> {
+        Ok(Front {
+            reader: PacketReader::new(alloc, size, Direction::ToServer)?,
+            packet: Vec::with_capacity(alloc, usize::from(size.get()))?,
+            inside: false,
+        })
+    }
+
+    /// Takes bytes up to the end of one packet, and answers how many. What is answered at once is
+    /// appended to `out`.
+    pub fn take(
+        &mut self,
+        alloc: Global,
+        end: &mut ServerEnd<ScriptEngine>,
+        piece: &[u8],
+        out: &mut Vec<u8>,
+    ) -> Result<(usize, Took), AllocError>
+        ensures within { IfOk result (λ x. x.0 ≤ length piece.now) }
+    {
+        let Ok(count) = self.reader.feed(piece) else {
+            return Ok((0, Took::Fault));
+        };
+        let Some(packet) = self.reader.packet() else {
+            return Ok((count, Took::Part));
+        };
+        let (kind, status) = (packet.header.kind, packet.header.status);
+        let is_whole = !self.inside && status.ends();
+        self.inside = !status.ends();
+        if is_whole && kind == Kind::Batch && is_plain(status) && is_own_setting(packet.data) {
+            self.reader.done();
+            put_done(alloc, out)?;
+            return Ok((count, Took::Setting));
+        }
+        let mut length = packet.data.len();
+        if kind == Kind::Batch && status.ends() {
+            length = without_line_ends(packet.data, is_whole);
+        }
+        self.packet.clear();
+        let data = &packet.data[..length];
+        put_sent(
+            &mut self.packet,
+            kind,
+            status,
+            packet.header.packet_id,
+            data,
+        )?;
+        self.reader.done();
+        let took = match end.serve(self.packet.as_slice(), out).stop {
+            None if status.ends() && !status.is_ignored() => took_of(kind),
+            None => Took::Part,
+            Some(ServerStop::NoMemory) => return Err(AllocError),
+            Some(_) => Took::Fault,
+        };
+        Ok((count, took))
+    }
+}
+
+/// Whether a status asks for nothing: no reset, and not to be ignored.
+fn is_plain(status: Status) -> bool {
+    status.reset().is_none() && !status.asks_for_both_resets() && !status.is_ignored()
+}
+
+/// What a message of this kind is.
+fn took_of(kind: Kind) -> Took {
+    match kind {
+        Kind::Batch => Took::Batch,
+        Kind::Transaction => Took::Transaction,
+        Kind::Attention => Took::Attention,
+        Kind::Answer => Took::Fault,
+    }
+}

@@ -1,0 +1,195 @@
+//! The loop over all connections.
+
+use crate::connection::{Connection, Then};
+use crate::log::Log;
+use crate::peer::Note;
+use mio::net::TcpListener;
+use mio::{Events, Interest, Poll, Token};
+use slab::Slab;
+use std::alloc::Global;
+use std::io::{self, Write};
+use std::mem;
+use std::net::{Net, SocketAddr};
+use std::rt::Clock;
+use std::time::{Duration, Instant};
+use tds_session::OnAttention;
+
+/// The token of the listener.
+const LISTENER: Token = Token(usize::MAX);
+
+/// The most connections at a time.
+const MOST: usize = 1024;
+
+/// How a server serves.
+#[derive(Clone, Copy, Debug)]
+pub struct Manner {
+    pub address: SocketAddr,
+    pub on_attention: OnAttention,
+    /// The milliseconds between two steps of an answer.
+    pub pace: u64,
+}
+
+/// A server with all its connections.
+#[derive(Drop)]
+struct House<W: Write + Drop> {
+    alloc: Global,
+    manner: Manner,
+    poll: Poll,
+    listener: TcpListener,
+    connections: Slab<Connection>,
+    /// The keys of those that are to have a turn.
+    waiting: Vec<usize>,
+    /// How many connections have come.
+    opened: u64,
+    log: Log<W>,
+}
+
+/// Serves whoever comes, until the system refuses to go on.
+pub fn serve<R: Net + Clock, W: Write + Drop>(
+    rt: &R,
+    alloc: Global,
+    manner: Manner,
+    log: Log<W>,
+) -> io::Result<()> {
+    let start = Instant::now(rt)?;
+    let poll = Poll::new(rt)?;
+    let mut listener = TcpListener::bind(rt, manner.address)?;
+    poll.registry()
+        .register(&mut listener, LISTENER, Interest::READABLE)?;
+    let mut house = House {
+        alloc,
+        manner,
+        poll,
+        listener,
+        connections: Slab::new(alloc),
+        waiting: Vec::new(alloc),
+        opened: 0,
+        log,
+    };
+    let mut events = Events::with_capacity(alloc, 256)?;
+    let mut swept = 0;
+    for _ in 0..u64::MAX {
+        let timeout = Duration::from_millis(house.timeout());
+        house.poll.poll(&mut events, Some(timeout))?;
+        let now = start.elapsed(rt)?.as_secs();
+        for event in events.iter() {
+            let token = event.token();
+            if token == LISTENER {
+                house.accept(now)?;
+            } else {
+                let readable = event.is_readable() || event.is_read_closed() || event.is_error();
+                house.reported(token.0, readable)?;
+            }
+        }
+        house.give_turns(now)?;
+        if now > swept {
+            swept = now;
+            house.accept(now)?;
+            house.cut_late(now);
+        }
+    }
+    Ok(())
+}
+
+impl<W: Write + Drop> House<W> {
+    /// How many milliseconds to wait for the system: none at all where a connection has more to do.
+    fn timeout(&self) -> u64 {
+        if self.waiting.is_empty() {
+            1000
+        } else {
+            self.manner.pace
+        }
+    }
+
+    /// The system reported a connection, or it has more to do: it is to have a turn.
+    fn reported(&mut self, key: usize, readable: bool) -> io::Result<()> {
+        if let Some(connection) = self.connections.get_mut(key) {
+            if readable {
+                connection.readable = true;
+            }
+            if !connection.listed {
+                connection.listed = true;
+                self.waiting.push(key)?;
+            }
+        }
+        Ok(())
+    }
+
+    /// Gives a turn to each connection that is to have one.
+    fn give_turns(&mut self, now: u64) -> io::Result<()> {
+        let turns = mem::replace(&mut self.waiting, Vec::new(self.alloc));
+        for key in turns.iter() {
+            self.give_turn(*key, now)?;
+        }
+        Ok(())
+    }
+
+    fn give_turn(&mut self, key: usize, now: u64) -> io::Result<()> {
+        let Some(connection) = self.connections.get_mut(key) else {
+            return Ok(());
+        };
+        connection.listed = false;
+        let number = connection.number;
+        let mut notes = Vec::new(self.alloc);
+        let then = connection.turn(self.manner.pace > 0, now, &mut notes);
+        for note in notes.iter() {
+            self.log.noted(number, *note);
+        }
+        match then {
+            Ok(Then::Wait) => {}
+            Ok(Then::Again) => self.reported(key, false)?,
+            Ok(Then::Close) => self.close(key, "its end"),
+            Err(_) => self.close(key, "its link failed"),
+        }
+        Ok(())
+    }
+
+    fn close(&mut self, key: usize, why: &str) {
+        if let Some(connection) = self.connections.try_remove(key) {
+            self.log.closed(connection.number, why);
+        }
+    }
+
+    /// Cuts those that are late.
+    fn cut_late(&mut self, now: u64) {
+        for key in 0..MOST {
+            let is_late = match self.connections.get(key) {
+                Some(connection) => connection.is_late(now),
+                None => false,
+            };
+            if is_late {
+                self.close(key, "it took nothing for too long");
+            }
+        }
+    }
+
+    /// Accepts all that wait. One over the most connections is closed at once.
+    fn accept(&mut self, now: u64) -> io::Result<()> {
+        for _ in 0..MOST {
+            let Ok((mut stream, from)) = self.listener.accept() else {
+                return Ok(());
+            };
+            if self.connections.len() >= MOST || stream.set_nodelay(true).is_err() {
+                continue;
+            }
+            let key = self.connections.vacant_key();
+            let both = Interest::READABLE | Interest::WRITABLE;
+            let registry = self.poll.registry();
+            if registry.register(&mut stream, Token(key), both).is_err() {
+                continue;
+            }
+            self.opened = self.opened.saturating_add(1);
+            let number = self.opened;
+            let on_attention = self.manner.on_attention;
+            let Ok(connection) = Connection::new(self.alloc, stream, number, on_attention, now)
+            else {
+                continue;
+            };
+            if self.connections.insert(connection).is_err() {
+                return Ok(());
+            }
+            self.log.opened(number, from);
+        }
+        Ok(())
+    }
+}
