@@ -10,3 +10,4 @@ pub mod Stepping
 pub mod Behind
 pub mod Spelled
 pub mod Again
+pub mod Runs

@@ -5,6 +5,7 @@ pub mod Reading
 pub mod Lent
 pub mod Cursor
 pub mod Contents
+pub mod Runs
 pub mod Told
 pub mod Vectors
 pub mod DoneStatus

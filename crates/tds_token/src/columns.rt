@@ -146,7 +146,7 @@ fn columns_from(alloc: Global, count: u8, bytes: &[u8]) -> Result<Vec<Column>, A
     requires least { 1 ≤ count }
     ensures { IfOk result (λ columns. columns.items ≡ columns_of count bytes.now) }
 {
-    let mut columns = Vec::new(alloc);
+    let mut columns = Vec::with_capacity(alloc, usize::from(count))?;
     let mut rest = bytes;
     'columns: for _ in 0..count {
         let Ok((first, after)) = column(rest) else {

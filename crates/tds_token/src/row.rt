@@ -1,4 +1,5 @@
 ghost use Rattle.std.specs.Prelude.{◌≡◌, [], ◌∷◌, IfOk, IfSome, IfNone};
+ghost use Rattle.std.specs.Iterator.{YieldsFirst, item_count};
 ghost use Rattle.tds_token.specs.Texts.{ints_of};
 
 use std::alloc::{AllocError, Global};
@@ -86,7 +87,14 @@ impl<'a> RowRef<'a> {
         }
     }
 
-    /// The same row, in memory of its own.
+    /// An iterator over the values.
+    pub fn values(&self) -> Values<'a>
+        ensures { result ≡ self.now }
+    {
+        Values { bytes: self.bytes }
+    }
+
+    /// The same row, in memory of its own. Its memory is taken once.
     pub fn own(&self, alloc: Global) -> Result<Row, AllocError>
         ensures { IfOk result (λ row. row ≡ self.now) }
     {
@@ -95,10 +103,40 @@ impl<'a> RowRef<'a> {
     }
 }
 
+/// The values of a row that are left.
+#[derive(Debug, Drop)]
+pub struct Values<'a> {
+    bytes: &'a [u8],
+}
+
+impl<'a> Model for Values<'a> {
+    ghost use Rattle.std.specs.Prelude.{ℤ, List};
+
+    ghost Value = { List ℤ };
+
+    ghost use Rattle.tds_token.specs.Texts.{ints_of};
+
+    ghost view = { λ a. ints_of a.bytes.now };
+}
+
+impl<'a> Iterator for Values<'a> {
+    type Item = i32;
+
+    ghost next_gives = { YieldsFirst (λ values. values) };
+
+    ghost remaining = { item_count (λ values. values) };
+
+    fn next(&mut self) -> Option<i32> {
+        let (first, rest) = RowRef::new(self.bytes).split_first()?;
+        self.bytes = rest.bytes;
+        Some(first)
+    }
+}
+
 fn values_from(alloc: Global, bytes: &[u8]) -> Result<Vec<i32>, AllocError>
     ensures { IfOk result (λ values. values.items ≡ ints_of bytes.now) }
 {
-    let mut values = Vec::new(alloc);
+    let mut values = Vec::with_capacity(alloc, bytes.len() / 4)?;
     let mut rest = bytes;
     'values: while let [a, b, c, d, after @ ..] = rest {
         values.push(i32::from_le_bytes([*a, *b, *c, *d]))?;

@@ -86,7 +86,7 @@ impl<'a> TextRef<'a> {
         }
     }
 
-    /// The same text, in memory of its own.
+    /// The same text, in memory of its own, which is taken once.
     pub fn own(&self, alloc: Global) -> Result<Text, AllocError>
         ensures { IfOk result (λ text. text ≡ self.now) }
     {
@@ -98,7 +98,7 @@ impl<'a> TextRef<'a> {
 fn units_from(alloc: Global, bytes: &[u8]) -> Result<Vec<u16>, AllocError>
     ensures { IfOk result (λ units. units.items ≡ units_of bytes.now) }
 {
-    let mut units = Vec::new(alloc);
+    let mut units = Vec::with_capacity(alloc, bytes.len() / 2)?;
     let mut rest = bytes;
     'units: while let [low, high, after @ ..] = rest {
         units.push(u16::from(*low) + 256 * u16::from(*high))?;

@@ -6,11 +6,13 @@ ghost use Rattle.tds_token.specs.Contents.{contents_before, contents_of};
 ghost use Rattle.tds_token.specs.Cursor.{answer_of, step};
 ghost use Rattle.tds_token.specs.Layout.{IsToken, token_of};
 ghost use Rattle.tds_token.specs.Reading.{wrong_token};
+ghost use Rattle.tds_token.specs.Runs.{GivesInTurn, NoRow, row_tokens, with_tokens};
 ghost use Rattle.tds_token.specs.Texts.{AreColumns, IsBytes};
 
 use crate::columns::Columns;
 use crate::fault::TokenFault;
 use crate::reading::token;
+use crate::rows::Rows;
 use crate::token::TokenRef;
 use std::marker::Model;
 
@@ -85,6 +87,26 @@ impl<'a> Tokens<'a> {
         ensures exact { (answer_of result, self.new) ≡ step self.old }
     {
         self.advance()
+    }
+
+    /// All the rows at the front, as one slice that is lent. None of them where no row is at the
+    /// front. A reader that takes them takes no step for each.
+    pub fn rows(&mut self) -> Rows<'a>
+        // These are the tokens that `next` gives one after the other, and it goes on behind them.
+        ensures in_turn { GivesInTurn self.old (row_tokens result) self.new }
+        // So the contents are these rows, and what is left.
+        ensures contents { contents_of self.old.columns self.old.bytes
+            ≡ with_tokens (row_tokens result) (contents_of self.new.columns self.new.bytes) }
+        // They are all: what is left doesn't begin with a row.
+        ensures all { NoRow self.new.columns self.new.bytes }
+        ensures columns { self.new.columns ≡ self.old.columns }
+    {
+        let Some(count) = self.columns.count() else {
+            return Rows::none();
+        };
+        let (rows, rest) = Rows::at_front(count, self.bytes);
+        self.bytes = rest;
+        rows
     }
 
     #[tactic(auto, unfolding(crate::specs::Cursor::step))]
