@@ -14,12 +14,7 @@ use std::time::Duration;
 use words::{Step, read_steps};
 
 /// What is printed where the words are wrong.
-const USAGE: &str = "usage: tdsask ADDRESS WORD..
-TEXT                    asks for a batch
---begin, --commit, --rollback, --commit-begin, --rollback-begin
-                        asks for a transaction request
---reset, --reset-keep   the next request asks for a reset, or for one that keeps the transaction
---cancel N              the next request is cancelled once N tokens were told";
+const USAGE: &str = "usage: tdsask ADDRESS WORD.. (docs/SERVING.md)";
 
 fn main(rt: HostRuntime) -> ExitCode {
     match run(&rt) {
