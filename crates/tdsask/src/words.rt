@@ -1,0 +1,70 @@
+//! The words of the command line.
+
+use std::alloc::{AllocError, Global};
+use tds_packet::Reset;
+use tds_request::{BatchText, Isolation, Request};
+
+/// What a word asks for.
+#[derive(Drop)]
+pub enum Step {
+    /// A request.
+    Ask(Request),
+    /// The next request asks for this reset.
+    Reset(Reset),
+    /// The next request is cancelled once so many tokens were told.
+    CancelAfter(usize),
+}
+
+/// Reads the words behind the address; none where one of them is wrong.
+pub fn read_steps(alloc: Global, words: &[String]) -> Result<Option<Vec<Step>>, AllocError> {
+    let mut steps = Vec::new(alloc);
+    let mut counts = false;
+    for word in words {
+        let step = if counts {
+            counts = false;
+            word.as_str().parse::<usize>().ok().map(Step::CancelAfter)
+        } else if word.as_str() == "--cancel" {
+            counts = true;
+            continue;
+        } else {
+            read_step(alloc, word.as_str())?
+        };
+        let Some(step) = step else {
+            return Ok(None);
+        };
+        steps.push(step)?;
+    }
+    if counts || steps.is_empty() {
+        return Ok(None);
+    }
+    Ok(Some(steps))
+}
+
+fn read_step(alloc: Global, word: &str) -> Result<Option<Step>, AllocError> {
+    let none = Isolation::new(0);
+    Ok(match word {
+        "--begin" => none.map(|level| Step::Ask(Request::Begin(level))),
+        "--commit" => Some(Step::Ask(Request::Commit(None))),
+        "--rollback" => Some(Step::Ask(Request::Rollback(None))),
+        "--commit-begin" => Some(Step::Ask(Request::Commit(none))),
+        "--rollback-begin" => Some(Step::Ask(Request::Rollback(none))),
+        "--reset" => Some(Step::Reset(Reset::Full)),
+        "--reset-keep" => Some(Step::Reset(Reset::KeepTransaction)),
+        text => batch(alloc, text)?,
+    })
+}
+
+/// A batch of this text; none where it is empty, too long, or begins as an option does.
+fn batch(alloc: Global, text: &str) -> Result<Option<Step>, AllocError> {
+    if text.starts_with("--") {
+        return Ok(None);
+    }
+    let mut units = Vec::new(alloc);
+    for unit in text.encode_utf16() {
+        units.push(unit)?;
+    }
+    match BatchText::new(units) {
+        Some(text) => Ok(Some(Step::Ask(Request::Batch(text)))),
+        None => Ok(None),
+    }
+}
