@@ -1,6 +1,6 @@
 -- The connections of a play whose clients a pool keeps: each one in its seat, and what leases and tickets
 -- stand for.
-use Rattle.std.specs.Prelude.{ℕ, suc, ◌≡◌, ◌≤◌, ◌<◌, List, [], ◌∷◌, map, length, Bool, true, false, Option, Some, None, option_map, slice_get}
+use Rattle.std.specs.Prelude.{ℕ, suc, ◌≡◌, ◌≢◌, ◌⊎◌, IsSome, ◌≤◌, ◌<◌, List, [], ◌∷◌, map, length, Bool, true, false, Option, Some, None, option_map, slice_get}
 use Rattle.tds_client.specs.Session.{new_session}
 use Rattle.tds_pool.specs.declared.lease.Lease.{Lease}
 use Rattle.tds_pool.specs.declared.lease.Ticket.{Ticket}
@@ -8,7 +8,7 @@ use Rattle.tds_pool.specs.declared.seat.Place.{Place as PoolPlace}
 use Rattle.tds_pool.specs.declared.seat.Place.TheVariants as pooled
 use Rattle.tds_pool.specs.Calls.{all_numbers}
 use Rattle.tds_pool.specs.Connections as pool
-use Rattle.tds_pool.specs.Connections.{PoolState, connections, numbered}
+use Rattle.tds_pool.specs.Connections.{PoolState, SameRest, connections, numbered, taken_out}
 use Rattle.tds_world.specs.declared.report.Place.{Place}
 use Rattle.tds_world.specs.declared.report.Place.TheVariants.{Draining, Free, Kept, Leased}
 use Rattle.tds_world.specs.World as world
@@ -107,3 +107,32 @@ numbers_leased leases = map (option_map (λ (lease : Lease). lease.number)) leas
 
 abbrev pub numbers_kept : List (Option Ticket) → List (Option ℕ)
 numbers_kept tickets = map (option_map (λ (ticket : Ticket). ticket.number)) tickets
+
+-- ---- One connection
+
+-- The seat of one of them, as this pool has it.
+abbrev pub seat_in : {E S : Type 0} → Held E S → PoolState → Seat
+seat_in h pool = seat_by h.holder (numbered h.link.number (connections pool))
+
+-- It is in the pool exactly where it isn't cut.
+pub record IsThere {E S : Type 0} (h : Held E S) (pool : PoolState) : Type 0 where
+  pub is_in : h.link.is_cut ≡ false → IsSome (numbered h.link.number (connections pool))
+  pub is_out : h.link.is_cut ≡ true → numbered h.link.number (connections pool) ≡ None
+
+-- The pool has lost it.
+pub record IsGone (number : ℕ) (old new : PoolState) : Type 0 where
+  pub connections : pool.connections new ≡ taken_out number (pool.connections old)
+  pub rest : SameRest old new
+
+-- A connection of the pool stands where it stood, with its key, or no longer drains.
+abbrev pub StaysAs : pool.Connection → pool.Connection → Type 0
+StaysAs c d = (d.key ≡ c.key) × ((d.place ≡ c.place) ⊎ (c.place ≡ pooled.Draining))
+
+-- The pool's connection of this number alone may have changed, and it is still there unless it was cut.
+pub record ChangesOne (number : ℕ) (is_cut : Bool) (old new : PoolState) : Type 0 where
+  pub others : (m : ℕ) → m ≢ number → numbered m (connections new) ≡ numbered m (connections old)
+  pub live : is_cut ≡ false → all_numbers (connections new) ≡ all_numbers (connections old)
+  pub stays : (c d : pool.Connection) → numbered number (connections old) ≡ Some c
+      → numbered number (connections new) ≡ Some d → StaysAs c d
+  pub gone : is_cut ≡ true → connections new ≡ taken_out number (connections old)
+  pub rest : SameRest old new

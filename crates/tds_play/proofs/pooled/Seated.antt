@@ -1,19 +1,15 @@
 -- Each connection of a play in its seat, where one of them changes, and where there is one more.
-use Rattle.std.proofs.Common.{◌≡◌, ◌≢◌, ◌∙◌, ℕ, zero, suc, ◌+◌, ◌<◌, ◌≤◌, List, [], ◌∷◌, ◌++◌, length, Option, Some, None, refl, sym, ap, subst, arith}
+use Rattle.std.proofs.Common.{◌≡◌, ◌∙◌, ℕ, zero, suc, ◌+◌, ◌≤◌, List, [], ◌∷◌, ◌++◌, length, Option, Some, None, refl, sym, ap, arith}
 use Rattle.std.specs.List.{slice_get}
-use Rattle.std.specs.Prelude.{option_map, slice_set, slice_index_or}
+use Rattle.std.specs.Prelude.{option_map, slice_set}
 use Rattle.tds_pool.specs.Connections.{Connection, numbered}
-use Rattle.tds_play.specs.Pooled.{seat_by, seated_from, seated_in}
+use Rattle.tds_play.specs.Pooled.{seated_from, seated_in}
 use Rattle.tds_play.specs.declared.seat.Held.{Held}
-use Rattle.tds_play.specs.declared.seat.Seated.{Seated}
+use Rattle.tds_play.proofs.pooled.Changes.{SameBut}
 
 -- The pool has the same under each number from this one on.
 abbrev pub SameFrom : ℕ → List Connection → List Connection → Type 0
 SameFrom number old new = (m : ℕ) → number ≤ m → numbered m new ≡ numbered m old
-
--- Other connections than that of this number are as they were.
-abbrev pub SameBut : ℕ → List Connection → List Connection → Type 0
-SameBut number old new = (m : ℕ) → m ≢ number → numbered m new ≡ numbered m old
 
 -- There are as many.
 pub seated_length : {E S : Type 0} (number : ℕ) (hs : List (Held E S)) (pcs : List Connection) → length (seated_from number hs pcs) ≡ length hs
@@ -26,7 +22,7 @@ seated_same number [] old new same = refl
 seated_same number (h ∷ hs) old new same =
     let first : numbered number new ≡ numbered number old = same number (omega arith) in
     let rest : seated_from (suc number) hs new ≡ seated_from (suc number) hs old =
-        seated_same (suc number) hs old new (λ m above. same m (omega (arith, above))) in
+    seated_same (suc number) hs old new (λ m above. same m (omega (arith, above))) in
     ap (λ o. seated_in h o ∷ seated_from (suc number) hs new) first
     ∙ ap (λ xs. seated_in h (numbered number old) ∷ xs) rest
 
@@ -50,14 +46,14 @@ seated_set number place [] h old new same = refl
 seated_set number zero (k ∷ hs) h old new same =
     let here : number ≡ number + 0 = omega arith in
     let rest : seated_from (suc number) hs new ≡ seated_from (suc number) hs old =
-        seated_same (suc number) hs old new (λ m above. same m (λ is. let bad : ⊥ = omega (arith, above, is) in bad)) in
+    seated_same (suc number) hs old new (λ m above. same m (λ is. let bad : ⊥ = omega (arith, above, is) in bad)) in
     ap (λ (n : ℕ). seated_in h (numbered n new) ∷ seated_from (suc number) hs new) here
     ∙ ap (λ xs. seated_in h (numbered (number + 0) new) ∷ xs) rest
 seated_set number (suc place) (k ∷ hs) h old new same =
     let next : suc number + place ≡ number + suc place = omega arith in
     let first : numbered number new ≡ numbered number old = same number (λ is. let bad : ⊥ = omega (arith, is) in bad) in
     let rest : seated_from (suc number) (slice_set hs place h) new ≡ slice_set (seated_from (suc number) hs old) place (seated_in h (numbered (suc number + place) new)) =
-        seated_set (suc number) place hs h old new (λ m other. same m (λ is. other (is ∙ sym next))) in
+    seated_set (suc number) place hs h old new (λ m other. same m (λ is. other (is ∙ sym next))) in
     ap (λ o. seated_in k o ∷ seated_from (suc number) (slice_set hs place h) new) first
     ∙ ap (λ xs. seated_in k (numbered number old) ∷ xs) rest
     ∙ ap (λ (n : ℕ). seated_in k (numbered number old) ∷ slice_set (seated_from (suc number) hs old) place (seated_in h (numbered n new))) next
