@@ -11,3 +11,4 @@ pub mod Moves
 pub mod Lends
 pub mod Returned
 pub mod Acted
+pub mod Begun

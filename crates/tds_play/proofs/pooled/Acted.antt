@@ -1,20 +1,17 @@
 -- An event at the ends of one connection of a play: what the play keeps where the pool's connection of that
 -- number alone changes.
-use Rattle.std.proofs.Common.{◌≡◌, ◌≢◌, ◌∙◌, ◌⊎◌, inl, inr, ℕ, suc, ◌+◌, ◌<◌, ◌≤◌, Bool, true, false, List, [], ◌∷◌, length, Option, Some, None, refl, sym, ap, subst, arith}
+use Rattle.std.proofs.Common.{◌≡◌, ◌∙◌, inl, inr, ℕ, suc, ◌+◌, Bool, true, false, List, Option, Some, None, refl, sym, ap, subst, arith}
 use Rattle.std.specs.List.{slice_get}
 use Rattle.std.specs.Prelude.{IsSome, slice_set}
 use Rattle.tds_pool.specs.Calls.{all_numbers}
-use Rattle.tds_pool.specs.Connections.{Connection, PoolState, connections, numbered, taken_out}
+use Rattle.tds_pool.specs.Connections.{Connection, PoolState, SameRest, connections, numbered, taken_out}
 use Rattle.tds_pool.specs.declared.lease.Lease.{Lease}
 use Rattle.tds_pool.specs.declared.lease.Ticket.{Ticket}
-use Rattle.tds_pool.specs.declared.seat.Place.{Place}
 use Rattle.tds_pool.specs.declared.seat.Place.TheVariants.{Draining, Kept, Leased}
-use Rattle.tds_play.specs.Pooled.{AreKnown, ArePooled, ChangesOne, IsThere, StaysAs, holder_at, numbers_in, seat_by, seat_in, seated_from, seated_in}
+use Rattle.tds_play.specs.Pooled.{AreKnown, ArePooled, ChangesOne, IsThere, StaysAs, holder_at, seat_in, seated_from, seated_in}
 use Rattle.tds_play.specs.declared.seat.Held.{Held}
-use Rattle.tds_play.specs.declared.seat.Seated.{Seated}
-use Rattle.tds_play.proofs.pooled.Changes.{SameBut}
-use Rattle.tds_play.proofs.pooled.Kept.{known_link, known_lost, known_unheld, pooled_cut, pooled_link, pooled_lost, pooled_pool, pooled_there}
-use Rattle.tds_play.proofs.pooled.Known.{of_elsewhere, of_same}
+use Rattle.tds_play.proofs.pooled.Kept.{known_lost, known_unheld, pooled_cut, pooled_link, pooled_lost_by, pooled_pool, pooled_there}
+use Rattle.tds_play.proofs.pooled.Known.{of_same}
 use Rattle.tds_play.proofs.pooled.Numbers.{IsIn}
 use Rattle.tds_play.proofs.pooled.Seated.{seated_set}
 use Rattle.tds_play.proofs.pooled.Slots.{HeldBut, held_set, holder_is, holder_set}
@@ -43,14 +40,19 @@ acted_seats place cut hs new p q number changes =
 
 -- ---- What the pool has
 
-pub acted_pooled : {E S : Type 0} (max size place : ℕ) (hs : List (Held E S)) (old new : Held E S) (p q : PoolState) → ArePooled max size hs p → slice_get hs place ≡ Some old → (old.link.is_cut ≡ true → new.link.is_cut ≡ true) → ChangesOne (suc place) new.link.is_cut p q → ArePooled max size (slice_set hs place new) q
-acted_pooled {E} {S} max size place hs old new p q pooled at stays changes = by_cut new.link.is_cut refl old.link.is_cut refl
+-- Its numbers are as they were where the link isn't cut, and else it is taken out.
+pub pooled_by : {E S : Type 0} (max size place : ℕ) (hs : List (Held E S)) (old new : Held E S) (p q : PoolState) → ArePooled max size hs p → slice_get hs place ≡ Some old → (old.link.is_cut ≡ true → new.link.is_cut ≡ true) → (new.link.is_cut ≡ false → all_numbers (connections q) ≡ all_numbers (connections p)) → (new.link.is_cut ≡ true → all_numbers (connections q) ≡ all_numbers (taken_out (suc place) (connections p))) → SameRest p q → ArePooled max size (slice_set hs place new) q
+pooled_by {E} {S} max size place hs old new p q pooled at stays live gone rest = by_cut new.link.is_cut refl old.link.is_cut refl
   where
     by_cut : (b : Bool) → new.link.is_cut ≡ b → (before : Bool) → old.link.is_cut ≡ before → ArePooled max size (slice_set hs place new) q
-    by_cut true cut before was = pooled_lost max size place hs new p q pooled (changes.gone cut) changes.rest cut
+    by_cut true cut before was = pooled_lost_by max size place hs new p q pooled (gone cut) rest cut
     by_cut false lives true was = let bad : true ≡ false = sym (stays was) ∙ lives in absurd (cc)
     by_cut false lives false was =
-        pooled_link max size place hs old new q (pooled_pool max size hs p q pooled (changes.live lives) changes.rest) at (lives ∙ sym was)
+        pooled_link max size place hs old new q (pooled_pool max size hs p q pooled (live lives) rest) at (lives ∙ sym was)
+
+pub acted_pooled : {E S : Type 0} (max size place : ℕ) (hs : List (Held E S)) (old new : Held E S) (p q : PoolState) → ArePooled max size hs p → slice_get hs place ≡ Some old → (old.link.is_cut ≡ true → new.link.is_cut ≡ true) → ChangesOne (suc place) new.link.is_cut p q → ArePooled max size (slice_set hs place new) q
+acted_pooled max size place hs old new p q pooled at stays changes =
+    pooled_by max size place hs old new p q pooled at stays changes.live (λ cut. ap all_numbers (changes.gone cut)) changes.rest
 
 -- ---- What leases and tickets stand for
 

@@ -1,5 +1,5 @@
 -- What the pool lends next is what the model lends: the first free connection, whose client is idle.
-use Rattle.std.proofs.Common.{◌≡◌, ◌≢◌, ◌∙◌, ℕ, zero, suc, ◌+◌, ◌<◌, ◌≤◌, Bool, true, false, List, [], ◌∷◌, length, Option, Some, None, refl, sym, ap, subst, cond, ltb, arith}
+use Rattle.std.proofs.Common.{◌≡◌, ◌∙◌, ℕ, suc, ◌+◌, Bool, true, false, List, [], ◌∷◌, length, Option, Some, None, refl, sym, ap, subst, cond, ltb, arith}
 use Rattle.std.specs.List.{slice_get}
 use Rattle.std.specs.Prelude.{◌&&◌, option_map}
 use Rattle.tds_client.specs.Session.{ClientSession, Idle}
@@ -12,18 +12,17 @@ use Rattle.tds_pool.specs.declared.seat.Place.TheVariants as pooled
 use Rattle.tds_world.specs.declared.event.Setup.{Setup}
 use Rattle.tds_world.specs.declared.outcome.Refusal.TheVariants.{AllInUse}
 use Rattle.tds_world.specs.declared.report.Place.{Place}
-use Rattle.tds_world.specs.Connection.{Connection, Standing, In, Cut, is_cut, is_idle}
+use Rattle.tds_world.specs.Connection.{Connection, Standing, In, is_cut, is_idle}
 use Rattle.tds_world.specs.Lending.{LendsIdle}
 use Rattle.tds_world.specs.Phase.{Phase, Settled, Asked, Sending, Reading, Cancelling, is_settled, phase_in, phase_of}
 use Rattle.tds_world.specs.Pool.{is_free, first_of, lowest_free, pool_count, to_lend, to_lend_by}
 use Rattle.tds_world.specs.Record.{Record}
-use Rattle.tds_world.specs.World.{World, Here, Missing, Opens, next_number, numbered, there}
+use Rattle.tds_world.specs.World.{World, Here, Missing, Opens, next_number, there}
 use Rattle.tds_play.specs.Lending.{standing_by}
 use Rattle.tds_play.specs.Pipe.{Pipe}
 use Rattle.tds_play.specs.Plays.{RepresentConnections, RepresentsConnection}
 use Rattle.tds_play.specs.Pooled.{number_unless, numbers_in, place_by, seat_by, seated_from}
 use Rattle.tds_play.specs.declared.seat.Held.{Held}
-use Rattle.tds_play.specs.declared.seat.Seat.{Seat}
 use Rattle.tds_play.proofs.pooled.Changes.{first_is, first_not}
 use Rattle.tds_play.proofs.pooled.Numbers.{IsOfPlay, head_is, of_play, rest_is}
 use Rattle.tds_play.proofs.pooled.Seated.{seated_same}

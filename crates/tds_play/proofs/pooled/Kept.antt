@@ -1,6 +1,6 @@
 -- What a play keeps at each change of its pool: the numbers of what isn't cut, and what leases and tickets
 -- stand for.
-use Rattle.std.proofs.Common.{◌≡◌, ◌≢◌, ◌∙◌, ℕ, suc, ◌+◌, ◌<◌, ◌≤◌, Bool, true, false, List, [], ◌∷◌, ◌++◌, length, Option, Some, None, refl, sym, ap, subst, arith}
+use Rattle.std.proofs.Common.{◌≡◌, ◌≢◌, ◌∙◌, ℕ, suc, ◌+◌, ◌<◌, ◌≤◌, true, false, List, [], ◌∷◌, ◌++◌, length, Option, Some, None, refl, sym, ap, subst, arith}
 use Rattle.std.proofs.lemmas.Option.{slice_get_within}
 use Rattle.std.specs.List.{slice_get}
 use Rattle.std.specs.Prelude.{option_map, slice_set}
@@ -8,8 +8,7 @@ use Rattle.tds_pool.specs.Calls.{all_numbers}
 use Rattle.tds_pool.specs.Connections.{Connection, PoolState, SameRest, changed, connections, numbered, taken_out}
 use Rattle.tds_pool.specs.declared.lease.Lease.{Lease}
 use Rattle.tds_pool.specs.declared.lease.Ticket.{Ticket}
-use Rattle.tds_pool.specs.declared.seat.Place.{Place}
-use Rattle.tds_pool.specs.declared.seat.Place.TheVariants.{Draining, Free, Kept, Leased}
+use Rattle.tds_pool.specs.declared.seat.Place.TheVariants.{Kept, Leased}
 use Rattle.tds_play.specs.Pooled.{AreKnown, ArePooled, holder_at, numbers_in}
 use Rattle.tds_play.specs.declared.seat.Held.{Held}
 use Rattle.tds_play.proofs.pooled.Changes.{KeepsNumber, SameBut, added_numbers, changed_here, changed_others, taken_added, taken_gone, taken_others}
@@ -62,13 +61,16 @@ pooled_link max size place hs old new p all at same = record {
 }
 
 -- One is taken out, and its link is cut.
-pub pooled_lost : {E S : Type 0} (max size place : ℕ) (hs : List (Held E S)) (new : Held E S) (p q : PoolState) → ArePooled max size hs p → connections q ≡ taken_out (suc place) (connections p) → SameRest p q → new.link.is_cut ≡ true → ArePooled max size (slice_set hs place new) q
-pooled_lost max size place hs new p q all out rest cut = record {
-  numbers = ap all_numbers (out ∙ ap (λ (n : ℕ). taken_out n (connections p)) (sym (one_more place))) ∙ numbers_taken 1 place hs new (connections p) all.numbers cut;
+pub pooled_lost_by : {E S : Type 0} (max size place : ℕ) (hs : List (Held E S)) (new : Held E S) (p q : PoolState) → ArePooled max size hs p → all_numbers (connections q) ≡ all_numbers (taken_out (suc place) (connections p)) → SameRest p q → new.link.is_cut ≡ true → ArePooled max size (slice_set hs place new) q
+pooled_lost_by max size place hs new p q all out rest cut = record {
+  numbers = out ∙ ap (λ (n : ℕ). all_numbers (taken_out n (connections p))) (sym (one_more place)) ∙ numbers_taken 1 place hs new (connections p) all.numbers cut;
   last = rest.last ∙ all.last ∙ sym (length_set hs place new);
   max_is = rest.max ∙ all.max_is;
   size_is = rest.size ∙ all.size_is;
 }
+
+pub pooled_lost : {E S : Type 0} (max size place : ℕ) (hs : List (Held E S)) (new : Held E S) (p q : PoolState) → ArePooled max size hs p → connections q ≡ taken_out (suc place) (connections p) → SameRest p q → new.link.is_cut ≡ true → ArePooled max size (slice_set hs place new) q
+pooled_lost max size place hs new p q all out rest cut = pooled_lost_by max size place hs new p q all (ap all_numbers out) rest cut
 
 -- A new one comes behind all.
 pub pooled_more : {E S : Type 0} (max size : ℕ) (hs : List (Held E S)) (h : Held E S) (c : Connection) (p q : PoolState) → ArePooled max size hs p → connections q ≡ connections p ++ c ∷ [] → c.number ≡ suc p.last → q.last ≡ suc p.last → q.max ≡ p.max → q.size ≡ p.size → h.link.is_cut ≡ false → ArePooled max size (hs ++ h ∷ []) q

@@ -1,18 +1,14 @@
 -- What leases and tickets stand for, where one connection of the pool changes, and where one of them begins or
 -- ends.
-use Rattle.std.proofs.Common.{◌≡◌, ◌≢◌, ◌∙◌, ◌⊎◌, inl, inr, ℕ, zero, suc, ◌<◌, ◌≤◌, List, [], ◌∷◌, ◌++◌, length, Option, Some, None, refl, sym, ap, subst, ⊎_elim, arith}
-use Rattle.std.proofs.lemmas.Bool.Decides.{eqb_tells}
+use Rattle.std.proofs.Common.{◌≡◌, ◌≢◌, ◌∙◌, ◌⊎◌, inl, inr, ℕ, suc, ◌<◌, ◌≤◌, List, [], ◌∷◌, ◌++◌, length, Option, Some, None, sym, ap, subst, arith}
 use Rattle.std.specs.List.{slice_get}
 use Rattle.std.specs.Prelude.{slice_set}
 use Rattle.tds_pool.specs.Connections.{Connection, numbered}
-use Rattle.tds_pool.specs.declared.lease.Lease.{Lease}
-use Rattle.tds_pool.specs.declared.lease.Ticket.{Ticket}
 use Rattle.tds_pool.specs.declared.seat.Place.{Place}
-use Rattle.tds_pool.specs.declared.seat.Place.TheVariants.{Draining, Free, Kept, Leased}
-use Rattle.tds_play.specs.Pooled.{AreKnown, IsKnown, StandsAs, holder_at}
+use Rattle.tds_play.specs.Pooled.{IsKnown, StandsAs, holder_at}
 use Rattle.tds_play.specs.declared.seat.Held.{Held}
 use Rattle.tds_play.proofs.pooled.Changes.{SameBut, by_number}
-use Rattle.tds_play.proofs.pooled.Slots.{HeldBut, emptied, filled, held_same, pushed}
+use Rattle.tds_play.proofs.pooled.Slots.{HeldBut, emptied, filled, pushed}
 
 -- ---- One of them
 

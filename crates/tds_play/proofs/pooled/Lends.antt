@@ -1,15 +1,13 @@
 -- What the pool lends next stands at the place that the standings of the connections tell.
-use Rattle.std.proofs.Common.{◌≡◌, ◌∙◌, ℕ, suc, ltb, cond, List, length, map, filter, Option, Some, None, option_map, refl, sym, ap, subst}
-use Rattle.std.specs.List.{position, position_from}
+use Rattle.std.proofs.Common.{◌≡◌, ◌∙◌, ℕ, suc, ltb, cond, List, length, map, filter, Option, Some, None, option_map, refl, sym, ap}
+use Rattle.std.specs.List.{position}
 use Rattle.tds_pool.specs.Calls.{all_numbers, lent_next}
 use Rattle.tds_pool.specs.Connections as pool
 use Rattle.tds_world.specs.declared.event.Setup.{Setup}
 use Rattle.tds_world.specs.declared.outcome.Refusal.TheVariants.{AllInUse}
-use Rattle.tds_world.specs.Connection.{Connection, Standing}
 use Rattle.tds_world.specs.Lending.{LendsIdle}
-use Rattle.tds_world.specs.Pool.{is_free, lowest_free, pool_count}
+use Rattle.tds_world.specs.Pool.{is_free}
 use Rattle.tds_world.specs.World.{World}
-use Rattle.tds_play.specs.declared.pool.Found.{Found}
 use Rattle.tds_play.specs.declared.pool.Found.TheVariants.{Here, Missing, Opens}
 use Rattle.tds_play.specs.Lending.{is_in_pool, lent, lent_by, standing_of}
 use Rattle.tds_play.specs.Pipe.{Pipe}

@@ -1,5 +1,5 @@
 -- Each connection of a play in its seat, at each call of its pool.
-use Rattle.std.proofs.Common.{◌≡◌, ◌≢◌, ◌∙◌, ℕ, zero, suc, ◌+◌, List, [], ◌∷◌, ◌++◌, length, Option, Some, None, refl, sym, ap, subst, arith}
+use Rattle.std.proofs.Common.{◌≡◌, ◌∙◌, ℕ, zero, suc, ◌+◌, List, [], ◌∷◌, ◌++◌, length, Some, None, refl, sym, ap, arith}
 use Rattle.std.specs.List.{slice_get}
 use Rattle.std.specs.Prelude.{option_map, slice_set}
 use Rattle.tds_client.specs.Session.{ClientSession, marked}
@@ -10,8 +10,8 @@ use Rattle.tds_pool.specs.declared.seat.Place.{Place}
 use Rattle.tds_pool.specs.declared.seat.Place.TheVariants.{Leased}
 use Rattle.tds_play.specs.Pooled.{seated_from, seated_in}
 use Rattle.tds_play.specs.declared.seat.Held.{Held}
-use Rattle.tds_play.proofs.pooled.Changes.{KeepsNumber, SameBut, added_here, added_others, changed_here, changed_others, taken_gone, taken_others}
-use Rattle.tds_play.proofs.pooled.Seated.{seated_more, seated_same, seated_set}
+use Rattle.tds_play.proofs.pooled.Changes.{KeepsNumber, added_here, added_others, changed_here, changed_others, taken_gone, taken_others}
+use Rattle.tds_play.proofs.pooled.Seated.{seated_more, seated_set}
 
 -- The connection at a place changes in the pool, and maybe in the list.
 pub seated_changed : {E S : Type 0} (place : ℕ) (f : Connection → Connection) (hs : List (Held E S)) (h : Held E S) (pcs : List Connection) (c : Connection) → KeepsNumber f → numbered (suc place) pcs ≡ Some c → seated_from 1 (slice_set hs place h) (changed (suc place) f pcs) ≡ slice_set (seated_from 1 hs pcs) place (seated_in h (Some (f c)))

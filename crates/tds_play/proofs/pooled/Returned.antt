@@ -1,12 +1,11 @@
 -- A connection that nobody holds any more: where it stands in the pool then, and what is found under its
 -- number.
-use Rattle.std.proofs.Common.{◌≡◌, ◌≢◌, ◌∙◌, ℕ, suc, Bool, true, false, List, [], ◌∷◌, Option, Some, None, refl, sym, ap, subst, cond}
-use Rattle.std.proofs.Math.Dec.{eqb}
+use Rattle.std.proofs.Common.{◌≡◌, ◌∙◌, ℕ, Bool, true, false, List, [], ◌∷◌, Option, Some, None, refl, sym, ap, cond}
 use Rattle.std.specs.Prelude.{is_none, option_map}
 use Rattle.tds_client.specs.Session.{ClientSession, Stage, Idle, Sending, Reading, Cancelling, Broken, unless_idle}
 use Rattle.tds_client.specs.Sending.{cancelled}
 use Rattle.tds_ends.specs.Stands.{MatchesClient, stage_by, stage_in}
-use Rattle.tds_pool.specs.Calls.{Returned, abandoned, all_numbers, cancels, given_back, is_broken, is_draining, is_idle, kept_for, lent_to, only, put_back, rested, rests_at, session_behind}
+use Rattle.tds_pool.specs.Calls.{Returned, abandoned, all_numbers, given_back, is_broken, is_draining, is_idle, kept_for, lent_to, only, put_back, rested, rests_at, session_behind}
 use Rattle.tds_pool.specs.Calls as calls
 use Rattle.tds_pool.specs.declared.answers.GivenBack.{GivenBack}
 use Rattle.tds_pool.specs.declared.answers.GivenBack.TheVariants as given
