@@ -54,14 +54,14 @@ first_is i true later found e = refl
 first_is i false later found e = e
 
 -- The number of the first free connection is one more than its place.
-lowest_is : (i : ℕ) (cs : List Connection) → lowest_free (suc i) cs ≡ option_map suc (position_from is_free i (map (λ c. c.standing) cs))
+pub lowest_is : (i : ℕ) (cs : List Connection) → lowest_free (suc i) cs ≡ option_map suc (position_from is_free i (map (λ c. c.standing) cs))
 lowest_is i [] = refl
 lowest_is i (c ∷ cs) =
     let next : suc (suc i) ≡ suc (i + 1) = omega arith in
     first_is i (is_free c.standing) (lowest_free (suc (suc i)) cs) (position_from is_free (i + 1) (map (λ d. d.standing) cs))
     (ap (λ (n : ℕ). lowest_free n cs) next ∙ lowest_is (i + 1) cs)
 
-pool_is : (cs : List Connection) → pool_count cs ≡ length (filter is_in_pool (map (λ c. c.standing) cs))
+pub pool_is : (cs : List Connection) → pool_count cs ≡ length (filter is_in_pool (map (λ c. c.standing) cs))
 pool_is [] = refl
 pool_is (c ∷ cs) = by_standing c.standing (pool_is cs)
   where
@@ -96,7 +96,7 @@ by_found setup w (Some j) e =
     let there : slice_get w.connections j ≡ Some k.connection = ap (λ (n : ℕ). slice_get w.connections n) same ∙ k.there in
     subst (λ (o : Option Connection). RefinesFound w (play.Here j) (model.there AllInUse (suc j) o)) (sym there) (refl, there)
 
-position_is : (ss : List Standing) → position is_free ss ≡ position_from is_free 0 ss
+pub position_is : (ss : List Standing) → position is_free ss ≡ position_from is_free 0 ss
 position_is ss = position_from-zero is_free ss
 
 pub lends_alike : (setup : Setup) (w : World) → RefinesFound w (lent (map (λ c. c.standing) w.connections) setup.max) (to_lend setup w)

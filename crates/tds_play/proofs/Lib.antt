@@ -36,3 +36,4 @@ pub mod Turns
 pub mod PlayerActs
 pub mod PlayerFinds
 pub mod any_bytes
+pub mod pooled

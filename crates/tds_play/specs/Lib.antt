@@ -5,6 +5,7 @@ pub mod Memory
 pub mod Ties
 pub mod Links
 pub mod Seats
+pub mod Pooled
 pub mod Seen
 pub mod Acts
 pub mod Holdings

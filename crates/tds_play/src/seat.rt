@@ -32,6 +32,13 @@ pub(crate) struct Seated<E: Engine + Drop> {
     pub(crate) seat: Seat,
 }
 
+/// A connection, and the number of the lease or ticket that holds it in the pool.
+#[derive(Drop)]
+pub(crate) struct Held<E: Engine + Drop> {
+    pub(crate) link: Link<E>,
+    pub(crate) holder: u32,
+}
+
 impl Seat {
     /// The seat of a new connection, under this lease.
     pub(crate) fn new(alloc: Global, lease: u32, size: PacketSize) -> Seat
