@@ -9,6 +9,7 @@ use clap::Error;
 use clap::error::ErrorKind;
 use std::alloc::{AllocError, Global};
 use std::io::Write;
+use tds_draw::draw_text;
 use tds_listing::{print_bytes, print_snapshots};
 use tds_text::write_whole;
 
@@ -62,6 +63,12 @@ fn run<W: Write>(rt: &HostRuntime, command: Command, output: &mut W) -> Result<b
         Command::Bytes(name, form) => {
             let exchange = play_named(rt, name.as_str())?;
             print_bytes(alloc, &exchange, form, output)?;
+            Ok(true)
+        }
+        Command::Draw(name, choice) => {
+            let exchange = play_named(rt, name.as_str())?;
+            let text = draw_text(alloc, &exchange, choice)?;
+            write_whole(output, text.as_str())?;
             Ok(true)
         }
         Command::Snapshots(name) => {

@@ -1,13 +1,15 @@
 //! The words of the command line.
 
-use clap::{Arg, ArgAction, ArgMatches, Command as Parser, Error};
+use clap::{Arg, ArgAction, ArgMatches, Command as Parser, Error, value_parser};
 use std::alloc::{AllocError, Global};
+use tds_draw::Choice;
 use tds_listing::BytesForm;
 
 /// What the words ask for.
 #[derive(Drop)]
 pub(crate) enum Command {
     Bytes(String, BytesForm),
+    Draw(String, Choice),
     Snapshots(String),
     Explain(String),
     Check(Vec<String>),
@@ -17,6 +19,7 @@ pub(crate) enum Command {
 pub(crate) fn read_words(alloc: Global, words: &[String]) -> Result<Command, Error> {
     let matches = parser(alloc)?.try_get_matches_from(words)?;
     match matches.subcommand() {
+        Some(("draw", used)) => Ok(Command::Draw(file_of(alloc, used)?, choice_of(used))),
         Some(("snapshots", used)) => Ok(Command::Snapshots(file_of(alloc, used)?)),
         Some(("explain", used)) => Ok(Command::Explain(file_of(alloc, used)?)),
         Some(("check", used)) => Ok(Command::Check(files_of(alloc, used)?)),
@@ -33,6 +36,17 @@ fn form_of(used: &ArgMatches<'_>) -> BytesForm {
         return BytesForm::Shown;
     }
     BytesForm::Digits
+}
+
+fn choice_of(used: &ArgMatches<'_>) -> Choice {
+    Choice {
+        from: number_of(used, "from"),
+        to: number_of(used, "to"),
+    }
+}
+
+fn number_of(used: &ArgMatches<'_>, name: &str) -> Option<usize> {
+    used.get_one::<u32>(name).map(|number| number as usize)
 }
 
 fn file_of(alloc: Global, used: &ArgMatches<'_>) -> Result<String, AllocError> {
@@ -60,6 +74,7 @@ fn parser<'a>(alloc: Global) -> Result<Parser<'a>, AllocError> {
         .arg_required_else_help(true)
         .disable_help_subcommand(true)
         .subcommand(bytes(alloc)?)?
+        .subcommand(draw(alloc)?)?
         .subcommand(snapshots(alloc)?)?
         .subcommand(explain(alloc)?)?
         .subcommand(check(alloc)?)
@@ -80,6 +95,28 @@ fn bytes<'a>(alloc: Global) -> Result<Parser<'a>, AllocError> {
         .arg(show)?
         .arg(frames)?
         .arg(one_file(alloc))
+}
+
+fn draw<'a>(alloc: Global) -> Result<Parser<'a>, AllocError> {
+    let text = Arg::new(alloc, "text")
+        .long("text")
+        .action(ArgAction::SetTrue)
+        .required(true)
+        .help("Draws it in characters");
+    Parser::new(alloc, "draw")
+        .about("Draws the play as a sequence picture")
+        .arg(text)?
+        .arg(number(alloc, "from").help("The first event that is drawn"))?
+        .arg(number(alloc, "to").help("The last one; without it 300 events are drawn"))?
+        .arg(one_file(alloc))
+}
+
+fn number<'a>(alloc: Global, name: &'a str) -> Arg<'a> {
+    Arg::new(alloc, name)
+        .long(name)
+        .action(ArgAction::Set)
+        .value_name("N")
+        .value_parser(value_parser!(u32))
 }
 
 fn snapshots<'a>(alloc: Global) -> Result<Parser<'a>, AllocError> {

@@ -1,0 +1,78 @@
+//! Texts that are broken into lines.
+
+use std::alloc::{AllocError, Global};
+
+/// The most lines of a text.
+const MOST: usize = 3;
+
+/// The lines of an ASCII text, three at most, each at most so wide: it is broken behind a space or a semicolon. What is
+/// cut off leaves two dots.
+pub(crate) fn broken(alloc: Global, text: &str, width: usize) -> Result<Vec<String>, AllocError> {
+    let mut lines = Vec::new(alloc);
+    let mut line = Vec::new(alloc);
+    let mut piece = Vec::new(alloc);
+    for byte in text.as_bytes() {
+        piece.push(*byte)?;
+        if matches!(*byte, b' ' | b';') {
+            put_piece(alloc, &mut lines, &mut line, piece.as_slice(), width)?;
+            piece.clear();
+        }
+    }
+    put_piece(alloc, &mut lines, &mut line, piece.as_slice(), width)?;
+    lines.push(line)?;
+    let is_cut = lines.len() > MOST;
+    let mut texts = Vec::new(alloc);
+    for (index, line) in lines.iter().take(MOST).enumerate() {
+        let line = trimmed(line.as_slice());
+        texts.push(match is_cut && index.saturating_add(1) == MOST {
+            true => dotted(alloc, line, width)?,
+            false => String::from_utf8_lossy(alloc, line)?,
+        })?;
+    }
+    Ok(texts)
+}
+
+/// Puts a piece behind a line, or begins the next line with it.
+fn put_piece(
+    alloc: Global,
+    lines: &mut Vec<Vec<u8>>,
+    line: &mut Vec<u8>,
+    piece: &[u8],
+    width: usize,
+) -> Result<(), AllocError> {
+    let needed = trimmed(piece).len();
+    if !line.is_empty() && line.len().saturating_add(needed) > width {
+        lines.push(Vec::from_slice(alloc, line.as_slice())?)?;
+        line.clear();
+    }
+    if needed > width {
+        let cut = dotted(alloc, piece, width)?;
+        return line.extend_from_slice(cut.as_bytes());
+    }
+    line.extend_from_slice(piece)
+}
+
+/// A text without the spaces at its end.
+fn trimmed(text: &[u8]) -> &[u8] {
+    let end = text.iter().rposition(|byte| *byte != b' ');
+    match end {
+        Some(end) => text.get(..=end).unwrap_or(&[]),
+        None => &[],
+    }
+}
+
+/// A text and two dots, cut so that both are at most so wide.
+fn dotted(alloc: Global, text: &[u8], width: usize) -> Result<String, AllocError> {
+    let front = text.get(..width.saturating_sub(2)).unwrap_or(text);
+    let mut cut = String::from_utf8_lossy(alloc, front)?;
+    cut.push_str("..")?;
+    Ok(cut)
+}
+
+/// An ASCII text, cut where it is wider.
+pub(crate) fn cut_to(alloc: Global, text: &str, width: usize) -> Result<String, AllocError> {
+    if text.len() <= width {
+        return String::from_str(alloc, text);
+    }
+    dotted(alloc, text.as_bytes(), width)
+}

@@ -1,0 +1,242 @@
+//! What a sheet is drawn with, row by row.
+
+use crate::breaking::{broken, cut_to};
+use crate::scene::{BarMark, FlightEnd, Label, Look, Row, Sheet, Spot};
+use std::alloc::{AllocError, Global};
+use tds_exchange::Exchange;
+use tds_packet::Reset;
+use tds_play::Snapshot;
+
+/// How many characters a text has room for.
+#[derive(Clone, Copy)]
+pub(crate) struct Widths {
+    pub(crate) event: usize,
+    pub(crate) place: usize,
+    pub(crate) client: usize,
+    pub(crate) server: usize,
+}
+
+impl Widths {
+    fn of(self, spot: Spot, look: Look, badge: usize) -> usize {
+        let room = match spot {
+            Spot::Place => self.place,
+            Spot::Asked | Spot::Told => self.client.saturating_sub(2),
+            Spot::Client => self.client,
+            Spot::Server => self.server,
+        };
+        let taken = match look {
+            Look::Struck => 2usize,
+            Look::Pill => 1,
+            _ => 0,
+        };
+        room.saturating_sub(taken.saturating_add(badge)).max(4)
+    }
+}
+
+/// What a server has of its request.
+#[derive(Clone, Copy)]
+pub(crate) enum Task {
+    Nothing,
+    /// Some of its packets.
+    Part,
+    /// All of it: so many packets of the answer are out, of so many.
+    Whole { done: usize, count: usize },
+    /// All of the answer is out.
+    Out,
+}
+
+/// A sheet that is drawn, and what is known of its connection.
+#[derive(Drop)]
+pub(crate) struct Drawing<'a> {
+    pub(crate) alloc: Global,
+    pub(crate) exchange: &'a Exchange,
+    /// The place of each request among the events.
+    pub(crate) asked: &'a [usize],
+    pub(crate) widths: Widths,
+    pub(crate) sheet: Sheet,
+    /// The connection, 0 for none.
+    pub(crate) conn: u32,
+    /// Its request, 0 for none, and the reset that this asks for.
+    pub(crate) request: u32,
+    pub(crate) reset: Option<Reset>,
+    pub(crate) task: Task,
+    /// The descriptor that the client heard last.
+    pub(crate) heard: u64,
+    /// How many packets of the play have left.
+    pub(crate) left: usize,
+    /// The column of the server, behind the rows so far.
+    pub(crate) server: BarMark,
+    pub(crate) row: RowSoFar,
+}
+
+/// What is known of the row that is drawn.
+#[derive(Drop)]
+pub(crate) struct RowSoFar {
+    pub(crate) start: usize,
+    /// How many lines its zones have.
+    pub(crate) client_used: usize,
+    pub(crate) server_used: usize,
+    pub(crate) wire_used: usize,
+    /// The line in which the request was settled.
+    pub(crate) settled: Option<usize>,
+    /// From which line on the server's column is what.
+    pub(crate) marks: Vec<(usize, BarMark)>,
+}
+
+/// An event, with its connection before it and after it.
+#[derive(Clone, Copy)]
+pub(crate) struct Moment<'a> {
+    pub(crate) number: usize,
+    pub(crate) before: Option<&'a Snapshot>,
+    pub(crate) after: Option<&'a Snapshot>,
+    /// Whether the connection is opened in it.
+    pub(crate) opens: bool,
+}
+
+impl<'a> Drawing<'a> {
+    pub(crate) fn new(
+        alloc: Global,
+        exchange: &'a Exchange,
+        asked: &'a [usize],
+        widths: Widths,
+    ) -> Drawing<'a> {
+        Drawing {
+            alloc,
+            exchange,
+            asked,
+            widths,
+            sheet: Sheet {
+                rows: Vec::new(alloc),
+                lines: Vec::new(alloc),
+                labels: Vec::new(alloc),
+                flights: Vec::new(alloc),
+            },
+            conn: 0,
+            request: 0,
+            reset: None,
+            task: Task::Nothing,
+            heard: 0,
+            left: 0,
+            server: BarMark::Nothing,
+            row: RowSoFar::new(alloc, 0),
+        }
+    }
+
+    /// Begins a row with this text in the gutter.
+    pub(crate) fn begin_row(
+        &mut self,
+        number: Option<usize>,
+        text: &str,
+        is_muted: bool,
+    ) -> Result<(), AllocError> {
+        let line = self.sheet.lines.len();
+        self.row = RowSoFar::new(self.alloc, line);
+        let text = cut_to(self.alloc, text, self.widths.event)?;
+        self.sheet.rows.push(Row {
+            line,
+            number,
+            text,
+            is_muted,
+        })?;
+        Ok(())
+    }
+
+    /// Puts a text into the next free lines of its zone, and answers its last line.
+    pub(crate) fn say(
+        &mut self,
+        spot: Spot,
+        look: Look,
+        has_badge: bool,
+        text: &str,
+    ) -> Result<usize, AllocError> {
+        let badge = match has_badge {
+            true => digits(self.request).saturating_add(2),
+            false => 0,
+        };
+        let texts = broken(self.alloc, text, self.widths.of(spot, look, badge))?;
+        let count = texts.len();
+        let used = match spot {
+            Spot::Server => self.row.server_used,
+            _ => self.row.client_used,
+        };
+        let first = self.row.start.saturating_add(used);
+        for (index, text) in texts.into_iter().enumerate() {
+            self.sheet.labels.push(Label {
+                line: first.saturating_add(index),
+                spot,
+                look,
+                request: self.request,
+                has_badge: has_badge && index == 0,
+                text,
+                is_first: index == 0,
+                is_last: index.saturating_add(1) == count,
+            })?;
+        }
+        let used = used.saturating_add(count);
+        match spot {
+            Spot::Server => self.row.server_used = used,
+            _ => self.row.client_used = used,
+        }
+        Ok(first.saturating_add(count.saturating_sub(1)))
+    }
+
+    /// The first line that is free at the server.
+    pub(crate) fn server_line(&self) -> usize {
+        self.row.start.saturating_add(self.row.server_used)
+    }
+
+    /// From this line on the server's column is this.
+    pub(crate) fn mark(&mut self, line: usize, mark: BarMark) -> Result<(), AllocError> {
+        self.row.marks.push((line, mark))?;
+        Ok(())
+    }
+
+    pub(crate) fn into_sheet(self) -> Sheet {
+        self.sheet
+    }
+
+    /// Forgets what was drawn: it stands above the picture.
+    pub(crate) fn forget(&mut self) {
+        self.sheet.rows.clear();
+        self.sheet.lines.clear();
+        self.sheet.labels.clear();
+        self.sheet
+            .flights
+            .retain(|flight| flight.end == FlightEnd::Open);
+        for flight in self.sheet.flights.iter_mut() {
+            flight.from = None;
+            flight.parts.clear();
+        }
+    }
+}
+
+impl RowSoFar {
+    fn new(alloc: Global, start: usize) -> RowSoFar {
+        RowSoFar {
+            start,
+            client_used: 0,
+            server_used: 0,
+            wire_used: 0,
+            settled: None,
+            marks: Vec::new(alloc),
+        }
+    }
+
+    /// How many lines it has.
+    pub(crate) fn count(&self) -> usize {
+        self.client_used
+            .max(self.server_used)
+            .max(self.wire_used)
+            .max(1)
+    }
+}
+
+fn digits(number: u32) -> usize {
+    match number {
+        0..=9 => 1,
+        10..=99 => 2,
+        100..=999 => 3,
+        1000..=9999 => 4,
+        _ => 5,
+    }
+}

@@ -1,0 +1,401 @@
+//! The row of an event.
+
+use crate::answers::Which;
+use crate::breaking::cut_to;
+use crate::drawing::{Drawing, Moment, Task};
+use crate::scene::{BarMark, FlightEnd, Line, Look, PlaceMark, Spot};
+use crate::wording::{
+    client_text, event_text, mark_text, refusal_text, request_text, session_text,
+};
+use std::alloc::AllocError;
+use tds_packet::Direction;
+use tds_play::{
+    AbandonOutcome, CancelOutcome, ClientView, GiveBackOutcome, Opened, Outcome, Place, Snapshot,
+    WorkOutcome,
+};
+use tds_request::Request;
+use tds_text::put_units;
+
+/// How wide a statement is shown.
+const STATEMENT: usize = 18;
+
+impl<'a> Drawing<'a> {
+    /// Draws the row of the event of this number.
+    pub(crate) fn draw_event(&mut self, number: usize) -> Result<(), AllocError> {
+        let exchange = self.exchange;
+        let index = number.saturating_sub(1);
+        let Some(event) = exchange.events.as_slice().get(index) else {
+            return Ok(());
+        };
+        let Some(told) = exchange.report.events.as_slice().get(index) else {
+            return Ok(());
+        };
+        let outcome = told.outcome;
+        let mut opens = false;
+        if let Outcome::Leased {
+            conn,
+            opened: Opened::New,
+            ..
+        } = outcome
+        {
+            opens = true;
+            self.open(conn);
+        }
+        let moment = Moment {
+            number,
+            before: self.shown_at(number.saturating_sub(1)),
+            after: self.shown_at(number),
+            opens,
+        };
+        let text = event_text(self.alloc, event)?;
+        let is_refused = matches!(outcome, Outcome::Refused(_));
+        self.begin_row(Some(number), text.as_str(), is_refused)?;
+        self.draw_outcome(outcome, moment)?;
+        if moment.before.is_some() && moment.after.is_none() {
+            self.draw_loss(moment)?;
+        }
+        self.end_row(outcome, moment)
+    }
+
+    fn open(&mut self, conn: u32) {
+        self.conn = conn;
+        self.request = 0;
+        self.reset = None;
+        self.task = Task::Nothing;
+        self.heard = 0;
+    }
+
+    /// The connection as it is after the event of this number.
+    fn shown_at(&self, number: usize) -> Option<&'a Snapshot> {
+        let exchange = self.exchange;
+        let told = exchange
+            .report
+            .events
+            .as_slice()
+            .get(number.checked_sub(1)?)?;
+        let conn = self.conn;
+        told.snapshots
+            .as_slice()
+            .iter()
+            .find(|shown| shown.conn == conn)
+    }
+
+    fn draw_outcome(&mut self, outcome: Outcome, moment: Moment<'a>) -> Result<(), AllocError> {
+        match outcome {
+            Outcome::Leased { opened, .. } => self.draw_lease(opened, moment),
+            Outcome::GivenBack(outcome) => self.draw_give_back(outcome, moment),
+            Outcome::Kept(_) => self.note("kept"),
+            Outcome::Abandoned(AbandonOutcome::Free) => self.note("abandoned, free"),
+            Outcome::Abandoned(AbandonOutcome::Closed) => self.note("abandoned, closed"),
+            Outcome::Asked(request) => self.draw_ask(request),
+            Outcome::Sent(_) => self.depart_all(moment.number),
+            Outcome::Cancel(outcome) => self.draw_cancel(outcome, moment),
+            Outcome::Work(outcome) => self.draw_work(outcome, moment),
+            Outcome::ToServer(count) => self.deliver(Direction::ToServer, count, moment),
+            Outcome::ToClient(count) => self.draw_to_client(count, moment),
+            Outcome::Cut | Outcome::RestartedServer | Outcome::RestartedClient => Ok(()),
+            Outcome::Refused(why) => {
+                self.say(Spot::Place, Look::Red, false, refusal_text(why))?;
+                Ok(())
+            }
+            Outcome::Fault { .. } => {
+                self.say(Spot::Client, Look::Red, false, "bytes refused")?;
+                Ok(())
+            }
+        }
+    }
+
+    fn note(&mut self, text: &str) -> Result<(), AllocError> {
+        self.say(Spot::Place, Look::Muted, false, text)?;
+        Ok(())
+    }
+
+    fn draw_lease(&mut self, opened: Opened, moment: Moment<'a>) -> Result<(), AllocError> {
+        self.note(match opened {
+            Opened::New => "new connection",
+            Opened::Reused => "reused",
+            Opened::Resumed => "resumed",
+        })?;
+        if let Some(mark) = moment.after.and_then(|it| it.mark) {
+            self.say(Spot::Client, Look::Pill, false, mark_text(mark))?;
+        }
+        Ok(())
+    }
+
+    fn draw_give_back(
+        &mut self,
+        outcome: GiveBackOutcome,
+        moment: Moment<'a>,
+    ) -> Result<(), AllocError> {
+        match outcome {
+            GiveBackOutcome::Closed => self.note("given back closed"),
+            GiveBackOutcome::Draining => {
+                self.note("given back, drains")?;
+                self.depart_all(moment.number)
+            }
+            GiveBackOutcome::Free => {
+                self.note("given back, free")?;
+                if moment
+                    .before
+                    .is_some_and(|it| it.client == ClientView::Sending)
+                {
+                    self.say(Spot::Client, Look::Plain, true, "never sent")?;
+                }
+                Ok(())
+            }
+        }
+    }
+
+    fn draw_ask(&mut self, request: u32) -> Result<(), AllocError> {
+        self.request = request;
+        self.reset = None;
+        let text = match self.asked_request() {
+            None => String::new(self.alloc),
+            Some(request) => request_text(self.alloc, request)?,
+        };
+        self.say(Spot::Asked, Look::Plain, true, text.as_str())?;
+        Ok(())
+    }
+
+    fn draw_cancel(
+        &mut self,
+        outcome: CancelOutcome,
+        moment: Moment<'a>,
+    ) -> Result<(), AllocError> {
+        let (look, has_badge, text) = match outcome {
+            CancelOutcome::Asked => (Look::Bold, true, "cancel"),
+            CancelOutcome::Unsent => (Look::Plain, true, "cancel: never sent"),
+            CancelOutcome::Already => (Look::Plain, true, "cancel, again"),
+            CancelOutcome::Nothing => (Look::Plain, false, "cancel: nothing to do"),
+        };
+        self.say(Spot::Asked, look, has_badge, text)?;
+        self.depart_all(moment.number)
+    }
+
+    fn draw_work(&mut self, outcome: WorkOutcome, moment: Moment<'a>) -> Result<(), AllocError> {
+        let Some(index) = self.next_packet(moment.number) else {
+            self.say(Spot::Server, Look::Muted, false, "nothing to do")?;
+            return Ok(());
+        };
+        let exchange = self.exchange;
+        let packet = exchange.packets.as_slice().get(index);
+        let mut text = match packet.is_some_and(|it| it.header.status.ends()) {
+            true => String::new(self.alloc),
+            false => self.statement()?,
+        };
+        text.push_str(self.tokens_at(index, Which::All)?.as_str())?;
+        let line = self.server_line();
+        self.depart(line, index)?;
+        self.say(Spot::Server, Look::Plain, false, text.as_str())?;
+        if let Task::Whole { done, count } = self.task {
+            self.task = Task::Whole {
+                done: done.saturating_add(1),
+                count,
+            };
+        }
+        if outcome == WorkOutcome::Finished {
+            self.task = Task::Out;
+            self.mark(line.saturating_add(1), BarMark::Life)?;
+        }
+        self.tell_session(moment)
+    }
+
+    /// The statement that is run next, and a colon; nothing where the step runs none.
+    fn statement(&self) -> Result<String, AllocError> {
+        let mut shown = String::new(self.alloc);
+        let (Task::Whole { done, count }, Some(Request::Batch(text))) = (
+            self.task,
+            self.asked_request(),
+        ) else {
+            return Ok(shown);
+        };
+        let Some(place) = done.checked_sub(usize::from(self.reset.is_some())) else {
+            return Ok(shown);
+        };
+        let semicolon = u16::from(b';');
+        for (index, units) in text.units().split(|unit| *unit == semicolon).enumerate() {
+            if index == place {
+                put_units(&mut shown, units)?;
+                shown = cut_to(self.alloc, shown.as_str(), STATEMENT)?;
+                shown.push_str(": ")?;
+                break;
+            }
+        }
+        Ok(shown)
+    }
+
+    fn draw_to_client(&mut self, count: u32, moment: Moment<'a>) -> Result<(), AllocError> {
+        self.deliver(Direction::ToClient, count, moment)?;
+        let was_draining = moment.before.is_some_and(|it| it.place == Place::Draining);
+        if was_draining && moment.after.is_some_and(|it| it.place == Place::Free) {
+            self.note("drained, free")?;
+        }
+        Ok(())
+    }
+
+    fn draw_loss(&mut self, moment: Moment<'a>) -> Result<(), AllocError> {
+        match moment
+            .before
+            .is_some_and(|it| it.client != ClientView::Idle)
+        {
+            true => self.say(Spot::Client, Look::Red, true, "cut: request lost")?,
+            false => self.say(Spot::Client, Look::Red, false, "cut")?,
+        };
+        self.end_flights(true)
+    }
+
+    /// Ends what hasn't come, in the row's first lines.
+    fn end_flights(&mut self, is_lost: bool) -> Result<(), AllocError> {
+        let alloc = self.alloc;
+        let word = match is_lost {
+            true => "lost",
+            false => "underway",
+        };
+        for direction in [Direction::ToServer, Direction::ToClient] {
+            let open = self.sheet.flights.iter().filter(|it| it.end == FlightEnd::Open
+                && it.direction == direction);
+            let count = open.count();
+            let first = self.row.start.saturating_add(self.row.wire_used);
+            let mut place = 0usize;
+            for flight in self.sheet.flights.iter_mut() {
+                if flight.end != FlightEnd::Open || flight.direction != direction {
+                    continue;
+                }
+                let line = first.saturating_add(place.min(3));
+                if place > 3 {
+                    flight.end = FlightEnd::Hidden(line);
+                    continue;
+                }
+                flight.end = match is_lost {
+                    true => FlightEnd::Lost(line),
+                    false => FlightEnd::Underway(line),
+                };
+                let bytes = flight.size.saturating_sub(flight.came);
+                flight.note = match place == 3 && count > 4 {
+                    true => format!(in alloc; "+{}", count.saturating_sub(3))?,
+                    false => format!(in alloc; "{bytes} {word}")?,
+                };
+                place = place.saturating_add(1);
+            }
+            self.row.wire_used = self.row.wire_used.saturating_add(place);
+        }
+        Ok(())
+    }
+
+    /// Draws the row behind the last event that is drawn.
+    pub(crate) fn draw_end(&mut self, last: usize, is_whole: bool) -> Result<(), AllocError> {
+        let text = match is_whole {
+            true => "end",
+            false => "then",
+        };
+        self.begin_row(None, text, true)?;
+        let shown = self.shown_at(last);
+        let moment = Moment {
+            number: 0,
+            before: shown,
+            after: shown,
+            opens: false,
+        };
+        if let Some(shown) = shown {
+            let text = client_text(self.alloc, shown)?;
+            self.say(Spot::Client, Look::Pill, false, text.as_str())?;
+            let text = session_text(self.alloc, &shown.server, None)?;
+            self.say(Spot::Server, Look::Pill, false, text.as_str())?;
+        }
+        self.end_flights(false)?;
+        self.end_row(Outcome::ToClient(0), moment)
+    }
+
+    /// Draws what runs down through the row's lines.
+    fn end_row(&mut self, outcome: Outcome, moment: Moment<'a>) -> Result<(), AllocError> {
+        let count = self.row.count();
+        let is_cut = moment.before.is_some() && moment.after.is_none();
+        let is_restart = matches!(outcome, Outcome::RestartedServer | Outcome::RestartedClient);
+        for index in 0..count {
+            let line = self.row.start.saturating_add(index);
+            let is_last = index.saturating_add(1) == count;
+            let mut line = Line {
+                place: place_mark(outcome, moment, index),
+                client: client_mark(moment, self.row.settled, line),
+                server: self.server_mark(moment, line),
+                is_rule: is_restart && is_last,
+            };
+            if moment.opens && index == 0 {
+                line.client = BarMark::Opened(self.conn);
+                line.server = BarMark::Opened(self.conn);
+            }
+            if is_cut && is_last {
+                line.client = BarMark::Cut;
+                line.server = BarMark::Cut;
+            }
+            self.sheet.lines.push(line)?;
+        }
+        if let Some((_, mark)) = self.row.marks.last() {
+            self.server = *mark;
+        }
+        if is_cut {
+            self.server = BarMark::Nothing;
+        }
+        Ok(())
+    }
+
+    /// The column of the server in a line.
+    fn server_mark(&mut self, moment: Moment<'a>, line: usize) -> BarMark {
+        if moment.opens {
+            self.server = BarMark::Life;
+        }
+        for (from, mark) in self.row.marks.iter() {
+            if *from <= line {
+                self.server = *mark;
+            }
+        }
+        self.server
+    }
+}
+
+/// The column of the client in a line: as it is after the event; where the event settled its request, as before until then.
+fn client_mark(moment: Moment<'_>, settled: Option<usize>, line: usize) -> BarMark {
+    let Some(shown) = moment.after.or(moment.before) else {
+        return BarMark::Nothing;
+    };
+    if shown.client != ClientView::Idle {
+        return bar_of(shown.client);
+    }
+    match moment.before {
+        Some(before) if settled.is_none_or(|settled| line <= settled) => bar_of(before.client),
+        _ => BarMark::Life,
+    }
+}
+
+fn bar_of(client: ClientView) -> BarMark {
+    match client {
+        ClientView::Idle => BarMark::Life,
+        ClientView::Sending => BarMark::Passing,
+        ClientView::Reading => BarMark::Busy,
+        ClientView::Cancelling => BarMark::Cancelling,
+    }
+}
+
+/// The caller's column in a line of a row.
+fn place_mark(outcome: Outcome, moment: Moment<'_>, index: usize) -> PlaceMark {
+    let before = place_of(moment.before);
+    let after = place_of(moment.after);
+    match outcome {
+        Outcome::Leased { lease, .. } if index == 0 => PlaceMark::LeaseBegins(lease),
+        Outcome::Kept(ticket) if index == 0 => PlaceMark::TicketBegins(ticket),
+        Outcome::GivenBack(GiveBackOutcome::Draining) if index == 0 => PlaceMark::DrainingBegins,
+        Outcome::GivenBack(_) | Outcome::Abandoned(_) if index == 0 => before,
+        Outcome::Leased { .. } | Outcome::Kept(_) | Outcome::GivenBack(_) | Outcome::Abandoned(_) =>
+            after,
+        _ => before,
+    }
+}
+
+fn place_of(shown: Option<&Snapshot>) -> PlaceMark {
+    match shown.map(|shown| shown.place) {
+        Some(Place::Leased(_)) => PlaceMark::Lease,
+        Some(Place::Kept(_)) => PlaceMark::Ticket,
+        Some(Place::Draining) => PlaceMark::Draining,
+        Some(Place::Free) | None => PlaceMark::Nothing,
+    }
+}
