@@ -5,3 +5,4 @@ pub mod Taken
 pub mod Results
 pub mod Promises
 pub mod Others
+pub mod History

@@ -8,7 +8,7 @@ use Rattle.tds_pool.specs.Connections.{Connection, changed, numbered, taken_out}
 use Rattle.tds_pool.proofs.Seats.{taken, passed}
 
 -- A connection of that number, or not.
-by_number : (Q : Type 0) (a n : ℕ) → (a ≡ n → eqb a n ≡ true → Q) → (eqb a n ≡ false → Q) → Q
+pub by_number : (Q : Type 0) (a n : ℕ) → (a ≡ n → eqb a n ≡ true → Q) → (eqb a n ≡ false → Q) → Q
 by_number Q a n same other = ⊎_elim (λ t. same t.1 (eq-eqb a n t.1)) (λ t. other t.0) (eqb_tells a n)
 
 unlike : (a n m : ℕ) → a ≡ n → m ≢ n → eqb a m ≡ false

@@ -2,5 +2,6 @@ pub mod Table
 pub mod Halving
 pub mod Connections
 pub mod Calls
+pub mod History
 pub mod Fields
 pub mod Lends

@@ -1,9 +1,14 @@
 //! What a pool promises to whoever uses it. Each law is a function without a body, whose contract is
 //! the theorem.
-ghost use Rattle.std.specs.Prelude.{◌≡◌, ◌≢◌, ◌++◌, ◌∷◌, [], ℕ, true, List, None, Some, option_map, IsSome, IfSome};
+ghost use Rattle.std.specs.Prelude.{◌≡◌, ◌≢◌, ◌≤◌, ◌++◌, ◌∷◌, [], ℕ, true, List, None, Some, option_map, IsSome, IfSome};
+ghost use Rattle.tds_client.specs.Session.{ClientSession};
+ghost use Rattle.tds_packet.specs.declared.status.Reset.{Reset};
 ghost use Rattle.tds_pool.specs.declared.lease.Lease.{Lease};
-ghost use Rattle.tds_pool.specs.Connections.{Connection, changed, numbered, taken_out};
-ghost use Rattle.tds_pool.specs.Calls.{lent_to, lent_next, is_free, is_idle};
+ghost use Rattle.tds_pool.specs.declared.lease.Ticket.{Ticket};
+ghost use Rattle.tds_pool.specs.declared.seat.Place.TheVariants as places;
+ghost use Rattle.tds_pool.specs.Connections.{Connection, changed, numbered, at_place, with_client, taken_out};
+ghost use Rattle.tds_pool.specs.Calls.{lent_to, kept_for, lent_next, lent_again, is_free, is_idle, given_back, abandoned, drained, closed};
+ghost use Rattle.tds_pool.specs.History.{Seen, Move, behind, AreBehind};
 
 /// A connection is lent to one lease at a time: two that are known and stand for one number are
 /// alike.
@@ -48,4 +53,37 @@ pub fn one_is_added()
 pub fn taken_out_is_unknown()
     ensures { (lease : Lease) (cs : List Connection)
         → lent_to lease (taken_out lease.number cs) ≡ None }
+{}
+
+/// A number is never used again: a connection that is out of the pool stays out, whatever is called
+/// later, and its lease and its ticket are unknown for ever.
+pub fn never_again()
+    ensures number { (number : ℕ) (p : Seen) (moves : List Move) → number ≤ p.last
+        → numbered number p.connections ≡ None
+        → numbered number (behind moves p).connections ≡ None }
+    ensures lease { (lease : Lease) (p : Seen) (moves : List Move) → lease.number ≤ p.last
+        → numbered lease.number p.connections ≡ None
+        → lent_to lease (behind moves p).connections ≡ None }
+    ensures ticket { (ticket : Ticket) (p : Seen) (moves : List Move) → ticket.number ≤ p.last
+        → numbered ticket.number p.connections ≡ None
+        → kept_for ticket (behind moves p).connections ≡ None }
+{}
+
+/// What each call does to the connections is some moves. (That of `lease` where it opens one is the
+/// move `Opens`.)
+pub fn calls_are_moves()
+    ensures reused { (number : ℕ) (reset : Reset) (p : Seen)
+        → AreBehind p (lent_again number reset p.connections) }
+    ensures client { (number : ℕ) (client : ClientSession) (p : Seen)
+        → AreBehind p (with_client number client p.connections) }
+    ensures kept { (number : ℕ) (p : Seen)
+        → AreBehind p (at_place number places.Kept p.connections) }
+    ensures given_back { (lease : Lease) (p : Seen)
+        → AreBehind p (given_back lease p.connections).connections }
+    ensures abandoned { (ticket : Ticket) (p : Seen)
+        → AreBehind p (abandoned ticket p.connections).connections }
+    ensures drained { (number : ℕ) (p : Seen)
+        → AreBehind p (drained number p.connections).connections }
+    ensures lost { (number : ℕ) (p : Seen) → AreBehind p (taken_out number p.connections) }
+    ensures closed { (number : ℕ) (p : Seen) → AreBehind p (closed number p.connections) }
 {}
