@@ -1,8 +1,41 @@
--- What lent columns show.
-use Rattle.std.specs.Prelude.{◌≡◌, ◌≤◌, List, [], length, Option, Some, None}
+-- What a lent message and lent columns show.
+use Rattle.std.specs.Prelude.{◌≡◌, ◌≤◌, List, [], length, pos, Option, Some, None, Result, Ok, Err}
 use Rattle.tds_token.specs.declared.columns.Column.{Column}
 use Rattle.tds_token.specs.declared.columns.ColumnsRef.TheInside.{Inside}
-use Rattle.tds_token.specs.Reading.{columns_of}
+use Rattle.tds_token.specs.declared.fault.TokenFault.{TokenFault}
+use Rattle.tds_token.specs.declared.message.Fields.{Fields}
+use Rattle.tds_token.specs.declared.message.Message.{Message}
+use Rattle.tds_token.specs.declared.message.MessageRef.TheInside as lent
+use Rattle.tds_token.specs.Reading.{columns_of, message_in}
+
+-- ---- A message
+
+-- The message with these fields.
+abbrev pub message_of : Fields → Message
+message_of f = record {
+  number = f.number;
+  state = f.state;
+  class = f.class;
+  text = f.text;
+  server = f.server;
+  procedure = f.procedure;
+  line = f.line;
+}
+
+-- The message that was read. Where there is none, one of nothing.
+abbrev pub message_or_none : Result Message TokenFault → Message
+message_or_none (Ok m) = m
+message_or_none (Err e) = record { number = pos 0; state = 0; class = 0; text = []; server = []; procedure = []; line = pos 0 }
+
+-- The message that fills the bytes.
+abbrev pub lent_message : lent.Inside → Message
+lent_message a = message_or_none (message_in a.bytes.now)
+
+-- There is one.
+abbrev pub IsLentMessage : lent.Inside → Type 0
+IsLentMessage a = message_in a.bytes.now ≡ Ok (lent_message a)
+
+-- ---- Columns
 
 -- The columns at the front of the bytes.
 abbrev pub lent_columns : Inside → List Column

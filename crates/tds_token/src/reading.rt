@@ -15,6 +15,7 @@ use crate::done_status::{ALL, ATTENTION, MORE};
 use crate::fault::TokenFault;
 use crate::reading::env_changes::env_change;
 use crate::reading::fields::{byte, int, number16, number64};
+pub(crate) use crate::reading::messages::fields_inside;
 use crate::reading::messages::message;
 pub(crate) use crate::reading::tables::column;
 use crate::reading::tables::{column_list, row};

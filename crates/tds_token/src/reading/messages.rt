@@ -1,16 +1,16 @@
 //! What stands behind the token byte of an INFO or an ERROR (MS-TDS 2.2.7.13, 2.2.7.10).
 
 ghost use Rattle.std.specs.Prelude.{◌≡◌};
-ghost use Rattle.tds_token.specs.Layout.{message_of};
+ghost use Rattle.tds_token.specs.Lent.{message_of};
 ghost use Rattle.tds_token.specs.Reading.{Gives, message_in, message_at};
 
 use crate::fault::TokenFault;
-use crate::message::MessageRef;
+use crate::message::{Fields, MessageRef};
 use crate::reading::fields::{byte, int, long_text, short_text, sized};
 
-/// The message that fills the bytes which a Length counts.
+/// The fields of the message that fills the bytes which a Length counts.
 #[tactic(auto, unfolding(crate::specs::Reading::message_in))]
-fn message_inside(inside: &[u8]) -> Result<MessageRef<'_>, TokenFault>
+pub(crate) fn fields_inside(inside: &[u8]) -> Result<Fields<'_>, TokenFault>
     ensures { Gives message_of result (message_in inside.now) }
 {
     let (number, rest) = int(inside, TokenFault::WrongLength)?;
@@ -23,7 +23,7 @@ fn message_inside(inside: &[u8]) -> Result<MessageRef<'_>, TokenFault>
     if !rest.is_empty() {
         return Err(TokenFault::WrongLength);
     }
-    Ok(MessageRef {
+    Ok(Fields {
         number,
         state,
         class,
@@ -36,9 +36,9 @@ fn message_inside(inside: &[u8]) -> Result<MessageRef<'_>, TokenFault>
 
 #[tactic(auto, unfolding(crate::specs::Reading::message_at))]
 pub(crate) fn message(bytes: &[u8]) -> Result<(MessageRef<'_>, &[u8]), TokenFault>
-    ensures { Gives (λ x. (message_of x.0, x.1.now)) result (message_at bytes.now) }
+    ensures { Gives (λ x. (x.0, x.1.now)) result (message_at bytes.now) }
 {
     let (inside, rest) = sized(bytes)?;
-    let message = message_inside(inside)?;
-    Ok((message, rest))
+    fields_inside(inside)?;
+    Ok((MessageRef::new(inside), rest))
 }
