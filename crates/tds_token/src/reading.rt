@@ -52,6 +52,7 @@ fn done(bytes: &[u8]) -> Result<(TokenRef<'_>, &[u8]), TokenFault>
 
 /// The token with this token byte.
 #[tactic(auto, unfolding(crate::specs::Reading::token_behind))]
+#[inline(always)]
 fn token_of_kind(
     columns: Columns,
     kind: u8,
@@ -94,6 +95,7 @@ fn token_of_kind(
 
 /// The token at the front, and the bytes after it.
 #[tactic(auto, unfolding(crate::specs::Reading::token_at))]
+#[inline(always)]
 pub(crate) fn token(columns: Columns, bytes: &[u8]) -> Result<(TokenRef<'_>, &[u8]), TokenFault>
     ensures { Gives (λ x. (token_of x.0, x.1.now)) result (token_at columns bytes.now) }
 {

@@ -1,6 +1,7 @@
 //! What stands behind the token byte of an INFO or an ERROR (MS-TDS 2.2.7.13, 2.2.7.10).
 
-ghost use Rattle.std.specs.Prelude.{◌≡◌};
+ghost use Rattle.std.specs.Prelude.{◌≡◌, Ok, Err, MatchResult};
+ghost use Rattle.tds_token.specs.declared.message.Message.{Message};
 ghost use Rattle.tds_token.specs.Lent.{message_of};
 ghost use Rattle.tds_token.specs.Reading.{Gives, message_in, message_at};
 
@@ -34,11 +35,21 @@ pub(crate) fn fields_inside(inside: &[u8]) -> Result<Fields<'_>, TokenFault>
     })
 }
 
+/// Whether these bytes are a message's.
+#[inline(never)]
+fn check_message(inside: &[u8]) -> Result<(), TokenFault>
+    ensures { MatchResult result (λ x. (message : Message) × (message_in inside.now ≡ Ok message)) (λ e. message_in inside.now ≡ Err e) }
+{
+    fields_inside(inside)?;
+    Ok(())
+}
+
 #[tactic(auto, unfolding(crate::specs::Reading::message_at))]
+#[inline(always)]
 pub(crate) fn message(bytes: &[u8]) -> Result<(MessageRef<'_>, &[u8]), TokenFault>
     ensures { Gives (λ x. (x.0, x.1.now)) result (message_at bytes.now) }
 {
     let (inside, rest) = sized(bytes)?;
-    fields_inside(inside)?;
+    check_message(inside)?;
     Ok((MessageRef::new(inside), rest))
 }
