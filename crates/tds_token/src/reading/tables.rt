@@ -68,7 +68,7 @@ pub(crate) fn column_list(bytes: &[u8]) -> Result<(ColumnsRef<'_>, &[u8]), Token
     }
     let count = count as u8;
     let after = skip_columns(count, rest)?;
-    Ok((ColumnsRef::new(count, rest), after))
+    Ok((ColumnsRef::new(bytes), after))
 }
 
 /// A row of `count` values.
