@@ -1,3 +1,4 @@
 pub mod Joining
 pub mod Refusing
 pub mod Fronts
+pub mod Running

@@ -12,6 +12,7 @@ use tds_packet::Reset;
 use tds_request::Request;
 
 /// Writes bytes to the front of a buffer, where they fit. How many there are is told anyway.
+#[inline(always)]
 fn put(bytes: &[u8], out: &mut [u8], count: &mut usize) -> bool
     ensures count { count.new ≡ length bytes.now }
     ensures done { result ≡ true → out.new ≡ with_front bytes.now out.old }
@@ -26,6 +27,7 @@ fn put(bytes: &[u8], out: &mut [u8], count: &mut usize) -> bool
 }
 
 /// The request's next packet, apart from the caller's buffer.
+#[inline(always)]
 fn next_packet(
     alloc: Global,
     client: &TdsClient,
@@ -49,6 +51,7 @@ fn next_packet(
     Ok((answer, held, bytes))
 }
 
+#[inline(always)]
 pub(crate) fn send(
     alloc: Global,
     client: &mut TdsClient,
@@ -71,6 +74,7 @@ pub(crate) fn send(
     Ok(answer)
 }
 
+#[inline(always)]
 pub(crate) fn cancel(
     alloc: Global,
     client: &mut TdsClient,
@@ -95,6 +99,7 @@ pub(crate) fn cancel(
 
 /// Takes a request. Its message is written to the front of the caller's buffer, and each packet of
 /// it is sent from there.
+#[inline(always)]
 pub(crate) fn start(
     alloc: Global,
     client: &mut TdsClient,
@@ -119,6 +124,7 @@ pub(crate) fn start(
     Ok(())
 }
 
+#[inline(always)]
 pub(crate) fn mark_reset(alloc: Global, client: &mut TdsClient, reset: Reset) -> Result<(), Stop>
     ensures { Changes (marks client.old reset) client.old client.new result }
 {
@@ -132,6 +138,7 @@ pub(crate) fn mark_reset(alloc: Global, client: &mut TdsClient, reset: Reset) ->
     Ok(())
 }
 
+#[inline(always)]
 pub(crate) fn lost(alloc: Global, client: &mut TdsClient) -> Result<(), Stop>
     ensures { Changes (loses client.old) client.old client.new result }
 {

@@ -40,6 +40,7 @@ pub struct TdsClient {
 
 impl TdsClient {
     /// This client, of whose message so many bytes are out.
+    #[inline(always)]
     #[tactic(auto, unfolding(crate::specs::Plain::plain_of))]
     pub(crate) fn new(client: &Client, sent: usize) -> TdsClient
         ensures { result ≡ plain_of (parts_of client.now) sent }
@@ -78,6 +79,7 @@ impl TdsClient {
 
     /// The client that it is, with these bytes of its message still to go out. None where it is no
     /// client.
+    #[inline(always)]
     #[tactic(auto, unfolding(crate::specs::Plain::client_of))]
     pub(crate) fn client(&self, left: Vec<u8>) -> Option<Client>
         ensures { result ≡ client_of self.now left.items }
@@ -86,6 +88,7 @@ impl TdsClient {
         join(parts, left)
     }
 
+    #[inline(always)]
     #[tactic(auto, unfolding(crate::specs::Plain::parts_from))]
     fn parts(&self) -> Option<ClientParts>
         ensures { result ≡ parts_from self.now }
@@ -107,6 +110,7 @@ impl TdsClient {
         })
     }
 
+    #[inline(always)]
     #[tactic(auto, unfolding(crate::specs::Plain::stage_from_number))]
     fn stage_parts(&self) -> Option<StageParts>
         ensures { result ≡ stage_from_number self.now }
@@ -129,6 +133,7 @@ impl TdsClient {
     }
 }
 
+#[inline(always)]
 #[tactic(auto, using(crate::proofs::Joining::joined))]
 fn join(parts: ClientParts, left: Vec<u8>) -> Option<Client>
     ensures { result ≡ (if have_room parts.stage (length left.items)

@@ -74,6 +74,7 @@ pub extern "C" fn tds_client_mark_reset(alloc: Global, client: &mut TdsClient, r
     done_code(mark_reset(alloc, client, reset))
 }
 
+#[inline(always)]
 fn mark_reset(alloc: Global, client: &mut TdsClient, reset: u8) -> Result<(), Stop>
     ensures { MarksIf reset client.old client.new result }
 {
@@ -94,6 +95,7 @@ pub extern "C" fn tds_client_new(alloc: Global, size: u16, client: &mut TdsClien
     done_code(new(alloc, size, client))
 }
 
+#[inline(always)]
 fn new(alloc: Global, size: u16, client: &mut TdsClient) -> Result<(), Stop>
     ensures { IsNew size client.old client.new result }
 {

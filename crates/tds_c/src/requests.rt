@@ -31,6 +31,7 @@ pub extern "C" fn tds_client_start_batch(
     done_code(start_batch(alloc, client, text, message, count))
 }
 
+#[inline(always)]
 fn start_batch(
     alloc: Global,
     client: &mut TdsClient,
@@ -67,6 +68,7 @@ pub extern "C" fn tds_client_start_begin(
     done_code(start_begin(alloc, client, isolation, message, count))
 }
 
+#[inline(always)]
 fn start_begin(
     alloc: Global,
     client: &mut TdsClient,
@@ -86,6 +88,7 @@ fn start_begin(
 }
 
 /// The level at which the next transaction begins, if one does. None where it is no such number.
+#[inline(always)]
 #[tactic(auto, unfolding(crate::specs::Calls::next_from))]
 fn next(number: u8) -> Option<Option<Isolation>>
     ensures { result ≡ next_from number }
@@ -118,6 +121,7 @@ pub extern "C" fn tds_client_start_commit(
     done_code(start_commit(alloc, client, next, message, count))
 }
 
+#[inline(always)]
 fn start_commit(
     alloc: Global,
     client: &mut TdsClient,
@@ -153,6 +157,7 @@ pub extern "C" fn tds_client_start_rollback(
     done_code(start_rollback(alloc, client, next, message, count))
 }
 
+#[inline(always)]
 fn start_rollback(
     alloc: Global,
     client: &mut TdsClient,
