@@ -2,3 +2,6 @@ pub mod Joining
 pub mod Refusing
 pub mod Fronts
 pub mod Running
+pub mod Writing
+pub mod Sending
+pub mod Starting

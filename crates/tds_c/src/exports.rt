@@ -20,7 +20,6 @@ use tds_packet::PacketSize;
 /// the last.
 #[unsafe(no_mangle)]
 pub extern "C" fn tds_client_send(
-    alloc: Global,
     client: &mut TdsClient,
     message: &[u8],
     out: &mut [u8],
@@ -30,7 +29,7 @@ pub extern "C" fn tds_client_send(
         × Writes (sends client.old message.now) (out_of message.now) client.old client.new
         (record { before = out.old; after = out.new; count = count.new }) answer }
 {
-    match calls::send(alloc, client, message, out, count) {
+    match calls::send(client, message, out, count) {
         Ok(sent) => sent_code(sent),
         Err(stop) => stop.number(),
     }
