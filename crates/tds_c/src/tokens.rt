@@ -1,7 +1,7 @@
 //! Tokens out of a packet's data, one behind the other.
 
 ghost use Rattle.std.specs.Prelude.{◌≡◌, Option, Result, pos};
-ghost use Rattle.tds_token.specs.Layout.{message_of, token_of};
+ghost use Rattle.tds_token.specs.Layout.{token_of};
 ghost use Rattle.tds_c.specs.declared.answers.Stop.{Stop};
 ghost use Rattle.tds_c.specs.declared.tokens.Ran.{Ran};
 ghost use Rattle.tds_c.specs.declared.tokens.TdsToken.{TdsToken};
@@ -91,13 +91,13 @@ fn blank(kind: u8, start: usize) -> TdsToken
 
 #[inline(always)]
 fn message(kind: u8, start: usize, message: &MessageRef<'_>) -> TdsToken
-    ensures { ShowsMessage result kind start (message_of message.now) }
+    ensures { ShowsMessage result kind start message.now }
 {
     TdsToken {
-        number: message.number,
-        line: message.line,
-        state: message.state,
-        severity: message.class,
+        number: message.number(),
+        line: message.line(),
+        state: message.state(),
+        severity: message.class(),
         ..blank(kind, start)
     }
 }

@@ -32,6 +32,7 @@ pub struct Heard {
 impl Heard {
     /// Hears one token. `cancelling` says whether an attention is out.
     #[tactic(auto, unfolding(crate::specs::Hearing::hear))]
+    #[inline(always)]
     pub(crate) fn hear(self, cancelling: bool, token: &TokenRef<'_>) -> Result<Heard, ClientFault>
         ensures { Gives result (hear cancelling self (token_of token.now)) }
     {
@@ -53,6 +54,7 @@ impl Heard {
 
     /// Applies a change of the session to the descriptor (MS-TDS 2.2.7.9).
     #[tactic(auto, unfolding(crate::specs::Hearing::hear_change))]
+    #[inline(always)]
     fn hear_change(self, change: EnvChange) -> Result<Heard, ClientFault>
         ensures { Gives result (hear_change self change) }
     {
@@ -82,6 +84,7 @@ impl Heard {
 
     /// The reset that was asked for is done: its mark is cleared (MS-TDS 2.2.7.9, type 18).
     #[tactic(auto, unfolding(crate::specs::Hearing::hear_change))]
+    #[inline(always)]
     fn hear_reset(self) -> Result<Heard, ClientFault>
         ensures { Gives result (hear_change self EnvChange.ResetDone) }
     {
@@ -99,6 +102,7 @@ impl Heard {
 
     /// Hears a DONE of this status (MS-TDS 2.2.7.6).
     #[tactic(auto, unfolding(crate::specs::Hearing::hear_done))]
+    #[inline(always)]
     fn hear_done(self, cancelling: bool, status: u16) -> Result<Heard, ClientFault>
         ensures { Gives result (hear_done cancelling self status) }
     {

@@ -26,16 +26,19 @@ enum Walk {
     Hear,
     /// The packets' tokens are read.
     Tokens,
+    /// The same in runs of rows, of which the values are summed.
+    Rows,
     /// A client takes each packet, and the values of its rows are summed.
     Values,
     /// The same, and the client tells the tokens in memory of their own.
     Take,
 }
 
-const WALKS: [Walk; 5] = [
+const WALKS: [Walk; 6] = [
     Walk::Packets,
     Walk::Hear,
     Walk::Tokens,
+    Walk::Rows,
     Walk::Values,
     Walk::Take,
 ];
@@ -46,6 +49,7 @@ impl Walk {
             Walk::Packets => "packets",
             Walk::Hear => "hear",
             Walk::Tokens => "tokens",
+            Walk::Rows => "rows",
             Walk::Values => "values",
             Walk::Take => "take",
         }
@@ -56,6 +60,7 @@ impl Walk {
             Walk::Packets => walks::packets(size, bytes),
             Walk::Hear => walks::hear(alloc, size, bytes),
             Walk::Tokens => walks::tokens(size, bytes),
+            Walk::Rows => walks::rows(size, bytes),
             Walk::Values => walks::values(alloc, size, bytes),
             Walk::Take => walks::take(alloc, size, bytes),
         }

@@ -158,6 +158,44 @@ pub fn tokens(size: PacketSize, bytes: &[u8]) -> Result<Counted, SpeedFault> {
     Ok(counted)
 }
 
+/// Sums the values of a packet's rows, a run of them at a time. Answers the columns that are known
+/// behind them.
+fn sum_runs(data: &[u8], columns: Columns, counted: &mut Counted) -> Result<Columns, SpeedFault> {
+    let mut tokens = Tokens::new(data, columns);
+    for _ in 0..u64::MAX {
+        for row in tokens.rows() {
+            counted.tokens = counted.tokens.wrapping_add(1);
+            counted.rows = counted.rows.wrapping_add(1);
+            for value in row.values() {
+                counted.add(u64::from(value.cast_unsigned()));
+            }
+        }
+        let Some(next) = tokens.next() else {
+            break;
+        };
+        counted.tokens = counted.tokens.wrapping_add(1);
+        next?;
+    }
+    Ok(tokens.columns())
+}
+
+/// Reads the tokens of each packet, rows in runs. The values of the rows are summed.
+pub fn rows(size: PacketSize, bytes: &[u8]) -> Result<Counted, SpeedFault> {
+    let mut counted = Counted::none();
+    let mut columns = Columns::none();
+    let mut rest = bytes;
+    for _ in 0..u64::MAX {
+        if rest.is_empty() {
+            break;
+        }
+        let (packet, behind) = front(rest, size)?;
+        rest = behind;
+        counted.packets = counted.packets.wrapping_add(1);
+        columns = sum_runs(packet.data, columns, &mut counted)?;
+    }
+    Ok(counted)
+}
+
 /// Sums the values of a packet's rows. Answers the columns that are known behind them.
 fn sum_values(data: &[u8], columns: Columns, counted: &mut Counted) -> Result<Columns, SpeedFault> {
     let mut tokens = Tokens::new(data, columns);

@@ -5,6 +5,7 @@ pub mod Wordings
 pub mod Messages
 pub mod Skipping
 pub mod Tables
+pub mod Listed
 pub mod Whole
 pub mod Stepping
 pub mod Behind

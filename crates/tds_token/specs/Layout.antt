@@ -7,7 +7,6 @@ use Rattle.tds_token.specs.declared.columns.ColumnRef.{ColumnRef}
 use Rattle.tds_token.specs.declared.env_change.EnvChange.{EnvChange}
 use Rattle.tds_token.specs.declared.env_change.EnvChange.TheVariants.{Begin, Commit, Rollback, ResetDone}
 use Rattle.tds_token.specs.declared.message.Message.{Message}
-use Rattle.tds_token.specs.declared.message.MessageRef.{MessageRef}
 use Rattle.tds_token.specs.declared.token.Token.{Token}
 use Rattle.tds_token.specs.declared.token.Token.TheVariants as tokens
 use Rattle.tds_token.specs.declared.token.TokenRef.{TokenRef}
@@ -16,26 +15,14 @@ use Rattle.tds_token.specs.Texts.{units_bytes}
 
 -- ---- Lent and owned
 
--- The message that is lent.
-abbrev pub message_of : MessageRef → Message
-message_of m = record {
-  number = m.number;
-  state = m.state;
-  class = m.class;
-  text = m.text;
-  server = m.server;
-  procedure = m.procedure;
-  line = m.line;
-}
-
 -- The column that is lent.
 abbrev pub column_of : ColumnRef → Column
 column_of c = record { user_type = c.user_type; flags = c.flags; name = c.name }
 
 -- The token that is lent.
 abbrev pub token_of : TokenRef → Token
-token_of (lent.Info m) = tokens.Info (message_of m)
-token_of (lent.Error m) = tokens.Error (message_of m)
+token_of (lent.Info m) = tokens.Info m
+token_of (lent.Error m) = tokens.Error m
 token_of (lent.ReturnStatus v) = tokens.ReturnStatus v
 token_of (lent.Columns cs) = tokens.Columns cs
 token_of (lent.Row vs) = tokens.Row vs

@@ -1,10 +1,11 @@
 ghost use Rattle.std.specs.Prelude.{◌≡◌, ◌≤◌, ◌∷◌, None, Some, IfOk, SomeIff, length};
 ghost use Rattle.tds_token.specs.Texts.{AreColumns};
 ghost use Rattle.tds_token.specs.Layout.{column_of, columns_after, token_of};
-ghost use Rattle.tds_token.specs.Lent.{others_of};
-ghost use Rattle.tds_token.specs.Reading.{columns_of};
+ghost use Rattle.tds_token.specs.Lent.{IsColumnList, others_of};
+ghost use Rattle.tds_token.specs.Reading.{column_list_at, columns_of, list_or_none};
 
-use crate::reading::column;
+use crate::fault::TokenFault;
+use crate::reading::{column, number16};
 use crate::text::{Text, TextRef};
 use crate::token::TokenRef;
 use std::alloc::{AllocError, Global};
@@ -81,7 +82,7 @@ impl ColumnList {
 /// Columns that lie in a packet's data, 1 to 16.
 #[derive(Debug, Drop)]
 pub struct ColumnsRef<'a> {
-    count: u8,
+    /// Their count, in two bytes, and then they.
     bytes: &'a [u8],
 }
 
@@ -99,14 +100,76 @@ impl<'a> Model for ColumnsRef<'a> {
 }
 
 impl<'a> ColumnsRef<'a> {
+    /// The columns at the front of these bytes, behind their count.
+    pub(crate) fn new(bytes: &'a [u8]) -> ColumnsRef<'a>
+        requires { IsColumnList bytes.now }
+        ensures { result ≡ list_or_none (column_list_at bytes.now) }
+    {
+        ColumnsRef { bytes }
+    }
+
+    /// How many columns there are.
+    pub fn count(&self) -> u8
+        ensures value { result ≡ length self.now }
+        ensures least { 1 ≤ result }
+        ensures most { result ≤ 16 }
+    {
+        self.all().count()
+    }
+
+    /// The first column, and the others, if there are any.
+    pub fn split_first(&self) -> (ColumnRef<'a>, Option<ColumnsLeft<'a>>)
+        ensures { self.now ≡ column_of result.0 ∷ others_of result.1 }
+    {
+        self.all().split_first()
+    }
+
+    /// The same columns, in memory of their own.
+    pub fn own(&self, alloc: Global) -> Result<ColumnList, AllocError>
+        ensures { IfOk result (λ columns. columns ≡ self.now) }
+    {
+        self.all().own(alloc)
+    }
+
+    fn all(&self) -> ColumnsLeft<'a>
+        ensures { result ≡ self.now }
+    {
+        let Ok((count, rest)) = number16(self.bytes, TokenFault::Cut) else {
+            unreachable!();
+        };
+        ColumnsLeft::new(count as u8, rest)
+    }
+}
+
+/// The columns of a result that are left, 1 to 16.
+#[derive(Debug, Drop)]
+pub struct ColumnsLeft<'a> {
+    count: u8,
+    bytes: &'a [u8],
+}
+
+impl<'a> Model for ColumnsLeft<'a> {
+    ghost use Rattle.std.specs.Prelude.{List};
+    ghost use Rattle.tds_token.specs.declared.columns.Column.{Column};
+
+    ghost Value = { List Column };
+
+    ghost use Rattle.tds_token.specs.Lent.{columns_left, AreColumnsLeft};
+
+    ghost view = { columns_left };
+
+    ghost invariant = { AreColumnsLeft };
+}
+
+impl<'a> ColumnsLeft<'a> {
     /// The columns at the front of these bytes.
-    pub(crate) fn new(count: u8, bytes: &'a [u8]) -> ColumnsRef<'a>
+    fn new(count: u8, bytes: &'a [u8]) -> ColumnsLeft<'a>
         requires whole { length (columns_of count bytes.now) ≡ count }
         requires least { 1 ≤ count }
         requires most { count ≤ 16 }
         ensures { result ≡ columns_of count bytes.now }
     {
-        ColumnsRef { count, bytes }
+        ColumnsLeft { count, bytes }
     }
 
     /// How many columns there are.
@@ -119,7 +182,7 @@ impl<'a> ColumnsRef<'a> {
     }
 
     /// The first column and the others, if there are any.
-    pub fn split_first(&self) -> (ColumnRef<'a>, Option<ColumnsRef<'a>>)
+    pub fn split_first(&self) -> (ColumnRef<'a>, Option<ColumnsLeft<'a>>)
         ensures { self.now ≡ column_of result.0 ∷ others_of result.1 }
     {
         let Ok((first, rest)) = column(self.bytes) else {
@@ -129,7 +192,7 @@ impl<'a> ColumnsRef<'a> {
         if count == 0 {
             return (first, None);
         }
-        (first, Some(ColumnsRef::new(count, rest)))
+        (first, Some(ColumnsLeft::new(count, rest)))
     }
 
     /// The same columns, in memory of their own.

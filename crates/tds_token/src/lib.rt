@@ -20,7 +20,7 @@ mod token;
 mod tokens;
 mod writing;
 
-pub use columns::{Column, ColumnList, ColumnRef, Columns, ColumnsRef};
+pub use columns::{Column, ColumnList, ColumnRef, Columns, ColumnsLeft, ColumnsRef};
 pub use env_change::EnvChange;
 pub use fault::TokenFault;
 pub use message::{Message, MessageRef};

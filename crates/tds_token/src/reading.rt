@@ -14,7 +14,9 @@ use crate::columns::Columns;
 use crate::done_status::{ALL, ATTENTION, MORE};
 use crate::fault::TokenFault;
 use crate::reading::env_changes::env_change;
-use crate::reading::fields::{byte, int, number16, number64};
+pub(crate) use crate::reading::fields::number16;
+use crate::reading::fields::{byte, int, number64};
+pub(crate) use crate::reading::messages::fields_inside;
 use crate::reading::messages::message;
 pub(crate) use crate::reading::tables::column;
 use crate::reading::tables::{column_list, row};
@@ -51,6 +53,7 @@ fn done(bytes: &[u8]) -> Result<(TokenRef<'_>, &[u8]), TokenFault>
 
 /// The token with this token byte.
 #[tactic(auto, unfolding(crate::specs::Reading::token_behind))]
+#[inline(always)]
 fn token_of_kind(
     columns: Columns,
     kind: u8,
@@ -93,6 +96,7 @@ fn token_of_kind(
 
 /// The token at the front, and the bytes after it.
 #[tactic(auto, unfolding(crate::specs::Reading::token_at))]
+#[inline(always)]
 pub(crate) fn token(columns: Columns, bytes: &[u8]) -> Result<(TokenRef<'_>, &[u8]), TokenFault>
     ensures { Gives (λ x. (token_of x.0, x.1.now)) result (token_at columns bytes.now) }
 {

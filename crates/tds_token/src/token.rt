@@ -6,6 +6,7 @@ use crate::env_change::EnvChange;
 use crate::message::{Message, MessageRef};
 use crate::row::{Row, RowRef};
 use std::alloc::{AllocError, Global};
+use std::mem::size_of;
 
 /// A token (MS-TDS 2.2.7), in memory of its own.
 #[derive(Debug, Drop)]
@@ -45,6 +46,9 @@ pub enum TokenRef<'a> {
         rows: u64,
     },
 }
+
+/// What a walk over tokens moves for each of them.
+const _: () = prove!(size_of::<TokenRef<'static>>() == 24);
 
 impl<'a> TokenRef<'a> {
     /// Whether it is an ENVCHANGE.

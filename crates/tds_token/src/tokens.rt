@@ -62,6 +62,7 @@ impl<'a> Tokens<'a> {
 
     /// The next token, or the fault where none is spelled. None at the end of the data, and behind
     /// a fault.
+    #[inline(always)]
     pub fn next(&mut self) -> Option<Result<TokenRef<'a>, TokenFault>>
         // What is read is spelled by the front that is gone.
         ensures found { (t : TokenRef) → result ≡ Some (Ok t)
@@ -110,6 +111,7 @@ impl<'a> Tokens<'a> {
     }
 
     #[tactic(auto, unfolding(crate::specs::Cursor::step))]
+    #[inline(always)]
     fn advance(&mut self) -> Option<Result<TokenRef<'a>, TokenFault>>
         ensures exact { (answer_of result, self.new) ≡ step self.old }
         ensures known { AreColumns self.old.columns }

@@ -98,6 +98,7 @@ fn env_change_inside(inside: &[u8]) -> Result<EnvChange, TokenFault>
 }
 
 #[tactic(auto, unfolding(crate::specs::Reading::env_at))]
+#[inline(always)]
 pub(crate) fn env_change(bytes: &[u8]) -> Result<(EnvChange, &[u8]), TokenFault>
     ensures { Gives (λ x. (x.0, x.1.now)) result (env_at bytes.now) }
 {

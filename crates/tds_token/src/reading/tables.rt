@@ -11,6 +11,7 @@ use crate::row::RowRef;
 
 /// A column.
 #[tactic(auto, unfolding(crate::specs::Reading::column_at))]
+#[inline(always)]
 pub(crate) fn column(bytes: &[u8]) -> Result<(ColumnRef<'_>, &[u8]), TokenFault>
     ensures { Gives (λ x. (column_of x.0, x.1.now)) result (column_at bytes.now) }
 {
@@ -36,6 +37,7 @@ pub(crate) fn column(bytes: &[u8]) -> Result<(ColumnRef<'_>, &[u8]), TokenFault>
 }
 
 /// The bytes behind a column, which must be right.
+#[inline(always)]
 fn skip_column(bytes: &[u8]) -> Result<&[u8], TokenFault>
     ensures { Gives (λ x. x.now) result (after_of (column_at bytes.now)) }
 {
@@ -44,6 +46,7 @@ fn skip_column(bytes: &[u8]) -> Result<&[u8], TokenFault>
 }
 
 /// The bytes behind so many columns, which must be right.
+#[inline(always)]
 fn skip_columns(count: u8, bytes: &[u8]) -> Result<&[u8], TokenFault>
     ensures { Gives (λ x. x.now) result (after_of (columns_at count bytes.now)) }
 {
@@ -55,6 +58,7 @@ fn skip_columns(count: u8, bytes: &[u8]) -> Result<&[u8], TokenFault>
 }
 
 #[tactic(auto, unfolding(crate::specs::Reading::column_list_at))]
+#[inline(always)]
 pub(crate) fn column_list(bytes: &[u8]) -> Result<(ColumnsRef<'_>, &[u8]), TokenFault>
     ensures { Gives (λ x. (x.0, x.1.now)) result (column_list_at bytes.now) }
 {
@@ -64,7 +68,7 @@ pub(crate) fn column_list(bytes: &[u8]) -> Result<(ColumnsRef<'_>, &[u8]), Token
     }
     let count = count as u8;
     let after = skip_columns(count, rest)?;
-    Ok((ColumnsRef::new(count, rest), after))
+    Ok((ColumnsRef::new(bytes), after))
 }
 
 /// A row of `count` values.

@@ -2,7 +2,7 @@ use Rattle.std.proofs.Common.{sym, ◌∙◌}
 use Rattle.tds_token.specs.Layout.{column_of}
 use Rattle.tds_token.specs.Reading.{column_at}
 use Rattle.tds_token.proofs.Skipping.{faulty, front_whole, front_split, others_count, front_alone}
-use Rattle.tds_token.proofs.columns.ColumnsRef.split_first.Goals as goal
+use Rattle.tds_token.proofs.columns.ColumnsLeft.split_first.Goals as goal
 
 pub unreachable-requires : goal.unreachable-requires
 unreachable-requires c =
