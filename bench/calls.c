@@ -64,15 +64,21 @@ static struct counted hear(const uint8_t *bytes, size_t length, uint16_t size) {
     return counted;
 }
 
+#define ROOM 64
+static struct tds_token read_tokens[ROOM];
+
+/* Reads a packet's tokens, as many a call as there is room for. */
 static uint8_t count_tokens(const uint8_t *data, size_t length, uint8_t columns, struct counted *counted) {
     struct tds_cursor cursor = {0, columns};
-    struct tds_token token;
+    size_t count;
     uint8_t answer;
-    while ((answer = tds_token_next(data, length, &cursor, &token)) == TDS_OK) {
-        counted->tokens += 1;
-        if (token.kind == TDS_ROW) counted->rows += 1;
-        else if (token.kind == TDS_DONE) counted->sum += token.value;
-    }
+    do {
+        answer = tds_tokens_next(data, length, &cursor, read_tokens, ROOM, &count);
+        counted->tokens += count;
+        for (const struct tds_token *token = read_tokens; token < read_tokens + count; token++)
+            if (token->kind == TDS_ROW) counted->rows += 1;
+            else if (token->kind == TDS_DONE) counted->sum += token->value;
+    } while (answer == TDS_OK);
     if (answer != TDS_END) stop("token", answer);
     return cursor.columns;
 }
@@ -89,20 +95,25 @@ static struct counted tokens(const uint8_t *bytes, size_t length, uint16_t size)
     return counted;
 }
 
+static void sum_row(const uint8_t *data, const struct tds_token *row, struct counted *counted) {
+    counted->rows += 1;
+    for (size_t i = 0; i < row->count; i++) {
+        uint32_t value;
+        memcpy(&value, data + row->start + 1 + 4 * i, 4);
+        counted->sum += value;
+    }
+}
+
 static void sum_values(const uint8_t *data, size_t length, uint8_t columns, struct counted *counted) {
     struct tds_cursor cursor = {0, columns};
-    struct tds_token token;
+    size_t count;
     uint8_t answer;
-    while ((answer = tds_token_next(data, length, &cursor, &token)) == TDS_OK) {
-        counted->tokens += 1;
-        if (token.kind != TDS_ROW) continue;
-        counted->rows += 1;
-        for (uint8_t i = 0; i < token.count; i++) {
-            uint32_t value;
-            memcpy(&value, data + token.start + 1 + 4u * i, 4);
-            counted->sum += value;
-        }
-    }
+    do {
+        answer = tds_tokens_next(data, length, &cursor, read_tokens, ROOM, &count);
+        counted->tokens += count;
+        for (const struct tds_token *token = read_tokens; token < read_tokens + count; token++)
+            if (token->kind == TDS_ROW) sum_row(data, token, counted);
+    } while (answer == TDS_OK);
     if (answer != TDS_END) stop("token", answer);
 }
 

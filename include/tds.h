@@ -210,6 +210,7 @@ struct tds_cursor {
 struct tds_token {
     uint64_t value;   /* DONE: its rows. ENVCHANGE: the descriptor */
     size_t start;
+    size_t count;     /* COLMETADATA: its columns. ROW: its values */
     int32_t number;   /* INFO, ERROR: the number. RETURNSTATUS: the value */
     int32_t line;     /* INFO, ERROR */
     uint16_t status;  /* DONE */
@@ -218,13 +219,15 @@ struct tds_token {
     uint8_t state;    /* INFO, ERROR */
     uint8_t severity; /* INFO, ERROR: the class */
     uint8_t change;   /* ENVCHANGE: TDS_BEGIN to TDS_RESET_DONE */
-    uint8_t count;    /* COLMETADATA: its columns. ROW: its values */
 };
 
 /* Reads the token at the cursor of these data, and goes on behind it. TDS_OK: it is in `token`.
  * TDS_END: the data are at their end. 51 to 57: they spell no token. Takes no memory. */
 uint8_t tds_token_next(const uint8_t *data, size_t length, struct tds_cursor *cursor,
                        struct tds_token *token);
+
+uint8_t tds_tokens_next(const uint8_t *data, size_t length, struct tds_cursor *cursor,
+                        struct tds_token *tokens, size_t room, size_t *count);
 
 #ifdef __cplusplus
 }
