@@ -1,5 +1,5 @@
 -- How a login is read: what each byte does, and what bytes do, one after another.
-use Rattle.std.specs.Prelude.{◌≡◌, ℕ, zero, suc, ◌+◌, ◌-◌, ◌*◌, ◌%◌, ◌==◌, ◌&&◌, ◌||◌, not, nat_lt, min, Bool, true, false, List, [], ◌∷◌, ◌++◌, take, Option, Some, None, Result, Ok, Err, if◌then◌else◌, slice_set}
+use Rattle.std.specs.Prelude.{◌≡◌, ℕ, zero, suc, ◌+◌, ◌-◌, ◌*◌, ◌%◌, ◌==◌, ◌&&◌, ◌||◌, not, nat_lt, min, Bool, true, false, List, [], ◌∷◌, ◌++◌, take, Option, Some, None, Result, Ok, Err, if◌then◌else◌, slice_set, replicate}
 use Rattle.tds_login.specs.declared.answer.LoginAnswer.{LoginAnswer}
 use Rattle.tds_login.specs.declared.answer.LoginAnswer.TheVariants.{Prepare, LetIn, Refuse}
 use Rattle.tds_login.specs.declared.login.Due.{Due}
@@ -12,6 +12,19 @@ use Rattle.tds_login.specs.declared.login.Message.TheVariants.{PreLogin, Login7}
 use Rattle.tds_login.specs.declared.login.Stage.{Stage}
 use Rattle.tds_login.specs.declared.login.Stage.TheVariants.{Start, Prepared, Broken}
 use Rattle.tds_login.specs.Asked.{is_demanding, login_answer_of}
+
+-- a login as a connection begins
+abbrev pub new_login : Login
+new_login = record {
+  stage = Start;
+  message = None;
+  due = due.Type;
+  ends = false;
+  high = 0;
+  missing = 0;
+  count = 0;
+  kept = replicate 256 0;
+}
 
 -- the login then, and what the byte brings: nothing, an answer, or a fault
 pub record Step : Type 0 where

@@ -1,6 +1,6 @@
 //! PRELOGIN and LOGIN7 as they come.
 ghost use Rattle.std.specs.Prelude.{◌≡◌, ◌⊎◌, ◌<◌, ◌≤◌, [], ◌∷◌, length, take, None, Some, IfOk, IfErr, OnErr};
-ghost use Rattle.tds_login.specs.Reading.{step, stepped, behind, counted, with_data, with_message, with_length, skipped, message_at, message_begun, is_wrong_length, message_done, kept_of, fault_behind, broken_by, fault_of, after, answers_to, demands_of, between};
+ghost use Rattle.tds_login.specs.Reading.{new_login, step, stepped, behind, counted, with_data, with_message, with_length, skipped, message_at, message_begun, is_wrong_length, message_done, kept_of, fault_behind, broken_by, fault_of, after, answers_to, demands_of, between};
 
 use crate::answer::LoginAnswer;
 use crate::asked::{demands_encryption, login_answer};
@@ -98,7 +98,9 @@ type Brought = Result<Option<LoginAnswer>, LoginFault>;
 
 impl Login {
     /// A login as a connection begins.
-    pub fn new() -> Login {
+    pub fn new() -> Login
+        ensures { result ≡ new_login }
+    {
         Login {
             stage: Stage::Start,
             message: None,
