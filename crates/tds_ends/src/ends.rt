@@ -117,6 +117,7 @@ impl<E: Engine + Drop> ServerEnd<E> {
         ensures answer { IfOk result (λ answer. answer ≡ (worked self.old.server).answer) }
         ensures packet { OnOk result
             (out.new.items ≡ out.old.items ++ (worked self.old.server).packet) }
+        ensures short { OnOk result (length (worked self.old.server).packet ≤ 512) }
         // At want of memory nothing changes. It comes only where a step is to be done.
         ensures refused { OnErr result
             ((self.new.server ≡ self.old.server) × (out.new.items ≡ out.old.items)) }

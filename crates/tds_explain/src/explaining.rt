@@ -1,13 +1,11 @@
 //! What is wrong with a schedule file, in words, and where.
 
 use crate::event::WrongEvent;
-use crate::json::put_json_fault;
-use crate::outside::{Outline, put_doubled, put_limits, put_outside_faults};
-use crate::page::Page;
-use crate::places::parts_of;
+use crate::outside::{put_limits, put_outside_faults};
 use crate::refusals::put_refusals;
 use serde_json::Value;
 use std::alloc::{AllocError, Global};
+use tds_json::{Outline, Page, parts_of, put_doubled, put_json_fault};
 use tds_play::{Report, ScheduleFault, read_schedule};
 
 /// Which events of a schedule are refused, by which rule, and which keys stand twice in its file: a

@@ -4,10 +4,7 @@
 
 mod event;
 mod explaining;
-mod json;
 mod outside;
-mod page;
-mod places;
 mod refusals;
 
 pub use explaining::{what_is_refused, why_unplayed};

@@ -1,10 +1,8 @@
 //! Events that don't apply.
 
-use crate::outside::Outline;
-use crate::page::Page;
-use crate::places::Place;
 use std::alloc::{AllocError, Global};
 use std::fmt::Write;
+use tds_json::{Outline, Page, Place};
 use tds_play::{Outcome, Refusal, Report};
 
 /// The rule by which an event doesn't apply.

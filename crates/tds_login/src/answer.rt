@@ -1,4 +1,5 @@
 //! What a login is answered with (MS-TDS 2.2.6.5, 2.2.7.6, 2.2.7.9, 2.2.7.10, 2.2.7.14).
+ghost use Rattle.std.specs.Prelude.{◌+◌, ◌≤◌, length, vec_len};
 
 use crate::NoMemory;
 use byteorder::{BigEndian, ByteOrder, LittleEndian};
@@ -49,7 +50,9 @@ enum Layout {
 }
 
 /// Appends the packet of an answer.
-pub fn put_answer(alloc: Global, out: &mut Vec<u8>, answer: LoginAnswer) -> Result<(), NoMemory> {
+pub fn put_answer(alloc: Global, out: &mut Vec<u8>, answer: LoginAnswer) -> Result<(), NoMemory>
+    ensures short { vec_len out.new ≤ vec_len out.old + 4096 }
+{
     match answer {
         LoginAnswer::Prepare => put_packet(out, &PREPARED),
         LoginAnswer::LetIn(terms) => put_let_in(alloc, out, terms),
@@ -75,25 +78,34 @@ pub fn put_error(
     out: &mut Vec<u8>,
     number: u32,
     text: &[u8],
-) -> Result<(), NoMemory> {
+) -> Result<(), NoMemory>
+    ensures short { vec_len out.new ≤ vec_len out.old + 4096 }
+{
     put_error_as(alloc, out, Layout::Wide, number, text)
 }
 
 /// Appends an answer of DONE alone.
-pub fn put_done(alloc: Global, out: &mut Vec<u8>) -> Result<(), NoMemory> {
+pub fn put_done(alloc: Global, out: &mut Vec<u8>) -> Result<(), NoMemory>
+    ensures short { vec_len out.new ≤ vec_len out.old + 21 }
+{
     let mut data = Vec::new(alloc);
     put_done_token(&mut data, Layout::Wide, 0)?;
     put_packet(out, data.as_slice())
 }
 
 /// Appends a packet of an answer, the last of its message. Data that no packet holds are left out.
-fn put_packet(out: &mut Vec<u8>, data: &[u8]) -> Result<(), NoMemory> {
+fn put_packet(out: &mut Vec<u8>, data: &[u8]) -> Result<(), NoMemory>
+    ensures short { vec_len out.new ≤ vec_len out.old + 4096 }
+    ensures counted { vec_len out.new ≤ vec_len out.old + (8 + length «data».now) }
+{
     let data = &data[..data.len().min(4_088)];
     put_sent(out, Kind::Answer, Status::of_answer(true), 1, data)
 }
 
 /// Appends the answer to a login that is let in: database, collation, LOGINACK, packet size, DONE.
-fn put_let_in(alloc: Global, out: &mut Vec<u8>, terms: Terms) -> Result<(), NoMemory> {
+fn put_let_in(alloc: Global, out: &mut Vec<u8>, terms: Terms) -> Result<(), NoMemory>
+    ensures short { vec_len out.new ≤ vec_len out.old + 4096 }
+{
     let mut data = Vec::new(alloc);
     put_env_change(alloc, &mut data, 1, b"main", b"master")?;
     put_counted(&mut data, 0xe3, &[7, 5, 0x09, 0x04, 0xd0, 0, 0x34, 0])?;
@@ -123,7 +135,9 @@ fn put_error_as(
     layout: Layout,
     number: u32,
     text: &[u8],
-) -> Result<(), NoMemory> {
+) -> Result<(), NoMemory>
+    ensures short { vec_len out.new ≤ vec_len out.old + 4096 }
+{
     let text = &text[..text.len().min(200)];
     let mut body = Vec::new(alloc);
     put_u32(&mut body, number)?;
@@ -158,7 +172,9 @@ fn put_env_change(
 }
 
 /// Appends DONE (MS-TDS 2.2.7.6) with this status.
-fn put_done_token(data: &mut Vec<u8>, layout: Layout, status: u8) -> Result<(), NoMemory> {
+fn put_done_token(data: &mut Vec<u8>, layout: Layout, status: u8) -> Result<(), NoMemory>
+    ensures short { vec_len «data».new ≤ vec_len «data».old + 13 }
+{
     data.extend_from_slice(&[0xfd, status, 0, 0, 0])?;
     match layout {
         Layout::Wide => data.extend_from_slice(&[0; 8]),

@@ -10,11 +10,13 @@ mod answer;
 mod asked;
 mod asking;
 mod batch;
+mod laws;
 mod login;
 
 pub use answer::{LoginAnswer, Refusal, Terms, put_answer, put_done, put_error};
 pub use asking::{is_let_in, put_login};
 pub use batch::{is_own_setting, without_line_ends};
+pub use laws::cuts_do_not_matter;
 pub use login::{Login, LoginFault, LoginFed};
 
 /// The answer of a growth that was refused.

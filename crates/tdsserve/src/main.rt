@@ -1,18 +1,15 @@
 //! A server of the batch language for TDS drivers, over TCP: one thread, many connections.
 #![tactic(auto)]
 
-mod connection;
-mod front;
-mod log;
-mod peer;
-mod serving;
 mod words;
 
-use log::Log;
-use serving::serve;
+use std::alloc::Global;
 use std::env;
+use std::fs;
 use std::process::ExitCode;
+use tds_serving::{Log, Script, ScriptFault, read_script, serve};
 use words::{Asked, read_words};
+
 
 fn main(rt: HostRuntime) -> ExitCode {
     let alloc = rt.alloc();
@@ -27,14 +24,42 @@ fn main(rt: HostRuntime) -> ExitCode {
             return ExitCode::from(2);
         }
     };
-    let Asked { manner, is_logged } = asked;
+    let Asked {
+        manner,
+        script,
+        is_logged,
+    } = asked;
+    let script = match given_script(&rt, alloc, script) {
+        Ok(script) => script,
+        Err(error) => {
+            let _ = eprintln!(rt; "{error}");
+            return ExitCode::from(2);
+        }
+    };
     let _ = eprintln!(rt; "serving on {}", manner.address);
-    match serve(&rt, alloc, manner, Log::new(rt.stderr(), is_logged)) {
+    match serve(&rt, alloc, manner, script, Log::new(rt.stderr(), is_logged)) {
         Ok(()) => ExitCode::from(0),
         Err(error) => {
             let _ = eprintln!(rt; "error: {error}");
             ExitCode::from(1)
         }
+    }
+}
+
+/// The script in the file of this name, if there is one.
+fn given_script(
+    rt: &HostRuntime,
+    alloc: Global,
+    path: Option<String>,
+) -> Result<Script, ScriptFault> {
+    let Some(path) = path else {
+        return Ok(Script::none(alloc));
+    };
+    match fs::read(rt, path.as_str()) {
+        Ok(bytes) => read_script(alloc, path.as_str(), bytes.as_slice()),
+        Err(error) => Err(ScriptFault::Wrong(
+            format!(in alloc; "{path}: {error}")?,
+        )),
     }
 }
 

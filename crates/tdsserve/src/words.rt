@@ -1,15 +1,17 @@
 //! The words of the command line.
 
-use crate::serving::Manner;
 use clap::{Arg, ArgAction, Command, Error};
 use std::alloc::{AllocError, Global};
 use std::net::SocketAddr;
+use tds_serving::Manner;
 use tds_session::OnAttention;
 
 /// What the words ask for.
 #[derive(Drop)]
 pub struct Asked {
     pub manner: Manner,
+    /// The file of the script, if there is one.
+    pub script: Option<String>,
     /// Whether each connection and each request has a line on standard error.
     pub is_logged: bool,
 }
@@ -63,7 +65,12 @@ pub fn read_words(alloc: Global, words: &[String]) -> Result<Asked, WordsFault> 
     } else {
         OnAttention::Keep
     };
+    let script = match matches.get_str("script") {
+        Some(path) => Some(String::from_str(alloc, path)?),
+        None => None,
+    };
     Ok(Asked {
+        script,
         manner: Manner {
             address,
             on_attention,
@@ -77,7 +84,11 @@ fn parser<'a>(alloc: Global) -> Result<Command<'a>, AllocError> {
     let address = Arg::new(alloc, "ADDRESS").required(true);
     let pace = Arg::new(alloc, "pace")
         .long("pace")
-        .help("MILLISECONDS between two steps of an answer, so that a cancel can meet it")
+        .help("MILLISECONDS between two turns of all connections: a step of an answer each, so that a cancel can meet it")
+        .action(ArgAction::Set);
+    let script = Arg::new(alloc, "script")
+        .long("script")
+        .help("FILE that says what is done with answers (docs/SCRIPTS.md)")
         .action(ArgAction::Set);
     Command::new(alloc, "tdsserve")
         .version("unreleased")
@@ -85,6 +96,7 @@ fn parser<'a>(alloc: Global) -> Result<Command<'a>, AllocError> {
         .after_help("Login is not part of what is proved: every name and password is let in.")
         .arg(address.help("where to listen, as 127.0.0.1:1433"))?
         .arg(pace)?
+        .arg(script)?
         .arg(flag(
             alloc,
             "rollback-on-attention",

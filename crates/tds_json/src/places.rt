@@ -7,7 +7,7 @@ use std::fmt::Write;
 /// A place in a file: so many bytes stand before it. Line and column count from 1, and a column is a
 /// character.
 #[derive(Clone, Copy)]
-pub(crate) struct Place {
+pub struct Place {
     offset: usize,
     line: usize,
     column: usize,
@@ -15,7 +15,7 @@ pub(crate) struct Place {
 
 impl Place {
     /// Where a file begins.
-    pub(crate) fn start() -> Place {
+    pub fn start() -> Place {
         Place {
             offset: 0,
             line: 1,
@@ -24,7 +24,7 @@ impl Place {
     }
 
     /// Goes on to where so many bytes stand before it.
-    pub(crate) fn go_to(&mut self, bytes: &[u8], offset: usize) {
+    pub fn go_to(&mut self, bytes: &[u8], offset: usize) {
         for byte in bytes.get(self.offset..offset).unwrap_or(&[]) {
             if *byte == b'\n' {
                 self.line = self.line.saturating_add(1);
@@ -37,13 +37,13 @@ impl Place {
     }
 
     /// Appends the front of a line about it.
-    pub(crate) fn put(&self, text: &mut String, name: &str) -> Result<(), AllocError> {
+    pub fn put(&self, text: &mut String, name: &str) -> Result<(), AllocError> {
         write!(text, "{name}:{}:{}: ", self.line, self.column)
     }
 }
 
 /// Appends the front of a line about what stands behind so many bytes.
-pub(crate) fn put_place(
+pub fn put_place(
     text: &mut String,
     page: Page<'_>,
     offset: usize,
@@ -116,7 +116,7 @@ impl Scan {
 
 /// Where the parts begin of the array or object that begins behind so many bytes: the items of an
 /// array, the keys and values of an object in turn. Of another value there are none.
-pub(crate) fn parts_of(
+pub fn parts_of(
     alloc: Global,
     bytes: &[u8],
     offset: usize,

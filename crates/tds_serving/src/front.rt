@@ -1,6 +1,6 @@
 //! What stands between a logged-in peer and the server's end: it hands on each packet, a batch without
 //! the line ends behind its text, and answers a setting that a driver sends by itself.
-ghost use Rattle.std.specs.Prelude.{◌≡◌, ◌≤◌, length, IfOk};
+ghost use Rattle.std.specs.Prelude.{◌≡◌, ◌+◌, ◌≤◌, length, vec_len, IfOk};
 ghost use Rattle.tds_packet.specs.declared.kind.Direction.TheVariants.{ToServer};
 
 use std::alloc::{AllocError, Global};
@@ -8,6 +8,9 @@ use tds_ends::{ServerEnd, ServerStop};
 use tds_login::{is_own_setting, put_done, without_line_ends};
 use tds_packet::{Direction, Kind, PacketReader, PacketSize, Status, put_sent};
 use tds_session::ScriptEngine;
+
+/// The most bytes that answer a packet at once.
+const AT_ONCE: usize = 512;
 
 /// What came of bytes.
 #[derive(Clone, Copy, Debug, PartialEq, Eq)]
@@ -20,6 +23,8 @@ pub enum Took {
     Transaction,
     /// An attention. It is acknowledged.
     Attention,
+    /// An attention that is to wait. It is kept, and nothing behind it is taken.
+    Held,
     /// A setting of the driver's own. It is answered.
     Setting,
     /// The server's end does not take it, and is broken.
@@ -32,6 +37,8 @@ pub struct Front {
     reader: PacketReader,
     /// The packet as it is handed on.
     packet: Vec<u8>,
+    /// What answers it at once.
+    reply: Vec<u8>,
     /// Whether a message has begun and not ended.
     inside: bool,
     ghost reads: { reader.direction ≡ ToServer },
@@ -43,20 +50,24 @@ impl Front {
         Ok(Front {
             reader: PacketReader::new(alloc, size, Direction::ToServer)?,
             packet: Vec::with_capacity(alloc, usize::from(size.get()))?,
+            reply: Vec::new(alloc),
             inside: false,
         })
     }
 
     /// Takes bytes up to the end of one packet, and answers how many. What is answered at once is
-    /// appended to `out`.
+    /// appended to `out`. Where attentions are to wait (`waits`), one that has come is kept, and taken by
+    /// the first call in which they aren't.
     pub fn take(
         &mut self,
         alloc: Global,
         end: &mut ServerEnd<ScriptEngine>,
+        waits: bool,
         piece: &[u8],
         out: &mut Vec<u8>,
     ) -> Result<(usize, Took), AllocError>
         ensures within { IfOk result (λ x. x.0 ≤ length piece.now) }
+        ensures adds { vec_len out.new ≤ vec_len out.old + 512 }
     {
         let Ok(count) = self.reader.feed(piece) else {
             return Ok((0, Took::Fault));
@@ -65,34 +76,51 @@ impl Front {
             return Ok((count, Took::Part));
         };
         let (kind, status) = (packet.header.kind, packet.header.status);
+        if waits && kind == Kind::Attention {
+            return Ok((count, Took::Held));
+        }
         let is_whole = !self.inside && status.ends();
         self.inside = !status.ends();
-        if is_whole && kind == Kind::Batch && is_plain(status) && is_own_setting(packet.data) {
-            self.reader.done();
-            put_done(alloc, out)?;
-            return Ok((count, Took::Setting));
-        }
         let mut length = packet.data.len();
         if kind == Kind::Batch && status.ends() {
             length = without_line_ends(packet.data, is_whole);
         }
-        self.packet.clear();
         let data = &packet.data[..length];
-        put_sent(
-            &mut self.packet,
-            kind,
-            status,
-            packet.header.packet_id,
-            data,
-        )?;
+        if is_whole && kind == Kind::Batch && is_plain(status) && is_own_setting(data) {
+            self.reader.done();
+            put_done(alloc, out)?;
+            return Ok((count, Took::Setting));
+        }
+        self.packet.clear();
+        let id = packet.header.packet_id;
+        put_sent(&mut self.packet, kind, status, id, data)?;
         self.reader.done();
-        let took = match end.serve(self.packet.as_slice(), out).stop {
-            None if status.ends() && !status.is_ignored() => took_of(kind),
-            None => Took::Part,
-            Some(ServerStop::NoMemory) => return Err(AllocError),
-            Some(_) => Took::Fault,
-        };
-        Ok((count, took))
+        Ok((count, self.hand_on(end, kind, status, out)?))
+    }
+
+    /// Hands the packet on. What it is answered with at once has at most 512 bytes.
+    fn hand_on(
+        &mut self,
+        end: &mut ServerEnd<ScriptEngine>,
+        kind: Kind,
+        status: Status,
+        out: &mut Vec<u8>,
+    ) -> Result<Took, AllocError>
+        ensures reads { self.new.reader ≡ self.old.reader }
+        ensures adds { vec_len out.new ≤ vec_len out.old + 512 }
+    {
+        self.reply.clear();
+        let stop = end.serve(self.packet.as_slice(), &mut self.reply).stop;
+        if self.reply.len() > AT_ONCE {
+            return Ok(Took::Fault);
+        }
+        out.extend_from_slice(self.reply.as_slice())?;
+        match stop {
+            None if status.ends() && !status.is_ignored() => Ok(took_of(kind)),
+            None => Ok(Took::Part),
+            Some(ServerStop::NoMemory) => Err(AllocError),
+            Some(_) => Ok(Took::Fault),
+        }
     }
 }
 

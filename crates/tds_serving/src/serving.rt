@@ -2,7 +2,7 @@
 
 use crate::connection::{Connection, Then};
 use crate::log::Log;
-use crate::peer::Note;
+use crate::script::Script;
 use mio::net::TcpListener;
 use mio::{Events, Interest, Poll, Token};
 use slab::Slab;
@@ -20,6 +20,9 @@ const LISTENER: Token = Token(usize::MAX);
 /// The most connections at a time.
 const MOST: usize = 1024;
 
+/// The most reports of the system that are taken in a round.
+pub const ROUND: usize = 256;
+
 /// How a server serves.
 #[derive(Clone, Copy, Debug)]
 pub struct Manner {
@@ -31,9 +34,11 @@ pub struct Manner {
 
 /// A server with all its connections.
 #[derive(Drop)]
-struct House<W: Write + Drop> {
+pub struct House<W: Write + Drop> {
     alloc: Global,
     manner: Manner,
+    script: Script,
+    start: Instant,
     poll: Poll,
     listener: TcpListener,
     connections: Slab<Connection>,
@@ -41,6 +46,8 @@ struct House<W: Write + Drop> {
     waiting: Vec<usize>,
     /// How many connections have come.
     opened: u64,
+    /// The second in which it was last looked who is late.
+    swept: u64,
     log: Log<W>,
 }
 
@@ -49,53 +56,89 @@ pub fn serve<R: Net + Clock, W: Write + Drop>(
     rt: &R,
     alloc: Global,
     manner: Manner,
+    script: Script,
     log: Log<W>,
 ) -> io::Result<()> {
-    let start = Instant::now(rt)?;
-    let poll = Poll::new(rt)?;
-    let mut listener = TcpListener::bind(rt, manner.address)?;
-    poll.registry()
-        .register(&mut listener, LISTENER, Interest::READABLE)?;
-    let mut house = House {
-        alloc,
-        manner,
-        poll,
-        listener,
-        connections: Slab::new(alloc),
-        waiting: Vec::new(alloc),
-        opened: 0,
-        log,
-    };
-    let mut events = Events::with_capacity(alloc, 256)?;
-    let mut swept = 0;
+    let mut house = House::new(rt, alloc, manner, script, log)?;
+    let mut events = Events::with_capacity(alloc, ROUND)?;
     for _ in 0..u64::MAX {
-        let timeout = Duration::from_millis(house.timeout());
-        house.poll.poll(&mut events, Some(timeout))?;
-        let now = start.elapsed(rt)?.as_secs();
-        for event in events.iter() {
-            let token = event.token();
-            if token == LISTENER {
-                house.accept(now)?;
-            } else {
-                let readable = event.is_readable() || event.is_read_closed() || event.is_error();
-                house.reported(token.0, readable)?;
-            }
-        }
-        house.give_turns(now)?;
-        if now > swept {
-            swept = now;
-            house.accept(now)?;
-            house.cut_late(now);
-        }
+        house.round(rt, &mut events, 1000)?;
     }
     Ok(())
 }
 
 impl<W: Write + Drop> House<W> {
+    /// A server that listens and has no connection yet.
+    pub fn new<R: Net + Clock>(
+        rt: &R,
+        alloc: Global,
+        manner: Manner,
+        script: Script,
+        log: Log<W>,
+    ) -> io::Result<House<W>> {
+        let start = Instant::now(rt)?;
+        let poll = Poll::new(rt)?;
+        let mut listener = TcpListener::bind(rt, manner.address)?;
+        poll.registry()
+            .register(&mut listener, LISTENER, Interest::READABLE)?;
+        Ok(House {
+            alloc,
+            manner,
+            script,
+            start,
+            poll,
+            listener,
+            connections: Slab::new(alloc),
+            waiting: Vec::new(alloc),
+            opened: 0,
+            swept: 0,
+            log,
+        })
+    }
+
+    /// Where it listens.
+    pub fn local_addr(&self) -> io::Result<SocketAddr> {
+        self.listener.local_addr()
+    }
+
+    /// How many connections it has.
+    pub fn count(&self) -> usize {
+        self.connections.len()
+    }
+
+    /// One round: it waits for the system so many milliseconds at most, and not at all where a connection
+    /// has more to do; then each connection that has something to do has a turn.
+    pub fn round<R: Clock>(
+        &mut self,
+        rt: &R,
+        events: &mut Events<Global>,
+        longest: u64,
+    ) -> io::Result<()> {
+        let timeout = Duration::from_millis(self.timeout(longest));
+        self.poll.poll(events, Some(timeout))?;
+        let now = self.start.elapsed(rt)?.as_secs();
+        for event in events.iter() {
+            let token = event.token();
+            if token == LISTENER {
+                self.accept(now)?;
+            } else {
+                let readable = event.is_readable() || event.is_read_closed() || event.is_error();
+                self.reported(token.0, readable)?;
+            }
+        }
+        self.give_turns(now)?;
+        if now > self.swept {
+            self.swept = now;
+            self.accept(now)?;
+            self.cut_late(now);
+        }
+        Ok(())
+    }
+
     /// How many milliseconds to wait for the system: none at all where a connection has more to do.
-    fn timeout(&self) -> u64 {
+    fn timeout(&self, longest: u64) -> u64 {
         if self.waiting.is_empty() {
-            1000
+            longest
         } else {
             self.manner.pace
         }
@@ -131,7 +174,8 @@ impl<W: Write + Drop> House<W> {
         connection.listed = false;
         let number = connection.number;
         let mut notes = Vec::new(self.alloc);
-        let then = connection.turn(self.manner.pace > 0, now, &mut notes);
+        let paced = self.manner.pace > 0;
+        let then = connection.turn(&self.script, paced, now, &mut notes);
         for note in notes.iter() {
             self.log.noted(number, *note);
         }
@@ -139,6 +183,7 @@ impl<W: Write + Drop> House<W> {
             Ok(Then::Wait) => {}
             Ok(Then::Again) => self.reported(key, false)?,
             Ok(Then::Close) => self.close(key, "its end"),
+            Ok(Then::Cut) => self.close(key, "its script cuts it"),
             Err(_) => self.close(key, "its link failed"),
         }
         Ok(())
@@ -181,10 +226,7 @@ impl<W: Write + Drop> House<W> {
             self.opened = self.opened.saturating_add(1);
             let number = self.opened;
             let on_attention = self.manner.on_attention;
-            let Ok(connection) = Connection::new(self.alloc, stream, number, on_attention, now)
-            else {
-                continue;
-            };
+            let connection = Connection::new(self.alloc, stream, number, on_attention, now);
             if self.connections.insert(connection).is_err() {
                 return Ok(());
             }

@@ -10,7 +10,7 @@ use std::alloc::{AllocError, Global};
 use std::fmt::Write;
 
 /// Appends where the bytes stop being JSON, and why that may be.
-pub(crate) fn put_json_fault(
+pub fn put_json_fault(
     alloc: Global,
     text: &mut String,
     page: Page<'_>,

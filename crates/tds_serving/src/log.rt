@@ -51,6 +51,12 @@ impl<W: Write + Drop> Log<W> {
                 let name = name_of(took);
                 writeln!(self.writer, "connection {number} {name}")
             }
+            Note::Holds(steps) => {
+                writeln!(
+                    self.writer,
+                    "connection {number} is held behind {steps} steps"
+                )
+            }
             Note::Rubbish => writeln!(
                 self.writer,
                 "connection {number} sent what isn't spoken here"
@@ -72,6 +78,7 @@ fn name_of<'a>(took: Took) -> &'a str {
         Took::Batch => "batch",
         Took::Transaction => "transaction request",
         Took::Attention => "attention",
+        Took::Held => "attention that waits for the answer's end",
         Took::Setting => "setting of its driver",
         Took::Fault => "fault",
     }
