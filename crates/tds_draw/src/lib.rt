@@ -9,9 +9,13 @@ mod characters;
 mod drawing;
 mod flights;
 mod layout;
+mod plate;
 mod rows;
 mod scene;
+mod style;
+mod vector;
 mod wording;
 
 pub use characters::draw_text;
 pub use layout::Choice;
+pub use vector::draw_svg;

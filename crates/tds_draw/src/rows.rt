@@ -318,6 +318,7 @@ impl<'a> Drawing<'a> {
                 place: place_mark(outcome, moment, index),
                 client: client_mark(moment, self.row.settled, line),
                 server: self.server_mark(moment, line),
+                request: self.request,
                 is_rule: is_restart && is_last,
             };
             if moment.opens && index == 0 {

@@ -37,6 +37,8 @@ pub(crate) struct Line {
     pub(crate) place: PlaceMark,
     pub(crate) client: BarMark,
     pub(crate) server: BarMark,
+    /// The request of the bars, 0 for none.
+    pub(crate) request: u32,
     /// Whether a restart cuts across it.
     pub(crate) is_rule: bool,
 }
