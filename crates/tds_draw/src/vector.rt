@@ -1,17 +1,16 @@
 //! A scene painted as SVG, in pixels.
 
 use crate::drawing::Widths;
-use crate::layout::{Choice, lay_out};
-use crate::plate::{Plate, color_of};
+use crate::layout::{Arrangement, Choice, lay_out};
+use crate::marks::{color_of, put_escaped, put_text};
+use crate::plate::{Plate, width_of};
 use crate::scene::{BarMark, FlightEnd, Scene};
 use crate::style::STYLE;
 use std::alloc::{AllocError, Global};
 use std::fmt::Write;
 use tds_exchange::Exchange;
 
-/// How wide a picture is, and where its first row begins.
-const WIDTH: usize = 874;
-
+/// Where the first row begins.
 const TOP: usize = 34;
 
 /// What stands between two sheets, and how high a line is.
@@ -27,12 +26,18 @@ const WIDTHS: Widths = Widths {
 };
 
 /// A play as a sequence picture in SVG.
-pub fn draw_svg(alloc: Global, exchange: &Exchange, choice: Choice) -> Result<String, AllocError> {
-    let scene = lay_out(alloc, exchange, choice, WIDTHS)?;
+pub fn draw_svg(
+    alloc: Global,
+    exchange: &Exchange,
+    choice: Choice,
+    arrangement: Arrangement,
+) -> Result<String, AllocError> {
+    let scene = lay_out(alloc, exchange, choice, arrangement, WIDTHS)?;
+    let width = width_of(scene.width);
     let mut body = String::new(alloc);
     let mut bottom = TOP;
     for sheet in scene.sheets.iter() {
-        let plate = Plate::new(alloc, sheet, bottom)?;
+        let plate = Plate::new(alloc, sheet, bottom, width)?;
         plate.put(&mut body)?;
         bottom = plate.bottom().saturating_add(BETWEEN);
     }
@@ -42,18 +47,23 @@ pub fn draw_svg(alloc: Global, exchange: &Exchange, choice: Choice) -> Result<St
     }
     let bottom = put_legend(&mut body, &scene, bottom)?;
     let mut picture = String::new(alloc);
-    put_head(&mut picture, &scene, bottom.saturating_add(12))?;
+    put_head(&mut picture, &scene, width, bottom.saturating_add(12))?;
     picture.push_str(body.as_str())?;
     picture.push_str("</svg>\n")?;
     Ok(picture)
 }
 
-fn put_head(picture: &mut String, scene: &Scene, height: usize) -> Result<(), AllocError> {
+fn put_head(
+    picture: &mut String,
+    scene: &Scene,
+    width: usize,
+    height: usize,
+) -> Result<(), AllocError> {
     write!(
         picture,
-        "<svg xmlns=\"http://www.w3.org/2000/svg\" width=\"{WIDTH}\" height=\"{height}\" "
+        "<svg xmlns=\"http://www.w3.org/2000/svg\" width=\"{width}\" height=\"{height}\" "
     )?;
-    writeln!(picture, "viewBox=\"0 0 {WIDTH} {height}\" role=\"img\">")?;
+    writeln!(picture, "viewBox=\"0 0 {width} {height}\" role=\"img\">")?;
     picture.push_str("<title>")?;
     put_escaped(picture, scene.head.as_str())?;
     picture.push_str("</title>\n<style>")?;
@@ -66,7 +76,7 @@ fn put_head(picture: &mut String, scene: &Scene, height: usize) -> Result<(), Al
     }
     writeln!(
         picture,
-        "</defs>\n<rect width=\"{WIDTH}\" height=\"{height}\" class=\"bg\"/>"
+        "</defs>\n<rect width=\"{width}\" height=\"{height}\" class=\"bg\"/>"
     )?;
     put_text(picture, 12, 20, "muted", scene.head.as_str())
 }
@@ -74,12 +84,14 @@ fn put_head(picture: &mut String, scene: &Scene, height: usize) -> Result<(), Al
 /// Whether something has this colour; the legend always has its own.
 fn has_color(scene: &Scene, color: &str) -> bool {
     for sheet in scene.sheets.iter() {
-        if sheet
-            .lines
-            .iter()
-            .any(|line| color_of(line.request) == color)
-        {
-            return true;
+        for panel in sheet.panels.iter() {
+            if panel
+                .lines
+                .iter()
+                .any(|line| color_of(line.request) == color)
+            {
+                return true;
+            }
         }
     }
     color == "k"
@@ -123,30 +135,47 @@ fn put_marker(
     picture.push_str("orient=\"auto\">")
 }
 
+/// What of the legend occurs.
+#[derive(Clone, Copy)]
+struct Occurring {
+    is_thrown: bool,
+    is_cancelling: bool,
+    is_part: bool,
+}
+
+impl Occurring {
+    fn in_scene(scene: &Scene) -> Occurring {
+        let mut found = Occurring {
+            is_thrown: false,
+            is_cancelling: false,
+            is_part: false,
+        };
+        for sheet in scene.sheets.iter() {
+            for panel in sheet.panels.iter() {
+                let flights = panel.flights.as_slice();
+                found.is_thrown |= flights
+                    .iter()
+                    .any(|it| matches!(it.end, FlightEnd::Thrown(_)));
+                found.is_part |= flights.iter().any(|it| !it.parts.is_empty());
+                let mut lines = panel.lines.iter();
+                found.is_cancelling |= lines.any(|it| it.client == BarMark::Cancelling);
+            }
+        }
+        found
+    }
+}
+
 /// Appends what is told at the foot of what occurs, and answers where it ends.
 fn put_legend(body: &mut String, scene: &Scene, bottom: usize) -> Result<usize, AllocError> {
-    let mut is_thrown = false;
-    let mut is_part = false;
-    let mut is_cancelling = false;
-    for sheet in scene.sheets.iter() {
-        is_thrown |= sheet
-            .flights
-            .iter()
-            .any(|it| matches!(it.end, FlightEnd::Thrown(_)));
-        is_part |= sheet.flights.iter().any(|it| !it.parts.is_empty());
-        is_cancelling |= sheet
-            .lines
-            .iter()
-            .any(|it| it.client == BarMark::Cancelling);
-    }
+    let found = Occurring::in_scene(scene);
     let mut y = bottom;
-    if is_thrown {
+    if found.is_thrown {
         y = y.saturating_add(LINE);
-        put_example(body, y, "", "xk")?;
+        put_example(body, y, "plain", "xk")?;
         let text = "read, but thrown away: its caller gets nothing of it";
         put_text(body, 52, y, "muted", text)?;
     }
-    if is_cancelling {
+    if found.is_cancelling {
         y = y.saturating_add(LINE);
         let top = y.saturating_sub(11);
         write!(
@@ -156,9 +185,9 @@ fn put_legend(body: &mut String, scene: &Scene, bottom: usize) -> Result<usize, 
         body.push_str("class=\"cancelling sk\"/>\n")?;
         put_text(body, 52, y, "muted", "cancelling: waits for DONE attn")?;
     }
-    if is_part {
+    if found.is_part {
         y = y.saturating_add(LINE);
-        put_example(body, y, " piece", "pk")?;
+        put_example(body, y, "piece", "pk")?;
         let text = "a part of a packet has come, not yet the whole";
         put_text(body, 52, y, "muted", text)?;
     }
@@ -169,33 +198,7 @@ fn put_example(body: &mut String, y: usize, class: &str, head: &str) -> Result<(
     let y = y.saturating_sub(4);
     write!(
         body,
-        "<line x1=\"12\" y1=\"{y}\" x2=\"42\" y2=\"{y}\" class=\"arrow{class} sk\" "
+        "<line x1=\"12\" y1=\"{y}\" x2=\"42\" y2=\"{y}\" class=\"arrow {class} sk\" "
     )?;
     writeln!(body, "marker-end=\"url(#{head})\"/>")
-}
-
-/// Appends a text.
-pub(crate) fn put_text(
-    body: &mut String,
-    x: usize,
-    y: usize,
-    class: &str,
-    text: &str,
-) -> Result<(), AllocError> {
-    write!(body, "<text x=\"{x}\" y=\"{y}\" class=\"{class}\">")?;
-    put_escaped(body, text)?;
-    body.push_str("</text>\n")
-}
-
-/// Appends an ASCII text as XML has it.
-fn put_escaped(body: &mut String, text: &str) -> Result<(), AllocError> {
-    for byte in text.as_bytes() {
-        match byte {
-            b'&' => body.push_str("&amp;")?,
-            b'<' => body.push_str("&lt;")?,
-            b'>' => body.push_str("&gt;")?,
-            _ => body.push(char::from((*byte).min(126)))?,
-        }
-    }
-    Ok(())
 }
