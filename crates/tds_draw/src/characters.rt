@@ -2,14 +2,11 @@
 
 use crate::breaking::cut_to;
 use crate::drawing::Widths;
-use crate::layout::{Choice, lay_out};
-use crate::scene::{
-    BarMark, Flight, FlightEnd, Label, Line, Look, PlaceMark, Row, Sheet, Sort, Spot,
-};
+use crate::layout::{Arrangement, Choice, lay_out};
+use crate::scene::{BarMark, FlightEnd, Label, Line, Look, Panel, PlaceMark, Row, Spot};
 use std::alloc::{AllocError, Global};
 use std::fmt::Write;
 use tds_exchange::Exchange;
-use tds_packet::Direction;
 
 /// How wide a line is, and where its columns begin.
 const WIDTH: usize = 100;
@@ -20,21 +17,9 @@ const NOTES: usize = 24;
 
 const CLIENT: usize = 44;
 
-const WIRE: usize = 45;
-
-const SERVER: usize = 77;
+pub(crate) const SERVER: usize = 77;
 
 const SERVER_NOTES: usize = 79;
-
-/// Where the lanes run, of what goes to the server and of what goes to the client.
-const TO_SERVER: [usize; 4] = [75, 73, 71, 69];
-
-const TO_CLIENT: [usize; 4] = [46, 48, 50, 52];
-
-/// Where a packet's label begins, and ends.
-const LABEL: usize = 54;
-
-const LABEL_END: usize = 69;
 
 const WIDTHS: Widths = Widths {
     event: 16,
@@ -54,15 +39,17 @@ const LEGEND: [(u8, &str); 5] = [
 
 /// A play as a sequence picture in characters.
 pub fn draw_text(alloc: Global, exchange: &Exchange, choice: Choice) -> Result<String, AllocError> {
-    let scene = lay_out(alloc, exchange, choice, WIDTHS)?;
+    let scene = lay_out(alloc, exchange, choice, Arrangement::Below, WIDTHS)?;
     let mut text = String::from_str(alloc, scene.head.as_str())?;
     text.push_str("\n")?;
     let mut marks = Vec::new(alloc);
     for sheet in scene.sheets.iter() {
         text.push_str("\n")?;
-        let canvas = Canvas::of(alloc, sheet)?;
-        canvas.put(&mut text)?;
-        put_marks(&mut marks, sheet)?;
+        // Characters have no room for two panels side by side.
+        if let Some(panel) = sheet.panels.first() {
+            Canvas::of(alloc, panel, sheet.rows.as_slice())?.put(&mut text)?;
+            put_marks(&mut marks, panel)?;
+        }
     }
     if !scene.below.is_empty() {
         text.push_str("\n")?;
@@ -81,16 +68,16 @@ pub fn draw_text(alloc: Global, exchange: &Exchange, choice: Choice) -> Result<S
     Ok(text)
 }
 
-/// Appends the marks of the legend that a sheet has.
-fn put_marks(marks: &mut Vec<u8>, sheet: &Sheet) -> Result<(), AllocError> {
-    for line in sheet.lines.iter() {
+/// Appends the marks of the legend that a panel has.
+fn put_marks(marks: &mut Vec<u8>, panel: &Panel) -> Result<(), AllocError> {
+    for line in panel.lines.iter() {
         for bar in [line.client, line.server] {
             if matches!(bar, BarMark::Passing | BarMark::Busy | BarMark::Cancelling) {
                 marks.push(bar_byte(bar))?;
             }
         }
     }
-    for flight in sheet.flights.iter() {
+    for flight in panel.flights.iter() {
         if matches!(flight.end, FlightEnd::Thrown(_)) {
             marks.push(b'x')?;
         }
@@ -101,30 +88,30 @@ fn put_marks(marks: &mut Vec<u8>, sheet: &Sheet) -> Result<(), AllocError> {
     Ok(())
 }
 
-/// The lines of a sheet.
+/// The lines of a panel.
 #[derive(Drop)]
-struct Canvas {
+pub(crate) struct Canvas {
     lines: Vec<Vec<u8>>,
     /// Whether a lane goes through each place.
     lanes: Vec<Vec<u8>>,
 }
 
 impl Canvas {
-    fn of(alloc: Global, sheet: &Sheet) -> Result<Canvas, AllocError> {
+    fn of(alloc: Global, panel: &Panel, rows: &[Row]) -> Result<Canvas, AllocError> {
         let mut canvas = Canvas {
             lines: Vec::new(alloc),
             lanes: Vec::new(alloc),
         };
-        for line in sheet.lines.iter() {
+        for line in panel.lines.iter() {
             canvas.lines.push(Vec::from_slice(alloc, &[b' '; WIDTH])?)?;
             canvas.lanes.push(Vec::from_slice(alloc, &[b' '; WIDTH])?)?;
             canvas.paint_line(alloc, line)?;
         }
-        for row in sheet.rows.iter() {
+        for row in rows {
             canvas.paint_row(alloc, row)?;
         }
-        canvas.paint_flights(alloc, sheet.flights.as_slice())?;
-        for label in sheet.labels.iter() {
+        canvas.paint_flights(alloc, panel.flights.as_slice())?;
+        for label in panel.labels.iter() {
             canvas.paint_label(alloc, label)?;
         }
         Ok(canvas)
@@ -142,7 +129,7 @@ impl Canvas {
         Ok(())
     }
 
-    fn set(&mut self, line: usize, column: usize, byte: u8) {
+    pub(crate) fn set(&mut self, line: usize, column: usize, byte: u8) {
         if let Some(place) = self
             .lines
             .get_mut(line)
@@ -152,19 +139,19 @@ impl Canvas {
         }
     }
 
-    fn write(&mut self, line: usize, column: usize, text: &str) {
+    pub(crate) fn write(&mut self, line: usize, column: usize, text: &str) {
         for (index, byte) in text.as_bytes().iter().enumerate() {
             self.set(line, column.saturating_add(index), *byte);
         }
     }
 
-    fn is_lane(&self, line: usize, column: usize) -> bool {
+    pub(crate) fn is_lane(&self, line: usize, column: usize) -> bool {
         let lanes = self.lanes.get(line).map(|lanes| lanes.as_slice());
         lanes.and_then(|lanes| lanes.get(column)) == Some(&b'|')
     }
 
     /// Paints a place of a lane.
-    fn set_lane(&mut self, line: usize, column: usize, byte: u8) {
+    pub(crate) fn set_lane(&mut self, line: usize, column: usize, byte: u8) {
         self.set(line, column, byte);
         if let Some(place) = self
             .lanes
@@ -176,7 +163,7 @@ impl Canvas {
     }
 
     /// Paints from a column to behind another one, but over no lane.
-    fn run(&mut self, line: usize, from: usize, to: usize, byte: u8) {
+    pub(crate) fn run(&mut self, line: usize, from: usize, to: usize, byte: u8) {
         for column in from..to {
             if !self.is_lane(line, column) {
                 self.set(line, column, byte);
@@ -273,143 +260,6 @@ impl Canvas {
                 self.write(line, right, text.as_str());
             }
         }
-        Ok(())
-    }
-
-    /// Paints the packets, each in the first lane that is free: the lanes first, since nothing goes over them.
-    fn paint_flights(&mut self, alloc: Global, flights: &[Flight]) -> Result<(), AllocError> {
-        let mut lanes = Vec::new(alloc);
-        for flight in flights {
-            let lane = self.free_lane(flight);
-            lanes.push(lane)?;
-            self.paint_lane(flight, lane);
-        }
-        for (flight, lane) in flights.iter().zip(lanes.iter()) {
-            self.paint_runs(alloc, flight, *lane)?;
-        }
-        Ok(())
-    }
-
-    fn free_lane(&self, flight: &Flight) -> usize {
-        let lanes = match flight.direction {
-            Direction::ToServer => TO_SERVER,
-            Direction::ToClient => TO_CLIENT,
-        };
-        let line = flight.from.unwrap_or(0);
-        let free = lanes.iter().find(|lane| !self.is_lane(line, **lane));
-        free.or(lanes.last()).copied().unwrap_or(WIRE)
-    }
-
-    fn paint_lane(&mut self, flight: &Flight, lane: usize) {
-        let Some(end) = flight.end.line() else {
-            return;
-        };
-        let first = flight.from.unwrap_or(0);
-        for line in first..end {
-            self.set_lane(line, lane, b'|');
-        }
-        if flight.from.is_some() {
-            self.set_lane(first, lane, b'.');
-        }
-        for line in flight.parts.iter() {
-            self.set_lane(*line, lane, b':');
-        }
-        match flight.end {
-            FlightEnd::Came(_) | FlightEnd::Thrown(_) => self.set_lane(end, lane, b'\''),
-            FlightEnd::Underway(_) => self.set_lane(end, lane, b'o'),
-            FlightEnd::Lost(_) => self.set_lane(end, lane, b'x'),
-            FlightEnd::Hidden(_) | FlightEnd::Open => {}
-        }
-    }
-
-    fn paint_runs(
-        &mut self,
-        alloc: Global,
-        flight: &Flight,
-        lane: usize,
-    ) -> Result<(), AllocError> {
-        let byte = match flight.sort {
-            Sort::Attention | Sort::Acknowledgement => b'=',
-            Sort::Ignore => b'~',
-            _ => b'-',
-        };
-        let left = (WIRE, lane);
-        let right = (lane.saturating_add(1), SERVER);
-        let (leaving, coming, head) = match flight.direction {
-            Direction::ToServer => (left, right, SERVER.saturating_sub(1)),
-            Direction::ToClient => (right, left, WIRE),
-        };
-        if let Some(line) = flight.from {
-            self.run(line, leaving.0, leaving.1, byte);
-            self.paint_name(alloc, flight, line)?;
-        }
-        for line in flight.parts.iter() {
-            self.run(*line, coming.0, coming.1, b'.');
-        }
-        match flight.end {
-            FlightEnd::Came(line) => {
-                self.run(line, coming.0, coming.1, byte);
-                let arrow = match flight.direction {
-                    Direction::ToServer => b'>',
-                    Direction::ToClient => b'<',
-                };
-                self.set(line, head, arrow);
-            }
-            FlightEnd::Thrown(line) => {
-                self.run(line, coming.0, coming.1, byte);
-                self.set(line, head, b'x');
-            }
-            FlightEnd::Underway(line) | FlightEnd::Lost(line) => {
-                self.paint_note(flight, line, lane);
-            }
-            FlightEnd::Hidden(_) | FlightEnd::Open => {}
-        }
-        Ok(())
-    }
-
-    /// Paints what stands beside a loose end, on the receiver's side and behind the other lanes there.
-    fn paint_note(&mut self, flight: &Flight, line: usize, lane: usize) {
-        let note = flight.note.as_str();
-        let mut column = lane;
-        match flight.direction {
-            Direction::ToClient => {
-                for other in TO_CLIENT {
-                    if self.is_lane(line, other) {
-                        column = column.max(other);
-                    }
-                }
-                self.write(line, column.saturating_add(2), note);
-            }
-            Direction::ToServer => {
-                for other in TO_SERVER {
-                    if self.is_lane(line, other) {
-                        column = column.min(other);
-                    }
-                }
-                let column = column.saturating_sub(note.len().saturating_add(1));
-                self.write(line, column, note);
-            }
-        }
-    }
-
-    /// Paints a packet's label at its sender's end; where it is too long, without the size.
-    fn paint_name(
-        &mut self,
-        alloc: Global,
-        flight: &Flight,
-        line: usize,
-    ) -> Result<(), AllocError> {
-        let width = LABEL_END.saturating_sub(LABEL);
-        let short = format!(in alloc; "{}:{}", flight.request, flight.name)?;
-        let mut text = format!(in alloc; "{short} {}", flight.size)?;
-        if text.len() > width {
-            text = cut_to(alloc, short.as_str(), width)?;
-        }
-        let column = match flight.direction {
-            Direction::ToServer => LABEL,
-            Direction::ToClient => LABEL_END.saturating_sub(text.len()),
-        };
-        self.write(line, column, text.as_str());
         Ok(())
     }
 }

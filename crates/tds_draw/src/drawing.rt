@@ -1,11 +1,11 @@
-//! What a sheet is drawn with, row by row.
+//! What a panel is drawn with, row by row.
 
-use crate::breaking::{broken, cut_to};
-use crate::scene::{BarMark, FlightEnd, Label, Look, Row, Sheet, Spot};
+use crate::breaking::broken;
+use crate::scene::{BarMark, FlightEnd, Label, Look, Panel, Spot};
 use std::alloc::{AllocError, Global};
 use tds_exchange::Exchange;
 use tds_packet::Reset;
-use tds_play::Snapshot;
+use tds_play::{Outcome, Snapshot};
 
 /// How many characters a text has room for.
 #[derive(Clone, Copy)]
@@ -45,7 +45,7 @@ pub(crate) enum Task {
     Out,
 }
 
-/// A sheet that is drawn, and what is known of its connection.
+/// A panel that is drawn, and what is known of its connection.
 #[derive(Drop)]
 pub(crate) struct Drawing<'a> {
     pub(crate) alloc: Global,
@@ -53,7 +53,7 @@ pub(crate) struct Drawing<'a> {
     /// The place of each request among the events.
     pub(crate) asked: &'a [usize],
     pub(crate) widths: Widths,
-    pub(crate) sheet: Sheet,
+    pub(crate) panel: Panel,
     /// The connection, 0 for none.
     pub(crate) conn: u32,
     /// Its request, 0 for none, and the reset that this asks for.
@@ -66,17 +66,22 @@ pub(crate) struct Drawing<'a> {
     pub(crate) left: usize,
     /// The column of the server, behind the rows so far.
     pub(crate) server: BarMark,
-    pub(crate) row: RowSoFar,
+    pub(crate) row: RowSoFar<'a>,
 }
 
 /// What is known of the row that is drawn.
 #[derive(Drop)]
-pub(crate) struct RowSoFar {
+pub(crate) struct RowSoFar<'a> {
     pub(crate) start: usize,
+    /// What happens in it to the connection.
+    pub(crate) outcome: Outcome,
+    pub(crate) moment: Moment<'a>,
     /// How many lines its zones have.
     pub(crate) client_used: usize,
     pub(crate) server_used: usize,
     pub(crate) wire_used: usize,
+    /// The line in which the request is asked.
+    pub(crate) asked: usize,
     /// The line in which the request was settled.
     pub(crate) settled: Option<usize>,
     /// From which line on the server's column is what.
@@ -93,6 +98,21 @@ pub(crate) struct Moment<'a> {
     pub(crate) opens: bool,
 }
 
+impl Moment<'_> {
+    /// Without an event and a connection.
+    pub(crate) fn none() -> Self {
+        Moment {
+            number: 0,
+            before: None,
+            after: None,
+            opens: false,
+        }
+    }
+}
+
+/// What changes nothing.
+pub(crate) const NOTHING: Outcome = Outcome::ToClient(0);
+
 impl<'a> Drawing<'a> {
     pub(crate) fn new(
         alloc: Global,
@@ -105,8 +125,7 @@ impl<'a> Drawing<'a> {
             exchange,
             asked,
             widths,
-            sheet: Sheet {
-                rows: Vec::new(alloc),
+            panel: Panel {
                 lines: Vec::new(alloc),
                 labels: Vec::new(alloc),
                 flights: Vec::new(alloc),
@@ -118,27 +137,14 @@ impl<'a> Drawing<'a> {
             heard: 0,
             left: 0,
             server: BarMark::Nothing,
-            row: RowSoFar::new(alloc, 0),
+            row: RowSoFar::new(alloc, 0, NOTHING, Moment::none()),
         }
     }
 
-    /// Begins a row with this text in the gutter.
-    pub(crate) fn begin_row(
-        &mut self,
-        number: Option<usize>,
-        text: &str,
-        is_muted: bool,
-    ) -> Result<(), AllocError> {
-        let line = self.sheet.lines.len();
-        self.row = RowSoFar::new(self.alloc, line);
-        let text = cut_to(self.alloc, text, self.widths.event)?;
-        self.sheet.rows.push(Row {
-            line,
-            number,
-            text,
-            is_muted,
-        })?;
-        Ok(())
+    /// Begins the row of what happens to the connection.
+    pub(crate) fn begin_row(&mut self, outcome: Outcome, moment: Moment<'a>) {
+        let line = self.panel.lines.len();
+        self.row = RowSoFar::new(self.alloc, line, outcome, moment);
     }
 
     /// Puts a text into the next free lines of its zone, and answers its last line.
@@ -161,7 +167,7 @@ impl<'a> Drawing<'a> {
         };
         let first = self.row.start.saturating_add(used);
         for (index, text) in texts.into_iter().enumerate() {
-            self.sheet.labels.push(Label {
+            self.panel.labels.push(Label {
                 line: first.saturating_add(index),
                 spot,
                 look,
@@ -191,32 +197,34 @@ impl<'a> Drawing<'a> {
         Ok(())
     }
 
-    pub(crate) fn into_sheet(self) -> Sheet {
-        self.sheet
+    pub(crate) fn into_panel(self) -> Panel {
+        self.panel
     }
 
     /// Forgets what was drawn: it stands above the picture.
     pub(crate) fn forget(&mut self) {
-        self.sheet.rows.clear();
-        self.sheet.lines.clear();
-        self.sheet.labels.clear();
-        self.sheet
+        self.panel.lines.clear();
+        self.panel.labels.clear();
+        self.panel
             .flights
             .retain(|flight| flight.end == FlightEnd::Open);
-        for flight in self.sheet.flights.iter_mut() {
+        for flight in self.panel.flights.iter_mut() {
             flight.from = None;
             flight.parts.clear();
         }
     }
 }
 
-impl RowSoFar {
-    fn new(alloc: Global, start: usize) -> RowSoFar {
+impl<'a> RowSoFar<'a> {
+    fn new(alloc: Global, start: usize, outcome: Outcome, moment: Moment<'a>) -> RowSoFar<'a> {
         RowSoFar {
             start,
+            outcome,
+            moment,
             client_used: 0,
             server_used: 0,
             wire_used: 0,
+            asked: start,
             settled: None,
             marks: Vec::new(alloc),
         }

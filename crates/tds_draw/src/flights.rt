@@ -52,7 +52,7 @@ impl<'a> Drawing<'a> {
             self.reset = packet.header.status.reset();
         }
         let name = self.name_of(sort, packet, index)?;
-        self.sheet.flights.push(Flight {
+        self.panel.flights.push(Flight {
             direction: packet.direction,
             sort,
             request: self.request,
@@ -193,11 +193,11 @@ impl<'a> Drawing<'a> {
             self.say(spot, Look::Muted, false, "nothing came")?;
         }
         let mut left = u64::from(count);
-        for index in 0..self.sheet.flights.len() {
+        for index in 0..self.panel.flights.len() {
             if left == 0 {
                 break;
             }
-            let Some(flight) = self.sheet.flights.get_mut(index) else {
+            let Some(flight) = self.panel.flights.get_mut(index) else {
                 break;
             };
             if flight.direction != direction || flight.end != FlightEnd::Open {
@@ -210,12 +210,12 @@ impl<'a> Drawing<'a> {
             if came < size {
                 let text = format!(in self.alloc; "{came} of {size} bytes")?;
                 let line = self.say(spot, Look::Muted, false, text.as_str())?;
-                if let Some(flight) = self.sheet.flights.get_mut(index) {
+                if let Some(flight) = self.panel.flights.get_mut(index) {
                     flight.parts.push(line)?;
                 }
             } else {
                 let end = self.come(index, moment)?;
-                if let Some(flight) = self.sheet.flights.get_mut(index) {
+                if let Some(flight) = self.panel.flights.get_mut(index) {
                     flight.end = end;
                 }
             }
@@ -226,7 +226,7 @@ impl<'a> Drawing<'a> {
     /// Lets a packet come, and answers how it ends.
     fn come(&mut self, index: usize, moment: Moment<'a>) -> Result<FlightEnd, AllocError> {
         let exchange = self.exchange;
-        let Some(flight) = self.sheet.flights.get(index) else {
+        let Some(flight) = self.panel.flights.get(index) else {
             return Ok(FlightEnd::Open);
         };
         let sort = flight.sort;

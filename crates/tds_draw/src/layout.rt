@@ -1,7 +1,8 @@
 //! A play laid out in sheets.
 
-use crate::drawing::{Drawing, Widths};
+use crate::drawing::Widths;
 use crate::scene::Scene;
+use crate::sheets::Plan;
 use crate::wording::{event_text, refusal_text, setup_text};
 use std::alloc::{AllocError, Global};
 use std::fmt::Write;
@@ -33,63 +34,73 @@ impl Choice {
     }
 }
 
+/// How the connections that are open at once stand.
+#[derive(Clone, Copy, PartialEq, Eq)]
+pub enum Arrangement {
+    /// One below the other, each with the events about it.
+    Below,
+    /// Side by side, with all events.
+    Beside,
+}
+
 /// Lays a play out.
 pub(crate) fn lay_out(
     alloc: Global,
     exchange: &Exchange,
     choice: Choice,
+    arrangement: Arrangement,
     widths: Widths,
 ) -> Result<Scene, AllocError> {
     let count = exchange.events.len();
     let (from, to) = choice.of(count);
     let slots = slots_of(alloc, exchange)?;
-    let mut head = setup_text(alloc, exchange.setup)?;
-    if from > 1 || to < count {
-        write!(head, "; events {from} to {to} of {count}")?;
-    }
     let asked = asked_of(alloc, exchange)?;
-    let sheet_count = slots.iter().max().copied().unwrap_or(0).saturating_add(1);
+    let panels = slots.iter().max().copied().unwrap_or(0).saturating_add(1);
+    let wide = match arrangement {
+        Arrangement::Below => 1,
+        Arrangement::Beside => panels,
+    };
+    let plan = Plan {
+        exchange,
+        slots: slots.as_slice(),
+        asked: asked.as_slice(),
+        widths,
+        from,
+        to,
+        has_all: wide == panels,
+    };
     let mut sheets = Vec::new(alloc);
-    for slot in 0..sheet_count {
-        let only = (sheet_count > 1).then_some(slot);
-        let mut drawing = Drawing::new(alloc, exchange, asked.as_slice(), widths);
-        for number in 1..=to {
-            if is_in(exchange, slots.as_slice(), number, only) {
-                drawing.draw_event(number)?;
-                if number < from {
-                    drawing.forget();
-                }
-            }
+    for first in 0..panels {
+        if first == 0 || wide == 1 {
+            sheets.push(plan.lay_sheet(alloc, first, wide)?)?;
         }
-        drawing.draw_end(to, to == count)?;
-        sheets.push(drawing.into_sheet())?;
     }
     Ok(Scene {
-        head,
+        head: head_of(alloc, exchange, from, to)?,
+        width: wide,
         sheets,
-        below: match sheet_count > 1 {
-            true => below_of(alloc, exchange, from, to)?,
-            false => Vec::new(alloc),
+        below: match plan.has_all {
+            true => Vec::new(alloc),
+            false => below_of(alloc, exchange, from, to)?,
         },
     })
 }
 
-/// Whether an event stands in the sheet of this slot; in the only sheet all stand.
-fn is_in(exchange: &Exchange, slots: &[usize], number: usize, only: Option<usize>) -> bool {
-    let Some(only) = only else {
-        return true;
-    };
-    let index = number.saturating_sub(1);
-    match exchange.conns.as_slice().get(index).copied().flatten() {
-        Some(conn) => slots.get((conn as usize).saturating_sub(1)) == Some(&only),
-        None => {
-            let told = exchange.report.events.as_slice().get(index);
-            told.is_some_and(|it| matches!(
-                it.outcome,
-                Outcome::RestartedServer | Outcome::RestartedClient
-            ))
-        }
+/// What the picture is of.
+fn head_of(
+    alloc: Global,
+    exchange: &Exchange,
+    from: usize,
+    to: usize,
+) -> Result<String, AllocError> {
+    let count = exchange.events.len();
+    let mut head = setup_text(alloc, exchange.setup)?;
+    if from > to && count > 0 {
+        write!(head, "; none of {count} events")?;
+    } else if from > 1 || to < count {
+        write!(head, "; events {from} to {to} of {count}")?;
     }
+    Ok(head)
 }
 
 /// The slot of each connection: when it is opened, the lowest one that no uncut connection has.

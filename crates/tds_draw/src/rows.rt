@@ -2,11 +2,9 @@
 
 use crate::answers::Which;
 use crate::breaking::cut_to;
-use crate::drawing::{Drawing, Moment, Task};
-use crate::scene::{BarMark, FlightEnd, Line, Look, PlaceMark, Spot};
-use crate::wording::{
-    client_text, event_text, mark_text, refusal_text, request_text, session_text,
-};
+use crate::drawing::{Drawing, Moment, NOTHING, Task};
+use crate::scene::{BarMark, FlightEnd, Look, Spot};
+use crate::wording::{client_text, mark_text, refusal_text, request_text, session_text};
 use std::alloc::AllocError;
 use tds_packet::Direction;
 use tds_play::{
@@ -24,9 +22,6 @@ impl<'a> Drawing<'a> {
     pub(crate) fn draw_event(&mut self, number: usize) -> Result<(), AllocError> {
         let exchange = self.exchange;
         let index = number.saturating_sub(1);
-        let Some(event) = exchange.events.as_slice().get(index) else {
-            return Ok(());
-        };
         let Some(told) = exchange.report.events.as_slice().get(index) else {
             return Ok(());
         };
@@ -47,14 +42,29 @@ impl<'a> Drawing<'a> {
             after: self.shown_at(number),
             opens,
         };
-        let text = event_text(self.alloc, event)?;
-        let is_refused = matches!(outcome, Outcome::Refused(_));
-        self.begin_row(Some(number), text.as_str(), is_refused)?;
+        self.begin_row(outcome, moment);
         self.draw_outcome(outcome, moment)?;
         if moment.before.is_some() && moment.after.is_none() {
             self.draw_loss(moment)?;
         }
-        self.end_row(outcome, moment)
+        Ok(())
+    }
+
+    /// Draws the row of an event that is about no connection of the panel.
+    pub(crate) fn draw_pause(&mut self, number: usize) {
+        let moment = self.resting(number);
+        self.begin_row(NOTHING, moment);
+    }
+
+    /// The connection as it is after the event of this number, and stays.
+    fn resting(&self, number: usize) -> Moment<'a> {
+        let shown = self.shown_at(number);
+        Moment {
+            number: 0,
+            before: shown,
+            after: shown,
+            opens: false,
+        }
     }
 
     fn open(&mut self, conn: u32) {
@@ -139,7 +149,7 @@ impl<'a> Drawing<'a> {
                     .before
                     .is_some_and(|it| it.client == ClientView::Sending)
                 {
-                    self.say(Spot::Client, Look::Plain, true, "never sent")?;
+                    self.say(Spot::Client, Look::Muted, true, "never sent")?;
                 }
                 Ok(())
             }
@@ -153,7 +163,7 @@ impl<'a> Drawing<'a> {
             None => String::new(self.alloc),
             Some(request) => request_text(self.alloc, request)?,
         };
-        self.say(Spot::Asked, Look::Plain, true, text.as_str())?;
+        self.row.asked = self.say(Spot::Asked, Look::Plain, true, text.as_str())?;
         Ok(())
     }
 
@@ -252,12 +262,12 @@ impl<'a> Drawing<'a> {
             false => "underway",
         };
         for direction in [Direction::ToServer, Direction::ToClient] {
-            let open = self.sheet.flights.iter().filter(|it| it.end == FlightEnd::Open
+            let open = self.panel.flights.iter().filter(|it| it.end == FlightEnd::Open
                 && it.direction == direction);
             let count = open.count();
             let first = self.row.start.saturating_add(self.row.wire_used);
             let mut place = 0usize;
-            for flight in self.sheet.flights.iter_mut() {
+            for flight in self.panel.flights.iter_mut() {
                 if flight.end != FlightEnd::Open || flight.direction != direction {
                     continue;
                 }
@@ -282,120 +292,16 @@ impl<'a> Drawing<'a> {
         Ok(())
     }
 
-    /// Draws the row behind the last event that is drawn.
-    pub(crate) fn draw_end(&mut self, last: usize, is_whole: bool) -> Result<(), AllocError> {
-        let text = match is_whole {
-            true => "end",
-            false => "then",
-        };
-        self.begin_row(None, text, true)?;
-        let shown = self.shown_at(last);
-        let moment = Moment {
-            number: 0,
-            before: shown,
-            after: shown,
-            opens: false,
-        };
-        if let Some(shown) = shown {
+    /// Draws the row behind the last event that is drawn, which has this number.
+    pub(crate) fn draw_end(&mut self, last: usize) -> Result<(), AllocError> {
+        let moment = self.resting(last);
+        self.begin_row(NOTHING, moment);
+        if let Some(shown) = moment.after {
             let text = client_text(self.alloc, shown)?;
             self.say(Spot::Client, Look::Pill, false, text.as_str())?;
             let text = session_text(self.alloc, &shown.server, None)?;
             self.say(Spot::Server, Look::Pill, false, text.as_str())?;
         }
-        self.end_flights(false)?;
-        self.end_row(Outcome::ToClient(0), moment)
-    }
-
-    /// Draws what runs down through the row's lines.
-    fn end_row(&mut self, outcome: Outcome, moment: Moment<'a>) -> Result<(), AllocError> {
-        let count = self.row.count();
-        let is_cut = moment.before.is_some() && moment.after.is_none();
-        let is_restart = matches!(outcome, Outcome::RestartedServer | Outcome::RestartedClient);
-        for index in 0..count {
-            let line = self.row.start.saturating_add(index);
-            let is_last = index.saturating_add(1) == count;
-            let mut line = Line {
-                place: place_mark(outcome, moment, index),
-                client: client_mark(moment, self.row.settled, line),
-                server: self.server_mark(moment, line),
-                is_rule: is_restart && is_last,
-            };
-            if moment.opens && index == 0 {
-                line.client = BarMark::Opened(self.conn);
-                line.server = BarMark::Opened(self.conn);
-            }
-            if is_cut && is_last {
-                line.client = BarMark::Cut;
-                line.server = BarMark::Cut;
-            }
-            self.sheet.lines.push(line)?;
-        }
-        if let Some((_, mark)) = self.row.marks.last() {
-            self.server = *mark;
-        }
-        if is_cut {
-            self.server = BarMark::Nothing;
-        }
-        Ok(())
-    }
-
-    /// The column of the server in a line.
-    fn server_mark(&mut self, moment: Moment<'a>, line: usize) -> BarMark {
-        if moment.opens {
-            self.server = BarMark::Life;
-        }
-        for (from, mark) in self.row.marks.iter() {
-            if *from <= line {
-                self.server = *mark;
-            }
-        }
-        self.server
-    }
-}
-
-/// The column of the client in a line: as it is after the event; where the event settled its request, as before until then.
-fn client_mark(moment: Moment<'_>, settled: Option<usize>, line: usize) -> BarMark {
-    let Some(shown) = moment.after.or(moment.before) else {
-        return BarMark::Nothing;
-    };
-    if shown.client != ClientView::Idle {
-        return bar_of(shown.client);
-    }
-    match moment.before {
-        Some(before) if settled.is_none_or(|settled| line <= settled) => bar_of(before.client),
-        _ => BarMark::Life,
-    }
-}
-
-fn bar_of(client: ClientView) -> BarMark {
-    match client {
-        ClientView::Idle => BarMark::Life,
-        ClientView::Sending => BarMark::Passing,
-        ClientView::Reading => BarMark::Busy,
-        ClientView::Cancelling => BarMark::Cancelling,
-    }
-}
-
-/// The caller's column in a line of a row.
-fn place_mark(outcome: Outcome, moment: Moment<'_>, index: usize) -> PlaceMark {
-    let before = place_of(moment.before);
-    let after = place_of(moment.after);
-    match outcome {
-        Outcome::Leased { lease, .. } if index == 0 => PlaceMark::LeaseBegins(lease),
-        Outcome::Kept(ticket) if index == 0 => PlaceMark::TicketBegins(ticket),
-        Outcome::GivenBack(GiveBackOutcome::Draining) if index == 0 => PlaceMark::DrainingBegins,
-        Outcome::GivenBack(_) | Outcome::Abandoned(_) if index == 0 => before,
-        Outcome::Leased { .. } | Outcome::Kept(_) | Outcome::GivenBack(_) | Outcome::Abandoned(_) =>
-            after,
-        _ => before,
-    }
-}
-
-fn place_of(shown: Option<&Snapshot>) -> PlaceMark {
-    match shown.map(|shown| shown.place) {
-        Some(Place::Leased(_)) => PlaceMark::Lease,
-        Some(Place::Kept(_)) => PlaceMark::Ticket,
-        Some(Place::Draining) => PlaceMark::Draining,
-        Some(Place::Free) | None => PlaceMark::Nothing,
+        self.end_flights(false)
     }
 }

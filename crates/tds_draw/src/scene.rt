@@ -6,15 +6,25 @@ use tds_packet::Direction;
 #[derive(Drop)]
 pub(crate) struct Scene {
     pub(crate) head: String,
+    /// How many panels a sheet has.
+    pub(crate) width: usize,
     pub(crate) sheets: Vec<Sheet>,
     /// Refused events that stand in no sheet.
     pub(crate) below: Vec<String>,
 }
 
-/// The rows of the connections that stand in one place of the picture, one after the other.
+/// Rows that have the same events in each panel.
 #[derive(Drop)]
 pub(crate) struct Sheet {
     pub(crate) rows: Vec<Row>,
+    /// At least one.
+    pub(crate) panels: Vec<Panel>,
+}
+
+/// The connections that stand in one place of the picture, one after the other.
+#[derive(Drop)]
+pub(crate) struct Panel {
+    /// As many in each panel of a sheet.
     pub(crate) lines: Vec<Line>,
     pub(crate) labels: Vec<Label>,
     pub(crate) flights: Vec<Flight>,
@@ -37,6 +47,8 @@ pub(crate) struct Line {
     pub(crate) place: PlaceMark,
     pub(crate) client: BarMark,
     pub(crate) server: BarMark,
+    /// The request of the bars, 0 for none.
+    pub(crate) request: u32,
     /// Whether a restart cuts across it.
     pub(crate) is_rule: bool,
 }

@@ -4,12 +4,12 @@ use crate::checking::print_check;
 use crate::explaining::print_explanation;
 use crate::fault::ViewFault;
 use crate::files::{play_named, read_file};
-use crate::words::{Command, read_words};
+use crate::words::{Command, Painter, read_words};
 use clap::Error;
 use clap::error::ErrorKind;
 use std::alloc::{AllocError, Global};
 use std::io::Write;
-use tds_draw::draw_text;
+use tds_draw::{draw_svg, draw_text};
 use tds_listing::{print_bytes, print_snapshots};
 use tds_text::write_whole;
 
@@ -65,9 +65,12 @@ fn run<W: Write>(rt: &HostRuntime, command: Command, output: &mut W) -> Result<b
             print_bytes(alloc, &exchange, form, output)?;
             Ok(true)
         }
-        Command::Draw(name, choice) => {
+        Command::Draw(name, painter, choice) => {
             let exchange = play_named(rt, name.as_str())?;
-            let text = draw_text(alloc, &exchange, choice)?;
+            let text = match painter {
+                Painter::Vector(arrangement) => draw_svg(alloc, &exchange, choice, arrangement)?,
+                Painter::Characters => draw_text(alloc, &exchange, choice)?,
+            };
             write_whole(output, text.as_str())?;
             Ok(true)
         }

@@ -2,24 +2,35 @@
 
 use clap::{Arg, ArgAction, ArgMatches, Command as Parser, Error, value_parser};
 use std::alloc::{AllocError, Global};
-use tds_draw::Choice;
+use tds_draw::{Arrangement, Choice};
 use tds_listing::BytesForm;
 
 /// What the words ask for.
 #[derive(Drop)]
 pub(crate) enum Command {
     Bytes(String, BytesForm),
-    Draw(String, Choice),
+    Draw(String, Painter, Choice),
     Snapshots(String),
     Explain(String),
     Check(Vec<String>),
+}
+
+/// How a picture is painted.
+#[derive(Clone, Copy)]
+pub(crate) enum Painter {
+    Vector(Arrangement),
+    Characters,
 }
 
 /// Reads the words behind the program's name.
 pub(crate) fn read_words(alloc: Global, words: &[String]) -> Result<Command, Error> {
     let matches = parser(alloc)?.try_get_matches_from(words)?;
     match matches.subcommand() {
-        Some(("draw", used)) => Ok(Command::Draw(file_of(alloc, used)?, choice_of(used))),
+        Some(("draw", used)) => Ok(Command::Draw(
+            file_of(alloc, used)?,
+            painter_of(used),
+            choice_of(used),
+        )),
         Some(("snapshots", used)) => Ok(Command::Snapshots(file_of(alloc, used)?)),
         Some(("explain", used)) => Ok(Command::Explain(file_of(alloc, used)?)),
         Some(("check", used)) => Ok(Command::Check(files_of(alloc, used)?)),
@@ -36,6 +47,16 @@ fn form_of(used: &ArgMatches<'_>) -> BytesForm {
         return BytesForm::Shown;
     }
     BytesForm::Digits
+}
+
+fn painter_of(used: &ArgMatches<'_>) -> Painter {
+    if used.get_flag("text") {
+        return Painter::Characters;
+    }
+    if used.get_flag("beside") {
+        return Painter::Vector(Arrangement::Beside);
+    }
+    Painter::Vector(Arrangement::Below)
 }
 
 fn choice_of(used: &ArgMatches<'_>) -> Choice {
@@ -101,11 +122,16 @@ fn draw<'a>(alloc: Global) -> Result<Parser<'a>, AllocError> {
     let text = Arg::new(alloc, "text")
         .long("text")
         .action(ArgAction::SetTrue)
-        .required(true)
-        .help("Draws it in characters");
+        .help("Draws it in characters, 100 a line, in place of SVG");
+    let beside = Arg::new(alloc, "beside")
+        .long("beside")
+        .action(ArgAction::SetTrue)
+        .conflicts_with("text")?
+        .help("Draws connections that are open at once side by side, not one below the other");
     Parser::new(alloc, "draw")
-        .about("Draws the play as a sequence picture")
+        .about("Draws the play as a sequence picture, as SVG")
         .arg(text)?
+        .arg(beside)?
         .arg(number(alloc, "from").help("The first event that is drawn"))?
         .arg(number(alloc, "to").help("The last one; without it 300 events are drawn"))?
         .arg(one_file(alloc))

@@ -1,12 +1,13 @@
-//! Runs each command of `tdsview`, and explains files that are wrong. What is printed is compared with
-//! two tables of texts that were written by hand.
+//! Runs each command of `tdsview`, explains files that are wrong, and draws pictures. What is printed
+//! is compared with two tables of texts that were written by hand, and with the pictures that are
+//! stored.
 #![tactic(auto)]
 
 mod rows;
 mod runs;
 
 use rows::read_rows;
-use runs::{explained, printed};
+use runs::{drawn, explained, printed};
 use std::process::ExitCode;
 use std::{fs, io};
 
@@ -15,6 +16,9 @@ const WRONG_FILES: &str = "wrong_files.txt";
 
 /// Command lines, and what each prints.
 const COMMAND_LINES: &str = "command_lines.txt";
+
+/// Pictures: the file of each, and behind it the command line that draws it.
+const PICTURES: &str = "pictures.txt";
 
 fn main(rt: HostRuntime) -> ExitCode {
     match run(&rt) {
@@ -27,8 +31,8 @@ fn main(rt: HostRuntime) -> ExitCode {
     }
 }
 
-/// Goes through both tables, and prints how many rows each has. Whether each row came out as it is
-/// written.
+/// Goes through both tables and the pictures, and prints how many rows each has. Whether each row came
+/// out as it is written.
 fn run(rt: &HostRuntime) -> io::Result<bool> {
     let alloc = rt.alloc();
     let mut is_well = true;
@@ -46,6 +50,24 @@ fn run(rt: &HostRuntime) -> io::Result<bool> {
         is_well &= tell_difference(rt, row.name.as_str(), found.as_str(), row.wanted.as_str())?;
     }
     println!(rt; "{COMMAND_LINES}: {} rows", rows.len())?;
+    Ok(draw_all(rt)? && is_well)
+}
+
+/// Draws each picture of the list, and prints how many there are. Whether each is as it is stored.
+fn draw_all(rt: &HostRuntime) -> io::Result<bool> {
+    let mut is_well = true;
+    let mut count = 0u32;
+    let list = fs::read_to_string(rt, PICTURES)?;
+    for line in list.lines() {
+        let Some((name, command)) = line.split_once(": ") else {
+            continue;
+        };
+        let stored = fs::read_to_string(rt, name)?;
+        let found = drawn(rt, command)?;
+        is_well &= tell_difference(rt, name, found.as_str(), stored.as_str())?;
+        count = count.saturating_add(1);
+    }
+    println!(rt; "{PICTURES}: {count} rows")?;
     Ok(is_well)
 }
 

@@ -17,6 +17,21 @@ pub(crate) fn explained(alloc: Global, file: &str) -> Result<String, AllocError>
 
 /// What a command line prints, its errors, and its status.
 pub(crate) fn printed(rt: &HostRuntime, line: &str) -> Result<String, AllocError> {
+    let (text, status) = answered(rt, line)?;
+    format!(in rt.alloc(); "{text}status {status}\n")
+}
+
+/// The picture that a command line prints. A status other than 0 stands behind it.
+pub(crate) fn drawn(rt: &HostRuntime, line: &str) -> Result<String, AllocError> {
+    let (mut text, status) = answered(rt, line)?;
+    if status != 0 {
+        text.push_str(format!(in rt.alloc(); "status {status}\n")?.as_str())?;
+    }
+    Ok(text)
+}
+
+/// What a command line prints with its errors, and its status.
+fn answered(rt: &HostRuntime, line: &str) -> Result<(String, u8), AllocError> {
     let alloc = rt.alloc();
     let mut words = Vec::new(alloc);
     for word in line.split_whitespace() {
@@ -26,7 +41,7 @@ pub(crate) fn printed(rt: &HostRuntime, line: &str) -> Result<String, AllocError
     let mut errors = Vec::new(alloc);
     let status = run_view(rt, words.as_slice(), &mut output, &mut errors);
     let text = all_of(alloc, output.as_slice(), errors.as_slice())?;
-    format!(in alloc; "{text}status {status}\n")
+    Ok((text, status))
 }
 
 fn all_of(alloc: Global, output: &[u8], errors: &[u8]) -> Result<String, AllocError> {

@@ -1,0 +1,191 @@
+//! Events laid out in the rows of a sheet.
+
+use crate::breaking::cut_to;
+use crate::drawing::{Drawing, Widths};
+use crate::scene::{Row, Sheet};
+use crate::wording::event_text;
+use std::alloc::{AllocError, Global};
+use tds_exchange::Exchange;
+use tds_play::Outcome;
+
+/// A play, and what of it is drawn.
+#[derive(Clone, Copy)]
+pub(crate) struct Plan<'a> {
+    pub(crate) exchange: &'a Exchange,
+    /// The slot of each connection.
+    pub(crate) slots: &'a [usize],
+    /// The place of each request among the events.
+    pub(crate) asked: &'a [usize],
+    pub(crate) widths: Widths,
+    /// The first event that is drawn, and the last one.
+    pub(crate) from: usize,
+    pub(crate) to: usize,
+    /// Whether a sheet has all slots.
+    pub(crate) has_all: bool,
+}
+
+/// Where an event is drawn.
+#[derive(Clone, Copy, PartialEq, Eq)]
+enum Where {
+    Slot(usize),
+    Everywhere,
+    /// It is refused, and about no connection.
+    Nowhere,
+}
+
+impl<'a> Plan<'a> {
+    /// The sheet with so many slots from this one on, a panel for each.
+    pub(crate) fn lay_sheet(
+        &self,
+        alloc: Global,
+        first: usize,
+        wide: usize,
+    ) -> Result<Sheet, AllocError> {
+        let mut panels = Vec::new(alloc);
+        for _ in 0..wide {
+            panels.push(Drawing::new(alloc, self.exchange, self.asked, self.widths))?;
+        }
+        let mut laid = Laid {
+            first,
+            rows: Vec::new(alloc),
+            panels,
+        };
+        for number in 1..=self.to {
+            let place = self.place_of(number);
+            if !self.has_all && place != Where::Slot(first) && place != Where::Everywhere {
+                continue;
+            }
+            laid.put_row(self.row_of(alloc, number, laid.line())?)?;
+            laid.draw_event(number, place)?;
+            if number < self.from {
+                laid.forget();
+            }
+        }
+        laid.put_row(self.last_row(alloc, laid.line())?)?;
+        laid.draw_end(self.to)?;
+        laid.into_sheet(alloc)
+    }
+
+    fn place_of(&self, number: usize) -> Where {
+        let index = number.saturating_sub(1);
+        if let Some(conn) = self.exchange.conns.as_slice().get(index).copied().flatten() {
+            let slot = self.slots.get((conn as usize).saturating_sub(1));
+            return Where::Slot(slot.copied().unwrap_or(0));
+        }
+        let told = self.exchange.report.events.as_slice().get(index);
+        match told.map(|it| it.outcome) {
+            Some(Outcome::RestartedServer | Outcome::RestartedClient) => Where::Everywhere,
+            _ => Where::Nowhere,
+        }
+    }
+
+    /// What stands beside the row of an event, from this line on.
+    fn row_of(&self, alloc: Global, number: usize, line: usize) -> Result<Row, AllocError> {
+        let index = number.saturating_sub(1);
+        let text = match self.exchange.events.as_slice().get(index) {
+            Some(event) => event_text(alloc, event)?,
+            None => String::new(alloc),
+        };
+        let told = self.exchange.report.events.as_slice().get(index);
+        Ok(Row {
+            line,
+            number: Some(number),
+            text: cut_to(alloc, text.as_str(), self.widths.event)?,
+            is_muted: told.is_some_and(|it| matches!(it.outcome, Outcome::Refused(_))),
+        })
+    }
+
+    /// What stands beside the row behind the last event that is drawn.
+    fn last_row(&self, alloc: Global, line: usize) -> Result<Row, AllocError> {
+        let text = match self.to >= self.exchange.events.len() {
+            true => "end",
+            false => "then",
+        };
+        Ok(Row {
+            line,
+            number: None,
+            text: String::from_str(alloc, text)?,
+            is_muted: true,
+        })
+    }
+}
+
+/// A sheet so far.
+#[derive(Drop)]
+struct Laid<'a> {
+    /// The slot of its first panel.
+    first: usize,
+    rows: Vec<Row>,
+    panels: Vec<Drawing<'a>>,
+}
+
+impl Laid<'_> {
+    /// How many lines it has.
+    fn line(&self) -> usize {
+        match self.panels.first() {
+            Some(panel) => panel.panel.lines.len(),
+            None => 0,
+        }
+    }
+
+    fn put_row(&mut self, row: Row) -> Result<(), AllocError> {
+        self.rows.push(row)?;
+        Ok(())
+    }
+
+    /// Draws an event in each panel: what is about no connection stands in the first one.
+    fn draw_event(&mut self, number: usize, place: Where) -> Result<(), AllocError> {
+        let mut slot = self.first;
+        for panel in self.panels.iter_mut() {
+            let is_here = match place {
+                Where::Slot(other) => other == slot,
+                Where::Everywhere => true,
+                Where::Nowhere => slot == 0,
+            };
+            match is_here {
+                true => panel.draw_event(number)?,
+                false => panel.draw_pause(number),
+            }
+            slot = slot.saturating_add(1);
+        }
+        self.end_row()
+    }
+
+    fn draw_end(&mut self, last: usize) -> Result<(), AllocError> {
+        for panel in self.panels.iter_mut() {
+            panel.draw_end(last)?;
+        }
+        self.end_row()
+    }
+
+    /// Ends the row, which has as many lines as its fullest panel.
+    fn end_row(&mut self) -> Result<(), AllocError> {
+        let mut count = 1usize;
+        for panel in self.panels.iter() {
+            count = count.max(panel.row.count());
+        }
+        for panel in self.panels.iter_mut() {
+            panel.end_row(count)?;
+        }
+        Ok(())
+    }
+
+    /// Forgets what was drawn: it stands above the picture.
+    fn forget(&mut self) {
+        self.rows.clear();
+        for panel in self.panels.iter_mut() {
+            panel.forget();
+        }
+    }
+
+    fn into_sheet(self, alloc: Global) -> Result<Sheet, AllocError> {
+        let mut panels = Vec::new(alloc);
+        for panel in self.panels {
+            panels.push(panel.into_panel())?;
+        }
+        Ok(Sheet {
+            rows: self.rows,
+            panels,
+        })
+    }
+}
