@@ -109,10 +109,10 @@ fn split_row(columns: u8, bytes: &[u8]) -> (RowRef<'_>, &[u8])
     ensures row { result.0 ≡ row_of columns bytes.now }
     ensures rest { result.1.now ≡ behind_row columns bytes.now }
 {
-    let [_, behind @ ..] = bytes else {
+    let (row, rest) = bytes.split_at(1 + 4 * usize::from(columns));
+    let [_, values @ ..] = row else {
         unreachable!();
     };
-    let (values, rest) = behind.split_at(4 * usize::from(columns));
     (RowRef::new(values), rest)
 }
 
@@ -123,14 +123,11 @@ fn skip_row(columns: u8, bytes: &[u8]) -> Option<&[u8]>
     ensures shorter { IfSome result (λ rest. length rest.now < length bytes.now) }
     ensures none { IfNone result (IsRowAt columns bytes.now → ⊥) }
 {
-    let [kind, behind @ ..] = bytes else {
-        return None;
-    };
-    let width = 4 * usize::from(columns);
-    if *kind != 0xD1 || behind.len() < width {
+    let size = 1 + 4 * usize::from(columns);
+    if bytes.len() < size || bytes[0] != 0xD1 {
         return None;
     }
-    Some(behind.split_at(width).1)
+    Some(bytes.split_at(size).1)
 }
 
 /// How many rows lie at the front, and the bytes behind them.
