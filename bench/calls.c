@@ -117,25 +117,28 @@ static void sum_values(const uint8_t *data, size_t length, uint8_t columns, stru
     if (answer != TDS_END) stop("token", answer);
 }
 
+static void sum_run(const uint8_t *data, const struct tds_rows *rows, struct counted *counted) {
+    const uint8_t *at = data + rows->start;
+    counted->tokens += rows->count, counted->rows += rows->count;
+    for (size_t row = 0; row < rows->count; row++, at += 1 + 4 * rows->columns)
+        for (size_t i = 0; i < rows->columns; i++) {
+            uint32_t value;
+            memcpy(&value, at + 1 + 4 * i, 4);
+            counted->sum += value;
+        }
+}
+
 static uint8_t sum_runs(const uint8_t *data, size_t length, uint8_t columns, struct counted *counted) {
     struct tds_cursor cursor = {0, columns};
     struct tds_rows rows;
-    size_t count;
     uint8_t answer;
-    do {
-        if ((answer = tds_rows_next(data, length, &cursor, &rows)) != TDS_OK) stop("rows", answer);
-        counted->tokens += rows.count, counted->rows += rows.count;
-        const uint8_t *at = data + rows.start;
-        for (size_t row = 0; row < rows.count; row++, at += 1 + 4 * rows.columns)
-            for (size_t i = 0; i < rows.columns; i++) {
-                uint32_t value;
-                memcpy(&value, at + 1 + 4 * i, 4);
-                counted->sum += value;
-            }
-        answer = tds_tokens_next(data, length, &cursor, read_tokens, 1, &count);
-        counted->tokens += count;
-    } while (answer == TDS_OK);
-    if (answer != TDS_END) stop("token", answer);
+    while (cursor.at < length)
+        if (data[cursor.at] == TDS_ROW && tds_rows_next(data, length, &cursor, &rows) == TDS_OK && rows.count > 0)
+            sum_run(data, &rows, counted);
+        else if ((answer = tds_token_next(data, length, &cursor, read_tokens)) == TDS_OK)
+            counted->tokens += 1;
+        else
+            stop("token", answer);
     return cursor.columns;
 }
 
