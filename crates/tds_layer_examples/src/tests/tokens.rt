@@ -2,6 +2,7 @@
 //! limits by number. A table's texts are what `Debug` writes of the tokens.
 
 mod faults;
+mod lent;
 mod limits;
 mod memory;
 mod vectors;
