@@ -5,3 +5,4 @@ pub mod Running
 pub mod Writing
 pub mod Sending
 pub mod Starting
+pub mod Rows

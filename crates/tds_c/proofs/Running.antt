@@ -1,5 +1,5 @@
 -- Tokens that were read one after the other.
-use Rattle.std.proofs.Common.{◌≡◌, ℕ, ◌+◌, ◌<◌, List, [], ◌∷◌, ◌++◌, length, drop, get_or, slice_set, suc, Option, Some, Result, Ok, refl, sym, ◌∙◌, append_assoc, arith}
+use Rattle.std.proofs.Common.{◌≡◌, ℕ, ◌+◌, ◌<◌, List, [], ◌∷◌, ◌++◌, length, drop, get_or, slice_set, suc, Some, Ok, refl, sym, ◌∙◌, append_assoc, arith}
 use Rattle.std.proofs.lemmas.List.{length-append, set_at}
 use Rattle.std.proofs.Math.Seq.{drop-cons}
 use Rattle.tds_c.specs.declared.tokens.TdsCursor.{TdsCursor}

@@ -1,5 +1,5 @@
 -- Taking a request.
-use Rattle.std.proofs.Common.{◌≡◌, ℕ, ◌+◌, ◌*◌, List, [], length, Option, Some, None, Ok, refl, sym, ap, ◌∙◌, arith}
+use Rattle.std.proofs.Common.{◌≡◌, ℕ, ◌+◌, ◌*◌, List, [], length, Some, None, Ok, refl, sym, ap, ◌∙◌, arith}
 use Rattle.tds_request.specs.declared.request.Request.{Request}
 use Rattle.tds_request.specs.declared.request.Request.TheVariants.{Batch}
 use Rattle.tds_client.specs.declared.client.parts.ClientParts.{ClientParts}

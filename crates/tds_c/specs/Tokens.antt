@@ -1,5 +1,5 @@
 -- A token as a plain value, and a cursor that goes from one to the next.
-use Rattle.std.specs.Prelude.{◌≡◌, ℕ, ◌-◌, ◌<◌, ◌⊎◌, List, [], ◌∷◌, ◌++◌, length, drop, Option, Some, None, Result, Ok, Err}
+use Rattle.std.specs.Prelude.{◌≡◌, ℕ, ℤ, ◌-◌, ◌<◌, List, [], ◌∷◌, ◌++◌, length, drop, Option, Some, None, Result, Ok, Err}
 use Rattle.tds_token.specs.declared.env_change.EnvChange.{EnvChange}
 use Rattle.tds_token.specs.declared.env_change.EnvChange.TheVariants.{Begin, Commit, Rollback, ResetDone}
 use Rattle.tds_token.specs.declared.message.Message.{Message}
@@ -7,11 +7,14 @@ use Rattle.tds_token.specs.declared.token.Token.{Token}
 use Rattle.tds_token.specs.declared.token.Token.TheVariants as tokens
 use Rattle.tds_token.specs.Layout.{IsToken}
 use Rattle.tds_token.specs.Reading.{wrong_token}
+use Rattle.tds_token.specs.Runs.{NoRow, row_tokens}
+use Rattle.tds_token.specs.Runs as runs
 use Rattle.tds_c.specs.declared.answers.Stop.{Stop}
 use Rattle.tds_c.specs.declared.answers.Stop.TheVariants as stops
 use Rattle.tds_c.specs.declared.tokens.Ran.{Ran}
 use Rattle.tds_c.specs.declared.tokens.Ran.TheVariants as ran
 use Rattle.tds_c.specs.declared.tokens.TdsCursor.{TdsCursor}
+use Rattle.tds_c.specs.declared.tokens.TdsRows.{TdsRows}
 use Rattle.tds_c.specs.declared.tokens.TdsToken.{TdsToken}
 use Rattle.tds_c.specs.Plain.{columns_from, columns_number}
 
@@ -39,8 +42,8 @@ abbrev pub Shows : TdsToken → ℕ → ℕ → Token → Type 0
 Shows t start columns (tokens.Info m) = ShowsMessage t 0xAB start m
 Shows t start columns (tokens.Error m) = ShowsMessage t 0xAA start m
 Shows t start columns (tokens.ReturnStatus v) = Begins t 0x79 start × (t.number ≡ v)
-Shows t start columns (tokens.Columns cs) = Begins t 0x81 start × (t.count ≡ length cs)
-Shows t start columns (tokens.Row vs) = Begins t 0xD1 start × (t.count ≡ columns)
+Shows t start columns (tokens.Columns cs) = Begins t 0x81 start × (t.value ≡ length cs)
+Shows t start columns (tokens.Row vs) = Begins t 0xD1 start × (t.value ≡ columns)
 Shows t start columns (tokens.Env e) = ShowsChange t start e
 Shows t start columns (tokens.Done status cur_cmd rows) =
     Begins t 0xFD start × (t.status ≡ status) × (t.cur_cmd ≡ cur_cmd) × (t.value ≡ rows)
@@ -118,3 +121,27 @@ abbrev pub ReadsRun : List ℕ → TdsCursor → TdsCursor → Room → Result R
 ReadsRun content old new room result =
     (read : List TdsToken) × (last : TdsCursor)
     × GivesInTurn content old read last × HasRead read room × StopsAt content last new room result
+
+-- ---- Rows in one run
+
+-- All the rows at the cursor, with their values: the tokens that `Tokens::next` gives one after the other. What is left begins
+-- with no row.
+abbrev pub RunsUnder : Option ℕ → List ℕ → TdsCursor → TdsCursor → TdsRows → Type 0
+RunsUnder columns content old new rows =
+    (values : List (List ℤ)) × (left : List ℕ)
+    × runs.GivesInTurn (record { bytes = drop old.at content; columns = columns }) (row_tokens values) (record { bytes = left; columns = columns })
+    × NoRow columns left × StandsAt new content left columns
+    × (rows.start ≡ old.at) × (rows.count ≡ length values) × (rows.columns ≡ old.columns)
+
+-- A cursor that is no place in the data is refused, and nothing was done.
+abbrev pub IsNoPlace : List ℕ → TdsCursor → TdsCursor → TdsRows → TdsRows → Stop → Type 0
+IsNoPlace content old new before after stop = (stop ≡ stops.NoPlace) × (new ≡ old) × (after ≡ before)
+
+abbrev pub RunsBy : Option (Option ℕ) → List ℕ → TdsCursor → TdsCursor → TdsRows → TdsRows → Result (Unit {0}) Stop → Type 0
+RunsBy None content old new before after (Ok done) = ⊥
+RunsBy None content old new before after (Err stop) = IsNoPlace content old new before after stop
+RunsBy (Some columns) content old new before after (Ok done) = RunsUnder columns content old new after
+RunsBy (Some columns) content old new before after (Err stop) = (length content < old.at) × IsNoPlace content old new before after stop
+
+abbrev pub ReadsRows : List ℕ → TdsCursor → TdsCursor → TdsRows → TdsRows → Result (Unit {0}) Stop → Type 0
+ReadsRows content old new before after result = RunsBy (columns_from old.columns) content old new before after result

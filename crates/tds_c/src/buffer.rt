@@ -1,6 +1,7 @@
-//! Bytes written to the front of the caller's buffer.
+//! Bytes behind others, and bytes written to the front of the caller's buffer.
 
-ghost use Rattle.std.specs.Prelude.{◌≡◌, ◌<◌, ◌≤◌, ◌+◌, ◌++◌, ℕ, List, true, false, length};
+ghost use Rattle.std.specs.Prelude.{◌≡◌, ◌<◌, ◌≤◌, ◌+◌, ◌++◌, ℕ, List, true, false};
+ghost use Rattle.std.specs.Prelude.{drop, length};
 ghost use Rattle.tds_c.specs.Calls.{with_front};
 
 /// Writes bytes behind those that stand at the buffer's front.
@@ -27,4 +28,13 @@ pub(crate) fn put(bytes: &[u8], out: &mut [u8], count: &mut usize) -> bool
     }
     out[..bytes.len()].copy_from_slice(bytes);
     true
+}
+
+/// What stands behind so many bytes.
+#[inline(always)]
+pub(crate) fn behind(bytes: &[u8], before: usize) -> &[u8]
+    requires { before ≤ length bytes.now }
+    ensures { result.now ≡ drop before bytes.now }
+{
+    bytes.split_at(before).1
 }

@@ -1,28 +1,18 @@
 //! The client's calls that write bytes, and those that change it alone.
 
-ghost use Rattle.std.specs.Prelude.{◌≡◌, ◌≤◌, drop, length};
 ghost use Rattle.tds_request.specs.Values.{IsBatchText};
 ghost use Rattle.tds_request.specs.declared.request.Request.TheVariants.{Batch};
 ghost use Rattle.tds_c.specs.Calls.{Changes, Writes, cancels, loses, marks, none_out, out_of};
 ghost use Rattle.tds_c.specs.Calls.{sends, starts};
 
 use crate::answers::Stop;
-use crate::buffer::{put, put_at};
+use crate::buffer::{behind, put, put_at};
 use crate::client::TdsClient;
 use crate::messages::put_batch;
 use std::alloc::Global;
 use tds_client::{Cancelled, Sent};
 use tds_packet::Reset;
 use tds_request::{Request, RequestKind};
-
-/// What stands behind so many bytes.
-#[inline(always)]
-fn behind(bytes: &[u8], before: usize) -> &[u8]
-    requires { before ≤ length bytes.now }
-    ensures { result.now ≡ drop before bytes.now }
-{
-    bytes.split_at(before).1
-}
 
 /// Sends the request's next packet, out of the caller's message into the caller's buffer.
 #[inline(always)]

@@ -174,9 +174,7 @@ fn has_room(stage: &StageParts, left: &[u8]) -> bool
 {
     match stage {
         StageParts::Sending { packets, .. } => *packets <= 0x7FFF_FFFF_FFFF_FFFF - left.len(),
-        StageParts::Idle
-        | StageParts::Reading
-        | StageParts::Cancelling
-        | StageParts::Broken(_) => true,
+        StageParts::Idle | StageParts::Reading | StageParts::Cancelling | StageParts::Broken(_) =>
+            true,
     }
 }

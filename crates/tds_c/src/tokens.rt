@@ -5,11 +5,12 @@ ghost use Rattle.tds_token.specs.Layout.{token_of};
 ghost use Rattle.tds_c.specs.declared.answers.Stop.{Stop};
 ghost use Rattle.tds_c.specs.declared.tokens.Ran.{Ran};
 ghost use Rattle.tds_c.specs.declared.tokens.TdsToken.{TdsToken};
-ghost use Rattle.tds_c.specs.Answers.{number_of};
-ghost use Rattle.tds_c.specs.Tokens.{Reads, ReadsRun, Shows, ShowsChange, ShowsMessage};
+ghost use Rattle.tds_c.specs.Answers.{done_number, number_of};
+ghost use Rattle.tds_c.specs.Tokens.{Reads, ReadsRows, ReadsRun, Shows, ShowsChange, ShowsMessage};
 ghost use Rattle.tds_c.specs.Tokens.{found_number, given, ran_number};
 
-use crate::answers::Stop;
+use crate::answers::{Stop, done_code};
+use crate::buffer::behind;
 use crate::numbers::{columns_from, columns_number};
 use tds_token::{EnvChange, MessageRef, TokenRef, Tokens};
 
@@ -27,12 +28,11 @@ pub struct TdsCursor {
 #[repr(C)]
 #[derive(Clone, Copy, PartialEq, Eq, Debug)]
 pub struct TdsToken {
-    /// The rows of a DONE; the descriptor of an ENVCHANGE.
+    /// The rows of a DONE; the descriptor of an ENVCHANGE; the columns of a COLMETADATA; the values
+    /// of a ROW.
     pub value: u64,
     /// The first byte of the token in the data.
     pub start: usize,
-    /// The columns of a COLMETADATA; the values of a ROW.
-    pub count: usize,
     /// The number of an INFO or ERROR; the value of a RETURNSTATUS.
     pub number: i32,
     /// The line of an INFO or ERROR.
@@ -47,6 +47,18 @@ pub struct TdsToken {
     pub severity: u8,
     /// The type of an ENVCHANGE.
     pub change: u8,
+}
+
+/// Rows one behind the other: `struct tds_rows`. Each is its token byte and four bytes a column.
+#[repr(C)]
+#[derive(Clone, Copy, PartialEq, Eq, Debug)]
+pub struct TdsRows {
+    /// The first byte of the first row in the data.
+    pub start: usize,
+    /// How many rows there are.
+    pub count: usize,
+    /// The columns of each.
+    pub columns: usize,
 }
 
 /// Why a call that reads several tokens stopped, where no byte is wrong.
@@ -71,7 +83,6 @@ fn blank(kind: u8, start: usize) -> TdsToken
       state = 0;
       severity = 0;
       change = 0;
-      count = 0;
     } }
 {
     TdsToken {
@@ -85,7 +96,6 @@ fn blank(kind: u8, start: usize) -> TdsToken
         state: 0,
         severity: 0,
         change: 0,
-        count: 0,
     }
 }
 
@@ -131,11 +141,11 @@ fn shown(start: usize, columns: u8, token: &TokenRef<'_>) -> TdsToken
             ..blank(0x79, start)
         },
         TokenRef::Columns(columns) => TdsToken {
-            count: usize::from(columns.count()),
+            value: u64::from(columns.count()),
             ..blank(0x81, start)
         },
         TokenRef::Row(_) => TdsToken {
-            count: usize::from(columns),
+            value: u64::from(columns),
             ..blank(0xD1, start)
         },
         TokenRef::Env(env) => change(start, *env),
@@ -247,4 +257,37 @@ pub extern "C" fn tds_tokens_next(
         Ok(Ran::End) => 9,
         Err(stop) => stop.number(),
     }
+}
+
+/// The rows at the cursor, which goes on behind them.
+#[inline(always)]
+fn run_of_rows(data: &[u8], cursor: &mut TdsCursor, rows: &mut TdsRows) -> Result<(), Stop>
+    ensures { ReadsRows data.now cursor.old cursor.new rows.old rows.new result }
+{
+    let Some(columns) = columns_from(cursor.columns) else {
+        return Err(Stop::NoPlace);
+    };
+    if cursor.at > data.len() {
+        return Err(Stop::NoPlace);
+    }
+    let mut tokens = Tokens::new(behind(data, cursor.at), columns);
+    let run = tokens.rows();
+    *rows = TdsRows {
+        start: cursor.at,
+        count: run.len(),
+        columns: usize::from(cursor.columns),
+    };
+    cursor.at = data.len().saturating_sub(tokens.left().len());
+    cursor.columns = columns_number(tokens.columns());
+    Ok(())
+}
+
+/// Reads all the rows at the cursor as one run, and goes on behind them. None of them where no row
+/// is there. 0, or 26 where the cursor is no place in these data.
+#[unsafe(no_mangle)]
+pub extern "C" fn tds_rows_next(data: &[u8], cursor: &mut TdsCursor, rows: &mut TdsRows) -> u8
+    ensures { (answer : Result (Unit {0}) Stop) × (result ≡ number_of done_number answer)
+        × ReadsRows data.now cursor.old cursor.new rows.old rows.new answer }
+{
+    done_code(run_of_rows(data, cursor, rows))
 }

@@ -98,10 +98,10 @@ impl ClientParts {
         requires stage { self.old.stage ≡ Sending kind packets }
         requires whole { AreParts self.old.stage left.now }
         ensures value { sent (session_from self.old left.now) ≡ Ok (record {
-            answer = result.answer;
-            session = session_from self.new (drop (length result.data.now) left.now);
-            bytes = result.header ++ result.data.now;
-          }) }
+          answer = result.answer;
+          session = session_from self.new (drop (length result.data.now) left.now);
+          bytes = result.header ++ result.data.now;
+        }) }
         ensures header { length result.header ≡ 8 }
         ensures fits { length result.data.now ≤ length left.now }
         ensures rest { drop (length result.data.now) left.now

@@ -1,6 +1,4 @@
-use Rattle.std.proofs.Common.{refl, ap, ◌∙◌, ◌++◌, [], drop, length, Some, arith}
-use Rattle.tds_client.specs.Parts.{session_from}
-use Rattle.tds_client.specs.Sending.{sent}
+use Rattle.std.proofs.Common.{refl, ap, ◌∙◌, [], Some}
 use Rattle.tds_c.proofs.Refusing.{is_this}
 use Rattle.tds_c.proofs.Sending.{is_out, packet_length, sends_from}
 use Rattle.tds_c.proofs.calls.send.Goals as goal

@@ -16,8 +16,11 @@ returns-then-count-message c =
     ((tt, started (session_from c.in-Some.parts []) (Batch c.args.text.now), message_of c.in-Some.parts.heard (Batch c.args.text.now), started_from _ (Batch c.args.text.now) _ c.in-Some.ensures.some c.in-Ok.ensures.accepted, batch_length c.in-Some.parts.heard c.args.text.now, c.if-count-message.true), (refl, refl))
 
 pub returns : goal.returns
-returns c =
-    (started (session_from c.in-Some.parts []) (Batch c.args.text.now), message_of c.in-Some.parts.heard (Batch c.args.text.now), started_from _ (Batch c.args.text.now) _ c.in-Some.ensures.some c.in-Ok.ensures.accepted,
-    c.of.ensures ∙ is_started _ _ _ (c.in-Ok.ensures.ok (Batch c.args.text.now) refl),
-    c.put_batch.ensures ∙ ap (λ (bytes : List ℕ). with_front bytes c.args.message.now) (c.in-Ok.ensures.message (Batch c.args.text.now)),
-    batch_length c.in-Some.parts.heard c.args.text.now)
+returns c = (
+  started (session_from c.in-Some.parts []) (Batch c.args.text.now),
+  message_of c.in-Some.parts.heard (Batch c.args.text.now),
+  started_from _ (Batch c.args.text.now) _ c.in-Some.ensures.some c.in-Ok.ensures.accepted,
+  c.of.ensures ∙ is_started _ _ _ (c.in-Ok.ensures.ok (Batch c.args.text.now) refl),
+  c.put_batch.ensures ∙ ap (λ (bytes : List ℕ). with_front bytes c.args.message.now) (c.in-Ok.ensures.message (Batch c.args.text.now)),
+  batch_length c.in-Some.parts.heard c.args.text.now,
+)
