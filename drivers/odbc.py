@@ -76,15 +76,20 @@ def cancel_in_the_middle(connection):
     print("cancelled", "at once" if time.time() - started < 1.5 else "late")
 
 
-ONE = connect(sys.argv[1])
-for TEXT in ("rows 7 3", "say hello", "foo", "fail 70001"):
-    ask(ONE, TEXT)
-print("autocommit off", ODBC.SQLSetConnectAttr(ONE, 102, HANDLE(0), -5))
-ask(ONE, "rows 1 2")
-end(ONE, "commit", 0)
-ask(ONE, "rows 2 2")
-end(ONE, "rollback", 1)
-ask(ONE, "rows 3 1")
-connect(sys.argv[1], "7.1")
-connect(sys.argv[1], more="Encryption=require;")
-cancel_in_the_middle(connect(sys.argv[2]))
+def main():
+    one = connect(sys.argv[1])
+    for text in ("rows 7 3", "say hello", "foo", "fail 70001"):
+        ask(one, text)
+    print("autocommit off", ODBC.SQLSetConnectAttr(one, 102, HANDLE(0), -5))
+    ask(one, "rows 1 2")
+    end(one, "commit", 0)
+    ask(one, "rows 2 2")
+    end(one, "rollback", 1)
+    ask(one, "rows 3 1")
+    connect(sys.argv[1], "7.1")
+    connect(sys.argv[1], more="Encryption=require;")
+    cancel_in_the_middle(connect(sys.argv[2]))
+
+
+if __name__ == "__main__":
+    main()

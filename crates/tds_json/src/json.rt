@@ -10,11 +10,7 @@ use std::alloc::{AllocError, Global};
 use std::fmt::Write;
 
 /// Appends where the bytes stop being JSON, and why that may be.
-pub fn put_json_fault(
-    alloc: Global,
-    text: &mut String,
-    page: Page<'_>,
-) -> Result<(), AllocError> {
+pub fn put_json_fault(alloc: Global, text: &mut String, page: Page<'_>) -> Result<(), AllocError> {
     let Err(error) = Value::from_slice(alloc, page.bytes) else {
         return Ok(());
     };

@@ -43,11 +43,7 @@ impl Place {
 }
 
 /// Appends the front of a line about what stands behind so many bytes.
-pub fn put_place(
-    text: &mut String,
-    page: Page<'_>,
-    offset: usize,
-) -> Result<(), AllocError> {
+pub fn put_place(text: &mut String, page: Page<'_>, offset: usize) -> Result<(), AllocError> {
     let mut place = Place::start();
     place.go_to(page.bytes, offset);
     place.put(text, page.name)
@@ -116,11 +112,7 @@ impl Scan {
 
 /// Where the parts begin of the array or object that begins behind so many bytes: the items of an
 /// array, the keys and values of an object in turn. Of another value there are none.
-pub fn parts_of(
-    alloc: Global,
-    bytes: &[u8],
-    offset: usize,
-) -> Result<Vec<usize>, AllocError> {
+pub fn parts_of(alloc: Global, bytes: &[u8], offset: usize) -> Result<Vec<usize>, AllocError> {
     let mut parts = Vec::new(alloc);
     let mut scan = Scan {
         depth: 0,

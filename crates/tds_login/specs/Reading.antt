@@ -1,5 +1,5 @@
 -- How a login is read: what each byte does, and what bytes do, one after another.
-use Rattle.std.specs.Prelude.{◌≡◌, ℕ, zero, suc, ◌+◌, ◌-◌, ◌*◌, ◌%◌, ◌==◌, ◌&&◌, ◌||◌, not, nat_lt, min, Bool, true, false, List, [], ◌∷◌, ◌++◌, take, Option, Some, None, Result, Ok, Err, if◌then◌else◌, slice_set, replicate}
+use Rattle.std.specs.Prelude.{ℕ, ◌+◌, ◌-◌, ◌*◌, ◌%◌, ◌==◌, ◌&&◌, ◌||◌, not, nat_lt, min, Bool, false, List, [], ◌∷◌, ◌++◌, take, Option, Some, None, Result, Ok, Err, if◌then◌else◌, slice_set, replicate}
 use Rattle.tds_login.specs.declared.answer.LoginAnswer.{LoginAnswer}
 use Rattle.tds_login.specs.declared.answer.LoginAnswer.TheVariants.{Prepare, LetIn, Refuse}
 use Rattle.tds_login.specs.declared.login.Due.{Due}

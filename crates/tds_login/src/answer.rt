@@ -73,12 +73,7 @@ pub fn put_answer(alloc: Global, out: &mut Vec<u8>, answer: LoginAnswer) -> Resu
 }
 
 /// Appends an answer of one ERROR with this number, and DONE. Of the text, in ASCII, 200 bytes count.
-pub fn put_error(
-    alloc: Global,
-    out: &mut Vec<u8>,
-    number: u32,
-    text: &[u8],
-) -> Result<(), NoMemory>
+pub fn put_error(alloc: Global, out: &mut Vec<u8>, number: u32, text: &[u8]) -> Result<(), NoMemory>
     ensures short { vec_len out.new ≤ vec_len out.old + 4096 }
 {
     put_error_as(alloc, out, Layout::Wide, number, text)

@@ -20,6 +20,7 @@ const LEAST_LENGTH: u32 = 94;
 
 /// The token of PRELOGIN's option ENCRYPTION (MS-TDS 2.2.6.5), and the end of its options.
 const ENCRYPTION: u8 = 1;
+
 const TERMINATOR: u8 = 0xff;
 
 /// Whether PRELOGIN demands that all that follows is encrypted (MS-TDS 2.2.6.5): ENCRYPT_ON or

@@ -13,5 +13,4 @@ pub fn cuts_do_not_matter()
         → answers_to l first ++ answers_to (after l first) second ≡ answers_to l (first ++ second) }
     ensures broken { (l : Login) (fault : LoginFault) (bytes : List ℕ) → fault_of l ≡ Some fault
         → (after l bytes ≡ l) × (answers_to l bytes ≡ []) }
-{
-}
+{}

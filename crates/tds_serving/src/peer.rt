@@ -287,11 +287,7 @@ impl Peer {
     }
 
     /// Takes an attention that waited.
-    fn take_held(
-        &mut self,
-        out: &mut Vec<u8>,
-        notes: &mut Vec<Note>,
-    ) -> Result<Next, AllocError>
+    fn take_held(&mut self, out: &mut Vec<u8>, notes: &mut Vec<Note>) -> Result<Next, AllocError>
         ensures { vec_len out.new ≤ vec_len out.old + 4608 }
     {
         let Stage::Session { front, end } = &mut self.stage else {

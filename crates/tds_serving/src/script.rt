@@ -5,7 +5,6 @@ mod reading;
 
 pub use fault::ScriptFault;
 pub use reading::read_script;
-
 use std::alloc::Global;
 
 /// What is done. Requests are counted on each connection, from 1.

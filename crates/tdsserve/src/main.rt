@@ -4,12 +4,10 @@
 mod words;
 
 use std::alloc::Global;
-use std::env;
-use std::fs;
 use std::process::ExitCode;
+use std::{env, fs};
 use tds_serving::{Log, Script, ScriptFault, read_script, serve};
 use words::{Asked, read_words};
-
 
 fn main(rt: HostRuntime) -> ExitCode {
     let alloc = rt.alloc();
@@ -57,9 +55,7 @@ fn given_script(
     };
     match fs::read(rt, path.as_str()) {
         Ok(bytes) => read_script(alloc, path.as_str(), bytes.as_slice()),
-        Err(error) => Err(ScriptFault::Wrong(
-            format!(in alloc; "{path}: {error}")?,
-        )),
+        Err(error) => Err(ScriptFault::Wrong(format!(in alloc; "{path}: {error}")?)),
     }
 }
 

@@ -84,7 +84,9 @@ fn parser<'a>(alloc: Global) -> Result<Command<'a>, AllocError> {
     let address = Arg::new(alloc, "ADDRESS").required(true);
     let pace = Arg::new(alloc, "pace")
         .long("pace")
-        .help("MILLISECONDS between two turns of all connections: a step of an answer each, so that a cancel can meet it")
+        .help(
+            "MILLISECONDS between two turns of all connections: a step of an answer each, so that a cancel can meet it",
+        )
         .action(ArgAction::Set);
     let script = Arg::new(alloc, "script")
         .long("script")

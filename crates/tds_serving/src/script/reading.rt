@@ -162,7 +162,10 @@ fn read_event(
     if fields.len() != wanted.len() {
         put_front(text, page, part(0), place)?;
         let (count, stand) = (wanted.len(), fields.len());
-        writeln!(text, "behind \"{word}\" stand {count} numbers; here stand {stand}")?;
+        writeln!(
+            text,
+            "behind \"{word}\" stand {count} numbers; here stand {stand}"
+        )?;
         return Ok(None);
     }
     for (index, (value, wanted)) in fields.iter().zip(wanted.iter()).enumerate() {
@@ -172,7 +175,10 @@ fn read_event(
         let nth = index.saturating_add(1);
         put_front(text, page, part(nth), place)?;
         let wanted = wanted.wanted();
-        write!(text, "value {nth} behind \"{word}\" is {wanted}; here stands ")?;
+        write!(
+            text,
+            "value {nth} behind \"{word}\" is {wanted}; here stands "
+        )?;
         put_value(alloc, text, value)?;
         text.push_str("\n")?;
         return Ok(None);

@@ -1,6 +1,6 @@
-use Rattle.std.proofs.Common.{◌≡◌, refl, ◌∙◌, sym, ap, rules, arith, ℕ, zero, suc, ◌+◌, ◌-◌, ◌*◌, ◌/◌, ◌<◌, ◌==◌, length, List, Option, None, if◌then◌else◌, slice_get, slice_index}
+use Rattle.std.proofs.Common.{◌≡◌, refl, ◌∙◌, sym, ap, rules, arith, ℕ, zero, suc, ◌+◌, ◌-◌, ◌*◌, ◌/◌, ◌<◌, ◌==◌, length, List, None, if◌then◌else◌, slice_get, slice_index}
 use Rattle.std.proofs.lemmas.Grind.{common_steps}
-use Rattle.tds_login.specs.Asked.{encryption_of, encryption_among}
+use Rattle.tds_login.specs.Asked.{encryption_among}
 use Rattle.tds_login.proofs.asked.encryption.Goals as goal
 
 -- what is found among the options that are left, by the next one

@@ -1,5 +1,5 @@
-use Rattle.std.proofs.Common.{◌≡◌, refl, sym, ◌∙◌, ap, arith, rules, ◌+◌, ◌⊎◌, inr, [], length, get_or, take, None, Some, Ok, Err}
-use Rattle.tds_login.specs.Reading.{step, fault_of, after, answers_in, answers_to}
+use Rattle.std.proofs.Common.{sym, ◌∙◌, ap, ◌+◌, inr, Ok}
+use Rattle.tds_login.specs.Reading.{fault_of, answers_in}
 use Rattle.tds_login.proofs.Folds.{after_more, answers_more, goes_on_behind, broken_behind, ends_broken, ends_unanswered}
 use Rattle.tds_login.proofs.login.Login.feed.Goals as goal
 

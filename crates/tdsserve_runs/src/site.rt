@@ -1,0 +1,55 @@
+//! A server on a port of its own.
+
+use anyhow::Context;
+use mio::Events;
+use std::alloc::Global;
+use std::io::{self, Stderr};
+use std::net::SocketAddr;
+use tds_serving::{House, Log, Manner, Script};
+use tds_session::OnAttention;
+
+/// How often a round is given before a run is given up.
+pub const MOST_ROUNDS: u64 = 50_000_000;
+
+/// A server, and where it listens.
+#[derive(Drop)]
+pub struct Site {
+    house: House<io::Sink>,
+    events: Events<Global>,
+    pub address: SocketAddr,
+}
+
+impl Site {
+    pub fn new(
+        rt: &HostRuntime,
+        alloc: Global,
+        on_attention: OnAttention,
+        script: Script,
+    ) -> anyhow::Result<Site> {
+        let Ok(address) = "127.0.0.1:0".parse::<SocketAddr>() else {
+            anyhow::bail!("no address");
+        };
+        let manner = Manner {
+            address,
+            on_attention,
+            pace: 0,
+        };
+        let house = House::new(rt, alloc, manner, script, Log::new(io::sink(), false))?;
+        let address = house.local_addr().context("no port")?;
+        Ok(Site {
+            house,
+            events: Events::with_capacity(alloc, 256)?,
+            address,
+        })
+    }
+
+    /// A round of the server, which waits for nothing.
+    pub fn round(&mut self, rt: &HostRuntime) -> io::Result<()> {
+        self.house.round(rt, &mut self.events, 0)
+    }
+
+    /// How many connections the server has.
+    pub fn count(&self) -> usize {
+        self.house.count()
+    }
+}
