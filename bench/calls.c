@@ -64,15 +64,21 @@ static struct counted hear(const uint8_t *bytes, size_t length, uint16_t size) {
     return counted;
 }
 
+#define ROOM 64
+static struct tds_token read_tokens[ROOM];
+
+/* Reads a packet's tokens, as many a call as there is room for. */
 static uint8_t count_tokens(const uint8_t *data, size_t length, uint8_t columns, struct counted *counted) {
     struct tds_cursor cursor = {0, columns};
-    struct tds_token token;
+    size_t count;
     uint8_t answer;
-    while ((answer = tds_token_next(data, length, &cursor, &token)) == TDS_OK) {
-        counted->tokens += 1;
-        if (token.kind == TDS_ROW) counted->rows += 1;
-        else if (token.kind == TDS_DONE) counted->sum += token.value;
-    }
+    do {
+        answer = tds_tokens_next(data, length, &cursor, read_tokens, ROOM, &count);
+        counted->tokens += count;
+        for (const struct tds_token *token = read_tokens; token < read_tokens + count; token++)
+            if (token->kind == TDS_ROW) counted->rows += 1;
+            else if (token->kind == TDS_DONE) counted->sum += token->value;
+    } while (answer == TDS_OK);
     if (answer != TDS_END) stop("token", answer);
     return cursor.columns;
 }
@@ -89,21 +95,63 @@ static struct counted tokens(const uint8_t *bytes, size_t length, uint16_t size)
     return counted;
 }
 
+static void sum_row(const uint8_t *data, const struct tds_token *row, struct counted *counted) {
+    counted->rows += 1;
+    for (size_t i = 0; i < row->value; i++) {
+        uint32_t value;
+        memcpy(&value, data + row->start + 1 + 4 * i, 4);
+        counted->sum += value;
+    }
+}
+
 static void sum_values(const uint8_t *data, size_t length, uint8_t columns, struct counted *counted) {
     struct tds_cursor cursor = {0, columns};
-    struct tds_token token;
+    size_t count;
     uint8_t answer;
-    while ((answer = tds_token_next(data, length, &cursor, &token)) == TDS_OK) {
-        counted->tokens += 1;
-        if (token.kind != TDS_ROW) continue;
-        counted->rows += 1;
-        for (uint8_t i = 0; i < token.count; i++) {
+    do {
+        answer = tds_tokens_next(data, length, &cursor, read_tokens, ROOM, &count);
+        counted->tokens += count;
+        for (const struct tds_token *token = read_tokens; token < read_tokens + count; token++)
+            if (token->kind == TDS_ROW) sum_row(data, token, counted);
+    } while (answer == TDS_OK);
+    if (answer != TDS_END) stop("token", answer);
+}
+
+static void sum_run(const uint8_t *data, const struct tds_rows *rows, struct counted *counted) {
+    const uint8_t *at = data + rows->start;
+    counted->tokens += rows->count, counted->rows += rows->count;
+    for (size_t row = 0; row < rows->count; row++, at += 1 + 4 * rows->columns)
+        for (size_t i = 0; i < rows->columns; i++) {
             uint32_t value;
-            memcpy(&value, data + token.start + 1 + 4u * i, 4);
+            memcpy(&value, at + 1 + 4 * i, 4);
             counted->sum += value;
         }
+}
+
+static uint8_t sum_runs(const uint8_t *data, size_t length, uint8_t columns, struct counted *counted) {
+    struct tds_cursor cursor = {0, columns};
+    struct tds_rows rows;
+    uint8_t answer;
+    while (cursor.at < length)
+        if (data[cursor.at] == TDS_ROW && tds_rows_next(data, length, &cursor, &rows) == TDS_OK && rows.count > 0)
+            sum_run(data, &rows, counted);
+        else if ((answer = tds_token_next(data, length, &cursor, read_tokens)) == TDS_OK)
+            counted->tokens += 1;
+        else
+            stop("token", answer);
+    return cursor.columns;
+}
+
+static struct counted rows(const uint8_t *bytes, size_t length, uint16_t size) {
+    struct counted counted = {0, 0, 0, 0};
+    uint8_t columns = 0;
+    while (length > 0) {
+        size_t whole = front(bytes, length, size);
+        columns = sum_runs(bytes + 8, whole - 8, columns, &counted);
+        bytes += whole, length -= whole;
+        counted.packets += 1;
     }
-    if (answer != TDS_END) stop("token", answer);
+    return counted;
 }
 
 static struct counted values(const uint8_t *bytes, size_t length, uint16_t size) {
@@ -125,7 +173,7 @@ static struct counted values(const uint8_t *bytes, size_t length, uint16_t size)
 static const struct {
     const char *name;
     struct counted (*walk)(const uint8_t *, size_t, uint16_t);
-} WALKS[] = {{"packets", packets}, {"hear", hear}, {"tokens", tokens}, {"values", values}};
+} WALKS[] = {{"packets", packets}, {"hear", hear}, {"tokens", tokens}, {"rows", rows}, {"values", values}};
 
 static uint64_t now(void) {
     struct timespec time;

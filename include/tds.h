@@ -23,8 +23,9 @@
  * WHAT A CALL ANSWERS. One number, of those below. From 20 on the call was not done: the client,
  * the cursor and the buffers are as they were, and a count is 0, or where room is wanted (21) how
  * much. The exceptions are the client's faults (61 to 69), which break the client, and the tokens'
- * (51 to 57), which put the cursor behind the data. Want of memory (22) may come in place of any other answer of a call that takes
- * memory: start, send and cancel. Call again once there is some.
+ * (51 to 57), which put the cursor behind the data, with the tokens before them read. Want of
+ * memory (22) may come in place of any other answer of a call that takes memory: cancel, and start
+ * of any request but a batch. Call again once there is some.
  */
 #ifndef TDS_H
 #define TDS_H
@@ -147,7 +148,8 @@ uint8_t tds_client_mark_reset(struct tds_client *client, uint8_t reset);
 
 /* In idle: takes a request. Nothing goes out yet. Its message is written to `message`, which has
  * room for `room` bytes (TDS_MESSAGE_MOST always does), and its length to `count`. Keep it until
- * all of it is out. A batch has 1 to 2,000 units of UTF-16; an isolation level is 0 to 5. */
+ * all of it is out. A batch has 1 to 2,000 units of UTF-16, and its start takes no memory; an
+ * isolation level is 0 to 5. */
 uint8_t tds_client_start_batch(struct tds_client *client, const uint16_t *text, size_t units,
                                uint8_t *message, size_t room, size_t *count);
 uint8_t tds_client_start_begin(struct tds_client *client, uint8_t isolation, uint8_t *message,
@@ -162,7 +164,7 @@ uint8_t tds_client_start_rollback(struct tds_client *client, uint8_t next, uint8
                                   size_t room, size_t *count);
 
 /* In sending: writes the request's next packet to `out`, which needs room for the packet size at
- * most. TDS_MORE or TDS_LAST. */
+ * most. TDS_MORE or TDS_LAST. Takes no memory. */
 uint8_t tds_client_send(struct tds_client *client, const uint8_t *message, size_t length,
                         uint8_t *out, size_t room, size_t *count);
 
@@ -200,15 +202,15 @@ struct tds_cursor {
     uint8_t columns;
 };
 
-/* A token. A field that its kind does not have is 0. Its bytes begin at `start` of the data, and end
- * where the cursor stands then: texts, names of columns and values of a row are read from there.
+/* A token. A field that its kind does not have is 0. Its bytes begin at `start` of the data, and
+ * texts, names of columns and values of a row are read from there.
  *   ROW: 4 bytes a value from start + 1 on, signed, the low byte first.
  *   INFO, ERROR: from start + 9 on, the count of the text's units (2 bytes) and the units; then the
  *     server's and the procedure's name, each with its count before it (1 byte).
  *   COLMETADATA: from start + 3 on, of each column: its user type (4 bytes), its flags (2), its type
  *     (1, INT4), the count of its name's units (1) and the units. */
 struct tds_token {
-    uint64_t value;   /* DONE: its rows. ENVCHANGE: the descriptor */
+    uint64_t value;   /* DONE: its rows. ENVCHANGE: the descriptor. COLMETADATA: its columns. ROW: its values */
     size_t start;
     int32_t number;   /* INFO, ERROR: the number. RETURNSTATUS: the value */
     int32_t line;     /* INFO, ERROR */
@@ -218,13 +220,34 @@ struct tds_token {
     uint8_t state;    /* INFO, ERROR */
     uint8_t severity; /* INFO, ERROR: the class */
     uint8_t change;   /* ENVCHANGE: TDS_BEGIN to TDS_RESET_DONE */
-    uint8_t count;    /* COLMETADATA: its columns. ROW: its values */
 };
 
 /* Reads the token at the cursor of these data, and goes on behind it. TDS_OK: it is in `token`.
- * TDS_END: the data are at their end. 51 to 57: they spell no token. Takes no memory. */
+ * TDS_END: the data are at their end. 51 to 57: they spell no token. Unless it is TDS_OK, `token`
+ * is as it was. Takes no memory. */
 uint8_t tds_token_next(const uint8_t *data, size_t length, struct tds_cursor *cursor,
                        struct tds_token *token);
+
+/* The same of up to `room` tokens in one call: those that tds_token_next gives one after the other.
+ * They stand at the front of `tokens`, and `count` says how many. TDS_OK: the room is full, and
+ * there may be more. TDS_END: these were the last ones. 51 to 57: behind these the data spell no
+ * token. In each case the tokens that were read are there, and the cursor stands where
+ * tds_token_next would leave it. Takes no memory. */
+uint8_t tds_tokens_next(const uint8_t *data, size_t length, struct tds_cursor *cursor,
+                        struct tds_token *tokens, size_t room, size_t *count);
+
+/* Rows one behind the other, all of the same width: each has 1 + 4 * columns bytes, its token byte
+ * and its values. */
+struct tds_rows {
+    size_t start;   /* the first byte of the first row in the data */
+    size_t count;   /* how many rows there are */
+    size_t columns; /* how many values each has */
+};
+
+/* Finds all the rows at the cursor, and goes on behind them. TDS_OK, also where there is none:
+ * `count` is 0 then, and tds_token_next reads the token that is there. Takes no memory. */
+uint8_t tds_rows_next(const uint8_t *data, size_t length, struct tds_cursor *cursor,
+                      struct tds_rows *rows);
 
 #ifdef __cplusplus
 }

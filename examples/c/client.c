@@ -43,23 +43,30 @@ static size_t send_one(struct connection *c, uint8_t *out, size_t room) {
     return count;
 }
 
-/* Takes a packet, and prints the tokens that are the caller's. */
+static void show(const struct tds_token *token, const uint8_t *data) {
+    const uint8_t *at = data + token->start;
+    switch (token->kind) {
+    case TDS_INFO: printf("info %d %c\n", token->number, at[11]); break;
+    case TDS_RETURNSTATUS: printf("status %d\n", token->number); break;
+    case TDS_COLMETADATA: printf("columns %llu\n", (unsigned long long)token->value); break;
+    case TDS_ROW: printf("row %d\n", at[1] | at[2] << 8); break;
+    case TDS_DONE: printf("done %04x %llu\n", token->status, (unsigned long long)token->value); break;
+    default: break;
+    }
+}
+
+/* Takes a packet, and prints the tokens that are the caller's, two a call. */
 static void take(struct connection *c, const uint8_t *bytes, size_t length, unsigned wanted) {
     struct tds_cursor cursor = {0, c->client.columns};
-    struct tds_token token = {0};
-    int told = c->client.stage == TDS_READING;
+    struct tds_token tokens[2] = {{0}};
+    size_t count = 0;
+    uint8_t answer = c->client.stage == TDS_READING ? TDS_OK : TDS_END;
     expect("take", tds_client_take(&c->client, bytes, length), wanted);
-    while (told && tds_token_next(bytes + 8, length - 8, &cursor, &token) == TDS_OK) {
-        const uint8_t *at = bytes + 8 + token.start;
-        switch (token.kind) {
-        case TDS_INFO: printf("info %d %c\n", token.number, at[11]); break;
-        case TDS_RETURNSTATUS: printf("status %d\n", token.number); break;
-        case TDS_COLMETADATA: printf("columns %d\n", token.count); break;
-        case TDS_ROW: printf("row %d\n", at[1] | at[2] << 8); break;
-        case TDS_DONE: printf("done %04x %llu\n", token.status, (unsigned long long)token.value); break;
-        default: break;
-        }
+    while (answer == TDS_OK) {
+        answer = tds_tokens_next(bytes + 8, length - 8, &cursor, tokens, 2, &count);
+        for (size_t i = 0; i < count; i++) show(&tokens[i], bytes + 8);
     }
+    expect("tokens", answer, TDS_END);
 }
 
 static void packets(void) {
@@ -119,6 +126,32 @@ static void reset(struct connection *c) {
     take(c, ENDED, sizeof ENDED, TDS_FINISHED);
 }
 
+/* Rows in one run, and tokens of which the last is cut. */
+static void runs(void) {
+    const uint8_t *data = ROWS + 8;
+    struct tds_cursor cursor = {0, 0};
+    struct tds_rows rows = {0, 0, 0};
+    struct tds_token tokens[8] = {{0}};
+    size_t count = 0, length = sizeof ROWS - 8;
+    expect("none", tds_rows_next(data, length, &cursor, &rows), TDS_OK);
+    expect("no row", rows.count, 0);
+    expect("columns", tds_token_next(data, length, &cursor, tokens), TDS_OK);
+    expect("rows", tds_rows_next(data, length, &cursor, &rows), TDS_OK);
+    expect("two rows", rows.count == 2 && rows.columns == 1, 1);
+    expect("first", data[rows.start + 1], 5);
+    expect("second", data[rows.start + 5 + 1], 6);
+    expect("done", tds_tokens_next(data, length, &cursor, tokens, 8, &count), TDS_END);
+    expect("one", count == 1 && tokens[0].kind == TDS_DONE, 1);
+    cursor.at = 0;
+    expect("cut", tds_tokens_next(data, length - 1, &cursor, tokens, 8, &count), TDS_TOKEN_CUT);
+    expect("before it", count == 3 && tokens[2].kind == TDS_ROW && cursor.at == length - 1, 1);
+    expect("past", tds_tokens_next(data, length - 2, &cursor, tokens, 8, &count), TDS_NO_PLACE);
+    expect("nothing", count == 0 && cursor.at == length - 1, 1);
+    cursor.at = 0;
+    expect("no room", tds_tokens_next(data, length, &cursor, tokens, 0, &count), TDS_OK);
+    expect("none read", count == 0 && cursor.at == 0, 1);
+}
+
 static void faults(struct connection *c) {
     struct tds_client forged = c->client;
     expect("unasked", tds_client_take(&c->client, ENDED, sizeof ENDED), TDS_CLIENT_ANSWER_IN_IDLE);
@@ -134,6 +167,7 @@ static void faults(struct connection *c) {
 int main(void) {
     static struct connection connection;
     packets();
+    runs();
     requests(&connection);
     cancel_that_crosses(&connection);
     reset(&connection);

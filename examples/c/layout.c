@@ -17,7 +17,9 @@ typedef char cursor_fields[offsetof(struct tds_cursor, columns) == 8 && sizeof(s
 typedef char token_fields[offsetof(struct tds_token, start) == 8 && offsetof(struct tds_token, number) == 16 &&
     offsetof(struct tds_token, line) == 20 && offsetof(struct tds_token, status) == 24 &&
     offsetof(struct tds_token, cur_cmd) == 26 && offsetof(struct tds_token, kind) == 28 &&
-    offsetof(struct tds_token, count) == 32 && sizeof(struct tds_token) == 40 ? 1 : -1];
+    offsetof(struct tds_token, change) == 31 && sizeof(struct tds_token) == 32 ? 1 : -1];
+typedef char rows_fields[offsetof(struct tds_rows, count) == 8 && offsetof(struct tds_rows, columns) == 16 &&
+    sizeof(struct tds_rows) == 24 ? 1 : -1];
 
 static void expect(const char *what, int holds) {
     if (!holds) {
@@ -35,6 +37,8 @@ int main(void) {
     static GUARDED(struct tds_packet) packet;
     static GUARDED(struct tds_cursor) cursor;
     static GUARDED(struct tds_token) token;
+    static GUARDED(struct tds_rows) rows;
+    static struct tds_token two[2];
     static uint16_t text[1000];
     static uint8_t message[TDS_MESSAGE_MOST], out[512];
     size_t length = 0, count = 0;
@@ -42,6 +46,7 @@ int main(void) {
     memset(&packet, 0xA5, sizeof packet);
     memset(&cursor, 0xA5, sizeof cursor);
     memset(&token, 0xA5, sizeof token);
+    memset(&rows, 0xA5, sizeof rows);
 
     expect("new", tds_client_new(512, &client.it) == TDS_OK);
     expect("mark", tds_client_mark_reset(&client.it, TDS_RESET_KEEP_TRANSACTION) == TDS_OK);
@@ -61,11 +66,18 @@ int main(void) {
     cursor.it.at = 0;
     cursor.it.columns = 0;
     expect("columns", tds_token_next(ROWS + 8, sizeof ROWS - 8, &cursor.it, &token.it) == TDS_OK);
-    expect("one column", token.it.kind == TDS_COLMETADATA && token.it.count == 1 && cursor.it.columns == 1);
+    expect("one column", token.it.kind == TDS_COLMETADATA && token.it.value == 1 && cursor.it.columns == 1);
     for (int i = 0; i < 3; i++)
         expect("next", tds_token_next(ROWS + 8, sizeof ROWS - 8, &cursor.it, &token.it) == TDS_OK);
     expect("done", token.it.kind == TDS_DONE && token.it.status == 0x11 && token.it.value == 2);
     expect("end", cursor.it.at == sizeof ROWS - 8 && cursor.it.columns == 0);
     expect("token's end", WHOLE(token) && WHOLE(cursor));
+
+    cursor.it.at = 0;
+    expect("two", tds_tokens_next(ROWS + 8, sizeof ROWS - 8, &cursor.it, two, 2, &count) == TDS_OK && count == 2);
+    expect("second", two[0].kind == TDS_COLMETADATA && two[1].kind == TDS_ROW && two[1].start > two[0].start);
+    expect("rows", tds_rows_next(ROWS + 8, sizeof ROWS - 8, &cursor.it, &rows.it) == TDS_OK);
+    expect("one row", rows.it.start == two[1].start + 5 && rows.it.count == 1 && rows.it.columns == 1);
+    expect("rows' end", WHOLE(rows) && WHOLE(cursor));
     return 0;
 }

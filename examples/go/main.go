@@ -65,11 +65,11 @@ func show(token *tds.Token) {
 	case 0x79:
 		fmt.Println("status", token.Number)
 	case 0x81:
-		fmt.Println("columns", token.Count)
+		fmt.Println("columns", token.Value)
 	case 0xD1:
 		fmt.Println("row", token.Values[0])
 	case 0xFD:
-		fmt.Printf("done %04x %d\n", token.Status, token.Rows)
+		fmt.Printf("done %04x %d\n", token.Status, token.Value)
 	}
 }
 

@@ -4,7 +4,8 @@ use Rattle.std.proofs.lemmas.Bool.{ltb-true, ltb-false}
 use Rattle.std.specs.Option.{SomeIff}
 use Rattle.tds_client.specs.declared.client.parts.StageParts.{StageParts}
 use Rattle.tds_client.specs.declared.client.parts.StageParts.TheVariants as stages
-use Rattle.tds_client.specs.Parts.{AreParts}
+use Rattle.tds_client.specs.declared.client.parts.ClientParts.{ClientParts}
+use Rattle.tds_client.specs.Parts.{AreParts, left_by, left_of, parts_of, session_from, stage_from, stage_parts}
 use Rattle.tds_client.specs.Session.{ClientSession}
 use Rattle.tds_c.specs.Plain.{have_room}
 
@@ -25,3 +26,21 @@ joined (stages.Sending kind packets) left s r h = below (packets + length left) 
 joined stages.Reading left s r h = always s r h
 joined stages.Cancelling left s r h = always s r h
 joined (stages.Broken fault) left s r h = always s r h
+
+-- What was put together is taken apart again.
+parted_stage : (parts : StageParts) (left : List ℕ) → stage_parts (stage_from parts left) ≡ parts
+parted_stage stages.Idle left = refl
+parted_stage (stages.Sending kind packets) left = refl
+parted_stage stages.Reading left = refl
+parted_stage stages.Cancelling left = refl
+parted_stage (stages.Broken fault) left = refl
+
+pub parted : (parts : ClientParts) (left : List ℕ) → parts_of (session_from parts left) ≡ parts
+parted parts left = rw (parted_stage parts.stage left) refl
+
+pub left_again : (parts : StageParts) (left : List ℕ) → left_of (stage_from parts left) ≡ left_by parts left
+left_again stages.Idle left = refl
+left_again (stages.Sending kind packets) left = refl
+left_again stages.Reading left = refl
+left_again stages.Cancelling left = refl
+left_again (stages.Broken fault) left = refl

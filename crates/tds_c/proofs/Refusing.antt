@@ -11,3 +11,7 @@ is_refused (Some first) effect refusal h = h
 pub is_first : (first : Option ClientRefusal) (effect : Effect (Unit {0})) (refusal : ClientRefusal) → first ≡ Some refusal → IsRefusal (refusal_of (unless first effect)) refusal
 is_first None effect refusal h = absurd cc
 is_first (Some first) effect refusal h = cc
+
+pub is_this : (first : Option ClientRefusal) (refusal : ClientRefusal) → first ≡ Some refusal → IsRefusal first refusal
+is_this None refusal h = absurd cc
+is_this (Some first) refusal h = cc

@@ -1,6 +1,5 @@
 -- A client as a plain value: each part of it as a number, and back.
 use Rattle.std.specs.Prelude.{ℕ, ◌+◌, ◌^◌, nat_lt, nat_le, ◌==◌, ◌&&◌, Bool, true, List, length, Option, Some, None, if◌then◌else◌}
-use Rattle.tds_packet.specs.declared.kind.Kind.{Kind}
 use Rattle.tds_packet.specs.declared.status.Reset.{Reset}
 use Rattle.tds_packet.specs.declared.status.Reset.TheVariants.{Full, KeepTransaction}
 use Rattle.tds_packet.specs.Layout.{kind_byte, kind_of}

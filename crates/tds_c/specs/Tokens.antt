@@ -1,5 +1,5 @@
 -- A token as a plain value, and a cursor that goes from one to the next.
-use Rattle.std.specs.Prelude.{◌≡◌, ℕ, ◌-◌, ◌<◌, ◌⊎◌, List, [], ◌++◌, length, drop, Option, Some, None, Result, Ok, Err}
+use Rattle.std.specs.Prelude.{◌≡◌, ℕ, ℤ, ◌-◌, ◌<◌, List, [], ◌∷◌, ◌++◌, length, drop, Option, Some, None, Result, Ok, Err}
 use Rattle.tds_token.specs.declared.env_change.EnvChange.{EnvChange}
 use Rattle.tds_token.specs.declared.env_change.EnvChange.TheVariants.{Begin, Commit, Rollback, ResetDone}
 use Rattle.tds_token.specs.declared.message.Message.{Message}
@@ -7,17 +7,21 @@ use Rattle.tds_token.specs.declared.token.Token.{Token}
 use Rattle.tds_token.specs.declared.token.Token.TheVariants as tokens
 use Rattle.tds_token.specs.Layout.{IsToken}
 use Rattle.tds_token.specs.Reading.{wrong_token}
+use Rattle.tds_token.specs.Runs.{NoRow, row_tokens}
+use Rattle.tds_token.specs.Runs as runs
 use Rattle.tds_c.specs.declared.answers.Stop.{Stop}
 use Rattle.tds_c.specs.declared.answers.Stop.TheVariants as stops
-use Rattle.tds_c.specs.declared.tokens.Found.{Found}
-use Rattle.tds_c.specs.declared.tokens.Found.TheVariants as found
+use Rattle.tds_c.specs.declared.tokens.Ran.{Ran}
+use Rattle.tds_c.specs.declared.tokens.Ran.TheVariants as ran
 use Rattle.tds_c.specs.declared.tokens.TdsCursor.{TdsCursor}
+use Rattle.tds_c.specs.declared.tokens.TdsRows.{TdsRows}
 use Rattle.tds_c.specs.declared.tokens.TdsToken.{TdsToken}
 use Rattle.tds_c.specs.Plain.{columns_from, columns_number}
 
-abbrev pub found_number : Found → ℕ
-found_number found.Token = 0
-found_number found.End = 9
+-- A token was read, or the data are at their end.
+abbrev pub found_number : Option TdsToken → ℕ
+found_number (Some t) = 0
+found_number None = 9
 
 -- The token's byte, and where it begins.
 abbrev pub Begins : TdsToken → ℕ → ℕ → Type 0
@@ -38,8 +42,8 @@ abbrev pub Shows : TdsToken → ℕ → ℕ → Token → Type 0
 Shows t start columns (tokens.Info m) = ShowsMessage t 0xAB start m
 Shows t start columns (tokens.Error m) = ShowsMessage t 0xAA start m
 Shows t start columns (tokens.ReturnStatus v) = Begins t 0x79 start × (t.number ≡ v)
-Shows t start columns (tokens.Columns cs) = Begins t 0x81 start × (t.count ≡ length cs)
-Shows t start columns (tokens.Row vs) = Begins t 0xD1 start × (t.count ≡ columns)
+Shows t start columns (tokens.Columns cs) = Begins t 0x81 start × (t.value ≡ length cs)
+Shows t start columns (tokens.Row vs) = Begins t 0xD1 start × (t.value ≡ columns)
 Shows t start columns (tokens.Env e) = ShowsChange t start e
 Shows t start columns (tokens.Done status cur_cmd rows) =
     Begins t 0xFD start × (t.status ≡ status) × (t.cur_cmd ≡ cur_cmd) × (t.value ≡ rows)
@@ -56,25 +60,88 @@ ReadsToken content old new t columns =
     × Shows t old.at old.columns token × StandsAt new content left after
 
 -- What comes of reading where these columns are known.
-abbrev pub ReadsUnder : Option ℕ → List ℕ → TdsCursor → TdsCursor → TdsToken → Result Found Stop → Type 0
-ReadsUnder columns content old new t (Ok found.Token) = ReadsToken content old new t columns
-ReadsUnder columns content old new t (Ok found.End) = (drop old.at content ≡ []) × (new ≡ old)
-ReadsUnder columns content old new t (Err (stops.Token fault)) =
+abbrev pub ReadsUnder : Option ℕ → List ℕ → TdsCursor → TdsCursor → Result (Option TdsToken) Stop → Type 0
+ReadsUnder columns content old new (Ok (Some t)) = ReadsToken content old new t columns
+ReadsUnder columns content old new (Ok None) = (drop old.at content ≡ []) × (new ≡ old)
+ReadsUnder columns content old new (Err (stops.Token fault)) =
     (wrong_token columns (drop old.at content) ≡ Some fault) × (new.at ≡ length content) × (new.columns ≡ old.columns)
-ReadsUnder columns content old new t (Err stops.NoPlace) = (length content < old.at) × (new ≡ old)
-ReadsUnder columns content old new t (Err stops.NoClient) = ⊥
-ReadsUnder columns content old new t (Err stops.NoRoom) = ⊥
-ReadsUnder columns content old new t (Err stops.NoMemory) = ⊥
-ReadsUnder columns content old new t (Err stops.OutOfRange) = ⊥
-ReadsUnder columns content old new t (Err stops.WantsBytes) = ⊥
-ReadsUnder columns content old new t (Err stops.NoPacket) = ⊥
-ReadsUnder columns content old new t (Err (stops.Refused refusal)) = ⊥
-ReadsUnder columns content old new t (Err (stops.Packet fault)) = ⊥
-ReadsUnder columns content old new t (Err (stops.Client fault)) = ⊥
+ReadsUnder columns content old new (Err stops.NoPlace) = (length content < old.at) × (new ≡ old)
+ReadsUnder columns content old new (Err stops.NoClient) = ⊥
+ReadsUnder columns content old new (Err stops.NoRoom) = ⊥
+ReadsUnder columns content old new (Err stops.NoMemory) = ⊥
+ReadsUnder columns content old new (Err stops.OutOfRange) = ⊥
+ReadsUnder columns content old new (Err stops.WantsBytes) = ⊥
+ReadsUnder columns content old new (Err stops.NoPacket) = ⊥
+ReadsUnder columns content old new (Err (stops.Refused refusal)) = ⊥
+ReadsUnder columns content old new (Err (stops.Packet fault)) = ⊥
+ReadsUnder columns content old new (Err (stops.Client fault)) = ⊥
 
-abbrev pub ReadsBy : Option (Option ℕ) → List ℕ → TdsCursor → TdsCursor → TdsToken → Result Found Stop → Type 0
-ReadsBy None content old new t result = (result ≡ Err stops.NoPlace) × (new ≡ old)
-ReadsBy (Some columns) content old new t result = ReadsUnder columns content old new t result
+abbrev pub ReadsBy : Option (Option ℕ) → List ℕ → TdsCursor → TdsCursor → Result (Option TdsToken) Stop → Type 0
+ReadsBy None content old new result = (result ≡ Err stops.NoPlace) × (new ≡ old)
+ReadsBy (Some columns) content old new result = ReadsUnder columns content old new result
 
-abbrev pub Reads : List ℕ → TdsCursor → TdsCursor → TdsToken → Result Found Stop → Type 0
-Reads content old new t result = ReadsBy (columns_from old.columns) content old new t result
+abbrev pub Reads : List ℕ → TdsCursor → TdsCursor → Result (Option TdsToken) Stop → Type 0
+Reads content old new result = ReadsBy (columns_from old.columns) content old new result
+
+-- The caller's token behind a call: the one that was read, and else what it was.
+abbrev pub given : TdsToken → Result (Option TdsToken) Stop → TdsToken
+given old (Ok (Some t)) = t
+given old (Ok None) = old
+given old (Err stop) = old
+
+-- ---- Several tokens in one call
+
+abbrev pub ran_number : Ran → ℕ
+ran_number ran.Full = 0
+ran_number ran.End = 9
+
+-- Room for tokens before and after, and how many were written.
+pub record Room : Type 0 where
+  pub before : List TdsToken
+  pub after : List TdsToken
+  pub count : ℕ
+
+-- `tds_token_next` gives these tokens one after the other, and then the cursor stands at `last`.
+unfoldable pub GivesInTurn : List ℕ → TdsCursor → List TdsToken → TdsCursor → Type 0
+GivesInTurn content first [] last = first ≡ last
+GivesInTurn content first (t ∷ others) last =
+    (behind : TdsCursor) × Reads content first behind (Ok (Some t)) × GivesInTurn content behind others last
+
+-- The tokens that were read stand at the front of the room, and what stands behind them stays.
+abbrev pub HasRead : List TdsToken → Room → Type 0
+HasRead read room = (room.after ≡ read ++ drop (length read) room.before) × (room.count ≡ length read)
+
+-- Why no more were read: the room is full, or this is what `tds_token_next` answers next.
+abbrev pub StopsAt : List ℕ → TdsCursor → TdsCursor → Room → Result Ran Stop → Type 0
+StopsAt content last new room (Ok ran.Full) = (new ≡ last) × (room.count ≡ length room.before)
+StopsAt content last new room (Ok ran.End) = Reads content last new (Ok None)
+StopsAt content last new room (Err stop) = Reads content last new (Err stop)
+
+abbrev pub ReadsRun : List ℕ → TdsCursor → TdsCursor → Room → Result Ran Stop → Type 0
+ReadsRun content old new room result =
+    (read : List TdsToken) × (last : TdsCursor)
+    × GivesInTurn content old read last × HasRead read room × StopsAt content last new room result
+
+-- ---- Rows in one run
+
+-- All the rows at the cursor, with their values: the tokens that `Tokens::next` gives one after the other. What is left begins
+-- with no row.
+abbrev pub RunsUnder : Option ℕ → List ℕ → TdsCursor → TdsCursor → TdsRows → Type 0
+RunsUnder columns content old new rows =
+    (values : List (List ℤ)) × (left : List ℕ)
+    × runs.GivesInTurn (record { bytes = drop old.at content; columns = columns }) (row_tokens values) (record { bytes = left; columns = columns })
+    × NoRow columns left × StandsAt new content left columns
+    × (rows.start ≡ old.at) × (rows.count ≡ length values) × (rows.columns ≡ old.columns)
+
+-- A cursor that is no place in the data is refused, and nothing was done.
+abbrev pub IsNoPlace : List ℕ → TdsCursor → TdsCursor → TdsRows → TdsRows → Stop → Type 0
+IsNoPlace content old new before after stop = (stop ≡ stops.NoPlace) × (new ≡ old) × (after ≡ before)
+
+abbrev pub RunsBy : Option (Option ℕ) → List ℕ → TdsCursor → TdsCursor → TdsRows → TdsRows → Result (Unit {0}) Stop → Type 0
+RunsBy None content old new before after (Ok done) = ⊥
+RunsBy None content old new before after (Err stop) = IsNoPlace content old new before after stop
+RunsBy (Some columns) content old new before after (Ok done) = RunsUnder columns content old new after
+RunsBy (Some columns) content old new before after (Err stop) = (length content < old.at) × IsNoPlace content old new before after stop
+
+abbrev pub ReadsRows : List ℕ → TdsCursor → TdsCursor → TdsRows → TdsRows → Result (Unit {0}) Stop → Type 0
+ReadsRows content old new before after result = RunsBy (columns_from old.columns) content old new before after result

@@ -37,6 +37,7 @@ pub(crate) enum Stop {
 }
 
 impl Stop {
+    #[inline(always)]
     pub(crate) fn number(&self) -> u8
         ensures { result ≡ answers.stop_number self.now }
     {
@@ -78,6 +79,7 @@ impl From<ClientRefusal> for Stop {
 }
 
 /// 1 or 2.
+#[inline(always)]
 pub(crate) fn sent_code(sent: Sent) -> u8
     ensures { result ≡ answers.sent_number sent }
 {
@@ -88,6 +90,7 @@ pub(crate) fn sent_code(sent: Sent) -> u8
 }
 
 /// 1, 3 or 4.
+#[inline(always)]
 pub(crate) fn taken_code(taken: Taken) -> u8
     ensures { result ≡ answers.taken_number taken }
 {
@@ -100,6 +103,7 @@ pub(crate) fn taken_code(taken: Taken) -> u8
 }
 
 /// 5 to 8.
+#[inline(always)]
 pub(crate) fn cancelled_code(cancelled: Cancelled) -> u8
     ensures { result ≡ answers.cancelled_number cancelled }
 {
@@ -112,6 +116,7 @@ pub(crate) fn cancelled_code(cancelled: Cancelled) -> u8
 }
 
 /// 0, or why not.
+#[inline(always)]
 pub(crate) fn done_code(answer: Result<(), Stop>) -> u8
     ensures { result ≡ answers.number_of answers.done_number answer }
 {

@@ -1,56 +1,22 @@
 //! The client's calls that write bytes, and those that change it alone.
 
-ghost use Rattle.std.specs.Prelude.{◌≡◌, ◌<◌, true, false, length, Some, Ok, IfOk, IfErr};
-ghost use Rattle.tds_c.specs.Calls.{Buffer, Changes, Stops, Writes, cancels, loses, marks, none_out, out_of};
-ghost use Rattle.tds_c.specs.Calls.{sends, starts, with_front};
+ghost use Rattle.tds_request.specs.Values.{IsBatchText};
+ghost use Rattle.tds_request.specs.declared.request.Request.TheVariants.{Batch};
+ghost use Rattle.tds_c.specs.Calls.{Changes, Writes, cancels, loses, marks, none_out, out_of};
+ghost use Rattle.tds_c.specs.Calls.{sends, starts};
 
 use crate::answers::Stop;
+use crate::buffer::{behind, put, put_at};
 use crate::client::TdsClient;
+use crate::messages::put_batch;
 use std::alloc::Global;
-use tds_client::{Cancelled, Client, Sent};
+use tds_client::{Cancelled, Sent};
 use tds_packet::Reset;
-use tds_request::Request;
+use tds_request::{Request, RequestKind};
 
-/// Writes bytes to the front of a buffer, where they fit. How many there are is told anyway.
-fn put(bytes: &[u8], out: &mut [u8], count: &mut usize) -> bool
-    ensures count { count.new ≡ length bytes.now }
-    ensures done { result ≡ true → out.new ≡ with_front bytes.now out.old }
-    ensures room { result ≡ false → (length out.old < count.new) × (out.new ≡ out.old) }
-{
-    *count = bytes.len();
-    if bytes.len() > out.len() {
-        return false;
-    }
-    out[..bytes.len()].copy_from_slice(bytes);
-    true
-}
-
-/// The request's next packet, apart from the caller's buffer.
-fn next_packet(
-    alloc: Global,
-    client: &TdsClient,
-    message: &[u8],
-) -> Result<(Sent, Client, Vec<u8>), Stop>
-    ensures done { IfOk result (λ x. sends client.now message.now
-        ≡ Some (Ok (record { answer = x.0; session = x.1; bytes = x.2.items }))) }
-    ensures stop { (buffer : Buffer) → buffer.count ≡ 0
-        → IfErr result (λ stop. Stops (sends client.now message.now) buffer stop) }
-{
-    if client.sent > message.len() {
-        return Err(Stop::NoClient);
-    }
-    let mut left = Vec::new(alloc);
-    left.extend_from_slice(&message[client.sent..])?;
-    let Some(mut held) = client.client(left) else {
-        return Err(Stop::NoClient);
-    };
-    let mut bytes = Vec::new(alloc);
-    let answer = held.send(&mut bytes)?;
-    Ok((answer, held, bytes))
-}
-
+/// Sends the request's next packet, out of the caller's message into the caller's buffer.
+#[inline(always)]
 pub(crate) fn send(
-    alloc: Global,
     client: &mut TdsClient,
     message: &[u8],
     out: &mut [u8],
@@ -60,17 +26,57 @@ pub(crate) fn send(
         (record { before = out.old; after = out.new; count = count.new }) result }
 {
     *count = 0;
-    let (answer, held, bytes) = match next_packet(alloc, client, message) {
-        Ok(next) => next,
-        Err(stop) => return Err(stop),
+    if client.sent > message.len() {
+        return Err(Stop::NoClient);
+    }
+    let left = behind(message, client.sent);
+    let Some(mut parts) = client.held(left) else {
+        return Err(Stop::NoClient);
     };
-    if !put(bytes.as_slice(), out, count) {
+    let packet = match parts.send(left) {
+        Ok(packet) => packet,
+        Err(refusal) => return Err(Stop::Refused(refusal)),
+    };
+    *count = 8 + packet.data.len();
+    if *count > out.len() {
         return Err(Stop::NoRoom);
     }
-    *client = TdsClient::new(&held, message.len().saturating_sub(held.left().len()));
-    Ok(answer)
+    put_at(out, 0, &packet.header);
+    put_at(out, 8, packet.data);
+    *client = TdsClient::of(&parts, client.sent + packet.data.len());
+    Ok(packet.answer)
 }
 
+/// Takes a batch of 1 to 2,000 units. Its message is written to the front of the caller's buffer.
+#[inline(always)]
+pub(crate) fn start_batch(
+    client: &mut TdsClient,
+    text: &[u16],
+    message: &mut [u8],
+    count: &mut usize,
+) -> Result<(), Stop>
+    requires lawful { IsBatchText text.now }
+    ensures { Writes (starts client.old (Batch text.now)) none_out client.old client.new
+        (record { before = message.old; after = message.new; count = count.new }) result }
+{
+    *count = 0;
+    let Some(mut parts) = client.held(&[]) else {
+        return Err(Stop::NoClient);
+    };
+    let descriptor = match parts.start(RequestKind::Batch) {
+        Ok(descriptor) => descriptor,
+        Err(refusal) => return Err(Stop::Refused(refusal)),
+    };
+    *count = 22 + 2 * text.len();
+    if *count > message.len() {
+        return Err(Stop::NoRoom);
+    }
+    put_batch(descriptor, text, message);
+    *client = TdsClient::of(&parts, 0);
+    Ok(())
+}
+
+#[inline(always)]
 pub(crate) fn cancel(
     alloc: Global,
     client: &mut TdsClient,
@@ -95,6 +101,7 @@ pub(crate) fn cancel(
 
 /// Takes a request. Its message is written to the front of the caller's buffer, and each packet of
 /// it is sent from there.
+#[inline(always)]
 pub(crate) fn start(
     alloc: Global,
     client: &mut TdsClient,
@@ -119,6 +126,7 @@ pub(crate) fn start(
     Ok(())
 }
 
+#[inline(always)]
 pub(crate) fn mark_reset(alloc: Global, client: &mut TdsClient, reset: Reset) -> Result<(), Stop>
     ensures { Changes (marks client.old reset) client.old client.new result }
 {
@@ -132,6 +140,7 @@ pub(crate) fn mark_reset(alloc: Global, client: &mut TdsClient, reset: Reset) ->
     Ok(())
 }
 
+#[inline(always)]
 pub(crate) fn lost(alloc: Global, client: &mut TdsClient) -> Result<(), Stop>
     ensures { Changes (loses client.old) client.old client.new result }
 {

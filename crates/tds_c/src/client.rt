@@ -1,8 +1,8 @@
 //! A client as a value of C.
 
-ghost use Rattle.std.specs.Prelude.{◌≡◌, Some, None, if◌then◌else◌, length};
+ghost use Rattle.std.specs.Prelude.{◌≡◌, Some, None, IfSome, IfNone, if◌then◌else◌, length, true};
 ghost use Rattle.tds_c.specs.Plain.{client_of, have_room, parts_from, plain_of, stage_from_number};
-ghost use Rattle.tds_client.specs.Parts.{parts_of, session_from};
+ghost use Rattle.tds_client.specs.Parts.{AreParts, parts_of, session_from};
 
 use crate::numbers::{
     columns_from, columns_number, done_from, done_number, fault_from, mark_from, mark_number,
@@ -40,11 +40,19 @@ pub struct TdsClient {
 
 impl TdsClient {
     /// This client, of whose message so many bytes are out.
-    #[tactic(auto, unfolding(crate::specs::Plain::plain_of))]
+    #[inline(always)]
     pub(crate) fn new(client: &Client, sent: usize) -> TdsClient
         ensures { result ≡ plain_of (parts_of client.now) sent }
     {
-        let parts = client.parts();
+        TdsClient::of(&client.parts(), sent)
+    }
+
+    /// The client of these parts, of whose message so many bytes are out.
+    #[inline(always)]
+    #[tactic(auto, unfolding(crate::specs::Plain::plain_of))]
+    pub(crate) fn of(parts: &ClientParts, sent: usize) -> TdsClient
+        ensures { result ≡ plain_of parts.now sent }
+    {
         let mut plain = TdsClient {
             descriptor: parts.heard.descriptor,
             sent,
@@ -78,6 +86,7 @@ impl TdsClient {
 
     /// The client that it is, with these bytes of its message still to go out. None where it is no
     /// client.
+    #[inline(always)]
     #[tactic(auto, unfolding(crate::specs::Plain::client_of))]
     pub(crate) fn client(&self, left: Vec<u8>) -> Option<Client>
         ensures { result ≡ client_of self.now left.items }
@@ -86,6 +95,23 @@ impl TdsClient {
         join(parts, left)
     }
 
+    /// Its parts, where it is a client with these bytes of its message still to go out.
+    #[inline(always)]
+    #[tactic(auto, unfolding(crate::specs::Plain::client_of))]
+    pub(crate) fn held(&self, left: &[u8]) -> Option<ClientParts>
+        ensures none { IfNone result (client_of self.now left.now ≡ None) }
+        ensures some { IfSome result (λ parts.
+            client_of self.now left.now ≡ Some (session_from parts left.now)) }
+        ensures room { IfSome result (λ parts. AreParts parts.stage left.now) }
+    {
+        let parts = self.parts()?;
+        if !has_room(&parts.stage, left) {
+            return None;
+        }
+        Some(parts)
+    }
+
+    #[inline(always)]
     #[tactic(auto, unfolding(crate::specs::Plain::parts_from))]
     fn parts(&self) -> Option<ClientParts>
         ensures { result ≡ parts_from self.now }
@@ -107,6 +133,7 @@ impl TdsClient {
         })
     }
 
+    #[inline(always)]
     #[tactic(auto, unfolding(crate::specs::Plain::stage_from_number))]
     fn stage_parts(&self) -> Option<StageParts>
         ensures { result ≡ stage_from_number self.now }
@@ -129,10 +156,25 @@ impl TdsClient {
     }
 }
 
+#[inline(always)]
 #[tactic(auto, using(crate::proofs::Joining::joined))]
 fn join(parts: ClientParts, left: Vec<u8>) -> Option<Client>
     ensures { result ≡ (if have_room parts.stage (length left.items)
         then Some (session_from parts left.items) else None) }
 {
     Client::of_parts(parts, left)
+}
+
+/// Whether what is out and what is left is no more than memory can have.
+#[inline(always)]
+#[tactic(auto, unfolding(crate::specs::Plain::have_room))]
+fn has_room(stage: &StageParts, left: &[u8]) -> bool
+    ensures exact { result ≡ have_room stage.now (length left.now) }
+    ensures whole { result ≡ true → AreParts stage.now left.now }
+{
+    match stage {
+        StageParts::Sending { packets, .. } => *packets <= 0x7FFF_FFFF_FFFF_FFFF - left.len(),
+        StageParts::Idle | StageParts::Reading | StageParts::Cancelling | StageParts::Broken(_) =>
+            true,
+    }
 }

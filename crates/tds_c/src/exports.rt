@@ -20,7 +20,6 @@ use tds_packet::PacketSize;
 /// the last.
 #[unsafe(no_mangle)]
 pub extern "C" fn tds_client_send(
-    alloc: Global,
     client: &mut TdsClient,
     message: &[u8],
     out: &mut [u8],
@@ -30,7 +29,7 @@ pub extern "C" fn tds_client_send(
         × Writes (sends client.old message.now) (out_of message.now) client.old client.new
         (record { before = out.old; after = out.new; count = count.new }) answer }
 {
-    match calls::send(alloc, client, message, out, count) {
+    match calls::send(client, message, out, count) {
         Ok(sent) => sent_code(sent),
         Err(stop) => stop.number(),
     }
@@ -74,6 +73,7 @@ pub extern "C" fn tds_client_mark_reset(alloc: Global, client: &mut TdsClient, r
     done_code(mark_reset(alloc, client, reset))
 }
 
+#[inline(always)]
 fn mark_reset(alloc: Global, client: &mut TdsClient, reset: u8) -> Result<(), Stop>
     ensures { MarksIf reset client.old client.new result }
 {
@@ -94,6 +94,7 @@ pub extern "C" fn tds_client_new(alloc: Global, size: u16, client: &mut TdsClien
     done_code(new(alloc, size, client))
 }
 
+#[inline(always)]
 fn new(alloc: Global, size: u16, client: &mut TdsClient) -> Result<(), Stop>
     ensures { IsNew size client.old client.new result }
 {

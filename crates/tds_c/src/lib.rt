@@ -5,9 +5,11 @@
 #![tactic(auto)]
 
 mod answers;
+mod buffer;
 mod calls;
 mod client;
 mod exports;
+mod messages;
 mod numbers;
 mod packets;
 mod requests;

@@ -7,6 +7,7 @@ use tds_client::{ClientFault, FinalDone};
 use tds_packet::{PacketSize, Reset};
 use tds_token::{Columns, TokenFault};
 
+#[inline(always)]
 #[tactic(auto, unfolding(crate::specs::Plain::size_from))]
 pub(crate) fn size_from(number: u16) -> Option<PacketSize>
     ensures { result ≡ plain.size_from number }
@@ -14,6 +15,7 @@ pub(crate) fn size_from(number: u16) -> Option<PacketSize>
     PacketSize::new(number)
 }
 
+#[inline(always)]
 pub(crate) fn mark_number(mark: Option<Reset>) -> u8
     ensures { result ≡ plain.mark_number mark }
 {
@@ -24,6 +26,7 @@ pub(crate) fn mark_number(mark: Option<Reset>) -> u8
     }
 }
 
+#[inline(always)]
 #[tactic(auto, unfolding(crate::specs::Plain::mark_from))]
 pub(crate) fn mark_from(number: u8) -> Option<Option<Reset>>
     ensures { result ≡ plain.mark_from number }
@@ -36,6 +39,7 @@ pub(crate) fn mark_from(number: u8) -> Option<Option<Reset>>
     }
 }
 
+#[inline(always)]
 pub(crate) fn done_number(done: FinalDone) -> u8
     ensures { result ≡ plain.done_number done }
 {
@@ -46,6 +50,7 @@ pub(crate) fn done_number(done: FinalDone) -> u8
     }
 }
 
+#[inline(always)]
 #[tactic(auto, unfolding(crate::specs::Plain::done_from))]
 pub(crate) fn done_from(number: u8) -> Option<FinalDone>
     ensures { result ≡ plain.done_from number }
@@ -58,6 +63,7 @@ pub(crate) fn done_from(number: u8) -> Option<FinalDone>
     }
 }
 
+#[inline(always)]
 pub(crate) fn columns_number(columns: Columns) -> u8
     ensures { result ≡ plain.columns_number columns }
 {
@@ -67,6 +73,7 @@ pub(crate) fn columns_number(columns: Columns) -> u8
     }
 }
 
+#[inline(always)]
 #[tactic(auto, unfolding(crate::specs::Plain::columns_from))]
 pub(crate) fn columns_from(number: u8) -> Option<Columns>
     ensures { result ≡ plain.columns_from number }
@@ -78,6 +85,7 @@ pub(crate) fn columns_from(number: u8) -> Option<Columns>
 }
 
 /// The number of the token's fault in a client's fault, 0 where there is none.
+#[inline(always)]
 pub(crate) fn token_fault_number(fault: &ClientFault) -> u8
     ensures { result ≡ plain.token_fault_number fault.now }
 {
@@ -94,6 +102,7 @@ pub(crate) fn token_fault_number(fault: &ClientFault) -> u8
     }
 }
 
+#[inline(always)]
 #[tactic(auto, unfolding(crate::specs::Plain::fault_from))]
 pub(crate) fn fault_from(number: u8, token_fault: u8) -> Option<ClientFault>
     ensures { result ≡ plain.fault_from number token_fault }
@@ -112,6 +121,7 @@ pub(crate) fn fault_from(number: u8, token_fault: u8) -> Option<ClientFault>
     }
 }
 
+#[inline(always)]
 #[tactic(auto, unfolding(crate::specs::Plain::token_fault_from))]
 fn token_fault_from(number: u8) -> Option<TokenFault>
     ensures { result ≡ plain.token_fault_from number }

@@ -25,6 +25,7 @@ pub struct TdsPacket {
 }
 
 /// The packet at the front of these bytes, lent from them.
+#[inline(always)]
 fn front(bytes: &[u8], size: PacketSize, direction: Direction) -> Result<PacketRef<'_>, Stop>
     ensures packet { IfOk result (λ packet.
         IsFront direction size bytes.now packet.header packet.data.now) }
@@ -48,6 +49,7 @@ fn front(bytes: &[u8], size: PacketSize, direction: Direction) -> Result<PacketR
 }
 
 /// What stands behind the header of a packet of this length.
+#[inline(always)]
 fn data_of(bytes: &[u8], length: usize) -> &[u8]
     requires least { 8 ≤ length }
     requires most { length ≤ bytes_in bytes.now }
@@ -57,6 +59,7 @@ fn data_of(bytes: &[u8], length: usize) -> &[u8]
     &whole[8..]
 }
 
+#[inline(always)]
 #[tactic(auto, unfolding(crate::specs::Packets::direction_from))]
 fn direction(number: u8) -> Option<Direction>
     ensures { result ≡ direction_from number }
@@ -68,6 +71,7 @@ fn direction(number: u8) -> Option<Direction>
     }
 }
 
+#[inline(always)]
 fn read(bytes: &[u8], size: u16, to: u8, packet: &mut TdsPacket) -> Result<(), Stop>
     ensures { Reads (direction_from to) size bytes.now packet.old packet.new result }
 {
@@ -105,6 +109,7 @@ pub extern "C" fn tds_packet_read(
     done_code(read(bytes, size, direction, packet))
 }
 
+#[inline(always)]
 fn take(alloc: Global, client: &mut TdsClient, bytes: &[u8]) -> Result<Taken, Stop>
     ensures { Takes client.old client.new bytes.now result }
 {

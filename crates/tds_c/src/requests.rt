@@ -11,13 +11,12 @@ use crate::answers::{Stop, done_code};
 use crate::calls;
 use crate::client::TdsClient;
 use std::alloc::Global;
-use tds_request::{BatchText, Isolation, Request};
+use tds_request::{Isolation, Request};
 
 /// Takes a batch of 1 to 2,000 units (MS-TDS 2.2.6.7). Its message is written to `message`, which
 /// needs room for 22 bytes and two a unit.
 #[unsafe(no_mangle)]
 pub extern "C" fn tds_client_start_batch(
-    alloc: Global,
     client: &mut TdsClient,
     text: &[u16],
     message: &mut [u8],
@@ -28,11 +27,11 @@ pub extern "C" fn tds_client_start_batch(
         client.old client.new
         (record { before = message.old; after = message.new; count = count.new }) answer }
 {
-    done_code(start_batch(alloc, client, text, message, count))
+    done_code(start_batch(client, text, message, count))
 }
 
+#[inline(always)]
 fn start_batch(
-    alloc: Global,
     client: &mut TdsClient,
     text: &[u16],
     message: &mut [u8],
@@ -43,10 +42,10 @@ fn start_batch(
         (record { before = message.old; after = message.new; count = count.new }) result }
 {
     *count = 0;
-    let Some(text) = BatchText::new(text.to_vec(alloc)?) else {
+    if text.is_empty() || text.len() > 2000 {
         return Err(Stop::OutOfRange);
-    };
-    calls::start(alloc, client, &Request::Batch(text), message, count)
+    }
+    calls::start_batch(client, text, message, count)
 }
 
 /// Takes the request to begin a transaction at an isolation level of 0 to 5 (MS-TDS 2.2.6.9). Its
@@ -67,6 +66,7 @@ pub extern "C" fn tds_client_start_begin(
     done_code(start_begin(alloc, client, isolation, message, count))
 }
 
+#[inline(always)]
 fn start_begin(
     alloc: Global,
     client: &mut TdsClient,
@@ -86,6 +86,7 @@ fn start_begin(
 }
 
 /// The level at which the next transaction begins, if one does. None where it is no such number.
+#[inline(always)]
 #[tactic(auto, unfolding(crate::specs::Calls::next_from))]
 fn next(number: u8) -> Option<Option<Isolation>>
     ensures { result ≡ next_from number }
@@ -118,6 +119,7 @@ pub extern "C" fn tds_client_start_commit(
     done_code(start_commit(alloc, client, next, message, count))
 }
 
+#[inline(always)]
 fn start_commit(
     alloc: Global,
     client: &mut TdsClient,
@@ -153,6 +155,7 @@ pub extern "C" fn tds_client_start_rollback(
     done_code(start_rollback(alloc, client, next, message, count))
 }
 
+#[inline(always)]
 fn start_rollback(
     alloc: Global,
     client: &mut TdsClient,

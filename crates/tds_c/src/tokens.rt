@@ -1,13 +1,16 @@
 //! Tokens out of a packet's data, one behind the other.
 
-ghost use Rattle.std.specs.Prelude.{◌≡◌, Result, pos};
+ghost use Rattle.std.specs.Prelude.{◌≡◌, Option, Result, pos};
 ghost use Rattle.tds_token.specs.Layout.{token_of};
 ghost use Rattle.tds_c.specs.declared.answers.Stop.{Stop};
-ghost use Rattle.tds_c.specs.declared.tokens.Found.{Found};
-ghost use Rattle.tds_c.specs.Answers.{number_of};
-ghost use Rattle.tds_c.specs.Tokens.{Reads, Shows, ShowsChange, ShowsMessage, found_number};
+ghost use Rattle.tds_c.specs.declared.tokens.Ran.{Ran};
+ghost use Rattle.tds_c.specs.declared.tokens.TdsToken.{TdsToken};
+ghost use Rattle.tds_c.specs.Answers.{done_number, number_of};
+ghost use Rattle.tds_c.specs.Tokens.{Reads, ReadsRows, ReadsRun, Shows, ShowsChange, ShowsMessage};
+ghost use Rattle.tds_c.specs.Tokens.{found_number, given, ran_number};
 
-use crate::answers::Stop;
+use crate::answers::{Stop, done_code};
+use crate::buffer::behind;
 use crate::numbers::{columns_from, columns_number};
 use tds_token::{EnvChange, MessageRef, TokenRef, Tokens};
 
@@ -25,7 +28,8 @@ pub struct TdsCursor {
 #[repr(C)]
 #[derive(Clone, Copy, PartialEq, Eq, Debug)]
 pub struct TdsToken {
-    /// The rows of a DONE; the descriptor of an ENVCHANGE.
+    /// The rows of a DONE; the descriptor of an ENVCHANGE; the columns of a COLMETADATA; the values
+    /// of a ROW.
     pub value: u64,
     /// The first byte of the token in the data.
     pub start: usize,
@@ -43,17 +47,30 @@ pub struct TdsToken {
     pub severity: u8,
     /// The type of an ENVCHANGE.
     pub change: u8,
-    /// The columns of a COLMETADATA; the values of a ROW.
-    pub count: u8,
 }
 
-/// What was found.
+/// Rows one behind the other: `struct tds_rows`. Each is its token byte and four bytes a column.
+#[repr(C)]
+#[derive(Clone, Copy, PartialEq, Eq, Debug)]
+pub struct TdsRows {
+    /// The first byte of the first row in the data.
+    pub start: usize,
+    /// How many rows there are.
+    pub count: usize,
+    /// The columns of each.
+    pub columns: usize,
+}
+
+/// Why a call that reads several tokens stopped, where no byte is wrong.
 #[derive(Clone, Copy, Debug)]
-pub(crate) enum Found {
-    Token,
+pub(crate) enum Ran {
+    /// The room for tokens is full.
+    Full,
+    /// The data are at their end.
     End,
 }
 
+#[inline(always)]
 fn blank(kind: u8, start: usize) -> TdsToken
     ensures { result ≡ record {
       value = 0;
@@ -66,7 +83,6 @@ fn blank(kind: u8, start: usize) -> TdsToken
       state = 0;
       severity = 0;
       change = 0;
-      count = 0;
     } }
 {
     TdsToken {
@@ -80,10 +96,10 @@ fn blank(kind: u8, start: usize) -> TdsToken
         state: 0,
         severity: 0,
         change: 0,
-        count: 0,
     }
 }
 
+#[inline(always)]
 fn message(kind: u8, start: usize, message: &MessageRef<'_>) -> TdsToken
     ensures { ShowsMessage result kind start message.now }
 {
@@ -96,6 +112,7 @@ fn message(kind: u8, start: usize, message: &MessageRef<'_>) -> TdsToken
     }
 }
 
+#[inline(always)]
 fn change(start: usize, change: EnvChange) -> TdsToken
     ensures { ShowsChange result start change }
 {
@@ -112,6 +129,7 @@ fn change(start: usize, change: EnvChange) -> TdsToken
     }
 }
 
+#[inline(always)]
 fn shown(start: usize, columns: u8, token: &TokenRef<'_>) -> TdsToken
     ensures { Shows result start columns (token_of token.now) }
 {
@@ -123,11 +141,11 @@ fn shown(start: usize, columns: u8, token: &TokenRef<'_>) -> TdsToken
             ..blank(0x79, start)
         },
         TokenRef::Columns(columns) => TdsToken {
-            count: columns.count(),
+            value: u64::from(columns.count()),
             ..blank(0x81, start)
         },
         TokenRef::Row(_) => TdsToken {
-            count: columns,
+            value: u64::from(columns),
             ..blank(0xD1, start)
         },
         TokenRef::Env(env) => change(start, *env),
@@ -144,8 +162,10 @@ fn shown(start: usize, columns: u8, token: &TokenRef<'_>) -> TdsToken
     }
 }
 
-fn next(data: &[u8], cursor: &mut TdsCursor, token: &mut TdsToken) -> Result<Found, Stop>
-    ensures { Reads data.now cursor.old cursor.new token.new result }
+/// The token at the cursor, which goes on behind it. None at the end of the data.
+#[inline(always)]
+fn next(data: &[u8], cursor: &mut TdsCursor) -> Result<Option<TdsToken>, Stop>
+    ensures { Reads data.now cursor.old cursor.new result }
 {
     let Some(columns) = columns_from(cursor.columns) else {
         return Err(Stop::NoPlace);
@@ -155,12 +175,12 @@ fn next(data: &[u8], cursor: &mut TdsCursor, token: &mut TdsToken) -> Result<Fou
     }
     let mut tokens = Tokens::new(&data[cursor.at..], columns);
     match tokens.next() {
-        None => Ok(Found::End),
+        None => Ok(None),
         Some(Ok(found)) => {
-            *token = shown(cursor.at, cursor.columns, &found);
+            let token = shown(cursor.at, cursor.columns, &found);
             cursor.at = data.len().saturating_sub(tokens.left().len());
             cursor.columns = columns_number(tokens.columns());
-            Ok(Found::Token)
+            Ok(Some(token))
         }
         Some(Err(fault)) => {
             cursor.at = data.len();
@@ -173,12 +193,101 @@ fn next(data: &[u8], cursor: &mut TdsCursor, token: &mut TdsToken) -> Result<Fou
 /// data.
 #[unsafe(no_mangle)]
 pub extern "C" fn tds_token_next(data: &[u8], cursor: &mut TdsCursor, token: &mut TdsToken) -> u8
-    ensures { (answer : Result Found Stop) × (result ≡ number_of found_number answer)
-        × Reads data.now cursor.old cursor.new token.new answer }
+    ensures { (answer : Result (Option TdsToken) Stop) × (result ≡ number_of found_number answer)
+        × Reads data.now cursor.old cursor.new answer × (token.new ≡ given token.old answer) }
 {
-    match next(data, cursor, token) {
-        Ok(Found::Token) => 0,
-        Ok(Found::End) => 9,
+    match next(data, cursor) {
+        Ok(Some(found)) => {
+            *token = found;
+            0
+        }
+        Ok(None) => 9,
         Err(stop) => stop.number(),
     }
+}
+
+/// Reads one token behind the other, until the room is full or there is none.
+#[inline(always)]
+fn run(
+    data: &[u8],
+    cursor: &mut TdsCursor,
+    tokens: &mut [TdsToken],
+    count: &mut usize,
+) -> Result<Ran, Stop>
+    ensures { ReadsRun data.now cursor.old cursor.new
+        (record { before = tokens.old; after = tokens.new; count = count.new }) result }
+{
+    let mut place = *cursor;
+    'tokens: for i in 0..tokens.len() {
+        match next(data, &mut place) {
+            Ok(Some(token)) => tokens[i] = token,
+            Ok(None) => {
+                *cursor = place;
+                *count = i;
+                return Ok(Ran::End);
+            }
+            Err(stop) => {
+                *cursor = place;
+                *count = i;
+                return Err(stop);
+            }
+        }
+    }
+    *cursor = place;
+    *count = tokens.len();
+    Ok(Ran::Full)
+}
+
+/// Reads the tokens behind the cursor, as `tds_token_next` gives them one after the other, until the
+/// room is full. 0 where it is full, 9 at the end of the data. What was read before the end or before
+/// bytes that spell no token stands at the front of the room.
+#[unsafe(no_mangle)]
+pub extern "C" fn tds_tokens_next(
+    data: &[u8],
+    cursor: &mut TdsCursor,
+    tokens: &mut [TdsToken],
+    count: &mut usize,
+) -> u8
+    ensures { (answer : Result Ran Stop) × (result ≡ number_of ran_number answer)
+        × ReadsRun data.now cursor.old cursor.new
+        (record { before = tokens.old; after = tokens.new; count = count.new }) answer }
+{
+    match run(data, cursor, tokens, count) {
+        Ok(Ran::Full) => 0,
+        Ok(Ran::End) => 9,
+        Err(stop) => stop.number(),
+    }
+}
+
+/// The rows at the cursor, which goes on behind them.
+#[inline(always)]
+fn run_of_rows(data: &[u8], cursor: &mut TdsCursor, rows: &mut TdsRows) -> Result<(), Stop>
+    ensures { ReadsRows data.now cursor.old cursor.new rows.old rows.new result }
+{
+    let Some(columns) = columns_from(cursor.columns) else {
+        return Err(Stop::NoPlace);
+    };
+    if cursor.at > data.len() {
+        return Err(Stop::NoPlace);
+    }
+    let mut tokens = Tokens::new(behind(data, cursor.at), columns);
+    let run = tokens.rows();
+    *rows = TdsRows {
+        start: cursor.at,
+        count: run.len(),
+        columns: usize::from(cursor.columns),
+    };
+    cursor.at = data.len().saturating_sub(tokens.left().len());
+    cursor.columns = columns_number(tokens.columns());
+    Ok(())
+}
+
+/// Reads all the rows at the cursor as one run, and goes on behind them. None of them where no row
+/// is there. 0, or 26 where the cursor is no place in these data.
+#[unsafe(no_mangle)]
+pub extern "C" fn tds_rows_next(data: &[u8], cursor: &mut TdsCursor, rows: &mut TdsRows) -> u8
+    ensures { (answer : Result (Unit {0}) Stop) × (result ≡ number_of done_number answer)
+        × ReadsRows data.now cursor.old cursor.new rows.old rows.new answer }
+{
+    done_code(run_of_rows(data, cursor, rows))
 }

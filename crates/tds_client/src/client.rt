@@ -5,6 +5,7 @@ ghost use Rattle.tds_client.specs.Session.{new_session, state_of, lost, marked, 
 ghost use Rattle.tds_client.specs.Sending.{Does, IsRefusal, started, sent, cancelled, refusal_of};
 
 mod parts;
+mod sending;
 mod taking;
 
 use crate::fault::{ClientFault, ClientRefusal};
@@ -12,6 +13,7 @@ use crate::heard::{FinalDone, Heard};
 use crate::packets::{put, put_attention, put_ignore_and_attention};
 use crate::state::{Cancelled, ClientState, Sent};
 pub use parts::{ClientParts, StageParts};
+pub use sending::NextPacket;
 use std::alloc::Global;
 use std::marker::Model;
 use tds_packet::{Kind, PacketSize, Reset, Status};

@@ -11,7 +11,7 @@ mod packets;
 mod state;
 mod walks;
 
-pub use client::{Client, ClientParts, StageParts};
+pub use client::{Client, ClientParts, NextPacket, StageParts};
 pub use fault::{ClientFault, ClientRefusal};
 pub use heard::{FinalDone, Heard};
 pub use state::{Cancelled, ClientState, Sent, Taken};

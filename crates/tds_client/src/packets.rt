@@ -3,6 +3,7 @@ ghost use Rattle.tds_packet.specs.Layout.{bits_of};
 ghost use Rattle.tds_client.specs.Packets.{packet_bytes, attention, ignore};
 
 use crate::NoMemory;
+use bitflags::Flags;
 use tds_packet::{Kind, Status, put_sent};
 
 /// Appends a packet that stands behind `before` others of its message. At want of memory nothing is
@@ -21,6 +22,26 @@ pub(crate) fn put(
     ensures err { OnErr result (out.new.items ≡ out.old.items) }
 {
     put_sent(out, kind, status, ((before + 1) % 256) as u8, data)
+}
+
+/// The header of a packet with these data that stands behind `before` others of its message.
+#[inline(always)]
+pub(crate) fn header(kind: Kind, status: Status, before: usize, data: &[u8]) -> [u8; 8]
+    requires length { length data.now ≤ 32759 }
+    requires before { before < 2 ^ 63 }
+    ensures { result ++ data.now ≡ packet_bytes kind (bits_of status) before data.now }
+{
+    let length = 8 + data.len();
+    [
+        kind.byte(),
+        status.bits(),
+        (length / 256) as u8,
+        (length % 256) as u8,
+        0,
+        0,
+        ((before + 1) % 256) as u8,
+        0,
+    ]
 }
 
 /// Appends an attention.

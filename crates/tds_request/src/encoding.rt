@@ -49,7 +49,8 @@ fn put_end(
 }
 
 /// ALL_HEADERS with this descriptor (MS-TDS 2.2.5.3).
-fn headers(descriptor: u64) -> [u8; 22]
+#[inline(always)]
+pub fn headers(descriptor: u64) -> [u8; 22]
     ensures { result ≡ all_headers descriptor }
 {
     let d = descriptor.to_le_bytes();

@@ -13,7 +13,7 @@ mod request;
 mod text;
 
 pub use decoding::decode;
-pub use encoding::encode;
+pub use encoding::{encode, headers};
 pub use fault::RequestFault;
 pub use isolation::Isolation;
 pub use request::{Request, RequestKind};

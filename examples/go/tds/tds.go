@@ -177,39 +177,49 @@ func Packets(bytes []byte, size uint16) (packets [][]byte, rest []byte, err erro
 
 // Token is a token; which fields it has, tds.h says. Values are those of a row.
 type Token struct {
-	Kind, State, Severity, Count uint8
-	Status                       uint16
-	Number                       int32
-	Rows                         uint64
-	Text                         string
-	Values                       []int32
+	Kind, State, Severity uint8
+	Status                uint16
+	Number                int32
+	Value                 uint64
+	Text                  string
+	Values                []int32
 }
 
-// Tokens gives the tokens of a packet's data but the ENVCHANGEs, one behind the other.
+// Tokens gives the tokens of a packet's data but the ENVCHANGEs, one behind the other. It reads up
+// to 32 in one call: those from next to count were read and not given yet.
 type Tokens struct {
-	data   []byte
-	cursor C.struct_tds_cursor
+	data        []byte
+	cursor      C.struct_tds_cursor
+	read        [32]C.struct_tds_token
+	next, count C.size_t
+	answer      C.uint8_t
 }
 
-// Next gives the next token, or none at the end.
+// Next gives the next token, or none at the end. Behind a fault there is none.
 func (tokens *Tokens) Next() (*Token, error) {
 	for {
-		var raw C.struct_tds_token
-		answer := C.tds_token_next(at(tokens.data), C.size_t(len(tokens.data)), &tokens.cursor, &raw)
-		if answer == C.TDS_END {
+		for tokens.next < tokens.count {
+			raw := &tokens.read[tokens.next]
+			tokens.next++
+			if raw.kind != C.TDS_ENVCHANGE {
+				return token(raw, tokens.data[raw.start:]), nil
+			}
+		}
+		switch answer := tokens.answer; answer {
+		case C.TDS_OK:
+			tokens.next = 0
+			tokens.answer = C.tds_tokens_next(at(tokens.data), C.size_t(len(tokens.data)), &tokens.cursor, &tokens.read[0], C.size_t(len(tokens.read)), &tokens.count)
+		case C.TDS_END:
 			return nil, nil
-		}
-		if answer != C.TDS_OK {
+		default:
+			tokens.answer = C.TDS_END
 			return nil, Fault(answer)
-		}
-		if raw.kind != C.TDS_ENVCHANGE {
-			return token(&raw, tokens.data[raw.start:tokens.cursor.at]), nil
 		}
 	}
 }
 
 func token(raw *C.struct_tds_token, bytes []byte) *Token {
-	it := &Token{Kind: uint8(raw.kind), State: uint8(raw.state), Severity: uint8(raw.severity), Count: uint8(raw.count), Status: uint16(raw.status), Number: int32(raw.number), Rows: uint64(raw.value)}
+	it := &Token{Kind: uint8(raw.kind), State: uint8(raw.state), Severity: uint8(raw.severity), Status: uint16(raw.status), Number: int32(raw.number), Value: uint64(raw.value)}
 	switch raw.kind {
 	case C.TDS_INFO, C.TDS_ERROR:
 		units := make([]uint16, int(bytes[9])|int(bytes[10])<<8)
@@ -218,7 +228,7 @@ func token(raw *C.struct_tds_token, bytes []byte) *Token {
 		}
 		it.Text = string(utf16.Decode(units))
 	case C.TDS_ROW:
-		for i := 1; i < len(bytes); i += 4 {
+		for i := 1; i < 1+4*int(raw.value); i += 4 {
 			it.Values = append(it.Values, int32(bytes[i])|int32(bytes[i+1])<<8|int32(bytes[i+2])<<16|int32(bytes[i+3])<<24)
 		}
 	}

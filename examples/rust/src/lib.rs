@@ -7,7 +7,7 @@ mod raw;
 mod tokens;
 
 pub use fault::Fault;
-pub use tokens::{Change, Message, Packets, Token, Tokens};
+pub use tokens::{Change, Message, Packets, Rows, Token, Tokens};
 
 /// The reset that the next request asks for.
 #[derive(Clone, Copy, PartialEq, Eq, Debug)]

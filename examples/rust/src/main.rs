@@ -3,7 +3,7 @@
 
 use std::error::Error;
 use std::fs;
-use tds::{play, Cancelled, Client, Fault, Packets, Request, Reset, State, Taken, Token};
+use tds::{play, Cancelled, Client, Fault, Packets, Request, Reset, State, Taken, Token, Tokens};
 
 /// What the server sends: an answer's step or its end, as MS-TDS has it.
 const BEGUN: &str = "0401002300000100E30B000808010000000000000000FD000000000000000000000000";
@@ -49,6 +49,17 @@ fn ask(client: &mut Client, request: Request<'_>) -> Result<Vec<u8>, Fault> {
     Ok(out)
 }
 
+/// Rows in one run, the tokens behind them, and data that are cut in a row.
+fn runs() {
+    let piece = bytes(ROWS);
+    let (rows, tokens) = Tokens::behind_rows(&piece[21..], 1);
+    assert_eq!(rows.collect::<Vec<_>>(), [[5], [6]]);
+    assert_eq!(tokens.collect::<Vec<_>>(), [Ok(Token::Done { status: 0x11, cur_cmd: 0, rows: 2 })]);
+    let (rows, tokens) = Tokens::behind_rows(&piece[8..29], 0);
+    assert_eq!(rows.count(), 0);
+    assert_eq!(tokens.collect::<Vec<_>>(), [Ok(Token::Columns(1)), Ok(Token::Row(vec![5])), Err(Fault::Token(2))]);
+}
+
 fn connection() -> Result<(), Box<dyn Error>> {
     let mut client = Client::new(512)?;
     ask(&mut client, Request::Begin(0))?;
@@ -83,6 +94,7 @@ fn connection() -> Result<(), Box<dyn Error>> {
 }
 
 fn main() -> Result<(), Box<dyn Error>> {
+    runs();
     connection()?;
     let mut others = 0;
     let schedules: Vec<String> = std::env::args().skip(1).collect();

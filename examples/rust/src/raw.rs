@@ -44,7 +44,14 @@ pub struct Token {
     pub state: u8,
     pub severity: u8,
     pub change: u8,
-    pub count: u8,
+}
+
+#[repr(C)]
+#[derive(Clone, Copy, Default, Debug)]
+pub struct Rows {
+    pub start: usize,
+    pub count: usize,
+    pub columns: usize,
 }
 
 extern "C" {
@@ -59,6 +66,7 @@ extern "C" {
     pub fn tds_client_cancel(client: &mut Client, out: *mut u8, room: usize, count: &mut usize) -> u8;
     pub fn tds_client_take(client: &mut Client, packet: *const u8, length: usize) -> u8;
     pub fn tds_client_lost(client: &mut Client) -> u8;
-    pub fn tds_token_next(data: *const u8, length: usize, cursor: &mut Cursor, token: &mut Token) -> u8;
+    pub fn tds_tokens_next(data: *const u8, length: usize, cursor: &mut Cursor, tokens: *mut Token, room: usize, count: &mut usize) -> u8;
+    pub fn tds_rows_next(data: *const u8, length: usize, cursor: &mut Cursor, rows: &mut Rows) -> u8;
     pub fn tds_play(schedule: *const u8, length: usize, out: *mut u8, room: usize, count: &mut usize) -> u8;
 }

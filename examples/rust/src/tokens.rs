@@ -71,17 +71,26 @@ pub enum Token {
     Done { status: u16, cur_cmd: u16, rows: u64 },
 }
 
+/// How many tokens are read in one call.
+const ROOM: usize = 32;
+
 /// The tokens of a packet's data, one behind the other. A fault is the last thing that it gives.
 pub struct Tokens<'a> {
     data: &'a [u8],
     cursor: raw::Cursor,
+    /// Those that were read and not given yet, from `next` to `count`, and what the call answered.
+    read: [raw::Token; ROOM],
+    next: usize,
+    count: usize,
+    answer: u8,
     changes: bool,
 }
 
 impl<'a> Tokens<'a> {
     /// All tokens of these data, where so many columns are known, 0 for none.
     pub fn new(data: &'a [u8], columns: u8) -> Tokens<'a> {
-        Tokens { data, cursor: raw::Cursor { at: 0, columns }, changes: true }
+        let read = [raw::Token::default(); ROOM];
+        Tokens { data, cursor: raw::Cursor { at: 0, columns }, read, next: 0, count: 0, answer: 0, changes: true }
     }
 
     /// Those that a client tells: all but the ENVCHANGEs.
@@ -89,8 +98,25 @@ impl<'a> Tokens<'a> {
         Tokens { changes: false, ..Tokens::new(data, columns) }
     }
 
+    /// The rows at the front of these data, and the tokens behind them.
+    pub fn behind_rows(data: &'a [u8], columns: u8) -> (Rows<'a>, Tokens<'a>) {
+        let (mut tokens, mut rows) = (Tokens::new(data, columns), raw::Rows::default());
+        // SAFETY: the pointer and the length are those of one slice.
+        unsafe { raw::tds_rows_next(data.as_ptr(), data.len(), &mut tokens.cursor, &mut rows) };
+        (Rows { bytes: &data[..rows.count * (1 + 4 * rows.columns)], columns: rows.columns }, tokens)
+    }
+
+    fn read_more(&mut self) {
+        let (tokens, room) = (self.read.as_mut_ptr(), self.read.len());
+        self.next = 0;
+        // SAFETY: each pointer and length is that of one slice or array, and they don't overlap.
+        self.answer = unsafe {
+            raw::tds_tokens_next(self.data.as_ptr(), self.data.len(), &mut self.cursor, tokens, room, &mut self.count)
+        };
+    }
+
     fn token(&self, token: &raw::Token) -> Token {
-        let bytes = &self.data[token.start..self.cursor.at];
+        let bytes = &self.data[token.start..];
         let message = || Message {
             number: token.number,
             state: token.state,
@@ -102,8 +128,8 @@ impl<'a> Tokens<'a> {
             0xAB => Token::Info(message()),
             0xAA => Token::Error(message()),
             0x79 => Token::ReturnStatus(token.number),
-            0x81 => Token::Columns(token.count),
-            0xD1 => Token::Row(bytes[1..].chunks_exact(4).map(int).collect()),
+            0x81 => Token::Columns(token.value as u8),
+            0xD1 => Token::Row(bytes[1..].chunks_exact(4).take(token.value as usize).map(int).collect()),
             0xE3 => Token::Change(match token.change {
                 8 => Change::Begin(token.value),
                 9 => Change::Commit(token.value),
@@ -129,14 +155,34 @@ impl Iterator for Tokens<'_> {
 
     fn next(&mut self) -> Option<Result<Token, Fault>> {
         loop {
-            let mut token = raw::Token::default();
-            // SAFETY: the pointer and the length are those of one slice.
-            match unsafe { raw::tds_token_next(self.data.as_ptr(), self.data.len(), &mut self.cursor, &mut token) } {
-                0 if token.kind == 0xE3 && !self.changes => {}
-                0 => return Some(Ok(self.token(&token))),
+            while self.next < self.count {
+                let token = self.read[self.next];
+                self.next += 1;
+                if token.kind != 0xE3 || self.changes {
+                    return Some(Ok(self.token(&token)));
+                }
+            }
+            match std::mem::replace(&mut self.answer, 9) {
+                0 => self.read_more(),
                 9 => return None,
                 number => return Some(Err(Fault::of(number))),
             }
         }
+    }
+}
+
+/// Rows one behind the other, all of the same width.
+pub struct Rows<'a> {
+    bytes: &'a [u8],
+    columns: usize,
+}
+
+impl Iterator for Rows<'_> {
+    type Item = Vec<i32>;
+
+    fn next(&mut self) -> Option<Vec<i32>> {
+        let row = self.bytes.get(1..1 + 4 * self.columns)?;
+        self.bytes = &self.bytes[1 + 4 * self.columns..];
+        Some(row.chunks_exact(4).map(int).collect())
     }
 }

@@ -1,4 +1,4 @@
-use Rattle.std.proofs.Common.{rules, sym, ◌∙◌, arith}
+use Rattle.std.proofs.Common.{rules, ◌∙◌}
 use Rattle.tds_c.proofs.Fronts.{is_front, least}
 use Rattle.tds_c.proofs.packets.front.Goals as goal
 

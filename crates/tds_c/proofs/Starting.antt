@@ -1,0 +1,28 @@
+-- Taking a request.
+use Rattle.std.proofs.Common.{◌≡◌, ℕ, ◌+◌, ◌*◌, List, [], length, Some, None, Ok, refl, sym, ap, ◌∙◌, arith}
+use Rattle.tds_request.specs.declared.request.Request.{Request}
+use Rattle.tds_request.specs.declared.request.Request.TheVariants.{Batch}
+use Rattle.tds_client.specs.declared.client.parts.ClientParts.{ClientParts}
+use Rattle.tds_client.specs.declared.heard.Heard.{Heard}
+use Rattle.tds_client.specs.Parts.{parts_of, session_from}
+use Rattle.tds_client.specs.Sending.{message_of, started}
+use Rattle.tds_client.specs.Session.{ClientSession, unless_idle}
+use Rattle.tds_c.specs.declared.client.TdsClient.{TdsClient}
+use Rattle.tds_c.specs.Calls.{start_on, starts, value_of}
+use Rattle.tds_c.specs.Plain.{client_of, plain_of}
+use Rattle.tds_c.proofs.Joining.{parted}
+use Rattle.tds_c.proofs.Writing.{two_each}
+
+pub starts_from : (c : TdsClient) (request : Request) (s : ClientSession) → client_of c [] ≡ Some s → starts c request ≡ Some (start_on request s)
+starts_from c request s held = rw held refl
+
+pub started_from : (c : TdsClient) (request : Request) (s : ClientSession) → client_of c [] ≡ Some s → unless_idle s.stage ≡ None
+    → starts c request ≡ Some (Ok (record { answer = tt; session = started s request; bytes = message_of s.heard request }))
+started_from c request s held idle = rw (held, idle) refl
+
+-- the value of a client that has taken a request
+pub is_started : (parts : ClientParts) (left : List ℕ) (s : ClientSession) → session_from parts left ≡ s → plain_of parts 0 ≡ value_of s 0
+is_started parts left s same = ap (λ (p : ClientParts). plain_of p 0) (sym (parted parts left) ∙ ap parts_of same)
+
+pub batch_length : (heard : Heard) (text : List ℕ) → 22 + 2 * length text ≡ length (message_of heard (Batch text))
+batch_length heard text = omega (arith, two_each text)

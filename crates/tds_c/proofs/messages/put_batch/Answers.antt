@@ -1,0 +1,6 @@
+use Rattle.std.proofs.Common.{refl, []}
+use Rattle.tds_request.specs.Layout.{all_headers}
+use Rattle.tds_c.proofs.messages.put_batch.Goals as goal
+
+pub returns : goal.returns
+returns c = c.put_units.ensures (all_headers c.args.descriptor) c.args.out.now refl (rw c.headers.ensures at c.put_at.ensures [] c.args.out.now refl refl)
