@@ -42,7 +42,7 @@ IsLentMessage a = message_in a.bytes.now ≡ Ok (lent_message a)
 abbrev pub IsColumnList : List ℕ → Type 0
 IsColumnList bytes = (columns : List Column) × (rest : List ℕ) × (column_list_at bytes ≡ Ok (columns, rest))
 
--- They.
+-- The columns of that list.
 abbrev pub lent_columns : columns.Inside → List Column
 lent_columns a = list_or_none (column_list_at a.bytes.now)
 

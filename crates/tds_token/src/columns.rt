@@ -82,7 +82,7 @@ impl ColumnList {
 /// Columns that lie in a packet's data, 1 to 16.
 #[derive(Debug, Drop)]
 pub struct ColumnsRef<'a> {
-    /// Their count, in two bytes, and then they.
+    /// The count in two bytes, and then one column behind the other.
     bytes: &'a [u8],
 }
 
