@@ -90,7 +90,7 @@ impl<'a> Plate<'a> {
         self.put_bands(body)?;
         let mut left = PANELS;
         for panel in self.sheet.panels.iter() {
-            Painted::new(self.alloc, self, panel, left).put(body)?;
+            Painted::new(self.alloc, &*self, panel, left).put(body)?;
             left = left.saturating_add(PANEL);
         }
         for row in self.sheet.rows.iter() {
