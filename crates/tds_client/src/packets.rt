@@ -3,8 +3,7 @@ ghost use Rattle.tds_packet.specs.Layout.{bits_of};
 ghost use Rattle.tds_client.specs.Packets.{packet_bytes, attention, ignore};
 
 use crate::NoMemory;
-use bitflags::Flags;
-use tds_packet::{Kind, Status, put_sent};
+use tds_packet::{Kind, Status, put_sent, sent_header};
 
 /// Appends a packet that stands behind `before` others of its message. At want of memory nothing is
 /// appended.
@@ -31,17 +30,7 @@ pub(crate) fn header(kind: Kind, status: Status, before: usize, data: &[u8]) -> 
     requires before { before < 2 ^ 63 }
     ensures { result ++ data.now ≡ packet_bytes kind (bits_of status) before data.now }
 {
-    let length = 8 + data.len();
-    [
-        kind.byte(),
-        status.bits(),
-        (length / 256) as u8,
-        (length % 256) as u8,
-        0,
-        0,
-        ((before + 1) % 256) as u8,
-        0,
-    ]
+    sent_header(kind, status, ((before + 1) % 256) as u8, data)
 }
 
 /// Appends an attention.

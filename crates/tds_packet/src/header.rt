@@ -115,3 +115,23 @@ pub fn put_sent(
     };
     put_packet(out, header, data)
 }
+
+/// The header of a packet with these data as both ends send it, for a caller that writes the
+/// packet: SPID and Window are 0, and the Length counts the data.
+#[inline(always)]
+pub fn sent_header(kind: Kind, status: Status, packet_id: u8, data: &[u8]) -> [u8; 8]
+    requires { length data.now ≤ 65527 }
+    ensures { result ++ data.now ≡ sent_bytes kind (bits_of status) packet_id data.now }
+{
+    let length = 8 + data.len();
+    [
+        kind.byte(),
+        status.bits(),
+        (length / 256) as u8,
+        (length % 256) as u8,
+        0,
+        0,
+        packet_id,
+        0,
+    ]
+}

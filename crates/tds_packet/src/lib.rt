@@ -13,7 +13,7 @@ mod size;
 mod status;
 
 pub use fault::PacketFault;
-pub use header::{Header, put_packet, put_sent};
+pub use header::{Header, put_packet, put_sent, sent_header};
 pub use kind::{Direction, Kind};
 pub use reader::{PacketReader, PacketRef};
 pub use size::PacketSize;
