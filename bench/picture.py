@@ -1,5 +1,5 @@
 """Draws the table that bench/run prints as bars: how fast the calls in Rattle and from C are, as a
-part of the walk in plain C, by the medians.
+part of the walk in plain C, by the fastest turns.
 
 usage: python3 bench/picture.py FILE PICTURE      the table is looked for in FILE, as docs/SPEED.md
 """
@@ -17,29 +17,29 @@ STYLE = """text{font:12px ui-monospace,Menlo,"DejaVu Sans Mono",monospace;fill:#
 @media (prefers-color-scheme:dark){text{fill:#ddd}.bg{fill:#16191d}.rattle{fill:#6aa6e8}.c{fill:#e5a254}.plain{stroke:#ddd}}"""
 
 
-def speeds(lines):
-    """Gives of each stream its walks, with the speeds in Rattle, from C and in plain C; 0 for none."""
+def parts(lines):
+    """Gives of each stream its walks, with what Rattle and C are of plain C in percent; None where C has no such walk."""
     found = {}
     for line in lines:
         cells = [it.strip() for it in line.strip().strip("|").split("|")]
-        if len(cells) == 10 and cells[0] in STREAMS:
-            numbers = [int(it.replace(",", "") or 0) for it in cells[4:7]]
-            found.setdefault(cells[0], {})[cells[1]] = numbers
+        # the last two are how long C takes beside Rattle, and how fast Rattle is beside plain C
+        if len(cells) == 10 and cells[0] in STREAMS and cells[9] != "":
+            rattle = float(cells[9])
+            c = round(100 * rattle / float(cells[8])) if cells[8] else None
+            found.setdefault(cells[0], {})[cells[1]] = round(100 * rattle), c
     return found
 
 
 def bars(walks, top):
-    """Draws the walks that plain C does, too, from this height on."""
+    """Draws the walks from this height on."""
     drawn = []
-    for walk, (rattle, c, plain) in walks.items():
-        if plain == 0:
-            continue
+    for walk, (rattle, c) in walks.items():
         drawn.append(f'<text x="{LEFT - 8}" y="{top + 16}" class="end">{walk}</text>')
-        for kind, speed in (("rattle", rattle), ("c", c)):
-            if speed:
-                width = min(LONGEST, WHOLE * speed // plain)
-                drawn.append(f'<rect x="{LEFT}" y="{top}" width="{max(1, width)}" height="11" class="{kind}"/>')
-                drawn.append(f'<text x="{LEFT + width + 6}" y="{top + 10}">{100 * speed // plain} %</text>')
+        for kind, percent in (("rattle", rattle), ("c", c)):
+            if percent is not None:
+                width = max(1, min(LONGEST, WHOLE * percent // 100))
+                drawn.append(f'<rect x="{LEFT}" y="{top}" width="{width}" height="11" class="{kind}"/>')
+                drawn.append(f'<text x="{LEFT + LONGEST + 50}" y="{top + 10}" class="end">{percent} %</text>')
             top += 13
         top += 6
     return drawn, top
@@ -53,7 +53,7 @@ def picture(lines):
         f'<rect x="{LEFT}" y="34" width="11" height="11" class="rattle"/><text x="{LEFT + 18}" y="44">in Rattle</text>',
         f'<rect x="{LEFT + 110}" y="34" width="11" height="11" class="c"/><text x="{LEFT + 128}" y="44">from C</text>',
     ]
-    for stream, walks in speeds(lines).items():
+    for stream, walks in parts(lines).items():
         drawn.append(f'<text x="12" y="{top + 8}" class="head">{STREAMS[stream]}</text>')
         group, bottom = bars(walks, top + 18)
         line = f'<line x1="{LEFT + WHOLE}" y1="{top + 14}" x2="{LEFT + WHOLE}" y2="{bottom}" class="plain"/>'

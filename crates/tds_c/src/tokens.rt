@@ -238,9 +238,9 @@ fn run(
     Ok(Ran::Full)
 }
 
-/// Reads the tokens behind the cursor, as `tds_token_next` gives them one after the other, until the
-/// room is full. 0 where it is full, 9 at the end of the data. What was read before the end or before
-/// bytes that spell no token stands at the front of the room.
+/// Reads the tokens behind the cursor, as `tds_token_next` gives them one after the other, until
+/// the room is full. 0 where it is full, 9 at the end of the data. What was read before the end or
+/// before bytes that spell no token stands at the front of the room.
 #[unsafe(no_mangle)]
 pub extern "C" fn tds_tokens_next(
     data: &[u8],

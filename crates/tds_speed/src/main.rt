@@ -7,9 +7,11 @@
 
 mod fault;
 mod front;
+mod pieces;
 mod walks;
 
 use fault::SpeedFault;
+use pieces::pieces;
 use std::alloc::Global;
 use std::process::ExitCode;
 use std::time::Instant;
@@ -22,7 +24,9 @@ use walks::Counted;
 enum Walk {
     /// The packets are found.
     Packets,
-    /// And a client takes each. Where it is idle a request goes out before.
+    /// The same from pieces of so many bytes, by a reader that keeps what has come.
+    Pieces(usize),
+    /// The packets are found, and a client takes each. Where it is idle a request goes out before.
     Hear,
     /// The packets' tokens are read.
     Tokens,
@@ -34,8 +38,11 @@ enum Walk {
     Take,
 }
 
-const WALKS: [Walk; 6] = [
+const WALKS: [Walk; 9] = [
     Walk::Packets,
+    Walk::Pieces(1),
+    Walk::Pieces(100),
+    Walk::Pieces(65_536),
     Walk::Hear,
     Walk::Tokens,
     Walk::Rows,
@@ -47,6 +54,9 @@ impl Walk {
     fn name(self) -> &'static str {
         match self {
             Walk::Packets => "packets",
+            Walk::Pieces(1) => "pieces1",
+            Walk::Pieces(100) => "pieces100",
+            Walk::Pieces(_) => "pieces65536",
             Walk::Hear => "hear",
             Walk::Tokens => "tokens",
             Walk::Rows => "rows",
@@ -58,6 +68,7 @@ impl Walk {
     fn walk(self, alloc: Global, size: PacketSize, bytes: &[u8]) -> Result<Counted, SpeedFault> {
         match self {
             Walk::Packets => walks::packets(size, bytes),
+            Walk::Pieces(length) => pieces(alloc, size, bytes, length),
             Walk::Hear => walks::hear(alloc, size, bytes),
             Walk::Tokens => walks::tokens(size, bytes),
             Walk::Rows => walks::rows(size, bytes),

@@ -20,7 +20,7 @@ pub struct Counted {
 }
 
 impl Counted {
-    fn none() -> Counted {
+    pub fn none() -> Counted {
         Counted {
             packets: 0,
             tokens: 0,
@@ -29,7 +29,7 @@ impl Counted {
         }
     }
 
-    fn add(&mut self, value: u64) {
+    pub fn add(&mut self, value: u64) {
         self.sum = self.sum.wrapping_add(value);
     }
 }
