@@ -38,7 +38,8 @@ pub(crate) fn fields_inside(inside: &[u8]) -> Result<Fields<'_>, TokenFault>
 /// Whether these bytes are a message's.
 #[inline(never)]
 fn check_message(inside: &[u8]) -> Result<(), TokenFault>
-    ensures { MatchResult result (λ x. (message : Message) × (message_in inside.now ≡ Ok message)) (λ e. message_in inside.now ≡ Err e) }
+    ensures { MatchResult result (λ x. (message : Message) × (message_in inside.now ≡ Ok message))
+        (λ e. message_in inside.now ≡ Err e) }
 {
     fields_inside(inside)?;
     Ok(())
