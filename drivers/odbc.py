@@ -1,6 +1,7 @@
 """FreeTDS's ODBC driver, by ctypes: odbc.py PORT PACED_PORT."""
 import ctypes
 import sys
+import threading
 import time
 
 ODBC = ctypes.CDLL("libodbc.so.2")
@@ -32,13 +33,14 @@ ENVIRONMENT = handle(1, None)
 ODBC.SQLSetEnvAttr(ENVIRONMENT, 200, HANDLE(3), 0)
 
 
-def connect(port, version="7.4", more=""):
+def connect(port, version="7.4", more="", quiet=False):
     made = handle(OF_CONNECTION, ENVIRONMENT)
     words = (f"Driver={DRIVER};Server=127.0.0.1;Port={port};UID=a;PWD=b;"
              f"TDS_Version={version};{more}").encode()
     result = ODBC.SQLDriverConnect(made, None, words, ctypes.c_short(len(words)), None,
                                    ctypes.c_short(0), None, ctypes.c_ushort(0))
-    print("connect", version, more, result, told(OF_CONNECTION, made) if result else "")
+    if not quiet:
+        print("connect", version, more, result, told(OF_CONNECTION, made) if result else "")
     return made if result in (0, 1) else None
 
 
@@ -76,6 +78,29 @@ def cancel_in_the_middle(connection):
     print("cancelled", "at once" if time.time() - started < 1.5 else "late")
 
 
+def many(port):
+    connections = [connect(port, quiet=True) for _ in range(64)]
+    right, wrong = [], []
+
+    def work(place):
+        for turn in range(20):
+            first = place * 100 + turn
+            statement, rows = handle(OF_STATEMENT, connections[place]), []
+            text = f"rows {first} 3".encode()
+            result = ODBC.SQLExecDirect(statement, text, len(text))
+            while result in (0, 1) and ODBC.SQLFetch(statement) in (0, 1):
+                rows.append(value(statement))
+            (right if rows == [first, first + 1, first + 2] else wrong).append(first)
+            ODBC.SQLFreeHandle(ctypes.c_short(3), statement)
+
+    threads = [threading.Thread(target=work, args=(place,)) for place in range(64)]
+    for thread in threads:
+        thread.start()
+    for thread in threads:
+        thread.join()
+    print("64 connections,", len(right), "answers right,", len(wrong), "wrong")
+
+
 def main():
     one = connect(sys.argv[1])
     for text in ("rows 7 3", "say hello", "foo", "fail 70001"):
@@ -89,6 +114,7 @@ def main():
     connect(sys.argv[1], "7.1")
     connect(sys.argv[1], more="Encryption=require;")
     cancel_in_the_middle(connect(sys.argv[2]))
+    many(sys.argv[1])
 
 
 if __name__ == "__main__":

@@ -7,6 +7,7 @@ mod cuts;
 mod flood;
 mod load;
 mod scripts;
+mod settings;
 mod site;
 mod wrong;
 
@@ -17,6 +18,8 @@ fn main(rt: HostRuntime) -> anyhow::Result<()> {
     let text = cuts::run(&rt, alloc)?;
     print!(rt; "{text}")?;
     let text = scripts::run(&rt, alloc)?;
+    print!(rt; "{text}")?;
+    let text = settings::run(&rt, alloc)?;
     print!(rt; "{text}")?;
     let text = wrong::run(alloc)?;
     print!(rt; "{text}")?;

@@ -8,9 +8,6 @@ use tds_ends::RequestStatus;
 use tds_serving::{Event, Script};
 use tds_session::OnAttention;
 
-/// How many rounds a client waits for more, where nothing more is to come.
-const PATIENCE: usize = 2000;
-
 /// One thing that a client does.
 #[derive(Clone, Copy)]
 enum Deed<'a> {
@@ -89,7 +86,7 @@ fn run_one(
     }
     let mut site = Site::new(rt, alloc, on_attention, Script::of(copies))?;
     let mut caller = Caller::new(rt, alloc, site.address)?;
-    pump(rt, &mut site, &mut caller)?;
+    site.settle(rt, &mut caller)?;
     let mut text = String::new(alloc);
     for deed in deeds.iter() {
         match deed {
@@ -97,13 +94,13 @@ fn run_one(
                 if caller.ask(alloc, batch).is_err() {
                     bail!("a request is underway");
                 }
-                pump(rt, &mut site, &mut caller)?;
+                site.settle(rt, &mut caller)?;
                 let line = format!(in alloc; "{batch}: {}\n", met(&caller))?;
                 text.push_str(line.as_str())?;
             }
             Cancel => {
                 caller.cancel(alloc)?;
-                pump(rt, &mut site, &mut caller)?;
+                site.settle(rt, &mut caller)?;
                 let line = format!(in alloc; "cancel: {}\n", met(&caller))?;
                 text.push_str(line.as_str())?;
             }
@@ -128,16 +125,4 @@ fn met<'a>(caller: &Caller) -> &'a str {
         None if caller.is_over => "cut",
         None => "waits",
     }
-}
-
-/// Lets the server and the client go on until nothing comes any more.
-fn pump(rt: &HostRuntime, site: &mut Site, caller: &mut Caller) -> anyhow::Result<()> {
-    for _ in 0..PATIENCE {
-        site.round(rt)?;
-        caller.hear()?;
-        if caller.is_over {
-            break;
-        }
-    }
-    Ok(())
 }

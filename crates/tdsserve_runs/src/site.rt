@@ -1,5 +1,6 @@
 //! A server on a port of its own.
 
+use crate::caller::Caller;
 use anyhow::Context;
 use mio::Events;
 use std::alloc::Global;
@@ -10,6 +11,9 @@ use tds_session::OnAttention;
 
 /// How often a round is given before a run is given up.
 pub const MOST_ROUNDS: u64 = 50_000_000;
+
+/// How many rounds a client waits for more, where nothing more is to come.
+const PATIENCE: usize = 2000;
 
 /// A server, and where it listens.
 #[derive(Drop)]
@@ -46,6 +50,18 @@ impl Site {
     /// A round of the server, which waits for nothing.
     pub fn round(&mut self, rt: &HostRuntime) -> io::Result<()> {
         self.house.round(rt, &mut self.events, 0)
+    }
+
+    /// Lets the server and a client go on until nothing comes any more, or the client is cut.
+    pub fn settle(&mut self, rt: &HostRuntime, caller: &mut Caller) -> anyhow::Result<()> {
+        for _ in 0..PATIENCE {
+            self.round(rt)?;
+            caller.hear()?;
+            if caller.is_over {
+                break;
+            }
+        }
+        Ok(())
     }
 
     /// How many connections the server has.
