@@ -19,10 +19,8 @@ use Rattle.tds_world.specs.Losses.{link_of, number_of}
 use Rattle.tds_world.specs.Pool.{Refuses, is_free, first_of, lowest_free, pool_count, to_lend, to_lend_by, gives_back_at, abandons_at}
 use Rattle.tds_world.specs.World.{World, Holding, numbered, next_number, there, uncut, uncut_in, held, not_cut}
 use Rattle.tds_world.specs.World as world
-use Rattle.tds_play.specs.declared.pool.Found.{Found}
-use Rattle.tds_play.specs.declared.pool.Found.TheVariants.{Missing, Here, Opens}
+use Rattle.tds_play.specs.Lending.{Found, Missing, Here, Opens, RefinesFound, lent, numbered_of}
 use Rattle.tds_play.specs.Holdings.{conn_in, conn_of}
-use Rattle.tds_play.specs.Lending.{RefinesFound, lent, numbered_of}
 use Rattle.tds_play.specs.Noted.{about_of, held_of}
 use Rattle.tds_play.specs.Plays.{IsReady, MayLose, acts_at, acts_on, held_by, holdings_of, on_cut}
 use Rattle.tds_play.proofs.Held.{conn_held}

@@ -13,12 +13,10 @@ use Rattle.tds_world.specs.Lending.{LendsIdle}
 use Rattle.tds_world.specs.Losses.{Loss, Nothing, Failed, bringing, met}
 use Rattle.tds_world.specs.World.{World}
 use Rattle.tds_play.specs.declared.link.EventDone.{EventDone}
-use Rattle.tds_play.specs.declared.seat.Seated.{Seated}
+use Rattle.tds_play.specs.Seats.{Seated}
 use Rattle.tds_play.specs.declared.player.Player.{Player}
-use Rattle.tds_play.specs.declared.pool.Found.{Found}
-use Rattle.tds_play.specs.declared.pool.Found.TheVariants.{Here}
+use Rattle.tds_play.specs.Lending.{Found, Here, standing_of}
 use Rattle.tds_play.specs.Holdings.{all_ended}
-use Rattle.tds_play.specs.Lending.{standing_of}
 use Rattle.tds_play.specs.Noted.{about_of}
 use Rattle.tds_play.specs.Pipe.{Pipe}
 use Rattle.tds_play.specs.Player.{RefinesEvent, IsFound, RepresentsWorld}

@@ -12,7 +12,7 @@ use Rattle.tds_world.specs.Events.{settles}
 use Rattle.tds_world.specs.Losses.{loss_by, world_then}
 use Rattle.tds_world.specs.Pool.{opens, to_lend}
 use Rattle.tds_world.specs.World.{World, Opens, next_number, put}
-use Rattle.tds_play.specs.declared.seat.Seated.{Seated}
+use Rattle.tds_play.specs.Seats.{Seated}
 use Rattle.tds_play.specs.declared.player.Player.{Player}
 use Rattle.tds_play.specs.Pipe.{Pipe, AreSame}
 use Rattle.tds_play.specs.Player.{RefinesEvent, RepresentsWorld}

@@ -26,8 +26,7 @@ use Rattle.tds_world.specs.Observed.{observed, snapshots, request_reports, bytes
 use Rattle.tds_world.specs.World.{World, new_world, numbered}
 use Rattle.tds_play.specs.declared.link.EventDone.{EventDone}
 use Rattle.tds_play.specs.declared.link.Link.{Link}
-use Rattle.tds_play.specs.declared.seat.Seat.{Seat}
-use Rattle.tds_play.specs.declared.seat.Seated.{Seated}
+use Rattle.tds_play.specs.Seats.{Seat, Seated}
 use Rattle.tds_play.specs.declared.player.Player.{Player}
 use Rattle.tds_play.specs.Lending.{standing_by}
 use Rattle.tds_play.specs.Pipe.{Pipe, IsOpen, is_cut_at, traffic}

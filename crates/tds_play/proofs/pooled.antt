@@ -12,3 +12,5 @@ pub mod Lends
 pub mod Returned
 pub mod Acted
 pub mod Begun
+pub mod Cancels
+pub mod Ended

@@ -8,14 +8,16 @@ use Rattle.tds_pool.specs.declared.seat.Place.{Place as PoolPlace}
 use Rattle.tds_pool.specs.declared.seat.Place.TheVariants as pooled
 use Rattle.tds_pool.specs.Calls.{all_numbers}
 use Rattle.tds_pool.specs.Connections as pool
+use Rattle.tds_pool.specs.declared.answers.PoolRefusal.{PoolRefusal}
+use Rattle.tds_pool.specs.declared.answers.PoolRefusal.TheVariants as refusals
+use Rattle.tds_world.specs.declared.outcome.Refusal.{Refusal}
+use Rattle.tds_world.specs.declared.outcome.Refusal.TheVariants.{NotIdle, NothingToKeep}
 use Rattle.tds_pool.specs.Connections.{PoolState, SameRest, connections, numbered, taken_out}
 use Rattle.tds_world.specs.declared.report.Place.{Place}
 use Rattle.tds_world.specs.declared.report.Place.TheVariants.{Draining, Free, Kept, Leased}
 use Rattle.tds_world.specs.World as world
-use Rattle.tds_play.specs.Seats.{seated}
+use Rattle.tds_play.specs.Seats.{Seat, Seated, seated}
 use Rattle.tds_play.specs.declared.seat.Held.{Held}
-use Rattle.tds_play.specs.declared.seat.Seat.{Seat}
-use Rattle.tds_play.specs.declared.seat.Seated.{Seated}
 
 -- ---- Each connection in its seat
 
@@ -136,3 +138,10 @@ pub record ChangesOne (number : ℕ) (is_cut : Bool) (old new : PoolState) : Typ
       → numbered number (connections new) ≡ Some d → StaysAs c d
   pub gone : is_cut ≡ true → connections new ≡ taken_out number (connections old)
   pub rest : SameRest old new
+
+-- ---- What the pool refuses
+
+-- Why a lease isn't kept, in the words of a play.
+abbrev pub keeps_not : PoolRefusal → Refusal
+keeps_not refusals.NoTransaction = NothingToKeep
+keeps_not why = NotIdle

@@ -5,7 +5,7 @@ use Rattle.tds_packet.specs.declared.kind.Direction.{Direction}
 use Rattle.tds_packet.specs.declared.kind.Direction.TheVariants.{ToServer, ToClient}
 use Rattle.tds_play.specs.Pipe.{Pipe, AreSame, traffic, IsOpen}
 use Rattle.tds_play.specs.declared.link.Link.{Link}
-use Rattle.tds_play.specs.declared.seat.Seated.{Seated}
+use Rattle.tds_play.specs.Seats.{Seated}
 
 -- So many bytes are underway each way, or more.
 pub record Holds (up down : ℕ) (pipe : Option Pipe) : Type 0 where

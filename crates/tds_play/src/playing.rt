@@ -2,7 +2,7 @@
 ghost use Rattle.std.specs.Prelude.{◌≡◌, ◌≢◌, ◌≤◌, List, [], ◌++◌, length, None, Some, Err, IfErr, IfOk, OnOk};
 ghost use Rattle.tds_play.specs.AnyBytes.{ReadsBytes};
 ghost use Rattle.tds_play.specs.Failures.{FailNowhere, TellFailures};
-ghost use Rattle.tds_play.specs.Player.{RepresentsWorld};
+ghost use Rattle.tds_play.specs.Player.{AreHeld, RepresentsWorld};
 ghost use Rattle.tds_play.specs.Refused.{first_refusal, play_refusal_number};
 ghost use Rattle.tds_play.specs.WholePlay.{CarriesBytesOf, CutsThoseOf, HandsBytesOf, IsReportOfPlay, IsWholePlayOf, world_of};
 ghost use Rattle.tds_play.specs.declared.playing.PlayRefusal.TheVariants.{Memory};
@@ -21,6 +21,7 @@ ghost use Rattle.tds_world.specs.World.{new_world};
 ghost use Rattle.tds_world.specs.declared.event.Event.{Event};
 ghost use Rattle.tds_world.specs.declared.event.Setup.{Setup};
 
+use crate::NoMemory;
 use crate::carrier::Carrier;
 use crate::player::Player;
 use crate::worlds::worlds_hold;
@@ -296,6 +297,7 @@ fn play_events<E: Engine + Copy, C: Carrier>(
     carrier: &mut C,
 ) -> Result<Report, PlayRefusal>
     requires begins { player.links.items ≡ [] }
+    requires held { AreHeld player }
     requires few { length events.now ≤ 10000 }
     ensures memory { IfErr result (λ why. why ≡ Memory) }
     ensures unfailing { (setup : Setup) → IsSetup setup → C.tells carrier.old
@@ -314,6 +316,21 @@ fn play_events<E: Engine + Copy, C: Carrier>(
         (answer_of (E.statements_of player.engine) (E.step_of player.engine)) events.now report
         (C.pipes carrier.new)) }
 {
+    let reports = run(alloc, &mut player, events, carrier);
+    let requests = player.into_requests();
+    Ok(Report {
+        events: Sequence::new(reports?),
+        requests: Sequence::new(requests?),
+    })
+}
+
+/// Plays the events, one after the other, and tells of them.
+fn run<E: Engine + Copy, C: Carrier>(
+    alloc: Global,
+    player: &mut Player<E>,
+    events: &[Event],
+    carrier: &mut C,
+) -> Result<Vec<EventReport>, NoMemory> {
     worlds_hold(&player.engine);
     of_marked_report();
     let mut reports = Vec::new(alloc);
@@ -326,8 +343,5 @@ fn play_events<E: Engine + Copy, C: Carrier>(
             snapshots: Sequence::new(player.snapshots()?),
         })?;
     }
-    Ok(Report {
-        events: Sequence::new(reports),
-        requests: Sequence::new(player.into_requests()?),
-    })
+    Ok(reports)
 }

@@ -13,7 +13,7 @@ use Rattle.tds_world.specs.declared.outcome.Outcome.{Outcome}
 use Rattle.tds_world.specs.declared.outcome.Outcome.TheVariants as outcome
 use Rattle.tds_world.specs.declared.outcome.Refusal.{Refusal}
 use Rattle.tds_world.specs.declared.report.EventReport.{EventReport}
-use Rattle.tds_play.specs.declared.seat.Seated.{Seated}
+use Rattle.tds_play.specs.Seats.{Seated}
 use Rattle.tds_play.specs.AnyBytes.{AnswersWith, AreAnswered, IsRefused, is_delivery, outcomes_on}
 use Rattle.tds_play.specs.Pipe.{Pipe, AreSame, traffic}
 use Rattle.tds_play.specs.Reads.{AllRead, Answers, BringsBy, IsAbout, ReadsNoMore, ReadsThere, ReadsOn, answers_then, delivers}

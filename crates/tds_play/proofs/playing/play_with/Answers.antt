@@ -7,7 +7,7 @@ use Rattle.tds_play.specs.Pipe.{Pipe}
 use Rattle.tds_play.specs.Player.{RepresentsWorld}
 use Rattle.tds_play.specs.Plays.{RepresentConnections}
 use Rattle.tds_play.specs.WholePlay.{IsReportOfPlay}
-use Rattle.tds_play.specs.declared.seat.Seated.{Seated}
+use Rattle.tds_play.specs.Seats.{Seated}
 use Rattle.tds_play.specs.declared.player.Player.{Player}
 use Rattle.tds_session.specs.Answer.{answer_of}
 use Rattle.tds_world.specs.alone.Alone.{AsIfAlone}

@@ -2,7 +2,7 @@ use Rattle.std.proofs.Common.{◌≡◌, ◌∙◌, suc, length, ap, arith, refl
 use Rattle.std.proofs.lemmas.List.{length-map, length-set}
 use Rattle.std.specs.Vec.{with_item}
 use Rattle.tds_session.specs.Answer.{Answers, answer_of}
-use Rattle.tds_play.specs.declared.seat.Seated.{Seated}
+use Rattle.tds_play.specs.Seats.{Seated}
 use Rattle.tds_play.specs.declared.player.Player.{Player}
 use Rattle.tds_play.specs.Plays.{AreNext, acts_on, held_by, loss_of}
 use Rattle.tds_ends.specs.ModelGives.{ModelGives}

@@ -3,7 +3,7 @@ use Rattle.tds_session.specs.Answer.{Answers, answer_of}
 use Rattle.tds_world.specs.declared.event.Event.{Event}
 use Rattle.tds_world.specs.Events.{happens}
 use Rattle.tds_play.specs.declared.link.EventDone.{EventDone}
-use Rattle.tds_play.specs.declared.pool.Found.TheVariants.{Missing, Opens}
+use Rattle.tds_play.specs.Lending.{Missing, Opens}
 use Rattle.tds_play.specs.Player.{RefinesEvent}
 use Rattle.tds_play.proofs.Found.{HappensBy}
 use Rattle.tds_play.proofs.PlayerFinds.{FoundHere, about_one, client_restarts, found_alike, found_here, missing_alike, server_restarts}

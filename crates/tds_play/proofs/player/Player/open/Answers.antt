@@ -8,7 +8,7 @@ use Rattle.tds_play.proofs.Listed.{opened}
 use Rattle.tds_play.proofs.PlayerOpens.{opens_alike}
 use Rattle.std.proofs.Common.{List, Bool, sym, Some, [], ◌∷◌}
 use Rattle.tds_play.specs.Failures.{Fails, HasNoFailure, LiveAreSound, Open}
-use Rattle.tds_play.specs.declared.seat.Seated.{Seated}
+use Rattle.tds_play.specs.Seats.{Seated}
 use Rattle.tds_play.proofs.Accounts.{opens_lost, sound_push}
 use Rattle.tds_world.specs.Losses.{number_of}
 use Rattle.tds_packet.specs.declared.kind.Direction.{Direction}
