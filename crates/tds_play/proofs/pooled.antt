@@ -14,3 +14,4 @@ pub mod Acted
 pub mod Begun
 pub mod Cancels
 pub mod Ended
+pub mod Leaves

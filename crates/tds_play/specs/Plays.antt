@@ -138,10 +138,12 @@ MayLose false (event.ToServer n count) = Unit {0}
 MayLose false (event.ToClient n count) = Unit {0}
 MayLose false e = ⊥
 
--- A connection that is lent is idle. A restart is about all connections, and about none alone.
+-- A connection that is lent is idle, and so is one that was kept. A restart is about all connections, and about
+-- none alone.
 abbrev pub IsReady : Event → Connection → Type 0
 IsReady event.Lease c = is_idle c ≡ true
 IsReady (event.Resume ticket) c = is_idle c ≡ true
+IsReady (event.Abandon ticket) c = is_idle c ≡ true
 IsReady event.RestartServer c = ⊥
 IsReady event.RestartClient c = ⊥
 IsReady e c = Unit {0}

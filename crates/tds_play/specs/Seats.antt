@@ -56,6 +56,9 @@ abbrev pub placed_behind : Event → ClientSession → Place → Place
 placed_behind (event.ToClient n count) s p = drained_at (is_none (unless_idle s.stage)) p
 placed_behind e s p = p
 
+abbrev pub behind_event : Event → Seat → Seat
+behind_event e seat = placed_at (placed_behind e seat.client seat.place) seat
+
 -- Why a client's connection isn't kept: it isn't idle, or it has no transaction, or one that a full
 -- reset is to end.
 abbrev pub unless_kept_by : Bool → Bool → Option Refusal
