@@ -2,7 +2,7 @@
 ghost use Rattle.std.specs.Prelude.{◌≡◌, ◌≢◌, ◌≤◌, ◌<◌, ◌-◌, ℕ, suc, List, [], ◌∷◌, ◌++◌, length, map, slice_get, slice_set, false, Option, Some, IfOk, OnOk};
 ghost use Rattle.std.specs.List.{filter_map};
 ghost use Rattle.tds_play.specs.Failures.{FailsNoMore, FailsOn, LiveAreSound, all_known};
-ghost use Rattle.tds_play.specs.Lending.{standing_of, Here};
+ghost use Rattle.tds_play.specs.Lending.{found_by, standing_of};
 ghost use Rattle.tds_play.specs.Holdings.{all_ended};
 ghost use Rattle.tds_play.specs.Links.{newest_held};
 ghost use Rattle.tds_pool.specs.Connections.{connections};
@@ -13,6 +13,8 @@ ghost use Rattle.tds_play.specs.Plays.{RepresentConnections};
 ghost use Rattle.tds_ends.specs.ModelGives.{IsCountable};
 ghost use Rattle.tds_play.specs.Reads.{AllRead, Answers as Answered, IsAbout, TakesLast, TellsGiven, answers_then};
 ghost use Rattle.tds_play.specs.Seen.{seen_of};
+ghost use Rattle.tds_play.specs.Pooled.{IsGone, numbers_kept, numbers_leased};
+ghost use Rattle.tds_play.specs.Seats.{IsOfEnds};
 ghost use Rattle.tds_play.specs.Ties.{AreTied};
 ghost use Rattle.tds_play.specs.declared.request.Record.{Record};
 ghost use Rattle.tds_session.specs.Answer.{Answers, answer_of};
@@ -602,7 +604,7 @@ impl<E: Engine + Copy> Player<E> {
     pub(crate) fn into_requests(mut self) -> Result<Vec<RequestReport>, NoMemory>
         // The callers of each connection were given what is told of its requests, and maybe more.
         ensures given { IfOk result (λ reports. (n : ℕ)
-            → TellsGiven self.links.items reports.items n) }
+            → TellsGiven (all_of self) reports.items n) }
         ensures told { (setup : Setup) (engine : E) (pipes : ℕ → Option Pipe) (w : World)
             → RepresentsWorld setup engine self pipes w → RequestsInOrder w
             → IfOk result (λ reports. reports.items ≡ request_reports w 1 w.asked_on) }

@@ -1,7 +1,7 @@
 //! Leases and tickets by their numbers, and the connection that an event is about.
 ghost use Rattle.std.specs.Prelude.{◌≡◌, ◌<◌, ◌++◌, ◌∷◌, ℕ, suc, [], length, min, Option, None, Some, IfErr, IfOk, OnOk};
 ghost use Rattle.std.specs.Option.{option_copied};
-ghost use Rattle.tds_play.specs.Lending.{Here, numbered_of};
+ghost use Rattle.tds_play.specs.Lending.{found_by, numbered_of};
 ghost use Rattle.tds_play.specs.Holdings.{all_ended, conn_of, ended_of, put_in};
 ghost use Rattle.tds_world.specs.World.{numbered};
 
@@ -125,8 +125,11 @@ impl<T> Holdings<T> {
         let Holdings { mut held } = self;
         'held: for _ in 0..held.len() {
             match held.pop() {
-                Some(Some(_)) => unreachable!(),
-                Some(None) | None => {}
+                None => {}
+                Some(ended) => match ended {
+                    None => {}
+                    Some(_) => unreachable!(),
+                },
             }
         }
         held.destroy_empty();
