@@ -125,8 +125,11 @@ impl<T> Holdings<T> {
         let Holdings { mut held } = self;
         'held: for _ in 0..held.len() {
             match held.pop() {
-                Some(Some(_)) => unreachable!(),
-                Some(None) | None => {}
+                None => {}
+                Some(ended) => match ended {
+                    None => {}
+                    Some(_) => unreachable!(),
+                },
             }
         }
         held.destroy_empty();
