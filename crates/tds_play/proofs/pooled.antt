@@ -15,3 +15,6 @@ pub mod Begun
 pub mod Cancels
 pub mod Ended
 pub mod Leaves
+pub mod Unkept
+pub mod Records
+pub mod Steps

@@ -1,33 +1,35 @@
 //! All connections of a play, and what each event does to them.
 ghost use Rattle.std.specs.Prelude.{◌≡◌, ◌≢◌, ◌≤◌, ◌<◌, ◌-◌, ℕ, suc, List, [], ◌∷◌, ◌++◌, length, map, slice_get, slice_set, false, Option, Some, IfOk, OnOk};
 ghost use Rattle.std.specs.List.{filter_map};
+ghost use Rattle.tds_ends.specs.ModelGives.{IsCountable};
 ghost use Rattle.tds_play.specs.Failures.{FailsNoMore, FailsOn, LiveAreSound, all_known};
-ghost use Rattle.tds_play.specs.Lending.{found_by, standing_of};
-ghost use Rattle.tds_play.specs.Holdings.{all_ended};
+ghost use Rattle.tds_play.specs.Holdings.{all_ended, conn_of};
+ghost use Rattle.tds_play.specs.Lending.{standing_of, Here, found_by};
 ghost use Rattle.tds_play.specs.Links.{newest_held};
-ghost use Rattle.tds_pool.specs.Connections.{connections};
 ghost use Rattle.tds_play.specs.Noted.{about_of, held_of};
 ghost use Rattle.tds_play.specs.Pipe.{Pipe};
-ghost use Rattle.tds_play.specs.Player.{AreHeld, RefinesEvent, IsFound, RepresentsWorld, IsSmall, ModelGivesEach, all_of};
+ghost use Rattle.tds_play.specs.Player.{AreHeld, RefinesEvent, IsFound, RepresentsWorld, ModelGivesEach, all_of};
 ghost use Rattle.tds_play.specs.Plays.{RepresentConnections};
-ghost use Rattle.tds_ends.specs.ModelGives.{IsCountable};
-ghost use Rattle.tds_play.specs.Reads.{AllRead, Answers as Answered, IsAbout, TakesLast, TellsGiven, answers_then};
-ghost use Rattle.tds_play.specs.Seen.{seen_of};
 ghost use Rattle.tds_play.specs.Pooled.{IsGone, numbers_kept, numbers_leased};
+ghost use Rattle.tds_play.specs.Reads.{AllRead, Answers as Answered, IsAbout, TakesLast, TellsGiven, answers_then};
 ghost use Rattle.tds_play.specs.Seats.{IsOfEnds};
+ghost use Rattle.tds_play.specs.Seen.{done_as, seen_of};
+ghost use Rattle.tds_play.specs.Steps.{CutsAt, IsOfOne, OpensAs, ReusesAs, StepsAt};
 ghost use Rattle.tds_play.specs.Ties.{AreTied};
 ghost use Rattle.tds_play.specs.declared.request.Record.{Record};
-ghost use Rattle.tds_session.specs.Answer.{Answers, answer_of};
+ghost use Rattle.tds_pool.specs.Connections.{SameRest, connections};
+ghost use Rattle.tds_session.specs.Answer.{answer_of};
 ghost use Rattle.tds_world.specs.Connection.{Connection, cut};
 ghost use Rattle.tds_world.specs.Events.{happens};
 ghost use Rattle.tds_world.specs.Laws.{OfEachConnection};
 ghost use Rattle.tds_world.specs.Losses.{bringing, link_of};
 ghost use Rattle.tds_world.specs.Observed.{request_reports};
 ghost use Rattle.tds_world.specs.Order.{RequestsInOrder};
-ghost use Rattle.tds_world.specs.Pool.{to_lend};
-ghost use Rattle.tds_world.specs.World.{World, Opens, next_number, numbered, put};
+ghost use Rattle.tds_world.specs.World.{World, numbered, put};
 ghost use Rattle.tds_world.specs.declared.event.Event.TheVariants as event;
 ghost use Rattle.tds_world.specs.declared.event.Setup.{Setup};
+ghost use Rattle.tds_world.specs.declared.outcome.Opened.TheVariants as opened;
+ghost use Rattle.tds_world.specs.declared.outcome.Outcome.TheVariants as outcome;
 
 use crate::NoMemory;
 use crate::carrier::Carrier;
@@ -205,7 +207,12 @@ impl<E: Engine + Copy> Player<E> {
     ) -> Result<EventDone, NoMemory>
         requires tied { AreTied (all_of self.old) (C.pipes carrier.old) }
         requires held { AreHeld self.old }
+        requires few { length self.old.links.items < 10000 }
         requires there { place < length self.old.links.items }
+        requires about { IsAbout event.now place }
+        requires found { Here place ≡ about_of event.now (map standing_of (all_of self.old))
+            self.old.max (numbers_leased self.old.leases) (numbers_kept self.old.tickets) }
+        requires ends { IsOfOne event.now }
         ensures tied { OnOk result (AreTied (all_of self.new) (C.pipes carrier.new)) }
         ensures held { OnOk result (AreHeld self.new) }
         ensures count { OnOk result
@@ -214,7 +221,7 @@ impl<E: Engine + Copy> Player<E> {
         ensures sound { LiveAreSound (all_of self.old) (C.pipes carrier.old)
             → OnOk result (LiveAreSound (all_of self.new) (C.pipes carrier.new)) }
         ensures size { OnOk result (self.new.size ≡ self.old.size) }
-        ensures reads { (size : ℕ) (answers : Answered) → IsAbout event.now place
+        ensures reads { (size : ℕ) (answers : Answered)
             → AllRead size (all_of self.old) (C.pipes carrier.old) answers
             → IfOk result (λ done. AllRead size (all_of self.new)
             (C.pipes carrier.new) (answers_then event.now done.outcome answers)) }
@@ -236,6 +243,29 @@ impl<E: Engine + Copy> Player<E> {
             → IfOk result (λ done. RefinesEvent setup engine
             (answer_of (E.statements_of engine) (E.step_of engine)) done self.new
             (C.pipes carrier.new) event.now w) }
+    {
+        let done = self.step_at(carrier, place, event)?;
+        Ok(done)
+    }
+
+    /// What it does, by the kind of event that it is.
+    fn step_at<C: Carrier>(
+        &mut self,
+        carrier: &mut C,
+        place: usize,
+        event: &Event,
+    ) -> Result<EventDone, NoMemory>
+        requires tied { AreTied (all_of self.old) (C.pipes carrier.old) }
+        requires held { AreHeld self.old }
+        requires few { length self.old.links.items < 10000 }
+        requires there { place < length self.old.links.items }
+        requires found { Here place ≡ about_of event.now (map standing_of (all_of self.old))
+            self.old.max (numbers_leased self.old.leases) (numbers_kept self.old.tickets) }
+        requires ends { IsOfOne event.now }
+        ensures { IfOk result (λ done. StepsAt
+            (λ engine. answer_of (E.statements_of engine) (E.step_of engine)) event.now place
+            self.old self.new (C.pipes carrier.old) (C.pipes carrier.new)
+            (C.tells carrier.old) (C.tells carrier.new) done) }
     {
         match event {
             Event::Resume(ticket) => self.resume(place, *ticket),
@@ -253,44 +283,19 @@ impl<E: Engine + Copy> Player<E> {
         place: usize,
         event: &Event,
     ) -> Result<EventDone, NoMemory>
-        requires ends { IsOfEnds event.now }
         requires tied { AreTied (all_of self.old) (C.pipes carrier.old) }
         requires held { AreHeld self.old }
+        requires few { length self.old.links.items < 10000 }
         requires there { place < length self.old.links.items }
-        ensures tied { OnOk result (AreTied (all_of self.new) (C.pipes carrier.new)) }
-        ensures held { OnOk result (AreHeld self.new) }
-        ensures count { OnOk result
-            (length self.new.links.items ≡ length self.old.links.items) }
-        ensures tells { OnOk result (C.tells carrier.old → C.tells carrier.new) }
-        ensures sound { LiveAreSound (all_of self.old) (C.pipes carrier.old)
-            → OnOk result (LiveAreSound (all_of self.new) (C.pipes carrier.new)) }
-        ensures size { OnOk result (self.new.size ≡ self.old.size) }
-        ensures reads { (size : ℕ) (answers : Answered) → IsAbout event.now place
-            → AllRead size (all_of self.old) (C.pipes carrier.old) answers
-            → IfOk result (λ done. AllRead size (all_of self.new)
-            (C.pipes carrier.new) (answers_then event.now done.outcome answers)) }
-        ensures lost { (setup : Setup) (engine : E) (w : World) (c : Connection)
-            → LiveAreSound (all_of self.old) (C.pipes carrier.old)
-            → RepresentsWorld setup engine self.old (C.pipes carrier.old) w
-            → IsFound setup (answer_of (E.statements_of engine) (E.step_of engine)) w event.now
-            place c
-            → IfOk result (λ done. FailsOn event.now done.lost (link_of setup w event.now)
-            (all_known (length self.old.links.items) (C.pipes carrier.old))
-            (all_known (length self.new.links.items) (C.pipes carrier.new))) }
-        ensures refines { (setup : Setup) (engine : E) (w : World) (c : Connection)
-            → C.tells carrier.old → RepresentsWorld setup engine self.old (C.pipes carrier.old) w
-            → ModelGivesEach E (answer_of (E.statements_of engine) (E.step_of engine)) setup w
-            → IsFound setup (answer_of (E.statements_of engine) (E.step_of engine)) w event.now
-            place c
-            → ((k : ℕ) → OfEachConnection IsCountable (happens setup
-            (answer_of (E.statements_of engine) (E.step_of engine)) (bringing k event.now) w).1)
-            → IfOk result (λ done. RefinesEvent setup engine
-            (answer_of (E.statements_of engine) (E.step_of engine)) done self.new
-            (C.pipes carrier.new) event.now w) }
+        requires ends { IsOfEnds event.now }
+        ensures { IfOk result (λ done. StepsAt
+            (λ engine. answer_of (E.statements_of engine) (E.step_of engine)) event.now place
+            self.old self.new (C.pipes carrier.old) (C.pipes carrier.new)
+            (C.tells carrier.old) (C.tells carrier.new) done) }
     {
         let number = next_number(self.asked_on.len());
         let done = self.links[place].act(self.alloc, carrier, &mut self.pool, number, event)?;
-        if matches!(done.outcome, Outcome::Asked(_)) {
+        if matches!(event, Event::Ask(..)) && !matches!(done.outcome, Outcome::Refused(_)) {
             self.asked_on.push(next_number(place))?;
         }
         Ok(done)
@@ -306,41 +311,14 @@ impl<E: Engine + Copy> Player<E> {
         requires tied { AreTied (all_of self.old) (C.pipes carrier.old) }
         requires held { AreHeld self.old }
         requires there { place < length self.old.links.items }
-        ensures tied { OnOk result (AreTied (all_of self.new) (C.pipes carrier.new)) }
-        ensures held { OnOk result (AreHeld self.new) }
-        ensures count { OnOk result
-            (length self.new.links.items ≡ length self.old.links.items) }
-        ensures tells { OnOk result (C.tells carrier.old → C.tells carrier.new) }
-        ensures sound { LiveAreSound (all_of self.old) (C.pipes carrier.old)
-            → OnOk result (LiveAreSound (all_of self.new) (C.pipes carrier.new)) }
-        ensures size { OnOk result (self.new.size ≡ self.old.size) }
-        ensures reads { (size : ℕ) (answers : Answered) → IsAbout (event.GiveBack number) place
-            → AllRead size (all_of self.old) (C.pipes carrier.old) answers
-            → IfOk result (λ done. AllRead size (all_of self.new)
-            (C.pipes carrier.new) (answers_then (event.GiveBack number) done.outcome answers)) }
-        ensures lost { (setup : Setup) (engine : E) (w : World) (c : Connection)
-            → LiveAreSound (all_of self.old) (C.pipes carrier.old)
-            → RepresentsWorld setup engine self.old (C.pipes carrier.old) w
-            → IsFound setup (answer_of (E.statements_of engine) (E.step_of engine)) w
-            (event.GiveBack number) place c
-            → IfOk result (λ done. FailsOn (event.GiveBack number) done.lost
-            (link_of setup w (event.GiveBack number))
-            (all_known (length self.old.links.items) (C.pipes carrier.old))
-            (all_known (length self.new.links.items) (C.pipes carrier.new))) }
-        ensures refines { (setup : Setup) (engine : E) (w : World) (c : Connection)
-            → C.tells carrier.old → RepresentsWorld setup engine self.old (C.pipes carrier.old) w
-            → ModelGivesEach E (answer_of (E.statements_of engine) (E.step_of engine)) setup w
-            → IsFound setup (answer_of (E.statements_of engine) (E.step_of engine)) w
-            (event.GiveBack number) place c
-            → ((k : ℕ) → OfEachConnection IsCountable (happens setup
-            (answer_of (E.statements_of engine) (E.step_of engine))
-            (bringing k (event.GiveBack number)) w).1)
-            → IfOk result (λ done. RefinesEvent setup engine
-            (answer_of (E.statements_of engine) (E.step_of engine)) done self.new
-            (C.pipes carrier.new) (event.GiveBack number) w) }
+        requires lent { conn_of (numbers_leased self.old.leases) number ≡ Some (suc place) }
+        ensures { IfOk result (λ done. StepsAt
+            (λ engine. answer_of (E.statements_of engine) (E.step_of engine)) (event.GiveBack number) place
+            self.old self.new (C.pipes carrier.old) (C.pipes carrier.new)
+            (C.tells carrier.old) (C.tells carrier.new) done) }
     {
         let Some(lease) = self.leases.take(number) else {
-            return Ok(refused(Refusal::UnknownLease));
+            unreachable!()
         };
         match self.links[place].give_back(self.alloc, carrier, &mut self.pool, lease) {
             Ok(done) => Ok(done),
@@ -352,9 +330,17 @@ impl<E: Engine + Copy> Player<E> {
     }
 
     /// The lease of this number becomes a ticket, on the connection at this place.
-    fn keep(&mut self, place: usize, number: u32) -> Result<EventDone, NoMemory> {
+    fn keep(&mut self, place: usize, number: u32) -> Result<EventDone, NoMemory>
+        requires held { AreHeld self.old }
+        requires there { place < length self.old.links.items }
+        requires lent { conn_of (numbers_leased self.old.leases) number ≡ Some (suc place) }
+        ensures { (pipes : ℕ → Option Pipe) → AreTied (all_of self.old) pipes
+            → IfOk result (λ done. StepsAt
+            (λ engine. answer_of (E.statements_of engine) (E.step_of engine)) (event.Keep number) place
+            self.old self.new pipes pipes (Unit {0}) (Unit {0}) done) }
+    {
         let Some(lease) = self.leases.take(number) else {
-            return Ok(refused(Refusal::UnknownLease));
+            unreachable!()
         };
         let next = self.tickets.next();
         match self.links[place].keep(&mut self.pool, lease, next) {
@@ -373,9 +359,17 @@ impl<E: Engine + Copy> Player<E> {
     }
 
     /// The ticket of this number becomes a lease, on the connection at this place.
-    fn resume(&mut self, place: usize, number: u32) -> Result<EventDone, NoMemory> {
+    fn resume(&mut self, place: usize, number: u32) -> Result<EventDone, NoMemory>
+        requires held { AreHeld self.old }
+        requires there { place < length self.old.links.items }
+        requires kept { conn_of (numbers_kept self.old.tickets) number ≡ Some (suc place) }
+        ensures { (pipes : ℕ → Option Pipe) → AreTied (all_of self.old) pipes
+            → IfOk result (λ done. StepsAt
+            (λ engine. answer_of (E.statements_of engine) (E.step_of engine)) (event.Resume number) place
+            self.old self.new pipes pipes (Unit {0}) (Unit {0}) done) }
+    {
         let Some(ticket) = self.tickets.take(number) else {
-            return Ok(refused(Refusal::UnknownTicket));
+            unreachable!()
         };
         let next = self.leases.next();
         match self.links[place].resume(&mut self.pool, ticket, next) {
@@ -401,15 +395,28 @@ impl<E: Engine + Copy> Player<E> {
         carrier: &mut C,
         place: usize,
         number: u32,
-    ) -> Result<EventDone, NoMemory> {
+    ) -> Result<EventDone, NoMemory>
+        requires tied { AreTied (all_of self.old) (C.pipes carrier.old) }
+        requires held { AreHeld self.old }
+        requires there { place < length self.old.links.items }
+        requires kept { conn_of (numbers_kept self.old.tickets) number ≡ Some (suc place) }
+        ensures { IfOk result (λ done. StepsAt
+            (λ engine. answer_of (E.statements_of engine) (E.step_of engine)) (event.Abandon number) place
+            self.old self.new (C.pipes carrier.old) (C.pipes carrier.new)
+            (C.tells carrier.old) (C.tells carrier.new) done) }
+    {
         let Some(ticket) = self.tickets.take(number) else {
-            return Ok(refused(Refusal::UnknownTicket));
+            unreachable!()
         };
         Ok(self.links[place].abandon(carrier, &mut self.pool, ticket))
     }
 
     /// A lease that the pool gave has its number.
-    fn begin_lease(&mut self, lease: Lease) -> Result<(), NoMemory> {
+    fn begin_lease(&mut self, lease: Lease) -> Result<(), NoMemory>
+        ensures leases { OnOk result (self.new.leases ≡ self.old.leases ++ Some lease ∷ []) }
+        ensures rest { OnOk result
+            (self.new ≡ record self.old { leases = self.new.leases }) }
+    {
         match self.leases.give(lease) {
             Ok(()) => Ok(()),
             Err(lease) => {
@@ -434,7 +441,7 @@ impl<E: Engine + Copy> Player<E> {
         ensures size { OnOk result (self.new.size ≡ self.old.size) }
         ensures reads { (answers : Answered)
             → AllRead self.old.size (all_of self.old) (C.pipes carrier.old) answers
-            → IfOk result (λ done. AllRead self.old.size (all_of self.new)
+            → OnOk result (AllRead self.old.size (all_of self.new)
             (C.pipes carrier.new) answers) }
         ensures lost { (setup : Setup) (engine : E) (w : World)
             → LiveAreSound (all_of self.old) (C.pipes carrier.old)
@@ -466,7 +473,9 @@ impl<E: Engine + Copy> Player<E> {
 
     /// The connection of this number is lent again, to this lease.
     fn reuse(&mut self, conn: u32, lease: u32) -> EventDone
-        requires { (0 < conn) × (conn ≤ length self.old.links.items) }
+        requires there { (0 < conn) × (conn ≤ length self.old.links.items) }
+        ensures reuses { ReusesAs conn lease self.old self.new }
+        ensures done { result ≡ done_as (outcome.Leased lease conn opened.Reused) }
     {
         self.links[conn as usize - 1].holder = lease;
         done(Outcome::Leased {
@@ -482,7 +491,11 @@ impl<E: Engine + Copy> Player<E> {
         carrier: &mut C,
         conn: u32,
         lease: u32,
-    ) -> Result<EventDone, NoMemory> {
+    ) -> Result<EventDone, NoMemory>
+        ensures { IfOk result (λ done. OpensAs conn lease self.old self.new
+            (C.pipes carrier.old) (C.pipes carrier.new)
+            (C.tells carrier.old) (C.tells carrier.new) done) }
+    {
         let (link, lost) = Link::open(
             self.alloc,
             carrier,
@@ -513,7 +526,11 @@ impl<E: Engine + Copy> Player<E> {
         ensures tied { AreTied (all_of self.new) (C.pipes carrier.new) }
         ensures held { AreHeld self.new }
         ensures count { length self.new.links.items ≡ length self.old.links.items }
-        ensures rest { self.new ≡ record self.old { links = self.new.links } }
+        ensures rest { self.new ≡ record self.old {
+          links = self.new.links;
+          pool = self.new.pool;
+        } }
+        ensures none { connections self.new.pool ≡ [] }
         ensures tells { C.tells carrier.old → C.tells carrier.new }
         ensures sound { LiveAreSound (all_of self.old) (C.pipes carrier.old)
             → LiveAreSound (all_of self.new) (C.pipes carrier.new) }
@@ -540,7 +557,11 @@ impl<E: Engine + Copy> Player<E> {
         ensures tied { AreTied (all_of self.new) (C.pipes carrier.new) }
         ensures held { AreHeld self.new }
         ensures count { length self.new.links.items ≡ length self.old.links.items }
-        ensures rest { self.new ≡ record self.old { links = self.new.links } }
+        ensures cuts { CutsAt place self.old self.new }
+        ensures rest { self.new ≡ record self.old {
+          links = self.new.links;
+          pool = self.new.pool;
+        } }
         ensures tells { C.tells carrier.old → C.tells carrier.new }
         ensures sound { LiveAreSound (all_of self.old) (C.pipes carrier.old)
             → LiveAreSound (all_of self.new) (C.pipes carrier.new) }
@@ -572,7 +593,8 @@ impl<E: Engine + Copy> Player<E> {
           tickets = self.new.tickets;
         } }
         // Where each connection is cut the pool has none to lose.
-        ensures none { connections self.old.pool ≡ [] → self.new.pool ≡ self.old.pool }
+        ensures pool { SameRest self.old.pool self.new.pool }
+        ensures none { connections self.old.pool ≡ [] → connections self.new.pool ≡ [] }
     {
         'leases: for place in 0..self.leases.len() {
             if let Some(lease) = self.leases.take_at(place) {
