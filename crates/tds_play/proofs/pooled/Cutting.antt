@@ -1,8 +1,10 @@
 -- The connection at a place of a player is cut, and its pool loses it.
-use Rattle.std.proofs.Common.{◌≡◌, ◌≢◌, ◌∙◌, ℕ, suc, ◌<◌, Bool, true, false, List, length, get_or, Option, Some, None, refl, sym, ap, subst}
+use Rattle.std.proofs.Common.{◌≡◌, ◌≢◌, ◌∙◌, ℕ, zero, suc, ◌<◌, Bool, true, false, List, [], ◌∷◌, length, get_or, Option, Some, None, eqb, refl, sym, ap, subst, arith}
+use Rattle.std.proofs.lemmas.Option.{slice_get_within}
 use Rattle.std.specs.List.{slice_get}
 use Rattle.std.specs.Prelude.{slice_set}
-use Rattle.tds_pool.specs.Connections.{PoolState, SameRest, connections, taken_out}
+use Rattle.tds_pool.specs.Calls.{all_numbers}
+use Rattle.tds_pool.specs.Connections.{Connection as Pooled, PoolState, SameRest, connections, taken_out}
 use Rattle.tds_pool.specs.declared.lease.Lease.{Lease}
 use Rattle.tds_pool.specs.declared.lease.Ticket.{Ticket}
 use Rattle.tds_world.specs.Connection.{Connection, cut}
@@ -16,18 +18,18 @@ use Rattle.tds_play.specs.Links.{cut_of}
 use Rattle.tds_play.specs.Pipe.{Pipe, IsOpen, IsUncut}
 use Rattle.tds_play.specs.Player.{AreHeld, all_of}
 use Rattle.tds_play.specs.Plays.{RepresentConnections, RepresentsConnection}
-use Rattle.tds_play.specs.Pooled.{AreKnown, seat_in, seated_from, seated_in}
+use Rattle.tds_play.specs.Pooled.{AreKnown, number_unless, numbers_in, seat_in, seated_from, seated_in}
 use Rattle.tds_play.specs.Reads.{AllRead, Answers, ReadsNoMore}
 use Rattle.tds_play.specs.Seats.{Seat, Seated}
-use Rattle.tds_play.specs.Steps.{SameSetup}
+use Rattle.tds_play.specs.Steps.{AreCutTo, CutsAt, SameSetup}
 use Rattle.tds_play.specs.Ties.{AreTied, IsTied, KeepsTies}
 use Rattle.tds_play.proofs.Accounts.{all_no_more, sound_set}
 use Rattle.tds_play.proofs.AllCut.{put_changed, stays_cut}
-use Rattle.tds_play.proofs.Listed.{changed}
+use Rattle.tds_play.proofs.Listed.{by_test, changed, is_at, is_other}
 use Rattle.tds_play.proofs.any_bytes.Answered.{cut_reads}
 use Rattle.tds_play.proofs.pooled.Kept.{known_lost, pooled_lost}
 use Rattle.tds_play.proofs.pooled.Moves.{seated_lost, set_again}
-use Rattle.tds_play.proofs.pooled.Quiet.{held_as, number_at, read_at}
+use Rattle.tds_play.proofs.pooled.Quiet.{held_as, number_at, read_at, set_here}
 use Rattle.tds_play.proofs.pooled.Slots.{held_set}
 use Rattle.tds_play.proofs.pooled.Steps.{in_player, place_of, stands_at, within_all}
 
@@ -152,3 +154,47 @@ still_cut {E} {S} place player h pipes tied there is cut_there size engine cs c 
     subst (λ (ls : List (Seated E S)). RepresentConnections 1 size engine ls pipes (put place (cut c) cs))
     (set_again (all_of player) place (in_player h player) (place_of player place h at number))
     (stays_cut size engine (all_of player) pipes cs place (in_player h player) c (stands_at player place h at number) (within_all player place h at) cut_there at_model all)
+
+-- ---- All of them are cut
+
+get_elsewhere : {A : Type 0} (xs : List A) (place i : ℕ) (x : A) → i ≢ place → slice_get (slice_set xs place x) i ≡ slice_get xs i
+get_elsewhere [] place i x other = refl
+get_elsewhere (y ∷ ys) zero zero x other = absurd (other refl)
+get_elsewhere (y ∷ ys) zero (suc i) x other = refl
+get_elsewhere (y ∷ ys) (suc place) zero x other = refl
+get_elsewhere (y ∷ ys) (suc place) (suc i) x other = get_elsewhere ys place i x (λ e. other (ap suc e))
+
+-- The next one is.
+pub one_more_cut : {E S : Type 0} (place then : ℕ) (old new : Player E S) → CutsAt place old new → then ≡ suc place → AreCutTo place old.links.items → AreCutTo then new.links.items
+one_more_cut {E} {S} place then old new cuts next so_far i h below there =
+    by_test (h.link.is_cut ≡ true) (eqb i place)
+    (λ t.
+    let here : slice_get new.links.items i ≡ Some cuts.now =
+    ap (slice_get new.links.items) (is_at i place t) ∙ ap (λ (hs : List (Held E S)). slice_get hs place) cuts.links ∙ set_here old.links.items place cuts.was cuts.now cuts.at in
+    let same : h ≡ cuts.now = (let e : Some h ≡ Some cuts.now = sym there ∙ here in cc) in
+    ap (λ (x : Held E S). x.link.is_cut) same ∙ cuts.cut)
+    (λ t.
+    let other : i ≢ place = is_other i place t in
+    let before : slice_get old.links.items i ≡ Some h =
+    sym (get_elsewhere old.links.items place i cuts.now other) ∙ ap (λ (hs : List (Held E S)). slice_get hs i) (sym cuts.links) ∙ there in
+    so_far i h (below_next i place then other next below) before)
+  where
+    below_next : (i place then : ℕ) → i ≢ place → then ≡ suc place → i < then → i < place
+    below_next i place then other next below = by_test (i < place) (eqb i place) (λ t. absurd (other (is_at i place t))) (λ t. let differs : i ≢ place = is_other i place t in omega (arith, differs, next, below))
+
+-- The pool has none of them.
+numbers_none : {E S : Type 0} (number : ℕ) (hs : List (Held E S)) → ((i : ℕ) (h : Held E S) → slice_get hs i ≡ Some h → h.link.is_cut ≡ true) → numbers_in number hs ≡ []
+numbers_none number [] all = refl
+numbers_none {E} {S} number (h ∷ hs) all =
+    ap (λ (b : Bool). number_unless b number (numbers_in (suc number) hs)) (all 0 h refl)
+    ∙ numbers_none (suc number) hs (λ i k at. all (suc i) k at)
+
+none_numbered : (cs : List Pooled) → all_numbers cs ≡ [] → cs ≡ []
+none_numbered [] e = refl
+none_numbered (c ∷ cs) e = let bad : c.number ∷ all_numbers cs ≡ [] = e in absurd (cc)
+
+pub none_left : {E S : Type 0} (player : Player E S) (count : ℕ) → AreHeld player → count ≡ length player.links.items → AreCutTo count player.links.items → connections player.pool ≡ []
+none_left {E} {S} player count held whole cut =
+    none_numbered (connections player.pool)
+    (held.pooled.numbers
+    ∙ numbers_none 1 player.links.items (λ i h at. let within : i < length player.links.items = slice_get_within player.links.items i h at in cut i h (omega (arith, within, whole)) at))
