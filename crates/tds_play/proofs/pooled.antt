@@ -18,3 +18,6 @@ pub mod Leaves
 pub mod Unkept
 pub mod Records
 pub mod Steps
+pub mod Quiet
+pub mod Keeping
+pub mod Resuming

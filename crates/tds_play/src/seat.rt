@@ -387,6 +387,8 @@ impl<E: Engine + Drop> Held<E> {
         ensures refused { self.old.link.is_cut ≡ false → IfErr result (λ back. (why : PoolRefusal)
             → refuses_keep (lent_to lease (connections pool.old)) ≡ Some why
             → back.1 ≡ keeps_not why) }
+        ensures live { self.old.link.is_cut ≡ false
+            → refuses_keep (lent_to lease (connections pool.old)) ≡ None → IsOk result }
         ensures kept { IfOk result (λ given. (given.key ≡ lease.key)
             × (given.number ≡ lease.number) × (self.new.holder ≡ ticket)
             × (self.old.link.is_cut ≡ false)
