@@ -21,3 +21,4 @@ pub mod Steps
 pub mod Quiet
 pub mod Keeping
 pub mod Resuming
+pub mod Ending

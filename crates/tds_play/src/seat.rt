@@ -23,6 +23,7 @@ ghost use Rattle.tds_world.specs.declared.event.Event.TheVariants as event;
 ghost use Rattle.tds_world.specs.declared.event.Setup.{Setup};
 ghost use Rattle.tds_world.specs.declared.outcome.Outcome.TheVariants as outcome;
 ghost use Rattle.tds_world.specs.declared.outcome.Refusal.TheVariants.{ConnectionCut};
+ghost use Rattle.tds_world.specs.declared.outcome.Refusal.{Refusal};
 
 use crate::NoMemory;
 use crate::carrier::Carrier;
@@ -189,6 +190,8 @@ impl<E: Engine + Drop> Held<E> {
             → IsSome (lent_to lease (connections pool.old)) }
         ensures number { self.new.link.number ≡ self.old.link.number }
         ensures holder { self.new.holder ≡ self.old.holder }
+        ensures told { IfOk result (λ done. (why : Refusal)
+            → done.outcome ≡ outcome.Refused why → ⊥) }
         ensures lease { IfErr result (λ back. back ≡ lease) }
         ensures pool { OnOk result (Spares self.old.link.number self.new.link.is_cut pool.old
             pool.new) }
@@ -331,6 +334,7 @@ impl<E: Engine + Drop> Held<E> {
         requires known { self.old.link.is_cut ≡ false
             → IsSome (kept_for ticket (connections pool.old)) }
         ensures number { self.new.link.number ≡ self.old.link.number }
+        ensures told { (why : Refusal) → result.outcome ≡ outcome.Refused why → ⊥ }
         ensures holder { self.new.holder ≡ self.old.holder }
         ensures pool { Spares self.old.link.number self.new.link.is_cut pool.old pool.new }
         ensures there { IsThere self.new pool.new }
