@@ -15,6 +15,7 @@ pub mod Begun
 pub mod Cancels
 pub mod Ended
 pub mod Leaves
+pub mod Settled
 pub mod Unkept
 pub mod Records
 pub mod Steps
