@@ -16,6 +16,7 @@ pub mod Cancels
 pub mod Ended
 pub mod Leaves
 pub mod Settled
+pub mod Back
 pub mod Unkept
 pub mod Records
 pub mod Steps

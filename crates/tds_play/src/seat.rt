@@ -29,6 +29,7 @@ use crate::carrier::Carrier;
 use crate::link::acts::{done, on_cut};
 use crate::link::{EventDone, Link};
 use std::alloc::Global;
+use tds_ends::laws::pool_is_unseen;
 use tds_pool::{GivenBack, Lease, Pool, PoolRefusal, Ticket};
 use tds_session::Engine;
 use tds_world::{AbandonOutcome, Event, GiveBackOutcome, Outcome, Place, Refusal, Snapshot};
@@ -357,6 +358,7 @@ impl<E: Engine + Drop> Held<E> {
             (acts_on setup (answer_of (E.statements_of engine) (E.step_of engine)) w
             (event.Abandon k) self.old.link.number c) c }
     {
+        pool_is_unseen::<E>();
         let answer = pool.abandon(ticket);
         if self.link.is_cut {
             return done(Outcome::Abandoned(AbandonOutcome::Closed));
@@ -387,6 +389,8 @@ impl<E: Engine + Drop> Held<E> {
         ensures refused { self.old.link.is_cut ≡ false → IfErr result (λ back. (why : PoolRefusal)
             → refuses_keep (lent_to lease (connections pool.old)) ≡ Some why
             → back.1 ≡ keeps_not why) }
+        ensures live { self.old.link.is_cut ≡ false
+            → refuses_keep (lent_to lease (connections pool.old)) ≡ None → IsOk result }
         ensures kept { IfOk result (λ given. (given.key ≡ lease.key)
             × (given.number ≡ lease.number) × (self.new.holder ≡ ticket)
             × (self.old.link.is_cut ≡ false)

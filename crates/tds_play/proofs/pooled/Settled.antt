@@ -191,3 +191,7 @@ settled_reads size e o mid new columns then before between after on still same =
       };
       brings = λ d. subst (λ (x : List ℕ). BringsBy (delivers e d) (new_reader d size) o (traffic before d).came x) (sym (still.came d)) (on.brings d);
     }
+
+-- The client that is lent.
+pub lent_client : (n : ℕ) (pcs : List Connection) (c : Connection) (s : ClientSession) → numbered n pcs ≡ Some c → Some s ≡ option_map (λ (d : Connection). d.client) (numbered n pcs) → s ≡ c.client
+lent_client n pcs c s found lent = let e : Some s ≡ Some c.client = lent ∙ ap (option_map (λ (d : Connection). d.client)) found in cc
