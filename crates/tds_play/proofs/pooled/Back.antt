@@ -22,7 +22,7 @@ use Rattle.tds_world.specs.Pool.{place_back, returned_as}
 use Rattle.tds_world.specs.declared.outcome.GiveBackOutcome.{GiveBackOutcome}
 use Rattle.tds_play.specs.Pooled.{IsGone, IsThere, Spares, came_back, place_by, rests_in, seat_by}
 use Rattle.tds_play.specs.Pipe.{Pipe}
-use Rattle.tds_play.specs.Plays.{RefinesAct}
+use Rattle.tds_play.specs.Plays.{RefinesAct, RepresentsConnection, cut_where}
 use Rattle.tds_play.specs.Seats.{Seat, placed_at, seated}
 use Rattle.tds_play.specs.declared.link.EventDone.{EventDone}
 use Rattle.tds_play.specs.declared.link.Link.{Link}
@@ -34,7 +34,7 @@ use Rattle.tds_play.specs.declared.seat.Held.{Held}
 use Rattle.tds_play.proofs.pooled.Cancels.{HasNoMore, no_more}
 use Rattle.tds_play.proofs.pooled.Changes.{changed_here, taken_gone, taken_none, taken_others}
 use Rattle.tds_play.proofs.pooled.Leaves.{Leaves, found_still, standing_found}
-use Rattle.tds_play.proofs.pooled.Returned.{abandoned_is, idle_alike, number_found, rest_answer, rest_place, rest_returned}
+use Rattle.tds_play.proofs.pooled.Returned.{abandoned_is, given_back_here, given_back_is, idle_alike, number_found, rest_answer, rest_place, rest_returned}
 use Rattle.tds_play.proofs.pooled.Settled.{client_found}
 
 -- ---- What the pool keeps
@@ -233,3 +233,31 @@ kept_rests ticket n holder cs c is known idle =
 pub does_whole : {E S : Type 0} (number size : ℕ) (engine : E) (done : EventDone) (link : Link E S) (seat : Seat) (pipe : Option Pipe) (a : Acted) (c : model.Connection) → DoesWhole number size engine done link seat pipe a c → RefinesAct number size engine done link seat pipe a c
 does_whole number size engine done link seat pipe a c h =
     subst (λ (d : EventDone). RefinesAct number size engine d link seat pipe a c) (sym h.0) (record { outcome = refl; played = h.1 })
+
+-- ---- A lease in a play
+
+pub lives_rests : (rests cut : Bool) → (rests ≡ false → cut ≡ true) → cut ≡ false → rests ≡ true
+lives_rests true cut closed lives = refl
+lives_rests false cut closed lives = let bad : true ≡ false = sym (closed refl) ∙ lives in absurd (cc)
+
+-- The end of it, on the connection of this number, in another seat.
+pub back_ended : {E S : Type 0} (n m size : ℕ) (engine : E) (mid new : Link E S) (seat then : Seat) (before after : ℕ → Option Pipe) (lost : Bool) (c : model.Connection)
+    → m ≡ n
+    → (RepresentsConnection m size engine mid seat (before m) c → RepresentsConnection m size engine new then (after m) (cut_where lost c))
+    → RepresentsConnection n size engine mid seat (before n) c → RepresentsConnection n size engine new then (after n) (cut_where lost c)
+back_ended {E} {S} n m size engine mid new seat then before after lost c at ends =
+    subst (λ (k : ℕ). RepresentsConnection k size engine mid seat (before k) c → RepresentsConnection k size engine new then (after k) (cut_where lost c)) at ends
+
+-- Where it is then.
+pub given_rests : (lease : Lease) (n holder : ℕ) (cs : List Connection) (c : Connection) → lease.number ≡ n → lent_to lease cs ≡ Some c → session_behind (cancelled c.client) c.client ≡ c.client → is_broken c.client.stage ≡ false
+    → ((given_back lease cs).answer ≡ rest_answer (is_idle c.client.stage) n) × (seat_by holder (numbered n (given_back lease cs).connections) ≡ seated (place_back (is_none (unless_idle c.client.stage))) c.client)
+given_rests lease n holder cs c is known more sound =
+    let found : numbered lease.number cs ≡ Some c = standing_found is_leased lease.key lease.number cs c known in
+    let idle : Bool = is_idle c.client.stage in
+    let whole : given_back lease cs ≡ rest_returned lease.number idle (with_client lease.number c.client cs) = given_back_is lease cs c known found more sound in
+    (ap (λ (r : Returned). r.answer) whole ∙ ap (rest_answer idle) is,
+      ap (λ (k : ℕ). seat_by holder (numbered k (given_back lease cs).connections)) (sym is)
+      ∙ ap (λ (r : Returned). seat_by holder (numbered lease.number r.connections)) whole
+      ∙ ap (seat_by holder) (given_back_here lease cs c idle found)
+      ∙ ap (λ p. seated p c.client) (back_place holder idle)
+      ∙ ap (λ (b : Bool). seated (place_back b) c.client) (idle_alike c.client.stage))
