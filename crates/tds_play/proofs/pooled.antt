@@ -15,10 +15,14 @@ pub mod Begun
 pub mod Cancels
 pub mod Ended
 pub mod Leaves
+pub mod Settled
+pub mod Back
+pub mod Quiet
+pub mod Doing
 pub mod Unkept
 pub mod Records
 pub mod Steps
-pub mod Quiet
+pub mod Unseen
 pub mod Keeping
 pub mod Resuming
 pub mod Ending

@@ -30,6 +30,7 @@ use crate::carrier::Carrier;
 use crate::link::acts::{done, on_cut};
 use crate::link::{EventDone, Link};
 use std::alloc::Global;
+use tds_ends::laws::pool_is_unseen;
 use tds_pool::{GivenBack, Lease, Pool, PoolRefusal, Ticket};
 use tds_session::Engine;
 use tds_world::{AbandonOutcome, Event, GiveBackOutcome, Outcome, Place, Refusal, Snapshot};
@@ -361,6 +362,7 @@ impl<E: Engine + Drop> Held<E> {
             (acts_on setup (answer_of (E.statements_of engine) (E.step_of engine)) w
             (event.Abandon k) self.old.link.number c) c }
     {
+        pool_is_unseen::<E>();
         let answer = pool.abandon(ticket);
         if self.link.is_cut {
             return done(Outcome::Abandoned(AbandonOutcome::Closed));

@@ -29,7 +29,7 @@ use Rattle.tds_play.proofs.pooled.Begun.{lease_ended, ticket_ended}
 use Rattle.tds_play.proofs.pooled.Changes.{SameBut}
 use Rattle.tds_play.proofs.pooled.Ended.{numbers_ended}
 use Rattle.tds_play.proofs.pooled.Given.{lease_known, ticket_known}
-use Rattle.tds_play.proofs.pooled.Quiet.{IsSlot, as_long, held_as, set_here}
+use Rattle.tds_play.proofs.pooled.Unseen.{IsSlot, as_long, held_as, set_here}
 
 -- ---- Before it ends
 

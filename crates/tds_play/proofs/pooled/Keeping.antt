@@ -46,7 +46,7 @@ use Rattle.tds_play.proofs.pooled.Changes.{SameBut, changed_here, changed_number
 use Rattle.tds_play.proofs.pooled.Ended.{numbers_ended}
 use Rattle.tds_play.proofs.pooled.Given.{IsLent, lease_known}
 use Rattle.tds_play.proofs.pooled.Kept.{pooled_link, pooled_pool}
-use Rattle.tds_play.proofs.pooled.Quiet.{IsSlot, as_long, first_next, held_as, number_at, one_longer, quiet_steps, refused_steps, set_here}
+use Rattle.tds_play.proofs.pooled.Unseen.{IsSlot, as_long, first_next, held_as, number_at, one_longer, quiet_steps, refused_steps, set_here}
 use Rattle.tds_play.proofs.pooled.Slots.{numbers_pushed}
 use Rattle.tds_play.proofs.pooled.Unkept.{unkept_alike}
 

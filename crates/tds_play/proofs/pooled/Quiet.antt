@@ -116,12 +116,12 @@ held_as {E} {S} old new hs links setup pooled known = record {
 
 -- So many there are, where one more came.
 pub one_longer : {A : Type 0} (xs : List A) (x : A) (most : ℕ) → length xs ≤ most → length (xs ++ x ∷ []) ≤ suc most
-one_longer xs x most few =
+pub one_longer xs x most few =
     let many : length (xs ++ x ∷ []) ≡ length xs + 1 = length-append xs (x ∷ []) in
     omega (arith, many, few)
 
 pub as_long : {A : Type 0} (xs ys : List A) (most : ℕ) → length ys ≡ length xs → length xs ≤ most → length ys ≤ suc most
-as_long xs ys most same few = omega (arith, same, few)
+pub as_long xs ys most same few = omega (arith, same, few)
 
 pub first_next : (n next most : ℕ) → next ≡ min (suc n) 4294967295 → n ≤ most → most ≤ 9999 → next ≡ suc n
 first_next n next most is few small = is ∙ omega (arith, few, small)

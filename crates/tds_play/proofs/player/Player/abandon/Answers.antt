@@ -11,7 +11,7 @@ use Rattle.tds_play.specs.declared.seat.Held.{Held}
 use Rattle.tds_play.proofs.Failing.{whole_as}
 use Rattle.tds_play.proofs.pooled.Acted.{there_at}
 use Rattle.tds_play.proofs.pooled.Ending.{kept_there, met_abandoned, spared_others, ticket_ends, ticket_ends_few, ticket_ends_noted}
-use Rattle.tds_play.proofs.pooled.Quiet.{number_at, read_at, slot_of, spared_all, tied_at}
+use Rattle.tds_play.proofs.pooled.Unseen.{number_at, read_at, slot_of, spared_all, tied_at}
 use Rattle.tds_play.proofs.player.Player.abandon.Goals as goal
 
 pub abandon-requires-clause-tied : goal.abandon-requires-clause-tied

@@ -10,7 +10,7 @@ use Rattle.tds_play.specs.declared.seat.Held.{Held}
 use Rattle.tds_world.specs.World.{numbered}
 use Rattle.tds_play.proofs.pooled.Acted.{there_at}
 use Rattle.tds_play.proofs.pooled.Ending.{lent_there, met_back, spared_others, lease_ends, lease_ends_few, lease_ends_noted, taken_slot}
-use Rattle.tds_play.proofs.pooled.Quiet.{number_at, read_at, slot_of, spared_all, tied_at}
+use Rattle.tds_play.proofs.pooled.Unseen.{number_at, read_at, slot_of, spared_all, tied_at}
 use Rattle.tds_play.proofs.player.Player.give_back.Goals as goal
 
 pub give_back-requires-clause-tied : goal.give_back-requires-clause-tied

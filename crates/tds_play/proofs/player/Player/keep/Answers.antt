@@ -4,7 +4,7 @@ use Rattle.tds_session.specs.Answer.{answer_of}
 use Rattle.tds_play.proofs.pooled.Keeping.{keeps_steps, unkept_steps}
 use Rattle.tds_play.proofs.pooled.Ended.{put_back_in}
 use Rattle.tds_play.specs.Holdings.{ended_of, put_in}
-use Rattle.tds_play.proofs.pooled.Quiet.{read_at, slot_of}
+use Rattle.tds_play.proofs.pooled.Unseen.{read_at, slot_of}
 use Rattle.tds_play.proofs.player.Player.keep.Goals as goal
 
 pub returns-in-Ok-give : goal.returns-in-Ok-give
