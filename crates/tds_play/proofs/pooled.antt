@@ -17,7 +17,6 @@ pub mod Ended
 pub mod Leaves
 pub mod Settled
 pub mod Back
-pub mod Quiet
 pub mod Doing
 pub mod Unkept
 pub mod Records
