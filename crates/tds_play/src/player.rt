@@ -14,7 +14,7 @@ ghost use Rattle.tds_play.specs.Pooled.{IsGone, numbers_kept, numbers_leased};
 ghost use Rattle.tds_play.specs.Reads.{AllRead, Answers as Answered, IsAbout, TakesLast, TellsGiven, answers_then};
 ghost use Rattle.tds_play.specs.Seats.{IsOfEnds};
 ghost use Rattle.tds_play.specs.Seen.{done_as, seen_of};
-ghost use Rattle.tds_play.specs.Steps.{AreFew, CutsAt, GrowsByOne, IsOfOne, OpensAs, ReusesAs, StepsAt};
+ghost use Rattle.tds_play.specs.Steps.{AreFew, CutsAt, GrowsByOne, IsNoted, IsOfOne, OpensAs, ReusesAs, StepsAt};
 ghost use Rattle.tds_play.specs.Ties.{AreTied};
 ghost use Rattle.tds_play.specs.declared.request.Record.{Record};
 ghost use Rattle.tds_pool.specs.Connections.{SameRest, connections};
@@ -294,10 +294,29 @@ impl<E: Engine + Copy> Player<E> {
     {
         let number = next_number(self.asked_on.len());
         let done = self.links[place].act(self.alloc, carrier, &mut self.pool, number, event)?;
-        if matches!(event, Event::Ask(..)) && !matches!(done.outcome, Outcome::Refused(_)) {
-            self.asked_on.push(next_number(place))?;
-        }
+        self.note(place, event, &done.outcome)?;
         Ok(done)
+    }
+
+    /// Notes the connection of a request that was asked.
+    fn note(&mut self, place: usize, event: &Event, outcome: &Outcome) -> Result<(), NoMemory>
+        requires few { place < 9999 }
+        requires ends { IsOfEnds event.now }
+        ensures noted { OnOk result
+            (IsNoted event.now (suc place) self.old self.new outcome.now) }
+        ensures rest { OnOk result
+            (self.new ≡ record self.old { asked_on = self.new.asked_on }) }
+    {
+        match event {
+            Event::Ask(..) => match outcome {
+                Outcome::Refused(_) => Ok(()),
+                _ => {
+                    self.asked_on.push(next_number(place))?;
+                    Ok(())
+                }
+            },
+            _ => Ok(()),
+        }
     }
 
     /// The lease of this number ends, on the connection at this place.

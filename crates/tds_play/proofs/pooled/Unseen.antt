@@ -5,6 +5,7 @@ use Rattle.std.proofs.lemmas.Option.{get_or_from_slice_get, slice_get_read}
 use Rattle.std.specs.List.{slice_get}
 use Rattle.std.specs.Prelude.{option_map, slice_set}
 use Rattle.tds_packet.specs.declared.kind.Direction.{Direction}
+use Rattle.tds_ends.specs.ModelGives.{IsCountable, ModelGives}
 use Rattle.tds_session.specs.Answer.{Answers}
 use Rattle.tds_pool.specs.Connections.{PoolState, connections, numbered}
 use Rattle.tds_pool.specs.declared.lease.Lease.{Lease}
@@ -14,23 +15,23 @@ use Rattle.tds_world.specs.declared.event.Setup.{Setup}
 use Rattle.tds_world.specs.declared.outcome.Outcome.TheVariants as outcome
 use Rattle.tds_world.specs.declared.outcome.Refusal.{Refusal}
 use Rattle.tds_world.specs.Connection.{Connection}
-use Rattle.tds_world.specs.Losses.{met}
+use Rattle.tds_world.specs.Losses.{bringing, met}
 use Rattle.tds_world.specs.World.{World}
 use Rattle.tds_play.specs.declared.link.EventDone.{EventDone}
 use Rattle.tds_play.specs.declared.link.Link.{Link}
 use Rattle.tds_play.specs.declared.player.Player.{Player}
 use Rattle.tds_play.specs.declared.seat.Held.{Held}
-use Rattle.tds_play.specs.Failures.{calls_of}
+use Rattle.tds_play.specs.Failures.{FailsAs, HasNoFailure, calls_of}
 use Rattle.tds_play.specs.Holdings.{conn_of}
 use Rattle.tds_play.specs.Pipe.{Pipe}
 use Rattle.tds_play.specs.Player.{AreHeld, ModelGivesEach, RepresentsWorld, all_of}
-use Rattle.tds_play.specs.Plays.{IsReady, RefinesAct, RepresentsConnection, acts_on, loss_of}
+use Rattle.tds_play.specs.Plays.{IsReady, MayLose, RefinesAct, RepresentsConnection, acts_on, after, loss_of}
 use Rattle.tds_play.specs.Pooled.{AreKnown, ArePooled, numbers_in, numbers_kept, numbers_leased, seat_in, seated_from, seated_in}
-use Rattle.tds_play.specs.Reads.{ReadsOn, delivers}
+use Rattle.tds_play.specs.Reads.{IsReading, ReadsOn, delivers}
 use Rattle.tds_play.specs.Seats.{Seat, Seated}
 use Rattle.tds_play.specs.Seen.{done_as}
 use Rattle.tds_play.specs.Steps.{GrowsByOne, IsNoted, SameSetup, StepsAt}
-use Rattle.tds_play.specs.Ties.{AreTied, IsTied}
+use Rattle.tds_play.specs.Ties.{AreTied, IsTied, KeepsTies}
 use Rattle.tds_play.proofs.Failing.{whole_as}
 use Rattle.tds_play.proofs.Losing.{whole_alike}
 use Rattle.tds_play.proofs.Placed.{DoesWhole}
@@ -170,6 +171,46 @@ quiet_steps {E} {S} answers e place old new h k pipes done tied at same whole si
   where
     number : h.link.number ≡ suc place
     number = number_at old place h pipes tied at
+
+-- One that it may see: what was told of its link and its seat, for its place.
+pub touched_steps : {E S : Type 0} (answers : E → Answers) (e : Event) (place : ℕ) (old new : Player E S) (h k : Held E S) (pipes pipes' : ℕ → Option Pipe) (told still : Type 0) (done : EventDone)
+    → AreTied (all_of old) pipes → slice_get old.links.items place ≡ Some h → k.link.number ≡ h.link.number
+    → new.links.items ≡ slice_set old.links.items place k
+    → SameBut (suc place) (connections old.pool) (connections new.pool)
+    → AreHeld new
+    → KeepsTies h.link.number k.link pipes pipes' told still
+    → (HasNoFailure (pipes h.link.number) → FailsAs (calls_of e) done k.link (pipes' h.link.number))
+    → (h.link.is_cut ≡ true → (pipes' ≡ pipes) × (k.link ≡ h.link) × (done.lost ≡ false))
+    → (done.lost ≡ true → MayLose h.link.is_cut e)
+    → ((size : ℕ) → IsReading size h.link (seat_in h old.pool).client.columns (pipes h.link.number) → ReadsOn size e done.outcome k.link (seat_in k new.pool).client.columns (pipes h.link.number) (pipes' h.link.number))
+    → SameSetup old new → GrowsByOne old new → IsNoted e (suc place) old new done.outcome
+    → ((setup : Setup) (engine : E) (w : World) (c : Connection) → told → RepresentsWorld setup engine old pipes w → ModelGivesEach E (answers engine) setup w → ModelGives E (answers engine) setup.packet_size c
+    → RepresentsConnection h.link.number setup.packet_size engine h.link (seat_in h old.pool) (pipes h.link.number) c
+    → (h.link.is_cut ≡ false → IsReady e c)
+    → ((n : ℕ) → IsCountable (after (acts_on setup (answers engine) w (bringing n e) h.link.number c) c))
+    → RefinesAct h.link.number setup.packet_size engine done k.link (seat_in k new.pool) (pipes' h.link.number) (acts_on setup (answers engine) w (met (loss_of done) e) h.link.number c) c)
+    → StepsAt answers e place old new pipes pipes' told still done
+touched_steps answers e place old new h k pipes pipes' told still done tied at same links others held ties failed gone loses reads setup_same grows noted refines =
+    let number : h.link.number ≡ suc place = number_at old place h pipes tied at in
+    record {
+      was = h;
+      now = k;
+      at = at;
+      number = number;
+      links = links;
+      all = spared_all old new place k links (same ∙ number) others;
+      held = held;
+      same_number = same;
+      ties = ties;
+      failed = failed;
+      gone = gone;
+      loses = loses;
+      reads = reads;
+      setup = setup_same;
+      grows = grows;
+      noted = noted;
+      refines = refines;
+    }
 
 -- One that is refused changes nothing.
 pub refused_steps : {E S : Type 0} (answers : E → Answers) (e : Event) (place : ℕ) (old new : Player E S) (h k : Held E S) (pipes : ℕ → Option Pipe) (done : EventDone) (why : Refusal)

@@ -11,7 +11,7 @@ use Rattle.tds_play.specs.declared.seat.Held.{Held}
 use Rattle.tds_play.proofs.Failing.{whole_as}
 use Rattle.tds_play.proofs.pooled.Acted.{there_at}
 use Rattle.tds_play.proofs.pooled.Ending.{kept_there, met_abandoned, spared_others, ticket_ends, ticket_ends_few, ticket_ends_noted}
-use Rattle.tds_play.proofs.pooled.Unseen.{number_at, read_at, slot_of, spared_all, tied_at}
+use Rattle.tds_play.proofs.pooled.Unseen.{number_at, read_at, slot_of, tied_at, touched_steps}
 use Rattle.tds_play.proofs.player.Player.abandon.Goals as goal
 
 pub abandon-requires-clause-tied : goal.abandon-requires-clause-tied
@@ -49,25 +49,18 @@ returns g c =
     let at = read_at old.links.items c.args.place h c.requires.there c.index_mut.ensures.value in
     let number = number_at old c.args.place h (pipes c.args.carrier.now) c.requires.tied at in
     let slot = slot_of (λ (t : Ticket). t.number) old.tickets c.args.number (suc c.args.place) c.in-Some.ticket c.requires.kept c.in-Some.ensures.taken in
-    record {
-      was = h;
-      now = k;
-      at = at;
-      number = number;
-      links = refl;
-      all = spared_all old _ c.args.place k refl (said.number ∙ number) (spared_others c.args.place h k old.pool c.abandon.new.pool number said.pool);
-      held = ticket_ends c.args.place c.args.number old _ h k c.in-Some.ticket c.requires.held at number said.number slot said.pool said.there
-          (λ cut. ap (λ (x : Held g.row.E.Denot g.row.E-Stmt.Denot). x.link.is_cut) (said.gone cut).1 ∙ cut) refl refl c.in-Some.ensures.left (record { engine_is = refl; max_is = refl; size_is = refl; told_is = refl });
-      same_number = said.number;
-      ties = said.ties;
-      failed = λ fine. whole_as (calls_of (event.Abandon c.args.number)) c.abandon.result k.link (pipes c.abandon.new.carrier h.link.number) said.whole (λ call. said.failed call ∙ fine call);
-      gone = λ cut. (ap pipes (said.gone cut).0, ap (λ (x : Held g.row.E.Denot g.row.E-Stmt.Denot). x.link) (said.gone cut).1, said.whole);
-      loses = λ lost. absurd (cc);
-      reads = λ size reads. said.reads size c.args.number reads;
-      setup = record { engine_is = refl; max_is = refl; size_is = refl; told_is = refl };
-      grows = ticket_ends_few c.args.place c.args.number old _ k refl refl c.in-Some.ensures.left;
-      noted = ticket_ends_noted c.args.number (suc c.args.place) old _ c.abandon.result.outcome said.told refl c.in-Some.ensures.left refl;
-      refines = λ setup engine w m told is promised promise played ready counts.
+    touched_steps (λ x. answer_of (g.E.Engine.statements_of x) (g.E.Engine.step_of x)) (event.Abandon c.args.number) c.args.place old _ h k (pipes c.args.carrier.now) (pipes c.abandon.new.carrier) _ _ c.abandon.result c.requires.tied at said.number refl
+    (spared_others c.args.place h k old.pool c.abandon.new.pool number said.pool)
+    (ticket_ends c.args.place c.args.number old _ h k c.in-Some.ticket c.requires.held at number said.number slot said.pool said.there
+          (λ cut. ap (λ (x : Held g.row.E.Denot g.row.E-Stmt.Denot). x.link.is_cut) (said.gone cut).1 ∙ cut) refl refl c.in-Some.ensures.left (record { engine_is = refl; max_is = refl; size_is = refl; told_is = refl }))
+    (said.ties)
+    (λ fine. whole_as (calls_of (event.Abandon c.args.number)) c.abandon.result k.link (pipes c.abandon.new.carrier h.link.number) said.whole (λ call. said.failed call ∙ fine call))
+    (λ cut. (ap pipes (said.gone cut).0, ap (λ (x : Held g.row.E.Denot g.row.E-Stmt.Denot). x.link) (said.gone cut).1, said.whole))
+    (λ lost. absurd (cc))
+    (λ size reads. said.reads size c.args.number reads)
+    (record { engine_is = refl; max_is = refl; size_is = refl; told_is = refl })
+    (ticket_ends_few c.args.place c.args.number old _ k refl refl c.in-Some.ensures.left)
+    (ticket_ends_noted c.args.number (suc c.args.place) old _ c.abandon.result.outcome said.told refl c.in-Some.ensures.left refl)
+    (λ setup engine w m told is promised promise played ready counts.
           subst (λ (e : Event). RefinesAct h.link.number setup.packet_size engine c.abandon.result k.link (seat_in k c.abandon.new.pool) (pipes c.abandon.new.carrier h.link.number) (acts_on setup (answer_of (g.E.Engine.statements_of engine) (g.E.Engine.step_of engine)) w e h.link.number m) m)
-          (sym (met_abandoned (loss_of c.abandon.result) c.args.number)) (said.refines setup w c.args.number m engine played ready);
-    }
+          (sym (met_abandoned (loss_of c.abandon.result) c.args.number)) (said.refines setup w c.args.number m engine played ready))

@@ -10,7 +10,7 @@ use Rattle.tds_play.specs.declared.seat.Held.{Held}
 use Rattle.tds_world.specs.World.{numbered}
 use Rattle.tds_play.proofs.pooled.Acted.{there_at}
 use Rattle.tds_play.proofs.pooled.Ending.{lent_there, met_back, spared_others, lease_ends, lease_ends_few, lease_ends_noted, taken_slot}
-use Rattle.tds_play.proofs.pooled.Unseen.{number_at, read_at, slot_of, spared_all, tied_at}
+use Rattle.tds_play.proofs.pooled.Unseen.{number_at, read_at, slot_of, tied_at, touched_steps}
 use Rattle.tds_play.proofs.player.Player.give_back.Goals as goal
 
 pub give_back-requires-clause-tied : goal.give_back-requires-clause-tied
@@ -55,25 +55,18 @@ returns-in-Ok g c =
     let at = read_at old.links.items c.args.place h c.requires.there c.index_mut.ensures.value in
     let number = number_at old c.args.place h (pipes c.args.carrier.now) c.requires.tied at in
     let slot = slot_of (λ (l : Lease). l.number) old.leases c.args.number (suc c.args.place) c.in-Some.lease c.requires.lent c.in-Some.ensures.taken in
-    record {
-      was = h;
-      now = k;
-      at = at;
-      number = number;
-      links = refl;
-      all = spared_all old _ c.args.place k refl (said.number ∙ number) (spared_others c.args.place h k old.pool c.give_back.new.pool number said.pool);
-      held = lease_ends c.args.place c.args.number old _ h k c.in-Some.lease c.requires.held at number said.number slot said.pool said.there
-          (λ cut. ap (λ (x : Held g.row.E.Denot g.row.E-Stmt.Denot). x.link.is_cut) (said.gone cut).1 ∙ cut) refl c.in-Some.ensures.left refl (record { engine_is = refl; max_is = refl; size_is = refl; told_is = refl });
-      same_number = said.number;
-      ties = said.ties;
-      failed = said.failed c.args.number;
-      gone = λ cut. (ap pipes (said.gone cut).0, ap (λ (x : Held g.row.E.Denot g.row.E-Stmt.Denot). x.link) (said.gone cut).1, (said.gone cut).3);
-      loses = said.loses c.args.number;
-      reads = λ size reads. said.reads size c.args.number reads;
-      setup = record { engine_is = refl; max_is = refl; size_is = refl; told_is = refl };
-      grows = lease_ends_few c.args.place c.args.number old _ k refl c.in-Some.ensures.left refl;
-      noted = lease_ends_noted c.args.number (suc c.args.place) old _ done.outcome said.told c.in-Some.ensures.left refl refl;
-      refines = λ setup engine w m told is promised promise played ready counts.
+    touched_steps (λ x. answer_of (g.E.Engine.statements_of x) (g.E.Engine.step_of x)) (event.GiveBack c.args.number) c.args.place old _ h k (pipes c.args.carrier.now) (pipes c.give_back.new.carrier) _ _ done c.requires.tied at said.number refl
+    (spared_others c.args.place h k old.pool c.give_back.new.pool number said.pool)
+    (lease_ends c.args.place c.args.number old _ h k c.in-Some.lease c.requires.held at number said.number slot said.pool said.there
+          (λ cut. ap (λ (x : Held g.row.E.Denot g.row.E-Stmt.Denot). x.link.is_cut) (said.gone cut).1 ∙ cut) refl c.in-Some.ensures.left refl (record { engine_is = refl; max_is = refl; size_is = refl; told_is = refl }))
+    (said.ties)
+    (said.failed c.args.number)
+    (λ cut. (ap pipes (said.gone cut).0, ap (λ (x : Held g.row.E.Denot g.row.E-Stmt.Denot). x.link) (said.gone cut).1, (said.gone cut).3))
+    (said.loses c.args.number)
+    (λ size reads. said.reads size c.args.number reads)
+    (record { engine_is = refl; max_is = refl; size_is = refl; told_is = refl })
+    (lease_ends_few c.args.place c.args.number old _ k refl c.in-Some.ensures.left refl)
+    (lease_ends_noted c.args.number (suc c.args.place) old _ done.outcome said.told c.in-Some.ensures.left refl refl)
+    (λ setup engine w m told is promised promise played ready counts.
           subst (λ (e : Event). RefinesAct h.link.number setup.packet_size engine done k.link (seat_in k c.give_back.new.pool) (pipes c.give_back.new.carrier h.link.number) (acts_on setup (answer_of (g.E.Engine.statements_of engine) (g.E.Engine.step_of engine)) w e h.link.number m) m)
-          (sym (met_back (loss_of done) c.args.number)) (said.refines setup w c.args.number m engine played (counts 0));
-    }
+          (sym (met_back (loss_of done) c.args.number)) (said.refines setup w c.args.number m engine played (counts 0)))
