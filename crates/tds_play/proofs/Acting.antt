@@ -80,7 +80,7 @@ by_event number size engine done new seat pipe c a b e h = subst (λ x. DoesWhol
 pub by_event_ok : {E S B : Type 0} (number size : ℕ) (engine : E) (r : Result EventDone B) (new : Link E S) (seat : Seat) (pipe : Option Pipe) (c : Connection) (a b : Acted) → a ≡ b → IfOk r (λ done. DoesWhole number size engine done new seat pipe b c) → IfOk r (λ done. DoesWhole number size engine done new seat pipe a c)
 by_event_ok number size engine r new seat pipe c a b e h = subst (λ x. IfOk r (λ done. DoesWhole number size engine done new seat pipe x c)) (sym e) h
 
-few_then : (c : Connection) (a b : Acted) → a ≡ b → IsCountable (after a c) → IsCountable (after b c)
+pub few_then : (c : Connection) (a b : Acted) → a ≡ b → IsCountable (after a c) → IsCountable (after b c)
 few_then c a b e h = subst (λ x. IsCountable (after x c)) e h
 
 -- What comes back has as many bytes underway.

@@ -16,6 +16,13 @@ pub mod Begun
 pub mod Cancels
 pub mod Ended
 pub mod Leaves
+pub mod Settled
+pub mod Back
+pub mod Doing
 pub mod Unkept
 pub mod Records
 pub mod Steps
+pub mod Unseen
+pub mod Keeping
+pub mod Resuming
+pub mod Ending

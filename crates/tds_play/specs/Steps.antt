@@ -1,6 +1,6 @@
 -- An event on one connection of a player: what it made of that connection, of the leases, tickets and requests,
 -- and of nothing else.
-use Rattle.std.specs.Prelude.{ℕ, suc, ◌≡◌, ◌<◌, List, [], ◌∷◌, ◌++◌, true, false, Option, Some, None, slice_get, slice_set}
+use Rattle.std.specs.Prelude.{ℕ, suc, ◌≡◌, ◌<◌, ◌≤◌, List, [], ◌∷◌, ◌++◌, length, true, false, Option, Some, None, slice_get, slice_set}
 use Rattle.tds_client.specs.Session.{new_session}
 use Rattle.tds_packet.specs.declared.kind.Direction.{Direction}
 use Rattle.tds_session.specs.Answer.{Answers}
@@ -43,6 +43,16 @@ pub record SameSetup {E S : Type 0} (old new : Player E S) : Type 0 where
   pub max_is : new.max ≡ old.max
   pub size_is : new.size ≡ old.size
   pub told_is : new.on_attention ≡ old.on_attention
+
+-- It has at most so many connections, leases and tickets.
+pub record AreFew {E S : Type 0} (most : ℕ) (player : Player E S) : Type 0 where
+  pub links_few : length player.links.items ≤ most
+  pub leases_few : length player.leases ≤ most
+  pub tickets_few : length player.tickets ≤ most
+
+-- One more of each at most.
+abbrev pub GrowsByOne : {E S : Type 0} → Player E S → Player E S → Type 0
+GrowsByOne old new = (most : ℕ) → AreFew most old → AreFew (suc most) new
 
 -- Its leases, tickets and requests by the numbers of their connections are these.
 pub record HoldsBy {E S : Type 0} (player : Player E S) (leases tickets : List (Option ℕ)) (asked : List ℕ)
@@ -91,6 +101,7 @@ pub record StepsAt {E S : Type 0} (answers : E → Answers) (e : Event) (place :
       → ReadsOn size e done.outcome now.link (seat_in now new.pool).client.columns (pipes was.link.number)
       (pipes' was.link.number)
   pub setup : SameSetup old new
+  pub grows : GrowsByOne old new
   pub noted : IsNoted e (suc place) old new done.outcome
   pub refines : (setup : Setup) (engine : E) (w : World) (c : Connection) → told
       → RepresentsWorld setup engine old pipes w → ModelGivesEach E (answers engine) setup w

@@ -14,7 +14,7 @@ ghost use Rattle.tds_play.specs.Pooled.{IsGone, numbers_kept, numbers_leased};
 ghost use Rattle.tds_play.specs.Reads.{AllRead, Answers as Answered, IsAbout, TakesLast, TellsGiven, answers_then};
 ghost use Rattle.tds_play.specs.Seats.{IsOfEnds};
 ghost use Rattle.tds_play.specs.Seen.{done_as, seen_of};
-ghost use Rattle.tds_play.specs.Steps.{CutsAt, IsOfOne, OpensAs, ReusesAs, StepsAt};
+ghost use Rattle.tds_play.specs.Steps.{AreFew, CutsAt, GrowsByOne, IsNoted, IsOfOne, OpensAs, ReusesAs, StepsAt};
 ghost use Rattle.tds_play.specs.Ties.{AreTied};
 ghost use Rattle.tds_play.specs.declared.request.Record.{Record};
 ghost use Rattle.tds_pool.specs.Connections.{SameRest, connections};
@@ -39,6 +39,7 @@ use crate::pool::{Holdings, by_number, next_number};
 use crate::request::Record;
 use crate::seat::Held;
 use std::alloc::{AllocError, Global};
+use tds_ends::laws::{idle_alike, lends_matching, pool_is_unseen};
 use tds_packet::PacketSize;
 use tds_pool::laws::taken_out_is_unknown;
 use tds_pool::{Lease, Pool, PoolRefusal, Ticket};
@@ -107,11 +108,10 @@ impl<E: Engine + Copy> Player<E> {
     ) -> Result<EventDone, NoMemory>
         requires tied { AreTied (all_of self.old) (C.pipes carrier.old) }
         requires held { AreHeld self.old }
-        requires few { length self.old.links.items < 10000 }
+        requires few { AreFew 9999 self.old }
         ensures tied { OnOk result (AreTied (all_of self.new) (C.pipes carrier.new)) }
         ensures held { OnOk result (AreHeld self.new) }
-        ensures grows { OnOk result
-            (length self.new.links.items ≤ suc (length self.old.links.items)) }
+        ensures grows { OnOk result (GrowsByOne self.old self.new) }
         ensures tells { OnOk result (C.tells carrier.old → C.tells carrier.new) }
         ensures sound { LiveAreSound (all_of self.old) (C.pipes carrier.old)
             → OnOk result (LiveAreSound (all_of self.new) (C.pipes carrier.new)) }
@@ -207,7 +207,7 @@ impl<E: Engine + Copy> Player<E> {
     ) -> Result<EventDone, NoMemory>
         requires tied { AreTied (all_of self.old) (C.pipes carrier.old) }
         requires held { AreHeld self.old }
-        requires few { length self.old.links.items < 10000 }
+        requires few { AreFew 9999 self.old }
         requires there { place < length self.old.links.items }
         requires about { IsAbout event.now place }
         requires found { Here place ≡ about_of event.now (map standing_of (all_of self.old))
@@ -215,8 +215,7 @@ impl<E: Engine + Copy> Player<E> {
         requires ends { IsOfOne event.now }
         ensures tied { OnOk result (AreTied (all_of self.new) (C.pipes carrier.new)) }
         ensures held { OnOk result (AreHeld self.new) }
-        ensures count { OnOk result
-            (length self.new.links.items ≡ length self.old.links.items) }
+        ensures grows { OnOk result (GrowsByOne self.old self.new) }
         ensures tells { OnOk result (C.tells carrier.old → C.tells carrier.new) }
         ensures sound { LiveAreSound (all_of self.old) (C.pipes carrier.old)
             → OnOk result (LiveAreSound (all_of self.new) (C.pipes carrier.new)) }
@@ -257,7 +256,7 @@ impl<E: Engine + Copy> Player<E> {
     ) -> Result<EventDone, NoMemory>
         requires tied { AreTied (all_of self.old) (C.pipes carrier.old) }
         requires held { AreHeld self.old }
-        requires few { length self.old.links.items < 10000 }
+        requires few { AreFew 9999 self.old }
         requires there { place < length self.old.links.items }
         requires found { Here place ≡ about_of event.now (map standing_of (all_of self.old))
             self.old.max (numbers_leased self.old.leases) (numbers_kept self.old.tickets) }
@@ -285,7 +284,7 @@ impl<E: Engine + Copy> Player<E> {
     ) -> Result<EventDone, NoMemory>
         requires tied { AreTied (all_of self.old) (C.pipes carrier.old) }
         requires held { AreHeld self.old }
-        requires few { length self.old.links.items < 10000 }
+        requires few { AreFew 9999 self.old }
         requires there { place < length self.old.links.items }
         requires ends { IsOfEnds event.now }
         ensures { IfOk result (λ done. StepsAt
@@ -295,10 +294,29 @@ impl<E: Engine + Copy> Player<E> {
     {
         let number = next_number(self.asked_on.len());
         let done = self.links[place].act(self.alloc, carrier, &mut self.pool, number, event)?;
-        if matches!(event, Event::Ask(..)) && !matches!(done.outcome, Outcome::Refused(_)) {
-            self.asked_on.push(next_number(place))?;
-        }
+        self.note(place, event, &done.outcome)?;
         Ok(done)
+    }
+
+    /// Notes the connection of a request that was asked.
+    fn note(&mut self, place: usize, event: &Event, outcome: &Outcome) -> Result<(), NoMemory>
+        requires few { place < 9999 }
+        requires ends { IsOfEnds event.now }
+        ensures noted { OnOk result
+            (IsNoted event.now (suc place) self.old self.new outcome.now) }
+        ensures rest { OnOk result
+            (self.new ≡ record self.old { asked_on = self.new.asked_on }) }
+    {
+        match event {
+            Event::Ask(..) => match outcome {
+                Outcome::Refused(_) => Ok(()),
+                _ => {
+                    self.asked_on.push(next_number(place))?;
+                    Ok(())
+                }
+            },
+            _ => Ok(()),
+        }
     }
 
     /// The lease of this number ends, on the connection at this place.
@@ -332,6 +350,7 @@ impl<E: Engine + Copy> Player<E> {
     /// The lease of this number becomes a ticket, on the connection at this place.
     fn keep(&mut self, place: usize, number: u32) -> Result<EventDone, NoMemory>
         requires held { AreHeld self.old }
+        requires few { AreFew 9999 self.old }
         requires there { place < length self.old.links.items }
         requires lent { conn_of (numbers_leased self.old.leases) number ≡ Some (suc place) }
         ensures { (pipes : ℕ → Option Pipe) → AreTied (all_of self.old) pipes
@@ -339,6 +358,8 @@ impl<E: Engine + Copy> Player<E> {
             (λ engine. answer_of (E.statements_of engine) (E.step_of engine)) (event.Keep number) place
             self.old self.new pipes pipes (Unit {0}) (Unit {0}) done) }
     {
+        idle_alike();
+        pool_is_unseen::<E>();
         let Some(lease) = self.leases.take(number) else {
             unreachable!()
         };
@@ -361,6 +382,7 @@ impl<E: Engine + Copy> Player<E> {
     /// The ticket of this number becomes a lease, on the connection at this place.
     fn resume(&mut self, place: usize, number: u32) -> Result<EventDone, NoMemory>
         requires held { AreHeld self.old }
+        requires few { AreFew 9999 self.old }
         requires there { place < length self.old.links.items }
         requires kept { conn_of (numbers_kept self.old.tickets) number ≡ Some (suc place) }
         ensures { (pipes : ℕ → Option Pipe) → AreTied (all_of self.old) pipes
@@ -368,6 +390,9 @@ impl<E: Engine + Copy> Player<E> {
             (λ engine. answer_of (E.statements_of engine) (E.step_of engine)) (event.Resume number) place
             self.old self.new pipes pipes (Unit {0}) (Unit {0}) done) }
     {
+        idle_alike();
+        lends_matching::<E>();
+        pool_is_unseen::<E>();
         let Some(ticket) = self.tickets.take(number) else {
             unreachable!()
         };
@@ -430,11 +455,10 @@ impl<E: Engine + Copy> Player<E> {
     fn lease<C: Carrier>(&mut self, carrier: &mut C) -> Result<EventDone, NoMemory>
         requires tied { AreTied (all_of self.old) (C.pipes carrier.old) }
         requires held { AreHeld self.old }
-        requires few { length self.old.links.items < 10000 }
+        requires few { AreFew 9999 self.old }
         ensures tied { OnOk result (AreTied (all_of self.new) (C.pipes carrier.new)) }
         ensures held { OnOk result (AreHeld self.new) }
-        ensures grows { OnOk result
-            (length self.new.links.items ≤ suc (length self.old.links.items)) }
+        ensures grows { OnOk result (GrowsByOne self.old self.new) }
         ensures tells { OnOk result (C.tells carrier.old → C.tells carrier.new) }
         ensures sound { LiveAreSound (all_of self.old) (C.pipes carrier.old)
             → OnOk result (LiveAreSound (all_of self.new) (C.pipes carrier.new)) }
@@ -457,6 +481,9 @@ impl<E: Engine + Copy> Player<E> {
             (answer_of (E.statements_of engine) (E.step_of engine)) done self.new
             (C.pipes carrier.new) event.Lease w) }
     {
+        idle_alike();
+        lends_matching::<E>();
+        pool_is_unseen::<E>();
         let lease = self.leases.next();
         match self.pool.lease(self.alloc) {
             Ok((given, opened)) => {

@@ -23,12 +23,14 @@ ghost use Rattle.tds_world.specs.declared.event.Event.TheVariants as event;
 ghost use Rattle.tds_world.specs.declared.event.Setup.{Setup};
 ghost use Rattle.tds_world.specs.declared.outcome.Outcome.TheVariants as outcome;
 ghost use Rattle.tds_world.specs.declared.outcome.Refusal.TheVariants.{ConnectionCut};
+ghost use Rattle.tds_world.specs.declared.outcome.Refusal.{Refusal};
 
 use crate::NoMemory;
 use crate::carrier::Carrier;
 use crate::link::acts::{done, on_cut};
 use crate::link::{EventDone, Link};
 use std::alloc::Global;
+use tds_ends::laws::pool_is_unseen;
 use tds_pool::{GivenBack, Lease, Pool, PoolRefusal, Ticket};
 use tds_session::Engine;
 use tds_world::{AbandonOutcome, Event, GiveBackOutcome, Outcome, Place, Refusal, Snapshot};
@@ -189,6 +191,8 @@ impl<E: Engine + Drop> Held<E> {
             → IsSome (lent_to lease (connections pool.old)) }
         ensures number { self.new.link.number ≡ self.old.link.number }
         ensures holder { self.new.holder ≡ self.old.holder }
+        ensures told { IfOk result (λ done. (why : Refusal)
+            → done.outcome ≡ outcome.Refused why → ⊥) }
         ensures lease { IfErr result (λ back. back ≡ lease) }
         ensures pool { OnOk result (Spares self.old.link.number self.new.link.is_cut pool.old
             pool.new) }
@@ -331,6 +335,7 @@ impl<E: Engine + Drop> Held<E> {
         requires known { self.old.link.is_cut ≡ false
             → IsSome (kept_for ticket (connections pool.old)) }
         ensures number { self.new.link.number ≡ self.old.link.number }
+        ensures told { (why : Refusal) → result.outcome ≡ outcome.Refused why → ⊥ }
         ensures holder { self.new.holder ≡ self.old.holder }
         ensures pool { Spares self.old.link.number self.new.link.is_cut pool.old pool.new }
         ensures there { IsThere self.new pool.new }
@@ -357,6 +362,7 @@ impl<E: Engine + Drop> Held<E> {
             (acts_on setup (answer_of (E.statements_of engine) (E.step_of engine)) w
             (event.Abandon k) self.old.link.number c) c }
     {
+        pool_is_unseen::<E>();
         let answer = pool.abandon(ticket);
         if self.link.is_cut {
             return done(Outcome::Abandoned(AbandonOutcome::Closed));
@@ -387,6 +393,8 @@ impl<E: Engine + Drop> Held<E> {
         ensures refused { self.old.link.is_cut ≡ false → IfErr result (λ back. (why : PoolRefusal)
             → refuses_keep (lent_to lease (connections pool.old)) ≡ Some why
             → back.1 ≡ keeps_not why) }
+        ensures live { self.old.link.is_cut ≡ false
+            → refuses_keep (lent_to lease (connections pool.old)) ≡ None → IsOk result }
         ensures kept { IfOk result (λ given. (given.key ≡ lease.key)
             × (given.number ≡ lease.number) × (self.new.holder ≡ ticket)
             × (self.old.link.is_cut ≡ false)

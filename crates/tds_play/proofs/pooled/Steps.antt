@@ -2,7 +2,7 @@
 use Rattle.std.proofs.Common.{◌≡◌, ◌∙◌, ℕ, suc, ◌+◌, ◌<◌, List, length, get_or, Option, Some, Bool, true, false, refl, sym, ap, subst, arith}
 use Rattle.std.proofs.lemmas.Option.{get_or_from_slice_get, slice_get_within}
 use Rattle.std.specs.List.{slice_get}
-use Rattle.std.specs.Prelude.{option_map, slice_set}
+use Rattle.std.specs.Prelude.{Err, IfOk, Ok, Result, option_map, slice_set}
 use Rattle.tds_session.specs.Answer.{Answers}
 use Rattle.tds_ends.specs.ModelGives.{IsCountable, ModelGives}
 use Rattle.tds_pool.specs.Connections.{Connection as Pooled, connections, numbered}
@@ -127,3 +127,33 @@ steps_refine {E} {S} answers e place old new pipes pipes' told still done s setu
         subst (λ (ls : List (Seated E S)). RefinesActs setup.packet_size engine place c w.connections (acts_on setup (answers engine) w (met (loss_of done) e) (suc place) c) done ls pipes') (sym s.all)
         (acts_alike setup engine (answers engine) w e place c old pipes pipes' (in_player s.was old) (in_player s.now new) done is (stands_at old place s.was s.at s.number) (within_all old place s.was s.at) s.ties.others found countable
         (λ played counts is_ready. s.refines setup engine w c tells is promised promise played is_ready counts))
+
+-- A step that rests on nothing that was told.
+pub for_told : {E S : Type 0} (answers : E → Answers) (e : Event) (place : ℕ) (old new : Player E S) (pipes : ℕ → Option Pipe) (told : Type 0) (done : EventDone) → StepsAt answers e place old new pipes pipes (Unit {0}) (Unit {0}) done → StepsAt answers e place old new pipes pipes told told done
+for_told answers e place old new pipes told done s = record {
+  was = s.was;
+  now = s.now;
+  at = s.at;
+  number = s.number;
+  links = s.links;
+  all = s.all;
+  held = s.held;
+  same_number = s.same_number;
+  ties = record { tied = s.ties.tied; others = s.ties.others; tells = λ t. t };
+  failed = s.failed;
+  gone = s.gone;
+  loses = s.loses;
+  reads = s.reads;
+  setup = s.setup;
+  grows = s.grows;
+  noted = s.noted;
+  refines = λ setup engine w c t. s.refines setup engine w c tt;
+}
+
+-- It is of the event that it is.
+pub of_event : {E S B : Type 0} (answers : E → Answers) (e kind : Event) (place : ℕ) (old new : Player E S) (pipes pipes' : ℕ → Option Pipe) (told still : Type 0) (r : Result EventDone B) → e ≡ kind → IfOk r (λ done. StepsAt answers kind place old new pipes pipes' told still done) → IfOk r (λ done. StepsAt answers e place old new pipes pipes' told still done)
+of_event answers e kind place old new pipes pipes' told still r is s = subst (λ (x : Event). IfOk r (λ done. StepsAt answers x place old new pipes pipes' told still done)) (sym is) s
+
+pub of_quiet : {E S B : Type 0} (answers : E → Answers) (e kind : Event) (place : ℕ) (old new : Player E S) (pipes : ℕ → Option Pipe) (told : Type 0) (r : Result EventDone B) → e ≡ kind → IfOk r (λ done. StepsAt answers kind place old new pipes pipes (Unit {0}) (Unit {0}) done) → IfOk r (λ done. StepsAt answers e place old new pipes pipes told told done)
+of_quiet answers e kind place old new pipes told (Ok done) is s = subst (λ (x : Event). StepsAt answers x place old new pipes pipes told told done) (sym is) (for_told answers kind place old new pipes told done s)
+of_quiet answers e kind place old new pipes told (Err why) is s = s
