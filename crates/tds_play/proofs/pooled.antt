@@ -19,6 +19,7 @@ pub mod Leaves
 pub mod Settled
 pub mod Reusing
 pub mod Opening
+pub mod Leasing
 pub mod Back
 pub mod Doing
 pub mod Unkept
