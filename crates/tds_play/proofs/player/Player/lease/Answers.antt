@@ -168,7 +168,7 @@ returns-in_ok-done-in-New-clause-tied g c =
     let l : LentNew conn c.in-Ok.given old.pool c.lease.new.self =
     lent_new_of conn c.in-Ok.given c.in-Ok.opened old.pool c.lease.new.self (lent_next (connections old.pool)) refl c.in-Ok.ensures.reused c.in-Ok.ensures.new c.in-Ok.ensures.used c.in-Ok.ensures.allowed c.in-New.is in
     let by = opened_by next conn c.in-Ok.given old c.begin_lease.new.self c.open.new.self c.lease.new.self pipes pipes' _ _ done l c.next-lease.ensures told.rest told.leases o in
-    let is : IsOpened next o.link done.lost old c.open.new.self by.conn = is_opened next c.in-Ok.given.key c.in-Ok.given o.link done.lost old c.open.new.self c.requires.held c.requires.few by in
+    let is : IsOpened next o.link done.lost old c.open.new.self conn = is_opened next conn c.in-Ok.given.key c.in-Ok.given o.link done.lost old c.open.new.self c.requires.held c.requires.few by in
     let at : conn ≡ suc (length (all_of old)) = l.conn_is ∙ ap suc c.requires.held.pooled.last ∙ ap suc (sym (many_of old)) in
     let x : Seated g.row.E.Denot g.row.E-Stmt.Denot = record { link = o.link; seat = is.seat } in
     let same : AreSame pipes pipes' (suc (length (all_of old))) = subst (λ (n : ℕ). AreSame pipes pipes' n) at o.ties.others in
@@ -188,7 +188,7 @@ returns-in_ok-done-in-New-clause-held g c =
     let l : LentNew conn c.in-Ok.given old.pool c.lease.new.self =
     lent_new_of conn c.in-Ok.given c.in-Ok.opened old.pool c.lease.new.self (lent_next (connections old.pool)) refl c.in-Ok.ensures.reused c.in-Ok.ensures.new c.in-Ok.ensures.used c.in-Ok.ensures.allowed c.in-New.is in
     let by = opened_by next conn c.in-Ok.given old c.begin_lease.new.self c.open.new.self c.lease.new.self pipes pipes' _ _ done l c.next-lease.ensures told.rest told.leases o in
-    let is : IsOpened next o.link done.lost old c.open.new.self by.conn = is_opened next c.in-Ok.given.key c.in-Ok.given o.link done.lost old c.open.new.self c.requires.held c.requires.few by in
+    let is : IsOpened next o.link done.lost old c.open.new.self conn = is_opened next conn c.in-Ok.given.key c.in-Ok.given o.link done.lost old c.open.new.self c.requires.held c.requires.few by in
     let at : conn ≡ suc (length (all_of old)) = l.conn_is ∙ ap suc c.requires.held.pooled.last ∙ ap suc (sym (many_of old)) in
     is.held
 
@@ -205,7 +205,7 @@ returns-in_ok-done-in-New-clause-grows g c =
     let l : LentNew conn c.in-Ok.given old.pool c.lease.new.self =
     lent_new_of conn c.in-Ok.given c.in-Ok.opened old.pool c.lease.new.self (lent_next (connections old.pool)) refl c.in-Ok.ensures.reused c.in-Ok.ensures.new c.in-Ok.ensures.used c.in-Ok.ensures.allowed c.in-New.is in
     let by = opened_by next conn c.in-Ok.given old c.begin_lease.new.self c.open.new.self c.lease.new.self pipes pipes' _ _ done l c.next-lease.ensures told.rest told.leases o in
-    let is : IsOpened next o.link done.lost old c.open.new.self by.conn = is_opened next c.in-Ok.given.key c.in-Ok.given o.link done.lost old c.open.new.self c.requires.held c.requires.few by in
+    let is : IsOpened next o.link done.lost old c.open.new.self conn = is_opened next conn c.in-Ok.given.key c.in-Ok.given o.link done.lost old c.open.new.self c.requires.held c.requires.few by in
     let at : conn ≡ suc (length (all_of old)) = l.conn_is ∙ ap suc c.requires.held.pooled.last ∙ ap suc (sym (many_of old)) in
     is.grows
 
@@ -222,7 +222,7 @@ returns-in_ok-done-in-New-clause-size g c =
     let l : LentNew conn c.in-Ok.given old.pool c.lease.new.self =
     lent_new_of conn c.in-Ok.given c.in-Ok.opened old.pool c.lease.new.self (lent_next (connections old.pool)) refl c.in-Ok.ensures.reused c.in-Ok.ensures.new c.in-Ok.ensures.used c.in-Ok.ensures.allowed c.in-New.is in
     let by = opened_by next conn c.in-Ok.given old c.begin_lease.new.self c.open.new.self c.lease.new.self pipes pipes' _ _ done l c.next-lease.ensures told.rest told.leases o in
-    let is : IsOpened next o.link done.lost old c.open.new.self by.conn = is_opened next c.in-Ok.given.key c.in-Ok.given o.link done.lost old c.open.new.self c.requires.held c.requires.few by in
+    let is : IsOpened next o.link done.lost old c.open.new.self conn = is_opened next conn c.in-Ok.given.key c.in-Ok.given o.link done.lost old c.open.new.self c.requires.held c.requires.few by in
     let at : conn ≡ suc (length (all_of old)) = l.conn_is ∙ ap suc c.requires.held.pooled.last ∙ ap suc (sym (many_of old)) in
     by.setup.size_is
 
@@ -243,7 +243,7 @@ returns-in_ok-done-in-New-clause-sound g c = λ sound.
     let l : LentNew conn c.in-Ok.given old.pool c.lease.new.self =
     lent_new_of conn c.in-Ok.given c.in-Ok.opened old.pool c.lease.new.self (lent_next (connections old.pool)) refl c.in-Ok.ensures.reused c.in-Ok.ensures.new c.in-Ok.ensures.used c.in-Ok.ensures.allowed c.in-New.is in
     let by = opened_by next conn c.in-Ok.given old c.begin_lease.new.self c.open.new.self c.lease.new.self pipes pipes' _ _ done l c.next-lease.ensures told.rest told.leases o in
-    let is : IsOpened next o.link done.lost old c.open.new.self by.conn = is_opened next c.in-Ok.given.key c.in-Ok.given o.link done.lost old c.open.new.self c.requires.held c.requires.few by in
+    let is : IsOpened next o.link done.lost old c.open.new.self conn = is_opened next conn c.in-Ok.given.key c.in-Ok.given o.link done.lost old c.open.new.self c.requires.held c.requires.few by in
     let at : conn ≡ suc (length (all_of old)) = l.conn_is ∙ ap suc c.requires.held.pooled.last ∙ ap suc (sym (many_of old)) in
     let x : Seated g.row.E.Denot g.row.E-Stmt.Denot = record { link = o.link; seat = is.seat } in
     let same : AreSame pipes pipes' (suc (length (all_of old))) = subst (λ (n : ℕ). AreSame pipes pipes' n) at o.ties.others in
@@ -265,7 +265,7 @@ returns-in_ok-done-in-New-clause-reads g c = λ answers all.
     let l : LentNew conn c.in-Ok.given old.pool c.lease.new.self =
     lent_new_of conn c.in-Ok.given c.in-Ok.opened old.pool c.lease.new.self (lent_next (connections old.pool)) refl c.in-Ok.ensures.reused c.in-Ok.ensures.new c.in-Ok.ensures.used c.in-Ok.ensures.allowed c.in-New.is in
     let by = opened_by next conn c.in-Ok.given old c.begin_lease.new.self c.open.new.self c.lease.new.self pipes pipes' _ _ done l c.next-lease.ensures told.rest told.leases o in
-    let is : IsOpened next o.link done.lost old c.open.new.self by.conn = is_opened next c.in-Ok.given.key c.in-Ok.given o.link done.lost old c.open.new.self c.requires.held c.requires.few by in
+    let is : IsOpened next o.link done.lost old c.open.new.self conn = is_opened next conn c.in-Ok.given.key c.in-Ok.given o.link done.lost old c.open.new.self c.requires.held c.requires.few by in
     let at : conn ≡ suc (length (all_of old)) = l.conn_is ∙ ap suc c.requires.held.pooled.last ∙ ap suc (sym (many_of old)) in
     let x : Seated g.row.E.Denot g.row.E-Stmt.Denot = record { link = o.link; seat = is.seat } in
     let same : AreSame pipes pipes' (suc (length (all_of old))) = subst (λ (n : ℕ). AreSame pipes pipes' n) at o.ties.others in
@@ -288,7 +288,7 @@ returns-in_ok-done-in-New-clause-lost g c = λ setup engine w sound world promis
     let l : LentNew conn c.in-Ok.given old.pool c.lease.new.self =
     lent_new_of conn c.in-Ok.given c.in-Ok.opened old.pool c.lease.new.self (lent_next (connections old.pool)) refl c.in-Ok.ensures.reused c.in-Ok.ensures.new c.in-Ok.ensures.used c.in-Ok.ensures.allowed c.in-New.is in
     let by = opened_by next conn c.in-Ok.given old c.begin_lease.new.self c.open.new.self c.lease.new.self pipes pipes' _ _ done l c.next-lease.ensures told.rest told.leases o in
-    let is : IsOpened next o.link done.lost old c.open.new.self by.conn = is_opened next c.in-Ok.given.key c.in-Ok.given o.link done.lost old c.open.new.self c.requires.held c.requires.few by in
+    let is : IsOpened next o.link done.lost old c.open.new.self conn = is_opened next conn c.in-Ok.given.key c.in-Ok.given o.link done.lost old c.open.new.self c.requires.held c.requires.few by in
     let at : conn ≡ suc (length (all_of old)) = l.conn_is ∙ ap suc c.requires.held.pooled.last ∙ ap suc (sym (many_of old)) in
     let x : Seated g.row.E.Denot g.row.E-Stmt.Denot = record { link = o.link; seat = is.seat } in
     let same : AreSame pipes pipes' (suc (length (all_of old))) = subst (λ (n : ℕ). AreSame pipes pipes' n) at o.ties.others in
@@ -316,7 +316,7 @@ returns-in_ok-done-in-New-clause-refines g c = λ setup engine w tells world pro
     let l : LentNew conn c.in-Ok.given old.pool c.lease.new.self =
     lent_new_of conn c.in-Ok.given c.in-Ok.opened old.pool c.lease.new.self (lent_next (connections old.pool)) refl c.in-Ok.ensures.reused c.in-Ok.ensures.new c.in-Ok.ensures.used c.in-Ok.ensures.allowed c.in-New.is in
     let by = opened_by next conn c.in-Ok.given old c.begin_lease.new.self c.open.new.self c.lease.new.self pipes pipes' _ _ done l c.next-lease.ensures told.rest told.leases o in
-    let is : IsOpened next o.link done.lost old c.open.new.self by.conn = is_opened next c.in-Ok.given.key c.in-Ok.given o.link done.lost old c.open.new.self c.requires.held c.requires.few by in
+    let is : IsOpened next o.link done.lost old c.open.new.self conn = is_opened next conn c.in-Ok.given.key c.in-Ok.given o.link done.lost old c.open.new.self c.requires.held c.requires.few by in
     let at : conn ≡ suc (length (all_of old)) = l.conn_is ∙ ap suc c.requires.held.pooled.last ∙ ap suc (sym (many_of old)) in
     let x : Seated g.row.E.Denot g.row.E-Stmt.Denot = record { link = o.link; seat = is.seat } in
     let same : AreSame pipes pipes' (suc (length (all_of old))) = subst (λ (n : ℕ). AreSame pipes pipes' n) at o.ties.others in
