@@ -25,3 +25,5 @@ pub mod Unseen
 pub mod Keeping
 pub mod Resuming
 pub mod Ending
+pub mod Noting
+pub mod Restarting
