@@ -28,3 +28,4 @@ pub mod Resuming
 pub mod Ending
 pub mod Noting
 pub mod Restarting
+pub mod Finding
