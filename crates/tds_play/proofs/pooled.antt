@@ -8,6 +8,7 @@ pub mod Known
 pub mod Kept
 pub mod Given
 pub mod Moves
+pub mod Closing
 pub mod Cutting
 pub mod Lends
 pub mod Returned
