@@ -1,5 +1,5 @@
 -- The leases and tickets of a player end, and what is seen of its connections.
-use Rattle.std.proofs.Common.{◌≡◌, ◌∙◌, ℕ, zero, suc, ◌+◌, ◌<◌, List, [], ◌∷◌, length, get_or, Option, Some, None, refl, sym, ap, subst, arith}
+use Rattle.std.proofs.Common.{◌≡◌, ◌∙◌, ℕ, zero, suc, ◌+◌, ◌<◌, List, [], ◌∷◌, length, map, get_or, Option, Some, None, refl, sym, ap, subst, arith}
 use Rattle.std.proofs.lemmas.Option.{get_or_from_slice_get}
 use Rattle.std.specs.List.{slice_get}
 use Rattle.std.specs.Prelude.{option_map, slice_set}
@@ -9,12 +9,15 @@ use Rattle.tds_pool.specs.declared.lease.Lease.{Lease}
 use Rattle.tds_pool.specs.declared.lease.Ticket.{Ticket}
 use Rattle.tds_play.specs.declared.player.Player.{Player}
 use Rattle.tds_play.specs.declared.seat.Held.{Held}
+use Rattle.tds_play.specs.declared.request.Record.{Record}
 use Rattle.tds_play.specs.Holdings.{all_ended}
+use Rattle.tds_play.specs.Links.{newest_held, newest_there}
 use Rattle.tds_play.specs.Player.{AreHeld, all_of}
 use Rattle.tds_play.specs.Pooled.{IsGone, IsThere, seated_in}
 use Rattle.tds_play.specs.Seats.{Seated}
 use Rattle.tds_play.specs.Ties.{AreNumbered}
 use Rattle.tds_play.proofs.pooled.Acted.{there_at}
+use Rattle.tds_play.proofs.pooled.Records.{newest_alike}
 use Rattle.tds_play.proofs.pooled.Seated.{seated_get}
 use Rattle.tds_play.proofs.pooled.Steps.{in_player, stands_at, within_all}
 use Rattle.tds_play.proofs.pooled.Unseen.{read_at}
@@ -116,3 +119,17 @@ pub one_of : {E S : Type 0} (player : Player E S) (place : ℕ) (h : Held E S) �
 one_of player place h numbers there is =
     let at : slice_get player.links.items place ≡ Some h = read_at player.links.items place h there is in
     (within_all player place h at, stands_at player place h at (numbered_at player place h numbers at))
+
+-- ---- Those that have ended
+
+pub ended_still : {A : Type 0} (xs ys : List (Option A)) → xs ≡ all_ended ys → xs ≡ all_ended xs
+ended_still xs ys is = is ∙ twice ys ∙ ap all_ended (sym is)
+  where
+    twice : {B : Type 0} (zs : List (Option B)) → all_ended zs ≡ all_ended (all_ended zs)
+    twice [] = refl
+    twice {B} (z ∷ zs) = ap (λ (os : List (Option B)). None ∷ os) (twice zs)
+
+-- The requests of each connection, behind what a player ends.
+pub records_of : {E S : Type 0} (old new : Player E S) (stacks : List (List Record)) → stacks ≡ map newest_held new.links.items → new ≡ record old { pool = new.pool; leases = new.leases; tickets = new.tickets } → stacks ≡ map newest_there (all_of old)
+records_of {E} {S} old new stacks is rest =
+    is ∙ ap (λ (p : Player E S). map newest_held p.links.items) rest ∙ newest_alike 1 old.links.items (connections old.pool)
