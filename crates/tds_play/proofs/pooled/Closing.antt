@@ -120,14 +120,7 @@ one_of player place h numbers there is =
     let at : slice_get player.links.items place ≡ Some h = read_at player.links.items place h there is in
     (within_all player place h at, stands_at player place h at (numbered_at player place h numbers at))
 
--- ---- Those that have ended
-
-pub ended_still : {A : Type 0} (xs ys : List (Option A)) → xs ≡ all_ended ys → xs ≡ all_ended xs
-ended_still xs ys is = is ∙ twice ys ∙ ap all_ended (sym is)
-  where
-    twice : {B : Type 0} (zs : List (Option B)) → all_ended zs ≡ all_ended (all_ended zs)
-    twice [] = refl
-    twice {B} (z ∷ zs) = ap (λ (os : List (Option B)). None ∷ os) (twice zs)
+-- ---- What is told of their requests
 
 -- The requests of each connection, behind what a player ends.
 pub records_of : {E S : Type 0} (old new : Player E S) (stacks : List (List Record)) → stacks ≡ map newest_held new.links.items → new ≡ record old { pool = new.pool; leases = new.leases; tickets = new.tickets } → stacks ≡ map newest_there (all_of old)
