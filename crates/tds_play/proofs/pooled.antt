@@ -27,3 +27,5 @@ pub mod Unseen
 pub mod Keeping
 pub mod Resuming
 pub mod Ending
+pub mod Noting
+pub mod Restarting

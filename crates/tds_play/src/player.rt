@@ -141,12 +141,18 @@ impl<E: Engine + Copy> Player<E> {
         match event {
             Event::RestartServer => {
                 self.cut_all(carrier);
-                Ok(done(Outcome::RestartedServer))
+                Ok(EventDone {
+                    outcome: Outcome::RestartedServer,
+                    lost: false,
+                })
             }
             Event::RestartClient => {
                 self.cut_all(carrier);
                 self.end_all();
-                Ok(done(Outcome::RestartedClient))
+                Ok(EventDone {
+                    outcome: Outcome::RestartedClient,
+                    lost: false,
+                })
             }
             Event::Lease => self.lease(carrier),
             _ => match self.about(event) {
