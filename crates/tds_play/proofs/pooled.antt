@@ -18,6 +18,8 @@ pub mod Cancels
 pub mod Ended
 pub mod Leaves
 pub mod Settled
+pub mod Reusing
+pub mod Opening
 pub mod Back
 pub mod Doing
 pub mod Unkept
