@@ -8,6 +8,7 @@ pub mod Known
 pub mod Kept
 pub mod Given
 pub mod Moves
+pub mod Closing
 pub mod Cutting
 pub mod Lends
 pub mod Returned
@@ -17,6 +18,8 @@ pub mod Cancels
 pub mod Ended
 pub mod Leaves
 pub mod Settled
+pub mod Reusing
+pub mod Opening
 pub mod Back
 pub mod Doing
 pub mod Unkept

@@ -15,7 +15,7 @@ ghost use Rattle.tds_play.specs.Reads.{AllRead, Answers as Answered, IsAbout, Ta
 ghost use Rattle.tds_play.specs.Seats.{IsOfEnds};
 ghost use Rattle.tds_play.specs.Seen.{done_as, seen_of};
 ghost use Rattle.tds_play.specs.Steps.{AreFew, CutsAt, GrowsByOne, IsNoted, IsOfOne, OpensAs, ReusesAs, StepsAt};
-ghost use Rattle.tds_play.specs.Ties.{AreTied};
+ghost use Rattle.tds_play.specs.Ties.{AreNumbered, AreTied};
 ghost use Rattle.tds_play.specs.declared.request.Record.{Record};
 ghost use Rattle.tds_pool.specs.Connections.{SameRest, connections};
 ghost use Rattle.tds_session.specs.Answer.{answer_of};
@@ -659,6 +659,8 @@ impl<E: Engine + Copy> Player<E> {
 
     /// What is seen of each connection that isn't cut.
     pub(crate) fn snapshots(&self) -> Result<Vec<Snapshot>, NoMemory>
+        requires held { AreHeld self.now }
+        requires numbered { AreNumbered (all_of self.now) }
         ensures { IfOk result (λ snapshots.
             snapshots.items ≡ filter_map seen_of (all_of self.now)) }
     {
