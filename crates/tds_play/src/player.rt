@@ -487,8 +487,8 @@ impl<E: Engine + Copy> Player<E> {
         ensures size { OnOk result (self.new.size ≡ self.old.size) }
         ensures reads { (answers : Answered)
             → AllRead self.old.size (all_of self.old) (C.pipes carrier.old) answers
-            → OnOk result (AllRead self.old.size (all_of self.new)
-            (C.pipes carrier.new) answers) }
+            → IfOk result (λ done. AllRead self.old.size (all_of self.new)
+            (C.pipes carrier.new) (answers_then event.Lease done.outcome answers)) }
         ensures lost { (setup : Setup) (engine : E) (w : World)
             → LiveAreSound (all_of self.old) (C.pipes carrier.old)
             → RepresentsWorld setup engine self.old (C.pipes carrier.old) w
@@ -499,6 +499,8 @@ impl<E: Engine + Copy> Player<E> {
         ensures refines { (setup : Setup) (engine : E) (w : World) → C.tells carrier.old
             → RepresentsWorld setup engine self.old (C.pipes carrier.old) w
             → ModelGivesEach E (answer_of (E.statements_of engine) (E.step_of engine)) setup w
+            → ((k : ℕ) → OfEachConnection IsCountable (happens setup
+            (answer_of (E.statements_of engine) (E.step_of engine)) (bringing k event.Lease) w).1)
             → IfOk result (λ done. RefinesEvent setup engine
             (answer_of (E.statements_of engine) (E.step_of engine)) done self.new
             (C.pipes carrier.new) events.Lease w) }
@@ -512,7 +514,10 @@ impl<E: Engine + Copy> Player<E> {
                 self.begin_lease(given)?;
                 match opened {
                     tds_pool::Opened::Reused(conn) => Ok(self.reuse(conn, lease)),
-                    tds_pool::Opened::New(conn) => self.open(carrier, conn, lease),
+                    tds_pool::Opened::New(conn) => {
+                        let done = self.open(carrier, conn, lease)?;
+                        Ok(done)
+                    }
                 }
             }
             Err(PoolRefusal::Memory) => Err(AllocError),
