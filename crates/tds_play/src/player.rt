@@ -488,7 +488,7 @@ impl<E: Engine + Copy> Player<E> {
         ensures reads { (answers : Answered)
             → AllRead self.old.size (all_of self.old) (C.pipes carrier.old) answers
             → IfOk result (λ done. AllRead self.old.size (all_of self.new)
-            (C.pipes carrier.new) (answers_then event.Lease done.outcome answers)) }
+            (C.pipes carrier.new) (answers_then events.Lease done.outcome answers)) }
         ensures lost { (setup : Setup) (engine : E) (w : World)
             → LiveAreSound (all_of self.old) (C.pipes carrier.old)
             → RepresentsWorld setup engine self.old (C.pipes carrier.old) w
@@ -500,7 +500,7 @@ impl<E: Engine + Copy> Player<E> {
             → RepresentsWorld setup engine self.old (C.pipes carrier.old) w
             → ModelGivesEach E (answer_of (E.statements_of engine) (E.step_of engine)) setup w
             → ((k : ℕ) → OfEachConnection IsCountable (happens setup
-            (answer_of (E.statements_of engine) (E.step_of engine)) (bringing k event.Lease) w).1)
+            (answer_of (E.statements_of engine) (E.step_of engine)) (bringing k events.Lease) w).1)
             → IfOk result (λ done. RefinesEvent setup engine
             (answer_of (E.statements_of engine) (E.step_of engine)) done self.new
             (C.pipes carrier.new) events.Lease w) }
