@@ -21,7 +21,6 @@ pub mod Settled
 pub mod Reusing
 pub mod Opening
 pub mod Back
-pub mod Doing
 pub mod Unkept
 pub mod Records
 pub mod Steps
