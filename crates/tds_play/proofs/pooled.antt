@@ -8,6 +8,7 @@ pub mod Known
 pub mod Kept
 pub mod Given
 pub mod Moves
+pub mod Closing
 pub mod Cutting
 pub mod Lends
 pub mod Returned
@@ -21,7 +22,6 @@ pub mod Reusing
 pub mod Opening
 pub mod Leasing
 pub mod Back
-pub mod Doing
 pub mod Unkept
 pub mod Records
 pub mod Steps
@@ -29,3 +29,6 @@ pub mod Unseen
 pub mod Keeping
 pub mod Resuming
 pub mod Ending
+pub mod Noting
+pub mod Restarting
+pub mod Finding

@@ -33,6 +33,11 @@ abbrev pub counted : {E S : Type 0} → Link E S → Direction → ℕ
 counted link ToServer = link.to_server
 counted link ToClient = link.to_client
 
+-- Each connection has the number of its place.
+abbrev pub AreNumbered : {E S : Type 0} → List (Seated E S) → Type 0
+AreNumbered {E} {S} links =
+    (i : ℕ) (d : Seated E S) → i < length links → (slice_index_or links i d).link.number ≡ suc i
+
 -- All connections of a play, numbered from 1.
 pub record AreTied {E S : Type 0} (links : List (Seated E S)) (pipes : ℕ → Option Pipe) : Type 0 where
   pub numbered : (i : ℕ) (d : Seated E S) → i < length links

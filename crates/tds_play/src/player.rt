@@ -15,7 +15,7 @@ ghost use Rattle.tds_play.specs.Reads.{AllRead, Answers as Answered, IsAbout, Ta
 ghost use Rattle.tds_play.specs.Seats.{IsOfEnds};
 ghost use Rattle.tds_play.specs.Seen.{done_as, seen_of};
 ghost use Rattle.tds_play.specs.Steps.{AreFew, CutsAt, GrowsByOne, IsNoted, IsOfOne, OpensAs, ReusesAs, StepsAt};
-ghost use Rattle.tds_play.specs.Ties.{AreTied};
+ghost use Rattle.tds_play.specs.Ties.{AreNumbered, AreTied};
 ghost use Rattle.tds_play.specs.declared.request.Record.{Record};
 ghost use Rattle.tds_pool.specs.Connections.{SameRest, connections};
 ghost use Rattle.tds_session.specs.Answer.{answer_of};
@@ -26,7 +26,7 @@ ghost use Rattle.tds_world.specs.Losses.{bringing, link_of};
 ghost use Rattle.tds_world.specs.Observed.{request_reports};
 ghost use Rattle.tds_world.specs.Order.{RequestsInOrder};
 ghost use Rattle.tds_world.specs.World.{World, numbered, put};
-ghost use Rattle.tds_world.specs.declared.event.Event.TheVariants as event;
+ghost use Rattle.tds_world.specs.declared.event.Event.TheVariants as events;
 ghost use Rattle.tds_world.specs.declared.event.Setup.{Setup};
 ghost use Rattle.tds_world.specs.declared.outcome.Opened.TheVariants as opened;
 ghost use Rattle.tds_world.specs.declared.outcome.Outcome.TheVariants as outcome;
@@ -141,12 +141,18 @@ impl<E: Engine + Copy> Player<E> {
         match event {
             Event::RestartServer => {
                 self.cut_all(carrier);
-                Ok(done(Outcome::RestartedServer))
+                Ok(EventDone {
+                    outcome: Outcome::RestartedServer,
+                    lost: false,
+                })
             }
             Event::RestartClient => {
                 self.cut_all(carrier);
                 self.end_all();
-                Ok(done(Outcome::RestartedClient))
+                Ok(EventDone {
+                    outcome: Outcome::RestartedClient,
+                    lost: false,
+                })
             }
             Event::Lease => self.lease(carrier),
             _ => match self.about(event) {
@@ -159,24 +165,20 @@ impl<E: Engine + Copy> Player<E> {
     /// The place of the connection that an event is about. The pool says which one is lent, and a
     /// restart is about none alone.
     fn about(&self, event: &Event) -> Result<usize, Refusal>
-        ensures value { event.now ≢ event.Lease → found_by result
+        ensures value { event.now ≢ events.Lease → found_by result
             ≡ about_of event.now (map standing_of (all_of self.now)) self.now.max
             (numbers_leased self.now.leases) (numbers_kept self.now.tickets) }
         ensures there { IfOk result (λ place. place < length self.now.links.items) }
     {
         match event {
             Event::Resume(ticket) | Event::Abandon(ticket) => {
-                let conn = self.tickets.get(*ticket).map(|ticket| ticket.number());
-                self.held(conn, Refusal::UnknownTicket)
+                self.held(self.kept_on(*ticket), Refusal::UnknownTicket)
             }
             Event::GiveBack(lease)
             | Event::Keep(lease)
             | Event::Ask(lease, _)
             | Event::Send(lease)
-            | Event::Cancel(lease) => {
-                let conn = self.leases.get(*lease).map(|lease| lease.number());
-                self.held(conn, Refusal::UnknownLease)
-            }
+            | Event::Cancel(lease) => self.held(self.lent_on(*lease), Refusal::UnknownLease),
             Event::Work(conn)
             | Event::ToServer(conn, _)
             | Event::ToClient(conn, _)
@@ -184,6 +186,26 @@ impl<E: Engine + Copy> Player<E> {
             Event::Lease | Event::RestartServer | Event::RestartClient => {
                 Err(Refusal::UnknownConnection)
             }
+        }
+    }
+
+    /// The connection of the lease of this number, unless it is unknown or has ended.
+    fn lent_on(&self, number: u32) -> Option<u32>
+        ensures { result ≡ conn_of (numbers_leased self.now.leases) number }
+    {
+        match self.leases.get(number) {
+            None => None,
+            Some(lease) => Some(lease.number()),
+        }
+    }
+
+    /// The connection of the ticket of this number.
+    fn kept_on(&self, number: u32) -> Option<u32>
+        ensures { result ≡ conn_of (numbers_kept self.now.tickets) number }
+    {
+        match self.tickets.get(number) {
+            None => None,
+            Some(ticket) => Some(ticket.number()),
         }
     }
 
@@ -331,7 +353,7 @@ impl<E: Engine + Copy> Player<E> {
         requires there { place < length self.old.links.items }
         requires lent { conn_of (numbers_leased self.old.leases) number ≡ Some (suc place) }
         ensures { IfOk result (λ done. StepsAt
-            (λ engine. answer_of (E.statements_of engine) (E.step_of engine)) (event.GiveBack number) place
+            (λ engine. answer_of (E.statements_of engine) (E.step_of engine)) (events.GiveBack number) place
             self.old self.new (C.pipes carrier.old) (C.pipes carrier.new)
             (C.tells carrier.old) (C.tells carrier.new) done) }
     {
@@ -355,7 +377,7 @@ impl<E: Engine + Copy> Player<E> {
         requires lent { conn_of (numbers_leased self.old.leases) number ≡ Some (suc place) }
         ensures { (pipes : ℕ → Option Pipe) → AreTied (all_of self.old) pipes
             → IfOk result (λ done. StepsAt
-            (λ engine. answer_of (E.statements_of engine) (E.step_of engine)) (event.Keep number) place
+            (λ engine. answer_of (E.statements_of engine) (E.step_of engine)) (events.Keep number) place
             self.old self.new pipes pipes (Unit {0}) (Unit {0}) done) }
     {
         idle_alike();
@@ -387,7 +409,7 @@ impl<E: Engine + Copy> Player<E> {
         requires kept { conn_of (numbers_kept self.old.tickets) number ≡ Some (suc place) }
         ensures { (pipes : ℕ → Option Pipe) → AreTied (all_of self.old) pipes
             → IfOk result (λ done. StepsAt
-            (λ engine. answer_of (E.statements_of engine) (E.step_of engine)) (event.Resume number) place
+            (λ engine. answer_of (E.statements_of engine) (E.step_of engine)) (events.Resume number) place
             self.old self.new pipes pipes (Unit {0}) (Unit {0}) done) }
     {
         idle_alike();
@@ -426,7 +448,7 @@ impl<E: Engine + Copy> Player<E> {
         requires there { place < length self.old.links.items }
         requires kept { conn_of (numbers_kept self.old.tickets) number ≡ Some (suc place) }
         ensures { IfOk result (λ done. StepsAt
-            (λ engine. answer_of (E.statements_of engine) (E.step_of engine)) (event.Abandon number) place
+            (λ engine. answer_of (E.statements_of engine) (E.step_of engine)) (events.Abandon number) place
             self.old self.new (C.pipes carrier.old) (C.pipes carrier.new)
             (C.tells carrier.old) (C.tells carrier.new) done) }
     {
@@ -466,22 +488,22 @@ impl<E: Engine + Copy> Player<E> {
         ensures reads { (answers : Answered)
             → AllRead self.old.size (all_of self.old) (C.pipes carrier.old) answers
             → IfOk result (λ done. AllRead self.old.size (all_of self.new)
-            (C.pipes carrier.new) (answers_then event.Lease done.outcome answers)) }
+            (C.pipes carrier.new) (answers_then events.Lease done.outcome answers)) }
         ensures lost { (setup : Setup) (engine : E) (w : World)
             → LiveAreSound (all_of self.old) (C.pipes carrier.old)
             → RepresentsWorld setup engine self.old (C.pipes carrier.old) w
             → ModelGivesEach E (answer_of (E.statements_of engine) (E.step_of engine)) setup w
-            → IfOk result (λ done. FailsOn event.Lease done.lost (link_of setup w event.Lease)
+            → IfOk result (λ done. FailsOn events.Lease done.lost (link_of setup w events.Lease)
             (all_known (length self.old.links.items) (C.pipes carrier.old))
             (all_known (length self.new.links.items) (C.pipes carrier.new))) }
         ensures refines { (setup : Setup) (engine : E) (w : World) → C.tells carrier.old
             → RepresentsWorld setup engine self.old (C.pipes carrier.old) w
             → ModelGivesEach E (answer_of (E.statements_of engine) (E.step_of engine)) setup w
             → ((k : ℕ) → OfEachConnection IsCountable (happens setup
-            (answer_of (E.statements_of engine) (E.step_of engine)) (bringing k event.Lease) w).1)
+            (answer_of (E.statements_of engine) (E.step_of engine)) (bringing k events.Lease) w).1)
             → IfOk result (λ done. RefinesEvent setup engine
             (answer_of (E.statements_of engine) (E.step_of engine)) done self.new
-            (C.pipes carrier.new) event.Lease w) }
+            (C.pipes carrier.new) events.Lease w) }
     {
         idle_alike();
         lends_matching::<E>();
@@ -644,6 +666,8 @@ impl<E: Engine + Copy> Player<E> {
 
     /// What is seen of each connection that isn't cut.
     pub(crate) fn snapshots(&self) -> Result<Vec<Snapshot>, NoMemory>
+        requires held { AreHeld self.now }
+        requires numbered { AreNumbered (all_of self.now) }
         ensures { IfOk result (λ snapshots.
             snapshots.items ≡ filter_map seen_of (all_of self.now)) }
     {

@@ -6,7 +6,7 @@ ghost use Rattle.tds_play.specs.Player.{AreHeld, RepresentsWorld, all_of};
 ghost use Rattle.tds_play.specs.Reads.{TellsGiven};
 ghost use Rattle.tds_play.specs.Refused.{first_refusal, play_refusal_number};
 ghost use Rattle.tds_play.specs.WholePlay.{CarriesBytesOf, CutsThoseOf, HandsBytesOf, IsReportOfPlay, IsWholePlayOf, world_of};
-ghost use Rattle.tds_play.specs.Steps.{StandsThen};
+ghost use Rattle.tds_play.specs.Steps.{AreFew, StandsThen};
 ghost use Rattle.tds_play.specs.declared.playing.PlayRefusal.TheVariants.{Memory};
 ghost use Rattle.tds_play.specs.declared.playing.PlayRefusal.{PlayRefusal};
 ghost use Rattle.tds_session.specs.Answer.{answer_of, script_answers};
@@ -300,6 +300,7 @@ fn play_events<E: Engine + Copy, C: Carrier>(
     carrier: &mut C,
 ) -> Result<Report, PlayRefusal>
     requires begins { player.links.items ≡ [] }
+    requires none { AreFew 0 player }
     requires held { AreHeld player }
     requires few { length events.now ≤ 10000 }
     ensures memory { IfErr result (λ why. why ≡ Memory) }
@@ -335,6 +336,7 @@ fn run<E: Engine + Copy, C: Carrier>(
     carrier: &mut C,
 ) -> Result<Vec<EventReport>, NoMemory>
     requires begins { player.old.links.items ≡ [] }
+    requires none { AreFew 0 player.old }
     requires held { AreHeld player.old }
     requires few { length events.now ≤ 10000 }
     ensures unfailing { (setup : Setup) (requests : List RequestReport) → IsSetup setup

@@ -29,7 +29,7 @@ use Rattle.tds_play.proofs.Listed.{by_test, changed, is_at, is_other}
 use Rattle.tds_play.proofs.any_bytes.Answered.{cut_reads}
 use Rattle.tds_play.proofs.pooled.Kept.{known_lost, pooled_lost}
 use Rattle.tds_play.proofs.pooled.Moves.{seated_lost, set_again}
-use Rattle.tds_play.proofs.pooled.Quiet.{held_as, number_at, read_at, set_here}
+use Rattle.tds_play.proofs.pooled.Unseen.{held_as, number_at, read_at, set_here}
 use Rattle.tds_play.proofs.pooled.Slots.{held_set}
 use Rattle.tds_play.proofs.pooled.Steps.{in_player, place_of, stands_at, within_all}
 

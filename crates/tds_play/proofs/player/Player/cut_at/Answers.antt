@@ -9,7 +9,7 @@ use Rattle.tds_play.specs.Reads.{AllRead}
 use Rattle.tds_play.specs.Seats.{Seated}
 use Rattle.tds_play.proofs.Accounts.{all_no_more}
 use Rattle.tds_play.proofs.pooled.Cutting.{cut_held, cut_played, cut_read, cut_sound, cut_tied, cuts_at, is_cut_then, is_uncut, still_cut, unmoved}
-use Rattle.tds_play.proofs.pooled.Quiet.{read_at, tied_at}
+use Rattle.tds_play.proofs.pooled.Unseen.{read_at, tied_at}
 use Rattle.tds_play.proofs.player.Player.cut_at.Goals as goal
 
 -- ---- It was cut before
