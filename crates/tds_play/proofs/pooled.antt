@@ -20,8 +20,8 @@ pub mod Leaves
 pub mod Settled
 pub mod Reusing
 pub mod Opening
+pub mod Leasing
 pub mod Back
-pub mod Doing
 pub mod Unkept
 pub mod Records
 pub mod Steps

@@ -1,4 +1,4 @@
-use Rattle.std.proofs.Common.{◌≡◌, ◌∙◌, ℕ, Option, ap, length, map, sym}
+use Rattle.std.proofs.Common.{◌≡◌, ◌∙◌, ℕ, Option, ap, arith, length, map, sym}
 use Rattle.tds_world.specs.declared.outcome.Refusal.TheVariants.{UnknownConnection, UnknownLease, UnknownTicket}
 use Rattle.tds_play.specs.Holdings.{conn_of}
 use Rattle.tds_play.specs.Lending.{numbered_of, standing_of}
@@ -11,8 +11,9 @@ use Rattle.tds_play.proofs.player.Player.about.Goals as goal
 pub returns-in-Work-clause-value : goal.returns-in-Work-clause-value
 returns-in-Work-clause-value g c = λ other.
     let p = c.args.self.now in
+    let count : c.len.result ≡ length p.links.items = omega (arith, c.len.ensures, p.links.ok.0) in
     c.by_number.ensures.value
-    ∙ ap (λ (n : ℕ). numbered_of n c.in-Work.conn UnknownConnection) (c.len.ensures ∙ sym (many_standings p))
+    ∙ ap (λ (n : ℕ). numbered_of n c.in-Work.conn UnknownConnection) (count ∙ sym (many_standings p))
     ∙ sym (about_number c.args.event.now c.in-Work.conn p.max (map standing_of (all_of p)) (numbers_leased p.leases) (numbers_kept p.tickets) c.in-Work.is)
 
 pub returns-in-GiveBack-clause-value : goal.returns-in-GiveBack-clause-value
