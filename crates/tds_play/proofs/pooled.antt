@@ -20,6 +20,7 @@ pub mod Leaves
 pub mod Settled
 pub mod Reusing
 pub mod Opening
+pub mod Leasing
 pub mod Back
 pub mod Unkept
 pub mod Records

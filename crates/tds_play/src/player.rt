@@ -520,8 +520,10 @@ impl<E: Engine + Copy> Player<E> {
                     }
                 }
             }
-            Err(PoolRefusal::Memory) => Err(AllocError),
-            Err(_) => Ok(refused(Refusal::AllInUse)),
+            Err(refusal) => match refusal {
+                PoolRefusal::Memory => Err(AllocError),
+                _ => Ok(refused(Refusal::AllInUse)),
+            },
         }
     }
 

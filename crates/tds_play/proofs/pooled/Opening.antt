@@ -38,9 +38,8 @@ use Rattle.tds_play.proofs.pooled.Slots.{held_more, numbers_pushed}
 use Rattle.tds_play.proofs.pooled.Unseen.{as_long, first_next, held_as, one_longer}
 
 -- What the pool lends, which the play opens under this lease, and whether it was lost at once.
-pub record OpenedBy {E S : Type 0} (next : ℕ) (key : ℕ) (lease : Lease) (link : Link E S) (lost : Bool) (old new : Player E S)
+pub record OpenedBy {E S : Type 0} (next conn key : ℕ) (lease : Lease) (link : Link E S) (lost : Bool) (old new : Player E S)
     : Type 0 where
-  pub conn : ℕ
   pub conn_is : conn ≡ suc old.pool.last
   pub key_is : lease.key ≡ key
   pub number_is : lease.number ≡ conn
@@ -75,8 +74,8 @@ pub record IsOpened {E S : Type 0} (next : ℕ) (link : Link E S) (lost : Bool) 
   pub grows : GrowsByOne old new
   pub holds : HoldsBy new (numbers_leased old.leases ++ Some conn ∷ []) (numbers_kept old.tickets) old.asked_on.items
 
-pub is_opened : {E S : Type 0} (next key : ℕ) (lease : Lease) (link : Link E S) (lost : Bool) (old new : Player E S) → AreHeld old → AreFew 9999 old → (o : OpenedBy next key lease link lost old new) → IsOpened next link lost old new o.conn
-is_opened {E} {S} next key lease link lost old new held few o = by_lost lost refl
+pub is_opened : {E S : Type 0} (next conn key : ℕ) (lease : Lease) (link : Link E S) (lost : Bool) (old new : Player E S) → AreHeld old → AreFew 9999 old → OpenedBy next conn key lease link lost old new → IsOpened next link lost old new conn
+is_opened {E} {S} next conn key lease link lost old new held few o = by_lost lost refl
   where
     h : Held E S
     h = record { link = link; holder = next }
@@ -88,15 +87,15 @@ is_opened {E} {S} next key lease link lost old new held few o = by_lost lost ref
     n = suc (length hs)
 
     c : pool.Connection
-    c = new_connection o.conn key old.pool.size
+    c = new_connection conn key old.pool.size
 
-    is_n : o.conn ≡ n
+    is_n : conn ≡ n
     is_n = o.conn_is ∙ ap suc held.pooled.last
 
     none : numbered n (connections old.pool) ≡ None
     none = pooled_next old.max old.size hs old.pool held.pooled
 
-    none_conn : numbered o.conn (connections old.pool) ≡ None
+    none_conn : numbered conn (connections old.pool) ≡ None
     none_conn = ap (λ (m : ℕ). numbered m (connections old.pool)) is_n ∙ none
 
     holder_is : next ≡ suc (length old.leases)
@@ -109,7 +108,7 @@ is_opened {E} {S} next key lease link lost old new held few o = by_lost lost ref
       tickets_few = as_long old.tickets new.tickets most (ap length o.tickets) f.tickets_few;
     }
 
-    holds : HoldsBy new (numbers_leased old.leases ++ Some o.conn ∷ []) (numbers_kept old.tickets) old.asked_on.items
+    holds : HoldsBy new (numbers_leased old.leases ++ Some conn ∷ []) (numbers_kept old.tickets) old.asked_on.items
     holds = record {
       leases_are =
           ap numbers_leased o.leases ∙ numbers_pushed (λ (l : Lease). l.number) old.leases (Some lease)
@@ -123,7 +122,7 @@ is_opened {E} {S} next key lease link lost old new held few o = by_lost lost ref
         subst (λ (ls : List (Option Lease)). AreKnown ls new.tickets (hs ++ h ∷ []) (connections new.pool)) (sym o.leases)
         (subst (λ (ts : List (Option Ticket)). AreKnown (old.leases ++ Some lease ∷ []) ts (hs ++ h ∷ []) (connections new.pool)) (sym o.tickets) known)
 
-    by_lost : (b : Bool) → lost ≡ b → IsOpened next link lost old new o.conn
+    by_lost : (b : Bool) → lost ≡ b → IsOpened next link lost old new conn
     by_lost false whole = record {
       conn_is = is_n;
       seat = (seated_in h (Some c)).seat;
@@ -165,7 +164,7 @@ is_opened {E} {S} next key lease link lost old new held few o = by_lost lost ref
       lent = λ e. let bad : true ≡ false = sym gone ∙ e in absurd (cc);
       held = held_as old new (hs ++ h ∷ []) o.links o.setup
           (pooled_more_lost old.max old.size hs h c old.pool new.pool held.pooled
-          ((o.gone gone).connections ∙ ap (taken_out o.conn) o.came) o.conn_is
+          ((o.gone gone).connections ∙ ap (taken_out conn) o.came) o.conn_is
           ((o.gone gone).rest.last ∙ o.last) ((o.gone gone).rest.max ∙ o.max) ((o.gone gone).rest.size ∙ o.size)
           (o.uncut ∙ gone))
           (known_by begun);
@@ -174,7 +173,7 @@ is_opened {E} {S} next key lease link lost old new held few o = by_lost lost ref
     }
       where
         left : connections new.pool ≡ connections old.pool
-        left = (o.gone gone).connections ∙ ap (taken_out o.conn) o.came ∙ taken_added c (connections old.pool) none_conn
+        left = (o.gone gone).connections ∙ ap (taken_out conn) o.came ∙ taken_added c (connections old.pool) none_conn
 
         more : AreKnown old.leases old.tickets (hs ++ h ∷ []) (connections new.pool)
         more = known_more old.leases old.tickets n hs (hs ++ h ∷ []) (connections old.pool) (connections new.pool) held.known (λ m other. ap (numbered m) left) (held_more n hs h) (omega arith)
@@ -301,11 +300,10 @@ lent_new_of conn lease said old new None at reused fresh used allowed is =
 
 -- ---- The player that opens it
 
-pub opened_by : {E S : Type 0} (next conn : ℕ) (lease : Lease) (old mid new : Player E S) (p : PoolState) (pipes pipes' : ℕ → Option Pipe) (told still : Type 0) (done : EventDone) → LentNew conn lease old.pool p → next ≡ min (suc (length old.leases)) 4294967295 → mid ≡ record old { pool = p; leases = mid.leases } → mid.leases ≡ old.leases ++ Some lease ∷ [] → (o : OpensAs conn next mid new pipes pipes' told still done) → OpenedBy next lease.key lease o.link done.lost old new
+pub opened_by : {E S : Type 0} (next conn : ℕ) (lease : Lease) (old mid new : Player E S) (p : PoolState) (pipes pipes' : ℕ → Option Pipe) (told still : Type 0) (done : EventDone) → LentNew conn lease old.pool p → next ≡ min (suc (length old.leases)) 4294967295 → mid ≡ record old { pool = p; leases = mid.leases } → mid.leases ≡ old.leases ++ Some lease ∷ [] → (o : OpensAs conn next mid new pipes pipes' told still done) → OpenedBy next conn lease.key lease o.link done.lost old new
 opened_by {E} {S} next conn lease old mid new p pipes pipes' told still done lent is_next was begun o =
     let same_pool : mid.pool ≡ p = ap (λ (x : Player E S). x.pool) was in
     record {
-      conn = conn;
       conn_is = lent.conn_is;
       key_is = refl;
       number_is = lent.number_is;
