@@ -10,7 +10,7 @@ use Rattle.tds_world.specs.WithLosses.{LosesNothing}
 use Rattle.tds_world.specs.World.{World, new_world}
 use Rattle.tds_play.specs.declared.link.EventDone.{EventDone}
 use Rattle.tds_play.specs.declared.link.Link.{Link}
-use Rattle.tds_play.specs.declared.seat.Seated.{Seated}
+use Rattle.tds_play.specs.Seats.{Seated}
 use Rattle.tds_play.specs.Failures.{Call, Open, AccountFor, Fails, FailsAs, FailsNoMore, FailsOn, HasFailed, HasNoFailure, IsFailureOf, LiveAreSound, TellFailures, UseLinks, UsesLink, all_known, calls_of, failures, known_at, lost_by, lost_on}
 use Rattle.tds_play.specs.Pipe.{Pipe, AreSame}
 use Rattle.tds_play.specs.Ties.{AreTied}

@@ -19,9 +19,9 @@ use Rattle.tds_world.specs.Events.{acts}
 use Rattle.tds_world.specs.Losses.{bringing, met}
 use Rattle.tds_world.specs.Pool.{Acted, Does, abandons, abandons_at, gives_back, gives_back_at, comes_back, keeps}
 use Rattle.tds_world.specs.World.{World}
-use Rattle.tds_client.specs.Session.{unless_idle}
+use Rattle.tds_client.specs.Session.{ClientSession, unless_idle}
 use Rattle.tds_play.specs.Lending.{standing_by}
-use Rattle.tds_play.specs.Seats.{lent_as, placed_at}
+use Rattle.tds_play.specs.Seats.{Seat, lent_as, placed_at, placed_behind, seated}
 use Rattle.tds_play.specs.Pipe.{Pipe}
 use Rattle.tds_play.specs.Plays.{RefinesAct, RepresentsConnection, acts_at, acts_on, after, count_of, delivers_down, delivers_up, loss_of, on_cut, outcome_of}
 use Rattle.tds_ends.specs.ModelGives.{IsCountable}
@@ -29,7 +29,6 @@ use Rattle.tds_play.specs.Seen.{done_as}
 use Rattle.tds_ends.specs.Stays.{RefinesIdle, PoolIsUnseen}
 use Rattle.tds_play.specs.declared.link.EventDone.{EventDone}
 use Rattle.tds_play.specs.declared.link.Link.{Link}
-use Rattle.tds_play.specs.declared.seat.Seat.{Seat}
 use Rattle.tds_play.proofs.Losing.{down_met, met_ok, plain_met, up_met}
 use Rattle.tds_play.proofs.Placed.{DoesWhole, RefinesMarks, lent_played, placed_played}
 
@@ -81,7 +80,7 @@ by_event number size engine done new seat pipe c a b e h = subst (λ x. DoesWhol
 pub by_event_ok : {E S B : Type 0} (number size : ℕ) (engine : E) (r : Result EventDone B) (new : Link E S) (seat : Seat) (pipe : Option Pipe) (c : Connection) (a b : Acted) → a ≡ b → IfOk r (λ done. DoesWhole number size engine done new seat pipe b c) → IfOk r (λ done. DoesWhole number size engine done new seat pipe a c)
 by_event_ok number size engine r new seat pipe c a b e h = subst (λ x. IfOk r (λ done. DoesWhole number size engine done new seat pipe x c)) (sym e) h
 
-few_then : (c : Connection) (a b : Acted) → a ≡ b → IsCountable (after a c) → IsCountable (after b c)
+pub few_then : (c : Connection) (a b : Acted) → a ≡ b → IsCountable (after a c) → IsCountable (after b c)
 few_then c a b e h = subst (λ x. IsCountable (after x c)) e h
 
 -- What comes back has as many bytes underway.
@@ -131,6 +130,15 @@ pub down_ok : {E S B : Type 0} (number size : ℕ) (engine : E) (r : Result Even
 down_ok number size engine r new seat pipe setup answers w e n count c p at is h =
     met_ok number size engine r new seat pipe c (λ done. acts_on setup answers w (met (loss_of done) e) number c) (λ done. delivers_down (count_of done count) c)
     (λ done. event_at setup answers w (met (loss_of done) e) (event.ToClient n (count_of done count)) number c p at (ap (met (loss_of done)) is ∙ down_met done.lost done.outcome n count)) h
+
+-- ---- Where it stands behind it
+
+pub behind_ok : {E S B : Type 0} (number size : ℕ) (engine : E) (r : Result EventDone B) (new : Link E S) (client : ClientSession) (pipe : Option Pipe) (c : Connection) (acted : EventDone → Acted) (e kind : Event) (p : Place)
+    → e ≡ kind
+    → IfOk r (λ done. RefinesAct number size engine done new (seated (placed_behind kind client p) client) pipe (acted done) c)
+    → IfOk r (λ done. RefinesAct number size engine done new (seated (placed_behind e client p) client) pipe (acted done) c)
+behind_ok number size engine r new client pipe c acted e kind p is h =
+    subst (λ (x : Event). IfOk r (λ done. RefinesAct number size engine done new (seated (placed_behind x client p) client) pipe (acted done) c)) (sym is) h
 
 -- ---- A connection that is cut
 

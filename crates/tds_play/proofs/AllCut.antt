@@ -4,7 +4,7 @@ use Rattle.std.specs.List.{slice_get}
 use Rattle.tds_world.specs.declared.report.Place.{Place}
 use Rattle.tds_world.specs.Connection.{Connection, Standing, Cut, cut}
 use Rattle.tds_world.specs.World.{put}
-use Rattle.tds_play.specs.declared.seat.Seated.{Seated}
+use Rattle.tds_play.specs.Seats.{Seated}
 use Rattle.tds_play.specs.Lending.{standing_by}
 use Rattle.tds_play.specs.Pipe.{Pipe, AreSame}
 use Rattle.tds_play.specs.Plays.{RepresentsConnection, RepresentConnections}

@@ -3,7 +3,7 @@ use Rattle.std.proofs.Common.{◌≡◌, ◌∙◌, ℕ, zero, suc, ◌+◌, ◌
 use Rattle.std.specs.List.{slice_get}
 use Rattle.tds_world.specs.Connection.{Connection, Standing}
 use Rattle.tds_world.specs.World.{put}
-use Rattle.tds_play.specs.declared.seat.Seated.{Seated}
+use Rattle.tds_play.specs.Seats.{Seated}
 use Rattle.tds_play.specs.Lending.{standing_of}
 use Rattle.tds_play.specs.Pipe.{Pipe, AreSame}
 use Rattle.tds_play.specs.Plays.{RepresentsConnection, RepresentConnections}

@@ -24,14 +24,13 @@ use Rattle.tds_ends.specs.Refines.{cancel_outcome}
 use Rattle.tds_play.specs.Acts.{cancelled_as, with_status}
 use Rattle.tds_ends.specs.Refines.{RefinesCancel}
 use Rattle.tds_play.specs.Lending.{standing_by}
-use Rattle.tds_play.specs.Seats.{seated}
+use Rattle.tds_play.specs.Seats.{Seat, seated}
 use Rattle.tds_play.specs.Pipe.{Pipe}
 use Rattle.tds_play.specs.Plays.{RepresentsConnection, after, outcome_of}
 use Rattle.tds_play.specs.Requests.{IsNewest}
 use Rattle.tds_ends.specs.Stands.{Sends}
 use Rattle.tds_ends.specs.Stays.{RefinesIdle, PoolIsUnseen, ServerStays}
 use Rattle.tds_play.specs.declared.link.Link.{Link}
-use Rattle.tds_play.specs.declared.seat.Seat.{Seat}
 use Rattle.tds_play.specs.declared.request.Record.{Record}
 use Rattle.tds_play.proofs.Outward.{HandedUp, SentMore, sent_played}
 

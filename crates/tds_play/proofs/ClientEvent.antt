@@ -17,8 +17,7 @@ use Rattle.tds_world.specs.Record.{Record, Open, gives, acknowledges, when, if_n
 use Rattle.tds_play.specs.Between.{IsLane, RepresentsEnds}
 use Rattle.tds_ends.specs.Deliveries.{AllHeard, RefinesListens}
 use Rattle.tds_play.specs.declared.link.Link.{Link}
-use Rattle.tds_play.specs.declared.seat.Seat.{Seat}
-use Rattle.tds_play.specs.Seats.{drained_at}
+use Rattle.tds_play.specs.Seats.{Seat, drained_at}
 use Rattle.tds_play.specs.Listening.{told_in}
 use Rattle.tds_play.specs.Pipe.{Pipe, traffic, carried, next_of}
 use Rattle.tds_ends.specs.Stands.{MatchesClient}

@@ -11,7 +11,7 @@ use Rattle.tds_play.specs.Pipe.{Pipe, IsUncut, traffic, cut_pipe, is_cut_at}
 use Rattle.tds_play.specs.Plays.{RepresentsConnection}
 use Rattle.tds_play.specs.Requests.{MatchesRecord, AreOlder, IsNewest}
 use Rattle.tds_play.specs.declared.link.Link.{Link}
-use Rattle.tds_play.specs.declared.seat.Seat.{Seat}
+use Rattle.tds_play.specs.Seats.{Seat}
 use Rattle.tds_play.specs.declared.request.Record.{Record}
 
 -- ---- Requests

@@ -8,7 +8,7 @@ use Rattle.tds_play.specs.Pipe.{Pipe}
 use Rattle.tds_play.specs.Plays.{RefinesAct, RepresentsConnection, after, cut_where, outcome_of}
 use Rattle.tds_play.specs.declared.link.EventDone.{EventDone}
 use Rattle.tds_play.specs.declared.link.Link.{Link}
-use Rattle.tds_play.specs.declared.seat.Seat.{Seat}
+use Rattle.tds_play.specs.Seats.{Seat}
 
 pub does_so : {E S : Type 0} (number size : ℕ) (engine : E) (done : EventDone) (what : Outcome) (lost : Bool) (new : Link E S) (seat : Seat) (pipe : Option Pipe) (acted : Acted) (c : Connection)
     → done ≡ record { outcome = what; lost = lost } → what ≡ outcome_of acted

@@ -192,6 +192,11 @@ pub fails_numbered : (m n : ℕ) (calls : List Call) (lost : Bool) (pipes : ℕ 
 fails_numbered m n calls lost pipes is h = subst (λ (k : ℕ). Fails calls lost (pipes k)) is h
 
 -- A connection that hands bytes over, which it had counted under the number m, and k at the end.
+pub sent_so : (conn m : ℕ) (calls : List Call) (lost : Bool) (old mid : ℕ → Option Pipe)
+    → m ≡ conn → (Fails [] false (old m) → Fails calls lost (mid m))
+    → HasNoFailure (old conn) → Fails calls lost (mid conn)
+sent_so conn m calls lost old mid put hands fine = fails_numbered m conn calls lost mid put (hands (fails_numbered conn m [] false old (sym put) fine))
+
 pub sent_as : {E S : Type 0} (conn m k : ℕ) (calls : List Call) (done : EventDone) (lost : Bool) (new : Link E S) (old mid after : ℕ → Option Pipe)
     → m ≡ conn → k ≡ m
     → (Fails [] false (old m) → Fails calls lost (mid m))

@@ -19,10 +19,8 @@ use Rattle.tds_world.specs.Losses.{link_of, number_of}
 use Rattle.tds_world.specs.Pool.{Refuses, is_free, first_of, lowest_free, pool_count, to_lend, to_lend_by, gives_back_at, abandons_at}
 use Rattle.tds_world.specs.World.{World, Holding, numbered, next_number, there, uncut, uncut_in, held, not_cut}
 use Rattle.tds_world.specs.World as world
-use Rattle.tds_play.specs.declared.pool.Found.{Found}
-use Rattle.tds_play.specs.declared.pool.Found.TheVariants.{Missing, Here, Opens}
+use Rattle.tds_play.specs.Lending.{Found, Missing, Here, Opens, RefinesFound, lent, numbered_of}
 use Rattle.tds_play.specs.Holdings.{conn_in, conn_of}
-use Rattle.tds_play.specs.Lending.{RefinesFound, lent, numbered_of}
 use Rattle.tds_play.specs.Noted.{about_of, held_of}
 use Rattle.tds_play.specs.Plays.{IsReady, MayLose, acts_at, acts_on, held_by, holdings_of, on_cut}
 use Rattle.tds_play.proofs.Held.{conn_held}
@@ -97,16 +95,17 @@ uncut_held setup answers w e n why refused ready =
     (λ c is. ready n c is)
 
 -- An event that applies also where the connection is cut.
-here_held : (setup : Setup) (answers : Answers) (w : World) (e : Event) (n : ℕ) (why : Refusal) → ((m : ℕ) (c : Connection) → acts setup answers w e m c ≡ acts_on setup answers w e m c) → ((c : Connection) → IsReady e c) → HappensBy setup answers w e (numbered_of (length w.connections) n why) (happens_at setup answers e w (there why n (numbered w.connections n)))
+here_held : (setup : Setup) (answers : Answers) (w : World) (e : Event) (n : ℕ) (why : Refusal) → ((m : ℕ) (c : Connection) → acts setup answers w e m c ≡ acts_on setup answers w e m c) → ((m : ℕ) (c : Connection) → there why n (numbered w.connections n) ≡ world.Here m c → is_cut c.standing ≡ false → IsReady e c) → HappensBy setup answers w e (numbered_of (length w.connections) n why) (happens_at setup answers e w (there why n (numbered w.connections n)))
 here_held setup answers w e n why same ready =
-    by_number why (λ (m : ℕ) (o : Option Connection) (f : Found). HappensBy setup answers w e f (happens_at setup answers e w (there why m o))) w.connections n
-    refl (λ place. refl)
-    (λ place c at. record {
+    by_number why (λ (m : ℕ) (o : Option Connection) (f : Found). ((c : Connection) → there why m o ≡ world.Here m c → is_cut c.standing ≡ false → IsReady e c) → HappensBy setup answers w e f (happens_at setup answers e w (there why m o))) w.connections n
+    (λ r. refl) (λ place r. refl)
+    (λ place c at r. record {
       connection = c;
       there = at;
       settles = ap (settles e (suc place) w) (same (suc place) c);
-      ready = λ lives. ready c;
+      ready = λ lives. r c refl lives;
     })
+    (λ c is lives. ready n c is lives)
 
 -- What holds of a lease or ticket that is unknown or has ended, and of one that holds a connection.
 by_holding : (w : World) (why : Refusal) (P : Found → world.Found → Type 0) (o : Option Holding) → P (Missing why) (world.Missing why) → ((h : Holding) → held w why o ≡ there why h.conn (numbered w.connections h.conn) → P (numbered_of (length w.connections) h.conn why) (there why h.conn (numbered w.connections h.conn))) → P (held_of (length w.connections) (conn_in (option_map held_by o)) why) (held w why o)
@@ -138,11 +137,11 @@ ticket_happens setup answers w ticket ready =
     (by_holding w refusal.UnknownTicket (λ f g. HappensBy setup answers w (event.Resume ticket) f (happens_at setup answers (event.Resume ticket) w (not_cut g))) (numbered w.tickets ticket) refl
     (λ h is. uncut_held setup answers w (event.Resume ticket) h.conn refusal.UnknownTicket (λ c. refl) (λ m c z. ready.resume ticket m c (ap not_cut is ∙ z))))
 
-back_happens : (setup : Setup) (answers : Answers) (w : World) (e : Event) (hs : List Holding) (n : ℕ) (why : Refusal) → ((m : ℕ) (c : Connection) → acts setup answers w e m c ≡ acts_on setup answers w e m c) → ((c : Connection) → IsReady e c) → HappensBy setup answers w e (held_of (length (map (λ c. c.standing) w.connections)) (conn_of (holdings_of hs) n) why) (happens_at setup answers e w (held w why (numbered hs n)))
+back_happens : (setup : Setup) (answers : Answers) (w : World) (e : Event) (hs : List Holding) (n : ℕ) (why : Refusal) → ((m : ℕ) (c : Connection) → acts setup answers w e m c ≡ acts_on setup answers w e m c) → ((m : ℕ) (c : Connection) → held w why (numbered hs n) ≡ world.Here m c → is_cut c.standing ≡ false → IsReady e c) → HappensBy setup answers w e (held_of (length (map (λ c. c.standing) w.connections)) (conn_of (holdings_of hs) n) why) (happens_at setup answers e w (held w why (numbered hs n)))
 back_happens setup answers w e hs n why same ready =
     of_holdings w hs n why (λ f. HappensBy setup answers w e f (happens_at setup answers e w (held w why (numbered hs n))))
     (by_holding w why (λ f g. HappensBy setup answers w e f (happens_at setup answers e w g)) (numbered hs n) refl
-    (λ h is. here_held setup answers w e h.conn why same ready))
+    (λ h is. here_held setup answers w e h.conn why same (λ m c z lives. ready m c (is ∙ z) lives)))
 
 -- A lease is given back, or a ticket abandoned, also where the connection is cut.
 gives_back_on : (setup : Setup) (answers : Answers) (w : World) (lease m : ℕ) (c : Connection) → acts setup answers w (event.GiveBack lease) m c ≡ acts_on setup answers w (event.GiveBack lease) m c
@@ -310,10 +309,11 @@ happens_found setup answers w event.Lease alike ready one =
     lent_happens setup answers w (lent (map (λ c. c.standing) w.connections) setup.max) (to_lend setup w) refl alike ready
 happens_found setup answers w (event.Resume ticket) alike ready one = ticket_happens setup answers w ticket ready
 happens_found setup answers w (event.GiveBack lease) alike ready one =
-    back_happens setup answers w (event.GiveBack lease) w.leases lease refusal.UnknownLease (gives_back_on setup answers w lease) (λ c. tt)
+    back_happens setup answers w (event.GiveBack lease) w.leases lease refusal.UnknownLease (gives_back_on setup answers w lease) (λ m c z lives. tt)
 happens_found setup answers w (event.Keep lease) alike ready one = lease_happens setup answers w (event.Keep lease) lease (λ c. refl) (λ c. tt)
 happens_found setup answers w (event.Abandon ticket) alike ready one =
-    back_happens setup answers w (event.Abandon ticket) w.tickets ticket refusal.UnknownTicket (abandons_on setup answers w ticket) (λ c. tt)
+    back_happens setup answers w (event.Abandon ticket) w.tickets ticket refusal.UnknownTicket (abandons_on setup answers w ticket)
+    (λ m c z lives. ready.resume ticket m c (ap not_cut z ∙ uncut_is_here refusal.ConnectionCut m c lives))
 happens_found setup answers w (event.Ask lease q) alike ready one = lease_happens setup answers w (event.Ask lease q) lease (λ c. refl) (λ c. tt)
 happens_found setup answers w (event.Send lease) alike ready one = lease_happens setup answers w (event.Send lease) lease (λ c. refl) (λ c. tt)
 happens_found setup answers w (event.Cancel lease) alike ready one = lease_happens setup answers w (event.Cancel lease) lease (λ c. refl) (λ c. tt)

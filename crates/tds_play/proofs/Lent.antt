@@ -10,7 +10,7 @@ use Rattle.tds_world.specs.Pool.{is_free, first_of, lowest_free, pool_count, to_
 use Rattle.tds_world.specs.World.{World, numbered, next_number}
 use Rattle.tds_world.specs.World as model
 use Rattle.tds_world.specs.declared.outcome.Refusal.TheVariants.{AllInUse}
-use Rattle.tds_play.specs.declared.pool.Found.TheVariants as play
+use Rattle.tds_play.specs.Lending as play
 use Rattle.tds_play.specs.Lending.{RefinesFound, is_in_pool, lent, lent_by}
 
 -- ---- Places and counts of a list that stands for another one

@@ -11,14 +11,13 @@ use Rattle.tds_world.specs.Entries.{up_bytes, down_bytes}
 use Rattle.tds_world.specs.Phase.{status_of}
 use Rattle.tds_world.specs.Record as world
 use Rattle.tds_play.specs.declared.link.Link.{Link}
-use Rattle.tds_play.specs.declared.seat.Seat.{Seat}
+use Rattle.tds_play.specs.Seats.{Seat, drained, drained_at}
 use Rattle.tds_play.specs.declared.request.Record.{Record}
 use Rattle.tds_play.specs.Between.{RepresentsEnds}
 use Rattle.tds_ends.specs.Stays.{RefinesIdle}
 use Rattle.tds_ends.specs.Deliveries.{RefinesListens, status_under}
 use Rattle.tds_ends.specs.Feeding.{Listened}
 use Rattle.tds_play.specs.Lending.{standing_by}
-use Rattle.tds_play.specs.Seats.{drained, drained_at}
 use Rattle.tds_play.specs.Listening.{HasListened, IsToldSo, told_in}
 use Rattle.tds_play.specs.Pipe.{Pipe, traffic, brought_on, carried, next_of, IsOpen}
 use Rattle.tds_play.specs.Plays.{RepresentsConnection}

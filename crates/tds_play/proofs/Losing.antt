@@ -15,7 +15,7 @@ use Rattle.tds_play.specs.Plays.{RefinesAct, RepresentsConnection, after, count_
 use Rattle.tds_play.specs.Seen.{done_as}
 use Rattle.tds_play.specs.declared.link.EventDone.{EventDone}
 use Rattle.tds_play.specs.declared.link.Link.{Link}
-use Rattle.tds_play.specs.declared.seat.Seat.{Seat}
+use Rattle.tds_play.specs.Seats.{Seat}
 
 -- ---- Which event it was
 

@@ -2,6 +2,7 @@
 use Rattle.std.proofs.Common.{◌≡◌, ◌∙◌, ◌<◌, ◌≤◌, ◌+◌, ◌++◌, ℕ, suc, Bool, true, false, List, [], ◌∷◌, length, take, slice_index_or, Option, refl, sym, ap, subst, arith}
 use Rattle.std.proofs.lemmas.List.{take_all}
 use Rattle.std.specs.List.{AllByRecursion}
+use Rattle.tds_pool.specs.Connections.{connections}
 use Rattle.tds_session.specs.Answer.{Answers}
 use Rattle.tds_world.specs.declared.event.Event.{Event}
 use Rattle.tds_world.specs.declared.event.Setup.{Setup}
@@ -15,10 +16,11 @@ use Rattle.tds_play.specs.declared.link.EventDone.{EventDone}
 use Rattle.tds_play.specs.declared.player.Player.{Player}
 use Rattle.tds_play.specs.Failures.{FailNowhere, FailsOn, TellFailures, all_known}
 use Rattle.tds_play.specs.Pipe.{Pipe}
-use Rattle.tds_play.specs.Player.{RepresentsWorld}
+use Rattle.tds_play.specs.Player.{RepresentsWorld, all_of}
 use Rattle.tds_play.specs.Plays.{loss_of}
 use Rattle.tds_play.proofs.Accounts.{AreTold, known_fine, told_all, told_more}
 use Rattle.tds_play.proofs.AllPlayed.{as_many}
+use Rattle.tds_play.proofs.pooled.Seated.{seated_length}
 use Rattle.tds_play.proofs.Turns.{marked_one_more, one_taken, so_many}
 
 marks_lost : (b : Bool) (o : Outcome) → b ≡ is_lost (loss_by b o)
@@ -47,7 +49,7 @@ told_in_the_end setup answers engine es i player pipes so_far reports over same 
     let ps : marked (take i es) so_far ≡ marked es reports = ap (λ xs. marked xs so_far) (take_all i es over) ∙ ap (marked es) (sym same) in
     subst (λ (xs : List Played). TellFailures setup answers xs pipes) ps
     (told_all setup answers (marked (take i es) so_far) (length player.links.items) pipes
-    (as_many 1 setup.packet_size engine player.links.items pipes (world_with setup answers (marked (take i es) so_far) new_world).connections play.connections) told)
+    (sym (seated_length 1 player.links.items (connections player.pool)) ∙ as_many 1 setup.packet_size engine (all_of player) pipes (world_with setup answers (marked (take i es) so_far) new_world).connections play.connections) told)
 
 not_lost : (b : Bool) (o : Outcome) → loss_by b o ≡ Nothing → b ≡ false
 not_lost true o is = let bad : true ≡ false = ap is_lost is in absurd (cc)

@@ -11,14 +11,13 @@ use Rattle.tds_world.specs.Lane.{Lane, sent_bytes, come_bytes}
 use Rattle.tds_world.specs.Record as world
 use Rattle.tds_play.specs.Between.{IsLane}
 use Rattle.tds_play.specs.Lending.{standing_by}
-use Rattle.tds_play.specs.Seats.{seated}
+use Rattle.tds_play.specs.Seats.{Seat, seated}
 use Rattle.tds_play.specs.Pipe.{Pipe, Traffic, traffic, sent, sent_on, IsOpen}
 use Rattle.tds_play.specs.Plays.{RepresentsConnection}
 use Rattle.tds_play.specs.Requests.{AreOlder, IsNewest}
 use Rattle.tds_ends.specs.Stands.{MatchesClient, MatchesServer, Sends}
 use Rattle.tds_play.specs.Ties.{saturated, with_counted}
 use Rattle.tds_play.specs.declared.link.Link.{Link}
-use Rattle.tds_play.specs.declared.seat.Seat.{Seat}
 use Rattle.tds_play.specs.declared.request.Record.{Record}
 use Rattle.tds_play.proofs.Between.{lane_came, lane_sent}
 use Rattle.tds_play.proofs.ServerEvent.{sent_none, count_by}

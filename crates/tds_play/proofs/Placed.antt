@@ -13,7 +13,7 @@ use Rattle.tds_world.specs.Connection.{Connection, Standing, In, is_idle, phase}
 use Rattle.tds_world.specs.Phase.{Phase, Settled, Asked, Sending, Reading, Cancelling, is_settled}
 use Rattle.tds_world.specs.Pool.{Acted, is_full, keeps, keeps_by}
 use Rattle.tds_play.specs.Lending.{standing_by}
-use Rattle.tds_play.specs.Seats.{lent_as, placed_at, unless_kept, unless_kept_by}
+use Rattle.tds_play.specs.Seats.{Seat, lent_as, placed_at, unless_kept, unless_kept_by}
 use Rattle.tds_play.specs.Pipe.{Pipe}
 use Rattle.tds_play.specs.Plays.{RepresentsConnection, after, outcome_of}
 use Rattle.tds_play.specs.Seen.{done_as}
@@ -21,7 +21,6 @@ use Rattle.tds_ends.specs.Stands.{MatchesClient}
 use Rattle.tds_ends.specs.Stays.{RefinesIdle, PoolIsUnseen}
 use Rattle.tds_play.specs.declared.link.EventDone.{EventDone}
 use Rattle.tds_play.specs.declared.link.Link.{Link}
-use Rattle.tds_play.specs.declared.seat.Seat.{Seat}
 
 -- ---- Who waits
 

@@ -9,7 +9,7 @@ use Rattle.tds_world.specs.Entries.{Up, Part, End, Drop, Attention, up_bytes, do
 use Rattle.tds_world.specs.Lane.{passed, with_waiting}
 use Rattle.tds_play.specs.declared.link.EventDone.{EventDone}
 use Rattle.tds_play.specs.declared.link.Link.{Link}
-use Rattle.tds_play.specs.declared.seat.Seat.{Seat}
+use Rattle.tds_play.specs.Seats.{Seat}
 use Rattle.tds_play.specs.Between.{RepresentsEnds}
 use Rattle.tds_play.specs.Lending.{standing_by}
 use Rattle.tds_play.specs.Links.{recounted}

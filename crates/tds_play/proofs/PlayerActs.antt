@@ -21,12 +21,13 @@ use Rattle.tds_world.specs.Pool.{Acted, Refuses, Does, abandons_at, gives_back_a
 use Rattle.tds_world.specs.Record.{Record}
 use Rattle.tds_world.specs.World.{World, next_number, put, put_numbered}
 use Rattle.tds_play.specs.declared.link.EventDone.{EventDone}
-use Rattle.tds_play.specs.declared.seat.Seated.{Seated}
+use Rattle.tds_play.specs.Seats.{Seated}
 use Rattle.tds_play.specs.declared.player.Player.{Player}
 use Rattle.tds_play.specs.Lending.{standing_by}
 use Rattle.tds_play.specs.Noted.{asked_after, leases_after, tickets_after}
 use Rattle.tds_play.specs.Pipe.{Pipe, AreSame}
-use Rattle.tds_play.specs.Player.{RefinesEvent, IsFound, RepresentsWorld}
+use Rattle.tds_play.specs.Player.{RefinesEvent, IsFound, RepresentsWorld, all_of}
+use Rattle.tds_play.specs.Steps.{HoldsAs, HoldsBehind, SameSetup}
 use Rattle.tds_ends.specs.ModelGives.{IsCountable}
 use Rattle.tds_play.specs.Plays.{RepresentConnections, RefinesAct, RepresentsConnection, IsReady, MayLose, acts_at, acts_on, after, cut_where, holdings_of, loss_of, outcome_of}
 use Rattle.tds_play.proofs.AllCut.{played_there, put_changed}
@@ -135,15 +136,15 @@ pub record RefinesActs {E S : Type 0} (size : ℕ) (engine : E) (place : ℕ) (c
   pub all : RepresentConnections 1 size engine ls pipes (put place (cut_where done.lost (after acted c)) cs)
 
 pub acts_alike : {E S : Type 0} (setup : Setup) (engine : E) (answers : Answers) (w : World) (e : Event) (place : ℕ) (c : Connection) (player : Player E S) (pipes pipes' : ℕ → Option Pipe) (x y : Seated E S) (done : EventDone)
-    → RepresentsWorld setup engine player pipes w → x ≡ get_or player.links.items place x → place < length player.links.items
+    → RepresentsWorld setup engine player pipes w → x ≡ get_or (all_of player) place x → place < length (all_of player)
     → AreSame pipes pipes' x.link.number → IsFound setup answers w e place c
     → ((k : ℕ) → OfEachConnection IsCountable (happens setup answers (bringing k e) w).1)
     → (RepresentsConnection x.link.number setup.packet_size engine x.link x.seat (pipes x.link.number) c
     → ((k : ℕ) → IsCountable (after (acts_on setup answers w (bringing k e) x.link.number c) c)) → (x.link.is_cut ≡ false → IsReady e c)
     → RefinesAct x.link.number setup.packet_size engine done y.link y.seat (pipes' x.link.number) (acts_on setup answers w (met (loss_of done) e) x.link.number c) c)
-    → RefinesActs setup.packet_size engine place c w.connections (acts_on setup answers w (met (loss_of done) e) (suc place) c) done (set player.links.items place y) pipes'
+    → RefinesActs setup.packet_size engine place c w.connections (acts_on setup answers w (met (loss_of done) e) (suc place) c) done (set (all_of player) place y) pipes'
 acts_alike {E} {S} setup engine answers w e place c player pipes pipes' x y done is link_is less same_others found countable act =
-    let played : RepresentsConnection (suc place) setup.packet_size engine x.link x.seat (pipes (suc place)) c = played_there setup.packet_size engine player.links.items pipes w.connections place x c link_is is.connections found.there in
+    let played : RepresentsConnection (suc place) setup.packet_size engine x.link x.seat (pipes (suc place)) c = played_there setup.packet_size engine (all_of player) pipes w.connections place x c link_is is.connections found.there in
     let number : x.link.number ≡ suc place = played.numbered in
     let m : Event = met (loss_of done) e in
     let counts : (k : ℕ) → IsCountable (after (acts_on setup answers w (bringing k e) x.link.number c) c) = (λ k.
@@ -154,17 +155,17 @@ acts_alike {E} {S} setup engine answers w e place c player pipes pipes' x y done
     record {
       same = subst (λ (n : ℕ). done.outcome ≡ outcome_of (acts_on setup answers w m n c)) number
           (act (subst (λ (n : ℕ). RepresentsConnection n setup.packet_size engine x.link x.seat (pipes n) c) (sym number) played) counts is_ready).outcome;
-      all = subst (λ (n : ℕ). RepresentConnections 1 setup.packet_size engine (set player.links.items place y) pipes' (put place (cut_where done.lost (after (acts_on setup answers w m n c) c)) w.connections)) number
-          (put_changed setup.packet_size engine player.links.items pipes pipes' w.connections place x y c (cut_where done.lost (after (acts_on setup answers w m x.link.number c) c)) link_is less same_others found.there is.connections
+      all = subst (λ (n : ℕ). RepresentConnections 1 setup.packet_size engine (set (all_of player) place y) pipes' (put place (cut_where done.lost (after (acts_on setup answers w m n c) c)) w.connections)) number
+          (put_changed setup.packet_size engine (all_of player) pipes pipes' w.connections place x y c (cut_where done.lost (after (acts_on setup answers w m x.link.number c) c)) link_is less same_others found.there is.connections
           (λ p. (act p counts is_ready).played));
     }
 
 -- An event that may be lost uses the link of the connection at this place.
 pub lost_there : {E S : Type 0} (setup : Setup) (engine : E) (answers : Answers) (w : World) (e : Event) (place : ℕ) (c : Connection) (player : Player E S) (pipes : ℕ → Option Pipe) (x : Seated E S) (lost : Bool)
-    → RepresentsWorld setup engine player pipes w → x ≡ get_or player.links.items place x → IsFound setup answers w e place c
+    → RepresentsWorld setup engine player pipes w → x ≡ get_or (all_of player) place x → IsFound setup answers w e place c
     → (lost ≡ true → MayLose x.link.is_cut e) → lost ≡ true → link_of setup w e ≡ Some (suc place)
 lost_there setup engine answers w e place c player pipes x lost is link_is found loses failed =
-    let played : RepresentsConnection (suc place) setup.packet_size engine x.link x.seat (pipes (suc place)) c = played_there setup.packet_size engine player.links.items pipes w.connections place x c link_is is.connections found.there in
+    let played : RepresentsConnection (suc place) setup.packet_size engine x.link x.seat (pipes (suc place)) c = played_there setup.packet_size engine (all_of player) pipes w.connections place x c link_is is.connections found.there in
     found.link (subst (λ (b : Bool). MayLose b e) (stands_cut x.link.is_cut x.seat.place c.standing played.standing) (loses failed))
 
 -- What an event came to and what the world is then, by what it came to on its connection.
@@ -203,10 +204,10 @@ noted_met (Failed k) event.RestartClient n heard w = refl
 pub refused_alike : {E S : Type 0} (setup : Setup) (engine : E) (answers : Answers) (w : World) (e : Event) (place : ℕ) (c : Connection) (player new : Player E S) (pipes pipes' : ℕ → Option Pipe) (done : EventDone) (why : Refusal)
     → RepresentsWorld setup engine player pipes w → IsFound setup answers w e place c
     → (done.lost ≡ true → link_of setup w e ≡ Some (suc place))
-    → RefinesActs setup.packet_size engine place c w.connections (acts_on setup answers w (met (loss_of done) e) (suc place) c) done new.links.items pipes'
-    → new ≡ record player { links = new.links } → done.outcome ≡ outcome.Refused why
+    → RefinesActs setup.packet_size engine place c w.connections (acts_on setup answers w (met (loss_of done) e) (suc place) c) done (all_of new) pipes'
+    → SameSetup player new → HoldsAs player new → done.outcome ≡ outcome.Refused why
     → RefinesEvent setup engine answers done new pipes' e w
-refused_alike {E} {S} setup engine answers w e place c player new pipes pipes' done why is found link acts rest refused =
+refused_alike setup engine answers w e place c player new pipes pipes' done why is found link acts kept holds refused =
     let m : Event = met (loss_of done) e in
     let acted : Acted = acts_on setup answers w m (suc place) c in
     let moved : IsMoved (world_then setup answers w (record { event = e; loss = loss_of done })) (settles m (suc place) w acted).1 (put place (cut_where done.lost (after acted c)) w.connections) =
@@ -215,26 +216,26 @@ refused_alike {E} {S} setup engine answers w e place c player new pipes pipes' d
     record {
       outcome = acts.same ∙ settled_outcome m (suc place) w acted ∙ sym (ap (λ (next : Outcome × World). next.0) (found.settles (loss_of done)));
       then = record {
-        connections = subst (RepresentConnections 1 setup.packet_size engine new.links.items pipes') (sym moved.connections) acts.all;
-        leases = ap (λ (p : Player E S). p.leases) rest ∙ is.leases ∙ ap (λ (x : World). holdings_of x.leases) (sym same) ∙ ap holdings_of (sym moved.leases);
-        tickets = ap (λ (p : Player E S). p.tickets) rest ∙ is.tickets ∙ ap (λ (x : World). holdings_of x.tickets) (sym same) ∙ ap holdings_of (sym moved.tickets);
-        asked = ap (λ (p : Player E S). p.asked_on.items) rest ∙ is.asked ∙ ap (λ (x : World). x.asked_on) (sym same) ∙ sym moved.asked;
-        engine_is = ap (λ (p : Player E S). p.engine) rest ∙ is.engine_is;
-        max = ap (λ (p : Player E S). p.max) rest ∙ is.max;
-        size = ap (λ (p : Player E S). p.size) rest ∙ is.size;
-        told = ap (λ (p : Player E S). p.on_attention) rest ∙ is.told;
+        connections = subst (RepresentConnections 1 setup.packet_size engine (all_of new) pipes') (sym moved.connections) acts.all;
+        leases = holds.leases_are ∙ is.leases ∙ ap (λ (x : World). holdings_of x.leases) (sym same) ∙ ap holdings_of (sym moved.leases);
+        tickets = holds.tickets_are ∙ is.tickets ∙ ap (λ (x : World). holdings_of x.tickets) (sym same) ∙ ap holdings_of (sym moved.tickets);
+        asked = holds.asked_are ∙ is.asked ∙ ap (λ (x : World). x.asked_on) (sym same) ∙ sym moved.asked;
+        engine_is = kept.engine_is ∙ is.engine_is;
+        max = kept.max_is ∙ is.max;
+        size = kept.size_is ∙ is.size;
+        told = kept.told_is ∙ is.told;
       };
     }
 
 -- One that applied is.
-pub noted_alike : {E S : Type 0} (setup : Setup) (engine : E) (answers : Answers) (w : World) (e : Event) (place n : ℕ) (c : Connection) (player new : Player E S) (pipes pipes' : ℕ → Option Pipe) (done : EventDone)
-    → RepresentsWorld setup engine player pipes w → IsFound setup answers w e place c → n ≡ suc place
+pub noted_alike : {E S : Type 0} (setup : Setup) (engine : E) (answers : Answers) (w : World) (e : Event) (place : ℕ) (c : Connection) (player new : Player E S) (pipes pipes' : ℕ → Option Pipe) (done : EventDone)
+    → RepresentsWorld setup engine player pipes w → IsFound setup answers w e place c
     → (done.lost ≡ true → link_of setup w e ≡ Some (suc place))
-    → RefinesActs setup.packet_size engine place c w.connections (acts_on setup answers w (met (loss_of done) e) (suc place) c) done new.links.items pipes'
-    → new.engine ≡ player.engine → new.max ≡ player.max → new.size ≡ player.size → new.on_attention ≡ player.on_attention → new.leases ≡ leases_after e n player.leases → new.tickets ≡ tickets_after e n player.tickets → new.asked_on.items ≡ asked_after e n player.asked_on.items
+    → RefinesActs setup.packet_size engine place c w.connections (acts_on setup answers w (met (loss_of done) e) (suc place) c) done (all_of new) pipes'
+    → SameSetup player new → HoldsBehind e (suc place) player new
     → ((why : Refusal) → done.outcome ≡ outcome.Refused why → ⊥)
     → RefinesEvent setup engine answers done new pipes' e w
-noted_alike setup engine answers w e place n c player new pipes pipes' done is found number link acts engine_same max_same size_same told_same leases tickets asked applied =
+noted_alike setup engine answers w e place c player new pipes pipes' done is found link acts kept holds applied =
     let l : Loss = loss_of done in
     let m : Event = met l e in
     let acted : Acted = acts_on setup answers w m (suc place) c in
@@ -244,31 +245,28 @@ noted_alike setup engine answers w e place n c player new pipes pipes' done is f
     record {
       outcome = acts.same ∙ settled_outcome m (suc place) w acted ∙ sym (ap (λ (next : Outcome × World). next.0) (found.settles l));
       then = record {
-        connections = subst (RepresentConnections 1 setup.packet_size engine new.links.items pipes') (sym moved.connections) acts.all;
+        connections = subst (RepresentConnections 1 setup.packet_size engine (all_of new) pipes') (sym moved.connections) acts.all;
         leases =
-            leases
-            ∙ ap (λ (x : ℕ). leases_after e x player.leases) number
+            holds.leases_are
             ∙ ap (leases_after e (suc place)) is.leases
             ∙ applied_notes (λ x. holdings_of x.leases) m (suc place) w acted (leases_after e (suc place) (holdings_of w.leases)) does
             (λ heard cs. leases_noted e (suc place) heard (record w { connections = cs }) ∙ ap (λ (x : World). holdings_of x.leases) (noted_met l e (suc place) heard (record w { connections = cs })))
             ∙ ap holdings_of (sym moved.leases);
         tickets =
-            tickets
-            ∙ ap (λ (x : ℕ). tickets_after e x player.tickets) number
+            holds.tickets_are
             ∙ ap (tickets_after e (suc place)) is.tickets
             ∙ applied_notes (λ x. holdings_of x.tickets) m (suc place) w acted (tickets_after e (suc place) (holdings_of w.tickets)) does
             (λ heard cs. tickets_noted e (suc place) heard (record w { connections = cs }) ∙ ap (λ (x : World). holdings_of x.tickets) (noted_met l e (suc place) heard (record w { connections = cs })))
             ∙ ap holdings_of (sym moved.tickets);
         asked =
-            asked
-            ∙ ap (λ (x : ℕ). asked_after e x player.asked_on.items) number
+            holds.asked_are
             ∙ ap (asked_after e (suc place)) is.asked
             ∙ applied_notes (λ x. x.asked_on) m (suc place) w acted (asked_after e (suc place) w.asked_on) does
             (λ heard cs. asked_noted e (suc place) heard (record w { connections = cs }) ∙ ap (λ (x : World). x.asked_on) (noted_met l e (suc place) heard (record w { connections = cs })))
             ∙ sym moved.asked;
-        engine_is = engine_same ∙ is.engine_is;
-        max = max_same ∙ is.max;
-        size = size_same ∙ is.size;
-        told = told_same ∙ is.told;
+        engine_is = kept.engine_is ∙ is.engine_is;
+        max = kept.max_is ∙ is.max;
+        size = kept.size_is ∙ is.size;
+        told = kept.told_is ∙ is.told;
       };
     }

@@ -13,15 +13,15 @@ use Rattle.tds_world.specs.Lending.{LendsIdle}
 use Rattle.tds_world.specs.Losses.{Loss, Nothing, Failed, bringing, met}
 use Rattle.tds_world.specs.World.{World}
 use Rattle.tds_play.specs.declared.link.EventDone.{EventDone}
-use Rattle.tds_play.specs.declared.seat.Seated.{Seated}
+use Rattle.tds_play.specs.Seats.{Seated}
 use Rattle.tds_play.specs.declared.player.Player.{Player}
-use Rattle.tds_play.specs.declared.pool.Found.{Found}
-use Rattle.tds_play.specs.declared.pool.Found.TheVariants.{Here}
+use Rattle.tds_play.specs.Lending.{Found, Here, standing_of}
 use Rattle.tds_play.specs.Holdings.{all_ended}
-use Rattle.tds_play.specs.Lending.{standing_of}
 use Rattle.tds_play.specs.Noted.{about_of}
 use Rattle.tds_play.specs.Pipe.{Pipe}
-use Rattle.tds_play.specs.Player.{RefinesEvent, IsFound, RepresentsWorld}
+use Rattle.tds_play.specs.Player.{RefinesEvent, IsFound, RepresentsWorld, all_of}
+use Rattle.tds_play.specs.Pooled.{numbers_kept, numbers_leased}
+use Rattle.tds_play.specs.Steps.{HoldsAs, HoldsBy, SameSetup}
 use Rattle.tds_play.specs.Plays.{RepresentConnections, acts_on, holdings_of}
 use Rattle.tds_play.specs.Seen.{done_as}
 use Rattle.tds_play.proofs.AllPlayed.{same_standings}
@@ -48,16 +48,16 @@ about_one event.RestartClient server client = client refl
 
 -- What the player's lists say of it and what the world's do.
 about_world : {E S : Type 0} (setup : Setup) (engine : E) (w : World) (e : Event) (player : Player E S) (pipes : ℕ → Option Pipe) → RepresentsWorld setup engine player pipes w
-    → about_of e (map standing_of player.links.items) player.max player.leases player.tickets ≡ about_of e (map (λ c. c.standing) w.connections) setup.max (holdings_of w.leases) (holdings_of w.tickets)
+    → about_of e (map standing_of (all_of player)) player.max (numbers_leased player.leases) (numbers_kept player.tickets) ≡ about_of e (map (λ c. c.standing) w.connections) setup.max (holdings_of w.leases) (holdings_of w.tickets)
 about_world setup engine w e player pipes is =
-    let standings : map standing_of player.links.items ≡ map (λ c. c.standing) w.connections = same_standings 1 setup.packet_size engine player.links.items pipes w.connections is.connections in
-    ap (λ (ss : List Standing). about_of e ss player.max player.leases player.tickets) standings
-    ∙ ap (λ (max : ℕ). about_of e (map (λ c. c.standing) w.connections) max player.leases player.tickets) is.max
-    ∙ ap (λ (leases : List (Option ℕ)). about_of e (map (λ c. c.standing) w.connections) setup.max leases player.tickets) is.leases
+    let standings : map standing_of (all_of player) ≡ map (λ c. c.standing) w.connections = same_standings 1 setup.packet_size engine (all_of player) pipes w.connections is.connections in
+    ap (λ (ss : List Standing). about_of e ss player.max (numbers_leased player.leases) (numbers_kept player.tickets)) standings
+    ∙ ap (λ (max : ℕ). about_of e (map (λ c. c.standing) w.connections) max (numbers_leased player.leases) (numbers_kept player.tickets)) is.max
+    ∙ ap (λ (leases : List (Option ℕ)). about_of e (map (λ c. c.standing) w.connections) setup.max leases (numbers_kept player.tickets)) is.leases
     ∙ ap (λ (tickets : List (Option ℕ)). about_of e (map (λ c. c.standing) w.connections) setup.max (holdings_of w.leases) tickets) is.tickets
 
 -- What the model makes of an event, by what the player found.
-pub found_alike : {E S : Type 0} (setup : Setup) (engine : E) (answers : Answers) (w : World) (e : Event) (player : Player E S) (pipes : ℕ → Option Pipe) (f : Found) → RepresentsWorld setup engine player pipes w → LendsIdle setup w → IsAboutOne e → f ≡ about_of e (map standing_of player.links.items) player.max player.leases player.tickets → HappensBy setup answers w e f (happens setup answers e w)
+pub found_alike : {E S : Type 0} (setup : Setup) (engine : E) (answers : Answers) (w : World) (e : Event) (player : Player E S) (pipes : ℕ → Option Pipe) (f : Found) → RepresentsWorld setup engine player pipes w → LendsIdle setup w → IsAboutOne e → f ≡ about_of e (map standing_of (all_of player)) player.max (numbers_leased player.leases) (numbers_kept player.tickets) → HappensBy setup answers w e f (happens setup answers e w)
 found_alike setup engine answers w e player pipes f is idle one found =
     let same : f ≡ about_of e (map (λ c. c.standing) w.connections) setup.max (holdings_of w.leases) (holdings_of w.tickets) =
     found ∙ about_world setup engine w e player pipes is in
@@ -75,36 +75,36 @@ missing_alike setup engine answers w e player pipes done why is refused same =
     })
 
 -- The server is restarted: every connection is cut.
-pub server_restarts : {E S : Type 0} (setup : Setup) (engine : E) (answers : Answers) (w : World) (e : Event) (player new : Player E S) (pipes pipes' : ℕ → Option Pipe) → e ≡ event.RestartServer → RepresentsWorld setup engine player pipes w → RepresentConnections 1 setup.packet_size engine new.links.items pipes' (map cut w.connections) → new ≡ record player { links = new.links } → RefinesEvent setup engine answers (done_as outcome.RestartedServer) new pipes' e w
-server_restarts {E} {S} setup engine answers w e player new pipes pipes' same is all rest =
+pub server_restarts : {E S : Type 0} (setup : Setup) (engine : E) (answers : Answers) (w : World) (e : Event) (player new : Player E S) (pipes pipes' : ℕ → Option Pipe) → e ≡ event.RestartServer → RepresentsWorld setup engine player pipes w → RepresentConnections 1 setup.packet_size engine (all_of new) pipes' (map cut w.connections) → SameSetup player new → HoldsAs player new → RefinesEvent setup engine answers (done_as outcome.RestartedServer) new pipes' e w
+server_restarts setup engine answers w e player new pipes pipes' same is all kept holds =
     subst (λ (f : Event). RefinesEvent setup engine answers (done_as outcome.RestartedServer) new pipes' f w) (sym same) (record {
       outcome = refl;
       then = record {
         connections = all;
-        leases = ap (λ (p : Player E S). p.leases) rest ∙ is.leases;
-        tickets = ap (λ (p : Player E S). p.tickets) rest ∙ is.tickets;
-        asked = ap (λ (p : Player E S). p.asked_on.items) rest ∙ is.asked;
-        engine_is = ap (λ (p : Player E S). p.engine) rest ∙ is.engine_is;
-        max = ap (λ (p : Player E S). p.max) rest ∙ is.max;
-        size = ap (λ (p : Player E S). p.size) rest ∙ is.size;
-        told = ap (λ (p : Player E S). p.on_attention) rest ∙ is.told;
+        leases = holds.leases_are ∙ is.leases;
+        tickets = holds.tickets_are ∙ is.tickets;
+        asked = holds.asked_are ∙ is.asked;
+        engine_is = kept.engine_is ∙ is.engine_is;
+        max = kept.max_is ∙ is.max;
+        size = kept.size_is ∙ is.size;
+        told = kept.told_is ∙ is.told;
       };
     })
 
 -- The client is restarted: every lease and ticket ends too.
-pub client_restarts : {E S : Type 0} (setup : Setup) (engine : E) (answers : Answers) (w : World) (e : Event) (player cuts new : Player E S) (pipes pipes' : ℕ → Option Pipe) → e ≡ event.RestartClient → RepresentsWorld setup engine player pipes w → RepresentConnections 1 setup.packet_size engine cuts.links.items pipes' (map cut w.connections) → cuts ≡ record player { links = cuts.links } → new ≡ record cuts { leases = new.leases; tickets = new.tickets } → new.leases ≡ all_ended cuts.leases → new.tickets ≡ all_ended cuts.tickets → RefinesEvent setup engine answers (done_as outcome.RestartedClient) new pipes' e w
-client_restarts {E} {S} setup engine answers w e player cuts new pipes pipes' same is all rest ends leases tickets =
+pub client_restarts : {E S : Type 0} (setup : Setup) (engine : E) (answers : Answers) (w : World) (e : Event) (player new : Player E S) (pipes pipes' : ℕ → Option Pipe) → e ≡ event.RestartClient → RepresentsWorld setup engine player pipes w → RepresentConnections 1 setup.packet_size engine (all_of new) pipes' (map cut w.connections) → SameSetup player new → HoldsBy new (all_ended (numbers_leased player.leases)) (all_ended (numbers_kept player.tickets)) player.asked_on.items → RefinesEvent setup engine answers (done_as outcome.RestartedClient) new pipes' e w
+client_restarts setup engine answers w e player new pipes pipes' same is all kept holds =
     subst (λ (f : Event). RefinesEvent setup engine answers (done_as outcome.RestartedClient) new pipes' f w) (sym same) (record {
       outcome = refl;
       then = record {
-        connections = subst (λ (ls : List (Seated E S)). RepresentConnections 1 setup.packet_size engine ls pipes' (map cut w.connections)) (sym (ap (λ (p : Player E S). p.links.items) ends)) all;
-        leases = leases ∙ ap (λ (p : Player E S). all_ended p.leases) rest ∙ ap all_ended is.leases ∙ all_held w.leases;
-        tickets = tickets ∙ ap (λ (p : Player E S). all_ended p.tickets) rest ∙ ap all_ended is.tickets ∙ all_held w.tickets;
-        asked = ap (λ (p : Player E S). p.asked_on.items) ends ∙ ap (λ (p : Player E S). p.asked_on.items) rest ∙ is.asked;
-        engine_is = ap (λ (p : Player E S). p.engine) ends ∙ ap (λ (p : Player E S). p.engine) rest ∙ is.engine_is;
-        max = ap (λ (p : Player E S). p.max) ends ∙ ap (λ (p : Player E S). p.max) rest ∙ is.max;
-        size = ap (λ (p : Player E S). p.size) ends ∙ ap (λ (p : Player E S). p.size) rest ∙ is.size;
-        told = ap (λ (p : Player E S). p.on_attention) ends ∙ ap (λ (p : Player E S). p.on_attention) rest ∙ is.told;
+        connections = all;
+        leases = holds.leases_are ∙ ap all_ended is.leases ∙ all_held w.leases;
+        tickets = holds.tickets_are ∙ ap all_ended is.tickets ∙ all_held w.tickets;
+        asked = holds.asked_are ∙ is.asked;
+        engine_is = kept.engine_is ∙ is.engine_is;
+        max = kept.max_is ∙ is.max;
+        size = kept.size_is ∙ is.size;
+        told = kept.told_is ∙ is.told;
       };
     })
 
@@ -163,12 +163,12 @@ pub record FoundHere (setup : Setup) (answers : Answers) (w : World) (e : Event)
 
 pub found_here : {E S : Type 0} (setup : Setup) (engine : E) (answers : Answers) (w : World) (e : Event) (player : Player E S) (pipes : ℕ → Option Pipe) (place : ℕ)
     → RepresentsWorld setup engine player pipes w → LendsIdle setup w → IsAboutOne e
-    → Here place ≡ about_of e (map standing_of player.links.items) player.max player.leases player.tickets
+    → Here place ≡ about_of e (map standing_of (all_of player)) player.max (numbers_leased player.leases) (numbers_kept player.tickets)
     → FoundHere setup answers w e place
 found_here setup engine answers w e player pipes place is idle one found =
     let by : (l : Loss) → Settles setup answers w (met l e) place (happens setup answers (met l e) w) = (λ l.
     found_alike setup engine answers w (met l e) player pipes (Here place) is idle (one_met l e one)
-    (found ∙ sym (about_met l e (map standing_of player.links.items) player.max player.leases player.tickets))) in
+    (found ∙ sym (about_met l e (map standing_of (all_of player)) player.max (numbers_leased player.leases) (numbers_kept player.tickets)))) in
     let here : Settles setup answers w e place (happens setup answers e w) = by Nothing in
     let c : Connection = here.connection in
     record {

@@ -12,10 +12,12 @@ use Rattle.tds_world.specs.Events.{settles}
 use Rattle.tds_world.specs.Losses.{loss_by, world_then}
 use Rattle.tds_world.specs.Pool.{opens, to_lend}
 use Rattle.tds_world.specs.World.{World, Opens, next_number, put}
-use Rattle.tds_play.specs.declared.seat.Seated.{Seated}
+use Rattle.tds_play.specs.Seats.{Seated}
 use Rattle.tds_play.specs.declared.player.Player.{Player}
 use Rattle.tds_play.specs.Pipe.{Pipe, AreSame}
-use Rattle.tds_play.specs.Player.{RefinesEvent, RepresentsWorld}
+use Rattle.tds_play.specs.Player.{RefinesEvent, RepresentsWorld, all_of}
+use Rattle.tds_play.specs.Pooled.{numbers_kept, numbers_leased}
+use Rattle.tds_play.specs.Steps.{HoldsBy, SameSetup}
 use Rattle.tds_play.specs.Plays.{RepresentConnections, RepresentsConnection, cut_where, holdings_of}
 use Rattle.tds_play.proofs.AllPlayed.{push_played}
 use Rattle.tds_play.proofs.Held.{given_held}
@@ -26,10 +28,10 @@ pub opens_alike : {E S : Type 0} (setup : Setup) (engine : E) (answers : Answers
     → RepresentsWorld setup engine player pipes w → to_lend setup w ≡ Opens (next_number w.connections)
     → lease ≡ next_number w.leases → conn ≡ next_number w.connections
     → RepresentsConnection conn player.size player.engine x.link x.seat (pipes' conn) (cut_where lost (new_connection player.on_attention (Leased lease)))
-    → AreSame pipes pipes' conn → new.links.items ≡ player.links.items ++ x ∷ [] → new.leases ≡ player.leases ++ Some conn ∷ []
-    → new ≡ record player { links = new.links; leases = new.leases }
+    → AreSame pipes pipes' conn → all_of new ≡ all_of player ++ x ∷ []
+    → SameSetup player new → HoldsBy new (numbers_leased player.leases ++ Some conn ∷ []) (numbers_kept player.tickets) player.asked_on.items
     → RefinesEvent setup engine answers (record { outcome = outcome.Leased lease conn opened.New; lost = lost }) new pipes' event.Lease w
-opens_alike {E} {S} setup engine answers w player new pipes pipes' x lease conn lost is lends at_lease at_conn played same links leases rest =
+opens_alike {E} {S} setup engine answers w player new pipes pipes' x lease conn lost is lends at_lease at_conn played same links kept holds =
     let cs : List Connection = w.connections in
     let n : ℕ = next_number cs in
     let fresh : Connection = cut_where lost (new_connection setup.on_attention (Leased (next_number w.leases))) in
@@ -49,20 +51,20 @@ opens_alike {E} {S} setup engine answers w player new pipes pipes' x lease conn 
           ∙ sym (opened_outcome setup answers w lost said lends);
       then = record {
         connections =
-            subst (RepresentConnections 1 setup.packet_size engine new.links.items pipes') (sym moved.connections)
+            subst (RepresentConnections 1 setup.packet_size engine (all_of new) pipes') (sym moved.connections)
             (subst (λ (ls : List (Seated E S)). RepresentConnections 1 setup.packet_size engine ls pipes' (put (length cs) fresh cs)) (sym links)
-            (push_played 1 conn setup.packet_size engine player.links.items pipes pipes' cs x fresh is.connections (omega (arith, at_conn)) same as_new));
+            (push_played 1 conn setup.packet_size engine (all_of player) pipes pipes' cs x fresh is.connections (omega (arith, at_conn)) same as_new));
         leases =
-            leases
+            holds.leases_are
             ∙ ap (λ (hs : List (Option ℕ)). hs ++ Some conn ∷ []) is.leases
             ∙ ap (λ (k : ℕ). holdings_of w.leases ++ Some k ∷ []) at_conn
             ∙ given_held w.leases n 0 None
             ∙ ap holdings_of (sym moved.leases);
-        tickets = ap (λ (p : Player E S). p.tickets) rest ∙ is.tickets ∙ ap holdings_of (sym moved.tickets);
-        asked = ap (λ (p : Player E S). p.asked_on.items) rest ∙ is.asked ∙ sym moved.asked;
-        engine_is = ap (λ (p : Player E S). p.engine) rest ∙ is.engine_is;
-        max = ap (λ (p : Player E S). p.max) rest ∙ is.max;
-        size = ap (λ (p : Player E S). p.size) rest ∙ is.size;
-        told = ap (λ (p : Player E S). p.on_attention) rest ∙ is.told;
+        tickets = holds.tickets_are ∙ is.tickets ∙ ap holdings_of (sym moved.tickets);
+        asked = holds.asked_are ∙ is.asked ∙ sym moved.asked;
+        engine_is = kept.engine_is ∙ is.engine_is;
+        max = kept.max_is ∙ is.max;
+        size = kept.size_is ∙ is.size;
+        told = kept.told_is ∙ is.told;
       };
     }

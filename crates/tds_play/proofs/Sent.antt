@@ -24,12 +24,11 @@ use Rattle.tds_world.specs.Record as world
 use Rattle.tds_ends.specs.Refines.{RefinesSend, send_outcome}
 use Rattle.tds_play.specs.Lending.{standing_by}
 use Rattle.tds_play.specs.Pipe.{Pipe}
-use Rattle.tds_play.specs.Seats.{seated}
+use Rattle.tds_play.specs.Seats.{Seat, seated}
 use Rattle.tds_play.specs.Plays.{RepresentsConnection, after, outcome_of}
 use Rattle.tds_play.specs.Requests.{IsNewest}
 use Rattle.tds_ends.specs.Stands.{is_sending, MatchesServer}
 use Rattle.tds_play.specs.declared.link.Link.{Link}
-use Rattle.tds_play.specs.declared.seat.Seat.{Seat}
 use Rattle.tds_play.specs.declared.request.Record.{Record}
 use Rattle.tds_play.proofs.Outward.{HandedUp, SentMore, sent_played}
 

@@ -17,7 +17,7 @@ use Rattle.tds_ends.specs.Stands.{MatchesServer}
 use Rattle.tds_ends.specs.Stays.{ClientStays}
 use Rattle.tds_play.specs.Ties.{saturated, counted, with_counted}
 use Rattle.tds_play.specs.declared.link.Link.{Link}
-use Rattle.tds_play.specs.declared.seat.Seat.{Seat}
+use Rattle.tds_play.specs.Seats.{Seat}
 use Rattle.tds_play.proofs.Between.{offered_front, lane_delivered, lane_sent, lane_stuck}
 
 -- ---- What comes is served

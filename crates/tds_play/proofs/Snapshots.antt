@@ -18,8 +18,7 @@ use Rattle.tds_play.specs.Plays.{RepresentsConnection, RepresentsLive, Represent
 use Rattle.tds_play.specs.Seen.{view_of, snapshot_as, seen_by, seen_in, seen_of}
 use Rattle.tds_ends.specs.Stands.{stage_by, stage_in}
 use Rattle.tds_play.specs.declared.link.Link.{Link}
-use Rattle.tds_play.specs.declared.seat.Seat.{Seat}
-use Rattle.tds_play.specs.declared.seat.Seated.{Seated}
+use Rattle.tds_play.specs.Seats.{Seat, Seated}
 
 -- ---- One more of a list
 

@@ -26,12 +26,11 @@ use Rattle.tds_world.specs.Observed.{observed, snapshots, request_reports, bytes
 use Rattle.tds_world.specs.World.{World, new_world, numbered}
 use Rattle.tds_play.specs.declared.link.EventDone.{EventDone}
 use Rattle.tds_play.specs.declared.link.Link.{Link}
-use Rattle.tds_play.specs.declared.seat.Seat.{Seat}
-use Rattle.tds_play.specs.declared.seat.Seated.{Seated}
+use Rattle.tds_play.specs.Seats.{Seat, Seated}
 use Rattle.tds_play.specs.declared.player.Player.{Player}
 use Rattle.tds_play.specs.Lending.{standing_by}
 use Rattle.tds_play.specs.Pipe.{Pipe, IsOpen, is_cut_at, traffic}
-use Rattle.tds_play.specs.Player.{RepresentsWorld, RefinesEvent}
+use Rattle.tds_play.specs.Player.{RepresentsWorld, RefinesEvent, all_of}
 use Rattle.tds_play.specs.Plays.{RepresentConnections, RepresentsConnection, loss_of}
 use Rattle.tds_ends.specs.ModelGives.{ModelGives, IsCountable}
 use Rattle.tds_play.specs.Seen.{seen_of}
@@ -213,7 +212,7 @@ pub one_event_more : {E S : Type 0} (setup : Setup) (answers : Answers) (engine 
     (pipes after : ℕ → Option Pipe) (reports told : List EventReport) (done : EventDone) (seen : List Snapshot)
     → i < length es → e ≡ slice_index_or es i e → length reports ≡ i
     → RefinesEvent setup engine answers done then after e (world_with setup answers (marked (take i es) reports) new_world)
-    → seen ≡ filter_map seen_of then.links.items
+    → seen ≡ filter_map seen_of (all_of then)
     → told ≡ reports ++ record { outcome = done.outcome; lost = done.lost; snapshots = seen } ∷ []
     → IsSoFar setup answers engine (take i es) player pipes reports → IsSoFar setup answers engine (take (i + 1) es) then after told
 unfolding report_as
@@ -228,7 +227,7 @@ one_event_more setup answers engine es i e player then pipes after reports told 
     let world : world_with setup answers (marked (take (i + 1) es) told) new_world ≡ world_then setup answers w p =
     ap (λ xs. world_with setup answers xs new_world) ps ∙ world_one_more setup answers (marked (take i es) reports) p new_world in
     let same : seen ≡ snapshots (world_then setup answers w p) =
-    shown ∙ all_seen_alike 1 setup.packet_size engine then.links.items after (world_then setup answers w p).connections alike.then.connections in
+    shown ∙ all_seen_alike 1 setup.packet_size engine (all_of then) after (world_then setup answers w p).connections alike.then.connections in
     record {
       play = subst (RepresentsWorld setup engine then after) (sym world) alike.then;
       told =
@@ -307,7 +306,7 @@ all_cut size engine (l ∷ ls) pipes cs (suc i) c all tied at =
 
 pub in_the_end : {E S : Type 0} (setup : Setup) (answers : Answers) (engine : E) (es : List Event) (i : ℕ) (player : Player E S)
     (pipes : ℕ → Option Pipe) (so_far reports : List EventReport) (requests : List RequestReport)
-    → IsSetup setup → AllByRecursion IsEvent (take i es) → length es ≤ 10000 → AreTied player.links.items pipes
+    → IsSetup setup → AllByRecursion IsEvent (take i es) → length es ≤ 10000 → AreTied (all_of player) pipes
     → length es ≤ i → IsSoFar setup answers engine (take i es) player pipes so_far → reports ≡ so_far
     → requests ≡ request_reports (world_with setup answers (marked (take i es) so_far) new_world) 1 (world_with setup answers (marked (take i es) so_far) new_world).asked_on
     → ((r : Report) → IsReportWith setup answers es r → MarksNothing r → r ≡ observed setup answers es)
@@ -317,8 +316,8 @@ in_the_end setup answers engine es i player pipes so_far reports requests in_ran
     let whole : take i es ≡ es = take_all i es over in
     let ps : marked (take i es) so_far ≡ marked es reports = ap (λ xs. marked xs so_far) whole ∙ ap (marked es) (sym same) in
     let w : World = world_with setup answers (marked es reports) new_world in
-    let all : RepresentConnections 1 setup.packet_size engine player.links.items pipes w.connections =
-    subst (λ xs. RepresentConnections 1 setup.packet_size engine player.links.items pipes (world_with setup answers xs new_world).connections) ps far.play.connections in
+    let all : RepresentConnections 1 setup.packet_size engine (all_of player) pipes w.connections =
+    subst (λ xs. RepresentConnections 1 setup.packet_size engine (all_of player) pipes (world_with setup answers xs new_world).connections) ps far.play.connections in
     let told : record { events = reports; requests = requests } ≡ observed_with setup answers (marked es reports) =
     ap (λ (rs : List EventReport). record { events = rs; requests = requests }) (same ∙ far.told ∙ ap (λ xs. event_reports_with setup answers xs new_world) ps)
     ∙ ap (λ (qs : List RequestReport). record { events = event_reports_with setup answers (marked es reports) new_world; requests = qs })
@@ -328,9 +327,9 @@ in_the_end setup answers engine es i player pipes so_far reports requests in_ran
       known = subst (AllByRecursion IsEvent) whole known;
       few = few;
       told = told;
-      bytes = λ n direction some most. bytes_handed setup.packet_size engine player.links.items pipes w n direction all some most;
-      carried = λ n c direction at. bytes_carried setup.packet_size engine player.links.items pipes w.connections n c direction all at;
-      cuts = λ n c at. all_cut setup.packet_size engine player.links.items pipes w.connections n c all tied at;
+      bytes = λ n direction some most. bytes_handed setup.packet_size engine (all_of player) pipes w n direction all some most;
+      carried = λ n c direction at. bytes_carried setup.packet_size engine (all_of player) pipes w.connections n c direction all at;
+      cuts = λ n c at. all_cut setup.packet_size engine (all_of player) pipes w.connections n c all tied at;
       plain = λ nothing. record {
         told = plain_report (record { events = reports; requests = requests }) told nothing;
         world = plain_world (record { events = reports; requests = requests }) nothing;

@@ -25,7 +25,7 @@ use Rattle.tds_play.specs.Plays.{RepresentsConnection}
 use Rattle.tds_world.specs.Newest.{WorksOnNewest}
 use Rattle.tds_play.specs.Requests.{MatchesRecord, IsNewest}
 use Rattle.tds_play.specs.declared.link.Link.{Link}
-use Rattle.tds_play.specs.declared.seat.Seat.{Seat}
+use Rattle.tds_play.specs.Seats.{Seat}
 use Rattle.tds_play.specs.declared.request.Record.{Record}
 use Rattle.tds_play.proofs.Outward.{HandedDown, SentMore, replied_played}
 

@@ -7,7 +7,7 @@ use Rattle.tds_world.specs.Lane.{Lane, sent_bytes, underway}
 use Rattle.tds_play.specs.Pipe.{Pipe, Traffic, traffic}
 use Rattle.tds_ends.specs.Stands.{MatchesClient, MatchesServer}
 use Rattle.tds_play.specs.declared.link.Link.{Link}
-use Rattle.tds_play.specs.declared.seat.Seat.{Seat}
+use Rattle.tds_play.specs.Seats.{Seat}
 
 -- One direction, at the carrier and in the model: the same bytes were handed over, and as many of them
 -- came, in their order; the reader at its end holds what has come of the entry that is cut; and the

@@ -1,5 +1,5 @@
 -- Which connection an event is about, by its number or as the next one that is lent.
-use Rattle.std.specs.Prelude.{ℕ, ◌≡◌, zero, suc, nat_lt, Bool, true, false, List, length, filter, position, if◌then◌else◌, Option, Some, None}
+use Rattle.std.specs.Prelude.{ℕ, ◌≡◌, zero, suc, nat_lt, Bool, true, false, List, length, filter, position, if◌then◌else◌, Option, Some, None, Result, Ok, Err}
 use Rattle.tds_world.specs.declared.outcome.Refusal.{Refusal}
 use Rattle.tds_world.specs.declared.outcome.Refusal.TheVariants.{AllInUse}
 use Rattle.tds_world.specs.declared.report.Place.{Place}
@@ -7,9 +7,18 @@ use Rattle.tds_world.specs.Connection.{Standing, In, Cut}
 use Rattle.tds_world.specs.Pool.{is_free}
 use Rattle.tds_world.specs.World as world
 use Rattle.tds_world.specs.World.{World, numbered, next_number}
-use Rattle.tds_play.specs.declared.seat.Seated.{Seated}
-use Rattle.tds_play.specs.declared.pool.Found.{Found}
-use Rattle.tds_play.specs.declared.pool.Found.TheVariants.{Missing, Here, Opens}
+use Rattle.tds_play.specs.Seats.{Seated}
+
+-- The connection that an event is about: none, the one at this place, counted from 0, or a new one.
+pub data Found : Type 0 where
+  Missing : (why : Refusal) → Found
+  Here : (place : ℕ) → Found
+  Opens : Found
+
+-- The same of what a play finds by a number.
+abbrev pub found_by : Result ℕ Refusal → Found
+found_by (Ok place) = Here place
+found_by (Err why) = Missing why
 
 -- Where a connection stands: one that is cut is out of the pool.
 abbrev pub standing_by : Bool → Place → Standing

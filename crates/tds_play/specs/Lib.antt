@@ -18,6 +18,7 @@ pub mod Between
 pub mod Requests
 pub mod Plays
 pub mod Player
+pub mod Steps
 pub mod AnyBytes
 pub mod Reads
 pub mod WholePlay

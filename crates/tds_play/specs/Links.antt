@@ -11,7 +11,8 @@ use Rattle.tds_world.specs.declared.report.RequestStatus.TheVariants as status
 use Rattle.tds_world.specs.Record.{ran_in}
 use Rattle.tds_play.specs.declared.link.Link.{Link}
 use Rattle.tds_play.specs.declared.request.Record.{Record}
-use Rattle.tds_play.specs.declared.seat.Seated.{Seated}
+use Rattle.tds_play.specs.declared.seat.Held.{Held}
+use Rattle.tds_play.specs.Seats.{Seated}
 
 -- ---- Requests
 
@@ -88,6 +89,9 @@ newest_first link = reverse (behind link.past.items link.current)
 -- The same of one that has its seat beside it.
 abbrev pub newest_there : {E S : Type 0} → Seated E S → List Record
 newest_there x = newest_first x.link
+
+abbrev pub newest_held : {E S : Type 0} → Held E S → List Record
+newest_held h = newest_first h.link
 
 -- The newest request is asked now.
 abbrev pub IsNewest : ℕ → Option Reset → Option Record → Type 0

@@ -5,10 +5,8 @@ use Rattle.tds_world.specs.declared.event.Event.TheVariants as event
 use Rattle.tds_world.specs.declared.outcome.Refusal.{Refusal}
 use Rattle.tds_world.specs.declared.outcome.Refusal.TheVariants.{UnknownConnection, UnknownLease, UnknownTicket}
 use Rattle.tds_world.specs.Connection.{Standing}
-use Rattle.tds_play.specs.declared.pool.Found.{Found}
-use Rattle.tds_play.specs.declared.pool.Found.TheVariants.{Missing}
+use Rattle.tds_play.specs.Lending.{Found, Missing, lent, numbered_of}
 use Rattle.tds_play.specs.Holdings.{conn_of, ended_of}
-use Rattle.tds_play.specs.Lending.{lent, numbered_of}
 
 -- The leases after it.
 abbrev pub leases_after : Event → ℕ → List (Option ℕ) → List (Option ℕ)

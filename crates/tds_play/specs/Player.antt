@@ -1,5 +1,5 @@
 -- What the whole player stands for in the model, and what the model promises of a world.
-use Rattle.std.specs.Prelude.{ℕ, suc, ◌≡◌, ◌<◌, length, false, Option, Some, slice_get}
+use Rattle.std.specs.Prelude.{ℕ, suc, ◌≡◌, ◌<◌, List, length, false, Option, Some, slice_get}
 use Rattle.tds_session.specs.Answer.{Answers}
 use Rattle.tds_world.specs.declared.event.Event.{Event}
 use Rattle.tds_world.specs.declared.event.Setup.{Setup}
@@ -12,15 +12,28 @@ use Rattle.tds_world.specs.World.{World}
 use Rattle.tds_play.specs.declared.link.EventDone.{EventDone}
 use Rattle.tds_play.specs.declared.player.Player.{Player}
 use Rattle.tds_play.specs.Pipe.{Pipe}
+use Rattle.tds_play.specs.Pooled.{AreKnown, ArePooled, all_in, numbers_kept, numbers_leased}
+use Rattle.tds_play.specs.Seats.{Seated}
+use Rattle.tds_pool.specs.Connections.{connections}
 use Rattle.tds_play.specs.Plays.{RepresentConnections, IsReady, MayLose, acts_on, holdings_of, loss_of}
 use Rattle.tds_ends.specs.ModelGives.{ModelGives}
+
+-- The connections of a player, each in the seat that its pool has for it.
+abbrev pub all_of : {E S : Type 0} → Player E S → List (Seated E S)
+all_of player = all_in player.links.items player.pool
+
+-- What holds of every player: its pool has the connections that aren't cut, and its leases and tickets stand for
+-- connections of it.
+pub record AreHeld {E S : Type 0} (player : Player E S) : Type 0 where
+  pub pooled : ArePooled player.max player.size player.links.items player.pool
+  pub known : AreKnown player.leases player.tickets player.links.items (connections player.pool)
 
 -- The player and the world: the connections, leases, tickets and requests are the world's.
 pub record RepresentsWorld {E S : Type 0} (setup : Setup) (engine : E) (player : Player E S) (pipes : ℕ → Option Pipe)
     (w : World) : Type 0 where
-  pub connections : RepresentConnections 1 setup.packet_size engine player.links.items pipes w.connections
-  pub leases : player.leases ≡ holdings_of w.leases
-  pub tickets : player.tickets ≡ holdings_of w.tickets
+  pub connections : RepresentConnections 1 setup.packet_size engine (all_of player) pipes w.connections
+  pub leases : numbers_leased player.leases ≡ holdings_of w.leases
+  pub tickets : numbers_kept player.tickets ≡ holdings_of w.tickets
   pub asked : player.asked_on.items ≡ w.asked_on
   pub engine_is : player.engine ≡ engine
   pub max : player.max ≡ setup.max

@@ -1,13 +1,12 @@
 -- What a play stands for in the model: each connection, the leases and tickets, and the connections of
 -- the requests.
-use Rattle.std.specs.Prelude.{ℕ, suc, ◌≡◌, List, [], ◌∷◌, map, min, Bool, true, false, Option, Some, None, if◌then◌else◌}
+use Rattle.std.specs.Prelude.{ℕ, suc, ◌≡◌, List, [], ◌∷◌, map, min, Bool, true, false, is_none, Option, Some, None, if◌then◌else◌}
 use Rattle.tds_packet.specs.declared.kind.Direction.TheVariants.{ToServer, ToClient}
 use Rattle.tds_session.specs.Answer.{Answers}
 use Rattle.tds_play.specs.declared.link.EventDone.{EventDone}
 use Rattle.tds_play.specs.declared.link.Link.{Link}
-use Rattle.tds_play.specs.declared.seat.Seat.{Seat}
-use Rattle.tds_play.specs.declared.seat.Seated.{Seated}
-use Rattle.tds_play.specs.declared.link.acts.Next.{Next}
+use Rattle.tds_client.specs.Session.{ClientSession, unless_idle}
+use Rattle.tds_play.specs.Seats.{Seat, Seated, seated}
 use Rattle.tds_play.specs.Between.{RepresentsEnds}
 use Rattle.tds_play.specs.Lending.{standing_by}
 use Rattle.tds_play.specs.Pipe.{Pipe, is_cut_at, traffic}
@@ -26,8 +25,9 @@ use Rattle.tds_world.specs.Entries.{up_bytes, down_bytes}
 use Rattle.tds_world.specs.Events.{acts}
 use Rattle.tds_world.specs.Lane.{sent_bytes, come_bytes}
 use Rattle.tds_world.specs.Losses.{Loss, came_in, loss_by}
-use Rattle.tds_world.specs.Pool.{Acted, Refuses, Does}
-use Rattle.tds_world.specs.World.{World, Holding, next_number}
+use Rattle.tds_world.specs.Caller.{cancels}
+use Rattle.tds_world.specs.Pool.{Acted, Refuses, Does, comes_back, place_back, returned_as}
+use Rattle.tds_world.specs.World.{World, Holding}
 
 -- ---- A connection
 
@@ -98,6 +98,15 @@ pub record RefinesAct {E S : Type 0} (number size : ℕ) (engine : E) (done : Ev
   pub outcome : done.outcome ≡ outcome_of acted
   pub played : RepresentsConnection number size engine link seat pipe (cut_where done.lost (after acted c))
 
+-- What was underway on a connection is cancelled, and its lease ended: it stands for what comes back, idle
+-- where its client is.
+pub record ComesBack {E S : Type 0} (number size : ℕ) (engine : E) (link : Link E S) (client : ClientSession)
+    (pipe : Option Pipe) (c : Connection) : Type 0 where
+  pub idle : is_none (unless_idle client.stage) ≡ is_idle (cancels c)
+  pub outcome : outcome.GivenBack (returned_as (is_none (unless_idle client.stage))) ≡ outcome_of (comes_back (cancels c))
+  pub played : RepresentsConnection number size engine link
+      (seated (place_back (is_none (unless_idle client.stage))) client) pipe (after (comes_back (cancels c)) c)
+
 -- A delivery, each way, of so many bytes at most.
 abbrev pub delivers_up : Answers → ℕ → Connection → Acted
 delivers_up answers count c = Does (outcome.ToServer (min count (up_underway c))) (to_server answers count c)
@@ -129,19 +138,15 @@ MayLose false (event.ToServer n count) = Unit {0}
 MayLose false (event.ToClient n count) = Unit {0}
 MayLose false e = ⊥
 
--- A connection that is lent is idle. A restart is about all connections, and about none alone.
+-- A connection that is lent is idle, and so is one that was kept. A restart is about all connections, and about
+-- none alone.
 abbrev pub IsReady : Event → Connection → Type 0
 IsReady event.Lease c = is_idle c ≡ true
 IsReady (event.Resume ticket) c = is_idle c ≡ true
+IsReady (event.Abandon ticket) c = is_idle c ≡ true
 IsReady event.RestartServer c = ⊥
 IsReady event.RestartClient c = ⊥
 IsReady e c = Unit {0}
-
--- The numbers that the next ones get.
-pub record AreNext (w : World) (next : Next) : Type 0 where
-  pub lease : next.lease ≡ next_number w.leases
-  pub ticket : next.ticket ≡ next_number w.tickets
-  pub request : next.request ≡ next_number w.asked_on
 
 -- ---- All of them
 

@@ -8,14 +8,20 @@ use Rattle.tds_pool.specs.declared.seat.Place.{Place as PoolPlace}
 use Rattle.tds_pool.specs.declared.seat.Place.TheVariants as pooled
 use Rattle.tds_pool.specs.Calls.{all_numbers}
 use Rattle.tds_pool.specs.Connections as pool
+use Rattle.tds_pool.specs.declared.answers.PoolRefusal.{PoolRefusal}
+use Rattle.tds_pool.specs.declared.answers.PoolRefusal.TheVariants as refusals
+use Rattle.tds_pool.specs.declared.answers.GivenBack.{GivenBack}
+use Rattle.tds_pool.specs.declared.answers.GivenBack.TheVariants as given
+use Rattle.tds_world.specs.declared.outcome.GiveBackOutcome.{GiveBackOutcome}
+use Rattle.tds_world.specs.declared.outcome.GiveBackOutcome.TheVariants as back
+use Rattle.tds_world.specs.declared.outcome.Refusal.{Refusal}
+use Rattle.tds_world.specs.declared.outcome.Refusal.TheVariants.{NotIdle, NothingToKeep}
 use Rattle.tds_pool.specs.Connections.{PoolState, SameRest, connections, numbered, taken_out}
 use Rattle.tds_world.specs.declared.report.Place.{Place}
 use Rattle.tds_world.specs.declared.report.Place.TheVariants.{Draining, Free, Kept, Leased}
 use Rattle.tds_world.specs.World as world
-use Rattle.tds_play.specs.Seats.{seated}
+use Rattle.tds_play.specs.Seats.{Seat, Seated, seated}
 use Rattle.tds_play.specs.declared.seat.Held.{Held}
-use Rattle.tds_play.specs.declared.seat.Seat.{Seat}
-use Rattle.tds_play.specs.declared.seat.Seated.{Seated}
 
 -- ---- Each connection in its seat
 
@@ -136,3 +142,34 @@ pub record ChangesOne (number : ℕ) (is_cut : Bool) (old new : PoolState) : Typ
       → numbered number (connections new) ≡ Some d → StaysAs c d
   pub gone : is_cut ≡ true → connections new ≡ taken_out number (connections old)
   pub rest : SameRest old new
+
+-- It stays in the pool unless it was cut, and the others are as they were: of a lease or ticket that ended.
+pub record Spares (number : ℕ) (is_cut : Bool) (old new : PoolState) : Type 0 where
+  pub others : (m : ℕ) → m ≢ number → numbered m (connections new) ≡ numbered m (connections old)
+  pub live : is_cut ≡ false → all_numbers (connections new) ≡ all_numbers (connections old)
+  pub gone : is_cut ≡ true
+      → all_numbers (connections new) ≡ all_numbers (taken_out number (connections old))
+  pub rest : SameRest old new
+
+-- ---- What the pool answers
+
+-- What a lease came to that was given back, in the words of a play.
+abbrev pub came_back : GivenBack → GiveBackOutcome
+came_back (given.Free n) = back.Free
+came_back (given.Draining n) = back.Draining
+came_back (given.Closed n) = back.Closed
+came_back given.Unknown = back.Closed
+
+-- Whether the connection is still in the pool.
+abbrev pub rests_in : GivenBack → Bool
+rests_in (given.Free n) = true
+rests_in (given.Draining n) = true
+rests_in (given.Closed n) = false
+rests_in given.Unknown = false
+
+-- ---- What the pool refuses
+
+-- Why a lease isn't kept, in the words of a play.
+abbrev pub keeps_not : PoolRefusal → Refusal
+keeps_not refusals.NoTransaction = NothingToKeep
+keeps_not why = NotIdle

@@ -12,7 +12,7 @@ use Rattle.tds_world.specs.declared.outcome.Outcome.{Outcome}
 use Rattle.tds_play.specs.declared.link.Link.{Link}
 use Rattle.tds_play.specs.declared.player.Player.{Player}
 use Rattle.tds_play.specs.declared.request.Record.{Record}
-use Rattle.tds_play.specs.declared.seat.Seated.{Seated}
+use Rattle.tds_play.specs.Seats.{Seated}
 use Rattle.tds_ends.specs.declared.listening.ClientStop.{ClientStop}
 use Rattle.tds_ends.specs.declared.listening.ClientStop.TheVariants as client_stop
 use Rattle.tds_ends.specs.declared.serving.ServerStop.{ServerStop}

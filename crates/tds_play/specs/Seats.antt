@@ -7,7 +7,19 @@ use Rattle.tds_world.specs.declared.outcome.Refusal.TheVariants.{NotIdle, Nothin
 use Rattle.tds_world.specs.declared.report.Place.{Place}
 use Rattle.tds_world.specs.declared.report.Place.TheVariants.{Draining, Free, Leased}
 use Rattle.tds_world.specs.Pool.{is_full}
-use Rattle.tds_play.specs.declared.seat.Seat.{Seat}
+use Rattle.tds_world.specs.declared.event.Event.{Event}
+use Rattle.tds_world.specs.declared.event.Event.TheVariants as event
+use Rattle.tds_play.specs.declared.link.Link.{Link}
+
+-- What the pool has of a connection, in the words of a play. It means nothing once its connection is cut.
+pub record Seat : Type 0 where
+  pub place : Place
+  pub client : ClientSession
+
+-- A connection and its seat.
+pub record Seated (E S : Type 0) : Type 0 where
+  pub link : Link E S
+  pub seat : Seat
 
 abbrev pub seated : Place → ClientSession → Seat
 seated p client = record { place = p; client = client }
@@ -27,6 +39,25 @@ drained_at idle place = place
 
 abbrev pub drained : Seat → Seat
 drained seat = placed_at (drained_at (is_none (unless_idle seat.client.stage)) seat.place) seat
+
+-- An event at the ends of a connection: what the pool decides is none, nor is a restart, which is about all.
+abbrev pub IsOfEnds : Event → Type 0
+IsOfEnds (event.Ask lease q) = Unit {0}
+IsOfEnds (event.Send lease) = Unit {0}
+IsOfEnds (event.Cancel lease) = Unit {0}
+IsOfEnds (event.Work n) = Unit {0}
+IsOfEnds (event.ToServer n count) = Unit {0}
+IsOfEnds (event.ToClient n count) = Unit {0}
+IsOfEnds (event.Cut n) = Unit {0}
+IsOfEnds e = ⊥
+
+-- Where it stands behind an event of its ends: a delivery to the client may end its draining.
+abbrev pub placed_behind : Event → ClientSession → Place → Place
+placed_behind (event.ToClient n count) s p = drained_at (is_none (unless_idle s.stage)) p
+placed_behind e s p = p
+
+abbrev pub behind_event : Event → Seat → Seat
+behind_event e seat = placed_at (placed_behind e seat.client seat.place) seat
 
 -- Why a client's connection isn't kept: it isn't idle, or it has no transaction, or one that a full
 -- reset is to end.

@@ -5,7 +5,7 @@ use Rattle.tds_packet.specs.declared.kind.Direction.{Direction}
 use Rattle.tds_packet.specs.declared.kind.Direction.TheVariants.{ToServer, ToClient}
 use Rattle.tds_play.specs.Pipe.{Pipe, AreSame, traffic, IsOpen}
 use Rattle.tds_play.specs.declared.link.Link.{Link}
-use Rattle.tds_play.specs.declared.seat.Seated.{Seated}
+use Rattle.tds_play.specs.Seats.{Seated}
 
 -- So many bytes are underway each way, or more.
 pub record Holds (up down : ℕ) (pipe : Option Pipe) : Type 0 where
@@ -32,6 +32,11 @@ pub record KeepsTies {E S : Type 0} (number : ℕ) (link : Link E S) (before aft
 abbrev pub counted : {E S : Type 0} → Link E S → Direction → ℕ
 counted link ToServer = link.to_server
 counted link ToClient = link.to_client
+
+-- Each connection has the number of its place.
+abbrev pub AreNumbered : {E S : Type 0} → List (Seated E S) → Type 0
+AreNumbered {E} {S} links =
+    (i : ℕ) (d : Seated E S) → i < length links → (slice_index_or links i d).link.number ≡ suc i
 
 -- All connections of a play, numbered from 1.
 pub record AreTied {E S : Type 0} (links : List (Seated E S)) (pipes : ℕ → Option Pipe) : Type 0 where

@@ -21,14 +21,13 @@ mod leasing;
 use crate::NoMemory;
 use crate::carrier::{Carrier, CarrierError};
 use crate::request::Record;
-use crate::seat::Seat;
 use std::alloc::{AllocError, Global};
-use tds_client::ClientState;
+use tds_client::{Client, ClientState};
 use tds_ends::all_bytes::nothing_is_read;
 use tds_packet::{Direction, PacketReader, PacketSize};
 use tds_server::Server;
 use tds_session::{Engine, OnAttention};
-use tds_world::{ClientView, Outcome, Snapshot};
+use tds_world::{ClientView, Outcome, Place, Snapshot};
 
 /// What an event came to on its connection.
 #[derive(Clone, Copy, Debug)]
@@ -122,14 +121,14 @@ impl<E: Engine + Drop> Link<E> {
         }
     }
 
-    /// What is seen of it in this seat, unless it is cut.
-    pub(crate) fn snapshot(&self, seat: &Seat) -> Option<Snapshot>
-        ensures { result ≡ seen_in self.now seat.now }
+    /// What is seen of it at this place with its client, unless it is cut.
+    pub(crate) fn snapshot(&self, place: Place, client: &Client) -> Option<Snapshot>
+        ensures { result ≡ seen_in self.now (seated place client.now) }
     {
         if self.is_cut {
             return None;
         }
-        let client = match seat.client.state() {
+        let view = match client.state() {
             ClientState::Idle => ClientView::Idle,
             ClientState::Sending => ClientView::Sending,
             ClientState::Reading => ClientView::Reading,
@@ -139,10 +138,10 @@ impl<E: Engine + Drop> Link<E> {
         };
         Some(Snapshot {
             conn: self.number,
-            client,
-            place: seat.place,
-            descriptor: seat.client.descriptor(),
-            mark: seat.client.reset_mark(),
+            client: view,
+            place,
+            descriptor: client.descriptor(),
+            mark: client.reset_mark(),
             server: *self.server.session(),
             to_server: self.to_server,
             to_client: self.to_client,

@@ -1,10 +1,12 @@
 //! A whole play.
-ghost use Rattle.std.specs.Prelude.{◌≡◌, ◌≢◌, ◌≤◌, List, [], ◌++◌, length, None, Some, Err, IfErr, IfOk, OnOk};
+ghost use Rattle.std.specs.Prelude.{ℕ, ◌≡◌, ◌≢◌, ◌≤◌, List, [], ◌++◌, length, None, Some, Err, IfErr, IfOk, OnOk};
 ghost use Rattle.tds_play.specs.AnyBytes.{ReadsBytes};
 ghost use Rattle.tds_play.specs.Failures.{FailNowhere, TellFailures};
-ghost use Rattle.tds_play.specs.Player.{RepresentsWorld};
+ghost use Rattle.tds_play.specs.Player.{AreHeld, RepresentsWorld, all_of};
+ghost use Rattle.tds_play.specs.Reads.{TellsGiven};
 ghost use Rattle.tds_play.specs.Refused.{first_refusal, play_refusal_number};
 ghost use Rattle.tds_play.specs.WholePlay.{CarriesBytesOf, CutsThoseOf, HandsBytesOf, IsReportOfPlay, IsWholePlayOf, world_of};
+ghost use Rattle.tds_play.specs.Steps.{AreFew, StandsThen};
 ghost use Rattle.tds_play.specs.declared.playing.PlayRefusal.TheVariants.{Memory};
 ghost use Rattle.tds_play.specs.declared.playing.PlayRefusal.{PlayRefusal};
 ghost use Rattle.tds_session.specs.Answer.{answer_of, script_answers};
@@ -20,7 +22,9 @@ ghost use Rattle.tds_world.specs.WithLosses.{GivesNoMoreWith, IsReportWith, Mark
 ghost use Rattle.tds_world.specs.World.{new_world};
 ghost use Rattle.tds_world.specs.declared.event.Event.{Event};
 ghost use Rattle.tds_world.specs.declared.event.Setup.{Setup};
+ghost use Rattle.tds_world.specs.declared.report.RequestReport.{RequestReport};
 
+use crate::NoMemory;
 use crate::carrier::Carrier;
 use crate::player::Player;
 use crate::worlds::worlds_hold;
@@ -296,6 +300,8 @@ fn play_events<E: Engine + Copy, C: Carrier>(
     carrier: &mut C,
 ) -> Result<Report, PlayRefusal>
     requires begins { player.links.items ≡ [] }
+    requires none { AreFew 0 player }
+    requires held { AreHeld player }
     requires few { length events.now ≤ 10000 }
     ensures memory { IfErr result (λ why. why ≡ Memory) }
     ensures unfailing { (setup : Setup) → IsSetup setup → C.tells carrier.old
@@ -314,6 +320,46 @@ fn play_events<E: Engine + Copy, C: Carrier>(
         (answer_of (E.statements_of player.engine) (E.step_of player.engine)) events.now report
         (C.pipes carrier.new)) }
 {
+    let reports = run(alloc, &mut player, events, carrier);
+    let requests = player.into_requests();
+    Ok(Report {
+        events: Sequence::new(reports?),
+        requests: Sequence::new(requests?),
+    })
+}
+
+/// Plays the events, one after the other, and tells of them.
+fn run<E: Engine + Copy, C: Carrier>(
+    alloc: Global,
+    player: &mut Player<E>,
+    events: &[Event],
+    carrier: &mut C,
+) -> Result<Vec<EventReport>, NoMemory>
+    requires begins { player.old.links.items ≡ [] }
+    requires none { AreFew 0 player.old }
+    requires held { AreHeld player.old }
+    requires few { length events.now ≤ 10000 }
+    ensures unfailing { (setup : Setup) (requests : List RequestReport) → IsSetup setup
+        → C.tells carrier.old
+        → RepresentsWorld setup player.old.engine player.old (C.pipes carrier.old) new_world
+        → FailNowhere (C.pipes carrier.new) → IfOk result (λ reports.
+        MarksNothing (record { events = reports.items; requests = requests })) }
+    ensures lost { (setup : Setup) → IsSetup setup → C.tells carrier.old
+        → RepresentsWorld setup player.old.engine player.old (C.pipes carrier.old) new_world
+        → IfOk result (λ reports. TellFailures setup
+        (answer_of (E.statements_of player.old.engine) (E.step_of player.old.engine))
+        (marked events.now reports.items) (C.pipes carrier.new)) }
+    // With what is told of the requests.
+    ensures reads { (requests : List RequestReport)
+        → ((n : ℕ) → TellsGiven (all_of player.new) requests n)
+        → IfOk result (λ reports. ReadsBytes player.old.size events.now
+        (record { events = reports.items; requests = requests }) (C.pipes carrier.new)) }
+    ensures stands { (setup : Setup) → IsSetup setup → C.tells carrier.old
+        → RepresentsWorld setup player.old.engine player.old (C.pipes carrier.old) new_world
+        → IfOk result (λ reports. StandsThen setup player.old.engine
+        (answer_of (E.statements_of player.old.engine) (E.step_of player.old.engine))
+        events.now reports.items player.new (C.pipes carrier.new)) }
+{
     worlds_hold(&player.engine);
     of_marked_report();
     let mut reports = Vec::new(alloc);
@@ -326,8 +372,5 @@ fn play_events<E: Engine + Copy, C: Carrier>(
             snapshots: Sequence::new(player.snapshots()?),
         })?;
     }
-    Ok(Report {
-        events: Sequence::new(reports),
-        requests: Sequence::new(player.into_requests()?),
-    })
+    Ok(reports)
 }

@@ -1,15 +1,13 @@
-//! The pool: leases and tickets by their numbers, and which connection the next lease gets.
-ghost use Rattle.std.specs.Prelude.{◌≡◌, ◌<◌, ◌++◌, ◌∷◌, ℕ, suc, [], length, map, filter, min, position, Some, OnOk, OnErr};
-ghost use Rattle.tds_play.specs.declared.pool.Found.TheVariants.{Here};
-ghost use Rattle.tds_play.specs.Holdings.{conn_of, ended_of, all_ended};
-ghost use Rattle.tds_play.specs.Lending.{lent, is_in_pool, numbered_of, standing_of};
-ghost use Rattle.tds_world.specs.Pool.{is_free};
+//! Leases and tickets by their numbers, and the connection that an event is about.
+ghost use Rattle.std.specs.Prelude.{◌≡◌, ◌<◌, ◌++◌, ◌∷◌, ℕ, suc, [], length, min, Option, None, Some, IfErr, IfOk, OnOk};
+ghost use Rattle.std.specs.Option.{option_copied};
+ghost use Rattle.tds_play.specs.Lending.{found_by, numbered_of};
+ghost use Rattle.tds_play.specs.Holdings.{all_ended, conn_of, ended_of, put_in};
+ghost use Rattle.tds_world.specs.World.{numbered};
 
-use crate::NoMemory;
-use crate::seat::Seated;
 use std::alloc::Global;
 use std::marker::Model;
-use tds_session::Engine;
+use std::mem::replace;
 use tds_world::Refusal;
 
 /// The number of the next one, where there are so many.
@@ -23,27 +21,26 @@ pub(crate) fn next_number(count: usize) -> u32
     }
 }
 
-/// Leases or tickets, numbered from 1 in the order in which they were given.
-#[derive(Debug, Drop)]
-pub(crate) struct Holdings {
-    /// The connection of each, or none once it has ended.
-    conns: Vec<Option<u32>>,
+/// Leases or tickets, numbered from 1 in the order in which they were given. They must be spent.
+pub(crate) struct Holdings<T> {
+    /// Each of them, or none once it has ended.
+    held: Vec<Option<T>>,
 }
 
-impl Model for Holdings {
-    ghost use Rattle.std.specs.Prelude.{ℕ, List, Option};
+impl<T> Model for Holdings<T> {
+    ghost use Rattle.std.specs.Prelude.{List, Option};
 
-    ghost Value = { List (Option ℕ) };
+    ghost Value = { List (Option T) };
 
-    ghost view = { λ a. a.conns.items };
+    ghost view = { λ a. a.held.items };
 }
 
-impl Holdings {
-    pub(crate) fn new(alloc: Global) -> Holdings
+impl<T> Holdings<T> {
+    pub(crate) fn new(alloc: Global) -> Holdings<T>
         ensures { result ≡ [] }
     {
         Holdings {
-            conns: Vec::new(alloc),
+            held: Vec::new(alloc),
         }
     }
 
@@ -51,97 +48,101 @@ impl Holdings {
     pub(crate) fn next(&self) -> u32
         ensures { result ≡ min (suc (length self.now)) 4294967295 }
     {
-        next_number(self.conns.len())
+        next_number(self.held.len())
     }
 
-    /// The next one is given, on this connection.
-    pub(crate) fn give(&mut self, conn: u32) -> Result<(), NoMemory>
-        ensures ok { OnOk result (self.new ≡ self.old ++ Some conn ∷ []) }
-        ensures err { OnErr result (self.new ≡ self.old) }
+    /// The next one is given. It comes back where a growth was refused.
+    pub(crate) fn give(&mut self, given: T) -> Result<(), T>
+        ensures ok { OnOk result (self.new ≡ self.old ++ Some given ∷ []) }
+        ensures err { IfErr result (λ back. (back ≡ given) × (self.new ≡ self.old)) }
     {
-        self.conns.push(Some(conn))?;
-        Ok(())
+        match self.held.push(Some(given)) {
+            Ok(()) => Ok(()),
+            Err(failed) => match failed.value {
+                Some(given) => Err(given),
+                None => unreachable!(),
+            },
+        }
     }
 
-    /// The connection of the one with this number, unless it is unknown or has ended.
-    pub(crate) fn conn(&self, number: u32) -> Option<u32>
-        ensures { result ≡ conn_of self.now number }
+    /// The one with this number, unless it is unknown or has ended.
+    pub(crate) fn get(&self, number: u32) -> Option<&T>
+        ensures { option_copied result ≡ conn_of self.now number }
     {
         if number == 0 {
             return None;
         }
-        match self.conns.get(number as usize - 1) {
+        match self.held.get(number as usize - 1) {
             None => None,
-            Some(conn) => *conn,
+            Some(held) => held.as_ref(),
         }
     }
 
-    /// The one with this number ends.
-    pub(crate) fn end(&mut self, number: u32)
-        ensures { self.new ≡ ended_of self.old number }
+    /// The one with this number ends, unless it is unknown or has ended.
+    pub(crate) fn take(&mut self, number: u32) -> Option<T>
+        ensures taken { result ≡ conn_of self.old number }
+        ensures left { self.new ≡ ended_of self.old number }
     {
-        if number > 0
-            && let Some(conn) = self.conns.get_mut(number as usize - 1)
-        {
-            *conn = None;
+        if number == 0 {
+            return None;
+        }
+        self.take_at(number as usize - 1)
+    }
+
+    /// The one at this place, counted from 0, ends, unless it is unknown or has ended.
+    pub(crate) fn take_at(&mut self, place: usize) -> Option<T>
+        ensures taken { result ≡ conn_of self.old (suc place) }
+        ensures left { self.new ≡ ended_of self.old (suc place) }
+    {
+        match self.held.get_mut(place) {
+            None => None,
+            Some(held) => held.take(),
         }
     }
 
-    /// All of them end.
-    pub(crate) fn end_all(&mut self)
-        ensures { self.new ≡ all_ended self.old }
+    /// The one with this number, which ended, stands there again.
+    pub(crate) fn put(&mut self, number: u32, held: T)
+        requires { numbered self.old number ≡ Some None }
+        ensures { self.new ≡ put_in self.old number held }
     {
-        self.conns.fill(None);
+        match replace(&mut self.held[number as usize - 1], Some(held)) {
+            None => {}
+            Some(_) => unreachable!(),
+        }
+    }
+
+    /// How many were given.
+    pub(crate) fn len(&self) -> usize
+        ensures { result ≡ length self.now }
+    {
+        self.held.len()
+    }
+
+    /// Lets go of all of them, which have ended.
+    pub(crate) fn let_go(self)
+        requires { self ≡ all_ended self }
+    {
+        let Holdings { mut held } = self;
+        'held: for _ in 0..held.len() {
+            match held.pop() {
+                None => {}
+                Some(ended) => match ended {
+                    None => {}
+                    Some(_) => unreachable!(),
+                },
+            }
+        }
+        held.destroy_empty();
     }
 }
 
-/// The connection that an event is about.
-#[derive(Clone, Copy, Debug)]
-pub(crate) enum Found {
-    /// There is none.
-    Missing(Refusal),
-    /// The one at this place, counted from 0.
-    Here(usize),
-    /// A new one.
-    Opens,
-}
-
-/// The connection of this number.
-pub(crate) fn by_number(count: usize, conn: u32, why: Refusal) -> Found
-    ensures value { result ≡ numbered_of count conn why }
-    ensures there { (place : ℕ) → result ≡ Here place → place < count }
+/// The place, counted from 0, of the connection of this number.
+pub(crate) fn by_number(count: usize, conn: u32, why: Refusal) -> Result<usize, Refusal>
+    ensures value { found_by result ≡ numbered_of count conn why }
+    ensures there { IfOk result (λ place. place < count) }
 {
     if conn == 0 || conn as usize > count {
-        return Found::Missing(why);
+        return Err(why);
     }
-    Found::Here(conn as usize - 1)
-}
-
-/// The place of the free connection with the lowest number.
-fn first_free<E: Engine + Drop>(links: &[Seated<E>]) -> Option<usize>
-    ensures { result ≡ position (λ link. is_free (standing_of link)) links.now }
-{
-    links.iter().position(|link| link.is_free())
-}
-
-/// How many connections are in the pool.
-fn count_in_pool<E: Engine + Drop>(links: &[Seated<E>]) -> usize
-    ensures { result ≡ length (filter (λ link. is_in_pool (standing_of link)) links.now) }
-{
-    links.iter().filter(|link| link.is_in_pool()).count()
-}
-
-/// The connection that the next lease gets: the free one with the lowest number, or else a new one,
-/// if the pool has room.
-pub(crate) fn to_lend<E: Engine + Drop>(links: &[Seated<E>], max: u8) -> Found
-    ensures value { result ≡ lent (map standing_of links.now) max }
-    ensures there { (place : ℕ) → result ≡ Here place → place < length links.now }
-{
-    if let Some(place) = first_free(links) {
-        return Found::Here(place);
-    }
-    if count_in_pool(links) < usize::from(max) {
-        return Found::Opens;
-    }
-    Found::Missing(Refusal::AllInUse)
+    Ok(conn as usize - 1)
 }

@@ -1,36 +1,31 @@
-//! Where a connection stands in the pool, with its client: what the pool lends.
-ghost use Rattle.std.specs.Prelude.{◌≡◌, false, is_none, None, Some};
-ghost use Rattle.tds_client.specs.Session.{new_session, unless_idle};
-ghost use Rattle.tds_play.specs.Lending.{is_in_pool, standing_of};
-ghost use Rattle.tds_play.specs.Seats.{drained, lent_as, placed_at, seated, unless_kept};
-ghost use Rattle.tds_play.specs.Seen.{done_as, seen_of};
-ghost use Rattle.tds_world.specs.Pool.{is_free, place_back, returned_as};
-ghost use Rattle.tds_world.specs.declared.outcome.Refusal.{Refusal};
-ghost use Rattle.tds_world.specs.declared.outcome.AbandonOutcome.TheVariants as abandoned;
-ghost use Rattle.tds_world.specs.declared.outcome.Outcome.TheVariants.{Abandoned, Kept, Leased, Refused};
-ghost use Rattle.tds_world.specs.declared.report.Place.TheVariants as place;
+//! A connection with its seat in the pool: its client stands there.
+ghost use Rattle.std.specs.Prelude.{◌≡◌, ℕ, false, true, IfOk, IsSome, OnOk};
+ghost use Rattle.tds_ends.specs.ModelGives.{IsCountable, ModelGives};
+ghost use Rattle.tds_play.specs.Failures.{FailsAs, FailsNoMore, HasNoFailure, calls_of};
+ghost use Rattle.tds_play.specs.Plays.{MayLose, RefinesAct, RepresentsConnection, acts_on, after, loss_of};
+ghost use Rattle.tds_play.specs.Pooled.{ChangesOne, IsThere, place_by, seat_in};
+ghost use Rattle.tds_play.specs.Reads.{IsReading, ReadsNoMore, ReadsOn};
+ghost use Rattle.tds_play.specs.Seats.{IsOfEnds, behind_event, drained};
+ghost use Rattle.tds_play.specs.Seen.{seen_in};
+ghost use Rattle.tds_play.specs.Ties.{IsTied, KeepsTies};
+ghost use Rattle.tds_pool.specs.Calls.{is_broken};
+ghost use Rattle.tds_pool.specs.Connections.{connections, numbered};
+ghost use Rattle.tds_session.specs.Answer.{answer_of};
+ghost use Rattle.tds_world.specs.Connection.{Connection};
+ghost use Rattle.tds_world.specs.Losses.{bringing, met};
+ghost use Rattle.tds_world.specs.World.{World, next_number};
+ghost use Rattle.tds_world.specs.declared.event.Setup.{Setup};
 
-use crate::link::acts::{Next, done, refused};
+mod leasing;
+
+use crate::NoMemory;
+use crate::carrier::Carrier;
+use crate::link::acts::on_cut;
 use crate::link::{EventDone, Link};
 use std::alloc::Global;
-use tds_client::{Client, ClientState};
-use tds_packet::{PacketSize, Reset};
+use tds_pool::{GivenBack, Pool};
 use tds_session::Engine;
-use tds_world::{AbandonOutcome, GiveBackOutcome, Opened, Outcome, Place, Refusal, Snapshot};
-
-/// A seat. It means nothing once its connection is cut.
-#[derive(Drop)]
-pub(crate) struct Seat {
-    pub(crate) place: Place,
-    pub(crate) client: Client,
-}
-
-/// A connection and its seat.
-#[derive(Drop)]
-pub(crate) struct Seated<E: Engine + Drop> {
-    pub(crate) link: Link<E>,
-    pub(crate) seat: Seat,
-}
+use tds_world::{Event, Place, Snapshot};
 
 /// A connection, and the number of the lease or ticket that holds it in the pool.
 #[derive(Drop)]
@@ -39,115 +34,145 @@ pub(crate) struct Held<E: Engine + Drop> {
     pub(crate) holder: u32,
 }
 
-impl Seat {
-    /// The seat of a new connection, under this lease.
-    pub(crate) fn new(alloc: Global, lease: u32, size: PacketSize) -> Seat
-        ensures { result ≡ seated (place.Leased lease) (new_session size) }
-    {
-        Seat {
-            place: Place::Leased(lease),
-            client: Client::new(alloc, size),
-        }
-    }
-
-    /// Whether nobody waits for an answer.
-    fn is_idle(&self) -> bool
-        ensures { result ≡ is_none (unless_idle self.now.client.stage) }
-    {
-        matches!(self.client.state(), ClientState::Idle)
-    }
-
-    /// The connection of this number is lent, and its next request is to ask for this reset.
-    pub(crate) fn lend(&mut self, conn: u32, next: Next, mark: Reset, opened: Opened) -> EventDone
-        ensures lent { unless_idle self.old.client.stage ≡ None
-            → self.new ≡ lent_as next.lease mark self.old }
-        ensures done { result ≡ done_as (Leased next.lease conn opened) }
-        ensures columns { self.new.client.columns ≡ self.old.client.columns }
-    {
-        // A connection that is lent is idle, so this is not refused.
-        let _ = self.client.mark_reset(mark);
-        self.place = Place::Leased(next.lease);
-        done(Outcome::Leased {
-            lease: next.lease,
-            conn,
-            opened,
-        })
-    }
-
-    /// Its lease ended, and what was underway is cancelled.
-    pub(crate) fn come_back(&mut self) -> GiveBackOutcome
-        ensures value { self.new
-            ≡ placed_at (place_back (is_none (unless_idle self.old.client.stage))) self.old }
-        ensures outcome { result ≡ returned_as (is_none (unless_idle self.old.client.stage)) }
-        ensures columns { self.new.client.columns ≡ self.old.client.columns }
-    {
-        if self.is_idle() {
-            self.place = Place::Free;
-            GiveBackOutcome::Free
-        } else {
-            self.place = Place::Draining;
-            GiveBackOutcome::Draining
-        }
-    }
-
-    /// The lease becomes a ticket, which keeps the transaction that the client heard of.
-    pub(crate) fn keep(&mut self, next: Next) -> EventDone
-        ensures refused { (why : Refusal) → unless_kept self.old.client ≡ Some why
-            → (result ≡ done_as (Refused why)) × (self.new ≡ self.old) }
-        ensures whole { result.lost ≡ false }
-        ensures kept { unless_kept self.old.client ≡ None → (result ≡ done_as (Kept next.ticket))
-            × (self.new ≡ placed_at (place.Kept next.ticket) self.old) }
-        ensures columns { self.new.client.columns ≡ self.old.client.columns }
-    {
-        if !self.is_idle() {
-            return refused(Refusal::NotIdle);
-        }
-        if self.client.descriptor() == 0 || self.client.reset_mark() == Some(Reset::Full) {
-            return refused(Refusal::NothingToKeep);
-        }
-        self.place = Place::Kept(next.ticket);
-        done(Outcome::Kept(next.ticket))
-    }
-
-    /// The ticket ends. The connection that it kept is idle, so it is free then.
-    pub(crate) fn abandon(&mut self) -> EventDone
-        ensures value { self.new ≡ placed_at place.Free self.old }
-        ensures done { result ≡ done_as (Abandoned abandoned.Free) }
-        ensures columns { self.new.client.columns ≡ self.old.client.columns }
-    {
-        self.place = Place::Free;
-        done(Outcome::Abandoned(AbandonOutcome::Free))
-    }
-
-    /// A draining connection is free once its client is idle.
-    pub(crate) fn drain(&mut self)
-        ensures { self.new ≡ drained self.old }
-    {
-        if self.place == Place::Draining && self.is_idle() {
-            self.place = Place::Free;
-        }
+/// Where a connection stands that is held by this lease or ticket, if by any.
+fn place_by(holder: u32, place: tds_pool::Place) -> Place
+    ensures { result ≡ place_by holder place }
+{
+    match place {
+        tds_pool::Place::Leased => Place::Leased(holder),
+        tds_pool::Place::Kept => Place::Kept(holder),
+        tds_pool::Place::Free => Place::Free,
+        tds_pool::Place::Draining => Place::Draining,
     }
 }
 
-impl<E: Engine + Drop> Seated<E> {
-    /// Whether it can be lent.
-    pub(crate) fn is_free(&self) -> bool
-        ensures { result ≡ is_free (standing_of self.now) }
+impl<E: Engine + Drop> Held<E> {
+    /// Does what this event does at the ends of its connection. Where that is cut, the pool loses it.
+    pub(crate) fn act<C: Carrier>(
+        &mut self,
+        alloc: Global,
+        carrier: &mut C,
+        pool: &mut Pool,
+        number: u32,
+        event: &Event,
+    ) -> Result<EventDone, NoMemory>
+        requires ends { IsOfEnds event.now }
+        requires tied { IsTied self.old.link (C.pipes carrier.old self.old.link.number) }
+        requires there { IsThere self.old pool.old }
+        ensures number { self.new.link.number ≡ self.old.link.number }
+        ensures holder { self.new.holder ≡ self.old.holder }
+        ensures pool { OnOk result (ChangesOne self.old.link.number self.new.link.is_cut pool.old
+            pool.new) }
+        ensures there { OnOk result (IsThere self.new pool.new) }
+        ensures ties { OnOk result (KeepsTies self.old.link.number self.new.link
+            (C.pipes carrier.old) (C.pipes carrier.new) (C.tells carrier.old)
+            (C.tells carrier.new)) }
+        // Where the connection had no failure, one call of this event failed, or more, exactly where
+        // it was lost, and no other one. Where it was cut, nothing changes at the carrier.
+        ensures failed { HasNoFailure (C.pipes carrier.old self.old.link.number)
+            → IfOk result (λ done. FailsAs (calls_of event.now) done self.new.link
+            (C.pipes carrier.new self.old.link.number)) }
+        ensures gone { self.old.link.is_cut ≡ true → (carrier.new ≡ carrier.old)
+            × (self.new ≡ self.old) × (pool.new ≡ pool.old)
+            × IfOk result (λ done. done.lost ≡ false) }
+        ensures loses { IfOk result (λ done. done.lost ≡ true
+            → MayLose self.old.link.is_cut event.now) }
+        ensures reads { (size : ℕ)
+            → IsReading size self.old.link (seat_in self.old pool.old).client.columns
+            (C.pipes carrier.old self.old.link.number)
+            → IfOk result (λ done. ReadsOn size event.now done.outcome self.new.link
+            (seat_in self.new pool.new).client.columns
+            (C.pipes carrier.old self.old.link.number)
+            (C.pipes carrier.new self.old.link.number)) }
+        ensures refines { (setup : Setup) (w : World) (c : Connection) (engine : E)
+            → C.tells carrier.old
+            → RepresentsConnection self.old.link.number setup.packet_size engine self.old.link
+            (seat_in self.old pool.old) (C.pipes carrier.old self.old.link.number) c
+            → ModelGives E (answer_of (E.statements_of engine)
+            (E.step_of engine)) setup.packet_size c
+            → ((k : ℕ) → IsCountable (after (acts_on setup
+            (answer_of (E.statements_of engine) (E.step_of engine)) w
+            (bringing k event.now) self.old.link.number c) c))
+            → number ≡ next_number w.asked_on
+            → IfOk result (λ done. RefinesAct self.old.link.number setup.packet_size engine done
+            self.new.link (seat_in self.new pool.new) (C.pipes carrier.new self.old.link.number)
+            (acts_on setup (answer_of (E.statements_of engine) (E.step_of engine)) w
+            (met (loss_of done) event.now) self.old.link.number c) c) }
     {
-        !self.link.is_cut && matches!(self.seat.place, Place::Free)
+        if self.link.is_cut {
+            return Ok(on_cut(event));
+        }
+        let Some(client) = pool.at(self.link.number) else {
+            unreachable!()
+        };
+        let done = self.link.act(alloc, carrier, client, number, event)?;
+        self.settle(carrier, pool, event);
+        Ok(done)
     }
 
-    /// Whether it is in the pool: it isn't cut.
-    pub(crate) fn is_in_pool(&self) -> bool
-        ensures { result ≡ is_in_pool (standing_of self.now) }
+    /// What an event at its ends makes of it in the pool: one that is cut leaves it, and a draining
+    /// one may be free once bytes came to its client.
+    fn settle<C: Carrier>(&mut self, carrier: &mut C, pool: &mut Pool, event: &Event)
+        requires tied { IsTied self.old.link (C.pipes carrier.old self.old.link.number) }
+        requires is_in { IsSome (numbered self.old.link.number (connections pool.old)) }
+        ensures number { self.new.link.number ≡ self.old.link.number }
+        ensures holder { self.new.holder ≡ self.old.holder }
+        ensures pool { ChangesOne self.old.link.number self.new.link.is_cut pool.old pool.new }
+        ensures there { IsThere self.new pool.new }
+        ensures ties { KeepsTies self.old.link.number self.new.link (C.pipes carrier.old)
+            (C.pipes carrier.new) (C.tells carrier.old) (C.tells carrier.new) }
+        ensures failed { FailsNoMore (C.pipes carrier.old self.old.link.number)
+            (C.pipes carrier.new self.old.link.number) }
+        ensures still { ReadsNoMore self.old.link self.new.link
+            (C.pipes carrier.old self.old.link.number) (C.pipes carrier.new self.old.link.number) }
+        ensures cut { self.old.link.is_cut ≡ true → (self.new ≡ self.old)
+            × (carrier.new ≡ carrier.old) }
+        ensures client { self.new.link.is_cut ≡ false
+            → (seat_in self.new pool.new).client ≡ (seat_in self.old pool.old).client }
+        ensures sound { self.old.link.is_cut ≡ false
+            → is_broken (seat_in self.old pool.old).client.stage ≡ false
+            → (self.new ≡ self.old) × (carrier.new ≡ carrier.old)
+            × (seat_in self.new pool.new ≡ behind_event event.now (seat_in self.old pool.old)) }
     {
-        !self.link.is_cut
+        if self.link.is_cut {
+            let _ = pool.lost(self.link.number);
+        } else if matches!(event, Event::ToClient(..)) {
+            self.drain(carrier, pool);
+        }
+    }
+
+    /// A draining connection is free once its client is idle. One that the pool closes is cut.
+    fn drain<C: Carrier>(&mut self, carrier: &mut C, pool: &mut Pool)
+        requires live { self.old.link.is_cut ≡ false }
+        requires tied { IsTied self.old.link (C.pipes carrier.old self.old.link.number) }
+        requires is_in { IsSome (numbered self.old.link.number (connections pool.old)) }
+        ensures number { self.new.link.number ≡ self.old.link.number }
+        ensures holder { self.new.holder ≡ self.old.holder }
+        ensures pool { ChangesOne self.old.link.number self.new.link.is_cut pool.old pool.new }
+        ensures there { IsThere self.new pool.new }
+        ensures ties { KeepsTies self.old.link.number self.new.link (C.pipes carrier.old)
+            (C.pipes carrier.new) (C.tells carrier.old) (C.tells carrier.new) }
+        ensures failed { FailsNoMore (C.pipes carrier.old self.old.link.number)
+            (C.pipes carrier.new self.old.link.number) }
+        ensures still { ReadsNoMore self.old.link self.new.link
+            (C.pipes carrier.old self.old.link.number) (C.pipes carrier.new self.old.link.number) }
+        ensures client { self.new.link.is_cut ≡ false
+            → (seat_in self.new pool.new).client ≡ (seat_in self.old pool.old).client }
+        ensures sound { is_broken (seat_in self.old pool.old).client.stage ≡ false
+            → (self.new ≡ self.old) × (carrier.new ≡ carrier.old)
+            × (seat_in self.new pool.new ≡ drained (seat_in self.old pool.old)) }
+    {
+        if let GivenBack::Closed(_) = pool.drained(self.link.number) {
+            self.link.cut(carrier);
+        }
     }
 
     /// What is seen of it, unless it is cut.
-    pub(crate) fn snapshot(&self) -> Option<Snapshot>
-        ensures { result ≡ seen_of self.now }
+    pub(crate) fn snapshot(&self, pool: &Pool) -> Option<Snapshot>
+        requires there { IsThere self.now pool.now }
+        ensures { result ≡ seen_in self.now.link (seat_in self.now pool.now) }
     {
-        self.link.snapshot(&self.seat)
+        let place = place_by(self.holder, pool.place(self.link.number)?);
+        self.link.snapshot(place, pool.get(self.link.number)?)
     }
 }

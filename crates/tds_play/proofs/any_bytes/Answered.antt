@@ -6,17 +6,18 @@ use Rattle.std.specs.List.{AllByRecursion}
 use Rattle.tds_packet.specs.declared.kind.Direction.{Direction}
 use Rattle.tds_packet.specs.declared.kind.Direction.TheVariants.{ToServer, ToClient}
 use Rattle.tds_packet.specs.Reading.{Reading}
-use Rattle.tds_ends.specs.AllBytes.{new_reader}
+use Rattle.tds_ends.specs.AllBytes.{ClientHasRead, new_reader}
 use Rattle.tds_world.specs.declared.event.Event.{Event}
 use Rattle.tds_world.specs.declared.event.Event.TheVariants as event
 use Rattle.tds_world.specs.declared.outcome.Outcome.{Outcome}
 use Rattle.tds_world.specs.declared.outcome.Outcome.TheVariants as outcome
 use Rattle.tds_world.specs.declared.outcome.Refusal.{Refusal}
 use Rattle.tds_world.specs.declared.report.EventReport.{EventReport}
-use Rattle.tds_play.specs.declared.seat.Seated.{Seated}
+use Rattle.tds_play.specs.declared.link.Link.{Link}
+use Rattle.tds_play.specs.Seats.{Seated}
 use Rattle.tds_play.specs.AnyBytes.{AnswersWith, AreAnswered, IsRefused, is_delivery, outcomes_on}
 use Rattle.tds_play.specs.Pipe.{Pipe, AreSame, traffic}
-use Rattle.tds_play.specs.Reads.{AllRead, Answers, BringsBy, IsAbout, ReadsNoMore, ReadsThere, ReadsOn, answers_then, delivers}
+use Rattle.tds_play.specs.Reads.{AllRead, Answers, BringsBy, IsAbout, IsReading, ReadsNoMore, ReadsThere, ReadsOn, answers_then, delivers, given_by}
 use Rattle.tds_play.specs.Ties.{AreTied}
 use Rattle.tds_play.proofs.Listed.{by_test, is_at, is_other, push_each, set_each}
 use Rattle.tds_play.proofs.any_bytes.Stays.{reading_stays}
@@ -171,16 +172,26 @@ read_at {E} {S} size links place new pipes pipes' answers e o all there same abo
           not_refused (is_delivery e n d) o (answers n d) (about_other e place n d about (not_there n (length links) place far there)) (all.refused n d far);
     }
 
+-- Of one that is cut nobody asks for the columns.
+reading_left : {E S : Type 0} (size : ℕ) (link new : Link E S) (columns then : Option ℕ) (before after : Option Pipe) → IsReading size link columns before → ReadsNoMore link new before after → (new.is_cut ≡ false → then ≡ columns) → IsReading size new then after
+reading_left size link new columns then before after reads still same =
+    let r : IsReading size new columns after = reading_stays size link new columns columns before after reads still refl in
+    record {
+      server = r.server;
+      client = λ live. subst (λ (k : Option ℕ). ClientHasRead (new_reader ToClient size) new.client_reader k (traffic after ToClient).came (given_by new)) (sym (same live)) (r.client live);
+      told = r.told;
+    }
+
 -- It reads no more.
 pub still_at : {E S : Type 0} (size : ℕ) (links : List (Seated E S)) (place : ℕ) (link new : Seated E S) (pipes pipes' : ℕ → Option Pipe) (answers : Answers)
     → AllRead size links pipes answers → place < length links → link ≡ get_or links place link → AreSame pipes pipes' (suc place)
-    → ReadsNoMore link.link new.link (pipes (suc place)) (pipes' (suc place)) → new.seat.client.columns ≡ link.seat.client.columns → AllRead size (set links place new) pipes' answers
+    → ReadsNoMore link.link new.link (pipes (suc place)) (pipes' (suc place)) → (new.link.is_cut ≡ false → new.seat.client.columns ≡ link.seat.client.columns) → AllRead size (set links place new) pipes' answers
 still_at {E} {S} size links place link new pipes pipes' answers all there is same still columns =
     let others : (j : ℕ) → j ≢ place → pipes' (suc j) ≡ pipes (suc j) = (λ j other. same (suc j) (λ z. other (omega (arith, z)))) in
     record {
       reading = set_each (λ j (x : Seated E S). ReadsThere size x (pipes' (suc j))) links place new
           (λ j x other less. subst (ReadsThere size (get_or links j x)) (sym (others j other)) (all.reading j x less)) there
-          (reading_stays size link.link new.link link.seat.client.columns new.seat.client.columns (pipes (suc place)) (pipes' (suc place)) (subst (λ (x : Seated E S). ReadsThere size x (pipes (suc place))) (sym is) (all.reading place link there)) still columns);
+          (reading_left size link.link new.link link.seat.client.columns new.seat.client.columns (pipes (suc place)) (pipes' (suc place)) (subst (λ (x : Seated E S). ReadsThere size x (pipes (suc place))) (sym is) (all.reading place link there)) still columns);
       answered = λ i d less.
           let low : i < length links = omega (arith, less, length-set links place new) in
           by_test (AreAnswered (new_reader d size) [] (answers (suc i) d) (traffic (pipes' (suc i)) d).came) (eqb i place)
@@ -268,7 +279,7 @@ acted_reads {E} {S} size links place link new pipes pipes' answers e o tied ther
 
 pub cut_reads : {E S : Type 0} (size : ℕ) (links : List (Seated E S)) (place : ℕ) (link new : Seated E S) (pipes pipes' : ℕ → Option Pipe) (answers : Answers)
     → AreTied links pipes → place < length links → link ≡ get_or links place link → AreSame pipes pipes' link.link.number
-    → ReadsNoMore link.link new.link (pipes link.link.number) (pipes' link.link.number) → new.seat.client.columns ≡ link.seat.client.columns → AllRead size links pipes answers → AllRead size (set links place new) pipes' answers
+    → ReadsNoMore link.link new.link (pipes link.link.number) (pipes' link.link.number) → (new.link.is_cut ≡ false → new.seat.client.columns ≡ link.seat.client.columns) → AllRead size links pipes answers → AllRead size (set links place new) pipes' answers
 cut_reads {E} {S} size links place link new pipes pipes' answers tied there is same still columns all =
     let number : link.link.number ≡ suc place = numbered_there links place link pipes tied there is in
     still_at size links place link new pipes pipes' answers all there is (subst (AreSame pipes pipes') number same)

@@ -17,7 +17,7 @@ use Rattle.tds_world.specs.declared.report.EventReport.{EventReport}
 use Rattle.tds_world.specs.declared.report.Report.{Report}
 use Rattle.tds_world.specs.declared.report.RequestReport.{RequestReport}
 use Rattle.tds_world.specs.World.{numbered}
-use Rattle.tds_play.specs.declared.seat.Seated.{Seated}
+use Rattle.tds_play.specs.Seats.{Seated}
 use Rattle.tds_play.specs.declared.request.Record.{Record}
 use Rattle.tds_play.specs.AnyBytes.{AreAnswered, IsRefused, ReadsBytes, given_on, given_to, outcomes_on}
 use Rattle.tds_play.specs.Links.{behind, newest_there, report_of}

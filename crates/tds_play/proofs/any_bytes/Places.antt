@@ -7,10 +7,8 @@ use Rattle.tds_world.specs.declared.event.Event.{Event}
 use Rattle.tds_world.specs.declared.event.Event.TheVariants as event
 use Rattle.tds_world.specs.declared.outcome.Refusal.{Refusal}
 use Rattle.tds_world.specs.Connection.{Standing}
-use Rattle.tds_play.specs.declared.pool.Found.{Found}
-use Rattle.tds_play.specs.declared.pool.Found.TheVariants.{Missing, Here, Opens}
+use Rattle.tds_play.specs.Lending.{Found, Missing, Here, Opens, numbered_of}
 use Rattle.tds_play.specs.AnyBytes.{is_delivery}
-use Rattle.tds_play.specs.Lending.{numbered_of}
 use Rattle.tds_play.specs.Noted.{about_of}
 use Rattle.tds_play.specs.Reads.{IsAbout}
 

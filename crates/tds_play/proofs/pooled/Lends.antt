@@ -8,7 +8,7 @@ use Rattle.tds_world.specs.declared.outcome.Refusal.TheVariants.{AllInUse}
 use Rattle.tds_world.specs.Lending.{LendsIdle}
 use Rattle.tds_world.specs.Pool.{is_free}
 use Rattle.tds_world.specs.World.{World}
-use Rattle.tds_play.specs.declared.pool.Found.TheVariants.{Here, Missing, Opens}
+use Rattle.tds_play.specs.Lending.{Here, Missing, Opens}
 use Rattle.tds_play.specs.Lending.{is_in_pool, lent, lent_by, standing_of}
 use Rattle.tds_play.specs.Pipe.{Pipe}
 use Rattle.tds_play.specs.Plays.{RepresentConnections}

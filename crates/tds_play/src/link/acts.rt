@@ -7,13 +7,12 @@ ghost use Rattle.tds_play.specs.Links.{IsAskedOn, IsRetired, recounted};
 ghost use Rattle.tds_ends.specs.Refines.{cancel_outcome};
 ghost use Rattle.tds_play.specs.Acts.{cancelled_as, unless_lost, worked_as};
 ghost use Rattle.tds_ends.specs.Refines.{send_outcome, worked_outcome};
-ghost use Rattle.tds_play.specs.Plays.{AreNext, RefinesAct, RepresentsConnection, IsReady, MayLose, acts_on, after, loss_of, on_cut, outcome_of};
+ghost use Rattle.tds_play.specs.Plays.{RefinesAct, RepresentsConnection, MayLose, acts_on, after, loss_of, on_cut, outcome_of};
 ghost use Rattle.tds_ends.specs.ModelGives.{IsCountable, ModelGives};
 ghost use Rattle.tds_world.specs.Newest.{WorksOnNewest};
 ghost use Rattle.tds_world.specs.Steps.{EndsIfDue};
-ghost use Rattle.tds_play.specs.Seats.{seated};
+ghost use Rattle.tds_play.specs.Seats.{Seat, IsOfEnds, placed_behind, seated};
 ghost use Rattle.tds_play.specs.Seen.{done_as};
-ghost use Rattle.tds_play.specs.declared.seat.Seat.{Seat};
 ghost use Rattle.tds_world.specs.declared.report.Place.{Place};
 ghost use Rattle.tds_world.specs.Arrivals.{works};
 ghost use Rattle.tds_world.specs.Caller.{cancels};
@@ -28,7 +27,7 @@ ghost use Rattle.tds_world.specs.declared.outcome.Outcome.TheVariants.{Asked, Re
 ghost use Rattle.tds_world.specs.declared.outcome.Outcome.TheVariants as outcome;
 ghost use Rattle.tds_world.specs.declared.outcome.Refusal.TheVariants.{NotIdle, NotSending};
 ghost use Rattle.tds_world.specs.declared.event.Setup.{Setup};
-ghost use Rattle.tds_world.specs.World.{World};
+ghost use Rattle.tds_world.specs.World.{World, next_number};
 ghost use Rattle.tds_session.specs.Answer.{answer_of};
 ghost use Rattle.tds_play.specs.Pipe.{Pipe};
 ghost use Rattle.tds_play.specs.Reads.{IsReading, ReadsNoMore, ReadsOn};
@@ -38,30 +37,21 @@ use super::{EventDone, Link};
 use crate::NoMemory;
 use crate::carrier::Carrier;
 use crate::request::Record;
-use crate::seat::Seat;
 use std::alloc::{AllocError, Global};
 use tds_client::{Cancelled, Client, ClientRefusal, ClientState, Sent};
 use tds_ends::laws::{
-    asks_alike, cancels_alike, idle_alike, lends_matching, pool_is_unseen, sends_alike,
-    sends_append, the_other_stays, works_alike,
+    asks_alike, cancels_alike, idle_alike, pool_is_unseen, sends_alike, sends_append,
+    the_other_stays, works_alike,
 };
-use tds_packet::{Direction, Reset};
+use tds_packet::Direction;
 use tds_request::Request;
 use tds_server::Worked;
 use tds_session::Engine;
 use tds_world::laws::phases_tell;
 use tds_world::{
-    AbandonOutcome, CancelOutcome, Event, GiveBackOutcome, Opened, Outcome, Refusal, SendOutcome,
+    AbandonOutcome, CancelOutcome, Event, GiveBackOutcome, Outcome, Refusal, SendOutcome,
     WorkOutcome,
 };
-
-/// The numbers that the next ones get.
-#[derive(Clone, Copy, Debug)]
-pub(crate) struct Next {
-    pub(crate) lease: u32,
-    pub(crate) ticket: u32,
-    pub(crate) request: u32,
-}
 
 /// An event that doesn't apply.
 pub(crate) fn refused(refusal: Refusal) -> EventDone
@@ -83,7 +73,7 @@ pub(crate) fn done(outcome: Outcome) -> EventDone
 }
 
 /// What an event comes to whose connection is cut.
-fn on_cut(event: &Event) -> EventDone
+pub(crate) fn on_cut(event: &Event) -> EventDone
     ensures value { (c : Connection) → result ≡ done_as (outcome_of (on_cut event.now c)) }
     ensures whole { result.lost ≡ false }
 {
@@ -123,82 +113,73 @@ fn put_next(client: &mut Client, out: &mut Vec<u8>) -> Result<Option<SendOutcome
 }
 
 impl<E: Engine + Drop> Link<E> {
-    /// Does what this event does on its connection.
+    /// Does what this event does at the ends of its connection, whose client stands in the pool.
     pub(crate) fn act<C: Carrier>(
         &mut self,
         alloc: Global,
         carrier: &mut C,
-        seat: &mut Seat,
-        next: Next,
+        client: &mut Client,
+        number: u32,
         event: &Event,
     ) -> Result<EventDone, NoMemory>
-        requires { IsTied self.old (C.pipes carrier.old self.old.number) }
+        requires ends { IsOfEnds event.now }
+        requires live { self.old.is_cut ≡ false }
+        requires tied { IsTied self.old (C.pipes carrier.old self.old.number) }
         ensures number { self.new.number ≡ self.old.number }
         ensures ties { OnOk result (KeepsTies self.old.number self.new (C.pipes carrier.old)
             (C.pipes carrier.new) (C.tells carrier.old) (C.tells carrier.new)) }
         // Where the connection had no failure, one call of this event failed, or more, exactly where
-        // it was lost, and no other one. Where it was cut, nothing changes at the carrier.
+        // it was lost, and no other one.
         ensures failed { HasNoFailure (C.pipes carrier.old self.old.number)
             → IfOk result (λ done. FailsAs (calls_of event.now) done self.new
             (C.pipes carrier.new self.old.number)) }
-        ensures gone { self.old.is_cut ≡ true → (carrier.new ≡ carrier.old)
-            × (self.new ≡ self.old) × (seat.new ≡ seat.old)
-            × IfOk result (λ done. done.lost ≡ false) }
         // Only what hands bytes over or brings some is lost.
-        ensures loses { IfOk result (λ done. done.lost ≡ true
-            → MayLose self.old.is_cut event.now) }
+        ensures loses { IfOk result (λ done. done.lost ≡ true → MayLose false event.now) }
         // Its ends read what comes, whatever it is.
         ensures reads { (size : ℕ)
-            → IsReading size self.old seat.old.client.columns
-            (C.pipes carrier.old self.old.number)
+            → IsReading size self.old client.old.columns (C.pipes carrier.old self.old.number)
             → IfOk result (λ done. ReadsOn size event.now done.outcome self.new
-            seat.new.client.columns (C.pipes carrier.old self.old.number)
+            client.new.columns (C.pipes carrier.old self.old.number)
             (C.pipes carrier.new self.old.number)) }
-        // A connection that stands for one of the model stands for what the event, as it was met,
-        // makes of it, cut where the carrier failed.
-        ensures refines { (setup : Setup) (w : World) (c : Connection) (engine : E)
+        // A connection that stands for one of the model, wherever it is in the pool, stands for what
+        // the event, as it was met, makes of it, cut where the carrier failed.
+        ensures refines { (setup : Setup) (w : World) (c : Connection) (engine : E) (p : Place)
             → C.tells carrier.old
-            → RepresentsConnection self.old.number setup.packet_size engine self.old seat.old
-            (C.pipes carrier.old self.old.number) c
+            → RepresentsConnection self.old.number setup.packet_size engine self.old
+            (seated p client.old) (C.pipes carrier.old self.old.number) c
             → ModelGives E (answer_of (E.statements_of engine)
             (E.step_of engine)) setup.packet_size c
             → ((k : ℕ) → IsCountable (after (acts_on setup
             (answer_of (E.statements_of engine) (E.step_of engine)) w
             (bringing k event.now) self.old.number c) c))
-            → AreNext w next → (self.old.is_cut ≡ false → IsReady event.now c)
+            → number ≡ next_number w.asked_on
             → IfOk result (λ done. RefinesAct self.old.number setup.packet_size engine done self.new
-            seat.new (C.pipes carrier.new self.old.number)
+            (seated (placed_behind event.now client.new p) client.new)
+            (C.pipes carrier.new self.old.number)
             (acts_on setup (answer_of (E.statements_of engine) (E.step_of engine)) w
             (met (loss_of done) event.now) self.old.number c) c) }
     {
         asks_alike();
         idle_alike();
-        lends_matching::<E>();
-        pool_is_unseen::<E>();
         the_other_stays::<E>();
-        if self.is_cut {
-            return Ok(on_cut(event));
-        }
         match event {
-            Event::Lease => Ok(seat.lend(self.number, next, Reset::Full, Opened::Reused)),
-            Event::Resume(_) => {
-                Ok(seat.lend(self.number, next, Reset::KeepTransaction, Opened::Resumed))
-            }
-            Event::GiveBack(_) => self.give_back(alloc, carrier, seat),
-            Event::Keep(_) => Ok(seat.keep(next)),
-            Event::Abandon(_) => Ok(seat.abandon()),
-            Event::Ask(lease, request) => {
-                self.ask(alloc, &mut seat.client, next, *lease, request)
-            }
-            Event::Send(_) => self.send(alloc, carrier, &mut seat.client),
-            Event::Cancel(_) => self.cancel(alloc, carrier, &mut seat.client),
+            Event::Ask(lease, request) => self.ask(alloc, client, number, *lease, request),
+            Event::Send(_) => self.send(alloc, carrier, client),
+            Event::Cancel(_) => self.cancel(alloc, carrier, client),
             Event::Work(_) => self.work(alloc, carrier),
             Event::ToServer(_, most) => self.deliver_to_server(alloc, carrier, *most),
-            Event::ToClient(_, most) => self.deliver_to_client(alloc, carrier, seat, *most),
-            Event::Cut(_) | Event::RestartServer | Event::RestartClient => {
+            Event::ToClient(_, most) => self.deliver_to_client(alloc, carrier, client, *most),
+            Event::Cut(_) => {
                 self.cut(carrier);
                 Ok(done(Outcome::Cut))
             }
+            Event::Lease
+            | Event::Resume(_)
+            | Event::GiveBack(_)
+            | Event::Keep(_)
+            | Event::Abandon(_)
+            | Event::RestartServer
+            | Event::RestartClient => unreachable!(),
         }
     }
 
@@ -207,7 +188,7 @@ impl<E: Engine + Drop> Link<E> {
         &mut self,
         alloc: Global,
         client: &mut Client,
-        next: Next,
+        number: u32,
         lease: u32,
         request: &Request,
     ) -> Result<EventDone, NoMemory>
@@ -216,7 +197,7 @@ impl<E: Engine + Drop> Link<E> {
             × (client.new ≡ client.old) }
         ensures whole { IfOk result (λ done. done.lost ≡ false) }
         ensures asked { is_none (unless_idle client.old.stage) ≡ true → IfOk result (λ done.
-            (done ≡ done_as (Asked next.request)) × (client.new ≡ started client.old request.now)
+            (done ≡ done_as (Asked number)) × (client.new ≡ started client.old request.now)
             × IsAskedOn lease client.old.heard.mark self.old self.new) }
         ensures number { self.new.number ≡ self.old.number }
         ensures tied { (pipe : Option Pipe) → IsTied self.old pipe → IsTied self.new pipe }
@@ -234,7 +215,7 @@ impl<E: Engine + Drop> Link<E> {
         }
         self.retire_newest()?;
         self.current = Some(Record::new(alloc, lease, mark));
-        Ok(done(Outcome::Asked(next.request)))
+        Ok(done(Outcome::Asked(number)))
     }
 
     /// The newest request is put by those before it.

@@ -7,7 +7,7 @@ ghost use Rattle.tds_play.specs.Pipe.{Brings, IsUncut, cut_pipe, sent_on};
 ghost use Rattle.tds_play.specs.Plays.{RepresentsConnection, cut_where};
 ghost use Rattle.tds_play.specs.Reads.{BringsAny, ReadsNoMore};
 ghost use Rattle.tds_play.specs.Seen.{outcome_of};
-ghost use Rattle.tds_play.specs.declared.seat.Seat.{Seat};
+ghost use Rattle.tds_play.specs.Seats.{Seat};
 ghost use Rattle.tds_play.specs.Ties.{IsTied, KeepsTies, counted, with_counted, saturated};
 ghost use Rattle.tds_world.specs.Connection.{Connection, cut};
 
@@ -168,7 +168,7 @@ impl<E: Engine + Drop> Link<E> {
     }
 
     /// The end of an event: where the carrier failed, the connection is cut.
-    pub(super) fn end<C: Carrier>(
+    pub(crate) fn end<C: Carrier>(
         &mut self,
         carrier: &mut C,
         outcome: Outcome,

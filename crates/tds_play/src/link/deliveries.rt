@@ -9,7 +9,8 @@ ghost use Rattle.tds_play.specs.Listening.{HasListened, told_in};
 ghost use Rattle.tds_play.specs.Pipe.{Pipe};
 ghost use Rattle.tds_play.specs.Plays.{RefinesAct, RepresentsConnection, count_of, delivers_down, delivers_up};
 ghost use Rattle.tds_ends.specs.ModelGives.{IsCountable, ModelGives};
-ghost use Rattle.tds_play.specs.declared.seat.Seat.{Seat};
+ghost use Rattle.tds_play.specs.Seats.{Seat, drained, seated};
+ghost use Rattle.tds_world.specs.declared.report.Place.{Place};
 ghost use Rattle.tds_ends.specs.AllBytes.{ClientHasRead, new_reader};
 ghost use Rattle.tds_play.specs.Reads.{ClientIsFed, IsReading, ReadsOn, given_by};
 ghost use Rattle.tds_world.specs.declared.event.Event.TheVariants as event;
@@ -24,7 +25,6 @@ use super::{EventDone, Link};
 use crate::NoMemory;
 use crate::carrier::Carrier;
 use crate::feeding::{Heard, feed_client, feed_server};
-use crate::seat::Seat;
 use std::alloc::Global;
 use tds_client::Client;
 use tds_ends::all_bytes::{given_are_told, no_fault_is_read};
@@ -109,7 +109,7 @@ impl<E: Engine + Drop> Link<E> {
         &mut self,
         alloc: Global,
         carrier: &mut C,
-        seat: &mut Seat,
+        client: &mut Client,
         most: u32,
     ) -> Result<EventDone, NoMemory>
         requires live { self.old.is_cut ≡ false }
@@ -122,18 +122,18 @@ impl<E: Engine + Drop> Link<E> {
             (C.pipes carrier.new self.old.number)) }
         // The client reads what comes, whatever it is.
         ensures reads { (size n : ℕ)
-            → IsReading size self.old seat.old.client.columns
-            (C.pipes carrier.old self.old.number)
+            → IsReading size self.old client.old.columns (C.pipes carrier.old self.old.number)
             → IfOk result (λ done. ReadsOn size (event.ToClient n most) done.outcome self.new
-            seat.new.client.columns (C.pipes carrier.old self.old.number)
+            client.new.columns (C.pipes carrier.old self.old.number)
             (C.pipes carrier.new self.old.number)) }
-        ensures refines { (answers : Answers) (size : ℕ) (engine : E) (c : Connection)
+        ensures refines { (answers : Answers) (size : ℕ) (engine : E) (p : Place) (c : Connection)
             → C.tells carrier.old
-            → RepresentsConnection self.old.number size engine self.old seat.old
+            → RepresentsConnection self.old.number size engine self.old (seated p client.old)
             (C.pipes carrier.old self.old.number) c
             → ModelGives E answers size c
-            → IfOk result (λ done. RefinesAct self.old.number size engine done self.new seat.new
-            (C.pipes carrier.new self.old.number) (delivers_down (count_of done most) c) c) }
+            → IfOk result (λ done. RefinesAct self.old.number size engine done self.new
+            (drained (seated p client.new)) (C.pipes carrier.new self.old.number)
+            (delivers_down (count_of done most) c) c) }
     {
         listens_alike();
         no_fault_is_read();
@@ -144,11 +144,10 @@ impl<E: Engine + Drop> Link<E> {
         let count = at_most(self.to_client, most);
         let mut piece = Vec::new(alloc);
         let carried = self.carry(carrier, Direction::ToClient, count, &mut piece)?;
-        let heard = self.hear(alloc, &mut seat.client, piece.as_slice())?;
+        let heard = self.hear(alloc, client, piece.as_slice())?;
         if let Some(fault) = heard.fault {
             return Ok(self.end_by_fault(carrier, fault, carried.lost));
         }
-        seat.drain();
         Ok(self.end(carrier, Outcome::ToClient(carried.count), carried.lost))
     }
 

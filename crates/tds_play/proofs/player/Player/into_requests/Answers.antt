@@ -1,5 +1,7 @@
 use Rattle.std.proofs.Common.{◌∙◌, List, [], ◌∷◌, ◌++◌, map, length, subst, sym, ap, arith, Vec, Global}
 use Rattle.tds_play.specs.Links.{newest_there}
+use Rattle.tds_play.specs.Player.{all_of}
+use Rattle.tds_play.proofs.pooled.Closing.{records_of}
 use Rattle.tds_play.specs.declared.request.Record.{Record}
 use Rattle.tds_play.proofs.Requested.{Telling, telling_at_first, tells_one_more, one_is_left, all_told, written_back}
 use Rattle.tds_world.specs.declared.report.RequestReport.{RequestReport}
@@ -9,17 +11,20 @@ use Rattle.tds_play.proofs.player.Player.into_requests.Goals as goal
 use Rattle.tds_play.proofs.player.Player.into_requests.Goals.{in-Some+in_ok-push, in_default}
 
 pub asked-init : goal.asked-init
-asked-init g c = record {
-  given = told_at_first c.args.self.links.items _ c.new-reports.result.items c.in_ok-records.ensures c.new-reports.ensures.items;
-  told = λ setup engine pipes w p o.
-      subst (λ (xs : List (List Record)). Telling w 1 w.asked_on xs c.new-reports.result.items) (sym c.in_ok-records.ensures)
-      (subst (λ (xs : List RequestReport). Telling w 1 w.asked_on (map newest_there c.args.self.links.items) xs) (sym c.new-reports.ensures.items)
-      (telling_at_first setup.packet_size engine c.args.self.links.items pipes w p.connections o));
-}
+asked-init g c =
+    let all = all_of c.args.self in
+    let stacks = records_of c.args.self c.end_all.new.self _ c.in_ok-records.ensures c.end_all.ensures.rest in
+    record {
+      given = told_at_first all _ c.new-reports.result.items stacks c.new-reports.ensures.items;
+      told = λ setup engine pipes w p o.
+          subst (λ (xs : List (List Record)). Telling w 1 w.asked_on xs c.new-reports.result.items) (sym stacks)
+          (subst (λ (xs : List RequestReport). Telling w 1 w.asked_on (map newest_there all) xs) (sym c.new-reports.ensures.items)
+          (telling_at_first setup.packet_size engine all pipes w p.connections o));
+    }
 
 pub asked-preserved : goal.asked-preserved
 asked-preserved g c =
-    let all = c.deref-conn-items.ensures.value in
+    let all = c.deref-conn-items.ensures.value ∙ ap (λ p. p.asked_on.items) c.end_all.ensures.rest in
     let whole = c.deref_mut.ensures.value in
     let kept = written_back c.asked.records.len c.asked.records.items c.next_of.new.records (c.next_of.ensures.count ∙ ap length whole) c.asked.records.ok.0 in
     let turned = ap (map (λ (v : Vec Record Global). v.items)) kept in
@@ -27,9 +32,9 @@ asked-preserved g c =
     record {
       given = elim c.match-next_of.branch [
         | in-Some+in_ok-push w ↦
-            told_turn c.args.self.links.items _ _ _ c.asked.reports.items c.match-next_of.reports.items _ c.next_of.result w.in-Some.record c.asked.invariant.given takes turned
+            told_turn (all_of c.args.self) _ _ _ c.asked.reports.items c.match-next_of.reports.items _ c.next_of.result w.in-Some.record c.asked.invariant.given takes turned
             w.in-Some.is (ap (λ v. v.items) w.reports-is ∙ w.in_ok-push.ensures.items ∙ ap (λ x. c.asked.reports.items ++ x ∷ []) w.report.ensures)
-        | in_default w ↦ none_turn c.args.self.links.items _ _ _ c.asked.reports.items c.match-next_of.reports.items _ c.next_of.result c.asked.invariant.given takes turned w.in_default.is (ap (λ v. v.items) w.reports-is)
+        | in_default w ↦ none_turn (all_of c.args.self) _ _ _ c.asked.reports.items c.match-next_of.reports.items _ c.next_of.result c.asked.invariant.given takes turned w.in_default.is (ap (λ v. v.items) w.reports-is)
       ];
       told = elim c.match-next_of.branch [
         | in-Some+in_ok-push w ↦ λ setup engine pipes world p o.
@@ -45,7 +50,8 @@ asked-preserved g c =
 
 pub returns-clause-told : goal.returns-clause-told
 returns-clause-told g c = λ setup engine pipes w p o.
-    all_told w c.asked.conn-index c.args.self.asked_on.items _ c.asked.reports.items p.asked (omega (arith, c.asked-test.false, c.deref-conn-items.ensures.len, ap length c.deref-conn-items.ensures.value)) (c.asked.invariant.told setup engine pipes w p o)
+    let asked = ap length c.deref-conn-items.ensures.value ∙ ap (λ q. length q.asked_on.items) c.end_all.ensures.rest in
+    all_told w c.asked.conn-index c.args.self.asked_on.items _ c.asked.reports.items p.asked (omega (arith, c.asked-test.false, c.deref-conn-items.ensures.len, asked)) (c.asked.invariant.told setup engine pipes w p o)
 
 pub returns-clause-given : goal.returns-clause-given
-returns-clause-given g c = told_whole c.args.self.links.items _ c.asked.reports.items c.asked.invariant.given
+returns-clause-given g c = told_whole (all_of c.args.self) _ c.asked.reports.items c.asked.invariant.given

@@ -7,27 +7,29 @@ use Rattle.tds_world.specs.declared.event.Setup.{Setup}
 use Rattle.tds_world.specs.Losses.{marked}
 use Rattle.tds_play.specs.Failures.{LiveAreSound, all_known}
 use Rattle.tds_play.proofs.Accounts.{AreTold}
-use Rattle.tds_play.specs.Player.{RepresentsWorld}
+use Rattle.tds_play.specs.Player.{AreHeld, RepresentsWorld, all_of}
+use Rattle.tds_play.specs.Steps.{AreFew}
 use Rattle.tds_play.specs.Ties.{AreTied}
 use Rattle.tds_play.proofs.Turns.{IsSoFar}
 use Rattle.tds_play.specs.Reads.{AllRead}
 use Rattle.tds_play.proofs.any_bytes.Answered.{answers_of}
-use Rattle.tds_play.proofs.playing.play_events.Given as goal
+use Rattle.tds_play.proofs.playing.run.Given as goal
 
 abbrev pub invariant-events : goal.invariant-events
 invariant-events g l =
     let pipes = g.C.Carrier.pipes in
     let engine = l.fn.player.engine in
     record {
-      tied : AreTied l.player.links.items (pipes l.carrier);
-      few : length l.player.links.items ≤ l.event-index;
+      tied : AreTied (all_of l.player) (pipes l.carrier);
+      held : AreHeld l.player;
+      few : AreFew l.event-index l.player;
       known : AllByRecursion IsEvent (take l.event-index l.events);
       tells : g.C.Carrier.tells l.fn.carrier → g.C.Carrier.tells l.carrier;
       count : length l.reports.items ≡ l.event-index;
       within : length l.reports.items ≤ length l.events;
-      sound : LiveAreSound l.player.links.items (pipes l.carrier);
+      sound : LiveAreSound (all_of l.player) (pipes l.carrier);
       size : l.player.size ≡ l.fn.player.size;
-      reads : AllRead l.fn.player.size l.player.links.items (pipes l.carrier) (answers_of (take l.event-index l.events) l.reports.items);
+      reads : AllRead l.fn.player.size (all_of l.player) (pipes l.carrier) (answers_of (take l.event-index l.events) l.reports.items);
       lost : (setup : Setup) → IsSetup setup → g.C.Carrier.tells l.fn.carrier
           → RepresentsWorld setup engine l.fn.player (pipes l.fn.carrier) new_world
           → AreTold setup (answer_of (g.E.Engine.statements_of engine) (g.E.Engine.step_of engine)) (marked (take l.event-index l.events) l.reports.items)

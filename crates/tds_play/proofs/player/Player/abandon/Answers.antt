@@ -1,0 +1,66 @@
+use Rattle.std.proofs.Common.{◌≡◌, ◌∙◌, suc, Some, refl, sym, ap, subst}
+use Rattle.std.specs.List.{slice_get}
+use Rattle.tds_session.specs.Answer.{answer_of}
+use Rattle.tds_pool.specs.declared.lease.Ticket.{Ticket}
+use Rattle.tds_world.specs.declared.event.Event.{Event}
+use Rattle.tds_world.specs.declared.event.Event.TheVariants as event
+use Rattle.tds_play.specs.Failures.{calls_of}
+use Rattle.tds_play.specs.Plays.{RefinesAct, acts_on, loss_of}
+use Rattle.tds_play.specs.Pooled.{seat_in}
+use Rattle.tds_play.specs.declared.seat.Held.{Held}
+use Rattle.tds_play.proofs.Failing.{whole_as}
+use Rattle.tds_play.proofs.pooled.Acted.{there_at}
+use Rattle.tds_play.proofs.pooled.Ending.{kept_there, met_abandoned, spared_others, ticket_ends, ticket_ends_few, ticket_ends_noted}
+use Rattle.tds_play.proofs.pooled.Unseen.{number_at, read_at, slot_of, tied_at, touched_steps}
+use Rattle.tds_play.proofs.player.Player.abandon.Goals as goal
+
+pub abandon-requires-clause-tied : goal.abandon-requires-clause-tied
+abandon-requires-clause-tied g c =
+    let old = c.args.self.now in
+    tied_at old c.args.place c.index_mut.result.now (g.C.Carrier.pipes c.args.carrier.now) c.requires.tied (read_at old.links.items c.args.place c.index_mut.result.now c.requires.there c.index_mut.ensures.value)
+
+pub abandon-requires-clause-there : goal.abandon-requires-clause-there
+abandon-requires-clause-there g c =
+    let old = c.args.self.now in
+    let at = read_at old.links.items c.args.place c.index_mut.result.now c.requires.there c.index_mut.ensures.value in
+    there_at old.max old.size c.args.place old.links.items c.index_mut.result.now old.pool c.requires.held.pooled at (number_at old c.args.place c.index_mut.result.now (g.C.Carrier.pipes c.args.carrier.now) c.requires.tied at)
+
+pub abandon-requires-clause-named : goal.abandon-requires-clause-named
+abandon-requires-clause-named g c =
+    let old = c.args.self.now in
+    let at = read_at old.links.items c.args.place c.index_mut.result.now c.requires.there c.index_mut.ensures.value in
+    (slot_of (λ (t : Ticket). t.number) old.tickets c.args.number (suc c.args.place) c.in-Some.ticket c.requires.kept c.in-Some.ensures.taken).conn_is
+    ∙ sym (number_at old c.args.place c.index_mut.result.now (g.C.Carrier.pipes c.args.carrier.now) c.requires.tied at)
+
+pub abandon-requires-clause-known : goal.abandon-requires-clause-known
+abandon-requires-clause-known g c =
+    let old = c.args.self.now in
+    let at = read_at old.links.items c.args.place c.index_mut.result.now c.requires.there c.index_mut.ensures.value in
+    kept_there old c.args.place c.args.number c.in-Some.ticket c.index_mut.result.now c.requires.held at
+    (slot_of (λ (t : Ticket). t.number) old.tickets c.args.number (suc c.args.place) c.in-Some.ticket c.requires.kept c.in-Some.ensures.taken)
+
+pub returns : goal.returns
+returns g c =
+    let old = c.args.self.now in
+    let h = c.index_mut.result.now in
+    let k = c.abandon.new.self in
+    let said = c.abandon.ensures in
+    let pipes = g.C.Carrier.pipes in
+    let at = read_at old.links.items c.args.place h c.requires.there c.index_mut.ensures.value in
+    let number = number_at old c.args.place h (pipes c.args.carrier.now) c.requires.tied at in
+    let slot = slot_of (λ (t : Ticket). t.number) old.tickets c.args.number (suc c.args.place) c.in-Some.ticket c.requires.kept c.in-Some.ensures.taken in
+    touched_steps (λ x. answer_of (g.E.Engine.statements_of x) (g.E.Engine.step_of x)) (event.Abandon c.args.number) c.args.place old _ h k (pipes c.args.carrier.now) (pipes c.abandon.new.carrier) _ _ c.abandon.result c.requires.tied at said.number refl
+    (spared_others c.args.place h k old.pool c.abandon.new.pool number said.pool)
+    (ticket_ends c.args.place c.args.number old _ h k c.in-Some.ticket c.requires.held at number said.number slot said.pool said.there
+    (λ cut. ap (λ (x : Held g.row.E.Denot g.row.E-Stmt.Denot). x.link.is_cut) (said.gone cut).1 ∙ cut) refl refl c.in-Some.ensures.left (record { engine_is = refl; max_is = refl; size_is = refl; told_is = refl }))
+    (said.ties)
+    (λ fine. whole_as (calls_of (event.Abandon c.args.number)) c.abandon.result k.link (pipes c.abandon.new.carrier h.link.number) said.whole (λ call. said.failed call ∙ fine call))
+    (λ cut. (ap pipes (said.gone cut).0, ap (λ (x : Held g.row.E.Denot g.row.E-Stmt.Denot). x.link) (said.gone cut).1, said.whole))
+    (λ lost. absurd (cc))
+    (λ size reads. said.reads size c.args.number reads)
+    (record { engine_is = refl; max_is = refl; size_is = refl; told_is = refl })
+    (ticket_ends_few c.args.place c.args.number old _ k refl refl c.in-Some.ensures.left)
+    (ticket_ends_noted c.args.number (suc c.args.place) old _ c.abandon.result.outcome said.told refl c.in-Some.ensures.left refl)
+    (λ setup engine w m told is promised promise played ready counts.
+    subst (λ (e : Event). RefinesAct h.link.number setup.packet_size engine c.abandon.result k.link (seat_in k c.abandon.new.pool) (pipes c.abandon.new.carrier h.link.number) (acts_on setup (answer_of (g.E.Engine.statements_of engine) (g.E.Engine.step_of engine)) w e h.link.number m) m)
+    (sym (met_abandoned (loss_of c.abandon.result) c.args.number)) (said.refines setup w c.args.number m engine played ready))

@@ -1,0 +1,108 @@
+use Rattle.std.proofs.Common.{◌≡◌, ◌∙◌, ℕ, true, false, List, Option, Some, refl, sym, ap, subst}
+use Rattle.std.specs.Prelude.{IsSome}
+use Rattle.tds_client.specs.Session.{ClientSession}
+use Rattle.tds_pool.specs.Connections.{Connection, PoolState, connections, numbered, with_client}
+use Rattle.tds_pool.specs.Calls.{is_broken}
+use Rattle.tds_pool.specs.Lends.{with_client_numbered}
+use Rattle.tds_session.specs.Answer.{answer_of}
+use Rattle.tds_session.specs.declared.attention.OnAttention.TheVariants.{Keep}
+use Rattle.tds_world.specs.Connection as model
+use Rattle.tds_world.specs.Connection.{new_connection}
+use Rattle.tds_world.specs.Losses.{met}
+use Rattle.tds_world.specs.declared.report.Place.{Place}
+use Rattle.tds_world.specs.declared.report.Place.TheVariants.{Leased}
+use Rattle.tds_play.specs.declared.link.EventDone.{EventDone}
+use Rattle.tds_play.specs.Pipe.{Pipe}
+use Rattle.tds_play.specs.Plays.{RepresentsConnection, acts_on, after, cut_where, loss_of}
+use Rattle.tds_play.specs.Pooled.{ChangesOne, place_by, seat_by, seat_in}
+use Rattle.tds_play.specs.Reads.{IsReading, ReadsNoMore}
+use Rattle.tds_play.specs.Seats.{Seat, behind_event, placed_behind, seated}
+use Rattle.tds_play.specs.declared.seat.Held.{Held}
+use Rattle.tds_play.proofs.any_bytes.Brought.{gone_on}
+use Rattle.tds_play.proofs.any_bytes.Stays.{stays_numbered}
+use Rattle.tds_play.proofs.pooled.Numbers.{IsIn}
+use Rattle.tds_play.proofs.pooled.Settled.{client_changes, client_found, in_of, is_some_of, lent_client, none_changes, settled_played, settled_reads}
+use Rattle.tds_play.proofs.seat.Held.act.Goals as goal
+
+pub returns-then-self-clause-pool : goal.returns-then-self-clause-pool
+returns-then-self-clause-pool g c =
+    none_changes c.args.self.now.link.number c.args.self.now.link.is_cut c.args.pool.now c.if-self.true (c.requires.there.is_out c.if-self.true)
+
+pub returns-then-self-clause-reads : goal.returns-then-self-clause-reads
+returns-then-self-clause-reads g c = λ size reads.
+    gone_on size c.args.event.now c.on_cut.result.outcome (new_connection Keep (Leased 0)) c.args.self.now.link (seat_in c.args.self.now c.args.pool.now).client.columns (g.C.Carrier.pipes c.args.carrier.now c.args.self.now.link.number)
+    (ap (λ (d : EventDone). d.outcome) (c.on_cut.ensures.value (new_connection Keep (Leased 0)))) reads
+
+-- What stands under its number once the client has done what the event does.
+pub settle-requires-clause-is_in : goal.settle-requires-clause-is_in
+settle-requires-clause-is_in g c =
+    let n : ℕ = c.args.self.now.link.number in
+    let s : ClientSession = c.act.new.client in
+    let there : IsSome (numbered n (connections c.args.pool.now)) = c.requires.there.is_in c.if-self.false in
+    let it : IsIn n (connections c.args.pool.now) = in_of n (connections c.args.pool.now) there in
+    is_some_of _ (record it.connection { client = s })
+    (ap (λ (k : ℕ). numbered k (connections (with_client_numbered c.args.pool.now n s))) c.in_ok-done.ensures.number
+    ∙ ap (numbered n) (c.at.ensures.writes s there)
+    ∙ client_found n s (connections c.args.pool.now) it.connection it.there)
+
+pub returns-clause-pool : goal.returns-clause-pool
+returns-clause-pool g c =
+    let n : ℕ = c.args.self.now.link.number in
+    let s : ClientSession = c.act.new.client in
+    let there : IsSome (numbered n (connections c.args.pool.now)) = c.requires.there.is_in c.if-self.false in
+    let it : IsIn n (connections c.args.pool.now) = in_of n (connections c.args.pool.now) there in
+    let mid : PoolState = with_client_numbered c.args.pool.now n s in
+    client_changes n c.settle.new.self.link.is_cut s c.args.pool.now mid c.settle.new.pool it.connection it.there (c.at.ensures.writes s there)
+    (record { max = refl; size = refl; last = refl })
+    (subst (λ (k : ℕ). ChangesOne k c.settle.new.self.link.is_cut mid c.settle.new.pool) c.in_ok-done.ensures.number c.settle.ensures.pool)
+
+pub returns-clause-reads : goal.returns-clause-reads
+returns-clause-reads g c = λ size reads.
+    let n : ℕ = c.args.self.now.link.number in
+    let h : ℕ = c.args.self.now.holder in
+    let s : ClientSession = c.act.new.client in
+    let there : IsSome (numbered n (connections c.args.pool.now)) = c.requires.there.is_in c.if-self.false in
+    let it : IsIn n (connections c.args.pool.now) = in_of n (connections c.args.pool.now) there in
+    let mid : PoolState = with_client_numbered c.args.pool.now n s in
+    let lent : c.in-Some.client.now ≡ it.connection.client = lent_client n (connections c.args.pool.now) it.connection c.in-Some.client.now it.there c.in-Some.ensures.value in
+    let old : Option Pipe = g.C.Carrier.pipes c.args.carrier.now n in
+    let columns : (seat_in c.args.self.now c.args.pool.now).client.columns ≡ c.in-Some.client.now.columns =
+    ap (λ o. (seat_by h o).client.columns) it.there ∙ sym (ap (λ (x : ClientSession). x.columns) lent) in
+    let seat : numbered c.act.new.self.number (connections mid) ≡ Some (record it.connection { client = s }) =
+    ap (λ (k : ℕ). numbered k (connections mid)) c.in_ok-done.ensures.number
+    ∙ ap (numbered n) (c.at.ensures.writes s there)
+    ∙ client_found n s (connections c.args.pool.now) it.connection it.there in
+    settled_reads size c.args.event.now c.in_ok-done.done.outcome c.act.new.self c.settle.new.self.link s.columns (seat_in c.settle.new.self c.settle.new.pool).client.columns old (g.C.Carrier.pipes c.act.new.carrier n) (g.C.Carrier.pipes c.settle.new.carrier n)
+    (c.in_ok-done.ensures.reads size (subst (λ (k : Option ℕ). IsReading size c.args.self.now.link k old) columns reads))
+    (stays_numbered c.act.new.self.number n c.act.new.self c.settle.new.self.link (g.C.Carrier.pipes c.act.new.carrier) (g.C.Carrier.pipes c.settle.new.carrier) c.in_ok-done.ensures.number c.settle.ensures.still)
+    (λ live. ap (λ (x : ClientSession). x.columns) (c.settle.ensures.client live) ∙ ap (λ o. (seat_by h o).client.columns) seat)
+
+pub returns-clause-refines : goal.returns-clause-refines
+returns-clause-refines g c = λ setup w m engine tells played gives few next.
+    let n : ℕ = c.args.self.now.link.number in
+    let h : ℕ = c.args.self.now.holder in
+    let s : ClientSession = c.act.new.client in
+    let size : ℕ = setup.packet_size in
+    let there : IsSome (numbered n (connections c.args.pool.now)) = c.requires.there.is_in c.if-self.false in
+    let it : IsIn n (connections c.args.pool.now) = in_of n (connections c.args.pool.now) there in
+    let mid : PoolState = with_client_numbered c.args.pool.now n s in
+    let lent : c.in-Some.client.now ≡ it.connection.client = lent_client n (connections c.args.pool.now) it.connection c.in-Some.client.now it.there c.in-Some.ensures.value in
+    let p : Place = place_by h it.connection.place in
+    let old : Option Pipe = g.C.Carrier.pipes c.args.carrier.now n in
+    let seat : seat_in c.args.self.now c.args.pool.now ≡ seated p c.in-Some.client.now =
+    ap (seat_by h) it.there ∙ sym (ap (seated p) lent) in
+    let acted = c.in_ok-done.ensures.refines setup w m engine p tells (subst (λ (x : Seat). RepresentsConnection n size engine c.args.self.now.link x old m) seat played) gives few next in
+    let found : numbered c.act.new.self.number (connections mid) ≡ Some (record it.connection { client = s }) =
+    ap (λ (k : ℕ). numbered k (connections mid)) c.in_ok-done.ensures.number
+    ∙ ap (numbered n) (c.at.ensures.writes s there)
+    ∙ client_found n s (connections c.args.pool.now) it.connection it.there in
+    let now : Held g.row.E.Denot g.row.E-Stmt.Denot = record c.args.self.now { link = c.act.new.self } in
+    let is : seat_in now mid ≡ seated p s = ap (seat_by h) found in
+    record {
+      outcome = acted.outcome;
+      played = settled_played n size engine now c.settle.new.self s (seated (placed_behind c.args.event.now s p) s) c.settle.new.pool (g.C.Carrier.pipes c.act.new.carrier n) (g.C.Carrier.pipes c.settle.new.carrier n) _ refl acted.played
+          (λ cut. let z = c.settle.ensures.cut cut in (z.0, ap (λ x. g.C.Carrier.pipes x n) z.1))
+          (λ lives fine.
+          let z = c.settle.ensures.sound lives (ap (λ (x : Seat). is_broken x.client.stage) is ∙ fine) in
+          (z.0, ap (λ x. g.C.Carrier.pipes x n) z.1, z.2 ∙ ap (behind_event c.args.event.now) is));
+    }
