@@ -1,4 +1,4 @@
-use Rattle.std.proofs.Common.{◌≡◌, ◌≤◌, ℕ, List, [], length, subst, sym, refl, ◌∙◌, arith}
+use Rattle.std.proofs.Common.{◌≡◌, ◌≤◌, ℕ, List, [], length, ap, subst, sym, refl, ◌∙◌, arith}
 use Rattle.std.proofs.lemmas.Result.{IfOk-weaker}
 use Rattle.std.specs.List.{AllByRecursion}
 use Rattle.std.specs.Prelude.{IfOk, Option}
@@ -7,7 +7,9 @@ use Rattle.tds_play.specs.Pipe.{Pipe}
 use Rattle.tds_play.specs.Player.{RepresentsWorld}
 use Rattle.tds_play.specs.Plays.{RepresentConnections}
 use Rattle.tds_play.specs.WholePlay.{IsReportOfPlay}
-use Rattle.tds_play.specs.Seats.{Seated}
+use Rattle.tds_play.specs.Pooled.{numbers_kept, numbers_leased, seated_from}
+use Rattle.tds_play.specs.declared.seat.Held.{Held}
+use Rattle.tds_pool.specs.Connections.{connections}
 use Rattle.tds_play.specs.declared.player.Player.{Player}
 use Rattle.tds_session.specs.Answer.{answer_of}
 use Rattle.tds_world.specs.alone.Alone.{AsIfAlone}
@@ -29,9 +31,9 @@ few_events {events} known few = record { known = known; few = (let n : length ev
 begins : {E S : Type 0} (setup : Setup) (player : Player E S) (pipes : ℕ → Option Pipe) → player.links.items ≡ [] → player.leases ≡ [] → player.tickets ≡ []
     → player.asked_on.items ≡ [] → player.max ≡ setup.max → player.size ≡ setup.packet_size → player.on_attention ≡ setup.on_attention → RepresentsWorld setup player.engine player pipes new_world
 begins {E} {S} setup player pipes links leases tickets asked max size told = record {
-  connections = subst (λ (ls : List (Seated E S)). RepresentConnections 1 setup.packet_size player.engine ls pipes []) (sym links) tt;
-  leases = leases;
-  tickets = tickets;
+  connections = subst (λ (hs : List (Held E S)). RepresentConnections 1 setup.packet_size player.engine (seated_from 1 hs (connections player.pool)) pipes []) (sym links) tt;
+  leases = ap numbers_leased leases;
+  tickets = ap numbers_kept tickets;
   asked = asked;
   engine_is = refl;
   max = max;
