@@ -169,21 +169,28 @@ fn read_event(
         return Ok(None);
     }
     for (index, (value, wanted)) in fields.iter().zip(wanted.iter()).enumerate() {
-        if wanted.takes(value) {
-            continue;
+        if !wanted.takes(value) {
+            let nth = index.saturating_add(1);
+            put_front(text, page, part(nth), place)?;
+            write!(text, "value {nth} behind \"{word}\" is ")?;
+            put_other(alloc, text, *wanted, value)?;
+            return Ok(None);
         }
-        let nth = index.saturating_add(1);
-        put_front(text, page, part(nth), place)?;
-        let wanted = wanted.wanted();
-        write!(
-            text,
-            "value {nth} behind \"{word}\" is {wanted}; here stands "
-        )?;
-        put_value(alloc, text, value)?;
-        text.push_str("\n")?;
-        return Ok(None);
     }
     Ok(event_of(word, fields))
+}
+
+/// Appends what was wanted, and what stands there.
+fn put_other(
+    alloc: Global,
+    text: &mut String,
+    wanted: Field,
+    value: &Value,
+) -> Result<(), AllocError> {
+    text.push_str(wanted.wanted())?;
+    text.push_str("; here stands ")?;
+    put_value(alloc, text, value)?;
+    text.push_str("\n")
 }
 
 fn put_front(text: &mut String, page: Page<'_>, at: usize, place: usize) -> Result<(), AllocError> {
