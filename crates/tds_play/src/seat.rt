@@ -47,7 +47,8 @@ fn place_by(holder: u32, place: tds_pool::Place) -> Place
 }
 
 impl<E: Engine + Drop> Held<E> {
-    /// Does what this event does at the ends of its connection. Where that is cut, the pool loses it.
+    /// Does what this event does at the ends of its connection. Where that is cut, the pool loses
+    /// it.
     pub(crate) fn act<C: Carrier>(
         &mut self,
         alloc: Global,

@@ -1,7 +1,7 @@
 use Rattle.std.proofs.Common.{◌∙◌, ap, map}
 use Rattle.tds_play.specs.Links.{newest_held}
 use Rattle.tds_play.proofs.Listed.{all_yielded}
-use Rattle.tds_play.proofs.player.all_records.Goals as goal
+use Rattle.tds_play.proofs.player.ending.all_records.Goals as goal
 
 pub returns : goal.returns
 returns g c =

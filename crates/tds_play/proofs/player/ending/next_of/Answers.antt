@@ -1,7 +1,7 @@
 use Rattle.tds_play.proofs.Requested.{taken_last}
 use Rattle.std.proofs.Common.{◌∙◌, ap, arith, sym}
 use Rattle.tds_play.proofs.any_bytes.Given.{takes_last}
-use Rattle.tds_play.proofs.player.next_of.Goals as goal
+use Rattle.tds_play.proofs.player.ending.next_of.Goals as goal
 
 pub returns-clause-next : goal.returns-clause-next
 returns-clause-next c = λ left r there.

@@ -1,0 +1,277 @@
+//! What an event does on the connection that it is about, and to its lease or ticket.
+ghost use Rattle.std.specs.Prelude.{◌≡◌, ◌<◌, ℕ, suc, length, map, Option, Some, IfOk, OnOk};
+ghost use Rattle.tds_ends.specs.ModelGives.{IsCountable};
+ghost use Rattle.tds_play.specs.Failures.{FailsOn, LiveAreSound, all_known};
+ghost use Rattle.tds_play.specs.Holdings.{conn_of};
+ghost use Rattle.tds_play.specs.Lending.{standing_of, Here};
+ghost use Rattle.tds_play.specs.Noted.{about_of};
+ghost use Rattle.tds_play.specs.Pipe.{Pipe};
+ghost use Rattle.tds_play.specs.Player.{AreHeld, RefinesEvent, IsFound, RepresentsWorld, ModelGivesEach, all_of};
+ghost use Rattle.tds_play.specs.Pooled.{numbers_kept, numbers_leased};
+ghost use Rattle.tds_play.specs.Reads.{AllRead, Answers as Answered, IsAbout, answers_then};
+ghost use Rattle.tds_play.specs.Seats.{IsOfEnds};
+ghost use Rattle.tds_play.specs.Steps.{AreFew, GrowsByOne, IsNoted, IsOfOne, StepsAt};
+ghost use Rattle.tds_play.specs.Ties.{AreTied};
+ghost use Rattle.tds_session.specs.Answer.{answer_of};
+ghost use Rattle.tds_world.specs.Connection.{Connection};
+ghost use Rattle.tds_world.specs.Events.{happens};
+ghost use Rattle.tds_world.specs.Laws.{OfEachConnection};
+ghost use Rattle.tds_world.specs.Losses.{bringing, link_of};
+ghost use Rattle.tds_world.specs.World.{World};
+ghost use Rattle.tds_world.specs.declared.event.Event.TheVariants as events;
+ghost use Rattle.tds_world.specs.declared.event.Setup.{Setup};
+ghost use Rattle.tds_world.specs.declared.outcome.Opened.TheVariants as opened;
+ghost use Rattle.tds_world.specs.declared.outcome.Outcome.TheVariants as outcome;
+
+use super::Player;
+use crate::NoMemory;
+use crate::carrier::Carrier;
+use crate::link::EventDone;
+use crate::link::acts::{done, refused};
+use crate::pool::next_number;
+use std::alloc::AllocError;
+use tds_ends::laws::{idle_alike, lends_matching, pool_is_unseen};
+use tds_session::Engine;
+use tds_world::{Event, Opened, Outcome};
+
+impl<E: Engine + Copy> Player<E> {
+    /// An event, on the connection at this place.
+    pub(super) fn act_at<C: Carrier>(
+        &mut self,
+        carrier: &mut C,
+        place: usize,
+        event: &Event,
+    ) -> Result<EventDone, NoMemory>
+        requires tied { AreTied (all_of self.old) (C.pipes carrier.old) }
+        requires held { AreHeld self.old }
+        requires few { AreFew 9999 self.old }
+        requires there { place < length self.old.links.items }
+        requires about { IsAbout event.now place }
+        requires found { Here place ≡ about_of event.now (map standing_of (all_of self.old))
+            self.old.max (numbers_leased self.old.leases) (numbers_kept self.old.tickets) }
+        requires ends { IsOfOne event.now }
+        ensures tied { OnOk result (AreTied (all_of self.new) (C.pipes carrier.new)) }
+        ensures held { OnOk result (AreHeld self.new) }
+        ensures grows { OnOk result (GrowsByOne self.old self.new) }
+        ensures tells { OnOk result (C.tells carrier.old → C.tells carrier.new) }
+        ensures sound { LiveAreSound (all_of self.old) (C.pipes carrier.old)
+            → OnOk result (LiveAreSound (all_of self.new) (C.pipes carrier.new)) }
+        ensures size { OnOk result (self.new.size ≡ self.old.size) }
+        ensures reads { (size : ℕ) (answers : Answered)
+            → AllRead size (all_of self.old) (C.pipes carrier.old) answers
+            → IfOk result (λ done. AllRead size (all_of self.new)
+            (C.pipes carrier.new) (answers_then event.now done.outcome answers)) }
+        ensures lost { (setup : Setup) (engine : E) (w : World) (c : Connection)
+            → LiveAreSound (all_of self.old) (C.pipes carrier.old)
+            → RepresentsWorld setup engine self.old (C.pipes carrier.old) w
+            → IsFound setup (answer_of (E.statements_of engine) (E.step_of engine)) w event.now
+            place c
+            → IfOk result (λ done. FailsOn event.now done.lost (link_of setup w event.now)
+            (all_known (length self.old.links.items) (C.pipes carrier.old))
+            (all_known (length self.new.links.items) (C.pipes carrier.new))) }
+        ensures refines { (setup : Setup) (engine : E) (w : World) (c : Connection)
+            → C.tells carrier.old → RepresentsWorld setup engine self.old (C.pipes carrier.old) w
+            → ModelGivesEach E (answer_of (E.statements_of engine) (E.step_of engine)) setup w
+            → IsFound setup (answer_of (E.statements_of engine) (E.step_of engine)) w event.now
+            place c
+            → ((k : ℕ) → OfEachConnection IsCountable (happens setup
+            (answer_of (E.statements_of engine) (E.step_of engine)) (bringing k event.now) w).1)
+            → IfOk result (λ done. RefinesEvent setup engine
+            (answer_of (E.statements_of engine) (E.step_of engine)) done self.new
+            (C.pipes carrier.new) event.now w) }
+    {
+        let done = self.step_at(carrier, place, event)?;
+        Ok(done)
+    }
+
+    /// What it does, by the kind of event that it is.
+    fn step_at<C: Carrier>(
+        &mut self,
+        carrier: &mut C,
+        place: usize,
+        event: &Event,
+    ) -> Result<EventDone, NoMemory>
+        requires tied { AreTied (all_of self.old) (C.pipes carrier.old) }
+        requires held { AreHeld self.old }
+        requires few { AreFew 9999 self.old }
+        requires there { place < length self.old.links.items }
+        requires found { Here place ≡ about_of event.now (map standing_of (all_of self.old))
+            self.old.max (numbers_leased self.old.leases) (numbers_kept self.old.tickets) }
+        requires ends { IsOfOne event.now }
+        ensures { IfOk result (λ done. StepsAt
+            (λ engine. answer_of (E.statements_of engine) (E.step_of engine)) event.now place
+            self.old self.new (C.pipes carrier.old) (C.pipes carrier.new)
+            (C.tells carrier.old) (C.tells carrier.new) done) }
+    {
+        match event {
+            Event::Resume(ticket) => self.resume(place, *ticket),
+            Event::GiveBack(lease) => self.give_back(carrier, place, *lease),
+            Event::Keep(lease) => self.keep(place, *lease),
+            Event::Abandon(ticket) => self.abandon(carrier, place, *ticket),
+            _ => self.act_on(carrier, place, event),
+        }
+    }
+
+    /// An event at the ends of the connection at this place.
+    fn act_on<C: Carrier>(
+        &mut self,
+        carrier: &mut C,
+        place: usize,
+        event: &Event,
+    ) -> Result<EventDone, NoMemory>
+        requires tied { AreTied (all_of self.old) (C.pipes carrier.old) }
+        requires held { AreHeld self.old }
+        requires few { AreFew 9999 self.old }
+        requires there { place < length self.old.links.items }
+        requires ends { IsOfEnds event.now }
+        ensures { IfOk result (λ done. StepsAt
+            (λ engine. answer_of (E.statements_of engine) (E.step_of engine)) event.now place
+            self.old self.new (C.pipes carrier.old) (C.pipes carrier.new)
+            (C.tells carrier.old) (C.tells carrier.new) done) }
+    {
+        let number = next_number(self.asked_on.len());
+        let done = self.links[place].act(self.alloc, carrier, &mut self.pool, number, event)?;
+        self.note(place, event, &done.outcome)?;
+        Ok(done)
+    }
+
+    /// Notes the connection of a request that was asked.
+    fn note(&mut self, place: usize, event: &Event, outcome: &Outcome) -> Result<(), NoMemory>
+        requires few { place < 9999 }
+        requires ends { IsOfEnds event.now }
+        ensures noted { OnOk result
+            (IsNoted event.now (suc place) self.old self.new outcome.now) }
+        ensures rest { OnOk result
+            (self.new ≡ record self.old { asked_on = self.new.asked_on }) }
+    {
+        match event {
+            Event::Ask(..) => match outcome {
+                Outcome::Refused(_) => Ok(()),
+                _ => {
+                    self.asked_on.push(next_number(place))?;
+                    Ok(())
+                }
+            },
+            _ => Ok(()),
+        }
+    }
+
+    /// The lease of this number ends, on the connection at this place.
+    fn give_back<C: Carrier>(
+        &mut self,
+        carrier: &mut C,
+        place: usize,
+        number: u32,
+    ) -> Result<EventDone, NoMemory>
+        requires tied { AreTied (all_of self.old) (C.pipes carrier.old) }
+        requires held { AreHeld self.old }
+        requires there { place < length self.old.links.items }
+        requires lent { conn_of (numbers_leased self.old.leases) number ≡ Some (suc place) }
+        ensures { IfOk result (λ done. StepsAt
+            (λ engine. answer_of (E.statements_of engine) (E.step_of engine))
+            (events.GiveBack number) place
+            self.old self.new (C.pipes carrier.old) (C.pipes carrier.new)
+            (C.tells carrier.old) (C.tells carrier.new) done) }
+    {
+        let Some(lease) = self.leases.take(number) else {
+            unreachable!()
+        };
+        match self.links[place].give_back(self.alloc, carrier, &mut self.pool, lease) {
+            Ok(done) => Ok(done),
+            Err(lease) => {
+                self.leases.put(number, lease);
+                Err(AllocError)
+            }
+        }
+    }
+
+    /// The lease of this number becomes a ticket, on the connection at this place.
+    fn keep(&mut self, place: usize, number: u32) -> Result<EventDone, NoMemory>
+        requires held { AreHeld self.old }
+        requires few { AreFew 9999 self.old }
+        requires there { place < length self.old.links.items }
+        requires lent { conn_of (numbers_leased self.old.leases) number ≡ Some (suc place) }
+        ensures { (pipes : ℕ → Option Pipe) → AreTied (all_of self.old) pipes
+            → IfOk result (λ done. StepsAt
+            (λ engine. answer_of (E.statements_of engine) (E.step_of engine))
+            (events.Keep number) place self.old self.new pipes pipes (Unit {0}) (Unit {0}) done) }
+    {
+        idle_alike();
+        pool_is_unseen::<E>();
+        let Some(lease) = self.leases.take(number) else {
+            unreachable!()
+        };
+        let next = self.tickets.next();
+        match self.links[place].keep(&mut self.pool, lease, next) {
+            Ok(ticket) => match self.tickets.give(ticket) {
+                Ok(()) => Ok(done(Outcome::Kept(next))),
+                Err(ticket) => {
+                    let _ = self.pool.abandon(ticket);
+                    Err(AllocError)
+                }
+            },
+            Err((lease, refusal)) => {
+                self.leases.put(number, lease);
+                Ok(refused(refusal))
+            }
+        }
+    }
+
+    /// The ticket of this number becomes a lease, on the connection at this place.
+    fn resume(&mut self, place: usize, number: u32) -> Result<EventDone, NoMemory>
+        requires held { AreHeld self.old }
+        requires few { AreFew 9999 self.old }
+        requires there { place < length self.old.links.items }
+        requires kept { conn_of (numbers_kept self.old.tickets) number ≡ Some (suc place) }
+        ensures { (pipes : ℕ → Option Pipe) → AreTied (all_of self.old) pipes
+            → IfOk result (λ done. StepsAt
+            (λ engine. answer_of (E.statements_of engine) (E.step_of engine))
+            (events.Resume number) place self.old self.new pipes pipes (Unit {0}) (Unit {0}) done) }
+    {
+        idle_alike();
+        lends_matching::<E>();
+        pool_is_unseen::<E>();
+        let Some(ticket) = self.tickets.take(number) else {
+            unreachable!()
+        };
+        let next = self.leases.next();
+        match self.links[place].resume(&mut self.pool, ticket, next) {
+            Ok(lease) => {
+                let conn = lease.number();
+                self.begin_lease(lease)?;
+                Ok(done(Outcome::Leased {
+                    lease: next,
+                    conn,
+                    opened: Opened::Resumed,
+                }))
+            }
+            Err((ticket, refusal)) => {
+                self.tickets.put(number, ticket);
+                Ok(refused(refusal))
+            }
+        }
+    }
+
+    /// The ticket of this number ends, on the connection at this place.
+    fn abandon<C: Carrier>(
+        &mut self,
+        carrier: &mut C,
+        place: usize,
+        number: u32,
+    ) -> Result<EventDone, NoMemory>
+        requires tied { AreTied (all_of self.old) (C.pipes carrier.old) }
+        requires held { AreHeld self.old }
+        requires there { place < length self.old.links.items }
+        requires kept { conn_of (numbers_kept self.old.tickets) number ≡ Some (suc place) }
+        ensures { IfOk result (λ done. StepsAt
+            (λ engine. answer_of (E.statements_of engine) (E.step_of engine))
+            (events.Abandon number) place
+            self.old self.new (C.pipes carrier.old) (C.pipes carrier.new)
+            (C.tells carrier.old) (C.tells carrier.new) done) }
+    {
+        let Some(ticket) = self.tickets.take(number) else {
+            unreachable!()
+        };
+        Ok(self.links[place].abandon(carrier, &mut self.pool, ticket))
+    }
+}

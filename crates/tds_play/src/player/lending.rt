@@ -1,0 +1,164 @@
+//! What a new lease gets: a connection that was lent before, or a new one.
+ghost use Rattle.std.specs.Prelude.{◌≡◌, ◌≤◌, ◌<◌, ℕ, [], ◌∷◌, ◌++◌, length, Some, IfOk, OnOk};
+ghost use Rattle.tds_ends.specs.ModelGives.{IsCountable};
+ghost use Rattle.tds_play.specs.Failures.{FailsOn, LiveAreSound, all_known};
+ghost use Rattle.tds_play.specs.Player.{AreHeld, RefinesEvent, RepresentsWorld, ModelGivesEach, all_of};
+ghost use Rattle.tds_play.specs.Pooled.{IsGone};
+ghost use Rattle.tds_play.specs.Reads.{AllRead, Answers as Answered, answers_then};
+ghost use Rattle.tds_play.specs.Seen.{done_as};
+ghost use Rattle.tds_play.specs.Steps.{AreFew, GrowsByOne, OpensAs, ReusesAs};
+ghost use Rattle.tds_play.specs.Ties.{AreTied};
+ghost use Rattle.tds_session.specs.Answer.{answer_of};
+ghost use Rattle.tds_world.specs.Events.{happens};
+ghost use Rattle.tds_world.specs.Laws.{OfEachConnection};
+ghost use Rattle.tds_world.specs.Losses.{bringing, link_of};
+ghost use Rattle.tds_world.specs.World.{World};
+ghost use Rattle.tds_world.specs.declared.event.Event.TheVariants as events;
+ghost use Rattle.tds_world.specs.declared.event.Setup.{Setup};
+ghost use Rattle.tds_world.specs.declared.outcome.Opened.TheVariants as opened;
+ghost use Rattle.tds_world.specs.declared.outcome.Outcome.TheVariants as outcome;
+
+use super::Player;
+use crate::NoMemory;
+use crate::carrier::Carrier;
+use crate::link::acts::{done, refused};
+use crate::link::{EventDone, Link};
+use crate::seat::Held;
+use std::alloc::{AllocError, Global};
+use tds_ends::laws::{idle_alike, lends_matching, pool_is_unseen};
+use tds_pool::laws::taken_out_is_unknown;
+use tds_pool::{Lease, Pool, PoolRefusal};
+use tds_session::Engine;
+use tds_world::{Opened, Outcome, Refusal};
+
+impl<E: Engine + Copy> Player<E> {
+    /// A lease that the pool gave has its number.
+    pub(super) fn begin_lease(&mut self, lease: Lease) -> Result<(), NoMemory>
+        ensures leases { OnOk result (self.new.leases ≡ self.old.leases ++ Some lease ∷ []) }
+        ensures rest { OnOk result
+            (self.new ≡ record self.old { leases = self.new.leases }) }
+    {
+        match self.leases.give(lease) {
+            Ok(()) => Ok(()),
+            Err(lease) => {
+                spend(self.alloc, &mut self.pool, lease);
+                Err(AllocError)
+            }
+        }
+    }
+
+    /// The pool lends a connection: one that was lent before, or a new one, which is opened.
+    pub(super) fn lease<C: Carrier>(&mut self, carrier: &mut C) -> Result<EventDone, NoMemory>
+        requires tied { AreTied (all_of self.old) (C.pipes carrier.old) }
+        requires held { AreHeld self.old }
+        requires few { AreFew 9999 self.old }
+        ensures tied { OnOk result (AreTied (all_of self.new) (C.pipes carrier.new)) }
+        ensures held { OnOk result (AreHeld self.new) }
+        ensures grows { OnOk result (GrowsByOne self.old self.new) }
+        ensures tells { OnOk result (C.tells carrier.old → C.tells carrier.new) }
+        ensures sound { LiveAreSound (all_of self.old) (C.pipes carrier.old)
+            → OnOk result (LiveAreSound (all_of self.new) (C.pipes carrier.new)) }
+        ensures size { OnOk result (self.new.size ≡ self.old.size) }
+        ensures reads { (answers : Answered)
+            → AllRead self.old.size (all_of self.old) (C.pipes carrier.old) answers
+            → IfOk result (λ done. AllRead self.old.size (all_of self.new)
+            (C.pipes carrier.new) (answers_then events.Lease done.outcome answers)) }
+        ensures lost { (setup : Setup) (engine : E) (w : World)
+            → LiveAreSound (all_of self.old) (C.pipes carrier.old)
+            → RepresentsWorld setup engine self.old (C.pipes carrier.old) w
+            → ModelGivesEach E (answer_of (E.statements_of engine) (E.step_of engine)) setup w
+            → IfOk result (λ done. FailsOn events.Lease done.lost (link_of setup w events.Lease)
+            (all_known (length self.old.links.items) (C.pipes carrier.old))
+            (all_known (length self.new.links.items) (C.pipes carrier.new))) }
+        ensures refines { (setup : Setup) (engine : E) (w : World) → C.tells carrier.old
+            → RepresentsWorld setup engine self.old (C.pipes carrier.old) w
+            → ModelGivesEach E (answer_of (E.statements_of engine) (E.step_of engine)) setup w
+            → ((k : ℕ) → OfEachConnection IsCountable (happens setup
+            (answer_of (E.statements_of engine) (E.step_of engine)) (bringing k events.Lease) w).1)
+            → IfOk result (λ done. RefinesEvent setup engine
+            (answer_of (E.statements_of engine) (E.step_of engine)) done self.new
+            (C.pipes carrier.new) events.Lease w) }
+    {
+        idle_alike();
+        lends_matching::<E>();
+        pool_is_unseen::<E>();
+        let lease = self.leases.next();
+        match self.pool.lease(self.alloc) {
+            Ok((given, opened)) => {
+                self.begin_lease(given)?;
+                match opened {
+                    tds_pool::Opened::Reused(conn) => Ok(self.reuse(conn, lease)),
+                    tds_pool::Opened::New(conn) => {
+                        let done = self.open(carrier, conn, lease)?;
+                        Ok(done)
+                    }
+                }
+            }
+            Err(refusal) => match refusal {
+                PoolRefusal::Memory => Err(AllocError),
+                _ => Ok(refused(Refusal::AllInUse)),
+            },
+        }
+    }
+
+    /// The connection of this number is lent again, to this lease.
+    fn reuse(&mut self, conn: u32, lease: u32) -> EventDone
+        requires there { (0 < conn) × (conn ≤ length self.old.links.items) }
+        ensures reuses { ReusesAs conn lease self.old self.new }
+        ensures done { result ≡ done_as (outcome.Leased lease conn opened.Reused) }
+    {
+        self.links[conn as usize - 1].holder = lease;
+        done(Outcome::Leased {
+            lease,
+            conn,
+            opened: Opened::Reused,
+        })
+    }
+
+    /// A new connection is opened, which the pool lent to this lease.
+    fn open<C: Carrier>(
+        &mut self,
+        carrier: &mut C,
+        conn: u32,
+        lease: u32,
+    ) -> Result<EventDone, NoMemory>
+        ensures { IfOk result (λ done. OpensAs conn lease self.old self.new
+            (C.pipes carrier.old) (C.pipes carrier.new)
+            (C.tells carrier.old) (C.tells carrier.new) done) }
+    {
+        let (link, lost) = Link::open(
+            self.alloc,
+            carrier,
+            conn,
+            self.engine,
+            self.size,
+            self.on_attention,
+        )?;
+        if lost {
+            let _ = self.pool.lost(conn);
+        }
+        self.links.push(Held {
+            link,
+            holder: lease,
+        })?;
+        let outcome = Outcome::Leased {
+            lease,
+            conn,
+            opened: Opened::New,
+        };
+        Ok(EventDone { outcome, lost })
+    }
+}
+
+/// A lease ends whose connection nobody needs any more: the pool loses that first.
+pub(super) fn spend(alloc: Global, pool: &mut Pool, lease: Lease)
+    ensures lost { IsGone lease.number pool.old pool.new }
+{
+    taken_out_is_unknown();
+    let mut nothing = Vec::new(alloc);
+    let _ = pool.lost(lease.number());
+    match pool.give_back(lease, &mut nothing) {
+        Ok(_) => {}
+        Err(_) => unreachable!(),
+    }
+}
