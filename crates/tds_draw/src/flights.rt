@@ -165,12 +165,13 @@ impl<'a> Drawing<'a> {
         None
     }
 
-    /// How many steps the answer to the request has at most: a reset, each statement, and the end.
+    /// How many steps the answer to the request has at most: a reset, each statement, and the end. A text outside of the
+    /// language is answered as one statement that fails.
     fn steps(&self) -> Result<usize, AllocError> {
         let statements = match self.asked_request() {
             Some(Request::Batch(text)) => match ScriptEngine.parse(self.alloc, text.units())? {
                 Some(statements) => statements.len(),
-                None => 0,
+                None => 1,
             },
             _ => 0,
         };

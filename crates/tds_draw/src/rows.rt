@@ -12,6 +12,7 @@ use tds_play::{
     WorkOutcome,
 };
 use tds_request::Request;
+use tds_session::{Engine, ScriptEngine};
 use tds_text::put_units;
 
 /// How wide a statement is shown.
@@ -210,7 +211,7 @@ impl<'a> Drawing<'a> {
         self.tell_session(moment)
     }
 
-    /// The statement that is run next, and a colon; nothing where the step runs none.
+    /// The statement that is run next, and a colon; nothing where the step runs none, as at a syntax error.
     fn statement(&self) -> Result<String, AllocError> {
         let mut shown = String::new(self.alloc);
         let (Task::Whole { done, count }, Some(Request::Batch(text))) = (
@@ -222,6 +223,9 @@ impl<'a> Drawing<'a> {
         let Some(place) = done.checked_sub(usize::from(self.reset.is_some())) else {
             return Ok(shown);
         };
+        if ScriptEngine.parse(self.alloc, text.units())?.is_none() {
+            return Ok(shown);
+        }
         let semicolon = u16::from(b';');
         for (index, units) in text.units().split(|unit| *unit == semicolon).enumerate() {
             if index == place {

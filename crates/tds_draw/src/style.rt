@@ -22,6 +22,7 @@ pub(crate) const STYLE: &str = "\
      .sk{stroke:#1f2328}.fk{fill:#1f2328}\
      @media(prefers-color-scheme:dark){.bg,.lb{fill:#0d1117}.band{fill:#161c25}\
      text{fill:#e6edf3}.muted,.struck{fill:#9aa4af}.bad{fill:#ff8a80}.n{fill:#0d1117}\
+     .life{fill:#6e7681}\
      .box,.leased,.kept,.draining{stroke:#6e7681}.box,.leased{fill:#2b333d}\
      .cut{stroke:#ff8a80}.st{fill:#3a3000;stroke:#b08800}.s0{stroke:#6cb0ff}\
      .f0{fill:#6cb0ff}.s1{stroke:#f0a35e}.f1{fill:#f0a35e}.s2{stroke:#6fcf7f}\
