@@ -225,9 +225,10 @@ kept_rests ticket n holder cs c is known idle =
     let whole : abandoned ticket cs ≡ rest_returned n true cs =
     abandoned_is ticket cs c known number (unbroken_idle c.client.stage idle)
     ∙ ap (λ (b : Bool). rest_returned ticket.number b cs) idle
-    ∙ ap (λ (k : ℕ). rest_returned k true cs) is in
-    (ap (λ (r : Returned). seat_by holder (numbered n r.connections)) whole ∙ ap (seat_by holder) (moved n cs c places.Free found),
-      ap (λ (r : Returned). rests_in r.answer) whole)
+    ∙ ap (λ (k : ℕ). rest_returned k true cs) is in (
+      ap (λ (r : Returned). seat_by holder (numbered n r.connections)) whole ∙ ap (seat_by holder) (moved n cs c places.Free found),
+      ap (λ (r : Returned). rests_in r.answer) whole,
+    )
 
 -- What was done without the carrier is what the model does.
 pub does_whole : {E S : Type 0} (number size : ℕ) (engine : E) (done : EventDone) (link : Link E S) (seat : Seat) (pipe : Option Pipe) (a : Acted) (c : model.Connection) → DoesWhole number size engine done link seat pipe a c → RefinesAct number size engine done link seat pipe a c
@@ -254,10 +255,11 @@ pub given_rests : (lease : Lease) (n holder : ℕ) (cs : List Connection) (c : C
 given_rests lease n holder cs c is known more sound =
     let found : numbered lease.number cs ≡ Some c = standing_found is_leased lease.key lease.number cs c known in
     let idle : Bool = is_idle c.client.stage in
-    let whole : given_back lease cs ≡ rest_returned lease.number idle (with_client lease.number c.client cs) = given_back_is lease cs c known found more sound in
-    (ap (λ (r : Returned). r.answer) whole ∙ ap (rest_answer idle) is,
+    let whole : given_back lease cs ≡ rest_returned lease.number idle (with_client lease.number c.client cs) = given_back_is lease cs c known found more sound in (
+      ap (λ (r : Returned). r.answer) whole ∙ ap (rest_answer idle) is,
       ap (λ (k : ℕ). seat_by holder (numbered k (given_back lease cs).connections)) (sym is)
-      ∙ ap (λ (r : Returned). seat_by holder (numbered lease.number r.connections)) whole
-      ∙ ap (seat_by holder) (given_back_here lease cs c idle found)
-      ∙ ap (λ p. seated p c.client) (back_place holder idle)
-      ∙ ap (λ (b : Bool). seated (place_back b) c.client) (idle_alike c.client.stage))
+          ∙ ap (λ (r : Returned). seat_by holder (numbered lease.number r.connections)) whole
+          ∙ ap (seat_by holder) (given_back_here lease cs c idle found)
+          ∙ ap (λ p. seated p c.client) (back_place holder idle)
+          ∙ ap (λ (b : Bool). seated (place_back b) c.client) (idle_alike c.client.stage),
+    )

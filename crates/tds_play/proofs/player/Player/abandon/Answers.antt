@@ -52,7 +52,7 @@ returns g c =
     touched_steps (λ x. answer_of (g.E.Engine.statements_of x) (g.E.Engine.step_of x)) (event.Abandon c.args.number) c.args.place old _ h k (pipes c.args.carrier.now) (pipes c.abandon.new.carrier) _ _ c.abandon.result c.requires.tied at said.number refl
     (spared_others c.args.place h k old.pool c.abandon.new.pool number said.pool)
     (ticket_ends c.args.place c.args.number old _ h k c.in-Some.ticket c.requires.held at number said.number slot said.pool said.there
-          (λ cut. ap (λ (x : Held g.row.E.Denot g.row.E-Stmt.Denot). x.link.is_cut) (said.gone cut).1 ∙ cut) refl refl c.in-Some.ensures.left (record { engine_is = refl; max_is = refl; size_is = refl; told_is = refl }))
+    (λ cut. ap (λ (x : Held g.row.E.Denot g.row.E-Stmt.Denot). x.link.is_cut) (said.gone cut).1 ∙ cut) refl refl c.in-Some.ensures.left (record { engine_is = refl; max_is = refl; size_is = refl; told_is = refl }))
     (said.ties)
     (λ fine. whole_as (calls_of (event.Abandon c.args.number)) c.abandon.result k.link (pipes c.abandon.new.carrier h.link.number) said.whole (λ call. said.failed call ∙ fine call))
     (λ cut. (ap pipes (said.gone cut).0, ap (λ (x : Held g.row.E.Denot g.row.E-Stmt.Denot). x.link) (said.gone cut).1, said.whole))
@@ -62,5 +62,5 @@ returns g c =
     (ticket_ends_few c.args.place c.args.number old _ k refl refl c.in-Some.ensures.left)
     (ticket_ends_noted c.args.number (suc c.args.place) old _ c.abandon.result.outcome said.told refl c.in-Some.ensures.left refl)
     (λ setup engine w m told is promised promise played ready counts.
-          subst (λ (e : Event). RefinesAct h.link.number setup.packet_size engine c.abandon.result k.link (seat_in k c.abandon.new.pool) (pipes c.abandon.new.carrier h.link.number) (acts_on setup (answer_of (g.E.Engine.statements_of engine) (g.E.Engine.step_of engine)) w e h.link.number m) m)
-          (sym (met_abandoned (loss_of c.abandon.result) c.args.number)) (said.refines setup w c.args.number m engine played ready))
+    subst (λ (e : Event). RefinesAct h.link.number setup.packet_size engine c.abandon.result k.link (seat_in k c.abandon.new.pool) (pipes c.abandon.new.carrier h.link.number) (acts_on setup (answer_of (g.E.Engine.statements_of engine) (g.E.Engine.step_of engine)) w e h.link.number m) m)
+    (sym (met_abandoned (loss_of c.abandon.result) c.args.number)) (said.refines setup w c.args.number m engine played ready))

@@ -18,15 +18,15 @@ leases-preserved g c =
     let next = one_more_ended c.leases.place (c.leases.place + 1) first.leases old.leases c.take_at.new.self inv.leases c.take_at.ensures.left (omega (arith)) in
     elim c.match-take_at.branch [
       | in-Some w ↦ record {
-          leases = ap (λ p. p.leases) w.self-is ∙ next;
-          rest = leases_only first old c.match-take_at.self w.spend.new.pool c.take_at.new.self inv.rest w.self-is;
-          pool = loses_as first.pool w.spend.new.pool c.match-take_at.self.pool (loses_lease w.in-Some.lease.number first.pool old.pool w.spend.new.pool inv.pool w.spend.ensures.lost) (ap (λ p. p.pool) w.self-is);
-        }
+        leases = ap (λ p. p.leases) w.self-is ∙ next;
+        rest = leases_only first old c.match-take_at.self w.spend.new.pool c.take_at.new.self inv.rest w.self-is;
+        pool = loses_as first.pool w.spend.new.pool c.match-take_at.self.pool (loses_lease w.in-Some.lease.number first.pool old.pool w.spend.new.pool inv.pool w.spend.ensures.lost) (ap (λ p. p.pool) w.self-is);
+      }
       | in_default w ↦ record {
-          leases = ap (λ p. p.leases) w.self-is ∙ next;
-          rest = leases_only first old c.match-take_at.self old.pool c.take_at.new.self inv.rest w.self-is;
-          pool = loses_as first.pool old.pool c.match-take_at.self.pool inv.pool (ap (λ p. p.pool) w.self-is);
-        }
+        leases = ap (λ p. p.leases) w.self-is ∙ next;
+        rest = leases_only first old c.match-take_at.self old.pool c.take_at.new.self inv.rest w.self-is;
+        pool = loses_as first.pool old.pool c.match-take_at.self.pool inv.pool (ap (λ p. p.pool) w.self-is);
+      }
     ]
 
 pub tickets-init : goal.tickets-init
@@ -49,17 +49,17 @@ tickets-preserved g c =
     let next = one_more_ended c.tickets.place (c.tickets.place + 1) first.tickets old.tickets c.take_at-in-tickets.new.self inv.tickets c.take_at-in-tickets.ensures.left (omega (arith)) in
     elim c.match-take_at-2.branch [
       | in-Some-take_at w ↦ record {
-          leases = ap (λ p. p.leases) w.self-is ∙ inv.leases;
-          tickets = ap (λ p. p.tickets) w.self-is ∙ next;
-          rest = tickets_too first old c.match-take_at-2.self w.abandon.new.self c.take_at-in-tickets.new.self inv.rest w.self-is;
-          pool = loses_as first.pool w.abandon.new.self c.match-take_at-2.self.pool (loses_ticket w.in-Some-take_at.ticket first.pool old.pool w.abandon.new.self inv.pool w.abandon.ensures.shown w.abandon.ensures.rest) (ap (λ p. p.pool) w.self-is);
-        }
+        leases = ap (λ p. p.leases) w.self-is ∙ inv.leases;
+        tickets = ap (λ p. p.tickets) w.self-is ∙ next;
+        rest = tickets_too first old c.match-take_at-2.self w.abandon.new.self c.take_at-in-tickets.new.self inv.rest w.self-is;
+        pool = loses_as first.pool w.abandon.new.self c.match-take_at-2.self.pool (loses_ticket w.in-Some-take_at.ticket first.pool old.pool w.abandon.new.self inv.pool w.abandon.ensures.shown w.abandon.ensures.rest) (ap (λ p. p.pool) w.self-is);
+      }
       | in_default-take_at w ↦ record {
-          leases = ap (λ p. p.leases) w.self-is ∙ inv.leases;
-          tickets = ap (λ p. p.tickets) w.self-is ∙ next;
-          rest = tickets_too first old c.match-take_at-2.self old.pool c.take_at-in-tickets.new.self inv.rest w.self-is;
-          pool = loses_as first.pool old.pool c.match-take_at-2.self.pool inv.pool (ap (λ p. p.pool) w.self-is);
-        }
+        leases = ap (λ p. p.leases) w.self-is ∙ inv.leases;
+        tickets = ap (λ p. p.tickets) w.self-is ∙ next;
+        rest = tickets_too first old c.match-take_at-2.self old.pool c.take_at-in-tickets.new.self inv.rest w.self-is;
+        pool = loses_as first.pool old.pool c.match-take_at-2.self.pool inv.pool (ap (λ p. p.pool) w.self-is);
+      }
     ]
 
 pub returns-clause-tickets : goal.returns-clause-tickets

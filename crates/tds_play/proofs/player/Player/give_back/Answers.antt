@@ -58,7 +58,7 @@ returns-in-Ok g c =
     touched_steps (λ x. answer_of (g.E.Engine.statements_of x) (g.E.Engine.step_of x)) (event.GiveBack c.args.number) c.args.place old _ h k (pipes c.args.carrier.now) (pipes c.give_back.new.carrier) _ _ done c.requires.tied at said.number refl
     (spared_others c.args.place h k old.pool c.give_back.new.pool number said.pool)
     (lease_ends c.args.place c.args.number old _ h k c.in-Some.lease c.requires.held at number said.number slot said.pool said.there
-          (λ cut. ap (λ (x : Held g.row.E.Denot g.row.E-Stmt.Denot). x.link.is_cut) (said.gone cut).1 ∙ cut) refl c.in-Some.ensures.left refl (record { engine_is = refl; max_is = refl; size_is = refl; told_is = refl }))
+    (λ cut. ap (λ (x : Held g.row.E.Denot g.row.E-Stmt.Denot). x.link.is_cut) (said.gone cut).1 ∙ cut) refl c.in-Some.ensures.left refl (record { engine_is = refl; max_is = refl; size_is = refl; told_is = refl }))
     (said.ties)
     (said.failed c.args.number)
     (λ cut. (ap pipes (said.gone cut).0, ap (λ (x : Held g.row.E.Denot g.row.E-Stmt.Denot). x.link) (said.gone cut).1, (said.gone cut).3))
@@ -68,5 +68,5 @@ returns-in-Ok g c =
     (lease_ends_few c.args.place c.args.number old _ k refl c.in-Some.ensures.left refl)
     (lease_ends_noted c.args.number (suc c.args.place) old _ done.outcome said.told c.in-Some.ensures.left refl refl)
     (λ setup engine w m told is promised promise played ready counts.
-          subst (λ (e : Event). RefinesAct h.link.number setup.packet_size engine done k.link (seat_in k c.give_back.new.pool) (pipes c.give_back.new.carrier h.link.number) (acts_on setup (answer_of (g.E.Engine.statements_of engine) (g.E.Engine.step_of engine)) w e h.link.number m) m)
-          (sym (met_back (loss_of done) c.args.number)) (said.refines setup w c.args.number m engine played (counts 0)))
+    subst (λ (e : Event). RefinesAct h.link.number setup.packet_size engine done k.link (seat_in k c.give_back.new.pool) (pipes c.give_back.new.carrier h.link.number) (acts_on setup (answer_of (g.E.Engine.statements_of engine) (g.E.Engine.step_of engine)) w e h.link.number m) m)
+    (sym (met_back (loss_of done) c.args.number)) (said.refines setup w c.args.number m engine played (counts 0)))

@@ -66,8 +66,10 @@ returns-in_default-clause-sound g c = λ sound.
     let h : ℕ = c.args.self.now.holder in
     let pcs = connections c.args.pool.now in
     let it : IsIn n pcs = in_of n pcs c.requires.is_in in
-    let unbroken : is_broken it.connection.client.stage ≡ false = sym (ap (λ o. is_broken (seat_by h o).client.stage) it.there) ∙ sound in
-    (refl, refl,
+    let unbroken : is_broken it.connection.client.stage ≡ false = sym (ap (λ o. is_broken (seat_by h o).client.stage) it.there) ∙ sound in (
+      refl,
+      refl,
       ap (λ cs. seat_by h (numbered n cs)) c.drained.ensures.shown
-      ∙ seat_drained n h pcs it.connection it.there unbroken
-      ∙ sym (ap (λ o. drained (seat_by h o)) it.there))
+          ∙ seat_drained n h pcs it.connection it.there unbroken
+          ∙ sym (ap (λ o. drained (seat_by h o)) it.there),
+    )

@@ -42,13 +42,13 @@ returns-then-self-clause-pool g c =
     let same : (given_back c.args.lease pcs).connections ≡ pcs =
     ap (λ (r : Returned). r.connections) (given_back_unknown c.args.lease pcs (unknown is_leased c.args.lease.key c.args.lease.number pcs (ap (λ (m : ℕ). numbered m pcs) c.requires.named ∙ none))) in
     elim c.match-give_back.branch [
-    in-Ok w ↦ subst (λ (r : Result EventDone Lease). OnOk r (Spares n c.args.self.now.link.is_cut c.args.pool.now c.give_back.new.self)) (sym w.result-is)
-    (spares_of n c.args.self.now.link.is_cut c.args.pool.now c.give_back.new.self
-    (subst (λ (cs : List Connection). Leaves n pcs cs) (sym (w.in-Ok.ensures.shown ∙ same)) (leaves_none n pcs))
-    (λ lives. let bad : true ≡ false = sym c.if-self.true ∙ lives in absurd (cc))
-    (λ cut. ap (numbered n) (w.in-Ok.ensures.shown ∙ same) ∙ none)
-    w.in-Ok.ensures.rest)
-    | in-Err w ↦ subst (λ (r : Result EventDone Lease). OnOk r (Spares n c.args.self.now.link.is_cut c.args.pool.now c.give_back.new.self)) (sym w.result-is) tt
+      | in-Ok w ↦ subst (λ (r : Result EventDone Lease). OnOk r (Spares n c.args.self.now.link.is_cut c.args.pool.now c.give_back.new.self)) (sym w.result-is)
+          (spares_of n c.args.self.now.link.is_cut c.args.pool.now c.give_back.new.self
+          (subst (λ (cs : List Connection). Leaves n pcs cs) (sym (w.in-Ok.ensures.shown ∙ same)) (leaves_none n pcs))
+          (λ lives. let bad : true ≡ false = sym c.if-self.true ∙ lives in absurd (cc))
+          (λ cut. ap (numbered n) (w.in-Ok.ensures.shown ∙ same) ∙ none)
+          w.in-Ok.ensures.rest)
+      | in-Err w ↦ subst (λ (r : Result EventDone Lease). OnOk r (Spares n c.args.self.now.link.is_cut c.args.pool.now c.give_back.new.self)) (sym w.result-is) tt
     ]
 
 -- What the pool keeps: the client's session changed, then the lease ended, and then it may be cut.
