@@ -25,6 +25,7 @@ pub mod Back
 pub mod Unkept
 pub mod Records
 pub mod Steps
+pub mod Shown
 pub mod Unseen
 pub mod Keeping
 pub mod Resuming

@@ -1,5 +1,5 @@
 -- What is seen of a connection of a play, and what an event came to there.
-use Rattle.std.specs.Prelude.{Bool, true, false, Option, Some, None, option_map}
+use Rattle.std.specs.Prelude.{ℕ, zero, suc, Bool, true, false, List, Option, Some, None, option_map, slice_get}
 use Rattle.tds_client.specs.Session as client
 use Rattle.tds_world.specs.declared.outcome.Outcome.{Outcome}
 use Rattle.tds_world.specs.declared.outcome.Outcome.TheVariants as outcome
@@ -43,6 +43,15 @@ seen_in link seat = seen_by link.is_cut link seat
 
 abbrev pub seen_of : {E S : Type 0} → Seated E S → Option Snapshot
 seen_of x = seen_in x.link x.seat
+
+abbrev pub seen_if : {E S : Type 0} → Option (Seated E S) → Option Snapshot
+seen_if None = None
+seen_if (Some x) = seen_of x
+
+-- What is seen of the connection of this number, of connections whose numbers begin with 1.
+abbrev pub seen_at : {E S : Type 0} → List (Seated E S) → ℕ → Option Snapshot
+seen_at xs zero = None
+seen_at xs (suc place) = seen_if (slice_get xs place)
 
 -- ---- What an event came to
 

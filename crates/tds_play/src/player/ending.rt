@@ -8,7 +8,7 @@ ghost use Rattle.tds_play.specs.Pipe.{Pipe};
 ghost use Rattle.tds_play.specs.Player.{AreHeld, RepresentsWorld, all_of};
 ghost use Rattle.tds_play.specs.Plays.{RepresentConnections};
 ghost use Rattle.tds_play.specs.Reads.{AllRead, Answers as Answered, TakesLast, TellsGiven};
-ghost use Rattle.tds_play.specs.Seen.{seen_of};
+ghost use Rattle.tds_play.specs.Seen.{seen_at, seen_of};
 ghost use Rattle.tds_play.specs.Steps.{CutsAt};
 ghost use Rattle.tds_play.specs.Ties.{AreNumbered, AreTied};
 ghost use Rattle.tds_play.specs.declared.request.Record.{Record};
@@ -126,13 +126,27 @@ impl<E: Engine + Copy> Player<E> {
         ensures { IfOk result (λ snapshots.
             snapshots.items ≡ filter_map seen_of (all_of self.now)) }
     {
+        let numbers = self.pool.numbers(self.alloc)?;
         let mut snapshots = Vec::new(self.alloc);
-        'links: for held in &self.links {
-            if let Some(snapshot) = held.snapshot(&self.pool) {
+        'numbers: for number in &numbers {
+            if let Some(snapshot) = self.snapshot(*number) {
                 snapshots.push(snapshot)?;
             }
         }
         Ok(snapshots)
+    }
+
+    /// What is seen of the connection of this number.
+    fn snapshot(&self, number: u32) -> Option<Snapshot>
+        requires held { AreHeld self.now }
+        requires numbered { AreNumbered (all_of self.now) }
+        ensures { result ≡ seen_at (all_of self.now) number }
+    {
+        if number == 0 || number as usize > self.links.len() {
+            return None;
+        }
+        let held = &self.links[number as usize - 1];
+        held.snapshot(&self.pool)
     }
 
     /// What is told of each request in the end, in the order in which they were asked.
