@@ -6,8 +6,9 @@
  *  - No pointer is null, also where its length is 0.
  *  - A pointer to a struct has one; a pointer with a length has that many elements, which the call
  *    may read, and write where the pointer isn't const. No length is over PTRDIFF_MAX bytes.
- *    What a call only writes (a count, a packet, a token, a new client) need not be set before, but
- *    has to be memory that was written once: `struct tds_client client = {0};`.
+ *    What a call only writes (a count, a packet, a token, a message, bytes that go out, a new
+ *    client) need not be set before, but has to be memory that was written once:
+ *    `struct tds_client client = {0};`, in C++ `{}`.
  *  - What a call may write overlaps nothing else that is handed to the same call.
  *  - No other thread touches what is handed to a call while it runs. Two calls on different values
  *    may run at the same time. A value may go from thread to thread.
@@ -164,7 +165,8 @@ uint8_t tds_client_start_rollback(struct tds_client *client, uint8_t next, uint8
                                   size_t room, size_t *count);
 
 /* In sending: writes the request's next packet to `out`, which needs room for the packet size at
- * most. TDS_MORE or TDS_LAST. Takes no memory. */
+ * most (where it is too short, `count` is the length of this packet). TDS_MORE or TDS_LAST. Takes no
+ * memory. */
 uint8_t tds_client_send(struct tds_client *client, const uint8_t *message, size_t length,
                         uint8_t *out, size_t room, size_t *count);
 
@@ -172,9 +174,12 @@ uint8_t tds_client_send(struct tds_client *client, const uint8_t *message, size_
  * most); send it, and take packets until TDS_ACKNOWLEDGED. */
 uint8_t tds_client_cancel(struct tds_client *client, uint8_t *out, size_t room, size_t *count);
 
-/* Takes one packet of an answer, from its first byte to its last. TDS_MORE, TDS_FINISHED or
- * TDS_ACKNOWLEDGED. Takes no memory. In reading, its tokens but the ENVCHANGEs are the caller's, and
- * are read by tds_token_next; in cancelling none is. */
+/* Takes one packet of an answer, from its first byte to its last. TDS_MORE (in cancelling also where
+ * the answer has ended, and its acknowledgement is still to come), TDS_FINISHED or
+ * TDS_ACKNOWLEDGED. 61 to 69: the client is broken by this packet, nothing of it is told, and each
+ * later packet is answered so. 41 to 46: the packet's header is wrong; the client is as it was, but
+ * nothing behind it can be read, so call tds_client_lost. Takes no memory. In reading, its tokens but
+ * the ENVCHANGEs are the caller's, and are read by tds_token_next; in cancelling none is. */
 uint8_t tds_client_take(struct tds_client *client, const uint8_t *packet, size_t length);
 
 /* The connection is lost: the client is broken, unless it is broken already. Takes no memory. */
@@ -232,7 +237,7 @@ uint8_t tds_token_next(const uint8_t *data, size_t length, struct tds_cursor *cu
  * They stand at the front of `tokens`, and `count` says how many. TDS_OK: the room is full, and
  * there may be more. TDS_END: these were the last ones. 51 to 57: behind these the data spell no
  * token. In each case the tokens that were read are there, and the cursor stands where
- * tds_token_next would leave it. Takes no memory. */
+ * tds_token_next would leave it. Without room (0) nothing is read. Takes no memory. */
 uint8_t tds_tokens_next(const uint8_t *data, size_t length, struct tds_cursor *cursor,
                         struct tds_token *tokens, size_t room, size_t *count);
 
@@ -244,8 +249,9 @@ struct tds_rows {
     size_t columns; /* how many values each has */
 };
 
-/* Finds all the rows at the cursor, and goes on behind them. TDS_OK, also where there is none:
- * `count` is 0 then, and tds_token_next reads the token that is there. Takes no memory. */
+/* Finds all the rows at the cursor, and goes on behind them. TDS_OK, also where there is none, or
+ * one that is cut or whose columns aren't known: `count` is 0 then, and tds_token_next reads what is
+ * there, or says why not. Takes no memory. */
 uint8_t tds_rows_next(const uint8_t *data, size_t length, struct tds_cursor *cursor,
                       struct tds_rows *rows);
 

@@ -15,7 +15,8 @@ extern "C" {
 #define TDS_NOT_PLAYED 1   /* the line that says why not was written, as `error: schedule 3` */
 #define TDS_PLAY_NO_ROOM 2 /* `count` bytes are wanted; nothing was written */
 
-/* Plays a schedule over links in memory that never fail, and writes its report to `out`. */
+/* Plays a schedule over links in memory that never fail, and writes its report to `out`, or the line
+ * that says why not. Either text ends in a line feed, which `count` counts, with no 0 behind it. */
 uint8_t tds_play(const uint8_t *schedule, size_t length, uint8_t *out, size_t room, size_t *count);
 
 #ifdef __cplusplus
