@@ -1,5 +1,5 @@
 -- What taking a packet does.
-use Rattle.std.specs.Prelude.{◌≡◌, ℕ, Bool, true, false, List, [], ◌++◌, Option, None, Result, Ok, Err, IsOk}
+use Rattle.std.specs.Prelude.{◌≡◌, ◌≢◌, ℕ, Bool, true, false, List, [], ◌++◌, Option, None, Result, Ok, Err, IsOk}
 use Rattle.tds_packet.specs.declared.reader.PacketRef.{PacketRef}
 use Rattle.tds_packet.specs.Layout.{bits_of, has_bit}
 use Rattle.tds_token.specs.declared.token.Token.{Token}
@@ -77,10 +77,11 @@ abbrev pub DoesTake : Result ClientMove ClientFault → Taken → ClientSession 
 DoesTake wanted answer session before after =
     (more : List Token) × (wanted ≡ Ok (record { answer = answer; session = session; tokens = more })) × (after ≡ before ++ more)
 
--- At want of memory everything is as it was. It is wanted only where tokens are told, and where there is no fault.
+-- At want of memory everything is as it was. It is wanted only where tokens are told, in reading, and where there is no fault.
 pub record LeftUntaken (wanted : Result ClientMove ClientFault) (old new : ClientSession) (before after : List Token) : Type 0 where
   pub lawful : IsOk wanted
   pub reading : old.stage ≡ Reading
+  pub telling : (move : ClientMove) → wanted ≡ Ok move → move.tokens ≢ []
   pub session : new ≡ old
   pub tokens : after ≡ before
 

@@ -1,7 +1,7 @@
 //! The two walks over a packet's data: the first judges the tokens and takes no memory, the second
 //! makes those that are told the caller's own.
 
-ghost use Rattle.std.specs.Prelude.{◌≡◌, ◌++◌, Ok, Err, IfOk, OnOk, MatchResult, length, take};
+ghost use Rattle.std.specs.Prelude.{◌≡◌, ◌≢◌, [], ◌++◌, Ok, Err, IfOk, OnOk, OnErr, MatchResult, length, take};
 ghost use Rattle.tds_token.specs.Told.{told};
 ghost use Rattle.tds_token.specs.Contents.{contents_of};
 ghost use Rattle.tds_client.specs.Hearing.{hear_contents, hear_packet};
@@ -72,6 +72,7 @@ pub(crate) fn put_told(
     ensures ok { OnOk result
         (out.new.items ≡ out.old.items ++ told (contents_of columns data.now).tokens) }
     ensures kept { take (length out.old.items) out.new.items ≡ out.old.items }
+    ensures telling { OnErr result (told (contents_of columns data.now).tokens ≢ []) }
 {
     let mut tokens = Tokens::new(data, columns);
     'tokens: while let Some(next) = tokens.next() {

@@ -1,5 +1,5 @@
 -- Reading a list of bytes never wants memory: none of its faults is that one.
-use Rattle.std.proofs.Common.{◌≡◌, ℕ, Bool, true, false, cond, eqb, ltb, nat_le, List, [], ◌∷◌, length, None, Some, Result, Ok, Err, refl, subst}
+use Rattle.std.proofs.Common.{◌≡◌, ℕ, Bool, true, false, cond, eqb, ltb, nat_le, List, [], ◌∷◌, length, None, Some, Result, Ok, Err, refl, subst, ap, ◌∙◌, rules}
 use Rattle.std.specs.Int.{Width, w16, w32, w64, byte_len}
 use Rattle.tds_request.specs.declared.fault.RequestFault.{RequestFault}
 use Rattle.tds_request.specs.declared.fault.RequestFault.TheVariants.{Short, WrongTotalLength, WrongHeader, WrongCount, WrongTextLength, WrongRequestType, WrongIsolation, WrongName, WrongFlags, BytesLeftOver, Memory}
@@ -7,7 +7,7 @@ use Rattle.tds_request.specs.declared.request.Request.TheVariants as requests
 use Rattle.tds_request.specs.declared.request.RequestKind.{RequestKind}
 use Rattle.tds_request.specs.declared.request.RequestKind.TheVariants as kinds
 use Rattle.tds_request.specs.Faults.{number_of}
-use Rattle.tds_request.specs.Reading.{◌>>=◌, number_at, byte_at, number_is_at, byte_is_at, header_fields_at, headers_at, is_text_length, batch_in, ended, isolation_of, begun_in, begun_anew_in, end_in, transaction_in, body_in, read_request}
+use Rattle.tds_request.specs.Reading.{Gives, ◌>>=◌, number_at, byte_at, number_is_at, byte_is_at, header_fields_at, headers_at, is_text_length, batch_in, ended, isolation_of, begun_in, begun_anew_in, end_in, transaction_in, body_in, read_request}
 
 -- it is no want of memory
 abbrev IsFree : {A : Type 0} → Result A RequestFault → Type 0
@@ -100,3 +100,14 @@ free_request kind bytes =
 
 pub no_memory_fault : (kind : RequestKind) (bytes : List ℕ) → read_request kind bytes ≡ Err Memory → ⊥
 no_memory_fault kind bytes e = let h : true ≡ false = subst IsFree e (free_request kind bytes) in absurd cc
+
+-- what reading gives where a function answers want of memory
+pub gives_memory : {X Y : Type 0} (view : X → Y) (result : Result X RequestFault) (read : Result Y RequestFault) → Gives view result read → result ≡ Err Memory → read ≡ Err Memory
+gives_memory view (Ok x) read h e = absurd cc
+gives_memory view (Err fault) read h e = let is : fault ≡ Memory = search rules in h ∙ ap (λ (f : RequestFault). Err f) is
+
+pub no_memory_in_headers : (bytes : List ℕ) → headers_at bytes ≡ Err Memory → ⊥
+no_memory_in_headers bytes e = let h : true ≡ false = subst IsFree e (free_headers bytes) in absurd cc
+
+pub no_memory_in_transaction : (bytes : List ℕ) → transaction_in bytes ≡ Err Memory → ⊥
+no_memory_in_transaction bytes e = let h : true ≡ false = subst IsFree e (free_transaction bytes) in absurd cc

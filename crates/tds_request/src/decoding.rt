@@ -2,6 +2,7 @@ ghost use Rattle.std.specs.Prelude.{◌≡◌, ◌⊎◌, ℕ, Ok, Err, Some, No
 ghost use Rattle.tds_request.specs.declared.fault.RequestFault.{RequestFault};
 ghost use Rattle.tds_request.specs.declared.fault.RequestFault.TheVariants.{Memory};
 ghost use Rattle.tds_request.specs.declared.request.Request.{Request};
+ghost use Rattle.tds_request.specs.declared.request.RequestKind.TheVariants.{Batch};
 ghost use Rattle.tds_request.specs.Layout.{IsRequest};
 ghost use Rattle.tds_request.specs.Reading.{Answers, Gives, read_request, wrong_request};
 ghost use Rattle.tds_request.specs.Reading.{headers_at, header_fields_at, is_text_length, batch_in};
@@ -36,6 +37,8 @@ pub fn decode(
     // Memory is wanted only for what spells a request.
     ensures memory { result ≡ Err Memory
         → (descriptor : ℕ) × (request : Request) × IsRequest kind descriptor request bytes.now }
+    // A begin, a commit and a rollback are read without memory.
+    ensures batch { result ≡ Err Memory → kind ≡ Batch }
     // What reading gives, as one equation.
     ensures exact { Answers result (read_request kind bytes.now) }
 {
@@ -44,7 +47,8 @@ pub fn decode(
 
 #[tactic(auto, unfolding(crate::specs::Reading::read_request))]
 fn message(alloc: Global, kind: RequestKind, bytes: &[u8]) -> Result<(u64, Request), RequestFault>
-    ensures { Answers result (read_request kind bytes.now) }
+    ensures exact { Answers result (read_request kind bytes.now) }
+    ensures batch { result ≡ Err Memory → kind ≡ Batch }
 {
     let (descriptor, body) = headers(bytes)?;
     let request = match kind {

@@ -1,4 +1,4 @@
-ghost use Rattle.std.specs.Prelude.{◌≡◌, ◌++◌, Ok, Err, IfOk, IfErr, OnOk, OnErr, MatchResult, None};
+ghost use Rattle.std.specs.Prelude.{◌≡◌, ◌≢◌, [], ◌++◌, Ok, Err, IfOk, IfErr, OnOk, OnErr, MatchResult, None};
 ghost use Rattle.tds_packet.specs.declared.kind.Kind.TheVariants.{Answer};
 ghost use Rattle.tds_token.specs.Contents.{contents_of};
 ghost use Rattle.tds_client.specs.declared.fault.ClientFault.{ClientFault};
@@ -34,8 +34,8 @@ impl Client {
     /// each ENVCHANGE is applied. The end of the answer makes a reading client idle; the end of a
     /// message whose final DONE has `0020` makes a cancelling one idle (MS-TDS 2.2.1.7).
     ///
-    /// At a fault nothing is appended, and the client is broken. Memory is wanted in reading alone;
-    /// where there is none, everything is as it was.
+    /// At a fault nothing is appended, and the client is broken. Memory is wanted in reading alone,
+    /// for a packet that tells something; where there is none, everything is as it was.
     pub fn take(
         &mut self,
         packet: PacketRef<'_>,
@@ -150,6 +150,8 @@ impl Client {
         ensures ok { OnOk result (out.new.items ≡ out.old.items
             ++ told_in self.now.stage (contents_of self.now.columns data.now)) }
         ensures reading { OnErr result (self.now.stage ≡ Reading) }
+        ensures telling { OnErr result
+            (told_in self.now.stage (contents_of self.now.columns data.now) ≢ []) }
         ensures nothing { OnErr result (out.new.items ≡ out.old.items) }
     {
         match &self.stage {
