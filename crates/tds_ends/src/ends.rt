@@ -1,5 +1,5 @@
 //! An end of a connection in one value: a core and the reader of what comes to it.
-ghost use Rattle.std.specs.Prelude.{◌≡◌, ◌≤◌, ◌++◌, length, IfOk, OnOk, OnErr};
+ghost use Rattle.std.specs.Prelude.{◌≡◌, ◌≤◌, ◌+◌, ◌*◌, ◌++◌, length, IfOk, OnOk, OnErr};
 ghost use Rattle.std.specs.Borrow.{sem};
 ghost use Rattle.tds_client.specs.Session.{new_session};
 ghost use Rattle.tds_ends.specs.AllBytes.{new_reader};
@@ -138,6 +138,8 @@ impl<E: Engine + Drop> ServerEnd<E> {
     /// Takes a piece of what the client sent, as [`serve`] does.
     pub fn serve(&mut self, piece: &[u8], reply: &mut Vec<u8>) -> ServerFed
         ensures within { result.count ≤ length piece.now }
+        ensures short { 8 * length reply.new.items ≤ 8 * length reply.old.items
+            + 35 * (length self.old.reader.taken + result.count) }
         ensures serves { let answers = answer_of (E.statements_of self.old.server.engine)
             (E.step_of self.old.server.engine) in
             Serves answers self.old.reader self.new.reader piece.now self.old.server
