@@ -196,7 +196,7 @@ static struct counted values(const uint8_t *bytes, size_t length, uint16_t size)
 static const struct {
     const char *name;
     struct counted (*walk)(const uint8_t *, size_t, uint16_t);
-} WALKS[] = {{"packet", packet}, {"packets", packets}, {"hear", hear}, {"tokens", tokens}, {"rows", rows}, {"values", values}};
+} WALKS[] = {{"packets", packets}, {"packet", packet}, {"hear", hear}, {"tokens", tokens}, {"rows", rows}, {"values", values}};
 
 static uint64_t now(void) {
     struct timespec time;
