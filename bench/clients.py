@@ -75,13 +75,13 @@ class Clients:
 
     def line(self, name, columns, said, turns, sums):
         times = [[int(it) for it in line.split()] for line in said if line[0].isdigit()][-turns:]
-        version = [line for line in said if not line[0].isdigit()]
+        version = next((line for line in said if not line[0].isdigit()), name)
         rows = times[0][2]
         sums.update((it[2], it[3]) for it in times)
         if len(sums) != 1:
             raise SystemExit(f"{name} reads other values than the clients before it: {sums}")
         length = rows * (1 + 4 * columns)
         wall = [it[0] for it in times]
-        cells = [", ".join([name, *version]), columns, f"{rows:,}", f"{1000 * length / statistics.median(wall):,.0f}"]
+        cells = [version, columns, f"{rows:,}", f"{1000 * length / statistics.median(wall):,.0f}"]
         cells += [f"{1000 * length / min(wall):,.0f}", f"{min(wall) / rows:.1f}", f"{min(it[1] for it in times) / rows:.1f}"]
         return "| " + " | ".join(str(it) for it in cells) + " |"

@@ -4,10 +4,10 @@ import os
 import sys
 
 KINDS = {
-    "client": ("a client's end", 100_000),
-    "used-client": ("a client's end that had a request answered", 100_000),
-    "server": ("a server's end", 100_000),
-    "used-server": ("a server's end that answered a request", 100_000),
+    "client": ("a client's end", 50_000),
+    "used-client": ("a client's end that had a request answered", 50_000),
+    "server": ("a server's end", 50_000),
+    "used-server": ("a server's end that answered a request", 50_000),
     "pool": ("a pool of 64 idle connections", 4_000),
 }
 SIZES = (512, 4096)

@@ -53,7 +53,7 @@ int main(int argc, char **argv) {
     DBPROCESS *with = opened(argv[1]);
     int columns = atoi(argv[2]);
     if (columns < 1 || columns > 8) return 2;
-    printf("%s, TDS %s\n", dbversion(), dbtds(with) == DBTDS_7_4 ? "7.4" : "other");
+    printf("FreeTDS (%s), TDS %s\n", dbversion(), dbtds(with) == DBTDS_7_4 ? "7.4" : "other");
     for (long times = strtol(argv[3], NULL, 10); times > 0; times--) read_rows(with, columns);
     dbclose(with);
     dbexit();

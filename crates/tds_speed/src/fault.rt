@@ -9,9 +9,7 @@ use thiserror::Error;
 /// Why a walk isn't done.
 #[derive(Debug, Drop, Error)]
 pub enum SpeedFault {
-    #[error(
-        "usage: tds_speed count SIZE FILE.., time SIZE TIMES FILE.., sizes, or memory KIND COUNT SIZE"
-    )]
+    #[error("usage: tds_speed count SIZE FILE.., time SIZE TIMES FILE.., sizes, or memory KIND COUNT SIZE")]
     Usage,
     #[error("error: input or output")]
     Io,

@@ -16,7 +16,10 @@ pub fn print_sizes(rt: &HostRuntime) -> Result<(), SpeedFault> {
         ("ClientEnd", size_of::<ClientEnd>()),
         ("Session", size_of::<Session>()),
         ("Server<ScriptEngine>", size_of::<Server<ScriptEngine>>()),
-        ("ServerEnd<ScriptEngine>", size_of::<ServerEnd<ScriptEngine>>()),
+        (
+            "ServerEnd<ScriptEngine>",
+            size_of::<ServerEnd<ScriptEngine>>(),
+        ),
         ("Pool", size_of::<Pool>()),
         ("Lease", size_of::<Lease>()),
         ("Token", size_of::<Token>()),

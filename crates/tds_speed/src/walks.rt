@@ -11,11 +11,7 @@ use tds_token::{Columns, TokenRef, Tokens};
 /// What is done with each packet of an answer.
 pub trait Walk: Drop {
     /// Takes the next packet, and counts what it has.
-    fn packet(
-        &mut self,
-        packet: PacketRef<'_>,
-        counted: &mut Counted,
-    ) -> Result<(), SpeedFault>
+    fn packet(&mut self, packet: PacketRef<'_>, counted: &mut Counted) -> Result<(), SpeedFault>
         requires { packet.header.kind ≡ Answer };
 }
 
