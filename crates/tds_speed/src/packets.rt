@@ -23,6 +23,7 @@ impl<'a> Packets<'a> {
     }
 
     /// The packet at the front, and the bytes behind it.
+    #[inline(always)]
     fn front(&self) -> Result<(PacketRef<'a>, &'a [u8]), SpeedFault>
         ensures { IfOk result (λ x. length x.1.now < length self.now.bytes.now) }
     {
@@ -45,6 +46,8 @@ impl<'a> Iterator for Packets<'a> {
 
     ghost remaining = { λ s. at_most (length s.bytes.now) };
 
+    // Inlined, a loop over packets builds none of what this answers.
+    #[inline(always)]
     fn next(&mut self) -> Option<Result<PacketRef<'a>, SpeedFault>> {
         if self.bytes.is_empty() {
             return None;
