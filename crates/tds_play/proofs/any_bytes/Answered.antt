@@ -1,7 +1,7 @@
 -- What the deliveries of a play came to, event by event, on all connections.
-use Rattle.std.proofs.Common.{◌≡◌, ◌≢◌, ◌∙◌, ◌<◌, ◌≤◌, ◌+◌, ◌==◌, ℕ, zero, suc, Bool, true, false, List, [], ◌∷◌, ◌++◌, length, length-append, get_or, set, take, ap, refl, subst, sym, arith, inl, inr, ◌⊎◌, Option, Some, None, append-nil, append_assoc, cond, eqb, slice_index_or}
+use Rattle.std.proofs.Common.{◌≡◌, ◌≢◌, ◌∙◌, ◌<◌, ◌+◌, ℕ, suc, Bool, true, false, List, [], ◌∷◌, ◌++◌, length, length-append, get_or, set, take, ap, refl, subst, sym, arith, inl, inr, ◌⊎◌, Option, append-nil, append_assoc, cond, eqb, slice_index_or}
 use Rattle.std.proofs.lemmas.Bool.{eq-eqb, ne_eqb, cases_lt}
-use Rattle.std.proofs.lemmas.List.{length-set, take_all}
+use Rattle.std.proofs.lemmas.List.{length-set}
 use Rattle.std.specs.List.{AllByRecursion}
 use Rattle.tds_packet.specs.declared.kind.Direction.{Direction}
 use Rattle.tds_packet.specs.declared.kind.Direction.TheVariants.{ToServer, ToClient}
@@ -19,7 +19,7 @@ use Rattle.tds_play.specs.AnyBytes.{AnswersWith, AreAnswered, IsRefused, is_deli
 use Rattle.tds_play.specs.Pipe.{Pipe, AreSame, traffic}
 use Rattle.tds_play.specs.Reads.{AllRead, Answers, BringsBy, IsAbout, IsReading, ReadsNoMore, ReadsThere, ReadsOn, answers_then, delivers, given_by}
 use Rattle.tds_play.specs.Ties.{AreTied}
-use Rattle.tds_play.proofs.Listed.{by_test, is_at, is_other, push_each, set_each}
+use Rattle.tds_play.proofs.Listed.{by_test, is_at, is_other, number_there, push_each, set_each}
 use Rattle.tds_play.proofs.any_bytes.Stays.{reading_stays}
 use Rattle.tds_play.proofs.Turns.{all_so_far, one_taken, so_many}
 
@@ -263,15 +263,12 @@ none_read {E} {S} size links pipes es none =
 
 -- ---- An event on one of them
 
-numbered_there : {E S : Type 0} (links : List (Seated E S)) (place : ℕ) (link : Seated E S) (pipes : ℕ → Option Pipe) → AreTied links pipes → place < length links → link ≡ get_or links place link → link.link.number ≡ suc place
-numbered_there {E} {S} links place link pipes tied there is = ap (λ (l : Seated E S). l.link.number) is ∙ tied.numbered place link there
-
 pub acted_reads : {E S : Type 0} (size : ℕ) (links : List (Seated E S)) (place : ℕ) (link new : Seated E S) (pipes pipes' : ℕ → Option Pipe) (answers : Answers) (e : Event) (o : Outcome)
     → AreTied links pipes → place < length links → link ≡ get_or links place link → AreSame pipes pipes' link.link.number
     → (ReadsThere size link (pipes link.link.number) → ReadsOn size e o new.link new.seat.client.columns (pipes link.link.number) (pipes' link.link.number))
     → IsAbout e place → AllRead size links pipes answers → AllRead size (set links place new) pipes' (answers_then e o answers)
 acted_reads {E} {S} size links place link new pipes pipes' answers e o tied there is same reads about all =
-    let number : link.link.number ≡ suc place = numbered_there links place link pipes tied there is in
+    let number : link.link.number ≡ suc place = number_there links place link pipes tied there is in
     let here : ReadsThere size link (pipes link.link.number) =
     subst (λ (k : ℕ). ReadsThere size link (pipes k)) (sym number) (subst (λ (x : Seated E S). ReadsThere size x (pipes (suc place))) (sym is) (all.reading place link there)) in
     read_at size links place new pipes pipes' answers e o all there (subst (AreSame pipes pipes') number same) about
@@ -281,6 +278,6 @@ pub cut_reads : {E S : Type 0} (size : ℕ) (links : List (Seated E S)) (place :
     → AreTied links pipes → place < length links → link ≡ get_or links place link → AreSame pipes pipes' link.link.number
     → ReadsNoMore link.link new.link (pipes link.link.number) (pipes' link.link.number) → (new.link.is_cut ≡ false → new.seat.client.columns ≡ link.seat.client.columns) → AllRead size links pipes answers → AllRead size (set links place new) pipes' answers
 cut_reads {E} {S} size links place link new pipes pipes' answers tied there is same still columns all =
-    let number : link.link.number ≡ suc place = numbered_there links place link pipes tied there is in
+    let number : link.link.number ≡ suc place = number_there links place link pipes tied there is in
     still_at size links place link new pipes pipes' answers all there is (subst (AreSame pipes pipes') number same)
     (subst (λ (k : ℕ). ReadsNoMore link.link new.link (pipes k) (pipes' k)) number still) columns

@@ -1,20 +1,19 @@
 -- What is told of the requests in the end is what the callers of each connection were given.
-use Rattle.std.proofs.Common.{◌≡◌, ◌≢◌, ◌∙◌, ◌<◌, ◌≤◌, ◌+◌, ◌-◌, ◌==◌, ℕ, zero, suc, List, [], ◌∷◌, ◌++◌, length, map, take, reverse, slice_index_or, slice_set, get_or, Bool, true, false, Option, Some, None, refl, sym, ap, subst, append_assoc, append-nil, arith, inl, inr, ◌⊎◌, cond, eqb, option_map}
+use Rattle.std.proofs.Common.{◌≡◌, ◌≢◌, ◌∙◌, ◌<◌, ◌≤◌, ◌-◌, ◌==◌, ℕ, zero, suc, List, [], ◌∷◌, ◌++◌, length, map, take, reverse, slice_index_or, slice_set, get_or, Bool, true, false, Option, Some, None, refl, sym, ap, subst, append_assoc, append-nil, arith, inl, inr, ◌⊎◌, cond, eqb, option_map}
 use Rattle.std.specs.Prelude.{flat_map, slice_get, option_to_list}
 use Rattle.std.specs.List.{AllByRecursion}
 use Rattle.std.proofs.lemmas.Bool.{eq-eqb, ne_eqb, cases_lt}
 use Rattle.std.proofs.lemmas.Grind.{flat_map-append}
 use Rattle.std.proofs.lemmas.List.{map-set, reverse-append, reverse-reverse, take_all}
-use Rattle.std.proofs.lemmas.Option.{get_or_from_slice_get, slice_get-map, slice_get_within, slice_get_past}
+use Rattle.std.proofs.lemmas.Option.{get_or_from_slice_get, slice_get-map, slice_get_within}
 use Rattle.tds_packet.specs.declared.kind.Direction.{Direction}
-use Rattle.tds_packet.specs.declared.kind.Direction.TheVariants.{ToServer, ToClient}
+use Rattle.tds_packet.specs.declared.kind.Direction.TheVariants.{ToClient}
 use Rattle.tds_packet.specs.Reading.{Reading}
 use Rattle.tds_token.specs.declared.token.Token.{Token}
 use Rattle.tds_ends.specs.AllBytes.{AreToldBy, new_reader}
 use Rattle.tds_world.specs.declared.event.Event.{Event}
 use Rattle.tds_world.specs.declared.outcome.Outcome.{Outcome}
 use Rattle.tds_world.specs.declared.report.EventReport.{EventReport}
-use Rattle.tds_world.specs.declared.report.Report.{Report}
 use Rattle.tds_world.specs.declared.report.RequestReport.{RequestReport}
 use Rattle.tds_world.specs.World.{numbered}
 use Rattle.tds_play.specs.Seats.{Seated}
@@ -22,7 +21,7 @@ use Rattle.tds_play.specs.declared.request.Record.{Record}
 use Rattle.tds_play.specs.AnyBytes.{AreAnswered, IsRefused, ReadsBytes, given_on, given_to, outcomes_on}
 use Rattle.tds_play.specs.Links.{behind, newest_there, report_of}
 use Rattle.tds_play.specs.Pipe.{Pipe, traffic}
-use Rattle.tds_play.specs.Reads.{AllRead, ReadsThere, TakesLast, TellsGiven, given_at, given_by, tokens_of}
+use Rattle.tds_play.specs.Reads.{AllRead, ReadsThere, TakesLast, TellsGiven, given_at, tokens_of}
 use Rattle.tds_play.proofs.any_bytes.Answered.{answers_of}
 use Rattle.tds_play.proofs.any_bytes.Fed.{fewer_told}
 use Rattle.tds_play.proofs.Listed.{by_test, is_at, is_other}
