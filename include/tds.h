@@ -14,9 +14,9 @@
  *    may run at the same time. A value may go from thread to thread.
  *  - There is stack for the call (64 KB will do), and it isn't made from a signal handler or from
  *    the child of a fork in a process with threads.
- *  - malloc, realloc and free are one allocator, and align a block to each power of two up to 16
- *    that divides its size. Link liblibc_c.a of the toolchain behind the library. A call frees
- *    what it takes before it returns.
+ *  - Behind the player's library link liblibc_c.a of the toolchain; malloc, realloc and free are one
+ *    allocator then, and align a block to each power of two up to 16 that divides its size. This
+ *    library takes no memory, and needs of the C library memcpy and memmove alone.
  *  - `message` of tds_client_send is what the start of that request wrote, all of it.
  *  - Numbers have this machine's byte order; the library is for 64-bit machines with the low byte
  *    first.
