@@ -14,6 +14,12 @@ const GET_X: [u8; 32] = [
     0x00, 0x00, 0x01, 0x00, 0x00, 0x00, 0x67, 0x00, 0x65, 0x00, 0x74, 0x00, 0x20, 0x00, 0x78, 0x00,
 ];
 
+/// The batch `get`.
+const GET: &[u8] = &[
+    0x16, 0x00, 0x00, 0x00, 0x12, 0x00, 0x00, 0x00, 0x02, 0x00, 0x00, 0x00, 0x00, 0x00, 0x00, 0x00,
+    0x00, 0x00, 0x01, 0x00, 0x00, 0x00, 0x67, 0x00, 0x65, 0x00, 0x74, 0x00,
+];
+
 /// A commit in transaction 1.
 const COMMIT: [u8; 26] = [
     0x16, 0x00, 0x00, 0x00, 0x12, 0x00, 0x00, 0x00, 0x02, 0x00, 0x01, 0x00, 0x00, 0x00, 0x00, 0x00,
@@ -57,37 +63,29 @@ fn altered(alloc: Global, message: &[u8], place: usize, bytes: &[u8]) -> Result<
     Ok(altered)
 }
 
-#[test]
-fn each_wrong_field(rt: HostRuntime) -> Result<(), Fail> {
-    let table: [(&[u8], usize, &[u8], u8); 14] = [
-        (&BEGIN, 0, &[0x17], 2),
-        (&BEGIN, 4, &[0x13, 0x00, 0x00, 0x00], 3),
-        (&BEGIN, 8, &[0x01, 0x00], 3),
-        (&BEGIN, 18, &[0x02, 0x00, 0x00, 0x00], 4),
-        (&BEGIN, 22, &[0x06, 0x00], 6),
-        (&BEGIN, 22, &[0x05, 0x01], 6),
-        (&BEGIN, 24, &[0x06], 7),
-        (&BEGIN, 25, &[0x01], 8),
-        (&COMMIT, 24, &[0x01], 8),
-        (&COMMIT, 25, &[0x03], 9),
-        (&ROLLBACK, 25, &[0x02], 9),
-        // Two wrong fields: the first one is the fault.
-        (
-            &BEGIN,
-            4,
-            &[0x13, 0, 0, 0, 2, 0, 0, 0, 0, 0, 0, 0, 0, 0, 2],
-            3,
-        ),
-        (&BEGIN, 24, &[0x06, 0x01], 7),
-        (&BEGIN, 24, &[0x05, 0x00], 0),
-    ];
-    for (message, place, bytes, number) in table {
-        let wrong = altered(rt.alloc(), message, place, bytes)?;
-        let found = fault(rt.alloc(), RequestKind::Transaction, wrong.as_slice());
-        assert_eq!(rt; found, number, "at {place}");
-    }
-    Ok(())
-}
+/// Messages with other bytes from a place on, and their faults.
+const FIELDS: [(&[u8], usize, &[u8], u8); 14] = [
+    (&BEGIN, 0, &[0x17], 2),
+    (&BEGIN, 4, &[0x13, 0x00, 0x00, 0x00], 3),
+    (&BEGIN, 8, &[0x01, 0x00], 3),
+    (&BEGIN, 18, &[0x02, 0x00, 0x00, 0x00], 4),
+    (&BEGIN, 22, &[0x06, 0x00], 6),
+    (&BEGIN, 22, &[0x05, 0x01], 6),
+    (&BEGIN, 24, &[0x06], 7),
+    (&BEGIN, 25, &[0x01], 8),
+    (&COMMIT, 24, &[0x01], 8),
+    (&COMMIT, 25, &[0x03], 9),
+    (&ROLLBACK, 25, &[0x02], 9),
+    // Two wrong fields: the first one is the fault.
+    (
+        &BEGIN,
+        4,
+        &[0x13, 0, 0, 0, 2, 0, 0, 0, 0, 0, 0, 0, 0, 0, 2],
+        3,
+    ),
+    (&BEGIN, 24, &[0x06, 0x01], 7),
+    (&BEGIN, 24, &[0x05, 0x00], 0),
+];
 
 /// What stands behind the headers of a transaction manager request, and its fault.
 const BODIES: [(&[u8], u8); 18] = [
@@ -114,35 +112,51 @@ const BODIES: [(&[u8], u8); 18] = [
     (&[0x08, 0x00, 0x00, 0x01, 0x00, 0x00, 0x00], 10),
 ];
 
-#[test]
-fn bodies(rt: HostRuntime) -> Result<(), Fail> {
-    for (body, number) in BODIES {
-        let mut message = Vec::from_slice(rt.alloc(), &COMMIT[..22])?;
-        message.extend_from_slice(body)?;
-        let found = fault(rt.alloc(), RequestKind::Transaction, message.as_slice());
-        assert_eq!(rt; found, number, "of {body:?}");
+/// The first row of the two tables that has another fault: its place in the one or the other.
+fn other_fault(alloc: Global) -> Result<Option<(usize, usize)>, NoMemory> {
+    for (row, (message, place, bytes, number)) in FIELDS.iter().enumerate() {
+        let wrong = altered(alloc, message, *place, bytes)?;
+        if fault(alloc, RequestKind::Transaction, wrong.as_slice()) != *number {
+            return Ok(Some((1, row)));
+        }
     }
-    Ok(())
+    for (row, (body, number)) in BODIES.iter().enumerate() {
+        let mut message = Vec::from_slice(alloc, &COMMIT[..22])?;
+        message.extend_from_slice(body)?;
+        if fault(alloc, RequestKind::Transaction, message.as_slice()) != *number {
+            return Ok(Some((2, row)));
+        }
+    }
+    Ok(None)
+}
+
+/// The length of the first front of `BEGIN`, or of `GET_X`, that has another fault.
+fn other_front(alloc: Global) -> Option<usize> {
+    for length in 0..26 {
+        if fault(alloc, RequestKind::Transaction, &BEGIN[..length]) != 1 {
+            return Some(length);
+        }
+    }
+    for length in 0..33 {
+        let expected = match length {
+            0..22 => 1,
+            24 | 26 | 28 | 30 | 32 => 0,
+            _ => 5,
+        };
+        if fault(alloc, RequestKind::Batch, &GET_X[..length]) != expected {
+            return Some(length);
+        }
+    }
+    None
 }
 
 #[test]
-fn each_front(rt: HostRuntime) {
-    for length in 0..26 {
-        let found = fault(rt.alloc(), RequestKind::Transaction, &BEGIN[..length]);
-        assert_eq!(rt; found, 1, "of {length}");
-    }
-    for length in 0..22 {
-        let found = fault(rt.alloc(), RequestKind::Batch, &GET_X[..length]);
-        assert_eq!(rt; found, 1, "of {length}");
-    }
-    for length in [22, 23, 25, 27, 29, 31] {
-        let found = fault(rt.alloc(), RequestKind::Batch, &GET_X[..length]);
-        assert_eq!(rt; found, 5, "of {length}");
-    }
-    for length in [24, 26, 28, 30, 32] {
-        let found = fault(rt.alloc(), RequestKind::Batch, &GET_X[..length]);
-        assert_eq!(rt; found, 0, "of {length}");
-    }
+fn each_fault(rt: HostRuntime) -> Result<(), Fail> {
+    let row = other_fault(rt.alloc())?;
+    assert!(rt; row.is_none(), "{row:?}");
+    let length = other_front(rt.alloc());
+    assert!(rt; length.is_none(), "{length:?}");
+    Ok(())
 }
 
 /// The message of a request, behind a byte that was there before.
@@ -152,63 +166,93 @@ fn written(alloc: Global, request: &Request, descriptor: u64) -> Result<Vec<u8>,
     Ok(out)
 }
 
-/// The descriptor and the text of a batch.
-fn read_text(alloc: Global, bytes: &[u8]) -> Result<(u64, Option<BatchText>), RequestFault> {
-    let (descriptor, request) = decode(alloc, RequestKind::Batch, bytes)?;
-    match request {
-        Request::Batch(text) => Ok((descriptor, Some(text))),
-        _ => Ok((descriptor, None)),
+/// Whether this message, without a transaction, is read as a batch of these units.
+fn is_read(alloc: Global, bytes: &[u8], units: &[u16]) -> bool {
+    match decode(alloc, RequestKind::Batch, bytes) {
+        Ok((0, Request::Batch(text))) => text.units() == units,
+        _ => false,
     }
 }
 
-#[test]
-fn texts(rt: HostRuntime) -> Result<(), Fail> {
-    // The last one has surrogates without a partner: a second one, and a first one twice.
-    let unpaired = [
-        0x16, 0x00, 0x00, 0x00, 0x12, 0x00, 0x00, 0x00, 0x02, 0x00, 0x00, 0x00, 0x00, 0x00, 0x00,
-        0x00, 0x00, 0x00, 0x01, 0x00, 0x00, 0x00, 0x00, 0xDC, 0x3D, 0xD8, 0xFF, 0xDB,
-    ];
-    let table: [(&[u16], &[u8]); 3] = [
-        (&[0x67, 0x65, 0x74, 0x20, 0x78], &GET_X),
-        (&[0x67, 0x65, 0x74], &GET_X[..28]),
-        (&[0xDC00, 0xD83D, 0xDBFF], &unpaired),
-    ];
-    for (units, bytes) in table {
-        let text = BatchText::new(Vec::from_slice(rt.alloc(), units)?).ok_or("no text")?;
-        let request = Request::Batch(text);
-        assert_eq!(rt; request.kind(), RequestKind::Batch);
-        let out = written(rt.alloc(), &request, 0)?;
-        let (before, message) = out.as_slice().split_first().ok_or("no byte")?;
-        assert_eq!(rt; *before, 0xAA);
-        assert_eq!(rt; message, bytes);
-        let (descriptor, text) = read_text(rt.alloc(), bytes)?;
-        assert_eq!(rt; descriptor, 0);
-        assert_eq!(rt; text.ok_or("no batch")?.units(), units);
-    }
-    Ok(())
+/// Whether a batch of these units is written as these bytes, and read from them.
+fn is_text(alloc: Global, units: &[u16], bytes: &[u8]) -> Result<bool, NoMemory> {
+    let Some(text) = BatchText::new(Vec::from_slice(alloc, units)?) else {
+        return Ok(false);
+    };
+    let request = Request::Batch(text);
+    let out = written(alloc, &request, 0)?;
+    let [0xAA, message @ ..] = out.as_slice() else {
+        return Ok(false);
+    };
+    let is_batch = request.kind() == RequestKind::Batch;
+    Ok(is_batch && message == bytes && is_read(alloc, bytes, units))
 }
 
-#[test]
-fn longest_text(rt: HostRuntime) -> Result<(), Fail> {
-    let mut units = Vec::new(rt.alloc());
-    let mut bytes = Vec::from_slice(rt.alloc(), &GET_X[..22])?;
+/// The same of a transaction manager request; what is read of the bytes is written as them again.
+fn is_transaction(
+    alloc: Global,
+    request: &Request,
+    descriptor: u64,
+    bytes: &[u8],
+) -> Result<bool, RequestFault> {
+    let out = written(alloc, request, descriptor)?;
+    let [0xAA, message @ ..] = out.as_slice() else {
+        return Ok(false);
+    };
+    let (heard, found) = decode(alloc, RequestKind::Transaction, bytes)?;
+    let again = written(alloc, &found, heard)?;
+    let is_written = request.kind() == RequestKind::Transaction && message == bytes;
+    Ok(is_written && heard == descriptor && again.as_slice() == out.as_slice())
+}
+
+/// Surrogates without a partner: a second one, and a first one twice.
+const UNPAIRED: [u8; 28] = [
+    0x16, 0x00, 0x00, 0x00, 0x12, 0x00, 0x00, 0x00, 0x02, 0x00, 0x00, 0x00, 0x00, 0x00, 0x00, 0x00,
+    0x00, 0x00, 0x01, 0x00, 0x00, 0x00, 0x00, 0xDC, 0x3D, 0xD8, 0xFF, 0xDB,
+];
+
+/// Texts of batches, and their messages.
+const TEXTS: [(&[u16], &[u8]); 3] = [
+    (&[0x67, 0x65, 0x74, 0x20, 0x78], &GET_X),
+    (&[0x67, 0x65, 0x74], GET),
+    (&[0xDC00, 0xD83D, 0xDBFF], &UNPAIRED),
+];
+
+/// The longest text, and one that is longer, and none.
+fn limits_of_a_text(alloc: Global) -> Result<bool, NoMemory> {
+    let mut units = Vec::new(alloc);
+    let mut bytes = Vec::from_slice(alloc, &GET_X[..22])?;
     for _ in 0..2000 {
         units.push(0x263A)?;
         bytes.extend_from_slice(&[0x3A, 0x26])?;
     }
-    assert_eq!(rt; bytes.len(), 4022);
-    let text = BatchText::new(units.clone()?).ok_or("no text")?;
-    let out = written(rt.alloc(), &Request::Batch(text), 0)?;
-    let (_, message) = out.as_slice().split_first().ok_or("no byte")?;
-    assert_eq!(rt; message, bytes.as_slice());
-    let (_, text) = read_text(rt.alloc(), bytes.as_slice())?;
-    assert_eq!(rt; text.ok_or("no batch")?.units(), units.as_slice());
+    let is_read = bytes.len() == 4022 && is_text(alloc, units.as_slice(), bytes.as_slice())?;
     units.push(0x263A)?;
     bytes.extend_from_slice(&[0x3A, 0x26])?;
-    assert!(rt; BatchText::new(units).is_none());
-    assert_eq!(rt; fault(rt.alloc(), RequestKind::Batch, bytes.as_slice()), 5);
-    assert!(rt; BatchText::new(Vec::new(rt.alloc())).is_none());
+    Ok(
+        is_read
+            && fault(alloc, RequestKind::Batch, bytes.as_slice()) == 5
+            && BatchText::new(units).is_none()
+            && BatchText::new(Vec::new(alloc)).is_none(),
+    )
+}
+
+#[test]
+fn texts(rt: HostRuntime) -> Result<(), Fail> {
+    for (units, bytes) in TEXTS {
+        assert!(rt; is_text(rt.alloc(), units, bytes)?, "{units:?}");
+    }
+    assert!(rt; limits_of_a_text(rt.alloc())?);
     Ok(())
+}
+
+/// Whether a begin at this isolation level is written and read again as such.
+fn is_level(alloc: Global, number: u8) -> Result<bool, Fail> {
+    let request = Request::Begin(Isolation::new(number).ok_or("no level")?);
+    match laws::decodes_again(alloc, &request, 7)? {
+        (_, Request::Begin(level)) => Ok(level.get() == number),
+        _ => Ok(false),
+    }
 }
 
 #[test]
@@ -222,30 +266,14 @@ fn transactions(rt: HostRuntime) -> Result<(), Fail> {
         (Request::Commit(Some(committed)), 1, &COMMIT_THEN_BEGIN),
         (Request::Rollback(Some(same)), 1, &ROLLBACK_THEN_BEGIN),
     ];
-    for (request, descriptor, bytes) in table {
-        assert_eq!(rt; request.kind(), RequestKind::Transaction);
-        let out = written(rt.alloc(), &request, descriptor)?;
-        let (_, message) = out.as_slice().split_first().ok_or("no byte")?;
-        assert_eq!(rt; message, bytes);
-        let (heard, found) = decode(rt.alloc(), RequestKind::Transaction, bytes)?;
-        assert_eq!(rt; heard, descriptor);
-        let again = written(rt.alloc(), &found, heard)?;
-        assert_eq!(rt; again.as_slice(), out.as_slice());
+    for (request, descriptor, bytes) in &table {
+        assert!(rt;
+            is_transaction(rt.alloc(), request, *descriptor, bytes)?,
+            "{bytes:?}"
+        );
     }
-    Ok(())
-}
-
-#[test]
-fn isolation_levels(rt: HostRuntime) -> Result<(), Fail> {
     for number in 0..=5 {
-        let level = Isolation::new(number).ok_or("no level")?;
-        let request = Request::Begin(level);
-        let (_, again) = laws::decodes_again(rt.alloc(), &request, 7)?;
-        let found = match again {
-            Request::Begin(level) => Some(level.get()),
-            _ => None,
-        };
-        assert_eq!(rt; found, Some(number));
+        assert!(rt; is_level(rt.alloc(), number)?, "{number}");
     }
     assert!(rt; Isolation::new(6).is_none());
     Ok(())

@@ -2,7 +2,6 @@
 //! plays them all.
 
 use std::alloc::Global;
-use std::process::Abort;
 use std::test::Fail;
 use tds_packet::{Direction, PacketReader, PacketSize};
 use tds_server::*;
@@ -138,10 +137,19 @@ fn plays_on<E: Engine + Drop>(
     Ok(None)
 }
 
-/// Plays scripts, each on a new server of its own, and fails with the name of one that differs.
-fn play_all(rt: &impl Abort, alloc: Global, scripts: &[(&str, &[Call<'_>])]) -> Result<(), Fail> {
-    for (name, calls) in scripts {
-        assert_eq!(rt; plays(alloc, ScriptEngine, calls)?, None, "{name}");
+/// Each script on a new server of its own.
+#[test]
+fn each_script(rt: HostRuntime) -> Result<(), Fail> {
+    for scripts in [
+        answers::ANSWERS.as_slice(),
+        attentions::ATTENTIONS.as_slice(),
+        faults::FAULTS.as_slice(),
+        messages::MESSAGES.as_slice(),
+    ] {
+        for (name, calls) in scripts {
+            let other = plays(rt.alloc(), ScriptEngine, calls)?;
+            assert!(rt; other.is_none(), "{name}, call {other:?}");
+        }
     }
     Ok(())
 }

@@ -195,7 +195,7 @@ const A_RESET_CANCELLED_WHEN_IT_IS_DONE: [Step; 7] = [
     Step::Told(b""),
 ];
 
-const ANSWERS: [Script; 13] = [
+pub(super) const ANSWERS: [Script; 13] = [
     ("an answer in parts", &AN_ANSWER_IN_PARTS),
     ("rows in two packets", &ROWS_IN_TWO_PACKETS),
     ("rows in one packet", &ROWS_IN_ONE_PACKET),
@@ -219,9 +219,3 @@ const ANSWERS: [Script; 13] = [
     ("a commit that begins anew", &renewals::HEARD),
     ("a cancelled commit has begun anew", &renewals::CANCELLED),
 ];
-
-#[test]
-fn each_answer(rt: HostRuntime) -> Result<(), Fail> {
-    assert_eq!(rt; first_failure(rt.alloc(), &ANSWERS)?, None);
-    Ok(())
-}

@@ -157,7 +157,7 @@ const A_ROW_WITHOUT_COLUMNS: [Step; 11] = [
     Step::Fault(&ROW, 8),
 ];
 
-const HOSTILE: [Script; 14] = [
+pub(super) const HOSTILE: [Script; 14] = [
     ("a row behind the final done", &A_ROW_BEHIND_THE_FINAL_DONE),
     ("an unasked acknowledgement", &AN_UNASKED_ACKNOWLEDGEMENT),
     ("a wrong change", &A_WRONG_CHANGE),
@@ -185,21 +185,3 @@ const HOSTILE: [Script; 14] = [
     ),
     ("refusals", &REFUSALS),
 ];
-
-#[test]
-fn each_hostile_answer(rt: HostRuntime) -> Result<(), Fail> {
-    assert_eq!(rt; first_failure(rt.alloc(), &HOSTILE)?, None);
-    Ok(())
-}
-
-#[test]
-fn the_numbers_of_refusals(rt: HostRuntime) -> Result<(), Fail> {
-    let numbers = [
-        ClientRefusal::NotIdle.number(),
-        ClientRefusal::NotSending.number(),
-        ClientRefusal::Broken.number(),
-        ClientRefusal::Memory.number(),
-    ];
-    assert_eq!(rt; numbers, [1, 2, 3, 4]);
-    Ok(())
-}

@@ -163,7 +163,7 @@ const CANCELLED_THREE_TIMES: [Step; 5] = [
     Step::Cancel(Cancelled::Nothing, b""),
 ];
 
-const REQUESTS: [Script; 10] = [
+pub(super) const REQUESTS: [Script; 10] = [
     ("a begin and its answer", &A_BEGIN_AND_ITS_ANSWER),
     (
         "the descriptor heard is in the next header",
@@ -193,9 +193,3 @@ const REQUESTS: [Script; 10] = [
     ),
     ("cancelled three times", &CANCELLED_THREE_TIMES),
 ];
-
-#[test]
-fn each_request(rt: HostRuntime) -> Result<(), Fail> {
-    assert_eq!(rt; first_failure(rt.alloc(), &REQUESTS)?, None);
-    Ok(())
-}

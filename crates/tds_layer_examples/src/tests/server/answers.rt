@@ -162,7 +162,7 @@ const ROLLED_BACK: [u8; 35] = [
 
 /// Requests to a new server, with each packet of their answers. The last step, and no step before
 /// it, ends an answer; behind it there is nothing to do.
-const ANSWERS: [(&str, &[Call]); 11] = [
+pub(super) const ANSWERS: [(&str, &[Call]); 11] = [
     // A new server has nothing to do.
     ("nothing", &[Call::NewSession, IDLE]),
     // A request that is taken changes no session; its step does.
@@ -270,8 +270,3 @@ const ANSWERS: [(&str, &[Call]); 11] = [
         ],
     ),
 ];
-
-#[test]
-fn each_answer(rt: HostRuntime) -> Result<(), Fail> {
-    play_all(&rt, rt.alloc(), &ANSWERS)
-}

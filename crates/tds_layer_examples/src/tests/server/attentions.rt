@@ -18,7 +18,7 @@ const SAY_TWICE: [u8; 52] = [
 ];
 
 /// When an attention comes. Behind it there is nothing to do.
-const ATTENTIONS: [(&str, &[Call]); 4] = [
+pub(super) const ATTENTIONS: [(&str, &[Call]); 4] = [
     // It is acknowledged by a message of its own.
     (
         "when the answer has gone out",
@@ -60,8 +60,3 @@ const ATTENTIONS: [(&str, &[Call]); 4] = [
         ],
     ),
 ];
-
-#[test]
-fn each_attention(rt: HostRuntime) -> Result<(), Fail> {
-    play_all(&rt, rt.alloc(), &ATTENTIONS)
-}

@@ -90,8 +90,12 @@ fn marked(heads: &[(u8, u8)]) -> [Option<(u8, u8)>; 5] {
 #[test]
 fn packet_ids_begin_again(rt: HostRuntime) -> Result<(), Fail> {
     let heads = answered(rt.alloc())?;
-    let ends = heads.iter().filter(|head| head.0 != 0).count();
-    assert_eq!(rt; (heads.len(), ends), (334, 1));
+    let mut ends = 0u32;
+    for (status, _) in heads.iter() {
+        if *status != 0 {
+            ends = ends.wrapping_add(1);
+        }
+    }
     let expected = [
         Some((0, 1)),
         Some((0, 255)),
@@ -99,6 +103,10 @@ fn packet_ids_begin_again(rt: HostRuntime) -> Result<(), Fail> {
         Some((0, 1)),
         Some((1, 78)),
     ];
-    assert_eq!(rt; marked(heads.as_slice()), expected);
+    let found = marked(heads.as_slice());
+    assert!(rt;
+        (heads.len(), ends) == (334, 1) && found == expected,
+        "{found:?}"
+    );
     Ok(())
 }

@@ -23,7 +23,7 @@ const REST_UNDER_RESET: [u8; 14] = [
 /// A second packet that says that the message is to be ignored.
 const IGNORED: [u8; 8] = [0x01, 0x03, 0x00, 0x08, 0x00, 0x00, 0x02, 0x00];
 
-const MESSAGES: [(&str, &[Call]); 4] = [
+pub(super) const MESSAGES: [(&str, &[Call]); 4] = [
     (
         "a message in two packets",
         &[
@@ -63,8 +63,3 @@ const MESSAGES: [(&str, &[Call]); 4] = [
         ],
     ),
 ];
-
-#[test]
-fn each_message(rt: HostRuntime) -> Result<(), Fail> {
-    play_all(&rt, rt.alloc(), &MESSAGES)
-}

@@ -43,7 +43,7 @@ impl Engine for Commits {
 #[test]
 fn another_engine_serves(rt: HostRuntime) -> Result<(), Fail> {
     let mut session = Session::new();
-    assert_eq!(rt; session.begin(), Some(1));
-    assert!(rt; gives(rt.alloc(), &Commits, &mut session, b"c", &COMMITTED)?);
+    let has_begun = session.begin() == Some(1);
+    assert!(rt; has_begun && gives(rt.alloc(), &Commits, &mut session, b"c", &COMMITTED)?);
     Ok(())
 }

@@ -155,15 +155,17 @@ fail 1000000";
 
 /// The number of a text's statements, or None where it is not in the language.
 fn count(alloc: Global, text: &[u16]) -> Result<Option<usize>, Fail> {
-    let statements = ScriptEngine.parse(alloc, text)?;
-    Ok(statements.map(|found| found.len()))
+    match ScriptEngine.parse(alloc, text)? {
+        Some(found) => Ok(Some(found.len())),
+        None => Ok(None),
+    }
 }
 
 #[test]
 fn what_is_not_in_the_language(rt: HostRuntime) -> Result<(), Fail> {
     for line in NOT_IN_THE_LANGUAGE.split(|byte| *byte == b'\n') {
         let text = units(rt.alloc(), line)?;
-        assert_eq!(rt; count(rt.alloc(), text.as_slice())?, None, "{line:?}");
+        assert!(rt; count(rt.alloc(), text.as_slice())?.is_none(), "{line:?}");
     }
     Ok(())
 }
@@ -221,7 +223,8 @@ fn counted(alloc: Global, long: &Long) -> Result<(usize, Option<usize>), Fail> {
 #[test]
 fn the_longest_texts(rt: HostRuntime) -> Result<(), Fail> {
     for long in &LONG {
-        assert_eq!(rt; counted(rt.alloc(), long)?, (long.length, long.count));
+        let found = counted(rt.alloc(), long)?;
+        assert!(rt; found == (long.length, long.count), "{found:?}");
     }
     Ok(())
 }

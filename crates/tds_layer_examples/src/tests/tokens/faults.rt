@@ -66,9 +66,11 @@ fn first_faults(rt: HostRuntime) -> Result<(), Fail> {
     for (bytes, number) in table {
         let mut tokens = Tokens::new(bytes, Columns::none());
         let (before, faults) = read(&mut tokens, rt.alloc())?;
-        assert!(rt; before.is_empty(), "{bytes:?}");
-        assert_eq!(rt; faults.as_slice(), [number].as_slice(), "{bytes:?}");
-        assert_eq!(rt; tokens.columns().count(), None);
+        let is_alone = before.is_empty() && tokens.columns().count() == None;
+        assert!(rt;
+            is_alone && faults.as_slice() == [number].as_slice(),
+            "{bytes:?}"
+        );
     }
     Ok(())
 }
@@ -88,7 +90,7 @@ fn cut_at_every_length(rt: HostRuntime) -> Result<(), Fail> {
         };
         let all = read(&mut Tokens::new(&answer[..n], Columns::none()), rt.alloc())?;
         let text = format!(in rt.alloc(); "{all:?}")?;
-        assert_eq!(rt; text.as_str(), expected, "at {n}");
+        assert!(rt; text.as_str() == expected, "at {n}");
     }
     Ok(())
 }

@@ -82,80 +82,81 @@ fn token(alloc: Global, case: &Case) -> Result<Token, NoMemory> {
     })
 }
 
-/// These fit.
-#[test]
-fn within(rt: HostRuntime) -> Result<(), Fail> {
-    let table = [
-        Case::Env(EnvChange::Rollback(u64::MAX)),
-        Case::Env(EnvChange::ResetDone),
-        Case::Info(0, 255, 255),
-        // The Length is 65,534.
-        Case::Error(32_760, 0, 0),
-        Case::Columns(1, 0),
-        Case::Columns(16, 10),
-        Case::Row(16),
-        Case::ReturnStatus(i32::MIN),
-        Case::Done(0),
-        Case::Done(0x0117),
-        Case::Done(0x0136),
-    ];
-    for (place, case) in table.iter().enumerate() {
-        assert!(rt; token(rt.alloc(), case)?.fits(), "at {place}");
-    }
-    Ok(())
-}
+/// Tokens that fit.
+const WITHIN: [Case; 11] = [
+    Case::Env(EnvChange::Rollback(u64::MAX)),
+    Case::Env(EnvChange::ResetDone),
+    Case::Info(0, 255, 255),
+    // The Length is 65,534.
+    Case::Error(32_760, 0, 0),
+    Case::Columns(1, 0),
+    Case::Columns(16, 10),
+    Case::Row(16),
+    Case::ReturnStatus(i32::MIN),
+    Case::Done(0),
+    Case::Done(0x0117),
+    Case::Done(0x0136),
+];
 
-/// These do not fit.
-#[test]
-fn beyond(rt: HostRuntime) -> Result<(), Fail> {
-    let table = [
-        Case::Env(EnvChange::Begin(0)),
-        Case::Env(EnvChange::Commit(0)),
-        Case::Env(EnvChange::Rollback(0)),
-        Case::Info(0, 256, 0),
-        Case::Error(0, 0, 256),
-        // The Length would be 65,536.
-        Case::Error(32_761, 0, 0),
-        Case::Info(32_700, 60, 1),
-        Case::Columns(0, 0),
-        Case::Columns(16, 11),
-        Case::Columns(17, 1),
-        Case::Row(0),
-        Case::Row(17),
-        Case::Done(0x0137),
-        Case::Done(0x0021),
-        Case::Done(0x0008),
-        Case::Done(0x0040),
-        Case::Done(0x0200),
-        Case::Done(0x8000),
-    ];
-    for (place, case) in table.iter().enumerate() {
-        assert!(rt; !token(rt.alloc(), case)?.fits(), "at {place}");
+/// Tokens that do not fit.
+const BEYOND: [Case; 18] = [
+    Case::Env(EnvChange::Begin(0)),
+    Case::Env(EnvChange::Commit(0)),
+    Case::Env(EnvChange::Rollback(0)),
+    Case::Info(0, 256, 0),
+    Case::Error(0, 0, 256),
+    // The Length would be 65,536.
+    Case::Error(32_761, 0, 0),
+    Case::Info(32_700, 60, 1),
+    Case::Columns(0, 0),
+    Case::Columns(16, 11),
+    Case::Columns(17, 1),
+    Case::Row(0),
+    Case::Row(17),
+    Case::Done(0x0137),
+    Case::Done(0x0021),
+    Case::Done(0x0008),
+    Case::Done(0x0040),
+    Case::Done(0x0200),
+    Case::Done(0x8000),
+];
+
+/// The place of the first token that fits, or doesn't, where it should not, from 0; else how many
+/// there are.
+fn found_so(alloc: Global, cases: &[Case], fits: bool) -> Result<usize, NoMemory> {
+    for (place, case) in cases.iter().enumerate() {
+        if token(alloc, case)?.fits() != fits {
+            return Ok(place);
+        }
     }
-    Ok(())
+    Ok(cases.len())
 }
 
 /// Each is read as it was written, with the columns of the one before.
-#[test]
-fn read_again(rt: HostRuntime) -> Result<(), Fail> {
+fn are_read_again(alloc: Global) -> Result<bool, NoMemory> {
     let mut known = Columns::none();
     for (case, length, count) in [
         (Case::Columns(16, 10), 3 + 16 * (4 + 2 + 1 + 1 + 20), 16),
         (Case::Columns(2, 10), 3 + 2 * (4 + 2 + 1 + 1 + 20), 2),
         (Case::Row(2), 1 + 2 * 4, 2),
     ] {
-        let list = vec![in rt.alloc(); token(rt.alloc(), &case)?]?;
-        let bytes = written(rt.alloc(), list.as_slice())?.ok_or("does not fit")?;
-        assert_eq!(rt; bytes.len(), length);
+        let list = vec![in alloc; token(alloc, &case)?]?;
+        let Some(bytes) = written(alloc, list.as_slice())? else {
+            return Ok(false);
+        };
         let mut tokens = Tokens::new(bytes.as_slice(), known);
-        let again = read(&mut tokens, rt.alloc())?;
-        let text = format!(in rt.alloc(); "{again:?}")?;
-        let expected = format!(in rt.alloc(); "({list:?}, [])")?;
-        assert_eq!(rt; text.as_str(), expected.as_str());
+        let again = read(&mut tokens, alloc)?;
+        let text = format!(in alloc; "{again:?}")?;
+        let expected = format!(in alloc; "({list:?}, [])")?;
         known = tokens.columns();
-        assert_eq!(rt; known.count(), Some(count));
+        if bytes.len() != length
+            || text.as_str() != expected.as_str()
+            || known.count() != Some(count)
+        {
+            return Ok(false);
+        }
     }
-    Ok(())
+    Ok(true)
 }
 
 /// The numbers of sixteen columns: how many are lent and owned, and the last one's.
@@ -177,24 +178,37 @@ fn numbers(alloc: Global, bytes: &[u8]) -> Result<Option<(u8, usize, u32, u16, u
     )))
 }
 
-#[test]
-fn columns_and_rows_given_back(rt: HostRuntime) -> Result<(), Fail> {
-    let list = vec![in rt.alloc(); Token::Columns(columns(rt.alloc(), 16, 10)?)]?;
-    let bytes = written(rt.alloc(), list.as_slice())?.ok_or("does not fit")?;
-    let found = numbers(rt.alloc(), bytes.as_slice())?;
-    assert_eq!(rt; found, Some((16, 16, 1, 2, 10)));
-    let values = row(rt.alloc(), 2)?.into_vec();
-    assert_eq!(rt; values.as_slice(), [-1, -1].as_slice());
-    Ok(())
+/// Columns and rows are given back as the vectors that they were made of, and texts as their units.
+fn are_given_back(alloc: Global) -> Result<bool, NoMemory> {
+    let list = vec![in alloc; Token::Columns(columns(alloc, 16, 10)?)]?;
+    let Some(bytes) = written(alloc, list.as_slice())? else {
+        return Ok(false);
+    };
+    let values = row(alloc, 2)?.into_vec();
+    Ok(
+        numbers(alloc, bytes.as_slice())? == Some((16, 16, 1, 2, 10))
+            && values.as_slice() == [-1, -1].as_slice()
+            && is_text_given_back(alloc)?,
+    )
+}
+
+fn is_text_given_back(alloc: Global) -> Result<bool, NoMemory> {
+    let mut units = Vec::new(alloc);
+    units.push(0xDC00)?;
+    let text = Text::new(units);
+    let is_lent = text.units() == [0xDC00].as_slice();
+    laws::one_spelling();
+    Ok(is_lent && text.into_units().as_slice() == [0xDC00].as_slice())
 }
 
 #[test]
-fn texts_given_back(rt: HostRuntime) -> Result<(), Fail> {
-    let mut units = Vec::new(rt.alloc());
-    units.push(0xDC00)?;
-    let text = Text::new(units);
-    assert_eq!(rt; text.units(), [0xDC00].as_slice());
-    assert_eq!(rt; text.into_units().as_slice(), [0xDC00].as_slice());
-    laws::one_spelling();
+fn each_limit(rt: HostRuntime) -> Result<(), Fail> {
+    let found = [
+        found_so(rt.alloc(), &WITHIN, true)?,
+        found_so(rt.alloc(), &BEYOND, false)?,
+    ];
+    assert!(rt; found == [WITHIN.len(), BEYOND.len()], "{found:?}");
+    assert!(rt; are_read_again(rt.alloc())?);
+    assert!(rt; are_given_back(rt.alloc())?);
     Ok(())
 }
