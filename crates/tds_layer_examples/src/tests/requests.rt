@@ -248,9 +248,11 @@ fn texts(rt: HostRuntime) -> Result<(), Fail> {
 
 /// Whether a begin at this isolation level is written and read again as such.
 fn is_level(alloc: Global, number: u8) -> Result<bool, Fail> {
-    let request = Request::Begin(Isolation::new(number).ok_or("no level")?);
-    match laws::decodes_again(alloc, &request, 7)? {
-        (_, Request::Begin(level)) => Ok(level.get() == number),
+    let level = Isolation::new(number).ok_or("no level")?;
+    let request = Request::Begin(level);
+    let (_, again) = laws::decodes_again(alloc, &request, 7)?;
+    match again {
+        Request::Begin(level) => Ok(level.get() == number),
         _ => Ok(false),
     }
 }
