@@ -1,9 +1,9 @@
 //! What a packet of an answer says.
 
-use crate::breaking::cut_to;
 use std::alloc::{AllocError, Global};
 use std::fmt::Write;
 use tds_packet::Reset;
+use tds_picture::cut_to;
 use tds_text::put_units;
 use tds_token::done_status::{ATTENTION, ERROR, MORE};
 use tds_token::{Columns, EnvChange, Row, Text, Token, Tokens};

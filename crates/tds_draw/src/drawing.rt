@@ -1,37 +1,10 @@
 //! What a panel is drawn with, row by row.
 
-use crate::breaking::broken;
-use crate::scene::{BarMark, FlightEnd, Label, Look, Panel, Spot};
 use std::alloc::{AllocError, Global};
 use tds_exchange::Exchange;
 use tds_packet::Reset;
+use tds_picture::{BarMark, FlightEnd, Label, Look, Panel, Spot, Widths, broken};
 use tds_play::{Outcome, Snapshot};
-
-/// How many characters a text has room for.
-#[derive(Clone, Copy)]
-pub(crate) struct Widths {
-    pub(crate) event: usize,
-    pub(crate) place: usize,
-    pub(crate) client: usize,
-    pub(crate) server: usize,
-}
-
-impl Widths {
-    fn of(self, spot: Spot, look: Look, badge: usize) -> usize {
-        let room = match spot {
-            Spot::Place => self.place,
-            Spot::Asked | Spot::Told => self.client.saturating_sub(2),
-            Spot::Client => self.client,
-            Spot::Server => self.server,
-        };
-        let taken = match look {
-            Look::Struck => 2usize,
-            Look::Pill => 1,
-            _ => 0,
-        };
-        room.saturating_sub(taken.saturating_add(badge)).max(4)
-    }
-}
 
 /// What a server has of its request.
 #[derive(Clone, Copy)]

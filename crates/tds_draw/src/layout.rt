@@ -1,12 +1,11 @@
 //! A play laid out in sheets.
 
-use crate::drawing::Widths;
-use crate::scene::Scene;
 use crate::sheets::Plan;
 use crate::wording::{event_text, refusal_text, setup_text};
 use std::alloc::{AllocError, Global};
 use std::fmt::Write;
 use tds_exchange::Exchange;
+use tds_picture::{Scene, Widths};
 use tds_play::{Opened, Outcome};
 
 /// The most events that are drawn where nothing says which.
@@ -51,8 +50,7 @@ pub(crate) fn lay_out(
     arrangement: Arrangement,
     widths: Widths,
 ) -> Result<Scene, AllocError> {
-    let count = exchange.events.len();
-    let (from, to) = choice.of(count);
+    let (from, to) = choice.of(exchange.events.len());
     let slots = slots_of(alloc, exchange)?;
     let asked = asked_of(alloc, exchange)?;
     let panels = slots.iter().max().copied().unwrap_or(0).saturating_add(1);
@@ -69,16 +67,10 @@ pub(crate) fn lay_out(
         to,
         has_all: wide == panels,
     };
-    let mut sheets = Vec::new(alloc);
-    for first in 0..panels {
-        if first == 0 || wide == 1 {
-            sheets.push(plan.lay_sheet(alloc, first, wide)?)?;
-        }
-    }
     Ok(Scene {
         head: head_of(alloc, exchange, from, to)?,
         width: wide,
-        sheets,
+        sheets: plan.lay_sheets(alloc, panels)?,
         below: match plan.has_all {
             true => Vec::new(alloc),
             false => below_of(alloc, exchange, from, to)?,

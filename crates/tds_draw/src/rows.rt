@@ -1,12 +1,11 @@
 //! The row of an event.
 
 use crate::answers::Which;
-use crate::breaking::cut_to;
 use crate::drawing::{Drawing, Moment, NOTHING, Task};
-use crate::scene::{BarMark, FlightEnd, Look, Spot};
 use crate::wording::{client_text, mark_text, refusal_text, request_text, session_text};
 use std::alloc::AllocError;
 use tds_packet::Direction;
+use tds_picture::{BarMark, FlightEnd, Look, Spot, cut_to};
 use tds_play::{
     AbandonOutcome, CancelOutcome, ClientView, GiveBackOutcome, Opened, Outcome, Place, Snapshot,
     WorkOutcome,

@@ -7,7 +7,7 @@ const MOST: usize = 3;
 
 /// The lines of an ASCII text, three at most, each at most so wide: it is broken behind a space or a semicolon. What is
 /// cut off leaves two dots.
-pub(crate) fn broken(alloc: Global, text: &str, width: usize) -> Result<Vec<String>, AllocError> {
+pub fn broken(alloc: Global, text: &str, width: usize) -> Result<Vec<String>, AllocError> {
     let mut lines = Vec::new(alloc);
     let mut line = Vec::new(alloc);
     let mut piece = Vec::new(alloc);
@@ -70,7 +70,7 @@ fn dotted(alloc: Global, text: &[u8], width: usize) -> Result<String, AllocError
 }
 
 /// An ASCII text, cut where it is wider.
-pub(crate) fn cut_to(alloc: Global, text: &str, width: usize) -> Result<String, AllocError> {
+pub fn cut_to(alloc: Global, text: &str, width: usize) -> Result<String, AllocError> {
     if text.len() <= width {
         return String::from_str(alloc, text);
     }

@@ -1,12 +1,12 @@
 //! A scene painted in characters, 100 a line at most.
 
+mod lanes;
+
 use crate::breaking::cut_to;
-use crate::drawing::Widths;
-use crate::layout::{Arrangement, Choice, lay_out};
-use crate::scene::{BarMark, FlightEnd, Label, Line, Look, Panel, PlaceMark, Row, Spot};
+use crate::scene::{BarMark, FlightEnd, Label, Line, Look, Panel, PlaceMark, Row, Scene, Spot};
+use crate::widths::Widths;
 use std::alloc::{AllocError, Global};
 use std::fmt::Write;
-use tds_exchange::Exchange;
 
 /// How wide a line is, and where its columns begin.
 const WIDTH: usize = 100;
@@ -21,7 +21,8 @@ pub(crate) const SERVER: usize = 77;
 
 const SERVER_NOTES: usize = 79;
 
-const WIDTHS: Widths = Widths {
+/// The room that texts have in characters.
+pub const CHARACTER_WIDTHS: Widths = Widths {
     event: 16,
     place: 20,
     client: 19,
@@ -37,9 +38,8 @@ const LEGEND: [(u8, &str); 5] = [
     (b'.', ". . a part has come\n"),
 ];
 
-/// A play as a sequence picture in characters.
-pub fn draw_text(alloc: Global, exchange: &Exchange, choice: Choice) -> Result<String, AllocError> {
-    let scene = lay_out(alloc, exchange, choice, Arrangement::Below, WIDTHS)?;
+/// Paints a scene in characters: of each sheet the first panel.
+pub fn paint_characters(alloc: Global, scene: &Scene) -> Result<String, AllocError> {
     let mut text = String::from_str(alloc, scene.head.as_str())?;
     text.push_str("\n")?;
     let mut marks = Vec::new(alloc);
