@@ -163,28 +163,41 @@ impl<'a> Drawing<'a> {
         packet: &Packet,
         moment: Moment<'a>,
     ) -> Result<FlightEnd, AllocError> {
-        let tokens = tokens_of(self.alloc, packet.data())?;
-        let given = told(self.alloc, tokens.as_slice(), Which::Told)?;
         let is_cancelled = moment
             .before
             .is_some_and(|it| it.client == ClientView::Cancelling);
-        let ends = packet.header.status.ends();
-        let end = if given.is_empty() {
-            let heard = told(self.alloc, tokens.as_slice(), Which::Heard)?;
-            FlightEnd::Came(self.say(Spot::Client, Look::Muted, false, heard.as_str())?)
-        } else if is_cancelled {
-            FlightEnd::Thrown(self.say(Spot::Client, Look::Struck, false, given.as_str())?)
-        } else {
-            FlightEnd::Came(self.say(Spot::Told, Look::Plain, false, given.as_str())?)
-        };
-        if ends && is_cancelled {
-            self.say(Spot::Client, Look::Bold, false, "waits for DONE attn")?;
-        }
-        if ends && !is_cancelled {
-            self.row.settled = end.line();
+        let end = self.tell_answer(packet, is_cancelled)?;
+        if packet.header.status.ends() {
+            match is_cancelled {
+                true => {
+                    self.say(Spot::Client, Look::Bold, false, "waits for DONE attn")?;
+                }
+                false => self.row.settled = end.line(),
+            }
         }
         self.hear(packet)?;
         Ok(end)
+    }
+
+    /// Tells a packet of an answer: what its caller is given, or would have been given; else what the client hears.
+    fn tell_answer(
+        &mut self,
+        packet: &Packet,
+        is_cancelled: bool,
+    ) -> Result<FlightEnd, AllocError> {
+        let tokens = tokens_of(self.alloc, packet.data())?;
+        let given = told(self.alloc, tokens.as_slice(), Which::Told)?;
+        if given.is_empty() {
+            let heard = told(self.alloc, tokens.as_slice(), Which::Heard)?;
+            let line = self.say(Spot::Client, Look::Muted, false, heard.as_str())?;
+            return Ok(FlightEnd::Came(line));
+        }
+        if is_cancelled {
+            let line = self.say(Spot::Client, Look::Struck, false, given.as_str())?;
+            return Ok(FlightEnd::Thrown(line));
+        }
+        let line = self.say(Spot::Told, Look::Plain, false, given.as_str())?;
+        Ok(FlightEnd::Came(line))
     }
 
     /// Lets the client hear the changes of a packet, and tells the transaction where it is another one.

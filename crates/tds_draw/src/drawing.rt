@@ -134,11 +134,7 @@ impl<'a> Drawing<'a> {
         };
         let texts = broken(self.alloc, text, self.widths.of(spot, look, badge))?;
         let count = texts.len();
-        let used = match spot {
-            Spot::Server => self.row.server_used,
-            _ => self.row.client_used,
-        };
-        let first = self.row.start.saturating_add(used);
+        let first = self.take_lines(spot, count);
         for (index, text) in texts.into_iter().enumerate() {
             self.panel.labels.push(Label {
                 line: first.saturating_add(index),
@@ -151,12 +147,18 @@ impl<'a> Drawing<'a> {
                 is_last: index.saturating_add(1) == count,
             })?;
         }
-        let used = used.saturating_add(count);
-        match spot {
-            Spot::Server => self.row.server_used = used,
-            _ => self.row.client_used = used,
-        }
         Ok(first.saturating_add(count.saturating_sub(1)))
+    }
+
+    /// Takes so many lines of a text's zone, and answers the first of them.
+    fn take_lines(&mut self, spot: Spot, count: usize) -> usize {
+        let used = match spot {
+            Spot::Server => &mut self.row.server_used,
+            _ => &mut self.row.client_used,
+        };
+        let first = self.row.start.saturating_add(*used);
+        *used = used.saturating_add(count);
+        first
     }
 
     /// The first line that is free at the server.
@@ -213,11 +215,5 @@ impl<'a> RowSoFar<'a> {
 }
 
 fn digits(number: u32) -> usize {
-    match number {
-        0..=9 => 1,
-        10..=99 => 2,
-        100..=999 => 3,
-        1000..=9999 => 4,
-        _ => 5,
-    }
+    (number.checked_ilog10().unwrap_or(0) as usize).saturating_add(1)
 }

@@ -57,9 +57,15 @@ impl<'a> Plan<'a> {
             rows: Vec::new(alloc),
             panels,
         };
+        self.lay_rows(alloc, &mut laid)?;
+        laid.into_sheet(alloc)
+    }
+
+    /// Lays all rows out. The ones before the first that is drawn are forgotten again.
+    fn lay_rows(&self, alloc: Global, laid: &mut Laid<'a>) -> Result<(), AllocError> {
         for number in 1..=self.to {
             let place = self.place_of(number);
-            if !self.has_all && place != Where::Slot(first) && place != Where::Everywhere {
+            if !self.has_all && place != Where::Slot(laid.first) && place != Where::Everywhere {
                 continue;
             }
             laid.put_row(self.row_of(alloc, number, laid.line())?)?;
@@ -69,8 +75,7 @@ impl<'a> Plan<'a> {
             }
         }
         laid.put_row(self.last_row(alloc, laid.line())?)?;
-        laid.draw_end(self.to)?;
-        laid.into_sheet(alloc)
+        laid.draw_end(self.to)
     }
 
     fn place_of(&self, number: usize) -> Where {

@@ -3,7 +3,9 @@
 mod lanes;
 
 use crate::breaking::cut_to;
-use crate::scene::{BarMark, FlightEnd, Label, Line, Look, Panel, PlaceMark, Row, Scene, Spot};
+use crate::scene::{
+    BarMark, FlightEnd, Label, Line, Look, Panel, PlaceMark, Row, Scene, Sheet, Spot,
+};
 use crate::widths::Widths;
 use std::alloc::{AllocError, Global};
 use std::fmt::Write;
@@ -42,50 +44,76 @@ const LEGEND: [(u8, &str); 5] = [
 pub fn paint_characters(alloc: Global, scene: &Scene) -> Result<String, AllocError> {
     let mut text = String::from_str(alloc, scene.head.as_str())?;
     text.push_str("\n")?;
-    let mut marks = Vec::new(alloc);
     for sheet in scene.sheets.iter() {
         text.push_str("\n")?;
-        // Characters have no room for two panels side by side.
-        if let Some(panel) = sheet.panels.first() {
-            Canvas::of(alloc, panel, sheet.rows.as_slice())?.put(&mut text)?;
-            put_marks(&mut marks, panel)?;
-        }
+        put_sheet(alloc, &mut text, sheet)?;
     }
-    if !scene.below.is_empty() {
-        text.push_str("\n")?;
-    }
-    for line in scene.below.iter() {
-        writeln!(text, "{line}")?;
-    }
-    if !marks.is_empty() {
-        text.push_str("\n")?;
-    }
-    for (mark, meaning) in &LEGEND {
-        if marks.contains(mark) {
-            text.push_str(meaning)?;
-        }
-    }
+    put_below(&mut text, scene.below.as_slice())?;
+    put_legend(&mut text, scene)?;
     Ok(text)
 }
 
-/// Appends the marks of the legend that a panel has.
-fn put_marks(marks: &mut Vec<u8>, panel: &Panel) -> Result<(), AllocError> {
-    for line in panel.lines.iter() {
-        for bar in [line.client, line.server] {
-            if matches!(bar, BarMark::Passing | BarMark::Busy | BarMark::Cancelling) {
-                marks.push(bar_byte(bar))?;
+/// Appends a sheet's first panel: characters have no room for two side by side.
+fn put_sheet(alloc: Global, text: &mut String, sheet: &Sheet) -> Result<(), AllocError> {
+    let Some(panel) = sheet.panels.first() else {
+        return Ok(());
+    };
+    let mut canvas = Canvas {
+        lines: Vec::new(alloc),
+        lanes: Vec::new(alloc),
+    };
+    canvas.paint(alloc, panel, sheet.rows.as_slice())?;
+    canvas.put(text)
+}
+
+/// Appends the lines below the sheets.
+fn put_below(text: &mut String, below: &[String]) -> Result<(), AllocError> {
+    if !below.is_empty() {
+        text.push_str("\n")?;
+    }
+    for line in below {
+        text.push_str(line.as_str())?;
+        text.push_str("\n")?;
+    }
+    Ok(())
+}
+
+/// Appends what the marks mean that occur.
+fn put_legend(text: &mut String, scene: &Scene) -> Result<(), AllocError> {
+    let mut is_first = true;
+    for (mark, meaning) in &LEGEND {
+        if !occurs(scene, *mark) {
+            continue;
+        }
+        if is_first {
+            text.push_str("\n")?;
+            is_first = false;
+        }
+        text.push_str(meaning)?;
+    }
+    Ok(())
+}
+
+/// Whether a mark of the legend occurs in what is painted.
+fn occurs(scene: &Scene, mark: u8) -> bool {
+    for sheet in scene.sheets.iter() {
+        if let Some(panel) = sheet.panels.first() {
+            if has_mark(panel, mark) {
+                return true;
             }
         }
     }
-    for flight in panel.flights.iter() {
-        if matches!(flight.end, FlightEnd::Thrown(_)) {
-            marks.push(b'x')?;
-        }
-        if !flight.parts.is_empty() {
-            marks.push(b'.')?;
-        }
+    false
+}
+
+fn has_mark(panel: &Panel, mark: u8) -> bool {
+    let mut flights = panel.flights.iter();
+    let mut lines = panel.lines.iter();
+    match mark {
+        b'x' => flights.any(|it| matches!(it.end, FlightEnd::Thrown(_))),
+        b'.' => flights.any(|it| !it.parts.is_empty()),
+        _ => lines.any(|it| bar_byte(it.client) == mark || bar_byte(it.server) == mark),
     }
-    Ok(())
 }
 
 /// The lines of a panel.
@@ -97,24 +125,21 @@ pub(crate) struct Canvas {
 }
 
 impl Canvas {
-    fn of(alloc: Global, panel: &Panel, rows: &[Row]) -> Result<Canvas, AllocError> {
-        let mut canvas = Canvas {
-            lines: Vec::new(alloc),
-            lanes: Vec::new(alloc),
-        };
+    /// Paints a panel: what runs down first, and texts last.
+    fn paint(&mut self, alloc: Global, panel: &Panel, rows: &[Row]) -> Result<(), AllocError> {
         for line in panel.lines.iter() {
-            canvas.lines.push(Vec::from_slice(alloc, &[b' '; WIDTH])?)?;
-            canvas.lanes.push(Vec::from_slice(alloc, &[b' '; WIDTH])?)?;
-            canvas.paint_line(alloc, line)?;
+            self.lines.push(Vec::from_slice(alloc, &[b' '; WIDTH])?)?;
+            self.lanes.push(Vec::from_slice(alloc, &[b' '; WIDTH])?)?;
+            self.paint_line(alloc, line)?;
         }
         for row in rows {
-            canvas.paint_row(alloc, row)?;
+            self.paint_row(alloc, row)?;
         }
-        canvas.paint_flights(alloc, panel.flights.as_slice())?;
+        self.paint_flights(alloc, panel.flights.as_slice())?;
         for label in panel.labels.iter() {
-            canvas.paint_label(alloc, label)?;
+            self.paint_label(alloc, label)?;
         }
-        Ok(canvas)
+        Ok(())
     }
 
     /// Appends the lines, without the spaces at their ends.
@@ -130,13 +155,7 @@ impl Canvas {
     }
 
     pub(crate) fn set(&mut self, line: usize, column: usize, byte: u8) {
-        if let Some(place) = self
-            .lines
-            .get_mut(line)
-            .and_then(|line| line.get_mut(column))
-        {
-            *place = byte;
-        }
+        set_byte(&mut self.lines, line, column, byte);
     }
 
     pub(crate) fn write(&mut self, line: usize, column: usize, text: &str) {
@@ -146,20 +165,16 @@ impl Canvas {
     }
 
     pub(crate) fn is_lane(&self, line: usize, column: usize) -> bool {
-        let lanes = self.lanes.get(line).map(|lanes| lanes.as_slice());
-        lanes.and_then(|lanes| lanes.get(column)) == Some(&b'|')
+        let Some(lanes) = self.lanes.get(line) else {
+            return false;
+        };
+        matches!(lanes.get(column), Some(b'|'))
     }
 
     /// Paints a place of a lane.
     pub(crate) fn set_lane(&mut self, line: usize, column: usize, byte: u8) {
         self.set(line, column, byte);
-        if let Some(place) = self
-            .lanes
-            .get_mut(line)
-            .and_then(|line| line.get_mut(column))
-        {
-            *place = b'|';
-        }
+        set_byte(&mut self.lanes, line, column, b'|');
     }
 
     /// Paints from a column to behind another one, but over no lane.
@@ -177,21 +192,31 @@ impl Canvas {
         if line.is_rule {
             self.run(index, PLACE.saturating_add(1), WIDTH, b'=');
         }
-        match line.place {
-            PlaceMark::Nothing => {}
-            PlaceMark::Lease => self.set(index, PLACE, b'|'),
-            PlaceMark::Ticket => self.set(index, PLACE, b':'),
-            PlaceMark::Draining => self.set(index, PLACE, b'~'),
-            PlaceMark::DrainingBegins => self.write(index, PLACE, "~~"),
-            PlaceMark::LeaseBegins(lease) => {
-                self.write(index, PLACE, format!(in alloc; "L{lease}")?.as_str());
-            }
-            PlaceMark::TicketBegins(ticket) => {
-                self.write(index, PLACE, format!(in alloc; "T{ticket}")?.as_str());
-            }
-        }
+        self.paint_place(alloc, index, line.place)?;
         self.paint_bar(alloc, index, CLIENT, line.client, 'C')?;
         self.paint_bar(alloc, index, SERVER, line.server, 'S')
+    }
+
+    fn paint_place(
+        &mut self,
+        alloc: Global,
+        line: usize,
+        mark: PlaceMark,
+    ) -> Result<(), AllocError> {
+        match mark {
+            PlaceMark::Nothing => {}
+            PlaceMark::Lease => self.set(line, PLACE, b'|'),
+            PlaceMark::Ticket => self.set(line, PLACE, b':'),
+            PlaceMark::Draining => self.set(line, PLACE, b'~'),
+            PlaceMark::DrainingBegins => self.write(line, PLACE, "~~"),
+            PlaceMark::LeaseBegins(lease) => {
+                self.write(line, PLACE, format!(in alloc; "L{lease}")?.as_str());
+            }
+            PlaceMark::TicketBegins(ticket) => {
+                self.write(line, PLACE, format!(in alloc; "T{ticket}")?.as_str());
+            }
+        }
+        Ok(())
     }
 
     fn paint_bar(
@@ -224,43 +249,65 @@ impl Canvas {
     }
 
     fn paint_label(&mut self, alloc: Global, label: &Label) -> Result<(), AllocError> {
-        let mut text = String::new(alloc);
-        if label.has_badge {
-            write!(text, "{}:", label.request)?;
-        }
-        match label.look {
-            Look::Struck if label.is_first => text.push_str("x ")?,
-            Look::Pill if label.is_first => text.push_str("[")?,
-            _ => {}
-        }
-        text.push_str(label.text.as_str())?;
-        if label.look == Look::Pill && label.is_last {
-            text.push_str("]")?;
-        }
+        let text = label_text(alloc, label)?;
+        let text = text.as_str();
         let line = label.line;
         let right = CLIENT.saturating_sub(1).saturating_sub(text.len());
-        let behind = NOTES.saturating_add(text.len());
+        if label.is_last {
+            self.paint_arrow(label.spot, line, right, NOTES.saturating_add(text.len()));
+        }
         match label.spot {
-            Spot::Place => self.write(line, NOTES, text.as_str()),
-            Spot::Server => self.write(line, SERVER_NOTES, text.as_str()),
-            Spot::Client => self.write(line, right, text.as_str()),
-            Spot::Asked => {
-                if label.is_last {
-                    self.write(line, PLACE.saturating_add(1), "-");
-                    self.run(line, behind.saturating_add(1), CLIENT, b'-');
-                    self.set(line, CLIENT.saturating_sub(1), b'>');
-                }
-                self.write(line, NOTES, text.as_str());
-            }
-            Spot::Told => {
-                if label.is_last {
-                    self.run(line, PLACE.saturating_add(1), right.saturating_sub(1), b'-');
-                    self.set(line, PLACE.saturating_add(1), b'<');
-                }
-                self.write(line, right, text.as_str());
-            }
+            Spot::Place | Spot::Asked => self.write(line, NOTES, text),
+            Spot::Server => self.write(line, SERVER_NOTES, text),
+            Spot::Client | Spot::Told => self.write(line, right, text),
         }
         Ok(())
+    }
+
+    /// Paints the arrow between a caller and its client: of what is told up to this column, of what is asked from
+    /// behind that one on.
+    fn paint_arrow(&mut self, spot: Spot, line: usize, to: usize, from: usize) {
+        let first = PLACE.saturating_add(1);
+        match spot {
+            Spot::Asked => {
+                self.set(line, first, b'-');
+                self.run(line, from.saturating_add(1), CLIENT, b'-');
+                self.set(line, CLIENT.saturating_sub(1), b'>');
+            }
+            Spot::Told => {
+                self.run(line, first, to.saturating_sub(1), b'-');
+                self.set(line, first, b'<');
+            }
+            Spot::Place | Spot::Client | Spot::Server => {}
+        }
+    }
+}
+
+/// A label with its number and what its look adds.
+fn label_text(alloc: Global, label: &Label) -> Result<String, AllocError> {
+    let mut text = String::new(alloc);
+    if label.has_badge {
+        write!(text, "{}:", label.request)?;
+    }
+    match label.look {
+        Look::Struck if label.is_first => text.push_str("x ")?,
+        Look::Pill if label.is_first => text.push_str("[")?,
+        _ => {}
+    }
+    text.push_str(label.text.as_str())?;
+    if label.look == Look::Pill && label.is_last {
+        text.push_str("]")?;
+    }
+    Ok(text)
+}
+
+/// Puts a byte into a line, where there is a place for it.
+fn set_byte(lines: &mut Vec<Vec<u8>>, line: usize, column: usize, byte: u8) {
+    let Some(line) = lines.get_mut(line) else {
+        return;
+    };
+    if let Some(place) = line.get_mut(column) {
+        *place = byte;
     }
 }
 
