@@ -15,7 +15,7 @@ use Rattle.tds_world.specs.Entries.{Drop, Attention, up_bytes}
 use Rattle.tds_world.specs.Lane.{Lane, append}
 use Rattle.tds_world.specs.Phase.{Phase, Settled, Asked, Sending, Reading, Cancelling, phase_by, phase_in, phase_of}
 use Rattle.tds_world.specs.Record as record_of
-use Rattle.tds_world.specs.Record.{Record, Out, NotBegun, Begun, Whole, packets_of}
+use Rattle.tds_world.specs.Record.{Record, Out, NotBegun, packets_of}
 use Rattle.tds_ends.specs.Refines.{RefinesCancel, DoesCancel}
 use Rattle.tds_ends.specs.Stands.{MatchesClient, BeginsBy, BeginsIn, Sends, kind_asked, stage_by, stage_in}
 use Rattle.tds_ends.proofs.Lanes.{appended, unsent}

@@ -1,5 +1,6 @@
 -- A server that takes packets, one after the other.
-use Rattle.std.proofs.Common.{◌≡◌, ◌∙◌, ℕ, List, [], ◌∷◌, ◌++◌, sym, ap, refl, append-nil, Option, Some, Result, Ok, Err}
+use Rattle.std.proofs.Common.{◌≡◌, ◌∙◌, ◌≤◌, ◌+◌, ℕ, List, [], ◌∷◌, ◌++◌, length, take, length-append, sym, ap, refl, append-nil, Option, Some, Result, Ok, Err, arith}
+use Rattle.std.proofs.lemmas.List.{length-take-le}
 use Rattle.tds_packet.specs.declared.header.Header.{Header}
 use Rattle.tds_packet.specs.Layout.{IsPacket}
 use Rattle.tds_packet.specs.Reading.{Reading, with_taken}
@@ -56,3 +57,11 @@ goes_on answers r now gone piece content header count s state then reply before 
       ∙ ap (λ x. unless_refused x (Some (record { state = (taken answers state header content).state; reply = before ++ (taken answers state header content).reply }))) (sym does)
       ∙ rw (out_is, then_is) refl;
 }
+
+-- ---- How much is appended
+
+pub fed_length : (n : ℕ) (old slice new : List ℕ) → new ≡ old ++ take n slice → n ≤ length slice → length new ≡ length old + n
+fed_length n old slice new is within = omega (arith, ap length is, length-append old (take n slice), length-take-le n slice within)
+
+pub whole_length : (r : Reading) (header : Header) (content : List ℕ) → IsPacket r.direction r.size r.taken header content → 8 ≤ length r.taken
+whole_length r header content is = omega (arith, ap length is.spelled)

@@ -4,7 +4,7 @@ use Rattle.std.proofs.lemmas.Bool.Decides.{nat_tests}
 use Rattle.std.specs.Prelude.{nat_lt}
 use Rattle.tds_server.specs.Packets.{answer_packet}
 use Rattle.tds_server.specs.State as server
-use Rattle.tds_server.specs.State.{ServerState, Message}
+use Rattle.tds_server.specs.State.{ServerState}
 use Rattle.tds_server.specs.Working.{worked, works_in, phase_behind, worked_by}
 use Rattle.tds_session.specs.Answer as answer
 use Rattle.tds_world.specs.declared.outcome.WorkOutcome.TheVariants as outcome

@@ -1,7 +1,8 @@
 //! An end of a connection in one value: a core and the reader of what comes to it.
-ghost use Rattle.std.specs.Prelude.{◌≡◌, ◌≤◌, ◌++◌, [], length, IfOk, OnOk, OnErr};
+ghost use Rattle.std.specs.Prelude.{◌≡◌, ◌≤◌, ◌+◌, ◌*◌, ◌++◌, length, IfOk, OnOk, OnErr};
 ghost use Rattle.std.specs.Borrow.{sem};
 ghost use Rattle.tds_client.specs.Session.{new_session};
+ghost use Rattle.tds_ends.specs.AllBytes.{new_reader};
 ghost use Rattle.tds_ends.specs.Ends.{Listens, Serves};
 ghost use Rattle.tds_packet.specs.declared.kind.Direction.TheVariants.{ToClient, ToServer};
 ghost use Rattle.tds_server.specs.State.{IsAnswering, lost_of, new_server, server_with};
@@ -32,7 +33,7 @@ impl ClientEnd {
     /// A new client and its reader, for packets of this size. The reader takes memory, once.
     pub fn new(alloc: Global, size: PacketSize) -> Result<ClientEnd, NoMemory>
         ensures { IfOk result (λ end. (end.client ≡ new_session size)
-            × (end.reader ≡ record { direction = ToClient; size = size; taken = [] })) }
+            × (end.reader ≡ new_reader ToClient size)) }
     {
         Ok(ClientEnd {
             client: Client::new(alloc, size),
@@ -78,7 +79,7 @@ impl<E: Engine + Drop> ServerEnd<E> {
     /// A new server and its reader, for packets of this size. The reader takes memory, once.
     pub fn new(alloc: Global, engine: E, size: PacketSize) -> Result<ServerEnd<E>, NoMemory>
         ensures { IfOk result (λ end. (end.server ≡ new_server engine)
-            × (end.reader ≡ record { direction = ToServer; size = size; taken = [] })) }
+            × (end.reader ≡ new_reader ToServer size)) }
     {
         Ok(ServerEnd {
             server: Server::new(alloc, engine, size),
@@ -94,7 +95,7 @@ impl<E: Engine + Drop> ServerEnd<E> {
         on_attention: OnAttention,
     ) -> Result<ServerEnd<E>, NoMemory>
         ensures { IfOk result (λ end. (end.server ≡ server_with on_attention engine)
-            × (end.reader ≡ record { direction = ToServer; size = size; taken = [] })) }
+            × (end.reader ≡ new_reader ToServer size)) }
     {
         Ok(ServerEnd {
             server: Server::with_attention(alloc, engine, size, on_attention),
@@ -137,6 +138,8 @@ impl<E: Engine + Drop> ServerEnd<E> {
     /// Takes a piece of what the client sent, as [`serve`] does.
     pub fn serve(&mut self, piece: &[u8], reply: &mut Vec<u8>) -> ServerFed
         ensures within { result.count ≤ length piece.now }
+        ensures short { 8 * length reply.new.items ≤ 8 * length reply.old.items
+            + 35 * (length self.old.reader.taken + result.count) }
         ensures serves { let answers = answer_of (E.statements_of self.old.server.engine)
             (E.step_of self.old.server.engine) in
             Serves answers self.old.reader self.new.reader piece.now self.old.server

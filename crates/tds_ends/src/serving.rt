@@ -1,5 +1,5 @@
 //! What a server makes of bytes that come.
-ghost use Rattle.std.specs.Prelude.{◌≡◌, ◌≤◌, length};
+ghost use Rattle.std.specs.Prelude.{◌≡◌, ◌≤◌, ◌+◌, ◌*◌, length};
 ghost use Rattle.tds_ends.specs.Ends.{Serves};
 ghost use Rattle.tds_packet.specs.declared.kind.Direction.TheVariants.{ToServer};
 ghost use Rattle.tds_session.specs.Answer.{answer_of};
@@ -51,6 +51,9 @@ pub fn serve<E: Engine + Drop>(
     ensures engine { server.new.engine ≡ server.old.engine }
     ensures on_attention { server.new.on_attention ≡ server.old.on_attention }
     ensures within { result.count ≤ length piece.now }
+    // An acknowledgement has at most 35 bytes, and an attention, like each packet, 8 at least.
+    ensures short { 8 * length reply.new.items ≤ 8 * length reply.old.items
+        + 35 * (length reader.old.taken + result.count) }
     // Whatever comes: the server takes the packets that the bytes spell, one after the other, up to
     // the first that it refuses or has no memory for, or to a header with a fault.
     ensures serves { Serves (answer_of (E.statements_of server.old.engine)

@@ -1,5 +1,5 @@
 //! The packets that a server sends.
-ghost use Rattle.std.specs.Prelude.{◌≡◌, ◌<◌, ◌≤◌, ◌++◌, length, OnOk, OnErr, IfOk, IfSome};
+ghost use Rattle.std.specs.Prelude.{◌≡◌, ◌<◌, ◌≤◌, ◌+◌, ◌++◌, length, OnOk, OnErr, IfOk, IfSome};
 ghost use Rattle.std.specs.List.{All, flat_map};
 ghost use Rattle.tds_server.specs.Packets.{answer_packet, acknowledgement, FitsOnePacket};
 ghost use Rattle.tds_session.specs.Attention.{rollback_of};
@@ -60,6 +60,7 @@ pub(crate) fn put_acknowledgement(
     requires { IfSome rolled_back (λ descriptor. 0 < descriptor) }
     ensures ok { OnOk result (out.new.items
         ≡ out.old.items ++ acknowledgement packet_id (rollback_of rolled_back)) }
+    ensures short { length out.new.items ≤ length out.old.items + 35 }
     ensures err { OnErr result (out.new.items ≡ out.old.items) }
 {
     let done = Token::Done {

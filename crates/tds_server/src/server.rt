@@ -1,5 +1,5 @@
 //! The server's end of a connection.
-ghost use Rattle.std.specs.Prelude.{◌≡◌, ◌≢◌, ◌≤◌, ◌++◌, length, OnOk, OnErr, IfOk, IfErr, Ok, Err};
+ghost use Rattle.std.specs.Prelude.{◌≡◌, ◌≢◌, ◌≤◌, ◌+◌, ◌++◌, length, OnOk, OnErr, IfOk, IfErr, Ok, Err};
 ghost use Rattle.tds_packet.specs.declared.kind.Direction.TheVariants.{ToServer};
 ghost use Rattle.tds_packet.specs.declared.kind.Kind.TheVariants.{Attention};
 ghost use Rattle.tds_packet.specs.Layout.{bits_of, direction_of};
@@ -132,6 +132,8 @@ impl<E: Engine + Drop> Server<E> {
             → reply.new.items ≡ reply.old.items
             ++ (taken (answer_of (E.statements_of self.old.engine)
             (E.step_of self.old.engine)) self.old packet.entry.header packet.entry.data.now).reply }
+        // An acknowledgement, and what it tells of the transaction that it rolled back.
+        ensures short { length reply.new.items ≤ length reply.old.items + 35 }
         // At want of memory nothing changes. It comes only where a growth is needed, so not in
         // place of a fault, but for one that a message has once all its data have been joined.
         ensures memory { result ≡ Ok NoMemory
@@ -177,6 +179,7 @@ impl<E: Engine + Drop> Server<E> {
             (λ fault. moved (answer_of (E.statements_of self.old.engine)
             (E.step_of self.old.engine)) self.old.on_attention self.old.session self.old.phase
             packet.entry.header packet.entry.data.now ≡ Err fault) }
+        ensures short { length reply.new.items ≤ length reply.old.items + 35 }
         ensures quiet { OnErr result (reply.new.items ≡ reply.old.items) }
     {
         if let Some(fault) = self.state.fault() {
@@ -273,6 +276,7 @@ impl<E: Engine + Drop> Server<E> {
         ensures fault { IfErr result
             (λ fault. attended self.old.on_attention self.old.session self.old.phase
             (bits_of status) «data».now ≡ Err fault) }
+        ensures short { length reply.new.items ≤ length reply.old.items + 35 }
         ensures quiet { OnErr result (reply.new.items ≡ reply.old.items) }
     {
         if !status.ends_alone() || !data.is_empty() {

@@ -39,7 +39,7 @@ fn a_key_that_serves_a_new_number_makes_no_old_lease_known(rt: HostRuntime) -> R
 }
 
 /// A lease that is given back with an answer underway drains; its connection is lent again once the
-/// attention is acknowledged, and is marked for a full reset.
+/// attention is acknowledged and `drained` was called, and not before, and is marked for a full reset.
 fn drains(alloc: Global, pool: &mut Pool) -> u8 {
     let Some(first) = lease(alloc, pool, Opened::New(1)) else {
         return 1;
@@ -55,18 +55,22 @@ fn drains(alloc: Global, pool: &mut Pool) -> u8 {
         Some(client) => hears(alloc, client, &ACKNOWLEDGED),
         None => false,
     };
-    if !heard || pool.drained(1) != GivenBack::Free(1) || pool.drained(1) != GivenBack::Unknown {
+    // Its client is idle, and the connection still drains.
+    if !heard || refused_lease(alloc, pool) != 1 {
         return 4;
     }
-    let Some(second) = lease(alloc, pool, Opened::Reused(1)) else {
+    if pool.drained(1) != GivenBack::Free(1) || pool.drained(1) != GivenBack::Unknown {
         return 5;
+    }
+    let Some(second) = lease(alloc, pool, Opened::Reused(1)) else {
+        return 6;
     };
     let full = match pool.client(&second) {
         Some(client) => client.reset_mark() == Some(tds_packet::Reset::Full),
         None => false,
     };
     spend(alloc, pool, second);
-    if full { 0 } else { 6 }
+    if full { 0 } else { 7 }
 }
 
 #[test]

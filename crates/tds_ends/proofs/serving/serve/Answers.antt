@@ -1,9 +1,9 @@
-use Rattle.std.proofs.Common.{◌≡◌, ◌∙◌, ◌+◌, ap, sym, refl, true, false, Ok, rules}
+use Rattle.std.proofs.Common.{◌≡◌, ◌∙◌, ◌+◌, length, ap, sym, refl, true, false, Ok, rules, arith}
 use Rattle.tds_packet.specs.Reading.{IsWhole}
 use Rattle.tds_server.specs.declared.outcome.ServerTook.TheVariants.{NoMemory}
 use Rattle.tds_session.specs.Answer.{answer_of}
 use Rattle.tds_ends.proofs.Feeding.{slice_rest, fed_at, held, faulty_at, drained_at}
-use Rattle.tds_ends.proofs.FedServer.{refused_quietly, same_took, goes_on}
+use Rattle.tds_ends.proofs.FedServer.{refused_quietly, same_took, goes_on, fed_length, whole_length}
 use Rattle.tds_ends.proofs.serving.serve.Goals as goal
 
 pub returns-in-Err-clause-serves : goal.returns-in-Err-clause-serves
@@ -69,6 +69,10 @@ returns-in-Err-take-clause-serves g c =
       server = (c.in-Some.packet.header, c.in-Some.packet.data.now, c.in-Some.ensures.lent, sym refused, state);
     }
 
+pub returns-in-Err-take-clause-short : goal.returns-in-Err-take-clause-short
+returns-in-Err-take-clause-short g c =
+    omega (arith, c.packets.invariant.short, c.take.ensures.short, fed_length _ _ _ _ c.in-Ok.ensures.count c.in-Ok.ensures.within, whole_length c.feed.new.self _ _ c.in-Some.ensures.lent)
+
 pub packets-preserved : goal.packets-preserved
 packets-preserved g c =
     let so = c.packets.invariant.so_far in
@@ -86,5 +90,6 @@ packets-preserved g c =
       engine = c.take.ensures.engine ∙ c.packets.invariant.engine;
       on_attention = c.take.ensures.on_attention ∙ c.packets.invariant.on_attention;
       within = search rules;
+      short = omega (arith, c.packets.invariant.short, c.take.ensures.short, fed_length _ _ _ _ c.in-Ok.ensures.count c.in-Ok.ensures.within, whole_length c.feed.new.self _ _ lent, ap (λ r. length r.taken) gone);
       so_far = goes_on _ _ c.feed.new.self c.done.new.self c.args.piece.now _ _ _ _ _ _ _ _ _ c.in-Ok-take.took so.packets fed so.took lent gone (sym c.in-Ok-take.is ∙ rw answers at took) (rw answers at state) (rw answers at reply);
     }

@@ -1,4 +1,4 @@
-use Rattle.std.proofs.Common.{◌≡◌, ◌≤◌, ◌+◌, ◌-◌, length}
+use Rattle.std.proofs.Common.{◌≡◌, ◌≤◌, ◌+◌, ◌-◌, ◌*◌, length}
 use Rattle.tds_packet.specs.declared.kind.Direction.TheVariants.{ToServer}
 use Rattle.tds_session.specs.Answer.{answer_of}
 use Rattle.tds_ends.proofs.FedServer.{Serving}
@@ -11,6 +11,8 @@ invariant-packets g l = record {
   engine : l.server.engine ≡ l.fn.server.engine;
   on_attention : l.server.on_attention ≡ l.fn.server.on_attention;
   within : l.count ≤ length l.piece;
+  short : 8 * length l.reply.items + 35 * length l.reader.taken
+      ≤ 8 * length l.fn.reply.items + 35 * (length l.fn.reader.taken + l.count);
   so_far : Serving (answer_of (g.E.Engine.statements_of l.fn.server.engine) (g.E.Engine.step_of l.fn.server.engine))
       l.fn.reader l.reader l.piece l.count l.fn.server l.server l.fn.reply.items l.reply.items;
 }
