@@ -153,12 +153,15 @@ impl<'a> Drawing<'a> {
     /// Takes so many lines of a text's zone, and answers the first of them.
     fn take_lines(&mut self, spot: Spot, count: usize) -> usize {
         let used = match spot {
-            Spot::Server => &mut self.row.server_used,
-            _ => &mut self.row.client_used,
+            Spot::Server => self.row.server_used,
+            _ => self.row.client_used,
         };
-        let first = self.row.start.saturating_add(*used);
-        *used = used.saturating_add(count);
-        first
+        let behind = used.saturating_add(count);
+        match spot {
+            Spot::Server => self.row.server_used = behind,
+            _ => self.row.client_used = behind,
+        }
+        self.row.start.saturating_add(used)
     }
 
     /// The first line that is free at the server.

@@ -7,7 +7,7 @@ mod plate;
 mod style;
 
 use crate::scene::{BarMark, FlightEnd, Scene};
-use crate::svg::marks::{Area, begin_rect, color_of, put_escaped, put_line, put_text};
+use crate::svg::marks::{color_of, put_escaped, put_text};
 use crate::svg::plate::{Plate, width_of};
 use crate::svg::style::STYLE;
 use crate::widths::Widths;
@@ -34,32 +34,22 @@ pub const SVG_WIDTHS: Widths = Widths {
 pub fn paint_svg(alloc: Global, scene: &Scene) -> Result<String, AllocError> {
     let width = width_of(scene.width);
     let mut body = String::new(alloc);
-    let bottom = put_body(alloc, &mut body, scene, width)?;
+    let mut bottom = TOP;
+    for sheet in scene.sheets.iter() {
+        let plate = Plate::new(alloc, sheet, bottom, width)?;
+        plate.put(&mut body)?;
+        bottom = plate.bottom().saturating_add(BETWEEN);
+    }
+    for line in scene.below.iter() {
+        bottom = bottom.saturating_add(LINE);
+        put_text(&mut body, 12, bottom, "muted", line.as_str())?;
+    }
+    let bottom = put_legend(&mut body, scene, bottom)?;
     let mut picture = String::new(alloc);
     put_head(&mut picture, scene, width, bottom.saturating_add(12))?;
     picture.push_str(body.as_str())?;
     picture.push_str("</svg>\n")?;
     Ok(picture)
-}
-
-/// Appends what stands below the first line, and answers where it ends.
-fn put_body(
-    alloc: Global,
-    body: &mut String,
-    scene: &Scene,
-    width: usize,
-) -> Result<usize, AllocError> {
-    let mut bottom = TOP;
-    for sheet in scene.sheets.iter() {
-        let plate = Plate::new(alloc, sheet, bottom, width)?;
-        plate.put(body)?;
-        bottom = plate.bottom().saturating_add(BETWEEN);
-    }
-    for line in scene.below.iter() {
-        bottom = bottom.saturating_add(LINE);
-        put_text(body, 12, bottom, "muted", line.as_str())?;
-    }
-    put_legend(body, scene, bottom)
 }
 
 fn put_head(
@@ -180,43 +170,34 @@ fn put_legend(body: &mut String, scene: &Scene, bottom: usize) -> Result<usize, 
     let mut y = bottom;
     if found.is_thrown {
         y = y.saturating_add(LINE);
+        put_example(body, y, "plain", "xk")?;
         let text = "read, but thrown away: its caller gets nothing of it";
-        put_example(body, y, "plain", "x", text)?;
+        put_text(body, 52, y, "muted", text)?;
     }
     if found.is_cancelling {
         y = y.saturating_add(LINE);
-        put_cancelling(body, y)?;
+        let top = y.saturating_sub(11);
+        write!(
+            body,
+            "<rect x=\"23\" y=\"{top}\" width=\"8\" height=\"15\" "
+        )?;
+        body.push_str("class=\"cancelling sk\"/>\n")?;
+        put_text(body, 52, y, "muted", "cancelling: waits for DONE attn")?;
     }
     if found.is_part {
         y = y.saturating_add(LINE);
+        put_example(body, y, "piece", "pk")?;
         let text = "a part of a packet has come, not yet the whole";
-        put_example(body, y, "piece", "p", text)?;
+        put_text(body, 52, y, "muted", text)?;
     }
     Ok(y)
 }
 
-/// Appends an arrow of this class and head, and what it means.
-fn put_example(
-    body: &mut String,
-    y: usize,
-    class: &str,
-    head: &str,
-    text: &str,
-) -> Result<(), AllocError> {
-    let middle = y.saturating_sub(4);
-    put_line(body, (12, middle), (42, middle), (class, head, "k"))?;
-    put_text(body, 52, y, "muted", text)
-}
-
-/// Appends the bar of an end that is cancelling, and what it means.
-fn put_cancelling(body: &mut String, y: usize) -> Result<(), AllocError> {
-    let area = Area {
-        x: 23,
-        y: y.saturating_sub(11),
-        width: 8,
-        height: 15,
-    };
-    begin_rect(body, area)?;
-    body.push_str("class=\"cancelling sk\"/>\n")?;
-    put_text(body, 52, y, "muted", "cancelling: waits for DONE attn")
+fn put_example(body: &mut String, y: usize, class: &str, head: &str) -> Result<(), AllocError> {
+    let y = y.saturating_sub(4);
+    write!(
+        body,
+        "<line x1=\"12\" y1=\"{y}\" x2=\"42\" y2=\"{y}\" class=\"arrow {class} sk\" "
+    )?;
+    writeln!(body, "marker-end=\"url(#{head})\"/>")
 }

@@ -1,7 +1,7 @@
 //! What runs down in a panel, painted as SVG.
 
 use crate::scene::{BarMark, Line, PlaceMark};
-use crate::svg::marks::{Area, begin_rect, color_of, put_cross};
+use crate::svg::marks::{color_of, put_cross};
 use crate::svg::panel::Painted;
 use std::alloc::AllocError;
 use std::fmt::Write;
@@ -53,11 +53,10 @@ impl<'a> Painted<'a> {
         }
         for (index, line) in self.panel.lines.iter().enumerate() {
             let y = self.plate.at(index);
-            if line.client == BarMark::Cut {
-                put_cross(body, self.client().saturating_add(4), y)?;
-            }
-            if line.server == BarMark::Cut {
-                put_cross(body, self.server().saturating_add(4), y)?;
+            for (x, mark) in [(self.client(), line.client), (self.server(), line.server)] {
+                if mark == BarMark::Cut {
+                    put_cross(body, x.saturating_add(4), y)?;
+                }
             }
         }
         Ok(())
@@ -99,41 +98,26 @@ impl<'a> Painted<'a> {
         piece: Piece,
         end: usize,
     ) -> Result<(), AllocError> {
-        let area = self.area_of(column, piece, end);
-        let (class, color) = (class_of(piece.state), color_of(piece.request));
-        match column {
-            Column::Client | Column::Server => {
-                begin_rect(body, area)?;
-                body.push_str("class=\"bg\"/>\n")?;
-                begin_rect(body, area)?;
-                writeln!(body, "class=\"{class} f{color} s{color}\"/>")
-            }
-            Column::Place => {
-                begin_rect(body, area)?;
-                writeln!(body, "rx=\"3\" class=\"{class}\"/>")
-            }
-            Column::ClientLife | Column::ServerLife => {
-                begin_rect(body, area)?;
-                writeln!(body, "class=\"{class}\"/>")
-            }
-        }
-    }
-
-    /// Where a piece stands that goes down to this height.
-    fn area_of(&self, column: Column, piece: Piece, end: usize) -> Area {
         let at = self.plate.at(piece.line);
-        let (x, y, width) = match column {
+        let (x, top, width) = match column {
             Column::Place => (self.place().saturating_sub(10), at.saturating_sub(15), 20),
             Column::ClientLife => (self.client().saturating_add(3), at.saturating_sub(14), 2),
             Column::ServerLife => (self.server().saturating_add(3), at.saturating_sub(14), 2),
             Column::Client => (self.client(), at, 8),
             Column::Server => (self.server(), at, 8),
         };
-        Area {
-            x,
-            y,
-            width,
-            height: end.saturating_sub(y),
+        let height = end.saturating_sub(top);
+        let rect = format!(in self.alloc;
+            "<rect x=\"{x}\" y=\"{top}\" width=\"{width}\" height=\"{height}\" "
+        )?;
+        let (class, color) = (class_of(piece.state), color_of(piece.request));
+        match column {
+            Column::Client | Column::Server => {
+                writeln!(body, "{rect}class=\"bg\"/>")?;
+                writeln!(body, "{rect}class=\"{class} f{color} s{color}\"/>")
+            }
+            Column::Place => writeln!(body, "{rect}rx=\"3\" class=\"{class}\"/>"),
+            Column::ClientLife | Column::ServerLife => writeln!(body, "{rect}class=\"{class}\"/>"),
         }
     }
 }

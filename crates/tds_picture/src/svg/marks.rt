@@ -24,31 +24,6 @@ pub(crate) fn color_of(request: u32) -> &'static str {
     }
 }
 
-/// A rectangle.
-#[derive(Clone, Copy)]
-pub(crate) struct Area {
-    pub(crate) x: usize,
-    pub(crate) y: usize,
-    pub(crate) width: usize,
-    pub(crate) height: usize,
-}
-
-/// Appends the beginning of a rectangle: its looks, and the end of the mark, go behind it.
-pub(crate) fn begin_rect(body: &mut String, area: Area) -> Result<(), AllocError> {
-    write!(body, "<rect x=\"{}\" y=\"{}\" ", area.x, area.y)?;
-    write!(body, "width=\"{}\" height=\"{}\" ", area.width, area.height)
-}
-
-/// Appends the beginning of a line: its looks, and the end of the mark, go behind it.
-pub(crate) fn begin_line(
-    body: &mut String,
-    from: (usize, usize),
-    to: (usize, usize),
-) -> Result<(), AllocError> {
-    write!(body, "<line x1=\"{}\" y1=\"{}\" ", from.0, from.1)?;
-    write!(body, "x2=\"{}\" y2=\"{}\" ", to.0, to.1)
-}
-
 /// Appends an arrow of this class, head and colour.
 pub(crate) fn put_line(
     body: &mut String,
@@ -57,7 +32,11 @@ pub(crate) fn put_line(
     look: (&str, &str, &str),
 ) -> Result<(), AllocError> {
     let (class, head, color) = look;
-    begin_line(body, from, to)?;
+    write!(
+        body,
+        "<line x1=\"{}\" y1=\"{}\" x2=\"{}\" y2=\"{}\" ",
+        from.0, from.1, to.0, to.1
+    )?;
     writeln!(
         body,
         "class=\"arrow {class} s{color}\" marker-end=\"url(#{head}{color})\"/>"
@@ -67,8 +46,10 @@ pub(crate) fn put_line(
 pub(crate) fn put_cross(body: &mut String, x: usize, y: usize) -> Result<(), AllocError> {
     let (left, right) = (x.saturating_sub(6), x.saturating_add(6));
     let (top, bottom) = (y.saturating_sub(6), y.saturating_add(6));
-    write!(body, "<path d=\"M{left} {top}L{right} {bottom}")?;
-    write!(body, "M{left} {bottom}L{right} {top}\" ")?;
+    write!(
+        body,
+        "<path d=\"M{left} {top}L{right} {bottom}M{left} {bottom}L{right} {top}\" "
+    )?;
     body.push_str("class=\"cut\"/>\n")
 }
 
@@ -79,43 +60,30 @@ pub(crate) fn put_ground(
     y: usize,
     width: usize,
 ) -> Result<(), AllocError> {
-    let area = Area {
-        x,
-        y,
-        width,
-        height: 14,
-    };
-    begin_rect(body, area)?;
+    write!(
+        body,
+        "<rect x=\"{x}\" y=\"{y}\" width=\"{width}\" height=\"14\" "
+    )?;
     body.push_str("class=\"lb\"/>\n")
 }
 
-/// How many digits a number has.
-fn digits(number: u32) -> usize {
-    (number.checked_ilog10().unwrap_or(0) as usize).saturating_add(1)
-}
-
-/// How far behind a request's badge its text begins.
-pub(crate) fn badge_width(request: u32) -> usize {
-    wide(digits(request)).saturating_add(10)
-}
-
-/// Appends a request's number in its colour.
+/// Appends a request's number, and answers where its text begins.
 pub(crate) fn put_badge(
     body: &mut String,
     x: usize,
     y: usize,
     request: u32,
-) -> Result<(), AllocError> {
-    let area = Area {
-        x,
-        y: y.saturating_sub(16),
-        width: badge_width(request).saturating_sub(4),
-        height: 14,
-    };
-    begin_rect(body, area)?;
-    writeln!(body, "rx=\"3\" class=\"f{}\"/>", color_of(request))?;
-    begin_text(body, x.saturating_add(3), y.saturating_sub(5), "n")?;
-    writeln!(body, "{request}</text>")
+    number: &str,
+) -> Result<usize, AllocError> {
+    let width = wide(number.len()).saturating_add(6);
+    let (top, color) = (y.saturating_sub(16), color_of(request));
+    write!(
+        body,
+        "<rect x=\"{x}\" y=\"{top}\" width=\"{width}\" height=\"14\" rx=\"3\" "
+    )?;
+    writeln!(body, "class=\"f{color}\"/>")?;
+    put_text(body, x.saturating_add(3), y.saturating_sub(5), "n", number)?;
+    Ok(x.saturating_add(width).saturating_add(4))
 }
 
 /// Appends a name in its box.
@@ -127,14 +95,12 @@ pub(crate) fn put_name(
     name: &str,
 ) -> Result<(), AllocError> {
     let width = wide(name.len()).saturating_add(8);
-    let area = Area {
-        x: middle.saturating_sub(width / 2),
-        y: y.saturating_sub(15),
-        width,
-        height: 16,
-    };
+    let (x, top) = (middle.saturating_sub(width / 2), y.saturating_sub(15));
     for class in ["bg", class] {
-        begin_rect(body, area)?;
+        write!(
+            body,
+            "<rect x=\"{x}\" y=\"{top}\" width=\"{width}\" height=\"16\" "
+        )?;
         writeln!(body, "rx=\"3\" class=\"{class}\"/>")?;
     }
     put_text(body, middle, y.saturating_sub(3), "h m", name)
@@ -148,14 +114,9 @@ pub(crate) fn put_text(
     class: &str,
     text: &str,
 ) -> Result<(), AllocError> {
-    begin_text(body, x, y, class)?;
+    write!(body, "<text x=\"{x}\" y=\"{y}\" class=\"{class}\">")?;
     put_escaped(body, text)?;
     body.push_str("</text>\n")
-}
-
-/// Appends the beginning of a text.
-fn begin_text(body: &mut String, x: usize, y: usize, class: &str) -> Result<(), AllocError> {
-    write!(body, "<text x=\"{x}\" y=\"{y}\" class=\"{class}\">")
 }
 
 /// Appends an ASCII text as XML has it.

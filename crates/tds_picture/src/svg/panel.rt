@@ -1,10 +1,7 @@
 //! A panel painted as SVG: its packets and texts.
 
 use crate::scene::{BarMark, Flight, FlightEnd, Label, Line, Look, Panel, PlaceMark, Sort, Spot};
-use crate::svg::marks::{
-    Area, badge_width, begin_rect, color_of, put_badge, put_ground, put_line, put_name, put_text,
-    wide,
-};
+use crate::svg::marks::{color_of, put_badge, put_ground, put_line, put_name, put_text, wide};
 use crate::svg::plate::Plate;
 use std::alloc::{AllocError, Global};
 use std::fmt::Write;
@@ -140,48 +137,38 @@ impl<'a> Painted<'a> {
 
     /// Appends the names of what begins in a line.
     fn put_names(&self, body: &mut String, y: usize, line: &Line) -> Result<(), AllocError> {
-        self.put_end_name(body, self.client(), y, "client", line.client)?;
-        self.put_end_name(body, self.server(), y, "server", line.server)?;
-        self.put_place_name(body, y, line.place)
-    }
-
-    /// Appends the name of an end of a connection where that is opened.
-    fn put_end_name(
-        &self,
-        body: &mut String,
-        x: usize,
-        y: usize,
-        end: &str,
-        mark: BarMark,
-    ) -> Result<(), AllocError> {
-        let BarMark::Opened(conn) = mark else {
-            return Ok(());
-        };
-        let text = format!(in self.alloc; "{end} {conn}")?;
-        put_name(body, x.saturating_add(4), y, "box", text.as_str())
-    }
-
-    /// Appends the name of a lease or a ticket that begins.
-    fn put_place_name(
-        &self,
-        body: &mut String,
-        y: usize,
-        mark: PlaceMark,
-    ) -> Result<(), AllocError> {
-        let x = self.place();
-        match mark {
+        let alloc = self.alloc;
+        if let BarMark::Opened(conn) = line.client {
+            let text = format!(in alloc; "client {conn}")?;
+            put_name(
+                body,
+                self.client().saturating_add(4),
+                y,
+                "box",
+                text.as_str(),
+            )?;
+        }
+        if let BarMark::Opened(conn) = line.server {
+            let text = format!(in alloc; "server {conn}")?;
+            put_name(
+                body,
+                self.server().saturating_add(4),
+                y,
+                "box",
+                text.as_str(),
+            )?;
+        }
+        match line.place {
             PlaceMark::LeaseBegins(lease) => {
-                let text = format!(in self.alloc; "lease {lease}")?;
-                put_name(body, x, y, "leased", text.as_str())
+                let text = format!(in alloc; "lease {lease}")?;
+                put_name(body, self.place(), y, "leased", text.as_str())
             }
             PlaceMark::TicketBegins(ticket) => {
-                let text = format!(in self.alloc; "ticket {ticket}")?;
-                put_name(body, x, y, "kept", text.as_str())
+                let text = format!(in alloc; "ticket {ticket}")?;
+                put_name(body, self.place(), y, "kept", text.as_str())
             }
-            PlaceMark::DrainingBegins => put_name(body, x, y, "draining", "drains"),
-            PlaceMark::Nothing | PlaceMark::Lease | PlaceMark::Ticket | PlaceMark::Draining => Ok(
-                (),
-            ),
+            PlaceMark::DrainingBegins => put_name(body, self.place(), y, "draining", "drains"),
+            _ => Ok(()),
         }
     }
 
@@ -191,8 +178,10 @@ impl<'a> Painted<'a> {
             return Ok(());
         };
         let text = format!(in self.alloc; "{}, {} B", flight.name, flight.size)?;
-        let badge = badge_width(flight.request);
-        let width = wide(text.len()).saturating_add(badge).saturating_add(2);
+        let badge = format!(in self.alloc; "{}", flight.request)?;
+        let width = wide(badge.len())
+            .saturating_add(wide(text.len()))
+            .saturating_add(12);
         let x = match flight.direction {
             Direction::ToServer => self.wire().saturating_add(4),
             Direction::ToClient => self.server().saturating_sub(width.saturating_add(4)),
@@ -203,15 +192,8 @@ impl<'a> Painted<'a> {
             Sort::Request | Sort::Ignore | Sort::Answer => "",
         };
         put_ground(body, x, y.saturating_sub(16), width)?;
-        let x = x.saturating_add(1);
-        put_badge(body, x, y, flight.request)?;
-        put_text(
-            body,
-            x.saturating_add(badge),
-            y.saturating_sub(5),
-            class,
-            text.as_str(),
-        )
+        let behind = put_badge(body, x.saturating_add(1), y, flight.request, badge.as_str())?;
+        put_text(body, behind, y.saturating_sub(5), class, text.as_str())
     }
 
     /// Appends what stands beside a loose end.
@@ -233,14 +215,15 @@ impl<'a> Painted<'a> {
     }
 
     fn put_label(&self, body: &mut String, label: &Label) -> Result<(), AllocError> {
+        let badge = format!(in self.alloc; "{}", label.request)?;
         let y = self.plate.at(label.line);
         let text = label.text.as_str();
-        let badge = match label.has_badge {
-            true => badge_width(label.request),
+        let badge_width = match label.has_badge {
+            true => wide(badge.len()).saturating_add(10),
             false => 0,
         };
-        let width = wide(text.len()).saturating_add(badge);
-        let x = match label.spot {
+        let width = badge_width.saturating_add(wide(text.len()));
+        let mut x = match label.spot {
             Spot::Place => self.place().saturating_add(40),
             Spot::Asked => self.place().saturating_add(16),
             Spot::Told | Spot::Client => self.client().saturating_sub(width.saturating_add(6)),
@@ -250,32 +233,26 @@ impl<'a> Painted<'a> {
             put_pill(body, x, y, width)?;
         }
         if label.has_badge {
-            put_badge(body, x, y, label.request)?;
+            x = put_badge(body, x, y, label.request, badge.as_str())?;
         }
-        let (x, y) = (x.saturating_add(badge), y.saturating_sub(5));
-        put_text(body, x, y, class_of(label.look), text)
-    }
-}
-
-/// Its name in the style sheet.
-fn class_of(look: Look) -> &'static str {
-    match look {
-        Look::Plain | Look::Pill => "",
-        Look::Muted => "muted",
-        Look::Bold => "bold",
-        Look::Red => "bad",
-        Look::Struck => "struck",
+        let class = match label.look {
+            Look::Plain | Look::Pill => "",
+            Look::Muted => "muted",
+            Look::Bold => "bold",
+            Look::Red => "bad",
+            Look::Struck => "struck",
+        };
+        put_text(body, x, y.saturating_sub(5), class, text)
     }
 }
 
 /// Appends what lies behind a state.
 fn put_pill(body: &mut String, x: usize, y: usize, width: usize) -> Result<(), AllocError> {
-    let area = Area {
-        x: x.saturating_sub(3),
-        y: y.saturating_sub(16),
-        width: width.saturating_add(6),
-        height: 15,
-    };
-    begin_rect(body, area)?;
-    body.push_str("rx=\"7\" class=\"st\"/>\n")
+    let (left, top) = (x.saturating_sub(3), y.saturating_sub(16));
+    let width = width.saturating_add(6);
+    write!(
+        body,
+        "<rect x=\"{left}\" y=\"{top}\" width=\"{width}\" height=\"15\" rx=\"7\" "
+    )?;
+    body.push_str("class=\"st\"/>\n")
 }

@@ -1,7 +1,7 @@
 //! A sheet painted as SVG: its rows, and its panels side by side.
 
 use crate::scene::{Row, Sheet};
-use crate::svg::marks::{Area, begin_line, begin_rect, put_text};
+use crate::svg::marks::put_text;
 use crate::svg::panel::Painted;
 use std::alloc::{AllocError, Global};
 use std::fmt::Write;
@@ -88,7 +88,6 @@ impl<'a> Plate<'a> {
     /// Appends the sheet: what lies below first.
     pub(crate) fn put(&self, body: &mut String) -> Result<(), AllocError> {
         self.put_bands(body)?;
-        self.put_rules(body)?;
         let mut left = PANELS;
         for panel in self.sheet.panels.iter() {
             Painted::new(self.alloc, &*self, panel, left).put(body)?;
@@ -100,7 +99,7 @@ impl<'a> Plate<'a> {
         Ok(())
     }
 
-    /// Appends a band behind every second row.
+    /// Appends a band behind every second row, and a line across at each restart.
     fn put_bands(&self, body: &mut String) -> Result<(), AllocError> {
         let width = self.width;
         for (index, row) in self.sheet.rows.iter().enumerate() {
@@ -112,27 +111,23 @@ impl<'a> Plate<'a> {
                 Some(next) => self.at(next.line).saturating_sub(LINE.saturating_add(1)),
                 None => self.bottom.saturating_sub(2),
             };
-            let area = Area {
-                x: 0,
-                y: top,
-                width,
-                height: end.saturating_sub(top),
-            };
-            begin_rect(body, area)?;
+            let height = end.saturating_sub(top);
+            write!(
+                body,
+                "<rect x=\"0\" y=\"{top}\" width=\"{width}\" height=\"{height}\" "
+            )?;
             body.push_str("class=\"band\"/>\n")?;
         }
-        Ok(())
-    }
-
-    /// Appends a line across at each restart.
-    fn put_rules(&self, body: &mut String) -> Result<(), AllocError> {
         let Some(panel) = self.sheet.panels.first() else {
             return Ok(());
         };
-        let right = self.width.saturating_sub(MARGIN);
+        let right = width.saturating_sub(MARGIN);
         for (index, _) in panel.lines.iter().enumerate().filter(|line| line.1.is_rule) {
             let y = self.at(index);
-            begin_line(body, (MARGIN, y), (right, y))?;
+            write!(
+                body,
+                "<line x1=\"{MARGIN}\" y1=\"{y}\" x2=\"{right}\" y2=\"{y}\" "
+            )?;
             body.push_str("class=\"cut\"/>\n")?;
         }
         Ok(())
