@@ -19,11 +19,35 @@ static void stop(const char *why, unsigned number) {
     exit(1);
 }
 
+#define ROOM 64
+
+/* The packets that were found and are still to be given. */
+static struct {
+    struct tds_packet found[ROOM];
+    size_t next, count;
+} fronts;
+
+/* The length of the packet at the front: as many a call are found as there is room for. */
 static size_t front(const uint8_t *bytes, size_t length, uint16_t size) {
-    struct tds_packet packet;
-    uint8_t answer = tds_packet_read(bytes, length, size, TDS_TO_CLIENT, &packet);
-    if (answer != TDS_OK) stop("packet", answer);
-    return packet.length;
+    if (fronts.next == fronts.count) {
+        uint8_t answer = tds_packets_read(bytes, length, size, TDS_TO_CLIENT, fronts.found, ROOM, &fronts.count);
+        if (fronts.count == 0) stop("packets", answer);
+        fronts.next = 0;
+    }
+    return fronts.found[fronts.next++].length;
+}
+
+/* A packet a call. */
+static struct counted packet(const uint8_t *bytes, size_t length, uint16_t size) {
+    struct counted counted = {0, 0, 0, 0};
+    while (length > 0) {
+        struct tds_packet found;
+        uint8_t answer = tds_packet_read(bytes, length, size, TDS_TO_CLIENT, &found);
+        if (answer != TDS_OK) stop("packet", answer);
+        bytes += found.length, length -= found.length;
+        counted.packets += 1, counted.sum += found.length;
+    }
+    return counted;
 }
 
 static struct counted packets(const uint8_t *bytes, size_t length, uint16_t size) {
@@ -64,7 +88,6 @@ static struct counted hear(const uint8_t *bytes, size_t length, uint16_t size) {
     return counted;
 }
 
-#define ROOM 64
 static struct tds_token read_tokens[ROOM];
 
 /* Reads a packet's tokens, as many a call as there is room for. */
@@ -173,7 +196,7 @@ static struct counted values(const uint8_t *bytes, size_t length, uint16_t size)
 static const struct {
     const char *name;
     struct counted (*walk)(const uint8_t *, size_t, uint16_t);
-} WALKS[] = {{"packets", packets}, {"hear", hear}, {"tokens", tokens}, {"rows", rows}, {"values", values}};
+} WALKS[] = {{"packets", packets}, {"packet", packet}, {"hear", hear}, {"tokens", tokens}, {"rows", rows}, {"values", values}};
 
 static uint64_t now(void) {
     struct timespec time;

@@ -14,19 +14,32 @@
  *    may run at the same time. A value may go from thread to thread.
  *  - There is stack for the call (64 KB will do), and it isn't made from a signal handler or from
  *    the child of a fork in a process with threads.
- *  - malloc, realloc and free are one allocator, and align a block to each power of two up to 16
- *    that divides its size. Link liblibc_c.a of the toolchain behind the library. A call frees
- *    what it takes before it returns.
+ *  - Behind the player's library link liblibc_c.a of the toolchain; malloc, realloc and free are one
+ *    allocator then, and align a block to each power of two up to 16 that divides its size. This
+ *    library takes no memory, and needs of the C library memcpy and memmove alone.
  *  - `message` of tds_client_send is what the start of that request wrote, all of it.
  *  - Numbers have this machine's byte order; the library is for 64-bit machines with the low byte
  *    first.
  *
  * WHAT A CALL ANSWERS. One number, of those below. From 20 on the call was not done: the client,
  * the cursor and the buffers are as they were, and a count is 0, or where room is wanted (21) how
- * much. The exceptions are the client's faults (61 to 69), which break the client, and the tokens'
- * (51 to 57), which put the cursor behind the data, with the tokens before them read. Want of
- * memory (22) may come in place of any other answer of a call that takes memory: cancel, and start
- * of any request but a batch. Call again once there is some.
+ * much. The exceptions are the client's faults (61 to 69), which break the client; the tokens'
+ * (51 to 57), which put the cursor behind the data, with the tokens before them read; and
+ * tds_packets_read, which has read the packets before what it answers. No call takes memory.
+ *
+ *   0                 done
+ *   1 to 9            done, and more is said: what is still to come, or that nothing is
+ *   20 to 26          what was handed over is wrong, or not enough: a client, room, a range, bytes
+ *   31 to 33          the client refuses the call as it stands now
+ *   41 to 46          a packet's header is wrong; nothing behind it can be read
+ *   51 to 57          a packet's data spell no token
+ *   61 to 69          the peer broke the protocol, and the client is broken
+ *
+ * TEXTS are UTF-16 with the low byte first. One that is handed over is an array of uint16_t (or of
+ * char16_t, which is as wide; in C++ cast the pointer), aligned as its type, without a 0 behind it:
+ * the length counts units, and a character outside of the first 65,536 has two. Any units are
+ * taken, a lone half of a pair too. One that comes lies in the packet's data, at any address: copy
+ * it out by memcpy, or read it byte by byte; a pointer of uint16_t into the data may be misaligned.
  */
 #ifndef TDS_H
 #define TDS_H
@@ -53,7 +66,7 @@ extern "C" {
 
 #define TDS_NO_CLIENT 20    /* the value is no client's */
 #define TDS_NO_ROOM 21      /* the buffer that is written to is too short: `count` is wanted */
-#define TDS_NO_MEMORY 22    /* memory is wanted */
+#define TDS_NO_MEMORY 22    /* memory is wanted: no call answers it today */
 #define TDS_OUT_OF_RANGE 23 /* a packet size, direction, reset, text or isolation level is none */
 #define TDS_WANTS_BYTES 24  /* less than a packet is there */
 #define TDS_NO_PACKET 25    /* take: bytes stand behind the packet */
@@ -106,9 +119,16 @@ struct tds_packet {
 
 /* The packet at the front of the bytes. TDS_OK: it is there. TDS_WANTS_BYTES: call again with more
  * bytes behind these. 41 to 46: its header is refused. TDS_OUT_OF_RANGE: the packet size isn't 512
- * to 32,767, or the direction none. Takes no memory. */
+ * to 32,767, or the direction none. */
 uint8_t tds_packet_read(const uint8_t *bytes, size_t length, uint16_t size, uint8_t direction,
                         struct tds_packet *packet);
+
+/* The packets at the front of the bytes, up to `room` of them in one call: those that tds_packet_read
+ * gives one after the other. They stand at the front of `packets`, and `count` says how many; each
+ * begins where the one before ends. TDS_OK: the room is full, and there may be more. Else it is what
+ * tds_packet_read answers behind them: TDS_WANTS_BYTES, also where no byte is left, or 41 to 46. */
+uint8_t tds_packets_read(const uint8_t *bytes, size_t length, uint16_t size, uint8_t direction,
+                         struct tds_packet *packets, size_t room, size_t *count);
 
 /* ---- The client */
 
@@ -149,8 +169,7 @@ uint8_t tds_client_mark_reset(struct tds_client *client, uint8_t reset);
 
 /* In idle: takes a request. Nothing goes out yet. Its message is written to `message`, which has
  * room for `room` bytes (TDS_MESSAGE_MOST always does), and its length to `count`. Keep it until
- * all of it is out. A batch has 1 to 2,000 units of UTF-16, and its start takes no memory; an
- * isolation level is 0 to 5. */
+ * all of it is out. A batch has 1 to 2,000 units of UTF-16; an isolation level is 0 to 5. */
 uint8_t tds_client_start_batch(struct tds_client *client, const uint16_t *text, size_t units,
                                uint8_t *message, size_t room, size_t *count);
 uint8_t tds_client_start_begin(struct tds_client *client, uint8_t isolation, uint8_t *message,
@@ -165,8 +184,7 @@ uint8_t tds_client_start_rollback(struct tds_client *client, uint8_t next, uint8
                                   size_t room, size_t *count);
 
 /* In sending: writes the request's next packet to `out`, which needs room for the packet size at
- * most (where it is too short, `count` is the length of this packet). TDS_MORE or TDS_LAST. Takes no
- * memory. */
+ * most (where it is too short, `count` is the length of this packet). TDS_MORE or TDS_LAST. */
 uint8_t tds_client_send(struct tds_client *client, const uint8_t *message, size_t length,
                         uint8_t *out, size_t room, size_t *count);
 
@@ -178,11 +196,11 @@ uint8_t tds_client_cancel(struct tds_client *client, uint8_t *out, size_t room, 
  * the answer has ended, and its acknowledgement is still to come), TDS_FINISHED or
  * TDS_ACKNOWLEDGED. 61 to 69: the client is broken by this packet, nothing of it is told, and each
  * later packet is answered so. 41 to 46: the packet's header is wrong; the client is as it was, but
- * nothing behind it can be read, so call tds_client_lost. Takes no memory. In reading, its tokens but
+ * nothing behind it can be read, so call tds_client_lost. In reading, its tokens but
  * the ENVCHANGEs are the caller's, and are read by tds_token_next; in cancelling none is. */
 uint8_t tds_client_take(struct tds_client *client, const uint8_t *packet, size_t length);
 
-/* The connection is lost: the client is broken, unless it is broken already. Takes no memory. */
+/* The connection is lost: the client is broken, unless it is broken already. */
 uint8_t tds_client_lost(struct tds_client *client);
 
 /* ---- Tokens (MS-TDS 2.2.7) */
@@ -229,7 +247,7 @@ struct tds_token {
 
 /* Reads the token at the cursor of these data, and goes on behind it. TDS_OK: it is in `token`.
  * TDS_END: the data are at their end. 51 to 57: they spell no token. Unless it is TDS_OK, `token`
- * is as it was. Takes no memory. */
+ * is as it was. */
 uint8_t tds_token_next(const uint8_t *data, size_t length, struct tds_cursor *cursor,
                        struct tds_token *token);
 
@@ -237,7 +255,7 @@ uint8_t tds_token_next(const uint8_t *data, size_t length, struct tds_cursor *cu
  * They stand at the front of `tokens`, and `count` says how many. TDS_OK: the room is full, and
  * there may be more. TDS_END: these were the last ones. 51 to 57: behind these the data spell no
  * token. In each case the tokens that were read are there, and the cursor stands where
- * tds_token_next would leave it. Without room (0) nothing is read. Takes no memory. */
+ * tds_token_next would leave it. Without room (0) nothing is read. */
 uint8_t tds_tokens_next(const uint8_t *data, size_t length, struct tds_cursor *cursor,
                         struct tds_token *tokens, size_t room, size_t *count);
 
@@ -251,7 +269,7 @@ struct tds_rows {
 
 /* Finds all the rows at the cursor, and goes on behind them. TDS_OK, also where there is none, or
  * one that is cut or whose columns aren't known: `count` is 0 then, and tds_token_next reads what is
- * there, or says why not. Takes no memory. */
+ * there, or says why not. */
 uint8_t tds_rows_next(const uint8_t *data, size_t length, struct tds_cursor *cursor,
                       struct tds_rows *rows);
 

@@ -69,12 +69,33 @@ static void take(struct connection *c, const uint8_t *bytes, size_t length, unsi
     expect("tokens", answer, TDS_END);
 }
 
+/* Two packets and a beginning of a third, two a call. */
+static void several(void) {
+    uint8_t bytes[sizeof SAID + sizeof ENDED + 7];
+    struct tds_packet found[2] = {{0}};
+    size_t count = 0;
+    memcpy(bytes, SAID, sizeof SAID);
+    memcpy(bytes + sizeof SAID, ENDED, sizeof ENDED);
+    memcpy(bytes + sizeof SAID + sizeof ENDED, SAID, 7);
+    expect("full", tds_packets_read(bytes, sizeof bytes, 512, TDS_TO_CLIENT, found, 2, &count), TDS_OK);
+    expect("two", count, 2);
+    expect("first", found[0].length, sizeof SAID);
+    expect("second", found[1].length, sizeof ENDED);
+    expect("ends", found[1].status, 1);
+    expect("third", tds_packets_read(bytes + sizeof SAID, sizeof bytes - sizeof SAID, 512, TDS_TO_CLIENT, found, 2, &count), TDS_WANTS_BYTES);
+    expect("one", count, 1);
+    expect("other way", tds_packets_read(bytes, sizeof bytes, 512, TDS_TO_SERVER, found, 2, &count), TDS_PACKET_OTHER_DIRECTION);
+    expect("none", count, 0);
+    expect("size", tds_packets_read(bytes, sizeof bytes, 511, TDS_TO_CLIENT, found, 2, &count), TDS_OUT_OF_RANGE);
+}
+
 static void packets(void) {
     struct tds_packet packet = {0};
     for (size_t n = 0; n < sizeof BEGUN; n++)
         expect("front", tds_packet_read(BEGUN, n, 512, TDS_TO_CLIENT, &packet), TDS_WANTS_BYTES);
     expect("packet", tds_packet_read(BEGUN, sizeof BEGUN, 512, TDS_TO_CLIENT, &packet), TDS_OK);
     expect("length", packet.length, sizeof BEGUN);
+    several();
     expect("kind", packet.kind, 4);
     expect("status", packet.status, 1);
     expect("direction", tds_packet_read(BEGUN, sizeof BEGUN, 512, TDS_TO_SERVER, &packet), TDS_PACKET_OTHER_DIRECTION);

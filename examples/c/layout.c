@@ -39,6 +39,7 @@ int main(void) {
     static GUARDED(struct tds_token) token;
     static GUARDED(struct tds_rows) rows;
     static struct tds_token two[2];
+    static struct tds_packet several[2];
     static uint16_t text[1000];
     static uint8_t message[TDS_MESSAGE_MOST], out[512];
     size_t length = 0, count = 0;
@@ -62,6 +63,8 @@ int main(void) {
     expect("read", tds_packet_read(ROWS, sizeof ROWS, 512, TDS_TO_CLIENT, &packet.it) == TDS_OK);
     expect("packet", packet.it.length == sizeof ROWS && packet.it.kind == 4 && packet.it.status == 0);
     expect("packet's end", WHOLE(packet));
+    expect("several", tds_packets_read(ROWS, sizeof ROWS, 512, TDS_TO_CLIENT, several, 2, &count) == TDS_WANTS_BYTES && count == 1);
+    expect("the first", several[0].length == sizeof ROWS && several[0].kind == 4 && several[1].length == 0);
 
     cursor.it.at = 0;
     cursor.it.columns = 0;

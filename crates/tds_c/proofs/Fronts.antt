@@ -1,5 +1,5 @@
 -- The front of some bytes, as a packet.
-use Rattle.std.proofs.Common.{◌≡◌, ℕ, ◌/◌, ◌%◌, ◌≤◌, nat_lt, if◌then◌else◌, Bool, true, false, is_none, Option, Some, None, List, length, take, drop, slice_index, inl, inr, refl, sym, ap, ◌∙◌, arith}
+use Rattle.std.proofs.Common.{◌≡◌, ℕ, ◌/◌, ◌%◌, ◌≤◌, nat_lt, if◌then◌else◌, Bool, true, false, is_none, Option, Some, None, List, [], ◌∷◌, ◌++◌, length, take, drop, slice_index, slice_set, ◌+◌, ◌<◌, inl, inr, refl, sym, ap, ◌∙◌, arith}
 use Rattle.std.proofs.lemmas.Bool.{cases_lt, ltb-false}
 use Rattle.std.proofs.lemmas.List.{get_or-take, get_or_past, length-take-le}
 use Rattle.tds_packet.specs.declared.kind.Direction.{Direction}
@@ -10,7 +10,9 @@ use Rattle.tds_packet.specs.Faults.{fault_at, header_fault, length_field, goes_o
 use Rattle.tds_packet.specs.Layout.{header_bytes, kind_of}
 use Rattle.tds_packet.specs.Reading.{Reading, IsWhole}
 use Rattle.tds_packet.specs.Stream.{AreBytes}
-use Rattle.tds_c.specs.Packets.{IsFront}
+use Rattle.tds_c.specs.declared.packets.TdsPacket.{TdsPacket}
+use Rattle.tds_c.specs.Packets.{AreFronts, HaveFronts, IsFront, ShowsPacket}
+use Rattle.tds_c.proofs.Rooms.{written_on}
 
 third : (a b c : Bool) (rest : Option PacketFault) → (if a then Some UnknownType else if b then Some OtherDirection else if c then Some ShortLength else rest) ≡ None → c ≡ false
 third true b c rest h = absurd cc
@@ -72,3 +74,25 @@ pub is_front : (direction : Direction) (size : ℕ) (bytes content : List ℕ) (
 is_front direction size bytes content h law all spelled none room behind =
     let whole = is_whole direction size bytes h law all spelled none room in
     (room, spelled, behind, whole)
+
+-- ---- Packets one behind the other
+
+fronts_then : (direction : Direction) (size : ℕ) (bytes rest content : List ℕ) (read : List TdsPacket) (p : TdsPacket) (h : Header) → AreFronts direction size bytes read rest → IsFront direction size rest h content → ShowsPacket p h
+    → AreFronts direction size bytes (read ++ p ∷ []) (drop h.length rest)
+unfolding AreFronts
+fronts_then direction size bytes rest content [] p h fronts front shown = (h, content, rw fronts front, shown, rw fronts refl)
+fronts_then direction size bytes rest content (x ∷ read) p h fronts front shown =
+    (fronts.0, fronts.1, fronts.2, fronts.3, fronts_then direction size (drop fronts.0.length bytes) rest content read p h fronts.4 front shown)
+
+pub no_fronts : (direction : Direction) (size : ℕ) (bytes : List ℕ) (room : List TdsPacket) → HaveFronts direction size bytes bytes (record { before = room; after = room; count = 0 })
+unfolding AreFronts
+no_fronts direction size bytes room = record { read = []; fronts = refl; written = (refl, refl) }
+
+-- one more packet was read
+pub fronts_on : (direction : Direction) (size : ℕ) (bytes rest behind content : List ℕ) (before after : List TdsPacket) (p : TdsPacket) (h : Header) (i : ℕ) → i < length before → IsFront direction size rest h content → ShowsPacket p h → behind ≡ drop h.length rest
+    → HaveFronts direction size bytes rest (record { before = before; after = after; count = i }) → HaveFronts direction size bytes behind (record { before = before; after = slice_set after i p; count = i + 1 })
+fronts_on direction size bytes rest behind content before after p h i within front shown left so_far = record {
+  read = so_far.read ++ p ∷ [];
+  fronts = rw left (fronts_then direction size bytes rest content so_far.read p h so_far.fronts front shown);
+  written = written_on so_far.read before after p i so_far.written within;
+}

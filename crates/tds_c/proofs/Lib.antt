@@ -1,6 +1,7 @@
 pub mod Joining
 pub mod Refusing
 pub mod Fronts
+pub mod Rooms
 pub mod Running
 pub mod Writing
 pub mod Sending

@@ -1,14 +1,18 @@
--- Taking a request.
+-- Taking a request, and cancelling one.
 use Rattle.std.proofs.Common.{◌≡◌, ℕ, ◌+◌, ◌*◌, List, [], length, Some, None, Ok, refl, sym, ap, ◌∙◌, arith}
 use Rattle.tds_request.specs.declared.request.Request.{Request}
 use Rattle.tds_request.specs.declared.request.Request.TheVariants.{Batch}
+use Rattle.tds_request.specs.declared.request.RequestKind.TheVariants.{Transaction}
+use Rattle.tds_request.specs.Layout.{body_of, kind_of_request}
 use Rattle.tds_client.specs.declared.client.parts.ClientParts.{ClientParts}
 use Rattle.tds_client.specs.declared.heard.Heard.{Heard}
 use Rattle.tds_client.specs.Parts.{parts_of, session_from}
-use Rattle.tds_client.specs.Sending.{message_of, started}
+use Rattle.tds_client.specs.Sending.{cancelled, message_of, started}
 use Rattle.tds_client.specs.Session.{ClientSession, unless_idle}
 use Rattle.tds_c.specs.declared.client.TdsClient.{TdsClient}
-use Rattle.tds_c.specs.Calls.{start_on, starts, value_of}
+use Rattle.tds_c.specs.declared.messages.Asked.{Asked}
+use Rattle.tds_c.specs.declared.messages.Asked.TheVariants as variants
+use Rattle.tds_c.specs.Calls.{cancels, request_of, start_on, starts, value_of}
 use Rattle.tds_c.specs.Plain.{client_of, plain_of}
 use Rattle.tds_c.proofs.Joining.{parted}
 use Rattle.tds_c.proofs.Writing.{two_each}
@@ -26,3 +30,15 @@ is_started parts left s same = ap (λ (p : ClientParts). plain_of p 0) (sym (par
 
 pub batch_length : (heard : Heard) (text : List ℕ) → 22 + 2 * length text ≡ length (message_of heard (Batch text))
 batch_length heard text = omega (arith, two_each text)
+
+-- A request to the transaction manager.
+pub asked_kind : (asked : Asked) → Transaction ≡ kind_of_request (request_of asked)
+asked_kind (variants.Begin isolation) = refl
+asked_kind (variants.Commit next) = refl
+asked_kind (variants.Rollback next) = refl
+
+pub asked_length : (heard : Heard) (asked : Asked) (bytes : List ℕ) → bytes ≡ body_of (request_of asked) → 22 + length bytes ≡ length (message_of heard (request_of asked))
+asked_length heard asked bytes same = omega (arith, ap length same)
+
+pub cancels_from : (c : TdsClient) (s : ClientSession) → client_of c [] ≡ Some s → cancels c ≡ Some (cancelled s)
+cancels_from c s held = rw held refl

@@ -23,7 +23,6 @@ refusal_number refusals.Memory = 22
 abbrev pub stop_number : Stop → ℕ
 stop_number stops.NoClient = 20
 stop_number stops.NoRoom = 21
-stop_number stops.NoMemory = 22
 stop_number stops.OutOfRange = 23
 stop_number stops.WantsBytes = 24
 stop_number stops.NoPacket = 25

@@ -3,15 +3,22 @@ use Rattle.std.specs.Prelude.{◌≡◌, ℕ, ◌-◌, ◌<◌, ◌==◌, nat_le
 use Rattle.tds_packet.specs.declared.status.Reset.{Reset}
 use Rattle.tds_packet.specs.Size.{IsPacketSize}
 use Rattle.tds_request.specs.declared.request.Request.{Request}
+use Rattle.tds_request.specs.declared.request.Request.TheVariants as requests
 use Rattle.tds_client.specs.declared.fault.ClientRefusal.{ClientRefusal}
 use Rattle.tds_client.specs.declared.state.Cancelled.{Cancelled}
 use Rattle.tds_client.specs.declared.state.Sent.{Sent}
 use Rattle.tds_client.specs.Parts.{parts_of, left_of}
-use Rattle.tds_client.specs.Sending.{Effect, IsRefusal, refusal_of, started, message_of, sent, cancelled}
+use Rattle.tds_client.specs.Sending.{Effect, refusal_of, started, message_of, sent, cancelled}
 use Rattle.tds_client.specs.Session.{ClientSession, new_session, unless_idle, marked, lost}
 use Rattle.tds_c.specs.declared.answers.Stop.{Stop}
 use Rattle.tds_c.specs.declared.answers.Stop.TheVariants as stops
+use Rattle.tds_c.specs.declared.attentions.Written.{Written}
+use Rattle.tds_c.specs.declared.attentions.Written.TheVariants as written
 use Rattle.tds_c.specs.declared.client.TdsClient.{TdsClient}
+use Rattle.tds_c.specs.declared.messages.Asked.{Asked}
+use Rattle.tds_c.specs.declared.messages.Asked.TheVariants as asked
+use Rattle.tds_c.specs.declared.messages.Body.{Body}
+use Rattle.tds_c.specs.declared.messages.Body.TheVariants as bodies
 use Rattle.tds_c.specs.Plain.{client_of, mark_from, plain_of}
 
 -- The value of a client, of whose message so many bytes are out.
@@ -53,6 +60,23 @@ cancels c = on cancelled (client_of c [])
 abbrev pub none_out : ClientSession → ℕ
 none_out s = 0
 
+-- ---- What is written, as the program holds it
+
+abbrev pub written_bytes : Written → List ℕ
+written_bytes written.Nothing = []
+written_bytes (written.Attention bytes) = bytes
+written_bytes (written.Both bytes) = bytes
+
+abbrev pub body_bytes : Body → List ℕ
+body_bytes (bodies.Short bytes) = bytes
+body_bytes (bodies.Long bytes) = bytes
+
+-- The request that it is.
+abbrev pub request_of : Asked → Request
+request_of (asked.Begin isolation) = requests.Begin isolation
+request_of (asked.Commit next) = requests.Commit next
+request_of (asked.Rollback next) = requests.Rollback next
+
 -- ---- What came of it
 
 -- A buffer before and after, and how many bytes were written.
@@ -74,13 +98,12 @@ Stops {A} wanted buffer stops.NoRoom =
     (answer : A) × (session : ClientSession) × (bytes : List ℕ)
     × (wanted ≡ Some (Ok (record { answer = answer; session = session; bytes = bytes })))
     × (buffer.count ≡ length bytes) × (length buffer.before < buffer.count)
-Stops wanted buffer stops.NoMemory = buffer.count ≡ 0
 Stops wanted buffer stops.OutOfRange = ⊥
 Stops wanted buffer stops.WantsBytes = ⊥
 Stops wanted buffer stops.NoPacket = ⊥
 Stops wanted buffer stops.NoPlace = ⊥
 Stops {A} wanted buffer (stops.Refused refusal) =
-    (call : Result (Effect A) ClientRefusal) × (wanted ≡ Some call) × IsRefusal (refusal_of call) refusal × (buffer.count ≡ 0)
+    (call : Result (Effect A) ClientRefusal) × (wanted ≡ Some call) × (refusal_of call ≡ Some refusal) × (buffer.count ≡ 0)
 Stops wanted buffer (stops.Packet fault) = ⊥
 Stops wanted buffer (stops.Token fault) = ⊥
 Stops wanted buffer (stops.Client fault) = ⊥
@@ -100,7 +123,6 @@ StartsIf lawful wanted old new buffer (Ok done) = lawful × Writes wanted none_o
 StartsIf lawful wanted old new buffer (Err stops.OutOfRange) = (¬ lawful) × (buffer.count ≡ 0) × Kept old new buffer
 StartsIf lawful wanted old new buffer (Err stops.NoClient) = Writes wanted none_out old new buffer (Err stops.NoClient)
 StartsIf lawful wanted old new buffer (Err stops.NoRoom) = Writes wanted none_out old new buffer (Err stops.NoRoom)
-StartsIf lawful wanted old new buffer (Err stops.NoMemory) = Writes wanted none_out old new buffer (Err stops.NoMemory)
 StartsIf lawful wanted old new buffer (Err stops.WantsBytes) = Writes wanted none_out old new buffer (Err stops.WantsBytes)
 StartsIf lawful wanted old new buffer (Err stops.NoPacket) = Writes wanted none_out old new buffer (Err stops.NoPacket)
 StartsIf lawful wanted old new buffer (Err stops.NoPlace) = Writes wanted none_out old new buffer (Err stops.NoPlace)

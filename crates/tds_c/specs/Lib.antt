@@ -1,5 +1,6 @@
 pub mod Plain
 pub mod Answers
 pub mod Calls
+pub mod Rooms
 pub mod Packets
 pub mod Tokens

@@ -1,5 +1,5 @@
 -- Packets out of bytes, and packets of an answer taken.
-use Rattle.std.specs.Prelude.{◌≡◌, ℕ, ◌<◌, ◌≤◌, ◌⊎◌, List, [], length, take, drop, Option, Some, None, Result, Ok, Err, ◌==◌, if◌then◌else◌}
+use Rattle.std.specs.Prelude.{◌≡◌, ℕ, ◌<◌, ◌≤◌, ◌⊎◌, List, [], ◌∷◌, length, take, drop, Option, Some, None, Result, Ok, Err, ◌==◌, if◌then◌else◌}
 use Rattle.tds_packet.specs.declared.kind.Direction.{Direction}
 use Rattle.tds_packet.specs.declared.kind.Direction.TheVariants.{ToServer, ToClient}
 use Rattle.tds_packet.specs.declared.header.Header.{Header}
@@ -17,6 +17,7 @@ use Rattle.tds_c.specs.declared.client.TdsClient.{TdsClient}
 use Rattle.tds_c.specs.declared.packets.TdsPacket.{TdsPacket}
 use Rattle.tds_c.specs.Calls.{value_of}
 use Rattle.tds_c.specs.Plain.{client_of}
+use Rattle.tds_c.specs.Rooms.{HasRead, Room}
 
 unfoldable pub direction_from : ℕ → Option Direction
 direction_from n = if n == 0 then Some ToServer else if n == 1 then Some ToClient else None
@@ -37,7 +38,6 @@ Unread direction size bytes stops.WantsBytes =
 Unread direction size bytes (stops.Packet fault) = (8 ≤ length bytes) × (header_fault direction size bytes ≡ Some fault)
 Unread direction size bytes stops.NoClient = ⊥
 Unread direction size bytes stops.NoRoom = ⊥
-Unread direction size bytes stops.NoMemory = ⊥
 Unread direction size bytes stops.OutOfRange = ⊥
 Unread direction size bytes stops.NoPacket = ⊥
 Unread direction size bytes stops.NoPlace = ⊥
@@ -56,7 +56,6 @@ ReadsTo direction size bytes old new (Ok done) =
 ReadsTo direction size bytes old new (Err stops.OutOfRange) = (¬ IsPacketSize size) × (new ≡ old)
 ReadsTo direction size bytes old new (Err stops.NoClient) = Unread direction size bytes stops.NoClient × (new ≡ old)
 ReadsTo direction size bytes old new (Err stops.NoRoom) = Unread direction size bytes stops.NoRoom × (new ≡ old)
-ReadsTo direction size bytes old new (Err stops.NoMemory) = Unread direction size bytes stops.NoMemory × (new ≡ old)
 ReadsTo direction size bytes old new (Err stops.WantsBytes) = Unread direction size bytes stops.WantsBytes × (new ≡ old)
 ReadsTo direction size bytes old new (Err stops.NoPacket) = Unread direction size bytes stops.NoPacket × (new ≡ old)
 ReadsTo direction size bytes old new (Err stops.NoPlace) = Unread direction size bytes stops.NoPlace × (new ≡ old)
@@ -68,6 +67,39 @@ ReadsTo direction size bytes old new (Err (stops.Client fault)) = Unread directi
 abbrev pub Reads : Option Direction → ℕ → List ℕ → TdsPacket → TdsPacket → Result (Unit {0}) Stop → Type 0
 Reads None size bytes old new result = (result ≡ Err stops.OutOfRange) × (new ≡ old)
 Reads (Some direction) size bytes old new result = ReadsTo direction size bytes old new result
+
+-- ---- Several packets in one call
+
+-- `tds_packet_read` gives these packets one after the other, and then these bytes are left.
+unfoldable pub AreFronts : Direction → ℕ → List ℕ → List TdsPacket → List ℕ → Type 0
+AreFronts direction size bytes [] rest = bytes ≡ rest
+AreFronts direction size bytes (p ∷ others) rest =
+    (header : Header) × (content : List ℕ) × IsFront direction size bytes header content × ShowsPacket p header
+    × AreFronts direction size (drop header.length bytes) others rest
+
+-- So far these packets were read and written, and these bytes are left.
+pub record HaveFronts (direction : Direction) (size : ℕ) (bytes rest : List ℕ) (room : Room TdsPacket) : Type 0 where
+  pub read : List TdsPacket
+  pub fronts : AreFronts direction size bytes read rest
+  pub written : HasRead read room
+
+-- Why no more were read: the room is full, or this is what `tds_packet_read` answers next.
+abbrev pub EndsBefore : Direction → ℕ → List ℕ → Room TdsPacket → Result (Unit {0}) Stop → Type 0
+EndsBefore direction size rest room (Ok done) = room.count ≡ length room.before
+EndsBefore direction size rest room (Err stop) = Unread direction size rest stop
+
+abbrev pub ReadsFronts : Direction → ℕ → List ℕ → Room TdsPacket → Result (Unit {0}) Stop → Type 0
+ReadsFronts direction size bytes room result =
+    (rest : List ℕ) × HaveFronts direction size bytes rest room × EndsBefore direction size rest room result
+
+-- A size or a direction that is none is refused, and nothing was done.
+abbrev pub IsOutOfRange : Room TdsPacket → Result (Unit {0}) Stop → Type 0
+IsOutOfRange room result = (result ≡ Err stops.OutOfRange) × (room.after ≡ room.before) × (room.count ≡ 0)
+
+abbrev pub ReadsMany : Option Direction → ℕ → List ℕ → Room TdsPacket → Result (Unit {0}) Stop → Type 0
+ReadsMany None size bytes room result = IsOutOfRange room result
+ReadsMany (Some direction) size bytes room result =
+    (IsPacketSize size → ReadsFronts direction size bytes room result) × ((¬ IsPacketSize size) → IsOutOfRange room result)
 
 -- ---- A packet of an answer
 
@@ -90,7 +122,6 @@ TakesFrom s old new bytes (Err stops.NoPacket) =
     (header : Header) × (content : List ℕ) × IsFront ToClient s.size bytes header content × (header.length < length bytes) × (new ≡ old)
 TakesFrom s old new bytes (Err stops.NoClient) = Unread ToClient s.size bytes stops.NoClient × (new ≡ old)
 TakesFrom s old new bytes (Err stops.NoRoom) = Unread ToClient s.size bytes stops.NoRoom × (new ≡ old)
-TakesFrom s old new bytes (Err stops.NoMemory) = Unread ToClient s.size bytes stops.NoMemory × (new ≡ old)
 TakesFrom s old new bytes (Err stops.OutOfRange) = Unread ToClient s.size bytes stops.OutOfRange × (new ≡ old)
 TakesFrom s old new bytes (Err stops.WantsBytes) = Unread ToClient s.size bytes stops.WantsBytes × (new ≡ old)
 TakesFrom s old new bytes (Err stops.NoPlace) = Unread ToClient s.size bytes stops.NoPlace × (new ≡ old)

@@ -17,6 +17,7 @@ use Rattle.tds_c.specs.declared.tokens.TdsCursor.{TdsCursor}
 use Rattle.tds_c.specs.declared.tokens.TdsRows.{TdsRows}
 use Rattle.tds_c.specs.declared.tokens.TdsToken.{TdsToken}
 use Rattle.tds_c.specs.Plain.{columns_from, columns_number}
+use Rattle.tds_c.specs.Rooms.{HasRead, Room}
 
 -- A token was read, or the data are at their end.
 abbrev pub found_number : Option TdsToken → ℕ
@@ -68,7 +69,6 @@ ReadsUnder columns content old new (Err (stops.Token fault)) =
 ReadsUnder columns content old new (Err stops.NoPlace) = (length content < old.at) × (new ≡ old)
 ReadsUnder columns content old new (Err stops.NoClient) = ⊥
 ReadsUnder columns content old new (Err stops.NoRoom) = ⊥
-ReadsUnder columns content old new (Err stops.NoMemory) = ⊥
 ReadsUnder columns content old new (Err stops.OutOfRange) = ⊥
 ReadsUnder columns content old new (Err stops.WantsBytes) = ⊥
 ReadsUnder columns content old new (Err stops.NoPacket) = ⊥
@@ -95,29 +95,25 @@ abbrev pub ran_number : Ran → ℕ
 ran_number ran.Full = 0
 ran_number ran.End = 9
 
--- Room for tokens before and after, and how many were written.
-pub record Room : Type 0 where
-  pub before : List TdsToken
-  pub after : List TdsToken
-  pub count : ℕ
-
 -- `tds_token_next` gives these tokens one after the other, and then the cursor stands at `last`.
 unfoldable pub GivesInTurn : List ℕ → TdsCursor → List TdsToken → TdsCursor → Type 0
 GivesInTurn content first [] last = first ≡ last
 GivesInTurn content first (t ∷ others) last =
     (behind : TdsCursor) × Reads content first behind (Ok (Some t)) × GivesInTurn content behind others last
 
--- The tokens that were read stand at the front of the room, and what stands behind them stays.
-abbrev pub HasRead : List TdsToken → Room → Type 0
-HasRead read room = (room.after ≡ read ++ drop (length read) room.before) × (room.count ≡ length read)
+-- So far these tokens were given and written, and the cursor stands behind them.
+pub record HasRun (content : List ℕ) (old new : TdsCursor) (room : Room TdsToken) : Type 0 where
+  pub read : List TdsToken
+  pub given : GivesInTurn content old read new
+  pub written : HasRead read room
 
 -- Why no more were read: the room is full, or this is what `tds_token_next` answers next.
-abbrev pub StopsAt : List ℕ → TdsCursor → TdsCursor → Room → Result Ran Stop → Type 0
+abbrev pub StopsAt : List ℕ → TdsCursor → TdsCursor → Room TdsToken → Result Ran Stop → Type 0
 StopsAt content last new room (Ok ran.Full) = (new ≡ last) × (room.count ≡ length room.before)
 StopsAt content last new room (Ok ran.End) = Reads content last new (Ok None)
 StopsAt content last new room (Err stop) = Reads content last new (Err stop)
 
-abbrev pub ReadsRun : List ℕ → TdsCursor → TdsCursor → Room → Result Ran Stop → Type 0
+abbrev pub ReadsRun : List ℕ → TdsCursor → TdsCursor → Room TdsToken → Result Ran Stop → Type 0
 ReadsRun content old new room result =
     (read : List TdsToken) × (last : TdsCursor)
     × GivesInTurn content old read last × HasRead read room × StopsAt content last new room result

@@ -4,7 +4,6 @@
 ghost use Rattle.std.specs.Prelude.{◌≡◌};
 ghost use Rattle.tds_c.specs.Answers as answers;
 
-use std::alloc::AllocError;
 use tds_client::{Cancelled, ClientFault, ClientRefusal, Sent, Taken};
 use tds_packet::PacketFault;
 use tds_token::TokenFault;
@@ -16,8 +15,6 @@ pub(crate) enum Stop {
     NoClient,
     /// 21: the buffer for what is written has no room.
     NoRoom,
-    /// 22: memory is wanted.
-    NoMemory,
     /// 23: the packet size, the reset, the request's text or its isolation level is out of range.
     OutOfRange,
     /// 24: the bytes are no packet yet: more are wanted.
@@ -26,7 +23,7 @@ pub(crate) enum Stop {
     NoPacket,
     /// 26: the cursor is no place in these data.
     NoPlace,
-    /// 31 to 33: the client refuses the call. 22 where it wants memory.
+    /// 31 to 33: the client refuses the call. 22 would be want of memory, which no call has.
     Refused(ClientRefusal),
     /// 41 to 46: the packet's header has this fault.
     Packet(PacketFault),
@@ -44,7 +41,6 @@ impl Stop {
         match self {
             Stop::NoClient => 20,
             Stop::NoRoom => 21,
-            Stop::NoMemory => 22,
             Stop::OutOfRange => 23,
             Stop::WantsBytes => 24,
             Stop::NoPacket => 25,
@@ -55,26 +51,6 @@ impl Stop {
             Stop::Token(fault) => 50 + fault.number(),
             Stop::Client(fault) => 60 + fault.number(),
         }
-    }
-}
-
-impl From<AllocError> for Stop {
-    ghost use Rattle.tds_c.specs.declared.answers.Stop.TheVariants.{NoMemory};
-
-    ghost from_gives = { λ _ stop. stop ≡ NoMemory };
-
-    fn from(_: AllocError) -> Stop {
-        Stop::NoMemory
-    }
-}
-
-impl From<ClientRefusal> for Stop {
-    ghost use Rattle.tds_c.specs.declared.answers.Stop.TheVariants.{Refused};
-
-    ghost from_gives = { λ refusal stop. stop ≡ Refused refusal };
-
-    fn from(refusal: ClientRefusal) -> Stop {
-        Stop::Refused(refusal)
     }
 }
 

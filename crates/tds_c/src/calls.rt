@@ -3,16 +3,17 @@
 ghost use Rattle.tds_request.specs.Values.{IsBatchText};
 ghost use Rattle.tds_request.specs.declared.request.Request.TheVariants.{Batch};
 ghost use Rattle.tds_c.specs.Calls.{Changes, Writes, cancels, loses, marks, none_out, out_of};
-ghost use Rattle.tds_c.specs.Calls.{sends, starts};
+ghost use Rattle.tds_c.specs.Calls.{request_of, sends, starts};
 
 use crate::answers::Stop;
+use crate::attentions;
 use crate::buffer::{behind, put, put_at};
 use crate::client::TdsClient;
-use crate::messages::put_batch;
+use crate::messages::{Asked, put_asked, put_batch};
 use std::alloc::Global;
 use tds_client::{Cancelled, Sent};
 use tds_packet::Reset;
-use tds_request::{Request, RequestKind};
+use tds_request::RequestKind;
 
 /// Sends the request's next packet, out of the caller's message into the caller's buffer.
 #[inline(always)]
@@ -76,9 +77,9 @@ pub(crate) fn start_batch(
     Ok(())
 }
 
+/// Cancels the request underway. What is to be sent is written to the front of the caller's buffer.
 #[inline(always)]
 pub(crate) fn cancel(
-    alloc: Global,
     client: &mut TdsClient,
     out: &mut [u8],
     count: &mut usize,
@@ -87,42 +88,47 @@ pub(crate) fn cancel(
         (record { before = out.old; after = out.new; count = count.new }) result }
 {
     *count = 0;
-    let Some(mut held) = client.client(Vec::new(alloc)) else {
+    let Some(mut parts) = client.held(&[]) else {
         return Err(Stop::NoClient);
     };
-    let mut bytes = Vec::new(alloc);
-    let answer = held.cancel(&mut bytes)?;
-    if !put(bytes.as_slice(), out, count) {
+    let cancel = match attentions::cancel(&mut parts) {
+        Ok(cancel) => cancel,
+        Err(refusal) => return Err(Stop::Refused(refusal)),
+    };
+    if !put(cancel.written.as_slice(), out, count) {
         return Err(Stop::NoRoom);
     }
-    *client = TdsClient::new(&held, 0);
-    Ok(answer)
+    *client = TdsClient::of(&parts, 0);
+    Ok(cancel.answer)
 }
 
-/// Takes a request. Its message is written to the front of the caller's buffer, and each packet of
-/// it is sent from there.
+/// Takes a request to the transaction manager. Its message is written to the front of the caller's
+/// buffer.
 #[inline(always)]
-pub(crate) fn start(
-    alloc: Global,
+pub(crate) fn start_asked(
     client: &mut TdsClient,
-    request: &Request,
+    asked: Asked,
     message: &mut [u8],
     count: &mut usize,
 ) -> Result<(), Stop>
-    ensures { Writes (starts client.old request.now) none_out client.old client.new
+    ensures { Writes (starts client.old (request_of asked)) none_out client.old client.new
         (record { before = message.old; after = message.new; count = count.new }) result }
 {
     *count = 0;
-    let Some(mut held) = client.client(Vec::new(alloc)) else {
+    let Some(mut parts) = client.held(&[]) else {
         return Err(Stop::NoClient);
     };
-    if let Err(refusal) = held.start(request) {
-        return Err(Stop::Refused(refusal));
-    }
-    if !put(held.left(), message, count) {
+    let descriptor = match parts.start(RequestKind::Transaction) {
+        Ok(descriptor) => descriptor,
+        Err(refusal) => return Err(Stop::Refused(refusal)),
+    };
+    let body = asked.body();
+    *count = 22 + body.as_slice().len();
+    if *count > message.len() {
         return Err(Stop::NoRoom);
     }
-    *client = TdsClient::new(&held, 0);
+    put_asked(descriptor, &body, message);
+    *client = TdsClient::of(&parts, 0);
     Ok(())
 }
 

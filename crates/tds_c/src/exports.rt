@@ -38,17 +38,12 @@ pub extern "C" fn tds_client_send(
 /// Cancels the request underway. 5 nothing is underway, 6 an attention is out already, 7 no packet
 /// was out, 8 an attention is written to `out`.
 #[unsafe(no_mangle)]
-pub extern "C" fn tds_client_cancel(
-    alloc: Global,
-    client: &mut TdsClient,
-    out: &mut [u8],
-    count: &mut usize,
-) -> u8
+pub extern "C" fn tds_client_cancel(client: &mut TdsClient, out: &mut [u8], count: &mut usize) -> u8
     ensures { (answer : Result Cancelled Stop) × (result ≡ number_of cancelled_number answer)
         × Writes (cancels client.old) none_out client.old client.new
         (record { before = out.old; after = out.new; count = count.new }) answer }
 {
-    match calls::cancel(alloc, client, out, count) {
+    match calls::cancel(client, out, count) {
         Ok(cancelled) => cancelled_code(cancelled),
         Err(stop) => stop.number(),
     }

@@ -5,6 +5,7 @@
 #![tactic(auto)]
 
 mod answers;
+mod attentions;
 mod buffer;
 mod calls;
 mod client;

@@ -4,9 +4,11 @@ ghost use Rattle.std.specs.Prelude.{◌≡◌, ◌≤◌, Result, IfOk, IfErr, d
 ghost use Rattle.tds_client.specs.declared.state.Taken.{Taken};
 ghost use Rattle.tds_c.specs.declared.answers.Stop.{Stop};
 ghost use Rattle.tds_c.specs.Answers.{done_number, number_of, taken_number};
-ghost use Rattle.tds_c.specs.Packets.{IsFront, bytes_in, Reads, Takes, Unread, direction_from};
+ghost use Rattle.tds_c.specs.Packets.{IsFront, Reads, ReadsFronts, ReadsMany, ShowsPacket, Takes};
+ghost use Rattle.tds_c.specs.Packets.{Unread, bytes_in, direction_from};
 
 use crate::answers::{Stop, done_code, taken_code};
+use crate::buffer::behind;
 use crate::client::TdsClient;
 use bitflags::Flags;
 use std::alloc::Global;
@@ -71,6 +73,18 @@ fn direction(number: u8) -> Option<Direction>
     }
 }
 
+/// The packet as a plain value.
+#[inline(always)]
+fn packet_of(header: &Header) -> TdsPacket
+    ensures { ShowsPacket result header.now }
+{
+    TdsPacket {
+        length: usize::from(header.length),
+        kind: header.kind.byte(),
+        status: header.status.bits(),
+    }
+}
+
 #[inline(always)]
 fn read(bytes: &[u8], size: u16, to: u8, packet: &mut TdsPacket) -> Result<(), Stop>
     ensures { Reads (direction_from to) size bytes.now packet.old packet.new result }
@@ -83,15 +97,83 @@ fn read(bytes: &[u8], size: u16, to: u8, packet: &mut TdsPacket) -> Result<(), S
     };
     match front(bytes, size, direction) {
         Ok(found) => {
-            *packet = TdsPacket {
-                length: usize::from(found.header.length),
-                kind: found.header.kind.byte(),
-                status: found.header.status.bits(),
-            };
+            *packet = packet_of(&found.header);
             Ok(())
         }
         Err(stop) => Err(stop),
     }
+}
+
+/// Reads one packet behind the other, until the room is full or there is none.
+#[inline(always)]
+fn read_fronts(
+    bytes: &[u8],
+    size: PacketSize,
+    direction: Direction,
+    packets: &mut [TdsPacket],
+    count: &mut usize,
+) -> Result<(), Stop>
+    ensures { ReadsFronts direction size bytes.now
+        (record { before = packets.old; after = packets.new; count = count.new }) result }
+{
+    let mut rest = bytes;
+    'packets: for i in 0..packets.len() {
+        match front(rest, size, direction) {
+            Ok(found) => {
+                packets[i] = packet_of(&found.header);
+                rest = behind(rest, usize::from(found.header.length));
+            }
+            Err(stop) => {
+                *count = i;
+                return Err(stop);
+            }
+        }
+    }
+    *count = packets.len();
+    Ok(())
+}
+
+/// The same, with a loop for each direction: then little is left to look at in a header.
+#[inline(always)]
+fn read_many(
+    bytes: &[u8],
+    size: u16,
+    to: u8,
+    packets: &mut [TdsPacket],
+    count: &mut usize,
+) -> Result<(), Stop>
+    ensures { ReadsMany (direction_from to) size bytes.now
+        (record { before = packets.old; after = packets.new; count = count.new }) result }
+{
+    *count = 0;
+    let Some(direction) = direction(to) else {
+        return Err(Stop::OutOfRange);
+    };
+    let Some(size) = PacketSize::new(size) else {
+        return Err(Stop::OutOfRange);
+    };
+    match direction {
+        Direction::ToServer => read_fronts(bytes, size, Direction::ToServer, packets, count),
+        Direction::ToClient => read_fronts(bytes, size, Direction::ToClient, packets, count),
+    }
+}
+
+/// Reads the packets at the front of these bytes, as `tds_packet_read` gives them one after the
+/// other, until the room is full. 0 where it is full; else what `tds_packet_read` answers behind
+/// those that were read.
+#[unsafe(no_mangle)]
+pub extern "C" fn tds_packets_read(
+    bytes: &[u8],
+    size: u16,
+    direction: u8,
+    packets: &mut [TdsPacket],
+    count: &mut usize,
+) -> u8
+    ensures { (answer : Result (Unit {0}) Stop) × (result ≡ number_of done_number answer)
+        × ReadsMany (direction_from direction) size bytes.now
+        (record { before = packets.old; after = packets.new; count = count.new }) answer }
+{
+    done_code(read_many(bytes, size, direction, packets, count))
 }
 
 /// Reads the packet at the front of these bytes, which go to the server (0) or to the client (1).

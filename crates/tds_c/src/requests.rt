@@ -10,8 +10,8 @@ ghost use Rattle.tds_c.specs.Calls.{StartsIf, StartsNext, next_from, starts};
 use crate::answers::{Stop, done_code};
 use crate::calls;
 use crate::client::TdsClient;
-use std::alloc::Global;
-use tds_request::{Isolation, Request};
+use crate::messages::Asked;
+use tds_request::Isolation;
 
 /// Takes a batch of 1 to 2,000 units (MS-TDS 2.2.6.7). Its message is written to `message`, which
 /// needs room for 22 bytes and two a unit.
@@ -52,7 +52,6 @@ fn start_batch(
 /// message has 26 bytes.
 #[unsafe(no_mangle)]
 pub extern "C" fn tds_client_start_begin(
-    alloc: Global,
     client: &mut TdsClient,
     isolation: u8,
     message: &mut [u8],
@@ -63,12 +62,11 @@ pub extern "C" fn tds_client_start_begin(
         client.old client.new
         (record { before = message.old; after = message.new; count = count.new }) answer }
 {
-    done_code(start_begin(alloc, client, isolation, message, count))
+    done_code(start_begin(client, isolation, message, count))
 }
 
 #[inline(always)]
 fn start_begin(
-    alloc: Global,
     client: &mut TdsClient,
     isolation: u8,
     message: &mut [u8],
@@ -79,16 +77,16 @@ fn start_begin(
         (record { before = message.old; after = message.new; count = count.new }) result }
 {
     *count = 0;
-    let Some(isolation) = Isolation::new(isolation) else {
+    if Isolation::new(isolation).is_none() {
         return Err(Stop::OutOfRange);
-    };
-    calls::start(alloc, client, &Request::Begin(isolation), message, count)
+    }
+    calls::start_asked(client, Asked::Begin(isolation), message, count)
 }
 
 /// The level at which the next transaction begins, if one does. None where it is no such number.
 #[inline(always)]
 #[tactic(auto, unfolding(crate::specs::Calls::next_from))]
-fn next(number: u8) -> Option<Option<Isolation>>
+fn next(number: u8) -> Option<Option<u8>>
     ensures { result ≡ next_from number }
 {
     if number == 255 {
@@ -97,8 +95,7 @@ fn next(number: u8) -> Option<Option<Isolation>>
     if number > 5 {
         return None;
     }
-    let isolation = Isolation::new(number)?;
-    Some(Some(isolation))
+    Some(Some(number))
 }
 
 /// Takes the request to commit the transaction (MS-TDS 2.2.6.9) and, where `next` is an
@@ -106,7 +103,6 @@ fn next(number: u8) -> Option<Option<Isolation>>
 /// or, with a level, 28.
 #[unsafe(no_mangle)]
 pub extern "C" fn tds_client_start_commit(
-    alloc: Global,
     client: &mut TdsClient,
     next: u8,
     message: &mut [u8],
@@ -116,12 +112,11 @@ pub extern "C" fn tds_client_start_commit(
         × StartsNext (next_from next) client.old requests.Commit client.new
         (record { before = message.old; after = message.new; count = count.new }) answer }
 {
-    done_code(start_commit(alloc, client, next, message, count))
+    done_code(start_commit(client, next, message, count))
 }
 
 #[inline(always)]
 fn start_commit(
-    alloc: Global,
     client: &mut TdsClient,
     number: u8,
     message: &mut [u8],
@@ -134,7 +129,7 @@ fn start_commit(
     let Some(next) = next(number) else {
         return Err(Stop::OutOfRange);
     };
-    calls::start(alloc, client, &Request::Commit(next), message, count)
+    calls::start_asked(client, Asked::Commit(next), message, count)
 }
 
 /// Takes the request to roll the transaction back (MS-TDS 2.2.6.9) and, where `next` is an
@@ -142,7 +137,6 @@ fn start_commit(
 /// or, with a level, 28.
 #[unsafe(no_mangle)]
 pub extern "C" fn tds_client_start_rollback(
-    alloc: Global,
     client: &mut TdsClient,
     next: u8,
     message: &mut [u8],
@@ -152,12 +146,11 @@ pub extern "C" fn tds_client_start_rollback(
         × StartsNext (next_from next) client.old requests.Rollback client.new
         (record { before = message.old; after = message.new; count = count.new }) answer }
 {
-    done_code(start_rollback(alloc, client, next, message, count))
+    done_code(start_rollback(client, next, message, count))
 }
 
 #[inline(always)]
 fn start_rollback(
-    alloc: Global,
     client: &mut TdsClient,
     number: u8,
     message: &mut [u8],
@@ -170,5 +163,5 @@ fn start_rollback(
     let Some(next) = next(number) else {
         return Err(Stop::OutOfRange);
     };
-    calls::start(alloc, client, &Request::Rollback(next), message, count)
+    calls::start_asked(client, Asked::Rollback(next), message, count)
 }

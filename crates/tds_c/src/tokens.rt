@@ -1,13 +1,14 @@
 //! Tokens out of a packet's data, one behind the other.
 
-ghost use Rattle.std.specs.Prelude.{◌≡◌, Option, Result, pos};
+ghost use Rattle.std.specs.Prelude.{◌≡◌, ◌≤◌, List, Option, Result, Ok, Some, IfNone, IfSome, length, pos};
 ghost use Rattle.tds_token.specs.Layout.{token_of};
 ghost use Rattle.tds_c.specs.declared.answers.Stop.{Stop};
 ghost use Rattle.tds_c.specs.declared.tokens.Ran.{Ran};
+ghost use Rattle.tds_c.specs.declared.tokens.TdsCursor.{TdsCursor};
 ghost use Rattle.tds_c.specs.declared.tokens.TdsToken.{TdsToken};
 ghost use Rattle.tds_c.specs.Answers.{done_number, number_of};
-ghost use Rattle.tds_c.specs.Tokens.{Reads, ReadsRows, ReadsRun, Shows, ShowsChange, ShowsMessage};
-ghost use Rattle.tds_c.specs.Tokens.{found_number, given, ran_number};
+ghost use Rattle.tds_c.specs.Tokens.{HasRun, Reads, ReadsRows, ReadsRun, Shows, ShowsChange};
+ghost use Rattle.tds_c.specs.Tokens.{ShowsMessage, found_number, given, ran_number};
 
 use crate::answers::{Stop, done_code};
 use crate::buffer::behind;
@@ -206,6 +207,51 @@ pub extern "C" fn tds_token_next(data: &[u8], cursor: &mut TdsCursor, token: &mu
     }
 }
 
+/// The row at the cursor, which goes on behind it. None where no row is there, and the cursor stays.
+///
+/// It is what `next` gives: apart from the other tokens, it is a straight way through few
+/// instructions.
+#[inline(always)]
+fn next_row(data: &[u8], cursor: &mut TdsCursor) -> Option<TdsToken>
+    ensures row { IfSome result (λ row. Reads data.now cursor.old cursor.new (Ok (Some row))) }
+    ensures none { IfNone result (cursor.new ≡ cursor.old) }
+{
+    if cursor.at >= data.len() || data[cursor.at] != 0xD1 {
+        return None;
+    }
+    let mut place = *cursor;
+    let Ok(Some(row)) = next(data, &mut place) else {
+        return None;
+    };
+    *cursor = place;
+    Some(row)
+}
+
+/// Reads rows one behind the other behind those tokens that were read, until the room is full or
+/// there is none. Answers how many tokens there are then.
+#[inline(always)]
+fn run_rows(data: &[u8], cursor: &mut TdsCursor, tokens: &mut [TdsToken], read: usize) -> usize
+    requires { read ≤ length tokens.old }
+    ensures run { (first : TdsCursor) (room : List TdsToken) → length room ≡ length tokens.old
+        → HasRun data.now first cursor.old
+        (record { before = room; after = tokens.old; count = read })
+        → HasRun data.now first cursor.new
+        (record { before = room; after = tokens.new; count = result }) }
+    ensures same { length tokens.new ≡ length tokens.old }
+    ensures within { result ≤ length tokens.old }
+    ensures on { read ≤ result }
+{
+    let mut read = read;
+    'rows: while read < tokens.len() {
+        let Some(row) = next_row(data, cursor) else {
+            break;
+        };
+        tokens[read] = row;
+        read += 1;
+    }
+    read
+}
+
 /// Reads one token behind the other, until the room is full or there is none.
 #[inline(always)]
 fn run(
@@ -218,23 +264,29 @@ fn run(
         (record { before = tokens.old; after = tokens.new; count = count.new }) result }
 {
     let mut place = *cursor;
-    'tokens: for i in 0..tokens.len() {
+    let mut read = 0;
+    'tokens: while read < tokens.len() {
+        read = run_rows(data, &mut place, tokens, read);
+        if read == tokens.len() {
+            break;
+        }
         match next(data, &mut place) {
-            Ok(Some(token)) => tokens[i] = token,
+            Ok(Some(token)) => tokens[read] = token,
             Ok(None) => {
                 *cursor = place;
-                *count = i;
+                *count = read;
                 return Ok(Ran::End);
             }
             Err(stop) => {
                 *cursor = place;
-                *count = i;
+                *count = read;
                 return Err(stop);
             }
         }
+        read += 1;
     }
     *cursor = place;
-    *count = tokens.len();
+    *count = read;
     Ok(Ran::Full)
 }
 

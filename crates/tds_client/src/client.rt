@@ -143,7 +143,9 @@ impl Client {
     }
 
     /// Lets the next request ask for a reset. Of two marks the stronger one stays: `Full` is
-    /// stronger than `KeepTransaction`.
+    /// stronger than `KeepTransaction` (MS-TDS 2.2.3.1.2).
+    ///
+    /// Refused with `NotIdle` or `Broken`, and then nothing changes.
     pub fn mark_reset(&mut self, reset: Reset) -> Result<(), ClientRefusal>
         ensures ok { OnOk result (self.new ≡ marked self.old reset) }
         ensures accepted { OnOk result (unless_idle self.old.stage ≡ None) }
@@ -162,7 +164,7 @@ impl Client {
     /// Takes a request, from idle to sending. Nothing goes out yet.
     ///
     /// Its header holds the descriptor of the open transaction, or 0 under a full mark (MS-TDS
-    /// 2.2.5.3.2).
+    /// 2.2.5.3.2). Refused with `NotIdle`, `Broken` or, last, `Memory`, and then nothing changes.
     pub fn start(&mut self, request: &Request) -> Result<(), ClientRefusal>
         ensures ok { OnOk result (self.new ≡ started self.old request.now) }
         ensures accepted { OnOk result (unless_idle self.old.stage ≡ None) }
@@ -187,6 +189,8 @@ impl Client {
 
     /// Appends the request's next packet. Each is full but the last. The first one has the mark's
     /// status bit (MS-TDS 2.2.3.1.2).
+    ///
+    /// Refused with `NotSending`, `Broken` or, last, `Memory`, and then nothing changes.
     #[tactic(auto, unfolding(crate::specs::Sending::sent_of))]
     pub fn send(&mut self, out: &mut Vec<u8>) -> Result<Sent, ClientRefusal>
         ensures ok { IfOk result (λ answer.
@@ -224,7 +228,7 @@ impl Client {
     /// appended, once: the answer is not told any more, and the client is idle when the attention
     /// is acknowledged (MS-TDS 2.2.1.7).
     ///
-    /// Memory is wanted only where something is appended.
+    /// Refused with `Broken` or, where something is appended, with `Memory`, and then nothing changes.
     #[tactic(auto, unfolding(crate::specs::Sending::cancelled_sending))]
     pub fn cancel(&mut self, out: &mut Vec<u8>) -> Result<Cancelled, ClientRefusal>
         ensures ok { IfOk result (λ answer.

@@ -6,17 +6,17 @@ ghost use Rattle.tds_packet.specs.Faults.{fault_number};
 /// A fault is found when the header's eighth byte has come, and no later.
 #[derive(Debug, Drop)]
 pub enum PacketFault {
-    /// The type is none of the four that are spoken here.
+    /// 1: the type is none of the four that are spoken here.
     UnknownType,
-    /// The type goes in the other direction.
+    /// 2: the type goes in the other direction.
     OtherDirection,
-    /// The length is less than the header's own eight bytes.
+    /// 3: the length is less than the header's own eight bytes.
     ShortLength,
-    /// The length is over the packet size.
+    /// 4: the length is over the packet size.
     LongLength,
-    /// The status has a bit that is not defined, or an answer has another status than 0 or 1.
+    /// 5: the status has a bit that is not defined, or an answer has another status than 0 or 1.
     WrongStatus,
-    /// There are no data, and it is not the end of the message.
+    /// 6: there are no data, and it is not the end of the message.
     EmptyPart,
 }
 

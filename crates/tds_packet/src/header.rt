@@ -73,7 +73,8 @@ impl Header {
     }
 }
 
-/// Appends a packet. Its header counts the data. At want of memory nothing is appended.
+/// Appends a packet: the header's eight bytes (MS-TDS 2.2.3.1), then the data. The header's Length
+/// counts both. At want of memory nothing is appended.
 pub fn put_packet(out: &mut Vec<u8>, header: Header, data: &[u8]) -> Result<(), NoMemory>
     requires { header.length ≡ 8 + length data.now }
     ensures ok { OnOk result (out.new.items ≡ out.old.items ++ (header_bytes header ++ data.now)) }

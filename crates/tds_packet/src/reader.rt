@@ -39,6 +39,8 @@ pub struct PacketReader {
     size: PacketSize,
     direction: Direction,
     state: State,
+    /// Where the packet ends, as far as its bytes tell: behind the header, until that is read.
+    end: u16,
     /// The header and the data that have come.
     bytes: Vec<u8>,
 }
@@ -70,6 +72,7 @@ impl PacketReader {
             size,
             direction,
             state: State::Start,
+            end: 8,
             bytes,
         })
     }
@@ -78,11 +81,7 @@ impl PacketReader {
     fn missing(&self) -> usize
         ensures { length self.now.taken + result ≡ end_of self.now self.now.taken }
     {
-        match &self.state {
-            State::Start => 8 - self.bytes.len(),
-            State::Body(header) => usize::from(header.length) - self.bytes.len(),
-            State::Refused(_) => 0,
-        }
+        usize::from(self.end) - self.bytes.len()
     }
 
     /// The fault of the header, if it has one.
@@ -98,6 +97,20 @@ impl PacketReader {
         }
     }
 
+    /// Takes bytes that end neither the header nor the packet.
+    fn take_inside(&mut self, run: &[u8])
+        requires { length self.old.taken + length run.now < end_of self.old self.old.taken }
+        ensures { self.new ≡ with_taken self.old (self.old.taken ++ run.now) }
+    {
+        // `new` reserved room for the longest packet, so neither fails. A single byte is stored here;
+        // more are copied by a call.
+        if let [byte] = run {
+            self.bytes.push_reserved(*byte);
+        } else {
+            let _ = self.bytes.extend_from_slice(run);
+        }
+    }
+
     /// Takes the next bytes of the header, or of the data.
     fn take_run(&mut self, run: &[u8])
         requires { length self.old.taken + length run.now ≤ end_of self.old self.old.taken }
@@ -108,10 +121,13 @@ impl PacketReader {
         match &self.state {
             State::Start => {
                 if let Some(bytes) = self.bytes.first_chunk() {
-                    self.state = match Header::read(bytes, self.size, self.direction) {
-                        Ok(header) => State::Body(header),
-                        Err(fault) => State::Refused(fault),
-                    };
+                    match Header::read(bytes, self.size, self.direction) {
+                        Ok(header) => {
+                            self.end = header.length;
+                            self.state = State::Body(header);
+                        }
+                        Err(fault) => self.state = State::Refused(fault),
+                    }
                 }
             }
             State::Body(_) => {}
@@ -137,6 +153,25 @@ impl PacketReader {
             → (result ≡ Err fault) × (self.new ≡ self.old) }
         ensures waiting { IsWhole self.old → (result ≡ Ok 0) × (self.new ≡ self.old) }
     {
+        if piece.len() < self.missing() {
+            self.take_inside(piece);
+            return Ok(piece.len());
+        }
+        self.feed_to_end(piece)
+    }
+
+    /// The same where the piece may end the header, or the packet. It stands apart so that a call
+    /// of `feed` for a few bytes stays short.
+    #[inline(never)]
+    fn feed_to_end(&mut self, piece: &[u8]) -> Result<usize, PacketFault>
+        ensures taken { self.new ≡ with_taken self.old
+            (up_to_end self.old (self.old.taken ++ piece.now)) }
+        ensures count { IfOk result (λ n. self.new.taken ≡ self.old.taken ++ take n piece.now) }
+        ensures within { IfOk result (λ n. n ≤ length piece.now) }
+        ensures all { IfOk result (λ n. n < length piece.now → IsWhole self.new) }
+        ensures fault { MatchResult result (λ _. fault_of self.new self.new.taken ≡ None)
+            (λ fault. fault_of self.new self.new.taken ≡ Some fault) }
+    {
         let head = self.missing().min(piece.len());
         self.take_run(&piece[..head]);
         let rest = &piece[head..];
@@ -155,17 +190,15 @@ impl PacketReader {
             (λ packet. IsPacket self.now.direction self.now.size self.now.taken packet.header
             packet.data.now) }
     {
+        if self.missing() > 0 {
+            return None;
+        }
         match &self.state {
             State::Start => None,
-            State::Body(header) => {
-                if self.bytes.len() < usize::from(header.length) {
-                    return None;
-                }
-                Some(PacketRef {
-                    header: *header,
-                    data: &self.bytes[8..],
-                })
-            }
+            State::Body(header) => Some(PacketRef {
+                header: *header,
+                data: &self.bytes[8..],
+            }),
             State::Refused(_) => None,
         }
     }
@@ -177,6 +210,7 @@ impl PacketReader {
     {
         if self.packet().is_some() {
             self.state = State::Start;
+            self.end = 8;
             self.bytes.clear();
         }
     }

@@ -15,7 +15,7 @@ use Rattle.tds_play.specs.Failures.{Call, Open, AccountFor, Fails, FailsAs, Fail
 use Rattle.tds_play.specs.Pipe.{Pipe, AreSame}
 use Rattle.tds_play.specs.Ties.{AreTied}
 use Rattle.tds_play.proofs.Failing.{fails_no_more}
-use Rattle.tds_play.proofs.Listed.{by_test, is_at, is_other, push_each, set_each}
+use Rattle.tds_play.proofs.Listed.{by_test, is_at, is_other, number_there, push_each, set_each}
 
 -- ---- What is known of a connection
 
@@ -255,9 +255,6 @@ known_fine (suc count) (suc place) p fine = known_fine count place p fine
 
 -- ---- An event on the connection at a place
 
-there_number : {E S : Type 0} (links : List (Seated E S)) (place : ℕ) (x : Seated E S) (pipes : ℕ → Option Pipe) → AreTied links pipes → place < length links → x ≡ get_or links place x → x.link.number ≡ suc place
-there_number {E} {S} links place x pipes tied there is = ap (λ (l : Seated E S). l.link.number) is ∙ tied.numbered place x there
-
 there_sound : {E S : Type 0} (links : List (Seated E S)) (place : ℕ) (x : Seated E S) (pipes : ℕ → Option Pipe) → LiveAreSound links pipes → place < length links → x ≡ get_or links place x → x.link.is_cut ≡ false → HasNoFailure (pipes (suc place))
 there_sound {E} {S} links place x pipes sound there is live = sound place x there (sym (ap (λ (l : Seated E S). l.link.is_cut) is) ∙ live)
 
@@ -270,7 +267,7 @@ pub acted_sound : {E S : Type 0} (links : List (Seated E S)) (place : ℕ) (x y 
     → (HasNoFailure (pipes x.link.number) → FailsAs calls done y.link (pipes' x.link.number)) → (x.link.is_cut ≡ true → y.link ≡ x.link)
     → LiveAreSound links pipes → LiveAreSound (set links place y) pipes'
 acted_sound {E} {S} links place x y pipes pipes' calls done tied there is same fails gone sound =
-    let number : x.link.number ≡ suc place = there_number links place x pipes tied there is in
+    let number : x.link.number ≡ suc place = number_there links place x pipes tied there is in
     sound_set links place y pipes pipes' sound there
     (λ j other. same_no_more (pipes (suc j)) (pipes' (suc j)) (same (suc j) (λ z. other (omega (arith, z, number)))))
     (act_sound calls done x.link y.link (pipes (suc place)) (pipes' (suc place)) x.link.is_cut refl (there_sound links place x pipes sound there is)
@@ -282,7 +279,7 @@ pub acted_lost : {E S : Type 0} (links : List (Seated E S)) (place count : ℕ) 
     → (x.link.is_cut ≡ true → (pipes' ≡ pipes) × (done.lost ≡ false)) → (done.lost ≡ true → at ≡ Some (suc place)) → count ≡ length links
     → LiveAreSound links pipes → FailsOn e done.lost at (all_known (length links) pipes) (all_known count pipes')
 acted_lost {E} {S} links place count x y pipes pipes' e done at tied there is same fails gone uses many sound =
-    let number : x.link.number ≡ suc place = there_number links place x pipes tied there is in
+    let number : x.link.number ≡ suc place = number_there links place x pipes tied there is in
     subst (λ (k : ℕ). FailsOn e done.lost at (all_known (length links) pipes) (all_known k pipes')) (sym many)
     (act_lost e done at (length links) place x.link y.link pipes pipes' x.link.is_cut refl there (subst (AreSame pipes pipes') number same)
     (there_sound links place x pipes sound there is) (fails_there x.link.number (suc place) (calls_of e) done y.link pipes pipes' number fails) gone uses)

@@ -18,7 +18,7 @@ use Rattle.tds_world.specs.Entries.{up_bytes, down_bytes}
 use Rattle.tds_packet.specs.declared.kind.Direction.TheVariants.{ToServer, ToClient}
 use Rattle.tds_play.specs.Between.{IsLane}
 use Rattle.tds_play.specs.Lending.{standing_by}
-use Rattle.tds_play.specs.Links.{IsAsked, IsAskedOn, behind}
+use Rattle.tds_play.specs.Links.{IsAskedOn, behind}
 use Rattle.tds_play.specs.Links as links
 use Rattle.tds_play.specs.Pipe.{Pipe, traffic}
 use Rattle.tds_play.specs.Plays.{RepresentsConnection}

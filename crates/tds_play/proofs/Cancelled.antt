@@ -18,7 +18,7 @@ use Rattle.tds_world.specs.Entries.{up_bytes}
 use Rattle.tds_world.specs.Phase.{Phase, Settled, Asked, Sending, Reading, Cancelling, phase_by, phase_in, phase_of, status_by}
 use Rattle.tds_world.specs.PhaseTells.{PhaseTells}
 use Rattle.tds_world.specs.Pool.{comes_back, place_back, returned_as}
-use Rattle.tds_world.specs.Record.{Out, NotBegun, Begun, Whole}
+use Rattle.tds_world.specs.Record.{Out}
 use Rattle.tds_world.specs.Record as world
 use Rattle.tds_ends.specs.Refines.{cancel_outcome}
 use Rattle.tds_play.specs.Acts.{cancelled_as, with_status}

@@ -7,7 +7,7 @@ use Rattle.std.specs.List.{position, position_or_len, position_from, slice_get}
 use Rattle.tds_world.specs.declared.event.Setup.{Setup}
 use Rattle.tds_world.specs.Connection.{Connection, Standing, In, Cut, is_cut}
 use Rattle.tds_world.specs.Pool.{is_free, first_of, lowest_free, pool_count, to_lend_by, to_lend}
-use Rattle.tds_world.specs.World.{World, numbered, next_number}
+use Rattle.tds_world.specs.World.{World, next_number}
 use Rattle.tds_world.specs.World as model
 use Rattle.tds_world.specs.declared.outcome.Refusal.TheVariants.{AllInUse}
 use Rattle.tds_play.specs.Lending as play

@@ -54,10 +54,13 @@ set_each P xs i v each there is j d less =
     (λ t. let at : j ≡ i = is_at j i t in subst (λ (k : ℕ). P k (get_or (set xs i v) k d)) (sym at) (subst (P i) (sym (get_or-set_same xs i v d there)) is))
     (λ t. subst (P j) (sym (get_or-set_other xs i j v d (is_other j i t))) (each j d (is_other j i t) (omega (arith, less, length-set xs i v))))
 
+pub number_there : {E S : Type 0} (links : List (Seated E S)) (place : ℕ) (x : Seated E S) (pipes : ℕ → Option Pipe) → AreTied links pipes → place < length links → x ≡ get_or links place x → x.link.number ≡ suc place
+number_there {E} {S} links place x pipes tied there is = ap (λ (l : Seated E S). l.link.number) is ∙ tied.numbered place x there
+
 -- One of them changes, and keeps its number.
 pub changed : {E S : Type 0} (links : List (Seated E S)) (place : ℕ) (link new : Seated E S) (pipes pipes' : ℕ → Option Pipe) → AreTied links pipes → place < length links → link ≡ get_or links place link → new.link.number ≡ link.link.number → IsTied new.link (pipes' link.link.number) → AreSame pipes pipes' link.link.number → AreTied (set links place new) pipes'
 changed {E} {S} links place link new pipes pipes' all there is kept tied same =
-    let number : link.link.number ≡ suc place = ap (λ (l : Seated E S). l.link.number) is ∙ all.numbered place link there in
+    let number : link.link.number ≡ suc place = number_there links place link pipes all there is in
     record {
       numbered = set_each (λ k x. x.link.number ≡ suc k) links place new (λ k x other less. all.numbered k x less) there (kept ∙ number);
       tied = set_each (λ k x. IsTied x.link (pipes' (suc k))) links place new

@@ -15,7 +15,7 @@ use Rattle.tds_world.specs.Connection.{Connection, Standing, In, Cut, is_cut, cu
 use Rattle.tds_world.specs.Events.{happens, happens_at, settles, world_after}
 use Rattle.tds_world.specs.Losses.{bringing, came_in, cuts, link_of, loss_by, met, number_of, world_then}
 use Rattle.tds_world.specs.Pool.{Acted, Refuses, Does, opens, to_lend}
-use Rattle.tds_world.specs.World.{World, Holding, next_number, put, uncut_in}
+use Rattle.tds_world.specs.World.{World, next_number, put, uncut_in}
 use Rattle.tds_world.specs.World as world
 use Rattle.tds_play.specs.Plays.{after, cut_where}
 use Rattle.tds_play.proofs.AllCut.{cut_again}

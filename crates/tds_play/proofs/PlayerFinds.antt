@@ -13,7 +13,6 @@ use Rattle.tds_world.specs.Lending.{LendsIdle}
 use Rattle.tds_world.specs.Losses.{Loss, Nothing, Failed, bringing, met}
 use Rattle.tds_world.specs.World.{World}
 use Rattle.tds_play.specs.declared.link.EventDone.{EventDone}
-use Rattle.tds_play.specs.Seats.{Seated}
 use Rattle.tds_play.specs.declared.player.Player.{Player}
 use Rattle.tds_play.specs.Lending.{Found, Here, standing_of}
 use Rattle.tds_play.specs.Holdings.{all_ended}
@@ -75,38 +74,36 @@ missing_alike setup engine answers w e player pipes done why is refused same =
     })
 
 -- The server is restarted: every connection is cut.
-pub server_restarts : {E S : Type 0} (setup : Setup) (engine : E) (answers : Answers) (w : World) (e : Event) (player new : Player E S) (pipes pipes' : ℕ → Option Pipe) → e ≡ event.RestartServer → RepresentsWorld setup engine player pipes w → RepresentConnections 1 setup.packet_size engine (all_of new) pipes' (map cut w.connections) → SameSetup player new → HoldsAs player new → RefinesEvent setup engine answers (done_as outcome.RestartedServer) new pipes' e w
-server_restarts setup engine answers w e player new pipes pipes' same is all kept holds =
-    subst (λ (f : Event). RefinesEvent setup engine answers (done_as outcome.RestartedServer) new pipes' f w) (sym same) (record {
-      outcome = refl;
-      then = record {
-        connections = all;
-        leases = holds.leases_are ∙ is.leases;
-        tickets = holds.tickets_are ∙ is.tickets;
-        asked = holds.asked_are ∙ is.asked;
-        engine_is = kept.engine_is ∙ is.engine_is;
-        max = kept.max_is ∙ is.max;
-        size = kept.size_is ∙ is.size;
-        told = kept.told_is ∙ is.told;
-      };
-    })
+pub server_restarts : {E S : Type 0} (setup : Setup) (engine : E) (answers : Answers) (w : World) (player new : Player E S) (pipes pipes' : ℕ → Option Pipe) → RepresentsWorld setup engine player pipes w → RepresentConnections 1 setup.packet_size engine (all_of new) pipes' (map cut w.connections) → SameSetup player new → HoldsAs player new → RefinesEvent setup engine answers (done_as outcome.RestartedServer) new pipes' event.RestartServer w
+server_restarts setup engine answers w player new pipes pipes' is all kept holds = record {
+  outcome = refl;
+  then = record {
+    connections = all;
+    leases = holds.leases_are ∙ is.leases;
+    tickets = holds.tickets_are ∙ is.tickets;
+    asked = holds.asked_are ∙ is.asked;
+    engine_is = kept.engine_is ∙ is.engine_is;
+    max = kept.max_is ∙ is.max;
+    size = kept.size_is ∙ is.size;
+    told = kept.told_is ∙ is.told;
+  };
+}
 
 -- The client is restarted: every lease and ticket ends too.
-pub client_restarts : {E S : Type 0} (setup : Setup) (engine : E) (answers : Answers) (w : World) (e : Event) (player new : Player E S) (pipes pipes' : ℕ → Option Pipe) → e ≡ event.RestartClient → RepresentsWorld setup engine player pipes w → RepresentConnections 1 setup.packet_size engine (all_of new) pipes' (map cut w.connections) → SameSetup player new → HoldsBy new (all_ended (numbers_leased player.leases)) (all_ended (numbers_kept player.tickets)) player.asked_on.items → RefinesEvent setup engine answers (done_as outcome.RestartedClient) new pipes' e w
-client_restarts setup engine answers w e player new pipes pipes' same is all kept holds =
-    subst (λ (f : Event). RefinesEvent setup engine answers (done_as outcome.RestartedClient) new pipes' f w) (sym same) (record {
-      outcome = refl;
-      then = record {
-        connections = all;
-        leases = holds.leases_are ∙ ap all_ended is.leases ∙ all_held w.leases;
-        tickets = holds.tickets_are ∙ ap all_ended is.tickets ∙ all_held w.tickets;
-        asked = holds.asked_are ∙ is.asked;
-        engine_is = kept.engine_is ∙ is.engine_is;
-        max = kept.max_is ∙ is.max;
-        size = kept.size_is ∙ is.size;
-        told = kept.told_is ∙ is.told;
-      };
-    })
+pub client_restarts : {E S : Type 0} (setup : Setup) (engine : E) (answers : Answers) (w : World) (player new : Player E S) (pipes pipes' : ℕ → Option Pipe) → RepresentsWorld setup engine player pipes w → RepresentConnections 1 setup.packet_size engine (all_of new) pipes' (map cut w.connections) → SameSetup player new → HoldsBy new (all_ended (numbers_leased player.leases)) (all_ended (numbers_kept player.tickets)) player.asked_on.items → RefinesEvent setup engine answers (done_as outcome.RestartedClient) new pipes' event.RestartClient w
+client_restarts setup engine answers w player new pipes pipes' is all kept holds = record {
+  outcome = refl;
+  then = record {
+    connections = all;
+    leases = holds.leases_are ∙ ap all_ended is.leases ∙ all_held w.leases;
+    tickets = holds.tickets_are ∙ ap all_ended is.tickets ∙ all_held w.tickets;
+    asked = holds.asked_are ∙ is.asked;
+    engine_is = kept.engine_is ∙ is.engine_is;
+    max = kept.max_is ∙ is.max;
+    size = kept.size_is ∙ is.size;
+    told = kept.told_is ∙ is.told;
+  };
+}
 
 -- ---- A delivery of other bytes
 

@@ -19,7 +19,7 @@ use Rattle.tds_world.specs.Entries.{up_bytes}
 use Rattle.tds_world.specs.Phase.{Phase, Settled, Asked, Sending, Reading, Cancelling, phase_by, phase_in, phase_of, status_by}
 use Rattle.tds_world.specs.PhaseTells.{PhaseTells}
 use Rattle.tds_world.specs.Pool.{Acted, Refuses, Does}
-use Rattle.tds_world.specs.Record.{Out, NotBegun, Begun, Whole, packets_of}
+use Rattle.tds_world.specs.Record.{Out, Begun, Whole, packets_of}
 use Rattle.tds_world.specs.Record as world
 use Rattle.tds_ends.specs.Refines.{RefinesSend, send_outcome}
 use Rattle.tds_play.specs.Lending.{standing_by}

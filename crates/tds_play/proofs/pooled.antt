@@ -27,9 +27,11 @@ pub mod Records
 pub mod Steps
 pub mod Shown
 pub mod Unseen
+pub mod InPlace
 pub mod Keeping
 pub mod Resuming
 pub mod Ending
 pub mod Noting
 pub mod Restarting
+pub mod Happening
 pub mod Finding

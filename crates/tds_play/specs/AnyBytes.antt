@@ -1,6 +1,6 @@
 -- What a play makes of any bytes that its carrier brings: which deliveries answer the fault of a header, and
 -- what the callers are given.
-use Rattle.std.specs.Prelude.{ℕ, ◌≡◌, ◌==◌, ◌⊎◌, List, [], ◌∷◌, ◌++◌, length, flat_map, Option, Bool, true, false, if◌then◌else◌}
+use Rattle.std.specs.Prelude.{ℕ, ◌≡◌, ◌==◌, ◌⊎◌, List, [], ◌∷◌, ◌++◌, length, flat_map, Option, Bool, false, if◌then◌else◌}
 use Rattle.std.specs.List.{AllByRecursion}
 use Rattle.tds_ends.specs.AllBytes.{AreToldBy, HasFault, HasNoFault, new_reader}
 use Rattle.tds_packet.specs.declared.fault.PacketFault.{PacketFault}
@@ -49,10 +49,10 @@ AnswersWith r o before after =
 
 -- What deliveries came to, one after the other, where these bytes had come before them, and these have come
 -- behind them.
-abbrev pub AreAnswered : Reading → List ℕ → List Outcome → List ℕ → Type 0
-AreAnswered r before [] came = came ≡ before
-AreAnswered r before (o ∷ os) came =
-    (after : List ℕ) × AnswersWith r o before after × AreAnswered r after os came
+abbrev pub AnswerInTurn : Reading → List ℕ → List Outcome → List ℕ → Type 0
+AnswerInTurn r before [] came = came ≡ before
+AnswerInTurn r before (o ∷ os) came =
+    (after : List ℕ) × AnswersWith r o before after × AnswerInTurn r after os came
 
 -- ---- What a report tells of them
 
@@ -89,6 +89,6 @@ given_on n requests = flat_map (given_to n) requests
 pub record ReadsBytes (size : ℕ) (events : List Event) (report : Report) (pipes : ℕ → Option Pipe) : Type 0 where
   pub answers : (n : ℕ) (d : Direction)
       → AllByRecursion IsRefused (outcomes_on n d events report.events)
-      ⊎ AreAnswered (new_reader d size) [] (outcomes_on n d events report.events) (traffic (pipes n) d).came
+      ⊎ AnswerInTurn (new_reader d size) [] (outcomes_on n d events report.events) (traffic (pipes n) d).came
   pub tells : (n : ℕ)
       → AreToldBy (new_reader ToClient size) (traffic (pipes n) ToClient).came (given_on n report.requests)

@@ -19,6 +19,7 @@ pub mod Requests
 pub mod Plays
 pub mod Player
 pub mod Steps
+pub mod Happening
 pub mod AnyBytes
 pub mod Reads
 pub mod WholePlay

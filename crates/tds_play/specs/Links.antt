@@ -1,5 +1,6 @@
 -- What the functions on a connection of a play make of it, and what is seen of it.
 use Rattle.std.specs.Prelude.{ℕ, ◌≡◌, List, [], ◌∷◌, ◌++◌, reverse, true, false, Option, Some, None, option_map}
+use Rattle.tds_ends.specs.AllBytes.{new_reader}
 use Rattle.tds_packet.specs.declared.kind.Direction.TheVariants.{ToServer, ToClient}
 use Rattle.tds_packet.specs.declared.status.Reset.{Reset}
 use Rattle.tds_server.specs.State.{server_with, lost_of}
@@ -58,8 +59,8 @@ pub record IsNewLink {E S : Type 0} (number size : ℕ) (engine : E) (on_attenti
   pub numbered : link.number ≡ number
   pub uncut : link.is_cut ≡ false
   pub server : link.server ≡ server_with on_attention engine
-  pub client_reader : link.client_reader ≡ record { direction = ToClient; size = size; taken = [] }
-  pub server_reader : link.server_reader ≡ record { direction = ToServer; size = size; taken = [] }
+  pub client_reader : link.client_reader ≡ new_reader ToClient size
+  pub server_reader : link.server_reader ≡ new_reader ToServer size
   pub to_server : link.to_server ≡ 0
   pub to_client : link.to_client ≡ 0
   pub current : link.current ≡ None

@@ -1,5 +1,5 @@
 -- What the ends of each connection of a play have read of the bytes that came there, whatever they are.
-use Rattle.std.specs.Prelude.{ℕ, suc, ◌≡◌, ◌≤◌, ◌<◌, ◌⊎◌, List, [], ◌∷◌, ◌++◌, length, flat_map, Bool, true, false, Option, Some, None, if◌then◌else◌, slice_get, slice_index_or, slice_set}
+use Rattle.std.specs.Prelude.{ℕ, suc, ◌≡◌, ◌<◌, ◌⊎◌, List, [], ◌∷◌, ◌++◌, length, flat_map, Bool, true, false, Option, Some, None, if◌then◌else◌, slice_get, slice_index_or, slice_set}
 use Rattle.std.specs.List.{AllByRecursion}
 use Rattle.tds_ends.specs.AllBytes.{AreToldBy, ClientHasRead, ServerHasRead, new_reader}
 use Rattle.tds_packet.specs.declared.kind.Direction.{Direction}
@@ -10,7 +10,6 @@ use Rattle.tds_world.specs.declared.event.Event.{Event}
 use Rattle.tds_world.specs.declared.event.Event.TheVariants as event
 use Rattle.tds_world.specs.declared.outcome.Outcome.{Outcome}
 use Rattle.tds_play.specs.declared.link.Link.{Link}
-use Rattle.tds_play.specs.declared.player.Player.{Player}
 use Rattle.tds_play.specs.declared.request.Record.{Record}
 use Rattle.tds_play.specs.Seats.{Seated}
 use Rattle.tds_ends.specs.declared.listening.ClientStop.{ClientStop}
@@ -23,7 +22,7 @@ use Rattle.tds_world.specs.declared.outcome.Layer.TheVariants.{Packet, Core}
 use Rattle.tds_world.specs.declared.report.RequestReport.{RequestReport}
 use Rattle.tds_world.specs.World.{numbered}
 use Rattle.tds_play.specs.declared.feeding.Fault.{Fault}
-use Rattle.tds_play.specs.AnyBytes.{AnswersWith, AreAnswered, FaultsBy, IsRefused, given_on, is_delivery}
+use Rattle.tds_play.specs.AnyBytes.{AnswersWith, AnswerInTurn, FaultsBy, IsRefused, given_on, is_delivery}
 use Rattle.tds_play.specs.Listening.{told_in}
 use Rattle.tds_play.specs.Pipe.{Pipe, traffic}
 
@@ -102,7 +101,7 @@ pub record AllRead {E S : Type 0} (size : ℕ) (links : List (Seated E S)) (pipe
     : Type 0 where
   pub reading : (i : ℕ) (x : Seated E S) → i < length links → ReadsThere size (slice_index_or links i x) (pipes (suc i))
   pub answered : (i : ℕ) (d : Direction) → i < length links
-      → AreAnswered (new_reader d size) [] (answers (suc i) d) (traffic (pipes (suc i)) d).came
+      → AnswerInTurn (new_reader d size) [] (answers (suc i) d) (traffic (pipes (suc i)) d).came
   pub refused : (n : ℕ) (d : Direction) → (n ≡ 0) ⊎ (length links < n) → AllByRecursion IsRefused (answers n d)
 
 -- ---- What the requests are told of

@@ -24,15 +24,15 @@ use Rattle.tds_play.specs.declared.link.EventDone.{EventDone}
 use Rattle.tds_play.specs.declared.link.Link.{Link}
 use Rattle.tds_play.specs.declared.player.Player.{Player}
 use Rattle.tds_play.specs.declared.seat.Held.{Held}
-use Rattle.tds_play.specs.Failures.{Fails, FailsAs, HasNoFailure, Open, calls_of}
+use Rattle.tds_play.specs.Failures.{Fails, FailsAs, FailsNoMore, HasNoFailure, LiveAreSound, Open, calls_of}
 use Rattle.tds_play.specs.Noted.{asked_after, leases_after, tickets_after}
 use Rattle.tds_play.specs.Pipe.{Pipe, traffic}
 use Rattle.tds_play.specs.Player.{AreHeld, ModelGivesEach, RepresentsWorld, all_of}
 use Rattle.tds_play.specs.Plays.{IsReady, MayLose, RefinesAct, RepresentsConnection, acts_on, after, cut_where, loss_of}
 use Rattle.tds_play.specs.Pooled.{IsGone, numbers_kept, numbers_leased, seat_in}
-use Rattle.tds_play.specs.Reads.{IsReading, ReadsOn}
+use Rattle.tds_play.specs.Reads.{AllRead, Answers as Answered, IsReading, ReadsOn}
 use Rattle.tds_play.specs.Seats.{seated}
-use Rattle.tds_play.specs.Ties.{KeepsTies}
+use Rattle.tds_play.specs.Ties.{AreTied, KeepsTies}
 use Rattle.tds_play.specs.WholePlay.{IsReportOfPlay}
 
 -- ---- What isn't of one connection
@@ -143,6 +143,19 @@ pub record OpensAs {E S : Type 0} (conn lease : ℕ) (old new : Player E S) (pip
   pub played : RepresentsConnection conn old.size old.engine link
       (seated (Leased lease) (new_session old.size)) (pipes' conn)
       (cut_where done.lost (new_connection old.on_attention (Leased lease)))
+
+-- Connections were cut, over a carrier that told what it was handed, or not, and does still: what each cut keeps.
+pub record CutsSome {E S : Type 0} (old new : Player E S) (pipes pipes' : ℕ → Option Pipe) (told still : Type 0)
+    : Type 0 where
+  pub tied : AreTied (all_of new) pipes'
+  pub held : AreHeld new
+  pub count : length new.links.items ≡ length old.links.items
+  pub rest : new ≡ record old { links = new.links; pool = new.pool }
+  pub tells : told → still
+  pub sound : LiveAreSound (all_of old) pipes → LiveAreSound (all_of new) pipes'
+  pub reads : (size : ℕ) (so_far : Answered) → AllRead size (all_of old) pipes so_far
+      → AllRead size (all_of new) pipes' so_far
+  pub failed : (n : ℕ) → FailsNoMore (pipes n) (pipes' n)
 
 -- The connection at a place is cut, and its pool has it no longer.
 pub record CutsAt {E S : Type 0} (place : ℕ) (old new : Player E S) : Type 0 where

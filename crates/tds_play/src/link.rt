@@ -14,6 +14,7 @@ ghost use Rattle.tds_world.specs.Connection.{new_connection};
 ghost use Rattle.tds_world.specs.declared.report.Place.TheVariants.{Leased};
 
 pub(crate) mod acts;
+mod asking;
 mod carrying;
 mod deliveries;
 mod leasing;

@@ -1,24 +1,15 @@
 //! All connections of a play, and what each event does to them.
-ghost use Rattle.std.specs.Prelude.{◌≡◌, ◌≢◌, ◌≤◌, ◌<◌, ℕ, [], length, map, false, Option, Some, IfOk, OnOk};
-ghost use Rattle.tds_ends.specs.ModelGives.{IsCountable};
-ghost use Rattle.tds_play.specs.Failures.{FailsOn, LiveAreSound, all_known};
+ghost use Rattle.std.specs.Prelude.{◌≡◌, ◌≢◌, ◌≤◌, ◌<◌, [], length, map, false, Option, Some, IfOk};
+ghost use Rattle.tds_play.specs.Happening.{HappensAs};
 ghost use Rattle.tds_play.specs.Holdings.{conn_of};
 ghost use Rattle.tds_play.specs.Lending.{standing_of, found_by};
 ghost use Rattle.tds_play.specs.Noted.{about_of, held_of};
-ghost use Rattle.tds_play.specs.Player.{AreHeld, RefinesEvent, RepresentsWorld, ModelGivesEach, all_of};
+ghost use Rattle.tds_play.specs.Player.{AreHeld, all_of};
 ghost use Rattle.tds_play.specs.Pooled.{numbers_kept, numbers_leased};
-ghost use Rattle.tds_play.specs.Reads.{AllRead, Answers as Answered, answers_then};
-ghost use Rattle.tds_play.specs.Steps.{AreFew, GrowsByOne};
+ghost use Rattle.tds_play.specs.Steps.{AreFew};
 ghost use Rattle.tds_play.specs.Ties.{AreTied};
-ghost use Rattle.tds_pool.specs.Connections.{connections};
 ghost use Rattle.tds_session.specs.Answer.{answer_of};
-ghost use Rattle.tds_world.specs.Connection.{cut};
-ghost use Rattle.tds_world.specs.Events.{happens};
-ghost use Rattle.tds_world.specs.Laws.{OfEachConnection};
-ghost use Rattle.tds_world.specs.Losses.{bringing, link_of};
-ghost use Rattle.tds_world.specs.World.{World};
 ghost use Rattle.tds_world.specs.declared.event.Event.TheVariants as events;
-ghost use Rattle.tds_world.specs.declared.event.Setup.{Setup};
 ghost use Rattle.tds_world.specs.declared.outcome.Outcome.TheVariants as outcome;
 
 mod acting;
@@ -100,34 +91,10 @@ impl<E: Engine + Copy> Player<E> {
         requires tied { AreTied (all_of self.old) (C.pipes carrier.old) }
         requires held { AreHeld self.old }
         requires few { AreFew 9999 self.old }
-        ensures tied { OnOk result (AreTied (all_of self.new) (C.pipes carrier.new)) }
-        ensures held { OnOk result (AreHeld self.new) }
-        ensures grows { OnOk result (GrowsByOne self.old self.new) }
-        ensures tells { OnOk result (C.tells carrier.old → C.tells carrier.new) }
-        ensures sound { LiveAreSound (all_of self.old) (C.pipes carrier.old)
-            → OnOk result (LiveAreSound (all_of self.new) (C.pipes carrier.new)) }
-        ensures size { OnOk result (self.new.size ≡ self.old.size) }
-        // Both ends of each connection read what comes, whatever it is.
-        ensures reads { (answers : Answered)
-            → AllRead self.old.size (all_of self.old) (C.pipes carrier.old) answers
-            → IfOk result (λ done. AllRead self.old.size (all_of self.new)
-            (C.pipes carrier.new) (answers_then event.now done.outcome answers)) }
-        // Where it was lost, calls that it makes failed on the connection whose link it uses.
-        ensures lost { (setup : Setup) (engine : E) (w : World)
-            → LiveAreSound (all_of self.old) (C.pipes carrier.old)
-            → RepresentsWorld setup engine self.old (C.pipes carrier.old) w
-            → ModelGivesEach E (answer_of (E.statements_of engine) (E.step_of engine)) setup w
-            → IfOk result (λ done. FailsOn event.now done.lost (link_of setup w event.now)
-            (all_known (length self.old.links.items) (C.pipes carrier.old))
-            (all_known (length self.new.links.items) (C.pipes carrier.new))) }
-        ensures refines { (setup : Setup) (engine : E) (w : World) → C.tells carrier.old
-            → RepresentsWorld setup engine self.old (C.pipes carrier.old) w
-            → ModelGivesEach E (answer_of (E.statements_of engine) (E.step_of engine)) setup w
-            → ((k : ℕ) → OfEachConnection IsCountable (happens setup
-            (answer_of (E.statements_of engine) (E.step_of engine)) (bringing k event.now) w).1)
-            → IfOk result (λ done. RefinesEvent setup engine
-            (answer_of (E.statements_of engine) (E.step_of engine)) done self.new
-            (C.pipes carrier.new) event.now w) }
+        ensures { IfOk result (λ done. HappensAs
+            (λ engine. answer_of (E.statements_of engine) (E.step_of engine)) event.now
+            self.old self.new (C.pipes carrier.old) (C.pipes carrier.new)
+            (C.tells carrier.old) (C.tells carrier.new) done) }
     {
         match event {
             Event::RestartServer => {
@@ -148,7 +115,7 @@ impl<E: Engine + Copy> Player<E> {
             Event::Lease => self.lease(carrier),
             _ => match self.about(event) {
                 Err(refusal) => Ok(refused(refusal)),
-                Ok(place) => self.act_at(carrier, place, event),
+                Ok(place) => self.step_at(carrier, place, event),
             },
         }
     }

@@ -16,7 +16,11 @@ use crate::request::{Request, RequestKind};
 use crate::text::BatchText;
 use std::alloc::Global;
 
-/// The descriptor and the request that a whole message of this kind spells.
+/// Reads a whole message of this kind (the data of its packets, joined): the descriptor in its
+/// ALL_HEADERS (MS-TDS 2.2.5.3), and the request (2.2.6.7, 2.2.6.9).
+///
+/// The fields are judged in their order, and the first wrong one is the fault. Memory is wanted for
+/// the text of a batch alone, and only where the bytes spell a request.
 pub fn decode(
     alloc: Global,
     kind: RequestKind,

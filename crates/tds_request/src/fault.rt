@@ -7,27 +7,27 @@ use std::alloc::AllocError;
 /// Why bytes are no request: the first field that is wrong or cut short.
 #[derive(Debug, Drop)]
 pub enum RequestFault {
-    /// Under 22 bytes, or the input ends before a field's last byte.
+    /// 1: under 22 bytes, or the input ends before a field's last byte.
     Short,
-    /// The total length of ALL_HEADERS (MS-TDS 2.2.5.3) is not 22.
+    /// 2: the total length of ALL_HEADERS (MS-TDS 2.2.5.3) is not 22.
     WrongTotalLength,
-    /// The first header's length is not 18, or its type is not 2 (MS-TDS 2.2.5.3.2).
+    /// 3: the first header's length is not 18, or its type is not 2 (MS-TDS 2.2.5.3.2).
     WrongHeader,
-    /// The count of outstanding requests is not 1 (MS-TDS 2.2.5.3.2).
+    /// 4: the count of outstanding requests is not 1 (MS-TDS 2.2.5.3.2).
     WrongCount,
-    /// The text of a batch has no byte, an odd number of bytes, or over 4,000 (MS-TDS 2.2.6.7).
+    /// 5: the text of a batch has no byte, an odd number of bytes, or over 4,000 (MS-TDS 2.2.6.7).
     WrongTextLength,
-    /// The request type is not begin, commit or rollback (MS-TDS 2.2.6.9).
+    /// 6: the request type is not begin, commit or rollback (MS-TDS 2.2.6.9).
     WrongRequestType,
-    /// The isolation level is over 5 (MS-TDS 2.2.6.9).
+    /// 7: the isolation level is over 5 (MS-TDS 2.2.6.9).
     WrongIsolation,
-    /// The name of a transaction is not empty (MS-TDS 2.2.6.9).
+    /// 8: the name of a transaction is not empty (MS-TDS 2.2.6.9).
     WrongName,
-    /// The flags of a commit or rollback are neither 0 nor 1 (MS-TDS 2.2.6.9).
+    /// 9: the flags of a commit or rollback are neither 0 nor 1 (MS-TDS 2.2.6.9).
     WrongFlags,
-    /// There are bytes behind the last field.
+    /// 10: there are bytes behind the last field.
     BytesLeftOver,
-    /// The bytes spell a request, and a growth was refused.
+    /// 11: the bytes spell a request, and a growth was refused.
     Memory,
 }
 

@@ -8,21 +8,21 @@ use tds_request::RequestFault;
 /// the connection was lost.
 #[derive(Debug, Drop)]
 pub enum ServerFault {
-    /// A packet of a request came while a request was being answered.
+    /// 1: a packet of a request came while a request was being answered.
     RequestWhileAnswering,
-    /// The packet's type is not that of the message that it goes on with (MS-TDS 2.2.3.1.1).
+    /// 2: the packet's type is not that of the message that it goes on with (MS-TDS 2.2.3.1.1).
     TypeChanged,
-    /// A message's first packet asks for both resets (MS-TDS 2.2.3.1.2).
+    /// 3: a message's first packet asks for both resets (MS-TDS 2.2.3.1.2).
     BothResets,
-    /// An attention has data, or a status other than end of message (MS-TDS 2.2.1.7).
+    /// 4: an attention has data, or a status other than end of message (MS-TDS 2.2.1.7).
     WrongAttention,
-    /// A message has more than 4,022 bytes of data.
+    /// 5: a message has more than 4,022 bytes of data.
     LongMessage,
-    /// A whole message is no request.
+    /// 6: a whole message is no request.
     WrongRequest(RequestFault),
-    /// A packet has the ignore bit without end of message (MS-TDS 2.2.3.1.2).
+    /// 7: a packet has the ignore bit without end of message (MS-TDS 2.2.3.1.2).
     IgnoredPart,
-    /// The connection was lost.
+    /// 8: the connection was lost.
     Lost,
 }
 

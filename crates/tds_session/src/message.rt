@@ -25,7 +25,7 @@ pub(crate) fn message(alloc: Global, number: u32, class: u8, text: Text) -> Mess
     }
 }
 
-/// An ERROR of this number below 2^31, with an ASCII text.
+/// An ERROR (MS-TDS 2.2.7.10) of this number below 2^31, of state 1 and class 16, with an ASCII text.
 pub fn error_token(alloc: Global, number: u32, text: &[u8]) -> Result<Token, NoMemory>
     requires { number < 2 ^ 31 }
     ensures { IfOk result (λ token. token ≡ error number text.now) }

@@ -2,13 +2,14 @@ use std::alloc::{AllocError, AllocFailed};
 use std::io;
 use tds_client::ClientFault;
 use tds_packet::PacketFault;
+use tds_server::ServerFault;
 use tds_token::TokenFault;
 use thiserror::Error;
 
 /// Why a walk isn't done.
 #[derive(Debug, Drop, Error)]
 pub enum SpeedFault {
-    #[error("usage: tds_speed count FILE SIZE, or tds_speed time FILE SIZE TIMES")]
+    #[error("usage: tds_speed count SIZE FILE.., time SIZE TIMES FILE.., sizes, or memory KIND COUNT SIZE")]
     Usage,
     #[error("error: input or output")]
     Io,
@@ -16,7 +17,7 @@ pub enum SpeedFault {
     Memory,
     #[error("error: the bytes end inside a packet")]
     Cut,
-    #[error("error: the client refuses the request")]
+    #[error("error: an end or a pool refuses a call")]
     Refused,
     #[error("error: packet {0}")]
     Packet(u8),
@@ -24,6 +25,8 @@ pub enum SpeedFault {
     Token(u8),
     #[error("error: client {0}")]
     Client(u8),
+    #[error("error: server {0}")]
+    Server(u8),
 }
 
 impl From<AllocError> for SpeedFault {
@@ -59,5 +62,11 @@ impl From<TokenFault> for SpeedFault {
 impl From<ClientFault> for SpeedFault {
     fn from(fault: ClientFault) -> SpeedFault {
         SpeedFault::Client(fault.number())
+    }
+}
+
+impl From<ServerFault> for SpeedFault {
+    fn from(fault: ServerFault) -> SpeedFault {
+        SpeedFault::Server(fault.number())
     }
 }

@@ -1,23 +1,35 @@
-//! Times the client's calls over answers that lie in a file, for `bench/calls`, which makes the
-//! same calls from C.
+//! Times the client's calls over answers that lie in a file, and a server's over requests, for
+//! `bench/run`, which has programs in C do the same.
 //!
-//! `tds_speed count FILE SIZE` prints what each walk counts; `tds_speed time FILE SIZE TIMES` does
-//! each walk so many times, and prints its nanoseconds before the counts.
+//! `tds_speed count SIZE FILE..` prints what each walk over these files counts; `tds_speed time SIZE
+//! TIMES FILE..` does each walk so many times, and prints its nanoseconds before the counts.
+//! `tds_speed sizes` prints how many bytes the values have that a program holds, and `tds_speed
+//! memory KIND COUNT SIZE` makes so many idle ends or pools at once, so that its memory can be seen.
 #![tactic(auto)]
 
+mod asking;
+mod counted;
 mod fault;
-mod front;
+mod idle;
+mod packets;
 mod pieces;
+mod serving;
+mod sizes;
 mod walks;
 
+use asking::{Hear, Take, Values};
+use counted::Counted;
 use fault::SpeedFault;
+use idle::Idle;
 use pieces::pieces;
+use serving::{Look, serve};
+use sizes::print_sizes;
 use std::alloc::Global;
 use std::process::ExitCode;
 use std::time::Instant;
 use std::{env, fs};
 use tds_packet::PacketSize;
-use walks::Counted;
+use walks::{EachToken, Lengths, RowRuns, walked};
 
 /// What is done with the bytes.
 #[derive(Clone, Copy, Debug)]
@@ -36,9 +48,14 @@ enum Walk {
     Values,
     /// The same, and the client tells the tokens in memory of their own.
     Take,
+    /// A server answers requests.
+    Serve,
+    /// The same, and each byte of the answers is looked at.
+    Served,
 }
 
-const WALKS: [Walk; 9] = [
+/// The walks over answers.
+const OVER_ANSWERS: [Walk; 9] = [
     Walk::Packets,
     Walk::Pieces(1),
     Walk::Pieces(100),
@@ -49,6 +66,18 @@ const WALKS: [Walk; 9] = [
     Walk::Values,
     Walk::Take,
 ];
+
+/// The walks over requests.
+const OVER_REQUESTS: [Walk; 2] = [Walk::Serve, Walk::Served];
+
+/// The walks over these bytes, which begin with a packet of an answer (MS-TDS 2.2.3.1.1), or of a
+/// request.
+fn walks_over(bytes: &[u8]) -> &'static [Walk] {
+    match bytes.first() {
+        Some(0x04) => &OVER_ANSWERS,
+        _ => &OVER_REQUESTS,
+    }
+}
 
 impl Walk {
     fn name(self) -> &'static str {
@@ -62,18 +91,22 @@ impl Walk {
             Walk::Rows => "rows",
             Walk::Values => "values",
             Walk::Take => "take",
+            Walk::Serve => "serve",
+            Walk::Served => "served",
         }
     }
 
     fn walk(self, alloc: Global, size: PacketSize, bytes: &[u8]) -> Result<Counted, SpeedFault> {
         match self {
-            Walk::Packets => walks::packets(size, bytes),
+            Walk::Packets => walked(Lengths, size, bytes),
             Walk::Pieces(length) => pieces(alloc, size, bytes, length),
-            Walk::Hear => walks::hear(alloc, size, bytes),
-            Walk::Tokens => walks::tokens(size, bytes),
-            Walk::Rows => walks::rows(size, bytes),
-            Walk::Values => walks::values(alloc, size, bytes),
-            Walk::Take => walks::take(alloc, size, bytes),
+            Walk::Hear => walked(Hear::new(alloc, size)?, size, bytes),
+            Walk::Tokens => walked(EachToken::new(), size, bytes),
+            Walk::Rows => walked(RowRuns::new(), size, bytes),
+            Walk::Values => walked(Values::new(alloc, size)?, size, bytes),
+            Walk::Take => walked(Take::new(alloc, size)?, size, bytes),
+            Walk::Serve => serve(alloc, size, bytes, Look::Length),
+            Walk::Served => serve(alloc, size, bytes, Look::Bytes),
         }
     }
 }
@@ -95,29 +128,44 @@ fn run(rt: &HostRuntime) -> Result<(), SpeedFault> {
         words.push(word)?;
     }
     match words.as_slice() {
-        [verb, name, size] if verb.as_str() == "count" => {
-            let bytes = fs::read(rt, name.as_str())?;
-            count(rt, size_of(size.as_str())?, bytes.as_slice())
+        [verb] if verb.as_str() == "sizes" => print_sizes(rt),
+        [verb, kind, count, size] if verb.as_str() == "memory" => {
+            let kind = Idle::named(kind.as_str()).ok_or(SpeedFault::Usage)?;
+            let count = number(count.as_str())?;
+            let made = kind.make(alloc, packet_size(size.as_str())?, count as usize)?;
+            println!(rt; "{made}")?;
+            Ok(())
         }
-        [verb, name, size, times] if verb.as_str() == "time" => {
-            let times = times
-                .as_str()
-                .parse::<u32>()
-                .map_err(|_| SpeedFault::Usage)?;
-            let bytes = fs::read(rt, name.as_str())?;
-            time(rt, size_of(size.as_str())?, times, bytes.as_slice())
+        [verb, size, names @ ..] if verb.as_str() == "count" => {
+            let size = packet_size(size.as_str())?;
+            for name in names {
+                count(rt, size, fs::read(rt, name.as_str())?.as_slice())?;
+            }
+            Ok(())
+        }
+        [verb, size, times, names @ ..] if verb.as_str() == "time" => {
+            let size = packet_size(size.as_str())?;
+            let times = number(times.as_str())?;
+            for name in names {
+                time(rt, size, times, fs::read(rt, name.as_str())?.as_slice())?;
+            }
+            Ok(())
         }
         _ => Err(SpeedFault::Usage),
     }
 }
 
-fn size_of(word: &str) -> Result<PacketSize, SpeedFault> {
+fn number(word: &str) -> Result<u32, SpeedFault> {
+    word.parse::<u32>().map_err(|_| SpeedFault::Usage)
+}
+
+fn packet_size(word: &str) -> Result<PacketSize, SpeedFault> {
     let size = word.parse::<u16>().map_err(|_| SpeedFault::Usage)?;
     PacketSize::new(size).ok_or(SpeedFault::Usage)
 }
 
 fn count(rt: &HostRuntime, size: PacketSize, bytes: &[u8]) -> Result<(), SpeedFault> {
-    for walk in WALKS {
+    for walk in walks_over(bytes) {
         let counted = walk.walk(rt.alloc(), size, bytes)?;
         println!(rt; "{} {counted}", walk.name())?;
     }
@@ -126,7 +174,7 @@ fn count(rt: &HostRuntime, size: PacketSize, bytes: &[u8]) -> Result<(), SpeedFa
 
 fn time(rt: &HostRuntime, size: PacketSize, times: u32, bytes: &[u8]) -> Result<(), SpeedFault> {
     for _ in 0..times {
-        for walk in WALKS {
+        for walk in walks_over(bytes) {
             let start = Instant::now(rt)?;
             let counted = walk.walk(rt.alloc(), size, bytes)?;
             let nanoseconds = start.elapsed(rt)?.as_nanos();

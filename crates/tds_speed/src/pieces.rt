@@ -1,7 +1,7 @@
 //! A walk over packets that come in pieces.
 
+use crate::counted::Counted;
 use crate::fault::SpeedFault;
-use crate::walks::Counted;
 use std::alloc::Global;
 use tds_packet::{Direction, PacketReader, PacketSize};
 
@@ -40,7 +40,7 @@ fn take_piece(
         let taken = reader.feed(rest)?;
         rest = rest.split_at(taken).1;
         if let Some(packet) = reader.packet() {
-            counted.packets = counted.packets.wrapping_add(1);
+            counted.add_packet();
             counted.add(u64::from(packet.header.length));
             reader.done();
         }

@@ -162,16 +162,20 @@ func (client *Client) Lost() { C.tds_client_lost(&client.raw) }
 
 // Packets cuts the packets off the front of bytes that come from a server, and gives the rest.
 func Packets(bytes []byte, size uint16) (packets [][]byte, rest []byte, err error) {
+	var found [16]C.struct_tds_packet
 	for {
-		var packet C.struct_tds_packet
-		answer := C.tds_packet_read(at(bytes), C.size_t(len(bytes)), C.uint16_t(size), C.TDS_TO_CLIENT, &packet)
-		if answer == C.TDS_WANTS_BYTES {
-			return packets, bytes, nil
+		var count C.size_t
+		answer := C.tds_packets_read(at(bytes), C.size_t(len(bytes)), C.uint16_t(size), C.TDS_TO_CLIENT, &found[0], C.size_t(len(found)), &count)
+		for _, packet := range found[:count] {
+			packets, bytes = append(packets, bytes[:packet.length]), bytes[packet.length:]
 		}
-		if answer != C.TDS_OK {
+		switch answer {
+		case C.TDS_OK:
+		case C.TDS_WANTS_BYTES:
+			return packets, bytes, nil
+		default:
 			return packets, bytes, Fault(answer)
 		}
-		packets, bytes = append(packets, bytes[:packet.length]), bytes[packet.length:]
 	}
 }
 

@@ -55,7 +55,7 @@ pub struct Rows {
 }
 
 extern "C" {
-    pub fn tds_packet_read(bytes: *const u8, length: usize, size: u16, direction: u8, packet: &mut Packet) -> u8;
+    pub fn tds_packets_read(bytes: *const u8, length: usize, size: u16, direction: u8, packets: *mut Packet, room: usize, count: &mut usize) -> u8;
     pub fn tds_client_new(size: u16, client: &mut Client) -> u8;
     pub fn tds_client_mark_reset(client: &mut Client, reset: u8) -> u8;
     pub fn tds_client_start_batch(client: &mut Client, text: *const u16, units: usize, message: *mut u8, room: usize, count: &mut usize) -> u8;

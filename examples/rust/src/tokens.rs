@@ -3,16 +3,25 @@
 use crate::fault::Fault;
 use crate::raw;
 
+/// How many packets are found in one call.
+const FOUND: usize = 16;
+
 /// The packets at the front of some bytes that come from a server, one behind the other. It ends
-/// where less than a packet is left, which `rest` has.
+/// where less than a packet is left, which `rest` has, and behind a header that is wrong.
 pub struct Packets<'a> {
     bytes: &'a [u8],
     size: u16,
+    /// Those from `next` to `count` were found and are still to be given; `answer` says what stands
+    /// behind them.
+    found: [raw::Packet; FOUND],
+    next: usize,
+    count: usize,
+    answer: u8,
 }
 
 impl<'a> Packets<'a> {
     pub fn new(bytes: &'a [u8], size: u16) -> Packets<'a> {
-        Packets { bytes, size }
+        Packets { bytes, size, found: [raw::Packet::default(); FOUND], next: 0, count: 0, answer: 0 }
     }
 
     /// What no packet was made of yet: more bytes are put behind these.
@@ -25,14 +34,19 @@ impl<'a> Iterator for Packets<'a> {
     type Item = Result<&'a [u8], Fault>;
 
     fn next(&mut self) -> Option<Result<&'a [u8], Fault>> {
-        let mut packet = raw::Packet::default();
-        // SAFETY: the pointer and the length are those of one slice.
-        match unsafe { raw::tds_packet_read(self.bytes.as_ptr(), self.bytes.len(), self.size, 1, &mut packet) } {
-            0 => {
-                let (front, rest) = self.bytes.split_at(packet.length);
-                self.bytes = rest;
-                Some(Ok(front))
-            }
+        if self.next == self.count && self.answer == 0 {
+            let (at, length, room) = (self.bytes.as_ptr(), self.bytes.len(), self.found.as_mut_ptr());
+            self.next = 0;
+            // SAFETY: each pointer and length is that of one slice or array, and they don't overlap.
+            self.answer = unsafe { raw::tds_packets_read(at, length, self.size, 1, room, FOUND, &mut self.count) };
+        }
+        if self.next < self.count {
+            let (front, rest) = self.bytes.split_at(self.found[self.next].length);
+            self.next += 1;
+            self.bytes = rest;
+            return Some(Ok(front));
+        }
+        match std::mem::replace(&mut self.answer, 24) {
             24 => None,
             number => Some(Err(Fault::of(number))),
         }

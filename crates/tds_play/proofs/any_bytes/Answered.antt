@@ -1,7 +1,7 @@
 -- What the deliveries of a play came to, event by event, on all connections.
-use Rattle.std.proofs.Common.{◌≡◌, ◌≢◌, ◌∙◌, ◌<◌, ◌≤◌, ◌+◌, ◌==◌, ℕ, zero, suc, Bool, true, false, List, [], ◌∷◌, ◌++◌, length, length-append, get_or, set, take, ap, refl, subst, sym, arith, inl, inr, ◌⊎◌, Option, Some, None, append-nil, append_assoc, cond, eqb, slice_index_or}
+use Rattle.std.proofs.Common.{◌≡◌, ◌≢◌, ◌∙◌, ◌<◌, ◌+◌, ℕ, suc, Bool, true, false, List, [], ◌∷◌, ◌++◌, length, length-append, get_or, set, take, ap, refl, subst, sym, arith, inl, inr, ◌⊎◌, Option, append-nil, append_assoc, cond, eqb, slice_index_or}
 use Rattle.std.proofs.lemmas.Bool.{eq-eqb, ne_eqb, cases_lt}
-use Rattle.std.proofs.lemmas.List.{length-set, take_all}
+use Rattle.std.proofs.lemmas.List.{length-set}
 use Rattle.std.specs.List.{AllByRecursion}
 use Rattle.tds_packet.specs.declared.kind.Direction.{Direction}
 use Rattle.tds_packet.specs.declared.kind.Direction.TheVariants.{ToServer, ToClient}
@@ -15,30 +15,30 @@ use Rattle.tds_world.specs.declared.outcome.Refusal.{Refusal}
 use Rattle.tds_world.specs.declared.report.EventReport.{EventReport}
 use Rattle.tds_play.specs.declared.link.Link.{Link}
 use Rattle.tds_play.specs.Seats.{Seated}
-use Rattle.tds_play.specs.AnyBytes.{AnswersWith, AreAnswered, IsRefused, is_delivery, outcomes_on}
+use Rattle.tds_play.specs.AnyBytes.{AnswersWith, AnswerInTurn, IsRefused, is_delivery, outcomes_on}
 use Rattle.tds_play.specs.Pipe.{Pipe, AreSame, traffic}
 use Rattle.tds_play.specs.Reads.{AllRead, Answers, BringsBy, IsAbout, IsReading, ReadsNoMore, ReadsThere, ReadsOn, answers_then, delivers, given_by}
 use Rattle.tds_play.specs.Ties.{AreTied}
-use Rattle.tds_play.proofs.Listed.{by_test, is_at, is_other, push_each, set_each}
+use Rattle.tds_play.proofs.Listed.{by_test, is_at, is_other, number_there, push_each, set_each}
 use Rattle.tds_play.proofs.any_bytes.Stays.{reading_stays}
 use Rattle.tds_play.proofs.Turns.{all_so_far, one_taken, so_many}
 
 -- ---- The deliveries of a connection
 
-then_answered : (r : Reading) (o : Outcome) (before came came' : List ℕ) (os : List Outcome) → AreAnswered r before os came → AnswersWith r o came came' → AreAnswered r before (os ++ o ∷ []) came'
+then_answered : (r : Reading) (o : Outcome) (before came came' : List ℕ) (os : List Outcome) → AnswerInTurn r before os came → AnswersWith r o came came' → AnswerInTurn r before (os ++ o ∷ []) came'
 then_answered r o before came came' [] is one = (came', subst (λ (xs : List ℕ). AnswersWith r o xs came') is one, refl)
 then_answered r o before came came' (p ∷ ps) is one = (is.0, is.1, then_answered r o is.0 came came' ps is.2 one)
 
 -- One event more.
-more_answered : (b : Bool) (r : Reading) (o : Outcome) (came came' : List ℕ) (os : List Outcome) → AreAnswered r [] os came → BringsBy b r o came came' → AreAnswered r [] (os ++ cond b (o ∷ []) []) came'
+more_answered : (b : Bool) (r : Reading) (o : Outcome) (came came' : List ℕ) (os : List Outcome) → AnswerInTurn r [] os came → BringsBy b r o came came' → AnswerInTurn r [] (os ++ cond b (o ∷ []) []) came'
 more_answered true r o came came' os is one = then_answered r o [] came came' os is one
 more_answered false r o came came' os is one =
-    subst (AreAnswered r [] (os ++ [])) (sym one) (subst (λ (xs : List Outcome). AreAnswered r [] xs came) (sym (append-nil os)) is)
+    subst (AnswerInTurn r [] (os ++ [])) (sym one) (subst (λ (xs : List Outcome). AnswerInTurn r [] xs came) (sym (append-nil os)) is)
 
 by_delivery : (e : Event) (n : ℕ) (d : Direction) (b : Bool) (size : ℕ) (o : Outcome) (came came' : List ℕ) (os : List Outcome) → is_delivery e n d ≡ b
-    → AreAnswered (new_reader d size) [] os came → BringsBy b (new_reader d size) o came came' → AreAnswered (new_reader d size) [] (os ++ cond (is_delivery e n d) (o ∷ []) []) came'
+    → AnswerInTurn (new_reader d size) [] os came → BringsBy b (new_reader d size) o came came' → AnswerInTurn (new_reader d size) [] (os ++ cond (is_delivery e n d) (o ∷ []) []) came'
 by_delivery e n d b size o came came' os is far one =
-    subst (λ (x : Bool). AreAnswered (new_reader d size) [] (os ++ cond x (o ∷ []) []) came') (sym is) (more_answered b (new_reader d size) o came came' os far one)
+    subst (λ (x : Bool). AnswerInTurn (new_reader d size) [] (os ++ cond x (o ∷ []) []) came') (sym is) (more_answered b (new_reader d size) o came came' os far one)
 
 brings_refused : (b : Bool) (r : Reading) (why : Refusal) (came : List ℕ) → BringsBy b r (outcome.Refused why) came came
 brings_refused true r why came = refl
@@ -61,7 +61,7 @@ refused_one r outcome.RestartedClient came is = absurd is
 refused_one r (outcome.Refused why) came is = refl
 refused_one r (outcome.Fault end layer number) came is = absurd is
 
-refused_answered : (r : Reading) (came : List ℕ) (os : List Outcome) → AllByRecursion IsRefused os → AreAnswered r came os came
+refused_answered : (r : Reading) (came : List ℕ) (os : List Outcome) → AllByRecursion IsRefused os → AnswerInTurn r came os came
 refused_answered r came [] all = refl
 refused_answered r came (o ∷ os) all = (came, refused_one r o came all.0, refused_answered r came os all.1)
 
@@ -116,7 +116,7 @@ about_other event.RestartClient place n d is other = refl
 pub read_as : {E S : Type 0} (size : ℕ) (links : List (Seated E S)) (pipes : ℕ → Option Pipe) (a b : Answers) → ((n : ℕ) (d : Direction) → a n d ≡ b n d) → AllRead size links pipes a → AllRead size links pipes b
 read_as size links pipes a b same all = record {
   reading = all.reading;
-  answered = λ i d less. subst (λ (os : List Outcome). AreAnswered (new_reader d size) [] os (traffic (pipes (suc i)) d).came) (same (suc i) d) (all.answered i d less);
+  answered = λ i d less. subst (λ (os : List Outcome). AnswerInTurn (new_reader d size) [] os (traffic (pipes (suc i)) d).came) (same (suc i) d) (all.answered i d less);
   refused = λ n d out. subst (AllByRecursion IsRefused) (same n d) (all.refused n d out);
 }
 
@@ -159,9 +159,9 @@ read_at {E} {S} size links place new pipes pipes' answers e o all there same abo
           (λ j x other less. subst (ReadsThere size (get_or links j x)) (sym (others j other)) (all.reading j x less)) there reads.reading;
       answered = λ i d less.
           let low : i < length links = omega (arith, less, length-set links place new) in
-          by_test (AreAnswered (new_reader d size) [] (answers_then e o answers (suc i) d) (traffic (pipes' (suc i)) d).came) (eqb i place)
+          by_test (AnswerInTurn (new_reader d size) [] (answers_then e o answers (suc i) d) (traffic (pipes' (suc i)) d).came) (eqb i place)
           (λ t. let at : i ≡ place = is_at i place t in
-          subst (λ (k : ℕ). AreAnswered (new_reader d size) [] (answers_then e o answers (suc k) d) (traffic (pipes' (suc k)) d).came) (sym at)
+          subst (λ (k : ℕ). AnswerInTurn (new_reader d size) [] (answers_then e o answers (suc k) d) (traffic (pipes' (suc k)) d).came) (sym at)
           (by_delivery e (suc place) d (delivers e d) size o (traffic (pipes (suc place)) d).came (traffic (pipes' (suc place)) d).came (answers (suc place) d) (about_here e place d about)
           (all.answered place d there) (reads.brings d)))
           (λ t. let other : i ≢ place = is_other i place t in
@@ -194,11 +194,11 @@ still_at {E} {S} size links place link new pipes pipes' answers all there is sam
           (reading_left size link.link new.link link.seat.client.columns new.seat.client.columns (pipes (suc place)) (pipes' (suc place)) (subst (λ (x : Seated E S). ReadsThere size x (pipes (suc place))) (sym is) (all.reading place link there)) still columns);
       answered = λ i d less.
           let low : i < length links = omega (arith, less, length-set links place new) in
-          by_test (AreAnswered (new_reader d size) [] (answers (suc i) d) (traffic (pipes' (suc i)) d).came) (eqb i place)
+          by_test (AnswerInTurn (new_reader d size) [] (answers (suc i) d) (traffic (pipes' (suc i)) d).came) (eqb i place)
           (λ t. let at : i ≡ place = is_at i place t in
-          subst (λ (k : ℕ). AreAnswered (new_reader d size) [] (answers (suc k) d) (traffic (pipes' (suc k)) d).came) (sym at)
-          (subst (AreAnswered (new_reader d size) [] (answers (suc place) d)) (sym (still.came d)) (all.answered place d there)))
-          (λ t. subst (λ (p : Option Pipe). AreAnswered (new_reader d size) [] (answers (suc i) d) (traffic p d).came) (sym (others i (is_other i place t))) (all.answered i d low));
+          subst (λ (k : ℕ). AnswerInTurn (new_reader d size) [] (answers (suc k) d) (traffic (pipes' (suc k)) d).came) (sym at)
+          (subst (AnswerInTurn (new_reader d size) [] (answers (suc place) d)) (sym (still.came d)) (all.answered place d there)))
+          (λ t. subst (λ (p : Option Pipe). AnswerInTurn (new_reader d size) [] (answers (suc i) d) (traffic p d).came) (sym (others i (is_other i place t))) (all.answered i d low));
       refused = λ n d out. all.refused n d (out_of_set links place new n out);
     }
 
@@ -216,11 +216,11 @@ read_opened {E} {S} size links new pipes pipes' answers all same reads none =
       reading = push_each (λ j (x : Seated E S). ReadsThere size x (pipes' (suc j))) links new
           (λ j x less. subst (ReadsThere size (get_or links j x)) (sym (others j less)) (all.reading j x less)) reads;
       answered = λ i d less. elim (cases_lt i (length links)) [
-        | inl low ↦ subst (λ (p : Option Pipe). AreAnswered (new_reader d size) [] (answers (suc i) d) (traffic p d).came) (sym (others i low)) (all.answered i d low)
+        | inl low ↦ subst (λ (p : Option Pipe). AnswerInTurn (new_reader d size) [] (answers (suc i) d) (traffic p d).came) (sym (others i low)) (all.answered i d low)
         | inr high ↦
             let at : i ≡ length links = omega (arith, high, less, length-append links (new ∷ [])) in
-            subst (λ (k : ℕ). AreAnswered (new_reader d size) [] (answers (suc k) d) (traffic (pipes' (suc k)) d).came) (sym at)
-            (subst (AreAnswered (new_reader d size) [] (answers (suc (length links)) d)) (sym (none d))
+            subst (λ (k : ℕ). AnswerInTurn (new_reader d size) [] (answers (suc k) d) (traffic (pipes' (suc k)) d).came) (sym at)
+            (subst (AnswerInTurn (new_reader d size) [] (answers (suc (length links)) d)) (sym (none d))
             (refused_answered (new_reader d size) [] (answers (suc (length links)) d) (all.refused (suc (length links)) d (inr (omega arith)))))
       ];
       refused = λ n d out. all.refused n d (out_of_push links new n out);
@@ -263,15 +263,12 @@ none_read {E} {S} size links pipes es none =
 
 -- ---- An event on one of them
 
-numbered_there : {E S : Type 0} (links : List (Seated E S)) (place : ℕ) (link : Seated E S) (pipes : ℕ → Option Pipe) → AreTied links pipes → place < length links → link ≡ get_or links place link → link.link.number ≡ suc place
-numbered_there {E} {S} links place link pipes tied there is = ap (λ (l : Seated E S). l.link.number) is ∙ tied.numbered place link there
-
 pub acted_reads : {E S : Type 0} (size : ℕ) (links : List (Seated E S)) (place : ℕ) (link new : Seated E S) (pipes pipes' : ℕ → Option Pipe) (answers : Answers) (e : Event) (o : Outcome)
     → AreTied links pipes → place < length links → link ≡ get_or links place link → AreSame pipes pipes' link.link.number
     → (ReadsThere size link (pipes link.link.number) → ReadsOn size e o new.link new.seat.client.columns (pipes link.link.number) (pipes' link.link.number))
     → IsAbout e place → AllRead size links pipes answers → AllRead size (set links place new) pipes' (answers_then e o answers)
 acted_reads {E} {S} size links place link new pipes pipes' answers e o tied there is same reads about all =
-    let number : link.link.number ≡ suc place = numbered_there links place link pipes tied there is in
+    let number : link.link.number ≡ suc place = number_there links place link pipes tied there is in
     let here : ReadsThere size link (pipes link.link.number) =
     subst (λ (k : ℕ). ReadsThere size link (pipes k)) (sym number) (subst (λ (x : Seated E S). ReadsThere size x (pipes (suc place))) (sym is) (all.reading place link there)) in
     read_at size links place new pipes pipes' answers e o all there (subst (AreSame pipes pipes') number same) about
@@ -281,6 +278,6 @@ pub cut_reads : {E S : Type 0} (size : ℕ) (links : List (Seated E S)) (place :
     → AreTied links pipes → place < length links → link ≡ get_or links place link → AreSame pipes pipes' link.link.number
     → ReadsNoMore link.link new.link (pipes link.link.number) (pipes' link.link.number) → (new.link.is_cut ≡ false → new.seat.client.columns ≡ link.seat.client.columns) → AllRead size links pipes answers → AllRead size (set links place new) pipes' answers
 cut_reads {E} {S} size links place link new pipes pipes' answers tied there is same still columns all =
-    let number : link.link.number ≡ suc place = numbered_there links place link pipes tied there is in
+    let number : link.link.number ≡ suc place = number_there links place link pipes tied there is in
     still_at size links place link new pipes pipes' answers all there is (subst (AreSame pipes pipes') number same)
     (subst (λ (k : ℕ). ReadsNoMore link.link new.link (pipes k) (pipes' k)) number still) columns

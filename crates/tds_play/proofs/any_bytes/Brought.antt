@@ -1,15 +1,12 @@
 -- What both ends of a connection have read once an event brought bytes there, or none.
-use Rattle.std.proofs.Common.{◌≡◌, ◌≢◌, ◌∙◌, ℕ, suc, Bool, true, false, List, [], ◌∷◌, ◌++◌, length, ap, refl, subst, sym, inl, inr, ◌⊎◌, Option, Some, None, append-nil}
+use Rattle.std.proofs.Common.{◌≡◌, ◌∙◌, ℕ, Bool, true, false, List, ◌++◌, length, ap, refl, subst, sym, Option, append-nil}
 use Rattle.std.specs.Prelude.{Err, IfOk, Ok, OnOk, Result}
 use Rattle.tds_packet.specs.declared.kind.Direction.{Direction}
 use Rattle.tds_packet.specs.declared.kind.Direction.TheVariants.{ToServer, ToClient}
 use Rattle.tds_packet.specs.Reading.{Reading}
-use Rattle.tds_token.specs.declared.token.Token.{Token}
 use Rattle.tds_ends.specs.AllBytes.{AreToldBy, ClientHasRead, HasNoFault, ServerHasRead, new_reader}
 use Rattle.tds_world.specs.declared.event.Event.{Event}
 use Rattle.tds_world.specs.declared.event.Event.TheVariants as event
-use Rattle.tds_world.specs.declared.outcome.End.{End}
-use Rattle.tds_world.specs.declared.outcome.Layer.{Layer}
 use Rattle.tds_world.specs.declared.outcome.Outcome.{Outcome}
 use Rattle.tds_world.specs.declared.outcome.Outcome.TheVariants as outcome
 use Rattle.tds_world.specs.Connection.{Connection}
@@ -21,7 +18,7 @@ use Rattle.tds_play.specs.Plays.{on_cut}
 use Rattle.tds_play.specs.Plays as plays
 use Rattle.tds_play.specs.Reads.{BringsAny, BringsBy, IsReading, ReadsNoMore, ReadsOn, delivers, given_by}
 use Rattle.tds_play.specs.Seen as seen
-use Rattle.tds_play.proofs.any_bytes.Stays.{reading_stays, stays}
+use Rattle.tds_play.proofs.any_bytes.Stays.{reading_stays}
 
 pub on_done : {A B : Type 0} (r : Result A B) (P : Type 0) (Q : A → Type 0) → OnOk r P → ((x : A) → P → Q x) → IfOk r Q
 on_done (Ok x) P Q h f = f x h

@@ -1,6 +1,6 @@
 -- Ends that are fed with any bytes.
-use Rattle.std.proofs.Common.{◌≡◌, ◌∙◌, inl, inr, ℕ, List, [], ◌∷◌, ◌++◌, ap, refl, subst, sym, Option, Some, None}
-use Rattle.tds_ends.specs.AllBytes.{AreSomeOf, AreToldBy, ClientHasRead, ClientReads, HasFault, ServerHasRead, ServerReads, new_reader}
+use Rattle.std.proofs.Common.{◌≡◌, inl, inr, ℕ, List, [], ◌∷◌, ◌++◌, ap, refl, subst, sym, Option, Some, None}
+use Rattle.tds_ends.specs.AllBytes.{AreSomeOf, AreToldBy, ClientHasRead, ClientReads, HasFault, ServerReads, new_reader}
 use Rattle.tds_ends.specs.declared.listening.ClientStop.{ClientStop}
 use Rattle.tds_ends.specs.declared.listening.ClientStop.TheVariants as client_stop
 use Rattle.tds_ends.specs.declared.serving.ServerStop.{ServerStop}
@@ -10,12 +10,11 @@ use Rattle.tds_packet.specs.declared.kind.Direction.TheVariants.{ToServer, ToCli
 use Rattle.tds_packet.specs.Faults.{fault_number}
 use Rattle.tds_packet.specs.Reading.{Reading}
 use Rattle.tds_token.specs.declared.token.Token.{Token}
-use Rattle.tds_world.specs.declared.outcome.End.TheVariants.{Server, Client}
 use Rattle.tds_world.specs.declared.outcome.Layer.TheVariants.{Packet, Core}
 use Rattle.tds_world.specs.declared.outcome.Layer.{Layer}
 use Rattle.tds_play.specs.declared.feeding.Fault.{Fault}
 use Rattle.tds_play.specs.AnyBytes.{FaultsBy, end_at}
-use Rattle.tds_play.specs.Reads.{ClientIsFed, IsClientFault, IsServerFault, ServerIsFed}
+use Rattle.tds_play.specs.Reads.{ClientIsFed, IsClientFault, IsServerFault}
 
 -- ---- A fault
 

@@ -1,28 +1,27 @@
 -- What is told of the requests in the end is what the callers of each connection were given.
-use Rattle.std.proofs.Common.{◌≡◌, ◌≢◌, ◌∙◌, ◌<◌, ◌≤◌, ◌+◌, ◌-◌, ◌==◌, ℕ, zero, suc, List, [], ◌∷◌, ◌++◌, length, map, take, reverse, slice_index_or, slice_set, get_or, Bool, true, false, Option, Some, None, refl, sym, ap, subst, append_assoc, append-nil, arith, inl, inr, ◌⊎◌, cond, eqb, option_map}
+use Rattle.std.proofs.Common.{◌≡◌, ◌≢◌, ◌∙◌, ◌<◌, ◌≤◌, ◌-◌, ◌==◌, ℕ, zero, suc, List, [], ◌∷◌, ◌++◌, length, map, take, reverse, slice_index_or, slice_set, get_or, Bool, true, false, Option, Some, None, refl, sym, ap, subst, append_assoc, append-nil, arith, inl, inr, ◌⊎◌, cond, eqb, option_map}
 use Rattle.std.specs.Prelude.{flat_map, slice_get, option_to_list}
 use Rattle.std.specs.List.{AllByRecursion}
 use Rattle.std.proofs.lemmas.Bool.{eq-eqb, ne_eqb, cases_lt}
 use Rattle.std.proofs.lemmas.Grind.{flat_map-append}
 use Rattle.std.proofs.lemmas.List.{map-set, reverse-append, reverse-reverse, take_all}
-use Rattle.std.proofs.lemmas.Option.{get_or_from_slice_get, slice_get-map, slice_get_within, slice_get_past}
+use Rattle.std.proofs.lemmas.Option.{get_or_from_slice_get, slice_get-map, slice_get_within}
 use Rattle.tds_packet.specs.declared.kind.Direction.{Direction}
-use Rattle.tds_packet.specs.declared.kind.Direction.TheVariants.{ToServer, ToClient}
+use Rattle.tds_packet.specs.declared.kind.Direction.TheVariants.{ToClient}
 use Rattle.tds_packet.specs.Reading.{Reading}
 use Rattle.tds_token.specs.declared.token.Token.{Token}
 use Rattle.tds_ends.specs.AllBytes.{AreToldBy, new_reader}
 use Rattle.tds_world.specs.declared.event.Event.{Event}
 use Rattle.tds_world.specs.declared.outcome.Outcome.{Outcome}
 use Rattle.tds_world.specs.declared.report.EventReport.{EventReport}
-use Rattle.tds_world.specs.declared.report.Report.{Report}
 use Rattle.tds_world.specs.declared.report.RequestReport.{RequestReport}
 use Rattle.tds_world.specs.World.{numbered}
 use Rattle.tds_play.specs.Seats.{Seated}
 use Rattle.tds_play.specs.declared.request.Record.{Record}
-use Rattle.tds_play.specs.AnyBytes.{AreAnswered, IsRefused, ReadsBytes, given_on, given_to, outcomes_on}
+use Rattle.tds_play.specs.AnyBytes.{AnswerInTurn, IsRefused, ReadsBytes, given_on, given_to, outcomes_on}
 use Rattle.tds_play.specs.Links.{behind, newest_there, report_of}
 use Rattle.tds_play.specs.Pipe.{Pipe, traffic}
-use Rattle.tds_play.specs.Reads.{AllRead, ReadsThere, TakesLast, TellsGiven, given_at, given_by, tokens_of}
+use Rattle.tds_play.specs.Reads.{AllRead, ReadsThere, TakesLast, TellsGiven, given_at, tokens_of}
 use Rattle.tds_play.proofs.any_bytes.Answered.{answers_of}
 use Rattle.tds_play.proofs.any_bytes.Fed.{fewer_told}
 use Rattle.tds_play.proofs.Listed.{by_test, is_at, is_other}
@@ -179,7 +178,7 @@ known_at {E} {S} size links pipes (suc i) link reads is =
     subst (λ (x : Seated E S). ReadsThere size x (pipes (suc i))) (get_or_from_slice_get links i link link is) (reads i link (slice_get_within links i link is))
 
 answered_at : {E S : Type 0} (size : ℕ) (links : List (Seated E S)) (pipes : ℕ → Option Pipe) (rs : List EventReport) (es : List Event) (n : ℕ) (d : Direction) → AllRead size links pipes (answers_of es rs)
-    → AllByRecursion IsRefused (outcomes_on n d es rs) ⊎ AreAnswered (new_reader d size) [] (outcomes_on n d es rs) (traffic (pipes n) d).came
+    → AllByRecursion IsRefused (outcomes_on n d es rs) ⊎ AnswerInTurn (new_reader d size) [] (outcomes_on n d es rs) (traffic (pipes n) d).came
 answered_at size links pipes rs es zero d all = inl (all.refused zero d (inl refl))
 answered_at size links pipes rs es (suc i) d all = elim (cases_lt i (length links)) [
   | inl low ↦ inr (all.answered i d low)
@@ -194,7 +193,7 @@ read_in_the_end {E} {S} size es i links pipes rs events requests told over same 
     ap (λ (xs : List Event). outcomes_on n d xs rs) (take_all i es over) ∙ ap (outcomes_on n d es) (sym same)) in
     record {
       answers = λ n d.
-          subst (λ (os : List Outcome). AllByRecursion IsRefused os ⊎ AreAnswered (new_reader d size) [] os (traffic (pipes n) d).came) (whole n d)
+          subst (λ (os : List Outcome). AllByRecursion IsRefused os ⊎ AnswerInTurn (new_reader d size) [] os (traffic (pipes n) d).came) (whole n d)
           (answered_at size links pipes rs (take i es) n d all);
       tells = λ n.
           let t = tells n in

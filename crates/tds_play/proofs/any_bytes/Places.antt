@@ -1,13 +1,12 @@
 -- Which connection a delivery is about.
-use Rattle.std.proofs.Common.{◌≡◌, ℕ, zero, suc, Bool, true, false, List, length, Option, Some, None, refl, ap, sym, cond}
+use Rattle.std.proofs.Common.{◌≡◌, ℕ, zero, suc, Bool, true, false, List, length, Option, refl, ap, sym, cond}
 use Rattle.std.specs.Prelude.{nat_lt}
 use Rattle.tds_packet.specs.declared.kind.Direction.{Direction}
-use Rattle.tds_packet.specs.declared.kind.Direction.TheVariants.{ToServer, ToClient}
 use Rattle.tds_world.specs.declared.event.Event.{Event}
 use Rattle.tds_world.specs.declared.event.Event.TheVariants as event
 use Rattle.tds_world.specs.declared.outcome.Refusal.{Refusal}
 use Rattle.tds_world.specs.Connection.{Standing}
-use Rattle.tds_play.specs.Lending.{Found, Missing, Here, Opens, numbered_of}
+use Rattle.tds_play.specs.Lending.{Missing, Here, Opens, numbered_of}
 use Rattle.tds_play.specs.AnyBytes.{is_delivery}
 use Rattle.tds_play.specs.Noted.{about_of}
 use Rattle.tds_play.specs.Reads.{IsAbout}

@@ -1,7 +1,6 @@
 -- A connection on which nothing came and nothing was read.
 use Rattle.std.proofs.Common.{◌≡◌, ◌∙◌, ℕ, Bool, true, false, List, [], ◌∷◌, ◌++◌, length, ap, refl, subst, sym, arith, Option, Some, None, append_assoc, append-nil, option_map, length-append, ◌+◌, ◌-◌, ◌==◌, cond}
 use Rattle.std.specs.Prelude.{flat_map}
-use Rattle.std.specs.List.{AllByRecursion}
 use Rattle.std.specs.Prelude.{Err, IfOk, Ok, OnErr, Result, nat_le}
 use Rattle.tds_client.specs.declared.fault.ClientRefusal.{ClientRefusal}
 use Rattle.tds_client.specs.declared.state.Cancelled.{Cancelled}

@@ -1,5 +1,5 @@
 -- A lease that is given back, or a ticket that is abandoned: what the play keeps of its connection, and its seat.
-use Rattle.std.proofs.Common.{◌≡◌, ◌∙◌, ◌⊎◌, inl, inr, ℕ, Bool, true, false, List, [], ◌∷◌, Option, Some, None, Result, Ok, Err, refl, sym, ap, subst, cond}
+use Rattle.std.proofs.Common.{◌≡◌, ◌∙◌, ◌⊎◌, inl, inr, ℕ, Bool, true, false, List, [], Option, Some, None, Result, Ok, refl, sym, ap, subst, cond}
 use Rattle.std.proofs.Math.Dec.{eqb}
 use Rattle.std.specs.Prelude.{◌==◌, ◌&&◌, ◌++◌, IfOk, IsSome, is_none, option_map}
 use Rattle.tds_client.specs.declared.fault.ClientRefusal.{ClientRefusal}
@@ -19,7 +19,6 @@ use Rattle.tds_pool.specs.declared.lease.Ticket.{Ticket}
 use Rattle.tds_pool.specs.declared.seat.Place.{Place}
 use Rattle.tds_pool.specs.declared.seat.Place.TheVariants as places
 use Rattle.tds_world.specs.Pool.{place_back, returned_as}
-use Rattle.tds_world.specs.declared.outcome.GiveBackOutcome.{GiveBackOutcome}
 use Rattle.tds_play.specs.Pooled.{IsGone, IsThere, Spares, came_back, place_by, rests_in, seat_by}
 use Rattle.tds_play.specs.Pipe.{Pipe}
 use Rattle.tds_play.specs.Plays.{RefinesAct, RepresentsConnection, cut_where}

@@ -1,5 +1,5 @@
 -- The connection at a place of a player is cut, and its pool loses it.
-use Rattle.std.proofs.Common.{◌≡◌, ◌≢◌, ◌∙◌, ℕ, zero, suc, ◌<◌, Bool, true, false, List, [], ◌∷◌, length, get_or, Option, Some, None, eqb, refl, sym, ap, subst, arith}
+use Rattle.std.proofs.Common.{◌≡◌, ◌≢◌, ◌∙◌, ℕ, suc, ◌<◌, Bool, true, false, List, [], ◌∷◌, length, get_or, Option, Some, None, eqb, refl, sym, ap, subst, arith}
 use Rattle.std.proofs.lemmas.Option.{slice_get_within}
 use Rattle.std.specs.List.{slice_get}
 use Rattle.std.specs.Prelude.{slice_set}
@@ -13,24 +13,25 @@ use Rattle.tds_play.specs.declared.link.Link.{Link}
 use Rattle.tds_play.specs.declared.player.Player.{Player}
 use Rattle.tds_play.specs.declared.seat.Held.{Held}
 use Rattle.tds_play.specs.Failures.{FailsNoMore, LiveAreSound}
-use Rattle.tds_play.specs.Lending.{standing_by}
 use Rattle.tds_play.specs.Links.{cut_of}
 use Rattle.tds_play.specs.Pipe.{Pipe, IsOpen, IsUncut}
 use Rattle.tds_play.specs.Player.{AreHeld, all_of}
 use Rattle.tds_play.specs.Plays.{RepresentConnections, RepresentsConnection}
-use Rattle.tds_play.specs.Pooled.{AreKnown, number_unless, numbers_in, seat_in, seated_from, seated_in}
-use Rattle.tds_play.specs.Reads.{AllRead, Answers, ReadsNoMore}
-use Rattle.tds_play.specs.Seats.{Seat, Seated}
-use Rattle.tds_play.specs.Steps.{AreCutTo, CutsAt, SameSetup}
-use Rattle.tds_play.specs.Ties.{AreTied, IsTied, KeepsTies}
+use Rattle.tds_play.specs.Pooled.{AreKnown, ArePooled, number_unless, numbers_in, seat_in, seated_from, seated_in}
+use Rattle.tds_play.specs.Reads.{AllRead, ReadsNoMore}
+use Rattle.tds_play.specs.Seats.{Seated}
+use Rattle.tds_play.specs.Steps.{AreCutTo, CutsAt, CutsSome, SameSetup}
+use Rattle.tds_play.specs.Ties.{AreTied, KeepsTies}
 use Rattle.tds_play.proofs.Accounts.{all_no_more, sound_set}
 use Rattle.tds_play.proofs.AllCut.{put_changed, stays_cut}
 use Rattle.tds_play.proofs.Listed.{by_test, changed, is_at, is_other}
 use Rattle.tds_play.proofs.any_bytes.Answered.{cut_reads}
 use Rattle.tds_play.proofs.pooled.Kept.{known_lost, pooled_lost}
 use Rattle.tds_play.proofs.pooled.Moves.{seated_lost, set_again}
-use Rattle.tds_play.proofs.pooled.Unseen.{held_as, number_at, read_at, set_here}
-use Rattle.tds_play.proofs.pooled.Slots.{held_set}
+use Rattle.tds_play.proofs.pooled.Unseen.{held_as, number_at, read_at}
+use Rattle.tds_play.proofs.pooled.Restarting.{setup_by}
+use Rattle.tds_play.proofs.pooled.Settled.{cut_seat}
+use Rattle.tds_play.proofs.pooled.Slots.{get_elsewhere, held_set, length_set, set_here}
 use Rattle.tds_play.proofs.pooled.Steps.{in_player, place_of, stands_at, within_all}
 
 -- ---- It isn't cut yet
@@ -84,51 +85,41 @@ cut_seats {E} {S} place old new h k i =
 
 -- ---- What stays so
 
-pub cut_held : {E S : Type 0} (place : ℕ) (old new : Player E S) (h k : Held E S) → IsCutAt place old new h k → AreHeld old → AreHeld new
-cut_held {E} {S} place old new h k i held =
-    let hs : List (Held E S) = slice_set old.links.items place k in
-    held_as old new hs i.links i.setup
-    (pooled_lost old.max old.size place old.links.items k old.pool new.pool held.pooled i.gone i.rest (is_cut_then place old new h k i))
-    (subst (AreKnown new.leases new.tickets hs) (sym i.gone)
-    (subst (λ (ls : List (Option Lease)). AreKnown ls new.tickets hs (taken_out (suc place) (connections old.pool))) (sym i.leases)
-    (subst (λ (ts : List (Option Ticket)). AreKnown old.leases ts hs (taken_out (suc place) (connections old.pool))) (sym i.tickets)
-    (known_lost old.leases old.tickets (suc place) old.links.items hs (connections old.pool) held.known (held_set old.links.items place k)))))
+pub cut_keeps : {E S : Type 0} (place : ℕ) (old new : Player E S) (h k : Held E S) (pipes pipes' : ℕ → Option Pipe) (told still : Type 0) → IsCutAt place old new h k → KeepsTies h.link.number k.link pipes pipes' told still → ReadsNoMore h.link k.link (pipes h.link.number) (pipes' h.link.number) → FailsNoMore (pipes h.link.number) (pipes' h.link.number)
+    → AreTied (all_of old) pipes → AreHeld old → new ≡ record old { links = new.links; pool = new.pool } → CutsSome old new pipes pipes' told still
+cut_keeps {E} {S} place old new h k pipes pipes' told still i ties stays failed tied held rest = record {
+  tied = subst (λ (ls : List (Seated E S)). AreTied ls pipes') (sym seats)
+      (changed (all_of old) place (in_player h old) (seated_in k None) pipes pipes' tied (within_all old place h i.at) (stands_at old place h i.at i.number)
+      (ap (λ (l : Link E S). l.number) i.link) ties.tied ties.others);
+  held = held_as old new hs i.links i.setup
+      (pooled_lost old.max old.size place old.links.items k old.pool new.pool held.pooled i.gone i.rest (is_cut_then place old new h k i))
+      (subst (AreKnown new.leases new.tickets hs) (sym i.gone)
+      (subst (λ (ls : List (Option Lease)). AreKnown ls new.tickets hs (taken_out (suc place) (connections old.pool))) (sym i.leases)
+      (subst (λ (ts : List (Option Ticket)). AreKnown old.leases ts hs (taken_out (suc place) (connections old.pool))) (sym i.tickets)
+      (known_lost old.leases old.tickets (suc place) old.links.items hs (connections old.pool) held.known (held_set old.links.items place k)))));
+  count = ap length i.links ∙ length_set old.links.items place k;
+  rest = rest;
+  tells = ties.tells;
+  sound = λ sound. subst (λ (ls : List (Seated E S)). LiveAreSound ls pipes') (sym seats)
+      (sound_set (all_of old) place (seated_in k None) pipes pipes' sound (within_all old place h i.at) (λ j other. fail_no_more (suc j)) (λ live. absurd (uncut live)));
+  reads = λ size so_far all. subst (λ (ls : List (Seated E S)). AllRead size ls pipes' so_far) (sym seats)
+      (cut_reads size (all_of old) place (in_player h old) (seated_in k None) pipes pipes' so_far tied (within_all old place h i.at) (stands_at old place h i.at i.number) ties.others stays (λ live. absurd (uncut live)) all);
+  failed = fail_no_more;
+}
+  where
+    hs : List (Held E S)
+    hs = slice_set old.links.items place k
 
-pub cut_tied : {E S : Type 0} (place : ℕ) (old new : Player E S) (h k : Held E S) (pipes pipes' : ℕ → Option Pipe) (told still : Type 0) → IsCutAt place old new h k → KeepsTies h.link.number k.link pipes pipes' told still → AreTied (all_of old) pipes → AreTied (all_of new) pipes'
-cut_tied {E} {S} place old new h k pipes pipes' told still i ties tied =
-    subst (λ (ls : List (Seated E S)). AreTied ls pipes') (sym (cut_seats place old new h k i))
-    (changed (all_of old) place (in_player h old) (seated_in k None) pipes pipes' tied (within_all old place h i.at) (stands_at old place h i.at i.number)
-    (ap (λ (l : Link E S). l.number) i.link) ties.tied ties.others)
+    seats : all_of new ≡ slice_set (all_of old) place (seated_in k None)
+    seats = cut_seats place old new h k i
 
-pub cut_sound : {E S : Type 0} (place : ℕ) (old new : Player E S) (h k : Held E S) (pipes pipes' : ℕ → Option Pipe) (told still : Type 0) → IsCutAt place old new h k → KeepsTies h.link.number k.link pipes pipes' told still → FailsNoMore (pipes h.link.number) (pipes' h.link.number) → LiveAreSound (all_of old) pipes → LiveAreSound (all_of new) pipes'
-cut_sound {E} {S} place old new h k pipes pipes' told still i ties failed sound =
-    subst (λ (ls : List (Seated E S)). LiveAreSound ls pipes') (sym (cut_seats place old new h k i))
-    (sound_set (all_of old) place (seated_in k None) pipes pipes' sound (within_all old place h i.at)
-    (λ j other. all_no_more h.link.number pipes pipes' ties.others failed (suc j))
-    (λ live. let bad : true ≡ false = sym (is_cut_then place old new h k i) ∙ live in absurd (cc)))
+    fail_no_more : (n : ℕ) → FailsNoMore (pipes n) (pipes' n)
+    fail_no_more = all_no_more h.link.number pipes pipes' ties.others failed
 
-pub cut_read : {E S : Type 0} (place : ℕ) (old new : Player E S) (h k : Held E S) (pipes pipes' : ℕ → Option Pipe) (told still : Type 0) → IsCutAt place old new h k → KeepsTies h.link.number k.link pipes pipes' told still → ReadsNoMore h.link k.link (pipes h.link.number) (pipes' h.link.number) → AreTied (all_of old) pipes → (size : ℕ) (answers : Answers) → AllRead size (all_of old) pipes answers → AllRead size (all_of new) pipes' answers
-cut_read {E} {S} place old new h k pipes pipes' told still i ties stays tied size answers all =
-    subst (λ (ls : List (Seated E S)). AllRead size ls pipes' answers) (sym (cut_seats place old new h k i))
-    (cut_reads size (all_of old) place (in_player h old) (seated_in k None) pipes pipes' answers tied (within_all old place h i.at) (stands_at old place h i.at i.number) ties.others stays
-    (λ live. let bad : true ≡ false = sym (is_cut_then place old new h k i) ∙ live in absurd (cc)) all)
+    uncut : k.link.is_cut ≡ false → ⊥
+    uncut live = let bad : true ≡ false = sym (is_cut_then place old new h k i) ∙ live in cc
 
 -- ---- What it stands for
-
--- One that is cut stands for the model's whatever its seat is.
-any_seat : {E S : Type 0} (number size : ℕ) (engine : E) (link : Link E S) (seat then : Seat) (pipe : Option Pipe) (c : Connection) → link.is_cut ≡ true → RepresentsConnection number size engine link seat pipe c → RepresentsConnection number size engine link then pipe c
-any_seat number size engine link seat then pipe c is i = record {
-  numbered = i.numbered;
-  standing = ap (λ (b : Bool). standing_by b then.place) is ∙ sym (ap (λ (b : Bool). standing_by b seat.place) is) ∙ i.standing;
-  older = i.older;
-  newest = i.newest;
-  to_server = i.to_server;
-  to_client = i.to_client;
-  came_up = i.came_up;
-  came_down = i.came_down;
-  lives = λ uncut. let bad : true ≡ false = sym is ∙ uncut in absurd (cc);
-  gone = i.gone;
-}
 
 pub cut_played : {E S : Type 0} (place : ℕ) (old new : Player E S) (h k : Held E S) (pipes pipes' : ℕ → Option Pipe) (told still : Type 0) → IsCutAt place old new h k → KeepsTies h.link.number k.link pipes pipes' told still → (size : ℕ) (engine : E) (cs : List Connection) (c : Connection)
     → (RepresentsConnection h.link.number size engine h.link (seat_in h old.pool) (pipes h.link.number) c → RepresentsConnection h.link.number size engine k.link (seat_in h old.pool) (pipes' h.link.number) (cut c))
@@ -136,7 +127,7 @@ pub cut_played : {E S : Type 0} (place : ℕ) (old new : Player E S) (h k : Held
 cut_played {E} {S} place old new h k pipes pipes' told still i ties size engine cs c cuts there all =
     subst (λ (ls : List (Seated E S)). RepresentConnections 1 size engine ls pipes' (put place (cut c) cs)) (sym (cut_seats place old new h k i))
     (put_changed size engine (all_of old) pipes pipes' cs place (in_player h old) (seated_in k None) c (cut c) (stands_at old place h i.at i.number) (within_all old place h i.at) ties.others there all
-    (λ is. any_seat h.link.number size engine k.link (seat_in h old.pool) (seated_in k None).seat (pipes' h.link.number) (cut c) (is_cut_then place old new h k i) (cuts is)))
+    (λ is. cut_seat h.link.number size engine k.link (seat_in h old.pool) (seated_in k None).seat (pipes' h.link.number) (cut c) (is_cut_then place old new h k i) (cuts is)))
 
 -- ---- It was cut before
 
@@ -145,6 +136,29 @@ pub unmoved : {E S : Type 0} (place : ℕ) (old new : Player E S) (h : Held E S)
 unmoved {E} {S} place old new h there is links pool =
     ap (λ (hs : List (Held E S)). seated_from 1 hs (connections new.pool)) (links ∙ set_again old.links.items place h (read_at old.links.items place h there is))
     ∙ ap (λ (p : PoolState). seated_from 1 old.links.items (connections p)) pool
+
+pub unmoved_keeps : {E S : Type 0} (place : ℕ) (old new : Player E S) (h : Held E S) (pipes : ℕ → Option Pipe) (told : Type 0) → AreTied (all_of old) pipes → AreHeld old → place < length old.links.items → h ≡ get_or old.links.items place h
+    → new.links.items ≡ slice_set old.links.items place h → new.pool ≡ old.pool → new ≡ record old { links = new.links; pool = new.pool } → CutsSome old new pipes pipes told told
+unmoved_keeps {E} {S} place old new h pipes told tied held there is links pool rest = record {
+  tied = subst (λ (ls : List (Seated E S)). AreTied ls pipes) (sym same) tied;
+  held = held_as old new old.links.items again (setup_by old new rest)
+      (subst (ArePooled old.max old.size old.links.items) (sym pool) held.pooled)
+      (subst (λ (ls : List (Option Lease)). AreKnown ls new.tickets old.links.items (connections new.pool)) (sym (ap (λ (p : Player E S). p.leases) rest))
+      (subst (λ (ts : List (Option Ticket)). AreKnown old.leases ts old.links.items (connections new.pool)) (sym (ap (λ (p : Player E S). p.tickets) rest))
+      (subst (λ (p : PoolState). AreKnown old.leases old.tickets old.links.items (connections p)) (sym pool) held.known)));
+  count = ap length again;
+  rest = rest;
+  tells = λ t. t;
+  sound = λ sound. subst (λ (ls : List (Seated E S)). LiveAreSound ls pipes) (sym same) sound;
+  reads = λ size so_far all. subst (λ (ls : List (Seated E S)). AllRead size ls pipes so_far) (sym same) all;
+  failed = λ n call. refl;
+}
+  where
+    again : new.links.items ≡ old.links.items
+    again = links ∙ set_again old.links.items place h (read_at old.links.items place h there is)
+
+    same : all_of new ≡ all_of old
+    same = unmoved place old new h there is links pool
 
 pub still_cut : {E S : Type 0} (place : ℕ) (player : Player E S) (h : Held E S) (pipes : ℕ → Option Pipe) → AreTied (all_of player) pipes → place < length player.links.items → h ≡ get_or player.links.items place h → h.link.is_cut ≡ true
     → (size : ℕ) (engine : E) (cs : List Connection) (c : Connection) → slice_get cs place ≡ Some c → RepresentConnections 1 size engine (all_of player) pipes cs → RepresentConnections 1 size engine (all_of player) pipes (put place (cut c) cs)
@@ -157,12 +171,31 @@ still_cut {E} {S} place player h pipes tied there is cut_there size engine cs c 
 
 -- ---- All of them are cut
 
-get_elsewhere : {A : Type 0} (xs : List A) (place i : ℕ) (x : A) → i ≢ place → slice_get (slice_set xs place x) i ≡ slice_get xs i
-get_elsewhere [] place i x other = refl
-get_elsewhere (y ∷ ys) zero zero x other = absurd (other refl)
-get_elsewhere (y ∷ ys) zero (suc i) x other = refl
-get_elsewhere (y ∷ ys) (suc place) zero x other = refl
-get_elsewhere (y ∷ ys) (suc place) (suc i) x other = get_elsewhere ys place i x (λ e. other (ap suc e))
+-- Some are, and then others.
+pub cuts_more : {E S : Type 0} (old mid new : Player E S) (pipes between pipes' : ℕ → Option Pipe) (told so_far still : Type 0) → CutsSome old mid pipes between told so_far → CutsSome mid new between pipes' so_far still → CutsSome old new pipes pipes' told still
+cuts_more {E} {S} old mid new pipes between pipes' told so_far still some more = record {
+  tied = more.tied;
+  held = more.held;
+  count = more.count ∙ some.count;
+  rest = more.rest ∙ ap (λ (p : Player E S). record p { links = new.links; pool = new.pool }) some.rest;
+  tells = λ t. more.tells (some.tells t);
+  sound = λ sound. more.sound (some.sound sound);
+  reads = λ size answers all. more.reads size answers (some.reads size answers all);
+  failed = λ n call. more.failed n call ∙ some.failed n call;
+}
+
+-- None is.
+pub cuts_none : {E S : Type 0} (player : Player E S) (pipes : ℕ → Option Pipe) (told : Type 0) → AreTied (all_of player) pipes → AreHeld player → CutsSome player player pipes pipes told told
+cuts_none player pipes told tied held = record {
+  tied = tied;
+  held = held;
+  count = refl;
+  rest = refl;
+  tells = λ t. t;
+  sound = λ sound. sound;
+  reads = λ size answers all. all;
+  failed = λ n call. refl;
+}
 
 -- The next one is.
 pub one_more_cut : {E S : Type 0} (place then : ℕ) (old new : Player E S) → CutsAt place old new → then ≡ suc place → AreCutTo place old.links.items → AreCutTo then new.links.items

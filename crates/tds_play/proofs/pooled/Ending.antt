@@ -8,28 +8,25 @@ use Rattle.tds_pool.specs.Connections as pool
 use Rattle.tds_pool.specs.Connections.{PoolState, connections, numbered, taken_out}
 use Rattle.tds_pool.specs.declared.lease.Lease.{Lease}
 use Rattle.tds_pool.specs.declared.lease.Ticket.{Ticket}
-use Rattle.tds_world.specs.declared.event.Event.{Event}
 use Rattle.tds_world.specs.declared.event.Event.TheVariants as event
 use Rattle.tds_world.specs.declared.outcome.Outcome.{Outcome}
 use Rattle.tds_world.specs.declared.outcome.Outcome.TheVariants as outcome
 use Rattle.tds_world.specs.declared.outcome.Refusal.{Refusal}
-use Rattle.tds_world.specs.Losses.{Failed, Loss, Nothing, bringing, met}
+use Rattle.tds_world.specs.Losses.{Failed, Loss, Nothing, met}
 use Rattle.tds_world.specs.World as world
-use Rattle.tds_play.specs.declared.link.Link.{Link}
 use Rattle.tds_play.specs.declared.player.Player.{Player}
 use Rattle.tds_play.specs.declared.seat.Held.{Held}
 use Rattle.tds_play.specs.Holdings.{ended_of}
-use Rattle.tds_play.specs.Pipe.{Pipe}
-use Rattle.tds_play.specs.Player.{AreHeld, all_of}
+use Rattle.tds_play.specs.Player.{AreHeld}
 use Rattle.tds_play.specs.Pooled.{AreKnown, ArePooled, IsThere, Spares, numbers_kept, numbers_leased}
 use Rattle.tds_play.specs.Steps.{GrowsByOne, IsNoted, SameSetup}
-use Rattle.tds_play.specs.Ties.{AreTied}
-use Rattle.tds_play.proofs.pooled.Acted.{pooled_by, there_at}
+use Rattle.tds_play.proofs.pooled.Acted.{pooled_by}
 use Rattle.tds_play.proofs.pooled.Begun.{lease_ended, ticket_ended}
 use Rattle.tds_play.proofs.pooled.Changes.{SameBut}
 use Rattle.tds_play.proofs.pooled.Ended.{numbers_ended}
 use Rattle.tds_play.proofs.pooled.Given.{lease_known, ticket_known}
-use Rattle.tds_play.proofs.pooled.Unseen.{IsSlot, as_long, held_as, set_here}
+use Rattle.tds_play.proofs.pooled.Slots.{set_here}
+use Rattle.tds_play.proofs.pooled.Unseen.{IsSlot, as_long, held_as}
 
 -- ---- Before it ends
 

@@ -1,5 +1,5 @@
 -- Which connection an event is about: that of its lease, of its ticket, or the one that it names.
-use Rattle.std.proofs.Common.{◌≡◌, ◌∙◌, ◌⊎◌, inl, inr, ℕ, List, length, map, Option, refl, sym, ap}
+use Rattle.std.proofs.Common.{◌≡◌, ◌∙◌, ◌⊎◌, inl, inr, ℕ, List, length, map, Option, ap}
 use Rattle.std.proofs.lemmas.List.{length-map}
 use Rattle.tds_request.specs.declared.request.Request.{Request}
 use Rattle.tds_world.specs.declared.event.Event.{Event}

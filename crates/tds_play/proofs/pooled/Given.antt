@@ -1,7 +1,6 @@
 -- What the pool answers for the leases and tickets of a play: those of a connection that isn't cut are known, and
 -- those of one that is cut are not.
 use Rattle.std.proofs.Common.{◌≡◌, ◌∙◌, ℕ, suc, Bool, true, false, List, Option, Some, None, ap, cond}
-use Rattle.std.proofs.Math.Dec.{eqb}
 use Rattle.std.proofs.lemmas.Bool.{eq-eqb}
 use Rattle.std.specs.List.{slice_get}
 use Rattle.std.specs.Prelude.{◌==◌, ◌&&◌}

@@ -1,40 +1,34 @@
 -- A lease that becomes a ticket on its connection, a ticket that becomes a lease, and those that don't.
-use Rattle.std.proofs.Common.{◌≡◌, ◌∙◌, ℕ, zero, suc, ◌+◌, ◌≤◌, min, List, [], ◌∷◌, ◌++◌, length, length-append, Option, Some, None, Bool, true, false, refl, sym, ap, subst, arith, map}
-use Rattle.std.proofs.lemmas.List.{length-map, length-set}
+use Rattle.std.proofs.Common.{◌≡◌, ◌∙◌, ℕ, suc, ◌≤◌, min, List, [], ◌∷◌, ◌++◌, length, Option, Some, None, Bool, true, false, refl, sym, ap, subst, arith}
+use Rattle.std.proofs.lemmas.List.{length-set}
 use Rattle.std.specs.List.{slice_get}
 use Rattle.std.specs.Prelude.{option_map, slice_set}
-use Rattle.tds_client.specs.Session.{ClientSession, marked}
+use Rattle.tds_client.specs.Session.{ClientSession}
 use Rattle.tds_ends.specs.Stays.{PoolIsUnseen, RefinesIdle}
-use Rattle.tds_packet.specs.declared.kind.Direction.{Direction}
-use Rattle.tds_packet.specs.declared.status.Reset.{Reset}
-use Rattle.tds_packet.specs.declared.status.Reset.TheVariants.{KeepTransaction}
 use Rattle.tds_session.specs.Answer.{Answers}
-use Rattle.tds_pool.specs.Calls.{all_numbers, kept_for, lent_again, lent_to, refuses_keep, refuses_resume, unless_open}
+use Rattle.tds_pool.specs.Calls.{lent_to, refuses_keep, unless_open}
 use Rattle.tds_pool.specs.Connections as pool
 use Rattle.tds_pool.specs.Connections.{PoolState, SameRest, at_place, connections, numbered}
 use Rattle.tds_pool.specs.declared.answers.PoolRefusal.{PoolRefusal}
 use Rattle.tds_pool.specs.declared.lease.Lease.{Lease}
 use Rattle.tds_pool.specs.declared.lease.Ticket.{Ticket}
 use Rattle.tds_pool.specs.declared.seat.Place.TheVariants as pooled
-use Rattle.tds_world.specs.declared.event.Event.{Event}
 use Rattle.tds_world.specs.declared.event.Event.TheVariants as event
 use Rattle.tds_world.specs.declared.event.Setup.{Setup}
 use Rattle.tds_world.specs.declared.outcome.Outcome.TheVariants as outcome
 use Rattle.tds_world.specs.declared.outcome.Refusal.{Refusal}
 use Rattle.tds_world.specs.declared.outcome.Refusal.TheVariants as refusals
-use Rattle.tds_world.specs.declared.report.Place.{Place}
 use Rattle.tds_world.specs.declared.report.Place.TheVariants as places
-use Rattle.tds_world.specs.Connection.{Connection, In}
+use Rattle.tds_world.specs.Connection.{Connection}
 use Rattle.tds_world.specs.World.{World, next_number}
 use Rattle.tds_play.specs.declared.link.EventDone.{EventDone}
-use Rattle.tds_play.specs.declared.link.Link.{Link}
 use Rattle.tds_play.specs.declared.player.Player.{Player}
 use Rattle.tds_play.specs.declared.seat.Held.{Held}
 use Rattle.tds_play.specs.Holdings.{ended_of}
 use Rattle.tds_play.specs.Pipe.{Pipe}
 use Rattle.tds_play.specs.Player.{AreHeld, ModelGivesEach, RepresentsWorld, all_of}
-use Rattle.tds_play.specs.Plays.{IsReady, RepresentsConnection, acts_on, held_by}
-use Rattle.tds_play.specs.Pooled.{AreKnown, ArePooled, keeps_not, numbers_in, numbers_kept, numbers_leased, seat_by, seat_in}
+use Rattle.tds_play.specs.Plays.{IsReady, RepresentsConnection, acts_on}
+use Rattle.tds_play.specs.Pooled.{AreKnown, keeps_not, numbers_kept, numbers_leased, seat_by, seat_in}
 use Rattle.tds_play.specs.Seats.{Seat, placed_at, unless_kept}
 use Rattle.tds_play.specs.Seen.{done_as}
 use Rattle.tds_play.specs.Steps.{AreFew, GrowsByOne, IsNoted, SameSetup, StepsAt}
@@ -42,12 +36,11 @@ use Rattle.tds_play.specs.Ties.{AreTied}
 use Rattle.tds_play.proofs.Acting.{by_event, cut_alike, event_at, stands_in}
 use Rattle.tds_play.proofs.Placed.{DoesWhole, kept_alike}
 use Rattle.tds_play.proofs.pooled.Begun.{lease_ended, ticket_begun}
-use Rattle.tds_play.proofs.pooled.Changes.{SameBut, changed_here, changed_numbers, changed_others}
 use Rattle.tds_play.proofs.pooled.Ended.{numbers_ended}
 use Rattle.tds_play.proofs.pooled.Given.{IsLent, lease_known}
-use Rattle.tds_play.proofs.pooled.Kept.{pooled_link, pooled_pool}
-use Rattle.tds_play.proofs.pooled.Unseen.{IsSlot, as_long, first_next, held_as, number_at, one_longer, quiet_steps, refused_steps, set_here}
-use Rattle.tds_play.proofs.pooled.Slots.{numbers_pushed}
+use Rattle.tds_play.proofs.pooled.InPlace.{ChangesInPlace, changes_in_place, next_ticket}
+use Rattle.tds_play.proofs.pooled.Unseen.{IsSlot, as_long, first_next, held_as, number_at, one_longer, quiet_steps, refused_steps}
+use Rattle.tds_play.proofs.pooled.Slots.{numbers_pushed, set_here}
 use Rattle.tds_play.proofs.pooled.Unkept.{unkept_alike}
 
 -- ---- A lease that is kept
@@ -83,15 +76,12 @@ pub keeps_steps : {E S : Type 0} (answers : E → Answers) → PoolIsUnseen E �
     → AreTied (all_of old) pipes
     → StepsAt answers (event.Keep number) place old new pipes pipes (Unit {0}) (Unit {0}) done
 keeps_steps {E} {S} answers unseen waits place number next old new h k lease ticket pipes done held few at slot is_next gives links leases tickets asked setup_same is tied =
-    quiet_steps answers (event.Keep number) place old new h k pipes done tied at gives.link (ap (λ (d : EventDone). d.lost) is) (λ d. refl) links others columns
-    (held_as old new (slice_set old.links.items place k) links setup_same still_pooled still_known)
+    quiet_steps answers (event.Keep number) place old new h k pipes done tied at gives.link (ap (λ (d : EventDone). d.lost) is) (λ d. refl) links changes.others changes.columns
+    (held_as old new (slice_set old.links.items place k) links setup_same changes.pooled still_known)
     setup_same grows noted acts
   where
     number_is : h.link.number ≡ suc place
     number_is = number_at old place h pipes tied at
-
-    here_number : k.link.number ≡ suc place
-    here_number = ap (λ (l : Link E S). l.number) gives.link ∙ number_is
 
     lent : IsLent lease (connections old.pool)
     lent = lease_known old.max old.size slot.slot place old.leases old.tickets lease old.links.items h old.pool held.pooled held.known slot.at slot.conn_is at gives.live
@@ -102,26 +92,8 @@ keeps_steps {E} {S} answers unseen waits place number next old new h k lease tic
     moved : connections new.pool ≡ at_place (suc place) pooled.Kept (connections old.pool)
     moved = gives.shown ∙ ap (λ (n : ℕ). at_place n pooled.Kept (connections old.pool)) slot.conn_is
 
-    others : SameBut (suc place) (connections old.pool) (connections new.pool)
-    others m other = ap (numbered m) moved ∙ changed_others (suc place) keeps (connections old.pool) (λ d. refl) m other
-
-    now : numbered (suc place) (connections new.pool) ≡ Some (keeps lent.connection)
-    now = ap (numbered (suc place)) moved ∙ changed_here (suc place) keeps (connections old.pool) (λ d. refl) ∙ ap (option_map keeps) there
-
-    seat_was : seat_in h old.pool ≡ seat_by h.holder (Some lent.connection)
-    seat_was = ap (λ (n : ℕ). seat_by h.holder (numbered n (connections old.pool))) number_is ∙ ap (seat_by h.holder) there
-
-    seat_now : seat_in k new.pool ≡ seat_by k.holder (Some (keeps lent.connection))
-    seat_now = ap (λ (n : ℕ). seat_by k.holder (numbered n (connections new.pool))) here_number ∙ ap (seat_by k.holder) now
-
-    columns : (seat_in k new.pool).client.columns ≡ (seat_in h old.pool).client.columns
-    columns = ap (λ (x : Seat). x.client.columns) seat_now ∙ sym (ap (λ (x : Seat). x.client.columns) seat_was)
-
-    still_pooled : ArePooled old.max old.size (slice_set old.links.items place k) new.pool
-    still_pooled =
-        pooled_link old.max old.size place old.links.items h k new.pool
-        (pooled_pool old.max old.size old.links.items old.pool new.pool held.pooled (ap all_numbers moved ∙ changed_numbers (suc place) keeps (connections old.pool) (λ d. refl)) gives.rest)
-        at (ap (λ (l : Link E S). l.is_cut) gives.link)
+    changes : ChangesInPlace place lent.connection (keeps lent.connection) old new h k
+    changes = changes_in_place place keeps lent.connection old new h k (λ d. refl) refl number_is gives.link at held there moved gives.rest
 
     holder_is : k.holder ≡ suc (length old.tickets)
     holder_is = gives.holder ∙ first_next (length old.tickets) next 9999 is_next few.tickets_few (omega arith)
@@ -133,12 +105,12 @@ keeps_steps {E} {S} answers unseen waits place number next old new h k lease tic
     slots = leases ∙ ap (ended_of old.leases) slot.is
 
     ended : AreKnown (slice_set old.leases slot.slot None) old.tickets (slice_set old.links.items place k) (connections new.pool)
-    ended = lease_ended old.max old.size place slot.slot old.leases old.tickets lease old.links.items h k old.pool (connections new.pool) held.pooled held.known slot.at slot.conn_is at others not_cut
+    ended = lease_ended old.max old.size place slot.slot old.leases old.tickets lease old.links.items h k old.pool (connections new.pool) held.pooled held.known slot.at slot.conn_is at changes.others not_cut
 
     begun : AreKnown (slice_set old.leases slot.slot None) (old.tickets ++ Some ticket ∷ []) (slice_set old.links.items place k) (connections new.pool)
     begun =
         ticket_begun place (slice_set old.leases slot.slot None) old.tickets ticket (slice_set old.links.items place k) k (connections new.pool) (keeps lent.connection) ended
-        (set_here old.links.items place h k at) holder_is (gives.number ∙ slot.conn_is) now (lent.key_is ∙ sym gives.key) refl
+        (set_here old.links.items place h k at) holder_is (gives.number ∙ slot.conn_is) changes.there (lent.key_is ∙ sym gives.key) refl
 
     still_known : AreKnown new.leases new.tickets (slice_set old.links.items place k) (connections new.pool)
     still_known =
@@ -169,15 +141,14 @@ keeps_steps {E} {S} answers unseen waits place number next old new h k lease tic
         → (h.link.is_cut ≡ false → IsReady (event.Keep number) c)
         → DoesWhole h.link.number setup.packet_size engine done h.link (seat_in k new.pool) (pipes h.link.number) (acts_on setup (answers engine) w (event.Keep number) h.link.number c) c
     acts setup engine w c world promised played ready =
-        let many : length old.tickets ≡ length w.tickets = sym (length-map old.tickets (option_map (λ (t : Ticket). t.number))) ∙ ap length world.tickets ∙ length-map w.tickets held_by in
-        let told : next ≡ next_number w.tickets = first_next (length old.tickets) next 9999 is_next few.tickets_few (omega arith) ∙ ap suc many in
+        let told : next ≡ next_number w.tickets = next_ticket setup engine old pipes w next world few is_next in
         let unrefused : unless_kept (seat_in h old.pool).client ≡ None =
-        ap (λ (x : Seat). unless_kept x.client) seat_was
+        ap (λ (x : Seat). unless_kept x.client) changes.seat_was
         ∙ open_none lent.connection.client (sym (ap refuses_keep lent.known) ∙ gives.allowed) in
         let stands : seat_in k new.pool ≡ placed_at (places.Kept (next_number w.tickets)) (seat_in h old.pool) =
-        seat_now
+        changes.seat_now
         ∙ ap (λ (n : ℕ). seat_by n (Some (keeps lent.connection))) (gives.holder ∙ told)
-        ∙ sym (ap (placed_at (places.Kept (next_number w.tickets))) seat_was) in
+        ∙ sym (ap (placed_at (places.Kept (next_number w.tickets))) changes.seat_was) in
         by_event h.link.number setup.packet_size engine done h.link (seat_in k new.pool) (pipes h.link.number) c _ _
         (event_at setup (answers engine) w (event.Keep number) (event.Keep number) h.link.number c (seat_in h old.pool).place (stands_in h.link.number setup.packet_size engine h.link (seat_in h old.pool) (pipes h.link.number) c played gives.live) refl)
         (kept_alike unseen waits h.link.number setup.packet_size (next_number w.tickets) engine h.link (seat_in h old.pool) (seat_in k new.pool) (pipes h.link.number) c done played gives.live

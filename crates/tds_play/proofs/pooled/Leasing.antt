@@ -1,6 +1,6 @@
 -- The pool lends a connection: what a player makes of it, where it is lent again, where it is new, and where it is
 -- refused.
-use Rattle.std.proofs.Common.{◌≡◌, ◌≢◌, ◌∙◌, ℕ, zero, suc, ◌+◌, ◌<◌, ◌≤◌, min, List, [], ◌∷◌, ◌++◌, length, map, Option, Some, None, Bool, true, false, refl, sym, ap, subst, cond, arith}
+use Rattle.std.proofs.Common.{◌≡◌, ◌≢◌, ◌∙◌, ℕ, suc, ◌<◌, ◌≤◌, min, List, [], ◌∷◌, ◌++◌, length, map, Option, Some, None, Bool, true, false, refl, sym, ap, subst, cond, arith}
 use Rattle.std.proofs.Math.Dec.{ltb}
 use Rattle.std.proofs.lemmas.Bool.Decides.{nat_tests}
 use Rattle.std.proofs.lemmas.Option.{slice_get_within}
@@ -13,7 +13,7 @@ use Rattle.tds_packet.specs.declared.kind.Direction.TheVariants.{ToClient}
 use Rattle.tds_session.specs.Answer.{Answers}
 use Rattle.tds_pool.specs.Calls.{IsRefusal, all_numbers, lent_next, refuses_new}
 use Rattle.tds_pool.specs.Connections as pool
-use Rattle.tds_pool.specs.Connections.{PoolState, SameRest, connections, numbered}
+use Rattle.tds_pool.specs.Connections.{PoolState, SameRest, connections}
 use Rattle.tds_pool.specs.declared.answers.PoolRefusal.{PoolRefusal}
 use Rattle.tds_pool.specs.declared.answers.PoolRefusal.TheVariants as refusals
 use Rattle.tds_pool.specs.declared.lease.Lease.{Lease}
@@ -29,7 +29,6 @@ use Rattle.tds_world.specs.declared.outcome.Outcome.TheVariants as outcome
 use Rattle.tds_world.specs.declared.outcome.Refusal.TheVariants.{AllInUse}
 use Rattle.tds_world.specs.declared.report.Place.TheVariants.{Leased}
 use Rattle.tds_play.specs.declared.link.EventDone.{EventDone}
-use Rattle.tds_play.specs.declared.link.Link.{Link}
 use Rattle.tds_play.specs.declared.player.Player.{Player}
 use Rattle.tds_play.specs.declared.seat.Held.{Held}
 use Rattle.tds_play.specs.Lending.{Missing, Opens as OpensOne, standing_of, lent as lent_of}
@@ -37,7 +36,7 @@ use Rattle.tds_play.specs.Noted.{about_of}
 use Rattle.tds_play.specs.Pipe.{Pipe, traffic}
 use Rattle.tds_play.specs.Player.{AreHeld, RepresentsWorld, all_of}
 use Rattle.tds_play.specs.Plays.{RepresentsConnection, cut_where}
-use Rattle.tds_play.specs.Pooled.{AreKnown, numbers_kept, numbers_leased, seated_from}
+use Rattle.tds_play.specs.Pooled.{AreKnown, numbers_kept, numbers_leased}
 use Rattle.tds_play.specs.Reads.{IsReading, given_by}
 use Rattle.tds_play.specs.Seats.{Seat, seated}
 use Rattle.tds_play.specs.Seen.{done_as}

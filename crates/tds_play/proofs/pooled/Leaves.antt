@@ -1,11 +1,10 @@
 -- A call of the pool about one connection leaves the others as they are, and this one is in the pool still, or is
 -- taken out.
-use Rattle.std.proofs.Common.{◌≡◌, ◌≢◌, ◌∙◌, ◌⊎◌, inl, inr, ℕ, Bool, true, false, List, [], ◌∷◌, Option, Some, None, refl, sym, ap, subst, cond}
-use Rattle.std.proofs.Math.Dec.{eqb}
+use Rattle.std.proofs.Common.{◌≡◌, ◌∙◌, ◌⊎◌, inl, inr, ℕ, Bool, true, false, List, [], ◌∷◌, Option, Some, None, refl, sym, ap, subst, cond}
 use Rattle.std.specs.Prelude.{IsSome, option_map}
 use Rattle.tds_client.specs.Sending.{cancelled}
 use Rattle.tds_client.specs.Session.{ClientSession, Stage, Idle, Sending, Reading, Cancelling, Broken}
-use Rattle.tds_pool.specs.Calls.{Returned, abandoned, all_numbers, given_back, is_broken, is_draining, is_idle, is_kept, is_leased, kept_for, lent_to, only, put_back, rested, rests_at, session_behind, standing}
+use Rattle.tds_pool.specs.Calls.{Returned, abandoned, all_numbers, given_back, is_broken, is_draining, is_kept, is_leased, kept_for, lent_to, only, put_back, rested, rests_at, session_behind, standing}
 use Rattle.tds_pool.specs.Calls as calls
 use Rattle.tds_pool.specs.Connections.{Connection, at_place, changed, numbered, taken_out, with_client}
 use Rattle.tds_pool.specs.declared.answers.GivenBack.{GivenBack}

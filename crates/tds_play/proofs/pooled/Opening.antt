@@ -1,7 +1,7 @@
 -- A new connection that the pool lends, and that is opened: what the player keeps.
-use Rattle.std.proofs.Common.{◌≡◌, ◌∙◌, ℕ, zero, suc, ◌+◌, ◌<◌, ◌≤◌, min, List, [], ◌∷◌, ◌++◌, length, length-append, Option, Some, None, Bool, true, false, refl, sym, ap, subst, arith}
+use Rattle.std.proofs.Common.{◌≡◌, ◌∙◌, ℕ, suc, ◌≤◌, min, List, [], ◌∷◌, ◌++◌, length, Option, Some, None, Bool, true, false, refl, sym, ap, subst, arith}
 use Rattle.std.specs.List.{slice_get}
-use Rattle.std.specs.Prelude.{IfNone, IfSome, option_map}
+use Rattle.std.specs.Prelude.{IfNone, IfSome}
 use Rattle.tds_client.specs.Session.{new_session}
 use Rattle.tds_packet.specs.declared.kind.Direction.{Direction}
 use Rattle.tds_packet.specs.declared.status.Reset.TheVariants.{Full}
@@ -21,14 +21,13 @@ use Rattle.tds_pool.specs.Connections as pool
 use Rattle.tds_pool.specs.Connections.{PoolState, SameRest, connections, numbered, taken_out}
 use Rattle.tds_pool.specs.declared.lease.Lease.{Lease}
 use Rattle.tds_pool.specs.declared.lease.Ticket.{Ticket}
-use Rattle.tds_pool.specs.declared.seat.Place.TheVariants as pooled
 use Rattle.tds_world.specs.declared.report.Place.TheVariants.{Leased}
 use Rattle.tds_play.specs.declared.link.Link.{Link}
 use Rattle.tds_play.specs.declared.player.Player.{Player}
 use Rattle.tds_play.specs.declared.seat.Held.{Held}
 use Rattle.tds_play.specs.Player.{AreHeld, all_of}
-use Rattle.tds_play.specs.Pooled.{AreKnown, ArePooled, IsGone, numbers_kept, numbers_leased, seated_from, seated_in}
-use Rattle.tds_play.specs.Seats.{Seat, Seated, seated}
+use Rattle.tds_play.specs.Pooled.{AreKnown, IsGone, numbers_kept, numbers_leased, seated_from, seated_in}
+use Rattle.tds_play.specs.Seats.{Seat, seated}
 use Rattle.tds_play.specs.Steps.{AreFew, GrowsByOne, HoldsBy, OpensAs, SameSetup}
 use Rattle.tds_play.proofs.pooled.Begun.{lease_begun, lease_begun_lost}
 use Rattle.tds_play.proofs.pooled.Changes.{added_here, added_others, taken_added}

@@ -1,5 +1,5 @@
 -- A restart: what a player is once each of its connections is cut, and once all leases and tickets have ended.
-use Rattle.std.proofs.Common.{◌≡◌, ◌∙◌, ℕ, zero, suc, List, [], ◌∷◌, length, replicate, Option, Some, None, refl, sym, ap, subst}
+use Rattle.std.proofs.Common.{◌≡◌, ◌∙◌, ℕ, zero, suc, List, [], ◌∷◌, length, replicate, Option, Some, None, refl, sym, ap}
 use Rattle.std.specs.List.{slice_get}
 use Rattle.tds_pool.specs.Calls.{all_numbers}
 use Rattle.tds_pool.specs.Connections.{SameRest, connections}

@@ -1,41 +1,35 @@
 -- A ticket that becomes a lease on its connection, and one that doesn't.
-use Rattle.std.proofs.Common.{◌≡◌, ◌∙◌, ℕ, zero, suc, ◌+◌, ◌≤◌, min, List, [], ◌∷◌, ◌++◌, length, length-append, Option, Some, None, Bool, true, false, refl, sym, ap, subst, arith, map}
-use Rattle.std.proofs.lemmas.List.{length-map, length-set}
+use Rattle.std.proofs.Common.{◌≡◌, ◌∙◌, ℕ, suc, ◌≤◌, min, List, [], ◌∷◌, ◌++◌, length, Option, Some, None, Bool, true, false, refl, sym, ap, subst, arith}
+use Rattle.std.proofs.lemmas.List.{length-set}
 use Rattle.std.specs.List.{slice_get}
-use Rattle.std.specs.Prelude.{option_map, slice_set}
-use Rattle.tds_client.specs.Session.{Broken, Cancelling, ClientSession, Idle, Reading, Sending, Stage, marked, unless_idle}
+use Rattle.std.specs.Prelude.{slice_set}
+use Rattle.tds_client.specs.Session.{Broken, Cancelling, Idle, Reading, Sending, Stage, marked, unless_idle}
 use Rattle.tds_ends.specs.Stays.{PoolIsUnseen, RefinesIdle}
-use Rattle.tds_packet.specs.declared.kind.Direction.{Direction}
-use Rattle.tds_packet.specs.declared.status.Reset.{Reset}
 use Rattle.tds_packet.specs.declared.status.Reset.TheVariants.{KeepTransaction}
 use Rattle.tds_session.specs.Answer.{Answers}
-use Rattle.tds_pool.specs.Calls.{all_numbers, kept_for, lent_again, refuses_resume}
+use Rattle.tds_pool.specs.Calls.{kept_for, lent_again, refuses_resume}
 use Rattle.tds_pool.specs.Calls as calls
 use Rattle.tds_pool.specs.Connections as pool
 use Rattle.tds_pool.specs.Connections.{PoolState, SameRest, connections, numbered}
 use Rattle.tds_pool.specs.declared.lease.Lease.{Lease}
 use Rattle.tds_pool.specs.declared.lease.Ticket.{Ticket}
 use Rattle.tds_pool.specs.declared.seat.Place.TheVariants as pooled
-use Rattle.tds_world.specs.declared.event.Event.{Event}
 use Rattle.tds_world.specs.declared.event.Event.TheVariants as event
 use Rattle.tds_world.specs.declared.event.Setup.{Setup}
 use Rattle.tds_world.specs.declared.outcome.Opened.TheVariants as opened
 use Rattle.tds_world.specs.declared.outcome.Outcome.TheVariants as outcome
 use Rattle.tds_world.specs.declared.outcome.Refusal.{Refusal}
 use Rattle.tds_world.specs.declared.outcome.Refusal.TheVariants as refusals
-use Rattle.tds_world.specs.declared.report.Place.{Place}
-use Rattle.tds_world.specs.declared.report.Place.TheVariants as places
-use Rattle.tds_world.specs.Connection.{Connection, In}
+use Rattle.tds_world.specs.Connection.{Connection}
 use Rattle.tds_world.specs.World.{World, next_number}
 use Rattle.tds_play.specs.declared.link.EventDone.{EventDone}
-use Rattle.tds_play.specs.declared.link.Link.{Link}
 use Rattle.tds_play.specs.declared.player.Player.{Player}
 use Rattle.tds_play.specs.declared.seat.Held.{Held}
 use Rattle.tds_play.specs.Holdings.{ended_of}
 use Rattle.tds_play.specs.Pipe.{Pipe}
 use Rattle.tds_play.specs.Player.{AreHeld, ModelGivesEach, RepresentsWorld, all_of}
-use Rattle.tds_play.specs.Plays.{IsReady, RepresentsConnection, acts_on, held_by}
-use Rattle.tds_play.specs.Pooled.{AreKnown, ArePooled, numbers_kept, numbers_leased, seat_by, seat_in}
+use Rattle.tds_play.specs.Plays.{IsReady, RepresentsConnection, acts_on}
+use Rattle.tds_play.specs.Pooled.{AreKnown, numbers_kept, numbers_leased, seat_by, seat_in}
 use Rattle.tds_play.specs.Seats.{Seat, lent_as}
 use Rattle.tds_play.specs.Seen.{done_as}
 use Rattle.tds_play.specs.Steps.{AreFew, GrowsByOne, IsNoted, SameSetup, StepsAt}
@@ -43,12 +37,11 @@ use Rattle.tds_play.specs.Ties.{AreTied}
 use Rattle.tds_play.proofs.Acting.{by_event, cut_alike, event_at, lent_alike, stands_in}
 use Rattle.tds_play.proofs.Placed.{DoesWhole, RefinesMarks, idle_unless}
 use Rattle.tds_play.proofs.pooled.Begun.{lease_begun, ticket_ended}
-use Rattle.tds_play.proofs.pooled.Changes.{SameBut, changed_here, changed_numbers, changed_others}
 use Rattle.tds_play.proofs.pooled.Ended.{numbers_ended}
 use Rattle.tds_play.proofs.pooled.Given.{IsKept, ticket_known}
-use Rattle.tds_play.proofs.pooled.Kept.{pooled_link, pooled_pool}
-use Rattle.tds_play.proofs.pooled.Unseen.{IsSlot, as_long, first_next, held_as, number_at, one_longer, quiet_steps, refused_steps, set_here}
-use Rattle.tds_play.proofs.pooled.Slots.{numbers_pushed}
+use Rattle.tds_play.proofs.pooled.InPlace.{ChangesInPlace, changes_in_place, next_lease}
+use Rattle.tds_play.proofs.pooled.Unseen.{IsSlot, as_long, first_next, held_as, number_at, one_longer, quiet_steps, refused_steps}
+use Rattle.tds_play.proofs.pooled.Slots.{numbers_pushed, set_here}
 
 -- ---- A ticket that is resumed
 
@@ -79,15 +72,12 @@ pub resumes_steps : {E S : Type 0} (answers : E → Answers) → PoolIsUnseen E 
     → AreTied (all_of old) pipes
     → StepsAt answers (event.Resume number) place old new pipes pipes (Unit {0}) (Unit {0}) done
 resumes_steps {E} {S} answers unseen waits marks place number next conn old new h k ticket lease pipes done held few at slot is_next is_conn gives links leases tickets asked setup_same is tied =
-    quiet_steps answers (event.Resume number) place old new h k pipes done tied at gives.link (ap (λ (d : EventDone). d.lost) is) (λ d. refl) links others columns
-    (held_as old new (slice_set old.links.items place k) links setup_same still_pooled still_known)
+    quiet_steps answers (event.Resume number) place old new h k pipes done tied at gives.link (ap (λ (d : EventDone). d.lost) is) (λ d. refl) links changes.others changes.columns
+    (held_as old new (slice_set old.links.items place k) links setup_same changes.pooled still_known)
     setup_same grows noted acts
   where
     number_is : h.link.number ≡ suc place
     number_is = number_at old place h pipes tied at
-
-    here_number : k.link.number ≡ suc place
-    here_number = ap (λ (l : Link E S). l.number) gives.link ∙ number_is
 
     kept : IsKept ticket (connections old.pool)
     kept = ticket_known old.max old.size slot.slot place old.leases old.tickets ticket old.links.items h old.pool held.pooled held.known slot.at slot.conn_is at gives.live
@@ -98,26 +88,8 @@ resumes_steps {E} {S} answers unseen waits marks place number next conn old new 
     moved : connections new.pool ≡ lent_again (suc place) KeepTransaction (connections old.pool)
     moved = gives.shown ∙ ap (λ (n : ℕ). lent_again n KeepTransaction (connections old.pool)) slot.conn_is
 
-    others : SameBut (suc place) (connections old.pool) (connections new.pool)
-    others m other = ap (numbered m) moved ∙ changed_others (suc place) lends (connections old.pool) (λ d. refl) m other
-
-    now : numbered (suc place) (connections new.pool) ≡ Some (lends kept.connection)
-    now = ap (numbered (suc place)) moved ∙ changed_here (suc place) lends (connections old.pool) (λ d. refl) ∙ ap (option_map lends) there
-
-    seat_was : seat_in h old.pool ≡ seat_by h.holder (Some kept.connection)
-    seat_was = ap (λ (n : ℕ). seat_by h.holder (numbered n (connections old.pool))) number_is ∙ ap (seat_by h.holder) there
-
-    seat_now : seat_in k new.pool ≡ seat_by k.holder (Some (lends kept.connection))
-    seat_now = ap (λ (n : ℕ). seat_by k.holder (numbered n (connections new.pool))) here_number ∙ ap (seat_by k.holder) now
-
-    columns : (seat_in k new.pool).client.columns ≡ (seat_in h old.pool).client.columns
-    columns = ap (λ (x : Seat). x.client.columns) seat_now ∙ sym (ap (λ (x : Seat). x.client.columns) seat_was)
-
-    still_pooled : ArePooled old.max old.size (slice_set old.links.items place k) new.pool
-    still_pooled =
-        pooled_link old.max old.size place old.links.items h k new.pool
-        (pooled_pool old.max old.size old.links.items old.pool new.pool held.pooled (ap all_numbers moved ∙ changed_numbers (suc place) lends (connections old.pool) (λ d. refl)) gives.rest)
-        at (ap (λ (l : Link E S). l.is_cut) gives.link)
+    changes : ChangesInPlace place kept.connection (lends kept.connection) old new h k
+    changes = changes_in_place place lends kept.connection old new h k (λ d. refl) refl number_is gives.link at held there moved gives.rest
 
     holder_is : k.holder ≡ suc (length old.leases)
     holder_is = gives.holder ∙ first_next (length old.leases) next 9999 is_next few.leases_few (omega arith)
@@ -132,12 +104,12 @@ resumes_steps {E} {S} answers unseen waits marks place number next conn old new 
     slots = tickets ∙ ap (ended_of old.tickets) slot.is
 
     ended : AreKnown old.leases (slice_set old.tickets slot.slot None) (slice_set old.links.items place k) (connections new.pool)
-    ended = ticket_ended old.max old.size place slot.slot old.leases old.tickets ticket old.links.items h k old.pool (connections new.pool) held.pooled held.known slot.at slot.conn_is at others not_cut
+    ended = ticket_ended old.max old.size place slot.slot old.leases old.tickets ticket old.links.items h k old.pool (connections new.pool) held.pooled held.known slot.at slot.conn_is at changes.others not_cut
 
     begun : AreKnown (old.leases ++ Some lease ∷ []) (slice_set old.tickets slot.slot None) (slice_set old.links.items place k) (connections new.pool)
     begun =
         lease_begun place old.leases (slice_set old.tickets slot.slot None) lease (slice_set old.links.items place k) k (connections new.pool) (lends kept.connection) ended
-        (set_here old.links.items place h k at) holder_is (gives.number ∙ slot.conn_is) now (kept.key_is ∙ sym gives.key) refl
+        (set_here old.links.items place h k at) holder_is (gives.number ∙ slot.conn_is) changes.there (kept.key_is ∙ sym gives.key) refl
 
     still_known : AreKnown new.leases new.tickets (slice_set old.links.items place k) (connections new.pool)
     still_known =
@@ -168,12 +140,11 @@ resumes_steps {E} {S} answers unseen waits marks place number next conn old new 
         → (h.link.is_cut ≡ false → IsReady (event.Resume number) c)
         → DoesWhole h.link.number setup.packet_size engine done h.link (seat_in k new.pool) (pipes h.link.number) (acts_on setup (answers engine) w (event.Resume number) h.link.number c) c
     acts setup engine w c world promised played ready =
-        let many : length old.leases ≡ length w.leases = sym (length-map old.leases (option_map (λ (l : Lease). l.number))) ∙ ap length world.leases ∙ length-map w.leases held_by in
-        let told : next ≡ next_number w.leases = first_next (length old.leases) next 9999 is_next few.leases_few (omega arith) ∙ ap suc many in
+        let told : next ≡ next_number w.leases = next_lease setup engine old pipes w next world few is_next in
         let stands : seat_in k new.pool ≡ lent_as next KeepTransaction (seat_in h old.pool) =
-        seat_now
+        changes.seat_now
         ∙ ap (λ (n : ℕ). seat_by n (Some (lends kept.connection))) gives.holder
-        ∙ sym (ap (lent_as next KeepTransaction) seat_was) in
+        ∙ sym (ap (lent_as next KeepTransaction) changes.seat_was) in
         by_event h.link.number setup.packet_size engine done h.link (seat_in k new.pool) (pipes h.link.number) c _ _
         (event_at setup (answers engine) w (event.Resume number) (event.Resume number) h.link.number c (seat_in h old.pool).place (stands_in h.link.number setup.packet_size engine h.link (seat_in h old.pool) (pipes h.link.number) c played gives.live) refl)
         (lent_alike unseen waits marks h.link.number setup.packet_size next (next_number w.leases) KeepTransaction opened.Resumed engine h.link (seat_in h old.pool) (seat_in k new.pool) (pipes h.link.number) c done played gives.live (ready gives.live) told

@@ -1,42 +1,33 @@
 -- A free connection that is lent again.
-use Rattle.std.proofs.Common.{◌≡◌, ◌∙◌, ℕ, zero, suc, ◌+◌, ◌≤◌, min, List, [], ◌∷◌, ◌++◌, length, length-append, Option, Some, None, Bool, true, false, refl, sym, ap, subst, arith, map}
-use Rattle.std.proofs.lemmas.List.{length-map, length-set}
+use Rattle.std.proofs.Common.{◌≡◌, ◌∙◌, ℕ, suc, ◌≤◌, min, List, [], ◌∷◌, ◌++◌, length, Option, Some, None, Bool, true, false, refl, sym, ap, subst, arith, map}
+use Rattle.std.proofs.lemmas.List.{length-set}
 use Rattle.std.specs.List.{slice_get}
-use Rattle.std.specs.Prelude.{option_map, slice_set}
-use Rattle.tds_client.specs.Session.{Broken, Cancelling, ClientSession, Idle, Reading, Sending, Stage, marked, unless_idle}
+use Rattle.std.specs.Prelude.{slice_set}
+use Rattle.tds_client.specs.Session.{marked}
 use Rattle.tds_ends.specs.Stays.{PoolIsUnseen, RefinesIdle}
-use Rattle.tds_packet.specs.declared.kind.Direction.{Direction}
-use Rattle.tds_packet.specs.declared.status.Reset.{Reset}
 use Rattle.tds_packet.specs.declared.status.Reset.TheVariants.{Full}
 use Rattle.tds_session.specs.Answer.{Answers}
-use Rattle.tds_pool.specs.Calls.{all_numbers, lent_again, lent_next}
+use Rattle.tds_pool.specs.Calls.{lent_again, lent_next}
 use Rattle.tds_pool.specs.Calls as calls
 use Rattle.tds_pool.specs.Connections as pool
 use Rattle.tds_pool.specs.Connections.{PoolState, SameRest, connections, numbered}
 use Rattle.tds_pool.specs.declared.lease.Lease.{Lease}
 use Rattle.tds_pool.specs.declared.lease.Ticket.{Ticket}
 use Rattle.tds_pool.specs.declared.seat.Place.TheVariants as pooled
-use Rattle.tds_world.specs.declared.event.Event.{Event}
 use Rattle.tds_world.specs.declared.event.Event.TheVariants as event
 use Rattle.tds_world.specs.declared.event.Setup.{Setup}
 use Rattle.tds_world.specs.declared.outcome.Opened.TheVariants as opened
 use Rattle.tds_world.specs.declared.outcome.Outcome.TheVariants as outcome
-use Rattle.tds_world.specs.declared.outcome.Refusal.{Refusal}
-use Rattle.tds_world.specs.declared.outcome.Refusal.TheVariants as refusals
-use Rattle.tds_world.specs.declared.report.Place.{Place}
-use Rattle.tds_world.specs.declared.report.Place.TheVariants as places
-use Rattle.tds_world.specs.Connection.{Connection, In}
+use Rattle.tds_world.specs.Connection.{Connection}
 use Rattle.tds_world.specs.World.{World, next_number}
 use Rattle.tds_play.specs.declared.link.EventDone.{EventDone}
-use Rattle.tds_play.specs.declared.link.Link.{Link}
 use Rattle.tds_play.specs.declared.player.Player.{Player}
 use Rattle.tds_play.specs.declared.seat.Held.{Held}
-use Rattle.tds_play.specs.Holdings.{ended_of}
 use Rattle.tds_play.specs.Pipe.{Pipe}
 use Rattle.tds_play.specs.Player.{AreHeld, ModelGivesEach, RepresentsWorld, all_of}
-use Rattle.tds_play.specs.Plays.{IsReady, RepresentsConnection, acts_on, held_by}
-use Rattle.tds_play.specs.Pooled.{AreKnown, ArePooled, numbers_kept, numbers_leased, seat_by, seat_in}
-use Rattle.tds_play.specs.Seats.{Seat, lent_as}
+use Rattle.tds_play.specs.Plays.{IsReady, RepresentsConnection, acts_on}
+use Rattle.tds_play.specs.Pooled.{AreKnown, numbers_kept, numbers_leased, seat_by, seat_in}
+use Rattle.tds_play.specs.Seats.{lent_as}
 use Rattle.tds_play.specs.Seen.{done_as}
 use Rattle.tds_play.specs.Steps.{AreFew, GrowsByOne, IsNoted, SameSetup, StepsAt}
 use Rattle.tds_play.specs.Ties.{AreTied}
@@ -45,13 +36,13 @@ use Rattle.tds_play.specs.Lending.{Here, standing_of, lent as lent_of}
 use Rattle.tds_play.specs.Noted.{about_of}
 use Rattle.tds_play.proofs.pooled.Lends.{lent_here}
 use Rattle.tds_play.proofs.Acting.{by_event, event_at, lent_alike, stands_in}
-use Rattle.tds_play.proofs.Placed.{DoesWhole, RefinesMarks, idle_unless}
+use Rattle.tds_play.proofs.Placed.{DoesWhole, RefinesMarks}
 use Rattle.tds_play.proofs.pooled.Begun.{lease_begun}
-use Rattle.tds_play.proofs.pooled.Changes.{SameBut, changed_here, changed_numbers, changed_others}
 use Rattle.tds_play.proofs.pooled.Choice.{lent_free, lent_there}
-use Rattle.tds_play.proofs.pooled.Kept.{known_unheld, pooled_cut, pooled_link, pooled_pool}
-use Rattle.tds_play.proofs.pooled.Unseen.{as_long, first_next, held_as, number_at, one_longer, quiet_steps, set_here}
-use Rattle.tds_play.proofs.pooled.Slots.{held_set, numbers_pushed}
+use Rattle.tds_play.proofs.pooled.InPlace.{ChangesInPlace, changes_in_place, next_lease}
+use Rattle.tds_play.proofs.pooled.Kept.{known_unheld, pooled_cut}
+use Rattle.tds_play.proofs.pooled.Unseen.{as_long, first_next, held_as, number_at, one_longer, quiet_steps}
+use Rattle.tds_play.proofs.pooled.Slots.{held_set, numbers_pushed, set_here}
 
 -- What the pool answers of it: it lends this connection, which was free, and the play notes who holds it.
 pub record ReusedBy {E S : Type 0} (next : ℕ) (c : pool.Connection) (lease : Lease) (h k : Held E S) (old new : PoolState)
@@ -81,15 +72,12 @@ pub reused_steps : {E S : Type 0} (answers : E → Answers) → PoolIsUnseen E �
     → AreTied (all_of old) pipes
     → StepsAt answers event.Lease place old new pipes pipes (Unit {0}) (Unit {0}) done
 reused_steps {E} {S} answers unseen waits marks place next conn old new h k c lease pipes done held few at is_place is_next is_conn gives links leases tickets asked setup_same is tied =
-    quiet_steps answers event.Lease place old new h k pipes done tied at gives.link (ap (λ (d : EventDone). d.lost) is) (λ d. refl) links others columns
-    (held_as old new (slice_set old.links.items place k) links setup_same still_pooled still_known)
+    quiet_steps answers event.Lease place old new h k pipes done tied at gives.link (ap (λ (d : EventDone). d.lost) is) (λ d. refl) links changes.others changes.columns
+    (held_as old new (slice_set old.links.items place k) links setup_same changes.pooled still_known)
     setup_same grows noted acts
   where
     number_is : h.link.number ≡ suc place
     number_is = number_at old place h pipes tied at
-
-    here_number : k.link.number ≡ suc place
-    here_number = ap (λ (l : Link E S). l.number) gives.link ∙ number_is
 
     there : numbered (suc place) (connections old.pool) ≡ Some c
     there = ap (λ (n : ℕ). numbered n (connections old.pool)) (sym is_place) ∙ lent_there 1 old.links.items (connections old.pool) c held.pooled.numbers gives.lent
@@ -104,26 +92,8 @@ reused_steps {E} {S} answers unseen waits marks place next conn old new h k c le
     moved : connections new.pool ≡ lent_again (suc place) Full (connections old.pool)
     moved = gives.shown ∙ ap (λ (n : ℕ). lent_again n Full (connections old.pool)) is_place
 
-    others : SameBut (suc place) (connections old.pool) (connections new.pool)
-    others m other = ap (numbered m) moved ∙ changed_others (suc place) lends (connections old.pool) (λ d. refl) m other
-
-    now : numbered (suc place) (connections new.pool) ≡ Some (lends c)
-    now = ap (numbered (suc place)) moved ∙ changed_here (suc place) lends (connections old.pool) (λ d. refl) ∙ ap (option_map lends) there
-
-    seat_was : seat_in h old.pool ≡ seat_by h.holder (Some c)
-    seat_was = ap (λ (n : ℕ). seat_by h.holder (numbered n (connections old.pool))) number_is ∙ ap (seat_by h.holder) there
-
-    seat_now : seat_in k new.pool ≡ seat_by k.holder (Some (lends c))
-    seat_now = ap (λ (n : ℕ). seat_by k.holder (numbered n (connections new.pool))) here_number ∙ ap (seat_by k.holder) now
-
-    columns : (seat_in k new.pool).client.columns ≡ (seat_in h old.pool).client.columns
-    columns = ap (λ (x : Seat). x.client.columns) seat_now ∙ sym (ap (λ (x : Seat). x.client.columns) seat_was)
-
-    still_pooled : ArePooled old.max old.size (slice_set old.links.items place k) new.pool
-    still_pooled =
-        pooled_link old.max old.size place old.links.items h k new.pool
-        (pooled_pool old.max old.size old.links.items old.pool new.pool held.pooled (ap all_numbers moved ∙ changed_numbers (suc place) lends (connections old.pool) (λ d. refl)) gives.rest)
-        at (ap (λ (l : Link E S). l.is_cut) gives.link)
+    changes : ChangesInPlace place c (lends c) old new h k
+    changes = changes_in_place place lends c old new h k (λ d. refl) refl number_is gives.link at held there moved gives.rest
 
     holder_is : k.holder ≡ suc (length old.leases)
     holder_is = gives.holder ∙ first_next (length old.leases) next 9999 is_next few.leases_few (omega arith)
@@ -136,14 +106,14 @@ reused_steps {E} {S} answers unseen waits marks place next conn old new h k c le
 
     unheld : AreKnown old.leases old.tickets (slice_set old.links.items place k) (connections new.pool)
     unheld =
-        known_unheld old.leases old.tickets (suc place) old.links.items (slice_set old.links.items place k) (connections old.pool) (connections new.pool) c held.known others (held_set old.links.items place k) there
+        known_unheld old.leases old.tickets (suc place) old.links.items (slice_set old.links.items place k) (connections old.pool) (connections new.pool) c held.known changes.others (held_set old.links.items place k) there
         (λ lent. let bad : pooled.Free ≡ pooled.Leased = sym free ∙ lent in cc)
         (λ kept. let bad : pooled.Free ≡ pooled.Kept = sym free ∙ kept in cc)
 
     begun : AreKnown (old.leases ++ Some lease ∷ []) old.tickets (slice_set old.links.items place k) (connections new.pool)
     begun =
         lease_begun place old.leases old.tickets lease (slice_set old.links.items place k) k (connections new.pool) (lends c) unheld
-        (set_here old.links.items place h k at) holder_is (gives.number ∙ is_place) now (sym gives.key) refl
+        (set_here old.links.items place h k at) holder_is (gives.number ∙ is_place) changes.there (sym gives.key) refl
 
     still_known : AreKnown new.leases new.tickets (slice_set old.links.items place k) (connections new.pool)
     still_known =
@@ -174,12 +144,11 @@ reused_steps {E} {S} answers unseen waits marks place next conn old new h k c le
         → (h.link.is_cut ≡ false → IsReady event.Lease c')
         → DoesWhole h.link.number setup.packet_size engine done h.link (seat_in k new.pool) (pipes h.link.number) (acts_on setup (answers engine) w event.Lease h.link.number c') c'
     acts setup engine w c' world promised played ready =
-        let many : length old.leases ≡ length w.leases = sym (length-map old.leases (option_map (λ (l : Lease). l.number))) ∙ ap length world.leases ∙ length-map w.leases held_by in
-        let told : next ≡ next_number w.leases = first_next (length old.leases) next 9999 is_next few.leases_few (omega arith) ∙ ap suc many in
+        let told : next ≡ next_number w.leases = next_lease setup engine old pipes w next world few is_next in
         let stands : seat_in k new.pool ≡ lent_as next Full (seat_in h old.pool) =
-        seat_now
+        changes.seat_now
         ∙ ap (λ (n : ℕ). seat_by n (Some (lends c))) gives.holder
-        ∙ sym (ap (lent_as next Full) seat_was) in
+        ∙ sym (ap (lent_as next Full) changes.seat_was) in
         by_event h.link.number setup.packet_size engine done h.link (seat_in k new.pool) (pipes h.link.number) c' _ _
         (event_at setup (answers engine) w event.Lease event.Lease h.link.number c' (seat_in h old.pool).place (stands_in h.link.number setup.packet_size engine h.link (seat_in h old.pool) (pipes h.link.number) c' played live) refl)
         (lent_alike unseen waits marks h.link.number setup.packet_size next (next_number w.leases) Full opened.Reused engine h.link (seat_in h old.pool) (seat_in k new.pool) (pipes h.link.number) c' done played live (ready live) told

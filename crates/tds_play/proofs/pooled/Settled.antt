@@ -1,32 +1,28 @@
 -- One connection of a play that the pool was asked about: what the play keeps of it, and its seat.
-use Rattle.std.proofs.Common.{◌≡◌, ◌≢◌, ◌∙◌, ◌⊎◌, inl, inr, ℕ, Bool, true, false, List, [], ◌∷◌, Option, Some, None, refl, sym, ap, subst, cond}
-use Rattle.std.specs.Prelude.{IsSome, is_none, option_map}
-use Rattle.tds_client.specs.Session.{ClientSession, unless_idle}
+use Rattle.std.proofs.Common.{◌≡◌, ◌≢◌, ◌∙◌, inl, ℕ, Bool, true, false, List, Option, Some, None, refl, sym, ap, subst}
+use Rattle.std.specs.Prelude.{IsSome, option_map}
+use Rattle.tds_client.specs.Session.{ClientSession}
 use Rattle.tds_pool.specs.Calls.{Returned, all_numbers, is_broken}
-use Rattle.tds_pool.specs.Calls as calls
 use Rattle.tds_pool.specs.Connections.{Connection, PoolState, SameRest, connections, numbered, taken_out, with_client}
 use Rattle.tds_pool.specs.declared.answers.GivenBack.{GivenBack}
 use Rattle.tds_pool.specs.declared.answers.GivenBack.TheVariants as given
-use Rattle.tds_pool.specs.declared.seat.Place.{Place}
-use Rattle.tds_pool.specs.declared.seat.Place.TheVariants as places
 use Rattle.tds_play.specs.Plays.{RepresentsConnection}
 use Rattle.tds_play.specs.Pipe.{Pipe, traffic}
 use Rattle.tds_play.specs.Reads.{BringsBy, IsReading, ReadsNoMore, ReadsOn, delivers, given_by}
 use Rattle.tds_ends.specs.AllBytes.{ClientHasRead, new_reader}
-use Rattle.tds_packet.specs.declared.kind.Direction.{Direction}
 use Rattle.tds_packet.specs.declared.kind.Direction.TheVariants.{ToClient}
 use Rattle.tds_world.specs.declared.event.Event.{Event}
 use Rattle.tds_world.specs.declared.outcome.Outcome.{Outcome}
 use Rattle.tds_play.proofs.any_bytes.Stays.{reading_stays}
 use Rattle.tds_play.proofs.pooled.Returned.{unbroken}
-use Rattle.tds_play.specs.Pooled.{ChangesOne, IsThere, Spares, StaysAs, place_by, seat_by, seat_in}
-use Rattle.tds_play.specs.Seats.{Seat, seated}
+use Rattle.tds_play.specs.Pooled.{ChangesOne, IsThere, StaysAs, seat_in}
+use Rattle.tds_play.specs.Seats.{Seat}
 use Rattle.tds_play.specs.Lending.{standing_by}
 use Rattle.tds_play.specs.declared.link.Link.{Link}
 use Rattle.tds_play.specs.declared.seat.Held.{Held}
 use Rattle.tds_world.specs.Connection as model
-use Rattle.tds_play.proofs.pooled.Changes.{SameBut, changed_here, changed_numbers, changed_others, taken_gone, taken_none, taken_others}
-use Rattle.tds_play.proofs.pooled.Leaves.{IsMoved, Leaves, found_still, is_closed, taken_alike, taken_changed}
+use Rattle.tds_play.proofs.pooled.Changes.{changed_here, changed_numbers, changed_others, taken_gone, taken_none, taken_others}
+use Rattle.tds_play.proofs.pooled.Leaves.{IsMoved, found_still, is_closed, taken_changed}
 use Rattle.tds_play.proofs.pooled.Numbers.{IsIn}
 
 -- ---- What is there

@@ -65,17 +65,18 @@ length_set [] place h = refl
 length_set (k ∷ hs) zero h = refl
 length_set (k ∷ hs) (suc place) h = ap suc (length_set hs place h)
 
-get_other : {E S : Type 0} (hs : List (Held E S)) (place i : ℕ) (h : Held E S) → i ≢ place → slice_get (slice_set hs place h) i ≡ slice_get hs i
-get_other [] place i h other = refl
-get_other (k ∷ hs) zero zero h other = absurd (other refl)
-get_other (k ∷ hs) zero (suc i) h other = refl
-get_other (k ∷ hs) (suc place) zero h other = refl
-get_other (k ∷ hs) (suc place) (suc i) h other = get_other hs place i h (λ e. other (ap suc e))
+-- What stands at a place that was set, and what stands elsewhere.
+pub get_elsewhere : {A : Type 0} (xs : List A) (place i : ℕ) (x : A) → i ≢ place → slice_get (slice_set xs place x) i ≡ slice_get xs i
+get_elsewhere [] place i x other = refl
+get_elsewhere (y ∷ ys) zero zero x other = absurd (other refl)
+get_elsewhere (y ∷ ys) zero (suc i) x other = refl
+get_elsewhere (y ∷ ys) (suc place) zero x other = refl
+get_elsewhere (y ∷ ys) (suc place) (suc i) x other = get_elsewhere ys place i x (λ e. other (ap suc e))
 
-get_here : {E S : Type 0} (hs : List (Held E S)) (place : ℕ) (old new : Held E S) → slice_get hs place ≡ Some old → slice_get (slice_set hs place new) place ≡ Some new
-get_here [] place old new at = absurd (cc)
-get_here (k ∷ hs) zero old new at = refl
-get_here (k ∷ hs) (suc place) old new at = get_here hs place old new at
+pub set_here : {A : Type 0} (xs : List A) (i : ℕ) (x y : A) → slice_get xs i ≡ Some x → slice_get (slice_set xs i y) i ≡ Some y
+set_here [] i x y at = absurd (cc)
+set_here (z ∷ xs) zero x y at = refl
+set_here (z ∷ xs) (suc i) x y at = set_here xs i x y at
 
 -- One of them changes.
 pub held_set : {E S : Type 0} (hs : List (Held E S)) (place : ℕ) (h : Held E S) → HeldBut (suc place) hs (slice_set hs place h)
@@ -86,10 +87,10 @@ held_set {E} {S} hs place h = record {
   where
     by_number : (m : ℕ) → 0 < m → m ≤ length hs → m ≢ suc place → holder_at (slice_set hs place h) m ≡ holder_at hs m
     by_number zero first last other = let bad : ⊥ = omega (arith, first) in absurd bad
-    by_number (suc i) first last other = ap (option_map (λ (x : Held E S). x.holder)) (get_other hs place i h (λ e. other (ap suc e)))
+    by_number (suc i) first last other = ap (option_map (λ (x : Held E S). x.holder)) (get_elsewhere hs place i h (λ e. other (ap suc e)))
 
 pub holder_set : {E S : Type 0} (hs : List (Held E S)) (place : ℕ) (old new : Held E S) → slice_get hs place ≡ Some old → holder_at (slice_set hs place new) (suc place) ≡ Some new.holder
-holder_set {E} {S} hs place old new at = ap (option_map (λ (x : Held E S). x.holder)) (get_here hs place old new at)
+holder_set {E} {S} hs place old new at = ap (option_map (λ (x : Held E S). x.holder)) (set_here hs place old new at)
 
 pub holder_is : {E S : Type 0} (hs : List (Held E S)) (place : ℕ) (h : Held E S) → slice_get hs place ≡ Some h → holder_at hs (suc place) ≡ Some h.holder
 holder_is {E} {S} hs place h at = ap (option_map (λ (x : Held E S). x.holder)) at

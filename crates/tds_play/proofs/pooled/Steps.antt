@@ -1,11 +1,11 @@
 -- What an event on one connection keeps of all of them, and what it comes to in the model.
-use Rattle.std.proofs.Common.{◌≡◌, ◌∙◌, ℕ, suc, ◌+◌, ◌<◌, List, length, get_or, Option, Some, Bool, true, false, refl, sym, ap, subst, arith}
+use Rattle.std.proofs.Common.{◌≡◌, ◌∙◌, ℕ, suc, ◌+◌, ◌<◌, List, length, get_or, Option, Some, true, refl, sym, ap, subst, arith}
 use Rattle.std.proofs.lemmas.Option.{get_or_from_slice_get, slice_get_within}
 use Rattle.std.specs.List.{slice_get}
-use Rattle.std.specs.Prelude.{Err, IfOk, Ok, Result, option_map, slice_set}
+use Rattle.std.specs.Prelude.{Err, IfOk, Ok, Result, option_map}
 use Rattle.tds_session.specs.Answer.{Answers}
 use Rattle.tds_ends.specs.ModelGives.{IsCountable, ModelGives}
-use Rattle.tds_pool.specs.Connections.{Connection as Pooled, connections, numbered}
+use Rattle.tds_pool.specs.Connections.{connections, numbered}
 use Rattle.tds_world.specs.declared.event.Event.{Event}
 use Rattle.tds_world.specs.declared.event.Setup.{Setup}
 use Rattle.tds_world.specs.declared.outcome.Outcome.{Outcome}
@@ -23,7 +23,7 @@ use Rattle.tds_play.specs.Failures.{FailsOn, LiveAreSound, all_known, calls_of}
 use Rattle.tds_play.specs.Pipe.{Pipe}
 use Rattle.tds_play.specs.Player.{IsFound, ModelGivesEach, RefinesEvent, RepresentsWorld, all_of}
 use Rattle.tds_play.specs.Plays.{acts_on, loss_of}
-use Rattle.tds_play.specs.Pooled.{seat_by, seat_in, seated_in}
+use Rattle.tds_play.specs.Pooled.{seat_in, seated_in}
 use Rattle.tds_play.specs.Reads.{AllRead, Answers as Answered, IsAbout, answers_then}
 use Rattle.tds_play.specs.Seats.{Seated}
 use Rattle.tds_play.specs.Steps.{StepsAt}

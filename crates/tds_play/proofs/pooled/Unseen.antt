@@ -1,6 +1,6 @@
 -- An event of one connection that its carrier doesn't see: what it keeps, and what it comes to in the model. And the
 -- slot of a lease or ticket that is taken.
-use Rattle.std.proofs.Common.{◌≡◌, ◌∙◌, ℕ, zero, suc, ◌+◌, ◌<◌, ◌≤◌, min, List, [], ◌∷◌, ◌++◌, length, length-append, map, get_or, Option, Some, None, Bool, true, false, refl, sym, ap, subst, arith}
+use Rattle.std.proofs.Common.{◌≡◌, ◌∙◌, ℕ, zero, suc, ◌+◌, ◌<◌, ◌≤◌, min, List, [], ◌∷◌, ◌++◌, length, length-append, map, get_or, Option, Some, true, false, refl, sym, ap, subst, arith}
 use Rattle.std.proofs.lemmas.Option.{get_or_from_slice_get, slice_get_read}
 use Rattle.std.specs.List.{slice_get}
 use Rattle.std.specs.Prelude.{option_map, slice_set}
@@ -98,11 +98,6 @@ spared_all {E} {S} old new place k links number others =
     ∙ ap (λ (n : ℕ). slice_set (all_of old) place (seated_in k (numbered n (connections new.pool)))) (one ∙ sym number)
 
 -- ---- What a player keeps
-
-pub set_here : {A : Type 0} (xs : List A) (i : ℕ) (x y : A) → slice_get xs i ≡ Some x → slice_get (slice_set xs i y) i ≡ Some y
-set_here [] i x y at = absurd (cc)
-set_here (z ∷ xs) zero x y at = refl
-set_here (z ∷ xs) (suc i) x y at = set_here xs i x y at
 
 pub held_as : {E S : Type 0} (old new : Player E S) (hs : List (Held E S)) → new.links.items ≡ hs → SameSetup old new → ArePooled old.max old.size hs new.pool → AreKnown new.leases new.tickets hs (connections new.pool) → AreHeld new
 held_as {E} {S} old new hs links setup pooled known = record {

@@ -1,25 +1,16 @@
 //! What an event does on the connection that it is about, and to its lease or ticket.
 ghost use Rattle.std.specs.Prelude.{◌≡◌, ◌<◌, ℕ, suc, length, map, Option, Some, IfOk, OnOk};
-ghost use Rattle.tds_ends.specs.ModelGives.{IsCountable};
-ghost use Rattle.tds_play.specs.Failures.{FailsOn, LiveAreSound, all_known};
 ghost use Rattle.tds_play.specs.Holdings.{conn_of};
 ghost use Rattle.tds_play.specs.Lending.{standing_of, Here};
 ghost use Rattle.tds_play.specs.Noted.{about_of};
 ghost use Rattle.tds_play.specs.Pipe.{Pipe};
-ghost use Rattle.tds_play.specs.Player.{AreHeld, RefinesEvent, IsFound, RepresentsWorld, ModelGivesEach, all_of};
+ghost use Rattle.tds_play.specs.Player.{AreHeld, all_of};
 ghost use Rattle.tds_play.specs.Pooled.{numbers_kept, numbers_leased};
-ghost use Rattle.tds_play.specs.Reads.{AllRead, Answers as Answered, IsAbout, answers_then};
 ghost use Rattle.tds_play.specs.Seats.{IsOfEnds};
-ghost use Rattle.tds_play.specs.Steps.{AreFew, GrowsByOne, IsNoted, IsOfOne, StepsAt};
+ghost use Rattle.tds_play.specs.Steps.{AreFew, IsNoted, IsOfOne, StepsAt};
 ghost use Rattle.tds_play.specs.Ties.{AreTied};
 ghost use Rattle.tds_session.specs.Answer.{answer_of};
-ghost use Rattle.tds_world.specs.Connection.{Connection};
-ghost use Rattle.tds_world.specs.Events.{happens};
-ghost use Rattle.tds_world.specs.Laws.{OfEachConnection};
-ghost use Rattle.tds_world.specs.Losses.{bringing, link_of};
-ghost use Rattle.tds_world.specs.World.{World};
 ghost use Rattle.tds_world.specs.declared.event.Event.TheVariants as events;
-ghost use Rattle.tds_world.specs.declared.event.Setup.{Setup};
 ghost use Rattle.tds_world.specs.declared.outcome.Opened.TheVariants as opened;
 ghost use Rattle.tds_world.specs.declared.outcome.Outcome.TheVariants as outcome;
 
@@ -35,57 +26,8 @@ use tds_session::Engine;
 use tds_world::{Event, Opened, Outcome};
 
 impl<E: Engine + Copy> Player<E> {
-    /// An event, on the connection at this place.
-    pub(super) fn act_at<C: Carrier>(
-        &mut self,
-        carrier: &mut C,
-        place: usize,
-        event: &Event,
-    ) -> Result<EventDone, NoMemory>
-        requires tied { AreTied (all_of self.old) (C.pipes carrier.old) }
-        requires held { AreHeld self.old }
-        requires few { AreFew 9999 self.old }
-        requires there { place < length self.old.links.items }
-        requires about { IsAbout event.now place }
-        requires found { Here place ≡ about_of event.now (map standing_of (all_of self.old))
-            self.old.max (numbers_leased self.old.leases) (numbers_kept self.old.tickets) }
-        requires ends { IsOfOne event.now }
-        ensures tied { OnOk result (AreTied (all_of self.new) (C.pipes carrier.new)) }
-        ensures held { OnOk result (AreHeld self.new) }
-        ensures grows { OnOk result (GrowsByOne self.old self.new) }
-        ensures tells { OnOk result (C.tells carrier.old → C.tells carrier.new) }
-        ensures sound { LiveAreSound (all_of self.old) (C.pipes carrier.old)
-            → OnOk result (LiveAreSound (all_of self.new) (C.pipes carrier.new)) }
-        ensures size { OnOk result (self.new.size ≡ self.old.size) }
-        ensures reads { (size : ℕ) (answers : Answered)
-            → AllRead size (all_of self.old) (C.pipes carrier.old) answers
-            → IfOk result (λ done. AllRead size (all_of self.new)
-            (C.pipes carrier.new) (answers_then event.now done.outcome answers)) }
-        ensures lost { (setup : Setup) (engine : E) (w : World) (c : Connection)
-            → LiveAreSound (all_of self.old) (C.pipes carrier.old)
-            → RepresentsWorld setup engine self.old (C.pipes carrier.old) w
-            → IsFound setup (answer_of (E.statements_of engine) (E.step_of engine)) w event.now
-            place c
-            → IfOk result (λ done. FailsOn event.now done.lost (link_of setup w event.now)
-            (all_known (length self.old.links.items) (C.pipes carrier.old))
-            (all_known (length self.new.links.items) (C.pipes carrier.new))) }
-        ensures refines { (setup : Setup) (engine : E) (w : World) (c : Connection)
-            → C.tells carrier.old → RepresentsWorld setup engine self.old (C.pipes carrier.old) w
-            → ModelGivesEach E (answer_of (E.statements_of engine) (E.step_of engine)) setup w
-            → IsFound setup (answer_of (E.statements_of engine) (E.step_of engine)) w event.now
-            place c
-            → ((k : ℕ) → OfEachConnection IsCountable (happens setup
-            (answer_of (E.statements_of engine) (E.step_of engine)) (bringing k event.now) w).1)
-            → IfOk result (λ done. RefinesEvent setup engine
-            (answer_of (E.statements_of engine) (E.step_of engine)) done self.new
-            (C.pipes carrier.new) event.now w) }
-    {
-        let done = self.step_at(carrier, place, event)?;
-        Ok(done)
-    }
-
-    /// What it does, by the kind of event that it is.
-    fn step_at<C: Carrier>(
+    /// An event on the connection at this place, by its kind.
+    pub(super) fn step_at<C: Carrier>(
         &mut self,
         carrier: &mut C,
         place: usize,

@@ -1,15 +1,14 @@
 //! What is cut and what ends, and what is seen and told of it all.
 ghost use Rattle.std.specs.Prelude.{◌≡◌, ◌<◌, ◌-◌, ℕ, List, [], ◌∷◌, ◌++◌, length, map, slice_get, slice_set, Option, Some, IfOk};
 ghost use Rattle.std.specs.List.{filter_map};
-ghost use Rattle.tds_play.specs.Failures.{FailsNoMore, LiveAreSound};
 ghost use Rattle.tds_play.specs.Holdings.{all_ended};
 ghost use Rattle.tds_play.specs.Links.{newest_held};
 ghost use Rattle.tds_play.specs.Pipe.{Pipe};
 ghost use Rattle.tds_play.specs.Player.{AreHeld, RepresentsWorld, all_of};
 ghost use Rattle.tds_play.specs.Plays.{RepresentConnections};
-ghost use Rattle.tds_play.specs.Reads.{AllRead, Answers as Answered, TakesLast, TellsGiven};
+ghost use Rattle.tds_play.specs.Reads.{TakesLast, TellsGiven};
 ghost use Rattle.tds_play.specs.Seen.{seen_at, seen_of};
-ghost use Rattle.tds_play.specs.Steps.{CutsAt};
+ghost use Rattle.tds_play.specs.Steps.{CutsAt, CutsSome};
 ghost use Rattle.tds_play.specs.Ties.{AreNumbered, AreTied};
 ghost use Rattle.tds_play.specs.declared.request.Record.{Record};
 ghost use Rattle.tds_pool.specs.Connections.{SameRest, connections};
@@ -34,21 +33,9 @@ impl<E: Engine + Copy> Player<E> {
     pub(super) fn cut_all<C: Carrier>(&mut self, carrier: &mut C)
         requires tied { AreTied (all_of self.old) (C.pipes carrier.old) }
         requires held { AreHeld self.old }
-        ensures tied { AreTied (all_of self.new) (C.pipes carrier.new) }
-        ensures held { AreHeld self.new }
-        ensures count { length self.new.links.items ≡ length self.old.links.items }
-        ensures rest { self.new ≡ record self.old {
-          links = self.new.links;
-          pool = self.new.pool;
-        } }
+        ensures keeps { CutsSome self.old self.new (C.pipes carrier.old) (C.pipes carrier.new)
+            (C.tells carrier.old) (C.tells carrier.new) }
         ensures none { connections self.new.pool ≡ [] }
-        ensures tells { C.tells carrier.old → C.tells carrier.new }
-        ensures sound { LiveAreSound (all_of self.old) (C.pipes carrier.old)
-            → LiveAreSound (all_of self.new) (C.pipes carrier.new) }
-        ensures reads { (size : ℕ) (answers : Answered)
-            → AllRead size (all_of self.old) (C.pipes carrier.old) answers
-            → AllRead size (all_of self.new) (C.pipes carrier.new) answers }
-        ensures failed { (n : ℕ) → FailsNoMore (C.pipes carrier.old n) (C.pipes carrier.new n) }
         // What stands for connections of the model stands for them, all cut.
         ensures refines { (size : ℕ) (engine : E) (cs : List Connection)
             → RepresentConnections 1 size engine (all_of self.old) (C.pipes carrier.old) cs
@@ -65,21 +52,9 @@ impl<E: Engine + Copy> Player<E> {
         requires tied { AreTied (all_of self.old) (C.pipes carrier.old) }
         requires held { AreHeld self.old }
         requires there { place < length self.old.links.items }
-        ensures tied { AreTied (all_of self.new) (C.pipes carrier.new) }
-        ensures held { AreHeld self.new }
-        ensures count { length self.new.links.items ≡ length self.old.links.items }
+        ensures keeps { CutsSome self.old self.new (C.pipes carrier.old) (C.pipes carrier.new)
+            (C.tells carrier.old) (C.tells carrier.new) }
         ensures cuts { CutsAt place self.old self.new }
-        ensures rest { self.new ≡ record self.old {
-          links = self.new.links;
-          pool = self.new.pool;
-        } }
-        ensures tells { C.tells carrier.old → C.tells carrier.new }
-        ensures sound { LiveAreSound (all_of self.old) (C.pipes carrier.old)
-            → LiveAreSound (all_of self.new) (C.pipes carrier.new) }
-        ensures reads { (size : ℕ) (answers : Answered)
-            → AllRead size (all_of self.old) (C.pipes carrier.old) answers
-            → AllRead size (all_of self.new) (C.pipes carrier.new) answers }
-        ensures failed { (n : ℕ) → FailsNoMore (C.pipes carrier.old n) (C.pipes carrier.new n) }
         ensures refines { (size : ℕ) (engine : E) (cs : List Connection) (c : Connection)
             → slice_get cs place ≡ Some c
             → RepresentConnections 1 size engine (all_of self.old) (C.pipes carrier.old) cs

@@ -1,20 +1,13 @@
 //! What a new lease gets: a connection that was lent before, or a new one.
-ghost use Rattle.std.specs.Prelude.{◌≡◌, ◌≤◌, ◌<◌, ℕ, [], ◌∷◌, ◌++◌, length, Some, IfOk, OnOk};
-ghost use Rattle.tds_ends.specs.ModelGives.{IsCountable};
-ghost use Rattle.tds_play.specs.Failures.{FailsOn, LiveAreSound, all_known};
-ghost use Rattle.tds_play.specs.Player.{AreHeld, RefinesEvent, RepresentsWorld, ModelGivesEach, all_of};
+ghost use Rattle.std.specs.Prelude.{◌≡◌, ◌≤◌, ◌<◌, [], ◌∷◌, ◌++◌, length, Some, IfOk, OnOk};
+ghost use Rattle.tds_play.specs.Happening.{HappensAs};
+ghost use Rattle.tds_play.specs.Player.{AreHeld, all_of};
 ghost use Rattle.tds_play.specs.Pooled.{IsGone};
-ghost use Rattle.tds_play.specs.Reads.{AllRead, Answers as Answered, answers_then};
 ghost use Rattle.tds_play.specs.Seen.{done_as};
-ghost use Rattle.tds_play.specs.Steps.{AreFew, GrowsByOne, OpensAs, ReusesAs};
+ghost use Rattle.tds_play.specs.Steps.{AreFew, OpensAs, ReusesAs};
 ghost use Rattle.tds_play.specs.Ties.{AreTied};
 ghost use Rattle.tds_session.specs.Answer.{answer_of};
-ghost use Rattle.tds_world.specs.Events.{happens};
-ghost use Rattle.tds_world.specs.Laws.{OfEachConnection};
-ghost use Rattle.tds_world.specs.Losses.{bringing, link_of};
-ghost use Rattle.tds_world.specs.World.{World};
 ghost use Rattle.tds_world.specs.declared.event.Event.TheVariants as events;
-ghost use Rattle.tds_world.specs.declared.event.Setup.{Setup};
 ghost use Rattle.tds_world.specs.declared.outcome.Opened.TheVariants as opened;
 ghost use Rattle.tds_world.specs.declared.outcome.Outcome.TheVariants as outcome;
 
@@ -52,32 +45,10 @@ impl<E: Engine + Copy> Player<E> {
         requires tied { AreTied (all_of self.old) (C.pipes carrier.old) }
         requires held { AreHeld self.old }
         requires few { AreFew 9999 self.old }
-        ensures tied { OnOk result (AreTied (all_of self.new) (C.pipes carrier.new)) }
-        ensures held { OnOk result (AreHeld self.new) }
-        ensures grows { OnOk result (GrowsByOne self.old self.new) }
-        ensures tells { OnOk result (C.tells carrier.old → C.tells carrier.new) }
-        ensures sound { LiveAreSound (all_of self.old) (C.pipes carrier.old)
-            → OnOk result (LiveAreSound (all_of self.new) (C.pipes carrier.new)) }
-        ensures size { OnOk result (self.new.size ≡ self.old.size) }
-        ensures reads { (answers : Answered)
-            → AllRead self.old.size (all_of self.old) (C.pipes carrier.old) answers
-            → IfOk result (λ done. AllRead self.old.size (all_of self.new)
-            (C.pipes carrier.new) (answers_then events.Lease done.outcome answers)) }
-        ensures lost { (setup : Setup) (engine : E) (w : World)
-            → LiveAreSound (all_of self.old) (C.pipes carrier.old)
-            → RepresentsWorld setup engine self.old (C.pipes carrier.old) w
-            → ModelGivesEach E (answer_of (E.statements_of engine) (E.step_of engine)) setup w
-            → IfOk result (λ done. FailsOn events.Lease done.lost (link_of setup w events.Lease)
-            (all_known (length self.old.links.items) (C.pipes carrier.old))
-            (all_known (length self.new.links.items) (C.pipes carrier.new))) }
-        ensures refines { (setup : Setup) (engine : E) (w : World) → C.tells carrier.old
-            → RepresentsWorld setup engine self.old (C.pipes carrier.old) w
-            → ModelGivesEach E (answer_of (E.statements_of engine) (E.step_of engine)) setup w
-            → ((k : ℕ) → OfEachConnection IsCountable (happens setup
-            (answer_of (E.statements_of engine) (E.step_of engine)) (bringing k events.Lease) w).1)
-            → IfOk result (λ done. RefinesEvent setup engine
-            (answer_of (E.statements_of engine) (E.step_of engine)) done self.new
-            (C.pipes carrier.new) events.Lease w) }
+        ensures { IfOk result (λ done. HappensAs
+            (λ engine. answer_of (E.statements_of engine) (E.step_of engine)) events.Lease
+            self.old self.new (C.pipes carrier.old) (C.pipes carrier.new)
+            (C.tells carrier.old) (C.tells carrier.new) done) }
     {
         idle_alike();
         lends_matching::<E>();

@@ -1,12 +1,11 @@
 use Rattle.std.proofs.Common.{refl, ap, ◌∙◌, [], Some}
-use Rattle.tds_c.proofs.Refusing.{is_this}
 use Rattle.tds_c.proofs.Sending.{is_out, packet_length, sends_from}
 use Rattle.tds_c.proofs.calls.send.Goals as goal
 
 pub returns-in-Err : goal.returns-in-Err
 returns-in-Err c =
     let call = sends_from c.args.client.now c.args.message.now c.behind-left.result.now _ c.if-client-message.false c.behind-left.ensures c.in-Some.ensures.some in
-    ((_, call, is_this _ _ c.in-Err.ensures.refused, refl), (refl, refl))
+    ((_, call, c.in-Err.ensures.refused, refl), (refl, refl))
 
 pub returns-then-count-out : goal.returns-then-count-out
 returns-then-count-out c =

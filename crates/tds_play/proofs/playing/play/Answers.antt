@@ -1,7 +1,6 @@
-use Rattle.std.proofs.Common.{List, subst}
+use Rattle.std.proofs.Common.{subst}
 use Rattle.std.proofs.lemmas.Result.{IfOk-weaker}
 use Rattle.tds_session.specs.Answer.{script_answers}
-use Rattle.tds_world.specs.declared.event.Event.{Event}
 use Rattle.tds_world.specs.Bounds.{BeginsOnce, OneAttention}
 use Rattle.tds_world.specs.Losses.{marked}
 use Rattle.tds_world.specs.Reports.{ShowsFewUnderway, ShowsFreshStart, ShowsIdleQuiet, ShowsKeptTransaction, ShowsLendsIdle, ShowsOwnAnswers, ShowsOwnTransaction}

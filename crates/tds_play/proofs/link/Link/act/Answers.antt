@@ -1,11 +1,6 @@
-use Rattle.std.proofs.Common.{◌∙◌, ap, ℕ, Option, refl, subst, sym, inl, inr}
-use Rattle.tds_packet.specs.declared.status.Reset.TheVariants.{Full, KeepTransaction}
+use Rattle.std.proofs.Common.{◌∙◌, ap, ℕ, Option, refl, subst, sym}
 use Rattle.tds_session.specs.Answer.{Answers, answer_of}
-use Rattle.tds_session.specs.declared.attention.OnAttention.TheVariants.{Keep}
 use Rattle.tds_world.specs.declared.event.Event.TheVariants as event
-use Rattle.tds_world.specs.declared.outcome.Opened.TheVariants as opened
-use Rattle.tds_world.specs.Caller.{cancels}
-use Rattle.tds_world.specs.Pool.{comes_back, gives_back}
 use Rattle.tds_world.specs.World.{next_number}
 use Rattle.tds_play.specs.Pipe.{Pipe}
 use Rattle.tds_play.specs.Plays.{RefinesAct, acts_on, loss_of}
@@ -16,17 +11,13 @@ use Rattle.tds_play.proofs.Losing.{whole_alike, whole_ok}
 use Rattle.tds_client.specs.Session.{ClientSession}
 use Rattle.tds_play.proofs.Asked.{asked_ok}
 use Rattle.tds_play.proofs.Listening.{if_ok}
-use Rattle.tds_play.proofs.Placed.{kept_alike}
 use Rattle.tds_play.specs.Failures.{calls_of}
 use Rattle.tds_play.proofs.Failing.{whole_as}
 use Rattle.tds_play.proofs.Failing as failing
 use Rattle.tds_world.specs.declared.event.Event.{Event}
-use Rattle.tds_world.specs.declared.report.Place.TheVariants.{Leased}
-use Rattle.tds_world.specs.Connection.{new_connection}
 use Rattle.tds_play.specs.declared.link.EventDone.{EventDone}
 use Rattle.tds_play.specs.Reads.{ReadsOn, delivers}
-use Rattle.tds_play.proofs.any_bytes.Brought.{gone_on, on_done, still_on}
-use Rattle.tds_play.proofs.any_bytes.Stays.{stays}
+use Rattle.tds_play.proofs.any_bytes.Brought.{on_done, still_on}
 use Rattle.std.specs.Prelude.{IfOk}
 use Rattle.tds_play.proofs.link.Link.act.Goals as goal
 

@@ -7,7 +7,7 @@ use Rattle.tds_play.specs.Ties.{counted, with_counted}
 use Rattle.tds_play.proofs.Carrying.{count_is, count_twice, number_same, cut_same, tied_after, brought_more, long_tail, no_error}
 use Rattle.std.proofs.Common.{refl}
 use Rattle.std.proofs.lemmas.List.{take-append-drop}
-use Rattle.tds_play.specs.Reads.{BringsAny, brought_to}
+use Rattle.tds_play.specs.Reads.{BringsAny}
 use Rattle.tds_play.proofs.any_bytes.Stays.{brings_more, brings_nothing, brings_still, brought_at_first, counted_at_first, open_came, stuck_came}
 use Rattle.tds_play.proofs.link.Link.carry.Goals as goal
 

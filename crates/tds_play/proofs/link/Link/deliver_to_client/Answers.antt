@@ -9,10 +9,9 @@ use Rattle.tds_play.proofs.Listening.{listened_by, listened_on}
 use Rattle.tds_play.proofs.Losing.{delivered_down}
 use Rattle.tds_play.specs.Failures.{Carry}
 use Rattle.tds_play.proofs.Failing.{brought_as}
-use Rattle.std.proofs.Common.{subst, refl, Some, None}
+use Rattle.std.proofs.Common.{subst, refl}
 use Rattle.tds_ends.specs.AllBytes.{ClientHasRead, new_reader}
 use Rattle.tds_play.specs.declared.link.EventDone.{EventDone}
-use Rattle.tds_play.specs.declared.feeding.Fault.{Fault}
 use Rattle.tds_play.specs.Reads.{ClientIsFed, given_by}
 use Rattle.tds_play.proofs.any_bytes.Brought.{faulty_heard, heard_reads}
 use Rattle.tds_play.specs.Seats.{drained, seated}

@@ -16,7 +16,6 @@ use Rattle.tds_play.proofs.ServerEvent.{come_served, delivered_alike, none_told,
 use Rattle.tds_play.specs.Failures.{Carry, Fails, Send}
 use Rattle.tds_play.proofs.Failing.{brought_as, fails_numbered, fails_of_more}
 use Rattle.tds_ends.specs.AllBytes.{ServerHasRead, new_reader}
-use Rattle.tds_play.specs.declared.feeding.Fault.{Fault}
 use Rattle.tds_play.specs.declared.link.EventDone.{EventDone}
 use Rattle.tds_play.specs.Reads.{ServerIsFed, given_by}
 use Rattle.tds_play.proofs.any_bytes.Brought.{faulty_served, fed_so, served_reads}

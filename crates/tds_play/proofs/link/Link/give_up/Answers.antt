@@ -2,7 +2,6 @@ use Rattle.std.specs.Prelude.{is_none}
 use Rattle.std.proofs.Common.{false, [], ◌∷◌, ◌≡◌, ◌∙◌, ◌++◌, ℕ, List, Bool, Option, sym, ap, subst}
 use Rattle.tds_client.specs.Sending as client
 use Rattle.tds_client.specs.Session.{ClientSession, unless_idle}
-use Rattle.tds_world.specs.declared.outcome.Outcome.TheVariants as outcome
 use Rattle.tds_world.specs.Caller.{cancels}
 use Rattle.tds_world.specs.Connection.{Connection}
 use Rattle.tds_world.specs.Pool.{comes_back, place_back}
@@ -10,7 +9,7 @@ use Rattle.tds_play.specs.Plays.{RepresentsConnection, after}
 use Rattle.tds_play.specs.Seats.{seated}
 use Rattle.tds_play.specs.Pipe.{Pipe}
 use Rattle.tds_play.proofs.Cancelled.{back_played}
-use Rattle.tds_play.proofs.Doing.{does_so, ended, ok_so}
+use Rattle.tds_play.proofs.Doing.{ok_so}
 use Rattle.tds_play.proofs.Outward.{given_up}
 use Rattle.tds_play.specs.Failures.{Send}
 use Rattle.tds_packet.specs.declared.kind.Direction.TheVariants.{ToServer}

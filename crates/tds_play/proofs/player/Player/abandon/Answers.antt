@@ -1,5 +1,4 @@
-use Rattle.std.proofs.Common.{◌≡◌, ◌∙◌, suc, Some, refl, sym, ap, subst}
-use Rattle.std.specs.List.{slice_get}
+use Rattle.std.proofs.Common.{◌∙◌, suc, refl, sym, ap, subst}
 use Rattle.tds_session.specs.Answer.{answer_of}
 use Rattle.tds_pool.specs.declared.lease.Ticket.{Ticket}
 use Rattle.tds_world.specs.declared.event.Event.{Event}

@@ -5,7 +5,6 @@ use Rattle.tds_play.proofs.pooled.Closing.{records_of}
 use Rattle.tds_play.specs.declared.request.Record.{Record}
 use Rattle.tds_play.proofs.Requested.{Telling, telling_at_first, tells_one_more, one_is_left, all_told, written_back}
 use Rattle.tds_world.specs.declared.report.RequestReport.{RequestReport}
-use Rattle.std.proofs.Common.{◌≡◌}
 use Rattle.tds_play.proofs.any_bytes.Given.{none_turn, told_at_first, told_turn, told_whole}
 use Rattle.tds_play.proofs.player.Player.into_requests.Goals as goal
 use Rattle.tds_play.proofs.player.Player.into_requests.Goals.{in-Some+in_ok-push, in_default}

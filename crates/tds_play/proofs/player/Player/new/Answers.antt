@@ -1,4 +1,4 @@
-use Rattle.std.proofs.Common.{◌≡◌, ◌∙◌, ℕ, List, [], length, Option, Some, ap, sym, subst}
+use Rattle.std.proofs.Common.{◌≡◌, ◌∙◌, ℕ, List, [], length, Option, Some, ap, sym}
 use Rattle.std.specs.Prelude.{slice_get}
 use Rattle.tds_pool.specs.Calls.{all_numbers}
 use Rattle.tds_pool.specs.Connections.{connections}

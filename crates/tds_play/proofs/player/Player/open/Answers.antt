@@ -1,7 +1,4 @@
-use Rattle.std.proofs.Common.{◌≡◌, ◌∙◌, true, false, ℕ, refl, sym, ap, subst}
-use Rattle.tds_pool.specs.Connections.{PoolState}
-use Rattle.tds_play.specs.Pooled.{IsGone}
-use Rattle.tds_play.specs.declared.player.Player.{Player}
+use Rattle.std.proofs.Common.{refl}
 use Rattle.tds_play.proofs.pooled.Opening.{LostBy, lost_out, lost_not, opens_as}
 use Rattle.tds_play.proofs.player.Player.open.Goals.{then-lost, else-lost}
 use Rattle.tds_play.proofs.player.Player.open.Goals as goal

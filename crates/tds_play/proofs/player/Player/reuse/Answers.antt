@@ -1,4 +1,4 @@
-use Rattle.std.proofs.Common.{◌≡◌, ◌∙◌, ◌-◌, ◌<◌, ℕ, suc, length, refl, arith}
+use Rattle.std.proofs.Common.{◌-◌, ◌<◌, length, refl, arith}
 use Rattle.tds_play.proofs.pooled.Unseen.{read_at}
 use Rattle.tds_play.proofs.player.Player.reuse.Goals as goal
 

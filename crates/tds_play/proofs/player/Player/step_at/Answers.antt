@@ -1,5 +1,4 @@
 use Rattle.tds_session.specs.Answer.{answer_of}
-use Rattle.tds_world.specs.declared.event.Event.TheVariants as event
 use Rattle.tds_play.proofs.pooled.Steps.{of_event, of_quiet}
 use Rattle.tds_play.proofs.player.Player.step_at.Goals as goal
 

@@ -1,5 +1,5 @@
 use Rattle.tds_play.proofs.Requested.{taken_last}
-use Rattle.std.proofs.Common.{◌∙◌, ap, arith, sym}
+use Rattle.std.proofs.Common.{arith}
 use Rattle.tds_play.proofs.any_bytes.Given.{takes_last}
 use Rattle.tds_play.proofs.player.ending.next_of.Goals as goal
 

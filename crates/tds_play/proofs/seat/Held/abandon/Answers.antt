@@ -1,22 +1,13 @@
-use Rattle.std.proofs.Common.{◌≡◌, ◌∙◌, ℕ, Bool, true, false, List, Option, Some, refl, sym, ap, subst}
-use Rattle.std.specs.Prelude.{IsSome}
-use Rattle.tds_client.specs.Session.{ClientSession}
-use Rattle.tds_pool.specs.Calls.{Returned, abandoned, all_numbers, is_broken, is_idle, is_kept, kept_for}
-use Rattle.tds_pool.specs.Calls as calls
-use Rattle.tds_pool.specs.Connections.{Connection, PoolState, SameRest, at_place, connections, numbered, taken_out}
-use Rattle.tds_pool.specs.declared.lease.Ticket.{Ticket}
-use Rattle.tds_pool.specs.declared.seat.Place.TheVariants as places
+use Rattle.std.proofs.Common.{◌≡◌, ◌∙◌, ℕ, true, false, List, Option, Some, refl, sym, ap, subst}
+use Rattle.tds_pool.specs.Calls.{Returned, abandoned, all_numbers, is_idle, is_kept, kept_for}
+use Rattle.tds_pool.specs.Connections.{Connection, PoolState, SameRest, connections, numbered, taken_out}
 use Rattle.tds_session.specs.Answer.{Answers, answer_of}
-use Rattle.tds_world.specs.Connection as model
 use Rattle.tds_world.specs.Pool.{abandons}
 use Rattle.tds_world.specs.declared.event.Event.TheVariants as event
-use Rattle.tds_world.specs.declared.outcome.AbandonOutcome.TheVariants as outcomes
-use Rattle.tds_world.specs.declared.report.Place.{Place}
 use Rattle.tds_world.specs.declared.report.Place.TheVariants.{Free}
-use Rattle.tds_play.specs.declared.link.EventDone.{EventDone}
 use Rattle.tds_play.specs.Pipe.{Pipe}
-use Rattle.tds_play.specs.Plays.{RefinesAct, RepresentsConnection, acts_on}
-use Rattle.tds_play.specs.Pooled.{Spares, place_by, rests_in, seat_by, seat_in}
+use Rattle.tds_play.specs.Plays.{RefinesAct}
+use Rattle.tds_play.specs.Pooled.{rests_in, seat_by, seat_in}
 use Rattle.tds_play.specs.Seats.{Seat, placed_at}
 use Rattle.tds_play.proofs.Acting.{abandoned_alike, acts_there, stands_in}
 use Rattle.tds_play.proofs.any_bytes.Brought.{still_on}
@@ -27,8 +18,7 @@ use Rattle.tds_play.proofs.pooled.Choice.{client_idle}
 use Rattle.tds_play.proofs.pooled.Given.{unknown}
 use Rattle.tds_play.proofs.pooled.Returned.{abandoned_unknown}
 use Rattle.tds_play.proofs.pooled.Leaves.{Leaves, abandoned_in, abandoned_leaves, leaves_numbered, leaves_taken, leaves_twice}
-use Rattle.tds_play.proofs.pooled.Numbers.{IsIn}
-use Rattle.tds_play.proofs.pooled.Settled.{gone_there, in_of, one_of, stays_there}
+use Rattle.tds_play.proofs.pooled.Settled.{gone_there, one_of, stays_there}
 use Rattle.tds_play.proofs.seat.Held.abandon.Goals as goal
 
 pub returns-then-self-clause-pool : goal.returns-then-self-clause-pool

@@ -1,21 +1,18 @@
-use Rattle.std.proofs.Common.{◌≡◌, ◌∙◌, ℕ, true, false, List, Option, Some, refl, sym, ap, subst}
+use Rattle.std.proofs.Common.{◌≡◌, ◌∙◌, ℕ, Option, Some, refl, sym, ap, subst}
 use Rattle.std.specs.Prelude.{IsSome}
 use Rattle.tds_client.specs.Session.{ClientSession}
-use Rattle.tds_pool.specs.Connections.{Connection, PoolState, connections, numbered, with_client}
+use Rattle.tds_pool.specs.Connections.{PoolState, connections, numbered}
 use Rattle.tds_pool.specs.Calls.{is_broken}
 use Rattle.tds_pool.specs.Lends.{with_client_numbered}
-use Rattle.tds_session.specs.Answer.{answer_of}
 use Rattle.tds_session.specs.declared.attention.OnAttention.TheVariants.{Keep}
-use Rattle.tds_world.specs.Connection as model
 use Rattle.tds_world.specs.Connection.{new_connection}
-use Rattle.tds_world.specs.Losses.{met}
 use Rattle.tds_world.specs.declared.report.Place.{Place}
 use Rattle.tds_world.specs.declared.report.Place.TheVariants.{Leased}
 use Rattle.tds_play.specs.declared.link.EventDone.{EventDone}
 use Rattle.tds_play.specs.Pipe.{Pipe}
-use Rattle.tds_play.specs.Plays.{RepresentsConnection, acts_on, after, cut_where, loss_of}
+use Rattle.tds_play.specs.Plays.{RepresentsConnection}
 use Rattle.tds_play.specs.Pooled.{ChangesOne, place_by, seat_by, seat_in}
-use Rattle.tds_play.specs.Reads.{IsReading, ReadsNoMore}
+use Rattle.tds_play.specs.Reads.{IsReading}
 use Rattle.tds_play.specs.Seats.{Seat, behind_event, placed_behind, seated}
 use Rattle.tds_play.specs.declared.seat.Held.{Held}
 use Rattle.tds_play.proofs.any_bytes.Brought.{gone_on}

@@ -1,7 +1,5 @@
-use Rattle.std.proofs.Common.{◌≡◌, ◌∙◌, true, false, Bool, sym, ap, subst}
-use Rattle.tds_world.specs.Connection.{cut}
+use Rattle.std.proofs.Common.{◌≡◌, ◌∙◌, true, false, Bool, sym, subst}
 use Rattle.tds_play.specs.Plays.{RepresentsConnection, cut_where}
-use Rattle.tds_play.specs.Pooled.{rests_in}
 use Rattle.tds_play.proofs.pooled.Back.{out_either}
 use Rattle.tds_play.proofs.seat.Held.come_back.Goals.{in-Free, in-Draining, in-Closed, then-lost-via-then-lost, then-lost-via-else-lost+then-matches, in-Closed-matches, in_default}
 use Rattle.tds_play.proofs.seat.Held.come_back.Goals as goal

@@ -1,8 +1,8 @@
-use Rattle.std.proofs.Common.{◌≡◌, ◌∙◌, ℕ, Bool, true, false, refl, sym, ap, subst}
+use Rattle.std.proofs.Common.{◌≡◌, ◌∙◌, ℕ, true, false, refl, sym, ap}
 use Rattle.tds_pool.specs.Calls as calls
 use Rattle.tds_pool.specs.Calls.{is_broken}
 use Rattle.tds_pool.specs.Connections.{connections, numbered}
-use Rattle.tds_play.specs.Pooled.{seat_by, seat_in}
+use Rattle.tds_play.specs.Pooled.{seat_by}
 use Rattle.tds_play.specs.Seats.{drained}
 use Rattle.tds_play.proofs.pooled.Leaves.{IsClosed, IsMoved, drained_closed, drained_moved, is_closed}
 use Rattle.tds_play.proofs.pooled.Numbers.{IsIn}

@@ -1,13 +1,12 @@
-use Rattle.std.proofs.Common.{◌≡◌, ◌∙◌, ℕ, Bool, true, false, List, Option, Some, None, Result, Ok, Err, refl, sym, ap, subst}
+use Rattle.std.proofs.Common.{◌≡◌, ◌∙◌, ℕ, Bool, true, false, List, Option, Some, None, Result, refl, sym, ap, subst}
 use Rattle.std.specs.Prelude.{IsSome, OnOk, is_none}
 use Rattle.tds_client.specs.Session.{ClientSession, unless_idle}
-use Rattle.tds_pool.specs.Calls.{Returned, all_numbers, given_back, is_broken, is_idle, is_leased, lent_to, session_behind}
+use Rattle.tds_pool.specs.Calls.{Returned, all_numbers, given_back, is_broken, is_idle, is_leased, lent_to}
 use Rattle.tds_pool.specs.Connections.{Connection, PoolState, SameRest, connections, numbered, with_client}
 use Rattle.tds_pool.specs.declared.lease.Lease.{Lease}
 use Rattle.tds_pool.specs.Lends.{with_client_numbered}
 use Rattle.tds_session.specs.Answer.{Answers, answer_of}
 use Rattle.tds_world.specs.Caller.{cancels}
-use Rattle.tds_world.specs.Connection as model
 use Rattle.tds_world.specs.Pool.{comes_back, gives_back, place_back, returned_as}
 use Rattle.tds_world.specs.declared.event.Event.TheVariants as event
 use Rattle.tds_world.specs.declared.outcome.Outcome.TheVariants as outcome
@@ -15,20 +14,19 @@ use Rattle.tds_world.specs.declared.report.Place.{Place}
 use Rattle.tds_play.specs.declared.link.EventDone.{EventDone}
 use Rattle.tds_play.specs.declared.seat.Held.{Held}
 use Rattle.tds_play.specs.Pipe.{Pipe}
-use Rattle.tds_play.specs.Plays.{RefinesAct, RepresentsConnection, acts_on, after, cut_where, outcome_of}
-use Rattle.tds_play.specs.Pooled.{IsGone, IsThere, Spares, came_back, place_by, rests_in, seat_by, seat_in}
-use Rattle.tds_play.specs.Reads.{IsReading, ReadsNoMore}
+use Rattle.tds_play.specs.Plays.{RepresentsConnection, acts_on, after, cut_where, outcome_of}
+use Rattle.tds_play.specs.Pooled.{Spares, came_back, place_by, rests_in, seat_by, seat_in}
 use Rattle.tds_play.specs.Seats.{Seat, seated}
 use Rattle.tds_play.proofs.Acting.{acts_there, comes_there, few_back, few_then, stands_in}
 use Rattle.tds_play.proofs.any_bytes.Brought.{still_on}
 use Rattle.tds_play.proofs.any_bytes.Stays.{stays_numbered}
-use Rattle.tds_play.proofs.pooled.Back.{back_answer, back_place, back_rests, back_spares, back_there, behind_columns, cancelled_has_none, given_here, given_rests, lives_rests, back_ended, spares_of, standing_client}
+use Rattle.tds_play.proofs.pooled.Back.{back_answer, back_rests, back_spares, back_there, behind_columns, cancelled_has_none, given_here, given_rests, lives_rests, back_ended, spares_of, standing_client}
 use Rattle.tds_play.proofs.pooled.Cancels.{HasNoMore}
 use Rattle.tds_play.proofs.pooled.Given.{unknown}
-use Rattle.tds_play.proofs.pooled.Leaves.{Leaves, given_in, given_leaves, leaves_changed, leaves_none, leaves_numbered, leaves_twice, standing_found}
+use Rattle.tds_play.proofs.pooled.Leaves.{Leaves, given_in, given_leaves, leaves_changed, leaves_none, leaves_numbered, leaves_twice}
 use Rattle.tds_play.proofs.pooled.Numbers.{IsIn}
-use Rattle.tds_play.proofs.pooled.Returned.{given_back_is, given_back_unknown, idle_alike, rest_answer, rest_place, rest_returned, unbroken}
-use Rattle.tds_play.proofs.pooled.Settled.{client_found, in_of, lent_client, one_of, settled_reads}
+use Rattle.tds_play.proofs.pooled.Returned.{given_back_unknown, idle_alike, rest_answer, unbroken}
+use Rattle.tds_play.proofs.pooled.Settled.{in_of, lent_client, one_of, settled_reads}
 use Rattle.tds_play.proofs.pooled.Changes.{changed_numbers}
 use Rattle.tds_play.proofs.seat.Held.give_back.Goals.{in-Ok, in-Err}
 use Rattle.tds_play.proofs.seat.Held.give_back.Goals as goal

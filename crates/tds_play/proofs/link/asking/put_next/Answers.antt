@@ -1,5 +1,5 @@
 use Rattle.tds_play.proofs.any_bytes.Stays.{sending_columns}
-use Rattle.tds_play.proofs.link.acts.put_next.Goals as goal
+use Rattle.tds_play.proofs.link.asking.put_next.Goals as goal
 
 pub returns-in-Ok-More-clause-columns : goal.returns-in-Ok-More-clause-columns
 returns-in-Ok-More-clause-columns c =
