@@ -114,6 +114,7 @@ impl<E: Engine + Drop> ServerEnd<E> {
     pub fn work(&mut self, out: &mut Vec<u8>) -> Result<Worked, NoMemory>
         ensures reader { self.new.reader ≡ self.old.reader }
         ensures engine { self.new.server.engine ≡ self.old.server.engine }
+        ensures on_attention { self.new.server.on_attention ≡ self.old.server.on_attention }
         ensures state { OnOk result (self.new.server ≡ (worked self.old.server).state) }
         ensures answer { IfOk result (λ answer. answer ≡ (worked self.old.server).answer) }
         ensures packet { OnOk result
@@ -137,6 +138,8 @@ impl<E: Engine + Drop> ServerEnd<E> {
 
     /// Takes a piece of what the client sent, as [`serve`] does.
     pub fn serve(&mut self, piece: &[u8], reply: &mut Vec<u8>) -> ServerFed
+        ensures engine { self.new.server.engine ≡ self.old.server.engine }
+        ensures on_attention { self.new.server.on_attention ≡ self.old.server.on_attention }
         ensures within { result.count ≤ length piece.now }
         ensures short { 8 * length reply.new.items ≤ 8 * length reply.old.items
             + 35 * (length self.old.reader.taken + result.count) }
