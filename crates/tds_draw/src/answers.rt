@@ -1,12 +1,12 @@
 //! What a packet of an answer says.
 
-use crate::breaking::cut_to;
 use std::alloc::{AllocError, Global};
 use std::fmt::Write;
 use tds_packet::Reset;
+use tds_picture::cut_to;
 use tds_text::put_units;
 use tds_token::done_status::{ATTENTION, ERROR, MORE};
-use tds_token::{Columns, EnvChange, Row, Text, Token, Tokens};
+use tds_token::{ColumnList, Columns, EnvChange, Row, Text, Token, Tokens};
 
 /// Which tokens.
 #[derive(Clone, Copy, PartialEq, Eq)]
@@ -36,11 +36,21 @@ pub(crate) fn tokens_of(alloc: Global, data: &[u8]) -> Result<Vec<Token>, AllocE
 
 /// These tokens in words, with commas between them. More than two rows are counted.
 pub(crate) fn told(alloc: Global, tokens: &[Token], which: Which) -> Result<String, AllocError> {
+    let mut text = String::new(alloc);
+    put_tokens(alloc, &mut text, tokens, which)?;
+    Ok(text)
+}
+
+fn put_tokens(
+    alloc: Global,
+    text: &mut String,
+    tokens: &[Token],
+    which: Which,
+) -> Result<(), AllocError> {
     let rows = tokens
         .iter()
         .filter(|it| matches!(it, Token::Row(_)))
         .count();
-    let mut text = String::new(alloc);
     let mut is_counted = false;
     for token in tokens {
         let is_heard = matches!(token, Token::Env(_));
@@ -58,10 +68,10 @@ pub(crate) fn told(alloc: Global, tokens: &[Token], which: Which) -> Result<Stri
             is_counted = true;
             write!(text, "{rows} ROWs")?;
         } else {
-            put_token(alloc, &mut text, token)?;
+            put_token(alloc, text, token)?;
         }
     }
-    Ok(text)
+    Ok(())
 }
 
 fn put_token(alloc: Global, text: &mut String, token: &Token) -> Result<(), AllocError> {
@@ -75,18 +85,20 @@ fn put_token(alloc: Global, text: &mut String, token: &Token) -> Result<(), Allo
             put_message(alloc, text, &message.text)
         }
         Token::ReturnStatus(value) => write!(text, "STATUS {value}"),
-        Token::Columns(columns) => {
-            text.push_str("COLUMNS ")?;
-            for (index, column) in columns.as_slice().iter().enumerate() {
-                put_comma(text, index)?;
-                put_units(text, column.name.units())?;
-            }
-            Ok(())
-        }
+        Token::Columns(columns) => put_columns(text, columns),
         Token::Row(row) => put_row(text, row),
         Token::Env(change) => put_change(text, *change),
         Token::Done { status, .. } => text.push_str(done_word(*status)),
     }
+}
+
+fn put_columns(text: &mut String, columns: &ColumnList) -> Result<(), AllocError> {
+    text.push_str("COLUMNS ")?;
+    for (index, column) in columns.as_slice().iter().enumerate() {
+        put_comma(text, index)?;
+        put_units(text, column.name.units())?;
+    }
+    Ok(())
 }
 
 fn put_comma(text: &mut String, before: usize) -> Result<(), AllocError> {

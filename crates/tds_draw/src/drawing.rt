@@ -1,37 +1,10 @@
 //! What a panel is drawn with, row by row.
 
-use crate::breaking::broken;
-use crate::scene::{BarMark, FlightEnd, Label, Look, Panel, Spot};
 use std::alloc::{AllocError, Global};
 use tds_exchange::Exchange;
 use tds_packet::Reset;
+use tds_picture::{BarMark, FlightEnd, Label, Look, Panel, Spot, Widths, broken};
 use tds_play::{Outcome, Snapshot};
-
-/// How many characters a text has room for.
-#[derive(Clone, Copy)]
-pub(crate) struct Widths {
-    pub(crate) event: usize,
-    pub(crate) place: usize,
-    pub(crate) client: usize,
-    pub(crate) server: usize,
-}
-
-impl Widths {
-    fn of(self, spot: Spot, look: Look, badge: usize) -> usize {
-        let room = match spot {
-            Spot::Place => self.place,
-            Spot::Asked | Spot::Told => self.client.saturating_sub(2),
-            Spot::Client => self.client,
-            Spot::Server => self.server,
-        };
-        let taken = match look {
-            Look::Struck => 2usize,
-            Look::Pill => 1,
-            _ => 0,
-        };
-        room.saturating_sub(taken.saturating_add(badge)).max(4)
-    }
-}
 
 /// What a server has of its request.
 #[derive(Clone, Copy)]
@@ -161,11 +134,7 @@ impl<'a> Drawing<'a> {
         };
         let texts = broken(self.alloc, text, self.widths.of(spot, look, badge))?;
         let count = texts.len();
-        let used = match spot {
-            Spot::Server => self.row.server_used,
-            _ => self.row.client_used,
-        };
-        let first = self.row.start.saturating_add(used);
+        let first = self.take_lines(spot, count);
         for (index, text) in texts.into_iter().enumerate() {
             self.panel.labels.push(Label {
                 line: first.saturating_add(index),
@@ -178,12 +147,21 @@ impl<'a> Drawing<'a> {
                 is_last: index.saturating_add(1) == count,
             })?;
         }
-        let used = used.saturating_add(count);
-        match spot {
-            Spot::Server => self.row.server_used = used,
-            _ => self.row.client_used = used,
-        }
         Ok(first.saturating_add(count.saturating_sub(1)))
+    }
+
+    /// Takes so many lines of a text's zone, and answers the first of them.
+    fn take_lines(&mut self, spot: Spot, count: usize) -> usize {
+        let used = match spot {
+            Spot::Server => self.row.server_used,
+            _ => self.row.client_used,
+        };
+        let behind = used.saturating_add(count);
+        match spot {
+            Spot::Server => self.row.server_used = behind,
+            _ => self.row.client_used = behind,
+        }
+        self.row.start.saturating_add(used)
     }
 
     /// The first line that is free at the server.
@@ -240,11 +218,5 @@ impl<'a> RowSoFar<'a> {
 }
 
 fn digits(number: u32) -> usize {
-    match number {
-        0..=9 => 1,
-        10..=99 => 2,
-        100..=999 => 3,
-        1000..=9999 => 4,
-        _ => 5,
-    }
+    (number.checked_ilog10().unwrap_or(0) as usize).saturating_add(1)
 }

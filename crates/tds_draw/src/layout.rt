@@ -1,13 +1,12 @@
 //! A play laid out in sheets.
 
-use crate::drawing::Widths;
-use crate::scene::Scene;
 use crate::sheets::Plan;
 use crate::wording::{event_text, refusal_text, setup_text};
 use std::alloc::{AllocError, Global};
 use std::fmt::Write;
 use tds_exchange::Exchange;
-use tds_play::{Opened, Outcome};
+use tds_picture::{Scene, Widths};
+use tds_play::{Opened, Outcome, Refusal, Snapshot};
 
 /// The most events that are drawn where nothing says which.
 const MOST: usize = 300;
@@ -51,8 +50,7 @@ pub(crate) fn lay_out(
     arrangement: Arrangement,
     widths: Widths,
 ) -> Result<Scene, AllocError> {
-    let count = exchange.events.len();
-    let (from, to) = choice.of(count);
+    let (from, to) = choice.of(exchange.events.len());
     let slots = slots_of(alloc, exchange)?;
     let asked = asked_of(alloc, exchange)?;
     let panels = slots.iter().max().copied().unwrap_or(0).saturating_add(1);
@@ -69,20 +67,16 @@ pub(crate) fn lay_out(
         to,
         has_all: wide == panels,
     };
-    let mut sheets = Vec::new(alloc);
-    for first in 0..panels {
-        if first == 0 || wide == 1 {
-            sheets.push(plan.lay_sheet(alloc, first, wide)?)?;
-        }
-    }
+    let sheets = plan.lay_sheets(alloc, panels)?;
+    let below = match plan.has_all {
+        true => Vec::new(alloc),
+        false => below_of(alloc, exchange, from, to)?,
+    };
     Ok(Scene {
         head: head_of(alloc, exchange, from, to)?,
         width: wide,
         sheets,
-        below: match plan.has_all {
-            true => Vec::new(alloc),
-            false => below_of(alloc, exchange, from, to)?,
-        },
+        below,
     })
 }
 
@@ -116,11 +110,7 @@ fn slots_of(alloc: Global, exchange: &Exchange) -> Result<Vec<usize>, AllocError
         else {
             continue;
         };
-        let shown = told.snapshots.as_slice();
-        let free = holders
-            .iter()
-            .position(|holder| !shown.iter().any(|it| it.conn == *holder));
-        let slot = free.unwrap_or(holders.len());
+        let slot = free_slot(holders.as_slice(), told.snapshots.as_slice());
         match holders.get_mut(slot) {
             Some(holder) => *holder = conn,
             None => holders.push(conn)?,
@@ -128,6 +118,14 @@ fn slots_of(alloc: Global, exchange: &Exchange) -> Result<Vec<usize>, AllocError
         slots.push(slot)?;
     }
     Ok(slots)
+}
+
+/// The lowest slot of which the holder is not among these connections; one more where each is.
+fn free_slot(holders: &[u32], shown: &[Snapshot]) -> usize {
+    let free = holders
+        .iter()
+        .position(|holder| !shown.iter().any(|it| it.conn == *holder));
+    free.unwrap_or(holders.len())
 }
 
 /// The place of each request among the events.
@@ -150,29 +148,41 @@ fn below_of(
 ) -> Result<Vec<String>, AllocError> {
     let mut below = Vec::new(alloc);
     let mut more = 0usize;
-    let told = exchange
-        .report
-        .events
-        .as_slice()
-        .iter()
-        .zip(exchange.conns.iter());
-    for (index, (event, (told, conn))) in exchange.events.iter().zip(told).enumerate() {
-        let number = index.saturating_add(1);
-        let Outcome::Refused(why) = told.outcome else {
+    for number in from..=to {
+        let Some(why) = refusal_at(exchange, number) else {
             continue;
         };
-        if conn.is_some() || number < from || number > to {
-            continue;
-        }
         if below.len() >= MOST_BELOW {
             more = more.saturating_add(1);
             continue;
         }
-        let text = event_text(alloc, event)?;
-        below.push(format!(in alloc; "{number:3} {text}: {}", refusal_text(why))?)?;
+        below.push(refused_text(alloc, exchange, number, why)?)?;
     }
     if more > 0 {
         below.push(format!(in alloc; "and {more} more")?)?;
     }
     Ok(below)
+}
+
+/// Why the event of this number is refused, where it is and is about no connection.
+fn refusal_at(exchange: &Exchange, number: usize) -> Option<Refusal> {
+    let index = number.checked_sub(1)?;
+    let told = exchange.report.events.as_slice().get(index)?;
+    match (exchange.conns.get(index)?, told.outcome) {
+        (None, Outcome::Refused(why)) => Some(why),
+        _ => None,
+    }
+}
+
+fn refused_text(
+    alloc: Global,
+    exchange: &Exchange,
+    number: usize,
+    why: Refusal,
+) -> Result<String, AllocError> {
+    let text = match exchange.events.get(number.saturating_sub(1)) {
+        Some(event) => event_text(alloc, event)?,
+        None => String::new(alloc),
+    };
+    format!(in alloc; "{number:3} {text}: {}", refusal_text(why))
 }

@@ -1,8 +1,8 @@
 //! What runs down through the lines of a row.
 
 use crate::drawing::{Drawing, Moment, RowSoFar};
-use crate::scene::{BarMark, Line, PlaceMark};
 use std::alloc::AllocError;
+use tds_picture::{BarMark, Line, PlaceMark};
 use tds_play::{ClientView, GiveBackOutcome, Outcome, Place, Snapshot};
 
 impl<'a> Drawing<'a> {

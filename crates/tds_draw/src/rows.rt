@@ -1,12 +1,11 @@
 //! The row of an event.
 
 use crate::answers::Which;
-use crate::breaking::cut_to;
 use crate::drawing::{Drawing, Moment, NOTHING, Task};
-use crate::scene::{BarMark, FlightEnd, Look, Spot};
 use crate::wording::{client_text, mark_text, refusal_text, request_text, session_text};
-use std::alloc::AllocError;
+use std::alloc::{AllocError, Global};
 use tds_packet::Direction;
+use tds_picture::{BarMark, Flight, FlightEnd, Look, Spot, cut_to};
 use tds_play::{
     AbandonOutcome, CancelOutcome, ClientView, GiveBackOutcome, Opened, Outcome, Place, Snapshot,
     WorkOutcome,
@@ -188,13 +187,7 @@ impl<'a> Drawing<'a> {
             self.say(Spot::Server, Look::Muted, false, "nothing to do")?;
             return Ok(());
         };
-        let exchange = self.exchange;
-        let packet = exchange.packets.as_slice().get(index);
-        let mut text = match packet.is_some_and(|it| it.header.status.ends()) {
-            true => String::new(self.alloc),
-            false => self.statement()?,
-        };
-        text.push_str(self.tokens_at(index, Which::All)?.as_str())?;
+        let text = self.step_text(index)?;
         let line = self.server_line();
         self.depart(line, index)?;
         self.say(Spot::Server, Look::Plain, false, text.as_str())?;
@@ -211,31 +204,46 @@ impl<'a> Drawing<'a> {
         self.tell_session(moment)
     }
 
-    /// The statement that is run next, and a colon; nothing where the step runs none, as at a syntax error.
+    /// What the server does in a step with this packet: its statement, where it runs one, and its tokens.
+    fn step_text(&self, index: usize) -> Result<String, AllocError> {
+        let exchange = self.exchange;
+        let packet = exchange.packets.as_slice().get(index);
+        let mut text = match packet.is_some_and(|it| it.header.status.ends()) {
+            true => String::new(self.alloc),
+            false => self.statement()?,
+        };
+        text.push_str(self.tokens_at(index, Which::All)?.as_str())?;
+        Ok(text)
+    }
+
+    /// The statement that is run next, and a colon.
     fn statement(&self) -> Result<String, AllocError> {
         let mut shown = String::new(self.alloc);
-        let (Task::Whole { done, count }, Some(Request::Batch(text))) = (
+        let Some(units) = self.next_statement()? else {
+            return Ok(shown);
+        };
+        put_units(&mut shown, units)?;
+        shown = cut_to(self.alloc, shown.as_str(), STATEMENT)?;
+        shown.push_str(": ")?;
+        Ok(shown)
+    }
+
+    /// The statement that is run next; none where the step runs none, as at a syntax error.
+    fn next_statement(&self) -> Result<Option<&'a [u16]>, AllocError> {
+        let (Task::Whole { done, .. }, Some(Request::Batch(text))) = (
             self.task,
             self.asked_request(),
         ) else {
-            return Ok(shown);
+            return Ok(None);
         };
         let Some(place) = done.checked_sub(usize::from(self.reset.is_some())) else {
-            return Ok(shown);
+            return Ok(None);
         };
         if ScriptEngine.parse(self.alloc, text.units())?.is_none() {
-            return Ok(shown);
+            return Ok(None);
         }
         let semicolon = u16::from(b';');
-        for (index, units) in text.units().split(|unit| *unit == semicolon).enumerate() {
-            if index == place {
-                put_units(&mut shown, units)?;
-                shown = cut_to(self.alloc, shown.as_str(), STATEMENT)?;
-                shown.push_str(": ")?;
-                break;
-            }
-        }
-        Ok(shown)
+        Ok(text.units().split(|unit| *unit == semicolon).nth(place))
     }
 
     fn draw_to_client(&mut self, count: u32, moment: Moment<'a>) -> Result<(), AllocError> {
@@ -260,39 +268,39 @@ impl<'a> Drawing<'a> {
 
     /// Ends what hasn't come, in the row's first lines.
     fn end_flights(&mut self, is_lost: bool) -> Result<(), AllocError> {
+        self.end_flights_to(Direction::ToServer, is_lost)?;
+        self.end_flights_to(Direction::ToClient, is_lost)
+    }
+
+    /// Ends what hasn't come in a direction: four in lines of their own, of which the last one tells how many more
+    /// there are.
+    fn end_flights_to(&mut self, direction: Direction, is_lost: bool) -> Result<(), AllocError> {
         let alloc = self.alloc;
-        let word = match is_lost {
-            true => "lost",
-            false => "underway",
-        };
-        for direction in [Direction::ToServer, Direction::ToClient] {
-            let open = self.panel.flights.iter().filter(|it| it.end == FlightEnd::Open
-                && it.direction == direction);
-            let count = open.count();
-            let first = self.row.start.saturating_add(self.row.wire_used);
-            let mut place = 0usize;
-            for flight in self.panel.flights.iter_mut() {
-                if flight.end != FlightEnd::Open || flight.direction != direction {
-                    continue;
-                }
-                let line = first.saturating_add(place.min(3));
-                if place > 3 {
-                    flight.end = FlightEnd::Hidden(line);
-                    continue;
-                }
-                flight.end = match is_lost {
-                    true => FlightEnd::Lost(line),
-                    false => FlightEnd::Underway(line),
-                };
-                let bytes = flight.size.saturating_sub(flight.came);
-                flight.note = match place == 3 && count > 4 {
-                    true => format!(in alloc; "+{}", count.saturating_sub(3))?,
-                    false => format!(in alloc; "{bytes} {word}")?,
-                };
-                place = place.saturating_add(1);
+        let open = self.panel.flights.iter().filter(|it| it.end == FlightEnd::Open
+            && it.direction == direction);
+        let more = open.count().saturating_sub(4);
+        let first = self.row.start.saturating_add(self.row.wire_used);
+        let mut place = 0usize;
+        for flight in self.panel.flights.iter_mut() {
+            if flight.end != FlightEnd::Open || flight.direction != direction {
+                continue;
             }
-            self.row.wire_used = self.row.wire_used.saturating_add(place);
+            let line = first.saturating_add(place.min(3));
+            if place > 3 {
+                flight.end = FlightEnd::Hidden(line);
+                continue;
+            }
+            flight.note = match place == 3 && more > 0 {
+                true => format!(in alloc; "+{}", more.saturating_add(1))?,
+                false => loose_end(alloc, flight, is_lost)?,
+            };
+            flight.end = match is_lost {
+                true => FlightEnd::Lost(line),
+                false => FlightEnd::Underway(line),
+            };
+            place = place.saturating_add(1);
         }
+        self.row.wire_used = self.row.wire_used.saturating_add(place);
         Ok(())
     }
 
@@ -307,5 +315,14 @@ impl<'a> Drawing<'a> {
             self.say(Spot::Server, Look::Pill, false, text.as_str())?;
         }
         self.end_flights(false)
+    }
+}
+
+/// What stands beside the loose end of a packet: how many of its bytes have not come.
+fn loose_end(alloc: Global, flight: &Flight, is_lost: bool) -> Result<String, AllocError> {
+    let bytes = flight.size.saturating_sub(flight.came);
+    match is_lost {
+        true => format!(in alloc; "{bytes} lost"),
+        false => format!(in alloc; "{bytes} underway"),
     }
 }

@@ -1,11 +1,10 @@
 //! Events laid out in the rows of a sheet.
 
-use crate::breaking::cut_to;
-use crate::drawing::{Drawing, Widths};
-use crate::scene::{Row, Sheet};
+use crate::drawing::Drawing;
 use crate::wording::event_text;
 use std::alloc::{AllocError, Global};
 use tds_exchange::Exchange;
+use tds_picture::{Row, Sheet, Widths, cut_to};
 use tds_play::Outcome;
 
 /// A play, and what of it is drawn.
@@ -34,13 +33,21 @@ enum Where {
 }
 
 impl<'a> Plan<'a> {
+    /// The sheets of so many slots: one with all of them, or one for each.
+    pub(crate) fn lay_sheets(&self, alloc: Global, slots: usize) -> Result<Vec<Sheet>, AllocError> {
+        let mut sheets = Vec::new(alloc);
+        if self.has_all {
+            sheets.push(self.lay_sheet(alloc, 0, slots)?)?;
+            return Ok(sheets);
+        }
+        for slot in 0..slots {
+            sheets.push(self.lay_sheet(alloc, slot, 1)?)?;
+        }
+        Ok(sheets)
+    }
+
     /// The sheet with so many slots from this one on, a panel for each.
-    pub(crate) fn lay_sheet(
-        &self,
-        alloc: Global,
-        first: usize,
-        wide: usize,
-    ) -> Result<Sheet, AllocError> {
+    fn lay_sheet(&self, alloc: Global, first: usize, wide: usize) -> Result<Sheet, AllocError> {
         let mut panels = Vec::new(alloc);
         for _ in 0..wide {
             panels.push(Drawing::new(alloc, self.exchange, self.asked, self.widths))?;
@@ -50,9 +57,15 @@ impl<'a> Plan<'a> {
             rows: Vec::new(alloc),
             panels,
         };
+        self.lay_rows(alloc, &mut laid)?;
+        laid.into_sheet(alloc)
+    }
+
+    /// Lays all rows out. The ones before the first that is drawn are forgotten again.
+    fn lay_rows(&self, alloc: Global, laid: &mut Laid<'a>) -> Result<(), AllocError> {
         for number in 1..=self.to {
             let place = self.place_of(number);
-            if !self.has_all && place != Where::Slot(first) && place != Where::Everywhere {
+            if !self.has_all && place != Where::Slot(laid.first) && place != Where::Everywhere {
                 continue;
             }
             laid.put_row(self.row_of(alloc, number, laid.line())?)?;
@@ -62,8 +75,7 @@ impl<'a> Plan<'a> {
             }
         }
         laid.put_row(self.last_row(alloc, laid.line())?)?;
-        laid.draw_end(self.to)?;
-        laid.into_sheet(alloc)
+        laid.draw_end(self.to)
     }
 
     fn place_of(&self, number: usize) -> Where {

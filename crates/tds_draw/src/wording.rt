@@ -10,31 +10,56 @@ use tds_text::put_units;
 
 /// An event as it stands in its file, without quotes, and a batch without its text.
 pub(crate) fn event_text(alloc: Global, event: &Event) -> Result<String, AllocError> {
-    match event {
-        Event::Lease => String::from_str(alloc, "lease"),
-        Event::Resume(ticket) => format!(in alloc; "resume {ticket}"),
-        Event::GiveBack(lease) => format!(in alloc; "give_back {lease}"),
-        Event::Keep(lease) => format!(in alloc; "keep {lease}"),
-        Event::Abandon(ticket) => format!(in alloc; "abandon {ticket}"),
-        Event::Ask(lease, request) => ask_text(alloc, *lease, request),
-        Event::Send(lease) => format!(in alloc; "send {lease}"),
-        Event::Cancel(lease) => format!(in alloc; "cancel {lease}"),
-        Event::Work(conn) => format!(in alloc; "work {conn}"),
-        Event::ToServer(conn, count) => format!(in alloc; "to_server {conn} {count}"),
-        Event::ToClient(conn, count) => format!(in alloc; "to_client {conn} {count}"),
-        Event::Cut(conn) => format!(in alloc; "cut {conn}"),
-        Event::RestartServer => String::from_str(alloc, "restart_server"),
-        Event::RestartClient => String::from_str(alloc, "restart_client"),
+    let word = event_word(event);
+    match numbers_of(event) {
+        (None, _) => String::from_str(alloc, word),
+        (Some(first), None) => format!(in alloc; "{word} {first}"),
+        (Some(first), Some(second)) => format!(in alloc; "{word} {first} {second}"),
     }
 }
 
-fn ask_text(alloc: Global, lease: u32, request: &Request) -> Result<String, AllocError> {
-    let word = request_word(request);
+fn event_word(event: &Event) -> &'static str {
+    match event {
+        Event::Lease => "lease",
+        Event::Resume(_) => "resume",
+        Event::GiveBack(_) => "give_back",
+        Event::Keep(_) => "keep",
+        Event::Abandon(_) => "abandon",
+        Event::Ask(_, request) => request_word(request),
+        Event::Send(_) => "send",
+        Event::Cancel(_) => "cancel",
+        Event::Work(_) => "work",
+        Event::ToServer(_, _) => "to_server",
+        Event::ToClient(_, _) => "to_client",
+        Event::Cut(_) => "cut",
+        Event::RestartServer => "restart_server",
+        Event::RestartClient => "restart_client",
+    }
+}
+
+/// The numbers behind an event's word.
+fn numbers_of(event: &Event) -> (Option<u32>, Option<u32>) {
+    match event {
+        Event::Lease | Event::RestartServer | Event::RestartClient => (None, None),
+        Event::Resume(number)
+        | Event::GiveBack(number)
+        | Event::Keep(number)
+        | Event::Abandon(number)
+        | Event::Send(number)
+        | Event::Cancel(number)
+        | Event::Work(number)
+        | Event::Cut(number) => (Some(*number), None),
+        Event::Ask(lease, request) => (Some(*lease), level_of(request)),
+        Event::ToServer(conn, count) | Event::ToClient(conn, count) => (Some(*conn), Some(*count)),
+    }
+}
+
+/// The isolation level that a request names.
+fn level_of(request: &Request) -> Option<u32> {
     match request {
-        Request::Begin(level) | Request::Commit(Some(level)) | Request::Rollback(Some(level)) => {
-            format!(in alloc; "{word} {lease} {}", level.get())
-        }
-        _ => format!(in alloc; "{word} {lease}"),
+        Request::Begin(level) | Request::Commit(Some(level)) | Request::Rollback(Some(level)) =>
+            Some(u32::from(level.get())),
+        Request::Batch(_) | Request::Commit(None) | Request::Rollback(None) => None,
     }
 }
 
@@ -50,16 +75,20 @@ pub(crate) fn request_word(request: &Request) -> &'static str {
 /// What is asked for.
 pub(crate) fn request_text(alloc: Global, request: &Request) -> Result<String, AllocError> {
     let mut text = String::new(alloc);
+    put_request(&mut text, request)?;
+    Ok(text)
+}
+
+fn put_request(text: &mut String, request: &Request) -> Result<(), AllocError> {
     match request {
-        Request::Batch(batch) => put_units(&mut text, batch.units())?,
+        Request::Batch(batch) => put_units(text, batch.units()),
         Request::Begin(level) => {
             text.push_str("begin")?;
-            put_isolation(&mut text, *level)?;
+            put_isolation(text, *level)
         }
-        Request::Commit(anew) => put_ending(&mut text, "commit", *anew)?,
-        Request::Rollback(anew) => put_ending(&mut text, "rollback", *anew)?,
+        Request::Commit(anew) => put_ending(text, "commit", *anew),
+        Request::Rollback(anew) => put_ending(text, "rollback", *anew),
     }
-    Ok(text)
 }
 
 fn put_ending(text: &mut String, word: &str, anew: Option<Isolation>) -> Result<(), AllocError> {
@@ -133,6 +162,15 @@ pub(crate) fn session_text(
 ) -> Result<String, AllocError> {
     let mut text = String::new(alloc);
     put_descriptor(&mut text, session.descriptor())?;
+    put_settings(&mut text, session)?;
+    let had_settings = before.is_some_and(|before| has_settings(before));
+    if had_settings && !has_settings(session) {
+        text.push_str(", no settings")?;
+    }
+    Ok(text)
+}
+
+fn put_settings(text: &mut String, session: &Session) -> Result<(), AllocError> {
     let mut separator = ", ";
     for (index, setting) in session.settings().iter().enumerate() {
         if let Some(value) = setting {
@@ -141,10 +179,7 @@ pub(crate) fn session_text(
             separator = ",";
         }
     }
-    if separator == ", " && before.is_some_and(|before| has_settings(before)) {
-        text.push_str(", no settings")?;
-    }
-    Ok(text)
+    Ok(())
 }
 
 fn has_settings(session: &Session) -> bool {

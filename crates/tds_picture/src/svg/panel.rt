@@ -1,8 +1,8 @@
 //! A panel painted as SVG: its packets and texts.
 
-use crate::marks::{color_of, put_badge, put_ground, put_line, put_name, put_text, wide};
-use crate::plate::Plate;
 use crate::scene::{BarMark, Flight, FlightEnd, Label, Line, Look, Panel, PlaceMark, Sort, Spot};
+use crate::svg::marks::{color_of, put_badge, put_ground, put_line, put_name, put_text, wide};
+use crate::svg::plate::Plate;
 use std::alloc::{AllocError, Global};
 use std::fmt::Write;
 use tds_packet::Direction;

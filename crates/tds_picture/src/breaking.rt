@@ -7,19 +7,8 @@ const MOST: usize = 3;
 
 /// The lines of an ASCII text, three at most, each at most so wide: it is broken behind a space or a semicolon. What is
 /// cut off leaves two dots.
-pub(crate) fn broken(alloc: Global, text: &str, width: usize) -> Result<Vec<String>, AllocError> {
-    let mut lines = Vec::new(alloc);
-    let mut line = Vec::new(alloc);
-    let mut piece = Vec::new(alloc);
-    for byte in text.as_bytes() {
-        piece.push(*byte)?;
-        if matches!(*byte, b' ' | b';') {
-            put_piece(alloc, &mut lines, &mut line, piece.as_slice(), width)?;
-            piece.clear();
-        }
-    }
-    put_piece(alloc, &mut lines, &mut line, piece.as_slice(), width)?;
-    lines.push(line)?;
+pub fn broken(alloc: Global, text: &str, width: usize) -> Result<Vec<String>, AllocError> {
+    let lines = lines_of(alloc, text.as_bytes(), width)?;
     let is_cut = lines.len() > MOST;
     let mut texts = Vec::new(alloc);
     for (index, line) in lines.iter().take(MOST).enumerate() {
@@ -30,6 +19,25 @@ pub(crate) fn broken(alloc: Global, text: &str, width: usize) -> Result<Vec<Stri
         })?;
     }
     Ok(texts)
+}
+
+/// All lines of a text, with the spaces at their ends.
+fn lines_of(alloc: Global, text: &[u8], width: usize) -> Result<Vec<Vec<u8>>, AllocError> {
+    let mut lines = Vec::new(alloc);
+    let mut line = Vec::new(alloc);
+    let mut begin = 0usize;
+    for (index, byte) in text.iter().enumerate() {
+        if matches!(*byte, b' ' | b';') {
+            let end = index.saturating_add(1);
+            let piece = text.get(begin..end).unwrap_or(&[]);
+            put_piece(alloc, &mut lines, &mut line, piece, width)?;
+            begin = end;
+        }
+    }
+    let piece = text.get(begin..).unwrap_or(&[]);
+    put_piece(alloc, &mut lines, &mut line, piece, width)?;
+    lines.push(line)?;
+    Ok(lines)
 }
 
 /// Puts a piece behind a line, or begins the next line with it.
@@ -70,7 +78,7 @@ fn dotted(alloc: Global, text: &[u8], width: usize) -> Result<String, AllocError
 }
 
 /// An ASCII text, cut where it is wider.
-pub(crate) fn cut_to(alloc: Global, text: &str, width: usize) -> Result<String, AllocError> {
+pub fn cut_to(alloc: Global, text: &str, width: usize) -> Result<String, AllocError> {
     if text.len() <= width {
         return String::from_str(alloc, text);
     }

@@ -4,58 +4,58 @@ use tds_packet::Direction;
 
 /// A picture.
 #[derive(Drop)]
-pub(crate) struct Scene {
-    pub(crate) head: String,
+pub struct Scene {
+    pub head: String,
     /// How many panels a sheet has.
-    pub(crate) width: usize,
-    pub(crate) sheets: Vec<Sheet>,
+    pub width: usize,
+    pub sheets: Vec<Sheet>,
     /// Refused events that stand in no sheet.
-    pub(crate) below: Vec<String>,
+    pub below: Vec<String>,
 }
 
 /// Rows that have the same events in each panel.
 #[derive(Drop)]
-pub(crate) struct Sheet {
-    pub(crate) rows: Vec<Row>,
+pub struct Sheet {
+    pub rows: Vec<Row>,
     /// At least one.
-    pub(crate) panels: Vec<Panel>,
+    pub panels: Vec<Panel>,
 }
 
 /// The connections that stand in one place of the picture, one after the other.
 #[derive(Drop)]
-pub(crate) struct Panel {
+pub struct Panel {
     /// As many in each panel of a sheet.
-    pub(crate) lines: Vec<Line>,
-    pub(crate) labels: Vec<Label>,
-    pub(crate) flights: Vec<Flight>,
+    pub lines: Vec<Line>,
+    pub labels: Vec<Label>,
+    pub flights: Vec<Flight>,
 }
 
 /// An event, or the end.
 #[derive(Drop)]
-pub(crate) struct Row {
+pub struct Row {
     /// Its first line.
-    pub(crate) line: usize,
+    pub line: usize,
     /// The event's number; none of the end.
-    pub(crate) number: Option<usize>,
-    pub(crate) text: String,
-    pub(crate) is_muted: bool,
+    pub number: Option<usize>,
+    pub text: String,
+    pub is_muted: bool,
 }
 
 /// What runs down through a line.
 #[derive(Clone, Copy)]
-pub(crate) struct Line {
-    pub(crate) place: PlaceMark,
-    pub(crate) client: BarMark,
-    pub(crate) server: BarMark,
+pub struct Line {
+    pub place: PlaceMark,
+    pub client: BarMark,
+    pub server: BarMark,
     /// The request of the bars, 0 for none.
-    pub(crate) request: u32,
+    pub request: u32,
     /// Whether a restart cuts across it.
-    pub(crate) is_rule: bool,
+    pub is_rule: bool,
 }
 
 /// The caller's column.
 #[derive(Clone, Copy, PartialEq, Eq)]
-pub(crate) enum PlaceMark {
+pub enum PlaceMark {
     Nothing,
     LeaseBegins(u32),
     Lease,
@@ -67,7 +67,7 @@ pub(crate) enum PlaceMark {
 
 /// The column of an end of a connection.
 #[derive(Clone, Copy, PartialEq, Eq)]
-pub(crate) enum BarMark {
+pub enum BarMark {
     Nothing,
     /// The connection of this number is opened.
     Opened(u32),
@@ -83,7 +83,7 @@ pub(crate) enum BarMark {
 
 /// Where a text stands, and whether an arrow goes through it.
 #[derive(Clone, Copy, PartialEq, Eq)]
-pub(crate) enum Spot {
+pub enum Spot {
     /// At the caller.
     Place,
     /// On an arrow from the caller to the client.
@@ -97,7 +97,7 @@ pub(crate) enum Spot {
 }
 
 #[derive(Clone, Copy, PartialEq, Eq)]
-pub(crate) enum Look {
+pub enum Look {
     Plain,
     Muted,
     Bold,
@@ -110,22 +110,22 @@ pub(crate) enum Look {
 
 /// A line of a text.
 #[derive(Drop)]
-pub(crate) struct Label {
-    pub(crate) line: usize,
-    pub(crate) spot: Spot,
-    pub(crate) look: Look,
+pub struct Label {
+    pub line: usize,
+    pub spot: Spot,
+    pub look: Look,
     /// The request that it is about, 0 for none.
-    pub(crate) request: u32,
+    pub request: u32,
     /// Whether the request's number stands before it.
-    pub(crate) has_badge: bool,
-    pub(crate) text: String,
-    pub(crate) is_first: bool,
-    pub(crate) is_last: bool,
+    pub has_badge: bool,
+    pub text: String,
+    pub is_first: bool,
+    pub is_last: bool,
 }
 
 /// What a packet is.
 #[derive(Clone, Copy, PartialEq, Eq)]
-pub(crate) enum Sort {
+pub enum Sort {
     Request,
     /// The end of a request that is to be forgotten.
     Ignore,
@@ -136,27 +136,27 @@ pub(crate) enum Sort {
 
 /// A packet on its way.
 #[derive(Drop)]
-pub(crate) struct Flight {
-    pub(crate) direction: Direction,
-    pub(crate) sort: Sort,
-    pub(crate) request: u32,
-    pub(crate) name: String,
-    pub(crate) size: u64,
-    pub(crate) came: u64,
+pub struct Flight {
+    pub direction: Direction,
+    pub sort: Sort,
+    pub request: u32,
+    pub name: String,
+    pub size: u64,
+    pub came: u64,
     /// Its place among the packets of the play.
-    pub(crate) packet: usize,
+    pub packet: usize,
     /// The line where it leaves; none where that is above the picture.
-    pub(crate) from: Option<usize>,
+    pub from: Option<usize>,
     /// The lines where a part of it came.
-    pub(crate) parts: Vec<usize>,
-    pub(crate) end: FlightEnd,
+    pub parts: Vec<usize>,
+    pub end: FlightEnd,
     /// What stands beside a loose end.
-    pub(crate) note: String,
+    pub note: String,
 }
 
 /// Where a packet comes to, at which line.
 #[derive(Clone, Copy, PartialEq, Eq)]
-pub(crate) enum FlightEnd {
+pub enum FlightEnd {
     Open,
     Came(usize),
     /// It came, and nobody is given what it holds.
@@ -168,7 +168,7 @@ pub(crate) enum FlightEnd {
 }
 
 impl FlightEnd {
-    pub(crate) fn line(self) -> Option<usize> {
+    pub fn line(self) -> Option<usize> {
         match self {
             FlightEnd::Open => None,
             FlightEnd::Came(line)

@@ -1,8 +1,8 @@
 //! A sheet painted as SVG: its rows, and its panels side by side.
 
-use crate::marks::put_text;
-use crate::panel::Painted;
 use crate::scene::{Row, Sheet};
+use crate::svg::marks::put_text;
+use crate::svg::panel::Painted;
 use std::alloc::{AllocError, Global};
 use std::fmt::Write;
 

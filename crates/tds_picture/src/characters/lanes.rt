@@ -20,32 +20,43 @@ const LABEL: usize = 54;
 const LABEL_END: usize = 69;
 
 impl Canvas {
-    /// Paints the packets, each in the first lane that is free: the lanes first, since nothing goes over them.
+    /// Paints the packets: the lanes first, since nothing goes over them.
     pub(crate) fn paint_flights(
         &mut self,
         alloc: Global,
         flights: &[Flight],
     ) -> Result<(), AllocError> {
-        let mut lanes = Vec::new(alloc);
-        for flight in flights {
-            let lane = self.free_lane(flight);
-            lanes.push(lane)?;
-            self.paint_lane(flight, lane);
-        }
+        let lanes = self.paint_lanes(alloc, flights)?;
         for (flight, lane) in flights.iter().zip(lanes.iter()) {
             self.paint_runs(alloc, flight, *lane)?;
         }
         Ok(())
     }
 
+    /// Paints each packet's lane, the first one that is free, and answers where they are.
+    fn paint_lanes(&mut self, alloc: Global, flights: &[Flight]) -> Result<Vec<usize>, AllocError> {
+        let mut lanes = Vec::new(alloc);
+        for flight in flights {
+            let lane = self.free_lane(flight);
+            self.paint_lane(flight, lane);
+            lanes.push(lane)?;
+        }
+        Ok(lanes)
+    }
+
+    /// The first lane that is free where a packet leaves; the last one where none is.
     fn free_lane(&self, flight: &Flight) -> usize {
-        let lanes = match flight.direction {
-            Direction::ToServer => TO_SERVER,
-            Direction::ToClient => TO_CLIENT,
+        let (lanes, last) = match flight.direction {
+            Direction::ToServer => (TO_SERVER, TO_SERVER[3]),
+            Direction::ToClient => (TO_CLIENT, TO_CLIENT[3]),
         };
         let line = flight.from.unwrap_or(0);
-        let free = lanes.iter().find(|lane| !self.is_lane(line, **lane));
-        free.or(lanes.last()).copied().unwrap_or(WIRE)
+        for lane in lanes {
+            if !self.is_lane(line, lane) {
+                return lane;
+            }
+        }
+        last
     }
 
     fn paint_lane(&mut self, flight: &Flight, lane: usize) {
@@ -62,57 +73,40 @@ impl Canvas {
         for line in flight.parts.iter() {
             self.set_lane(*line, lane, b':');
         }
-        match flight.end {
-            FlightEnd::Came(_) | FlightEnd::Thrown(_) => self.set_lane(end, lane, b'\''),
-            FlightEnd::Underway(_) => self.set_lane(end, lane, b'o'),
-            FlightEnd::Lost(_) => self.set_lane(end, lane, b'x'),
-            FlightEnd::Hidden(_) | FlightEnd::Open => {}
+        if let Some(byte) = end_byte(flight.end) {
+            self.set_lane(end, lane, byte);
         }
     }
 
+    /// Paints a packet level from its sender to its lane, and from its lane to its receiver.
     fn paint_runs(
         &mut self,
         alloc: Global,
         flight: &Flight,
         lane: usize,
     ) -> Result<(), AllocError> {
-        let byte = match flight.sort {
-            Sort::Attention | Sort::Acknowledgement => b'=',
-            Sort::Ignore => b'~',
-            _ => b'-',
-        };
-        let left = (WIRE, lane);
-        let right = (lane.saturating_add(1), SERVER);
-        let (leaving, coming, head) = match flight.direction {
-            Direction::ToServer => (left, right, SERVER.saturating_sub(1)),
-            Direction::ToClient => (right, left, WIRE),
-        };
+        let runs = Runs::of(flight, lane);
         if let Some(line) = flight.from {
-            self.run(line, leaving.0, leaving.1, byte);
+            self.run(line, runs.leaving.0, runs.leaving.1, runs.byte);
             self.paint_name(alloc, flight, line)?;
         }
         for line in flight.parts.iter() {
-            self.run(*line, coming.0, coming.1, b'.');
+            self.run(*line, runs.coming.0, runs.coming.1, b'.');
         }
         match flight.end {
-            FlightEnd::Came(line) => {
-                self.run(line, coming.0, coming.1, byte);
-                let arrow = match flight.direction {
-                    Direction::ToServer => b'>',
-                    Direction::ToClient => b'<',
-                };
-                self.set(line, head, arrow);
-            }
-            FlightEnd::Thrown(line) => {
-                self.run(line, coming.0, coming.1, byte);
-                self.set(line, head, b'x');
-            }
+            FlightEnd::Came(line) => self.paint_arrival(line, runs, runs.arrow),
+            FlightEnd::Thrown(line) => self.paint_arrival(line, runs, b'x'),
             FlightEnd::Underway(line) | FlightEnd::Lost(line) => {
                 self.paint_note(flight, line, lane);
             }
             FlightEnd::Hidden(_) | FlightEnd::Open => {}
         }
         Ok(())
+    }
+
+    fn paint_arrival(&mut self, line: usize, runs: Runs, head: u8) {
+        self.run(line, runs.coming.0, runs.coming.1, runs.byte);
+        self.set(line, runs.head, head);
     }
 
     /// Paints what stands beside a loose end, on the receiver's side and behind the other lanes there.
@@ -159,5 +153,57 @@ impl Canvas {
         };
         self.write(line, column, text.as_str());
         Ok(())
+    }
+}
+
+/// What stands at the end of a lane.
+fn end_byte(end: FlightEnd) -> Option<u8> {
+    match end {
+        FlightEnd::Came(_) | FlightEnd::Thrown(_) => Some(b'\''),
+        FlightEnd::Underway(_) => Some(b'o'),
+        FlightEnd::Lost(_) => Some(b'x'),
+        FlightEnd::Hidden(_) | FlightEnd::Open => None,
+    }
+}
+
+/// A packet's two level runs, each from a column to behind another one.
+#[derive(Clone, Copy)]
+struct Runs {
+    /// From its sender to its lane.
+    leaving: (usize, usize),
+    /// From its lane to its receiver.
+    coming: (usize, usize),
+    /// What they are painted with.
+    byte: u8,
+    /// The column of its arrow, and the arrow.
+    head: usize,
+    arrow: u8,
+}
+
+impl Runs {
+    fn of(flight: &Flight, lane: usize) -> Runs {
+        let byte = match flight.sort {
+            Sort::Attention | Sort::Acknowledgement => b'=',
+            Sort::Ignore => b'~',
+            Sort::Request | Sort::Answer => b'-',
+        };
+        let left = (WIRE, lane);
+        let right = (lane.saturating_add(1), SERVER);
+        match flight.direction {
+            Direction::ToServer => Runs {
+                leaving: left,
+                coming: right,
+                byte,
+                head: SERVER.saturating_sub(1),
+                arrow: b'>',
+            },
+            Direction::ToClient => Runs {
+                leaving: right,
+                coming: left,
+                byte,
+                head: WIRE,
+                arrow: b'<',
+            },
+        }
     }
 }

@@ -1,14 +1,18 @@
 //! A scene painted as SVG, in pixels.
 
-use crate::drawing::Widths;
-use crate::layout::{Arrangement, Choice, lay_out};
-use crate::marks::{color_of, put_escaped, put_text};
-use crate::plate::{Plate, width_of};
+mod columns;
+mod marks;
+mod panel;
+mod plate;
+mod style;
+
 use crate::scene::{BarMark, FlightEnd, Scene};
-use crate::style::STYLE;
+use crate::svg::marks::{color_of, put_escaped, put_text};
+use crate::svg::plate::{Plate, width_of};
+use crate::svg::style::STYLE;
+use crate::widths::Widths;
 use std::alloc::{AllocError, Global};
 use std::fmt::Write;
-use tds_exchange::Exchange;
 
 /// Where the first row begins.
 const TOP: usize = 34;
@@ -18,21 +22,16 @@ const BETWEEN: usize = 16;
 
 const LINE: usize = 17;
 
-const WIDTHS: Widths = Widths {
+/// The room that texts have in SVG.
+pub const SVG_WIDTHS: Widths = Widths {
     event: 18,
     place: 25,
     client: 26,
     server: 29,
 };
 
-/// A play as a sequence picture in SVG.
-pub fn draw_svg(
-    alloc: Global,
-    exchange: &Exchange,
-    choice: Choice,
-    arrangement: Arrangement,
-) -> Result<String, AllocError> {
-    let scene = lay_out(alloc, exchange, choice, arrangement, WIDTHS)?;
+/// Paints a scene as SVG.
+pub fn paint_svg(alloc: Global, scene: &Scene) -> Result<String, AllocError> {
     let width = width_of(scene.width);
     let mut body = String::new(alloc);
     let mut bottom = TOP;
@@ -45,9 +44,9 @@ pub fn draw_svg(
         bottom = bottom.saturating_add(LINE);
         put_text(&mut body, 12, bottom, "muted", line.as_str())?;
     }
-    let bottom = put_legend(&mut body, &scene, bottom)?;
+    let bottom = put_legend(&mut body, scene, bottom)?;
     let mut picture = String::new(alloc);
-    put_head(&mut picture, &scene, width, bottom.saturating_add(12))?;
+    put_head(&mut picture, scene, width, bottom.saturating_add(12))?;
     picture.push_str(body.as_str())?;
     picture.push_str("</svg>\n")?;
     Ok(picture)

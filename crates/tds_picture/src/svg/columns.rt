@@ -1,8 +1,8 @@
 //! What runs down in a panel, painted as SVG.
 
-use crate::marks::{color_of, put_cross};
-use crate::panel::Painted;
 use crate::scene::{BarMark, Line, PlaceMark};
+use crate::svg::marks::{color_of, put_cross};
+use crate::svg::panel::Painted;
 use std::alloc::AllocError;
 use std::fmt::Write;
 

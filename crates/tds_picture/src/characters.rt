@@ -1,0 +1,323 @@
+//! A scene painted in characters, 100 a line at most.
+
+mod lanes;
+
+use crate::breaking::cut_to;
+use crate::scene::{
+    BarMark, FlightEnd, Label, Line, Look, Panel, PlaceMark, Row, Scene, Sheet, Spot,
+};
+use crate::widths::Widths;
+use std::alloc::{AllocError, Global};
+use std::fmt::Write;
+
+/// How wide a line is, and where its columns begin.
+const WIDTH: usize = 100;
+
+const PLACE: usize = 21;
+
+const NOTES: usize = 24;
+
+const CLIENT: usize = 44;
+
+pub(crate) const SERVER: usize = 77;
+
+const SERVER_NOTES: usize = 79;
+
+/// The room that texts have in characters.
+pub const CHARACTER_WIDTHS: Widths = Widths {
+    event: 16,
+    place: 20,
+    client: 19,
+    server: 20,
+};
+
+/// What a mark of the picture means, where it occurs.
+const LEGEND: [(u8, &str); 5] = [
+    (b'+', "+ sends or takes a request\n"),
+    (b'#', "# reads or works\n"),
+    (b'!', "! cancelling: waits for DONE attn\n"),
+    (b'x', "x thrown away\n"),
+    (b'.', ". . a part has come\n"),
+];
+
+/// Paints a scene in characters: of each sheet the first panel.
+pub fn paint_characters(alloc: Global, scene: &Scene) -> Result<String, AllocError> {
+    let mut text = String::from_str(alloc, scene.head.as_str())?;
+    text.push_str("\n")?;
+    for sheet in scene.sheets.iter() {
+        text.push_str("\n")?;
+        put_sheet(alloc, &mut text, sheet)?;
+    }
+    put_below(&mut text, scene.below.as_slice())?;
+    put_legend(&mut text, scene)?;
+    Ok(text)
+}
+
+/// Appends a sheet's first panel: characters have no room for two side by side.
+fn put_sheet(alloc: Global, text: &mut String, sheet: &Sheet) -> Result<(), AllocError> {
+    let Some(panel) = sheet.panels.first() else {
+        return Ok(());
+    };
+    let mut canvas = Canvas {
+        lines: Vec::new(alloc),
+        lanes: Vec::new(alloc),
+    };
+    canvas.paint(alloc, panel, sheet.rows.as_slice())?;
+    canvas.put(text)
+}
+
+/// Appends the lines below the sheets.
+fn put_below(text: &mut String, below: &[String]) -> Result<(), AllocError> {
+    if !below.is_empty() {
+        text.push_str("\n")?;
+    }
+    for line in below {
+        text.push_str(line.as_str())?;
+        text.push_str("\n")?;
+    }
+    Ok(())
+}
+
+/// Appends what the marks mean that occur.
+fn put_legend(text: &mut String, scene: &Scene) -> Result<(), AllocError> {
+    let mut is_first = true;
+    for (mark, meaning) in &LEGEND {
+        if !occurs(scene, *mark) {
+            continue;
+        }
+        if is_first {
+            text.push_str("\n")?;
+            is_first = false;
+        }
+        text.push_str(meaning)?;
+    }
+    Ok(())
+}
+
+/// Whether a mark of the legend occurs in what is painted.
+fn occurs(scene: &Scene, mark: u8) -> bool {
+    for sheet in scene.sheets.iter() {
+        if let Some(panel) = sheet.panels.first() {
+            if has_mark(panel, mark) {
+                return true;
+            }
+        }
+    }
+    false
+}
+
+fn has_mark(panel: &Panel, mark: u8) -> bool {
+    let mut flights = panel.flights.iter();
+    let mut lines = panel.lines.iter();
+    match mark {
+        b'x' => flights.any(|it| matches!(it.end, FlightEnd::Thrown(_))),
+        b'.' => flights.any(|it| !it.parts.is_empty()),
+        _ => lines.any(|it| bar_byte(it.client) == mark || bar_byte(it.server) == mark),
+    }
+}
+
+/// The lines of a panel.
+#[derive(Drop)]
+pub(crate) struct Canvas {
+    lines: Vec<Vec<u8>>,
+    /// Whether a lane goes through each place.
+    lanes: Vec<Vec<u8>>,
+}
+
+impl Canvas {
+    /// Paints a panel: what runs down first, and texts last.
+    fn paint(&mut self, alloc: Global, panel: &Panel, rows: &[Row]) -> Result<(), AllocError> {
+        for line in panel.lines.iter() {
+            self.lines.push(Vec::from_slice(alloc, &[b' '; WIDTH])?)?;
+            self.lanes.push(Vec::from_slice(alloc, &[b' '; WIDTH])?)?;
+            self.paint_line(alloc, line)?;
+        }
+        for row in rows {
+            self.paint_row(alloc, row)?;
+        }
+        self.paint_flights(alloc, panel.flights.as_slice())?;
+        for label in panel.labels.iter() {
+            self.paint_label(alloc, label)?;
+        }
+        Ok(())
+    }
+
+    /// Appends the lines, without the spaces at their ends.
+    fn put(&self, text: &mut String) -> Result<(), AllocError> {
+        for line in self.lines.iter() {
+            let end = line.iter().rposition(|byte| *byte != b' ').unwrap_or(0);
+            for byte in line.as_slice().get(..=end).unwrap_or(&[]) {
+                text.push(char::from((*byte).min(126)))?;
+            }
+            text.push_str("\n")?;
+        }
+        Ok(())
+    }
+
+    pub(crate) fn set(&mut self, line: usize, column: usize, byte: u8) {
+        set_byte(&mut self.lines, line, column, byte);
+    }
+
+    pub(crate) fn write(&mut self, line: usize, column: usize, text: &str) {
+        for (index, byte) in text.as_bytes().iter().enumerate() {
+            self.set(line, column.saturating_add(index), *byte);
+        }
+    }
+
+    pub(crate) fn is_lane(&self, line: usize, column: usize) -> bool {
+        let Some(lanes) = self.lanes.get(line) else {
+            return false;
+        };
+        matches!(lanes.get(column), Some(b'|'))
+    }
+
+    /// Paints a place of a lane.
+    pub(crate) fn set_lane(&mut self, line: usize, column: usize, byte: u8) {
+        self.set(line, column, byte);
+        set_byte(&mut self.lanes, line, column, b'|');
+    }
+
+    /// Paints from a column to behind another one, but over no lane.
+    pub(crate) fn run(&mut self, line: usize, from: usize, to: usize, byte: u8) {
+        for column in from..to {
+            if !self.is_lane(line, column) {
+                self.set(line, column, byte);
+            }
+        }
+    }
+
+    /// Paints what runs down through the line that was put last.
+    fn paint_line(&mut self, alloc: Global, line: &Line) -> Result<(), AllocError> {
+        let index = self.lines.len().saturating_sub(1);
+        if line.is_rule {
+            self.run(index, PLACE.saturating_add(1), WIDTH, b'=');
+        }
+        self.paint_place(alloc, index, line.place)?;
+        self.paint_bar(alloc, index, CLIENT, line.client, 'C')?;
+        self.paint_bar(alloc, index, SERVER, line.server, 'S')
+    }
+
+    fn paint_place(
+        &mut self,
+        alloc: Global,
+        line: usize,
+        mark: PlaceMark,
+    ) -> Result<(), AllocError> {
+        match mark {
+            PlaceMark::Nothing => {}
+            PlaceMark::Lease => self.set(line, PLACE, b'|'),
+            PlaceMark::Ticket => self.set(line, PLACE, b':'),
+            PlaceMark::Draining => self.set(line, PLACE, b'~'),
+            PlaceMark::DrainingBegins => self.write(line, PLACE, "~~"),
+            PlaceMark::LeaseBegins(lease) => {
+                self.write(line, PLACE, format!(in alloc; "L{lease}")?.as_str());
+            }
+            PlaceMark::TicketBegins(ticket) => {
+                self.write(line, PLACE, format!(in alloc; "T{ticket}")?.as_str());
+            }
+        }
+        Ok(())
+    }
+
+    fn paint_bar(
+        &mut self,
+        alloc: Global,
+        line: usize,
+        column: usize,
+        mark: BarMark,
+        end: char,
+    ) -> Result<(), AllocError> {
+        match mark {
+            BarMark::Nothing => {}
+            BarMark::Opened(conn) => {
+                let text = format!(in alloc; "({end}{conn})")?;
+                self.write(line, column.saturating_sub(2), text.as_str());
+            }
+            _ => self.set(line, column, bar_byte(mark)),
+        }
+        Ok(())
+    }
+
+    fn paint_row(&mut self, alloc: Global, row: &Row) -> Result<(), AllocError> {
+        let text = match row.number {
+            Some(number) => format!(in alloc; "{number:3} {}", row.text)?,
+            None => format!(in alloc; "    {}", row.text)?,
+        };
+        let text = cut_to(alloc, text.as_str(), PLACE.saturating_sub(1))?;
+        self.write(row.line, 0, text.as_str());
+        Ok(())
+    }
+
+    fn paint_label(&mut self, alloc: Global, label: &Label) -> Result<(), AllocError> {
+        let text = label_text(alloc, label)?;
+        let text = text.as_str();
+        let line = label.line;
+        let right = CLIENT.saturating_sub(1).saturating_sub(text.len());
+        if label.is_last {
+            self.paint_arrow(label.spot, line, right, NOTES.saturating_add(text.len()));
+        }
+        match label.spot {
+            Spot::Place | Spot::Asked => self.write(line, NOTES, text),
+            Spot::Server => self.write(line, SERVER_NOTES, text),
+            Spot::Client | Spot::Told => self.write(line, right, text),
+        }
+        Ok(())
+    }
+
+    /// Paints the arrow between a caller and its client: of what is told up to this column, of what is asked from
+    /// behind that one on.
+    fn paint_arrow(&mut self, spot: Spot, line: usize, to: usize, from: usize) {
+        let first = PLACE.saturating_add(1);
+        match spot {
+            Spot::Asked => {
+                self.set(line, first, b'-');
+                self.run(line, from.saturating_add(1), CLIENT, b'-');
+                self.set(line, CLIENT.saturating_sub(1), b'>');
+            }
+            Spot::Told => {
+                self.run(line, first, to.saturating_sub(1), b'-');
+                self.set(line, first, b'<');
+            }
+            Spot::Place | Spot::Client | Spot::Server => {}
+        }
+    }
+}
+
+/// A label with its number and what its look adds.
+fn label_text(alloc: Global, label: &Label) -> Result<String, AllocError> {
+    let mut text = String::new(alloc);
+    if label.has_badge {
+        write!(text, "{}:", label.request)?;
+    }
+    match label.look {
+        Look::Struck if label.is_first => text.push_str("x ")?,
+        Look::Pill if label.is_first => text.push_str("[")?,
+        _ => {}
+    }
+    text.push_str(label.text.as_str())?;
+    if label.look == Look::Pill && label.is_last {
+        text.push_str("]")?;
+    }
+    Ok(text)
+}
+
+/// Puts a byte into a line, where there is a place for it.
+fn set_byte(lines: &mut Vec<Vec<u8>>, line: usize, column: usize, byte: u8) {
+    let Some(line) = lines.get_mut(line) else {
+        return;
+    };
+    if let Some(place) = line.get_mut(column) {
+        *place = byte;
+    }
+}
+
+fn bar_byte(mark: BarMark) -> u8 {
+    match mark {
+        BarMark::Nothing | BarMark::Opened(_) => b' ',
+        BarMark::Life => b'|',
+        BarMark::Passing => b'+',
+        BarMark::Busy => b'#',
+        BarMark::Cancelling => b'!',
+        BarMark::Cut => b'X',
+    }
+}
