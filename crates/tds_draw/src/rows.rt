@@ -122,7 +122,7 @@ impl<'a> Drawing<'a> {
 
     fn draw_lease(&mut self, opened: Opened, moment: Moment<'a>) -> Result<(), AllocError> {
         self.note(match opened {
-            Opened::New => "new connection",
+            Opened::New => "new",
             Opened::Reused => "reused",
             Opened::Resumed => "resumed",
         })?;

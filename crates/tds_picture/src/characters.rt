@@ -137,7 +137,8 @@ impl Canvas {
         }
         self.paint_flights(alloc, panel.flights.as_slice())?;
         for label in panel.labels.iter() {
-            self.paint_label(alloc, label)?;
+            let place = panel.lines.get(label.line).map(|it| it.place);
+            self.paint_label(alloc, label, place.unwrap_or(PlaceMark::Nothing))?;
         }
         Ok(())
     }
@@ -192,31 +193,9 @@ impl Canvas {
         if line.is_rule {
             self.run(index, PLACE.saturating_add(1), WIDTH, b'=');
         }
-        self.paint_place(alloc, index, line.place)?;
-        self.paint_bar(alloc, index, CLIENT, line.client, 'C')?;
-        self.paint_bar(alloc, index, SERVER, line.server, 'S')
-    }
-
-    fn paint_place(
-        &mut self,
-        alloc: Global,
-        line: usize,
-        mark: PlaceMark,
-    ) -> Result<(), AllocError> {
-        match mark {
-            PlaceMark::Nothing => {}
-            PlaceMark::Lease => self.set(line, PLACE, b'|'),
-            PlaceMark::Ticket => self.set(line, PLACE, b':'),
-            PlaceMark::Draining => self.set(line, PLACE, b'~'),
-            PlaceMark::DrainingBegins => self.write(line, PLACE, "~~"),
-            PlaceMark::LeaseBegins(lease) => {
-                self.write(line, PLACE, format!(in alloc; "L{lease}")?.as_str());
-            }
-            PlaceMark::TicketBegins(ticket) => {
-                self.write(line, PLACE, format!(in alloc; "T{ticket}")?.as_str());
-            }
-        }
-        Ok(())
+        self.set(index, PLACE, place_byte(line.place));
+        self.paint_bar(alloc, index, CLIENT, line.client, "client")?;
+        self.paint_bar(alloc, index, SERVER, line.server, "server")
     }
 
     fn paint_bar(
@@ -225,13 +204,13 @@ impl Canvas {
         line: usize,
         column: usize,
         mark: BarMark,
-        end: char,
+        end: &str,
     ) -> Result<(), AllocError> {
         match mark {
             BarMark::Nothing => {}
             BarMark::Opened(conn) => {
-                let text = format!(in alloc; "({end}{conn})")?;
-                self.write(line, column.saturating_sub(2), text.as_str());
+                let text = format!(in alloc; "({end} {conn})")?;
+                self.write(line, column.saturating_sub(4), text.as_str());
             }
             _ => self.set(line, column, bar_byte(mark)),
         }
@@ -248,8 +227,13 @@ impl Canvas {
         Ok(())
     }
 
-    fn paint_label(&mut self, alloc: Global, label: &Label) -> Result<(), AllocError> {
-        let text = label_text(alloc, label)?;
+    fn paint_label(
+        &mut self,
+        alloc: Global,
+        label: &Label,
+        place: PlaceMark,
+    ) -> Result<(), AllocError> {
+        let text = label_text(alloc, label, place)?;
         let text = text.as_str();
         let line = label.line;
         let right = CLIENT.saturating_sub(1).saturating_sub(text.len());
@@ -283,9 +267,14 @@ impl Canvas {
     }
 }
 
-/// A label with its number and what its look adds.
-fn label_text(alloc: Global, label: &Label) -> Result<String, AllocError> {
+/// A label with its number, what its look adds, and at a caller the lease or ticket that begins in its line.
+fn label_text(alloc: Global, label: &Label, place: PlaceMark) -> Result<String, AllocError> {
     let mut text = String::new(alloc);
+    match (label.spot, place) {
+        (Spot::Place, PlaceMark::LeaseBegins(lease)) => write!(text, "lease {lease}: ")?,
+        (Spot::Place, PlaceMark::TicketBegins(ticket)) => write!(text, "ticket {ticket}: ")?,
+        _ => {}
+    }
     if label.has_badge {
         write!(text, "{}:", label.request)?;
     }
@@ -308,6 +297,15 @@ fn set_byte(lines: &mut Vec<Vec<u8>>, line: usize, column: usize, byte: u8) {
     };
     if let Some(place) = line.get_mut(column) {
         *place = byte;
+    }
+}
+
+fn place_byte(mark: PlaceMark) -> u8 {
+    match mark {
+        PlaceMark::Nothing => b' ',
+        PlaceMark::LeaseBegins(_) | PlaceMark::Lease => b'|',
+        PlaceMark::TicketBegins(_) | PlaceMark::Ticket => b':',
+        PlaceMark::DrainingBegins | PlaceMark::Draining => b'~',
     }
 }
 
