@@ -1,16 +1,13 @@
-//! What stands between a logged-in peer and the server's end: it hands on each packet, a batch without
-//! the line ends behind its text, and answers a setting that a driver sends by itself.
+//! What stands between a logged-in peer and the server: it hands on each packet, a batch without the
+//! line ends behind its text, and answers a setting that a driver sends by itself.
 ghost use Rattle.std.specs.Prelude.{◌≡◌, ◌+◌, ◌≤◌, length, vec_len, IfOk};
 ghost use Rattle.tds_packet.specs.declared.kind.Direction.TheVariants.{ToServer};
 
 use std::alloc::{AllocError, Global};
-use tds_ends::{ServerEnd, ServerStop};
 use tds_login::{is_own_setting, put_done, without_line_ends};
-use tds_packet::{Direction, Kind, PacketReader, PacketSize, Status, put_sent};
+use tds_packet::{Direction, Kind, PacketReader, PacketRef, PacketSize, Status};
+use tds_server::{Server, ServerTook};
 use tds_session::ScriptEngine;
-
-/// The most bytes that answer a packet at once.
-const AT_ONCE: usize = 512;
 
 /// What came of bytes.
 #[derive(Clone, Copy, Debug, PartialEq, Eq)]
@@ -27,7 +24,7 @@ pub enum Took {
     Held,
     /// A setting of the driver's own. It is answered.
     Setting,
-    /// The server's end does not take it, and is broken.
+    /// The server does not take it, and is broken.
     Fault,
 }
 
@@ -35,10 +32,6 @@ pub enum Took {
 #[derive(Drop)]
 pub struct Front {
     reader: PacketReader,
-    /// The packet as it is handed on.
-    packet: Vec<u8>,
-    /// What answers it at once.
-    reply: Vec<u8>,
     /// Whether a message has begun and not ended.
     inside: bool,
     ghost reads: { reader.direction ≡ ToServer },
@@ -49,8 +42,6 @@ impl Front {
     pub fn new(alloc: Global, size: PacketSize) -> Result<Front, AllocError> {
         Ok(Front {
             reader: PacketReader::new(alloc, size, Direction::ToServer)?,
-            packet: Vec::with_capacity(alloc, usize::from(size.get()))?,
-            reply: Vec::new(alloc),
             inside: false,
         })
     }
@@ -61,13 +52,13 @@ impl Front {
     pub fn take(
         &mut self,
         alloc: Global,
-        end: &mut ServerEnd<ScriptEngine>,
+        server: &mut Server<ScriptEngine>,
         waits: bool,
         piece: &[u8],
         out: &mut Vec<u8>,
     ) -> Result<(usize, Took), AllocError>
         ensures within { IfOk result (λ x. x.0 ≤ length piece.now) }
-        ensures adds { vec_len out.new ≤ vec_len out.old + 512 }
+        ensures adds { vec_len out.new ≤ vec_len out.old + 35 }
     {
         let Ok(count) = self.reader.feed(piece) else {
             return Ok((0, Took::Fault));
@@ -91,35 +82,13 @@ impl Front {
             put_done(alloc, out)?;
             return Ok((count, Took::Setting));
         }
-        self.packet.clear();
-        let id = packet.header.packet_id;
-        put_sent(&mut self.packet, kind, status, id, data)?;
+        let header = packet.header;
+        let took = server.take(PacketRef { header, data }, out);
         self.reader.done();
-        Ok((count, self.hand_on(end, kind, status, out)?))
-    }
-
-    /// Hands the packet on. What it is answered with at once has at most 512 bytes.
-    fn hand_on(
-        &mut self,
-        end: &mut ServerEnd<ScriptEngine>,
-        kind: Kind,
-        status: Status,
-        out: &mut Vec<u8>,
-    ) -> Result<Took, AllocError>
-        ensures reads { self.new.reader ≡ self.old.reader }
-        ensures adds { vec_len out.new ≤ vec_len out.old + 512 }
-    {
-        self.reply.clear();
-        let stop = end.serve(self.packet.as_slice(), &mut self.reply).stop;
-        if self.reply.len() > AT_ONCE {
-            return Ok(Took::Fault);
-        }
-        out.extend_from_slice(self.reply.as_slice())?;
-        match stop {
-            None if status.ends() && !status.is_ignored() => Ok(took_of(kind)),
-            None => Ok(Took::Part),
-            Some(ServerStop::NoMemory) => Err(AllocError),
-            Some(_) => Ok(Took::Fault),
+        match took {
+            Ok(ServerTook::NoMemory) => Err(AllocError),
+            Ok(took) => Ok((count, took_of(kind, took))),
+            Err(_) => Ok((count, Took::Fault)),
         }
     }
 }
@@ -129,12 +98,12 @@ fn is_plain(status: Status) -> bool {
     status.reset().is_none() && !status.asks_for_both_resets() && !status.is_ignored()
 }
 
-/// What a message of this kind is.
-fn took_of(kind: Kind) -> Took {
-    match kind {
-        Kind::Batch => Took::Batch,
-        Kind::Transaction => Took::Transaction,
-        Kind::Attention => Took::Attention,
-        Kind::Answer => Took::Fault,
+/// What the server took with a packet of this kind.
+fn took_of(kind: Kind, took: ServerTook) -> Took {
+    match took {
+        ServerTook::Request if kind == Kind::Batch => Took::Batch,
+        ServerTook::Request => Took::Transaction,
+        ServerTook::Acknowledged => Took::Attention,
+        ServerTook::More | ServerTook::Dropped | ServerTook::NoMemory => Took::Part,
     }
 }

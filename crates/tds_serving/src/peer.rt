@@ -4,10 +4,9 @@ ghost use Rattle.std.specs.Prelude.{◌+◌, ◌*◌, ◌≤◌, length, vec_len
 use crate::front::{Front, Took};
 use crate::script::Script;
 use std::alloc::{AllocError, Global};
-use tds_ends::ServerEnd;
 use tds_login::{Login, LoginAnswer, Refusal, put_answer, put_error};
 use tds_packet::PacketSize;
-use tds_server::Worked;
+use tds_server::{Server, Worked};
 use tds_session::{OnAttention, ScriptEngine};
 
 /// How many bytes may wait for a peer before its steps wait too.
@@ -25,7 +24,7 @@ enum Stage {
     Login(Login),
     Session {
         front: Front,
-        end: ServerEnd<ScriptEngine>,
+        server: Server<ScriptEngine>,
     },
     Over,
 }
@@ -167,8 +166,8 @@ impl Peer {
                 };
                 Ok((count, self.answer(&answer, out, notes)?))
             }
-            Stage::Session { front, end } => {
-                let (count, took) = front.take(self.alloc, end, waits, piece, out)?;
+            Stage::Session { front, server } => {
+                let (count, took) = front.take(self.alloc, server, waits, piece, out)?;
                 Ok((count, self.note(took, out, notes)?))
             }
             Stage::Over => Ok((0, Next::Close)),
@@ -269,11 +268,11 @@ impl Peer {
     fn step(&mut self, out: &mut Vec<u8>) -> Result<bool, AllocError>
         ensures { vec_len out.new ≤ vec_len out.old + 512 }
     {
-        let Stage::Session { end, .. } = &mut self.stage else {
+        let Stage::Session { server, .. } = &mut self.stage else {
             self.answering = Answering::No;
             return Ok(false);
         };
-        match end.work(out)? {
+        match server.work(out)? {
             Worked::Step => {
                 self.steps = self.steps.saturating_add(1);
                 Ok(false)
@@ -290,10 +289,10 @@ impl Peer {
     fn take_held(&mut self, out: &mut Vec<u8>, notes: &mut Vec<Note>) -> Result<Next, AllocError>
         ensures { vec_len out.new ≤ vec_len out.old + 4608 }
     {
-        let Stage::Session { front, end } = &mut self.stage else {
+        let Stage::Session { front, server } = &mut self.stage else {
             return Ok(Next::Stay);
         };
-        let (_, took) = front.take(self.alloc, end, false, &[], out)?;
+        let (_, took) = front.take(self.alloc, server, false, &[], out)?;
         let next = self.note(took, out, notes)?;
         if next == Next::Close {
             self.stage = Stage::Over;
@@ -310,7 +309,7 @@ fn session(
 ) -> Result<Stage, AllocError> {
     Ok(Stage::Session {
         front: Front::new(alloc, size)?,
-        end: ServerEnd::with_attention(alloc, ScriptEngine, size, on_attention)?,
+        server: Server::with_attention(alloc, ScriptEngine, size, on_attention),
     })
 }
 
