@@ -29,7 +29,7 @@ stop_number stops.NoPacket = 25
 stop_number stops.NoPlace = 26
 stop_number (stops.Refused refusal) = refusal_number refusal
 stop_number (stops.Packet fault) = 40 + packet.fault_number fault
-stop_number (stops.Token fault) = 50 + token.number_of fault
+stop_number (stops.Token fault) = 50 + token.fault_number fault
 stop_number (stops.Client fault) = 60 + fault_number fault
 
 abbrev pub done_number : Unit {0} → ℕ

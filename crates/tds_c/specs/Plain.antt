@@ -5,7 +5,7 @@ use Rattle.tds_packet.specs.declared.status.Reset.TheVariants.{Full, KeepTransac
 use Rattle.tds_packet.specs.Layout.{kind_byte, kind_of}
 use Rattle.tds_token.specs.declared.fault.TokenFault.{TokenFault}
 use Rattle.tds_token.specs.declared.fault.TokenFault.TheVariants as tokens
-use Rattle.tds_token.specs.Faults.{number_of}
+use Rattle.tds_token.specs.Faults as token
 use Rattle.tds_client.specs.declared.client.parts.ClientParts.{ClientParts}
 use Rattle.tds_client.specs.declared.client.parts.StageParts.{StageParts}
 use Rattle.tds_client.specs.declared.client.parts.StageParts.TheVariants as stages
@@ -71,7 +71,7 @@ token_fault_number faults.WrongEnvChange = 0
 token_fault_number faults.UnaskedReset = 0
 token_fault_number faults.NoFinalDone = 0
 token_fault_number faults.BehindFinalDone = 0
-token_fault_number (faults.Token fault) = number_of fault
+token_fault_number (faults.Token fault) = token.fault_number fault
 token_fault_number faults.Lost = 0
 
 abbrev pub broken_number : (ClientFault → ℕ) → StageParts → ℕ

@@ -6,13 +6,13 @@ use Rattle.tds_request.specs.declared.fault.RequestFault.TheVariants.{Short, Wro
 use Rattle.tds_request.specs.declared.request.Request.TheVariants as requests
 use Rattle.tds_request.specs.declared.request.RequestKind.{RequestKind}
 use Rattle.tds_request.specs.declared.request.RequestKind.TheVariants as kinds
-use Rattle.tds_request.specs.Faults.{number_of}
+use Rattle.tds_request.specs.Faults.{fault_number}
 use Rattle.tds_request.specs.Reading.{Gives, ◌>>=◌, number_at, byte_at, number_is_at, byte_is_at, header_fields_at, headers_at, is_text_length, batch_in, ended, isolation_of, begun_in, begun_anew_in, end_in, transaction_in, body_in, read_request}
 
 -- it is no want of memory
 abbrev IsFree : {A : Type 0} → Result A RequestFault → Type 0
 IsFree (Ok x) = Unit {0}
-IsFree (Err fault) = eqb (number_of fault) 11 ≡ false
+IsFree (Err fault) = eqb (fault_number fault) 11 ≡ false
 
 free_bind : {A B : Type 0} (r : Result A RequestFault) (f : A → Result B RequestFault) → IsFree r → ((x : A) → IsFree (f x)) → IsFree (r >>= f)
 free_bind (Ok x) f free next = next x
@@ -29,11 +29,11 @@ free_byte (b ∷ rest) = tt
 free_number : (w : Width) (bytes : List ℕ) → IsFree (number_at w bytes)
 free_number w bytes = free_cond (ltb (length bytes) (byte_len w)) _ _ refl tt
 
-free_number_is : (w : Width) (wanted : ℕ) (wrong : RequestFault) (bytes : List ℕ) → eqb (number_of wrong) 11 ≡ false → IsFree (number_is_at w wanted wrong bytes)
+free_number_is : (w : Width) (wanted : ℕ) (wrong : RequestFault) (bytes : List ℕ) → eqb (fault_number wrong) 11 ≡ false → IsFree (number_is_at w wanted wrong bytes)
 unfolding number_is_at
 free_number_is w wanted wrong bytes h = free_bind (number_at w bytes) _ (free_number w bytes) (λ found. free_cond (eqb found.0 wanted) (Ok found.1) (Err wrong) tt h)
 
-free_byte_is : (wanted : ℕ) (wrong : RequestFault) (bytes : List ℕ) → eqb (number_of wrong) 11 ≡ false → IsFree (byte_is_at wanted wrong bytes)
+free_byte_is : (wanted : ℕ) (wrong : RequestFault) (bytes : List ℕ) → eqb (fault_number wrong) 11 ≡ false → IsFree (byte_is_at wanted wrong bytes)
 unfolding byte_is_at
 free_byte_is wanted wrong bytes h = free_bind (byte_at bytes) _ (free_byte bytes) (λ found. free_cond (eqb found.0 wanted) (Ok found.1) (Err wrong) tt h)
 

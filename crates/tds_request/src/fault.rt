@@ -1,6 +1,6 @@
 ghost use Rattle.std.specs.Prelude.{◌≡◌, ◌↔◌, IsTrue};
 ghost use Rattle.tds_request.specs.declared.fault.RequestFault.TheVariants.{Memory};
-ghost use Rattle.tds_request.specs.Faults.{number_of};
+ghost use Rattle.tds_request.specs.Faults.{fault_number};
 
 use std::alloc::AllocError;
 
@@ -34,7 +34,7 @@ pub enum RequestFault {
 impl RequestFault {
     /// The number of this fault, from 1 to 11.
     pub fn number(&self) -> u8
-        ensures { result ≡ number_of self.now }
+        ensures { result ≡ fault_number self.now }
     {
         match self {
             RequestFault::Short => 1,

@@ -4,12 +4,12 @@ use Rattle.tds_server.specs.declared.fault.ServerFault.{ServerFault}
 use Rattle.tds_server.specs.declared.fault.ServerFault.TheVariants.{RequestWhileAnswering, TypeChanged, BothResets, WrongAttention, LongMessage, WrongRequest, IgnoredPart, Lost}
 
 -- 1 to 8, in the order of the variants
-abbrev pub number_of : ServerFault → ℕ
-number_of RequestWhileAnswering = 1
-number_of TypeChanged = 2
-number_of BothResets = 3
-number_of WrongAttention = 4
-number_of LongMessage = 5
-number_of (WrongRequest fault) = 6
-number_of IgnoredPart = 7
-number_of Lost = 8
+abbrev pub fault_number : ServerFault → ℕ
+fault_number RequestWhileAnswering = 1
+fault_number TypeChanged = 2
+fault_number BothResets = 3
+fault_number WrongAttention = 4
+fault_number LongMessage = 5
+fault_number (WrongRequest fault) = 6
+fault_number IgnoredPart = 7
+fault_number Lost = 8

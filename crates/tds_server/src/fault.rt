@@ -1,6 +1,6 @@
 //! Why a server is broken.
 ghost use Rattle.std.specs.Prelude.{◌≡◌};
-ghost use Rattle.tds_server.specs.Faults.{number_of};
+ghost use Rattle.tds_server.specs.Faults.{fault_number};
 
 use tds_request::RequestFault;
 
@@ -29,7 +29,7 @@ pub enum ServerFault {
 impl ServerFault {
     /// The fault's number, 1 to 8.
     pub fn number(&self) -> u8
-        ensures { result ≡ number_of self.now }
+        ensures { result ≡ fault_number self.now }
     {
         match self {
             ServerFault::RequestWhileAnswering => 1,

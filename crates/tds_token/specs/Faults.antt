@@ -3,11 +3,11 @@ use Rattle.std.specs.Prelude.{ℕ}
 use Rattle.tds_token.specs.declared.fault.TokenFault.{TokenFault}
 use Rattle.tds_token.specs.declared.fault.TokenFault.TheVariants.{UnknownToken, Cut, WrongLength, WrongEnvChange, WrongStatus, NoColumns, WrongColumn}
 
-abbrev pub number_of : TokenFault → ℕ
-number_of UnknownToken = 1
-number_of Cut = 2
-number_of WrongLength = 3
-number_of WrongEnvChange = 4
-number_of WrongStatus = 5
-number_of NoColumns = 6
-number_of WrongColumn = 7
+abbrev pub fault_number : TokenFault → ℕ
+fault_number UnknownToken = 1
+fault_number Cut = 2
+fault_number WrongLength = 3
+fault_number WrongEnvChange = 4
+fault_number WrongStatus = 5
+fault_number NoColumns = 6
+fault_number WrongColumn = 7

@@ -1,5 +1,5 @@
 ghost use Rattle.std.specs.Prelude.{◌≡◌};
-ghost use Rattle.tds_token.specs.Faults.{number_of};
+ghost use Rattle.tds_token.specs.Faults.{fault_number};
 
 /// What is wrong with a packet's data: the first field, in the order of the layout, that is wrong
 /// or cut.
@@ -24,7 +24,7 @@ pub enum TokenFault {
 impl TokenFault {
     /// The fault's number, 1 to 7.
     pub fn number(&self) -> u8
-        ensures { result ≡ number_of self.now }
+        ensures { result ≡ fault_number self.now }
     {
         match self {
             TokenFault::UnknownToken => 1,
