@@ -1,6 +1,5 @@
 -- What a caller does on its connection: ask, send the next packet, cancel.
 use Rattle.std.specs.Prelude.{ℕ, ◌+◌, List, [], length, take, drop, Bool, true, false, nat_le, Option, Some, None}
-use Rattle.tds_packet.specs.declared.kind.Kind.TheVariants as kind
 use Rattle.tds_packet.specs.declared.status.Reset.{Reset}
 use Rattle.tds_packet.specs.Resets.{reset_bit}
 use Rattle.tds_request.specs.declared.request.Request.{Request}

@@ -1,6 +1,6 @@
 -- What lies on a connection: packets, each with the tag of the request that it belongs to. No end
 -- can see a tag.
-use Rattle.std.specs.Prelude.{ℕ, ◌+◌, ◌%◌, List, [], ◌++◌, length, flat_map, if◌then◌else◌, Option}
+use Rattle.std.specs.Prelude.{ℕ, ◌%◌, List, [], ◌++◌, flat_map, if◌then◌else◌, Option}
 use Rattle.tds_packet.specs.declared.header.Header.{Header}
 use Rattle.tds_packet.specs.declared.kind.Kind.{Kind}
 use Rattle.tds_packet.specs.declared.kind.Kind.TheVariants as kind

@@ -1,5 +1,5 @@
 -- What becomes of a transaction where a request is cancelled.
-use Rattle.std.specs.Prelude.{ℕ, ◌≡◌, List, [], ◌∷◌, false, Option, Some, None}
+use Rattle.std.specs.Prelude.{ℕ, ◌≡◌, List, [], ◌∷◌, false, Some, None}
 use Rattle.std.specs.List.{AllByRecursion}
 use Rattle.tds_session.specs.Session.{SessionState}
 use Rattle.tds_world.specs.declared.report.Place.TheVariants as place

@@ -11,7 +11,7 @@ use Rattle.tds_world.specs.declared.event.Setup.{Setup}
 use Rattle.tds_world.specs.declared.outcome.Refusal.TheVariants as refusal
 use Rattle.tds_world.specs.Connection.{Connection, Standing, In, Cut, phase, is_idle, is_cut}
 use Rattle.tds_world.specs.Events.{about, acts, asks_by, sends_in, settles, happens_at, happens, world_after}
-use Rattle.tds_world.specs.Phase.{Phase, Settled, Asked, Sending, Reading, Cancelling}
+use Rattle.tds_world.specs.Phase.{Phase, Asked, Sending}
 use Rattle.tds_world.specs.Pool.{gives_back_at, abandons_at, keeps_by, is_full}
 use Rattle.tds_world.specs.Record.{Record}
 use Rattle.tds_world.specs.World.{World, new_world, Holding, Found, Missing, Here, Opens, numbered, next_number, ended, ended_at, ended_numbered, held, not_cut, by_ticket, put_numbered}
@@ -131,13 +131,9 @@ asked l n w true number q c a = a
 asked l n w false number q c a = a
 
 sent : (l n : ℕ) (w : World) (p : Phase) (room : ℕ) (current : Option Record) (c : Connection) → IsOpenIn w → IsOpenIn (settles (event.Send l) n w (sends_in p room current c)).1
-sent l n w Asked room (Some q) c a = a
-sent l n w Sending room (Some q) c a = a
 sent l n w Asked room None c a = a
 sent l n w Sending room None c a = a
-sent l n w Settled room current c a = a
-sent l n w Reading room current c a = a
-sent l n w Cancelling room current c a = a
+sent l n w p room current c a = a
 
 acted : (setup : Setup) (answers : Answers) (w : World) (e : Event) (n : ℕ) (c : Connection) → about setup w e ≡ Here n c → IsOpenIn w → IsOpenIn (settles e n w (acts setup answers w e n c)).1
 acted setup answers w event.Lease n c i a = record { tickets = a.tickets; leases = and_last (λ (h : Holding). FromOpen w.tickets h.resumed) w.leases _ a.leases tt }
@@ -153,13 +149,7 @@ acted setup answers w (event.Keep l) n c i a = kept l n w (is_idle c) (c.heard =
 acted setup answers w (event.Abandon t) n c i a = abandoned t n w c.standing c a
 acted setup answers w (event.Ask l q) n c i a = asked l n w (is_idle c) (next_number w.asked_on) q c a
 acted setup answers w (event.Send l) n c i a = sent l n w (phase c) (setup.packet_size - 8) c.current c a
-acted setup answers w (event.Cancel l) n c i a = a
-acted setup answers w (event.Work k) n c i a = a
-acted setup answers w (event.ToServer k m) n c i a = a
-acted setup answers w (event.ToClient k m) n c i a = a
-acted setup answers w (event.Cut k) n c i a = a
-acted setup answers w event.RestartServer n c i a = a
-acted setup answers w event.RestartClient n c i a = a
+acted setup answers w e n c i a = a
 
 found : (setup : Setup) (answers : Answers) (e : Event) (w : World) (f : Found) → about setup w e ≡ f → IsOpenIn w → IsOpenIn (happens_at setup answers e w f).1
 found setup answers e w (Missing why) i a = a

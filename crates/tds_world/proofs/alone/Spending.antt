@@ -55,14 +55,11 @@ completes_use how None s = ends_use (told_by how) s
 completes_use how (Some isolation) s = renewal_uses (eqb s.descriptor 0) (eqb s.next_descriptor last_descriptor) how s
 
 statement_uses : (s : SessionState) (q : Statement) → UsesOne s (step_of s q).after
-statement_uses s (statement.Say word) = uses_none s s refl
-statement_uses s (statement.Rows first count) = uses_none s s refl
 statement_uses s (statement.Set key value) = uses_none s _ refl
-statement_uses s (statement.Get key) = uses_none s s refl
 statement_uses s statement.Begin = begins_use s
 statement_uses s statement.Commit = ends_use change.Commit s
 statement_uses s statement.Rollback = ends_use change.Rollback s
-statement_uses s (statement.Fail number) = uses_none s s refl
+statement_uses s q = uses_none s s refl
 
 final_uses : (status : ℕ) (s : SessionState) → UseOneEach s (final_step status s ∷ [])
 final_uses status s = (omega arith, omega arith, tt)

@@ -75,10 +75,7 @@ first_cleared (Some m) xs r place s e = inr (reset_last xs r place s m e)
 
 cleared_holder : (k : ℕ) (s : Standing) (past : List Core) (x y : Core) (mark : Option Reset) (downs more : List Down) → y.lease ≡ x.lease → Cleared mark more → HolderOf k s (past ++ x ∷ []) mark downs → HolderOf k s (past ++ y ∷ []) mark more
 cleared_holder k (In (place.Leased l)) past x y mark downs more e c h = (h.0, (last_all (λ (z : Core). z.lease ≤ l) past x y (λ z. subst (λ m. m ≤ l) (sym e) z) h.1.0, inr c))
-cleared_holder k (In (place.Kept t)) past x y mark downs more e c h = tt
-cleared_holder k (In place.Free) past x y mark downs more e c h = tt
-cleared_holder k (In place.Draining) past x y mark downs more e c h = tt
-cleared_holder k Cut past x y mark downs more e c h = tt
+cleared_holder k s past x y mark downs more e c h = tt
 
 run_tenant : (k : ℕ) (answers : Answers) (c : Connection) (s : answer.Step) (ss : List answer.Step) (q : Record) (place : ℕ) (ran : Option SessionState) → Lawful answers → c.due ≡ s ∷ ss → is_settled (phase_of q) ≡ false → q.ran ≡ ran → ByRan answers c c.to_server.waiting c.to_client.waiting (phase_of q) q.asking ran → Tenant k (past_of c ++ core_of q ∷ []) c.standing c.mark c.to_client.waiting → Tenant k (past_of c ++ core_of (runs c.session s q) ∷ []) c.standing c.mark (c.to_client.waiting ++ Step c.answering place s ∷ [])
 run_tenant k answers c s ss q place None l e b i n h = elim n.due [

@@ -81,10 +81,7 @@ all_at_most k m (x ∷ xs) l h = (let z : x.lease ≤ k = h.0 in omega arith, al
 
 pub holder_grows : (k m : ℕ) (s : Standing) (xs : List Core) (mark : Option Reset) (downs : List Down) → k ≤ m → HolderOf k s xs mark downs → HolderOf m s xs mark downs
 holder_grows k m (In (place.Leased l)) xs mark downs h g = (let z : l ≤ k = g.0 in omega arith, g.1)
-holder_grows k m (In (place.Kept t)) xs mark downs h g = tt
-holder_grows k m (In place.Free) xs mark downs h g = tt
-holder_grows k m (In place.Draining) xs mark downs h g = tt
-holder_grows k m Cut xs mark downs h g = tt
+holder_grows k m s xs mark downs h g = tt
 
 pub tenant_grows : (k m : ℕ) (c : Connection) (downs : List Down) → k ≤ m → TenantWith k c downs → TenantWith m c downs
 tenant_grows k m c downs l h = record {
@@ -203,9 +200,7 @@ holder_then k (In (place.Leased l)) xs mark new downs more f h = (
   ),
 )
 holder_then k (In (place.Kept t)) xs mark new downs more f h = tt
-holder_then k (In place.Free) xs mark new downs more f h = tt
-holder_then k (In place.Draining) xs mark new downs more f h = tt
-holder_then k Cut xs mark new downs more f h = tt
+holder_then k s xs mark new downs more f h = tt
 
 pub tenant_then : (k : ℕ) (s : Standing) (xs : List Core) (mark new : Option Reset) (downs more : List Down) → (Cleared mark downs → Cleared new more) → Tenant k xs s mark downs → Tenant k xs s new more
 tenant_then k s xs mark new downs more f h = record { turn = h.turn; known = h.known; holder = holder_then k s xs mark new downs more f h.holder }

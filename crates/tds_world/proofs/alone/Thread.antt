@@ -18,7 +18,7 @@ use Rattle.tds_world.specs.Events.{world_after}
 use Rattle.tds_world.specs.Lane.{Lane, passed}
 use Rattle.tds_world.specs.Lawful.{Lawful, TakesNoReset}
 use Rattle.tds_world.specs.Laws.{Always, OfEachConnection}
-use Rattle.tds_world.specs.Phase.{Phase, Settled, Asked, Sending, Reading, Cancelling, phase_in, phase_of, is_settled}
+use Rattle.tds_world.specs.Phase.{Phase, Settled, phase_in, phase_of, is_settled}
 use Rattle.tds_world.specs.Record.{Record, runs, ran_in, if_numbered}
 use Rattle.tds_world.specs.Steps.{sent_down}
 use Rattle.tds_world.specs.World.{World, next_number, new_world}
@@ -204,10 +204,7 @@ module _ (attention : OnAttention) where
 
   cancels_leave : (p : Phase) (q : Record) (c : Connection) → ((cancels_by p q c).session ≡ c.session) × ((cancels_by p q c).due ≡ c.due) × ((cancels_by p q c).to_client ≡ c.to_client) × ((cancels_by p q c).on_attention ≡ c.on_attention)
   cancels_leave Settled q c = (refl, refl, refl, refl)
-  cancels_leave Asked q c = (refl, refl, refl, refl)
-  cancels_leave Sending q c = (refl, refl, refl, refl)
-  cancels_leave Reading q c = (refl, refl, refl, refl)
-  cancels_leave Cancelling q c = (refl, refl, refl, refl)
+  cancels_leave p q c = (refl, refl, refl, refl)
 
   sends_leave : (b : Bool) (room : ℕ) (q : Record) (c : Connection) → ((sends_by b room q c).session ≡ c.session) × ((sends_by b room q c).due ≡ c.due) × ((sends_by b room q c).to_client ≡ c.to_client) × ((sends_by b room q c).on_attention ≡ c.on_attention)
   sends_leave true room q c = (refl, refl, refl, refl)

@@ -100,13 +100,7 @@ notes_add (event.Ask l q) n heard w cs = record {
   asked = more_asked w.asked_on n;
 }
 notes_add (event.Send l) n heard w cs = adds_same w cs
-notes_add (event.Cancel l) n heard w cs = adds_same w cs
-notes_add (event.Work k) n heard w cs = adds_same w cs
-notes_add (event.ToServer k m) n heard w cs = adds_same w cs
-notes_add (event.ToClient k m) n heard w cs = adds_same w cs
-notes_add (event.Cut k) n heard w cs = adds_same w cs
-notes_add event.RestartServer n heard w cs = adds_same w cs
-notes_add event.RestartClient n heard w cs = adds_same w cs
+notes_add e n heard w cs = adds_same w cs
 
 -- A restart of the client ends all leases and tickets.
 pub restart_adds : (w : World) → Adds w (record w {

@@ -129,13 +129,7 @@ did_agree w (event.Ask l q) n old c what a there stood then =
     let k : Agrees (record w { connections = put_numbered n c w.connections }) = stays_agreed w n c old a there then in
     record { leases = k.leases; tickets = k.tickets }
 did_agree w (event.Send l) n old c what a there stood then = stays_agreed w n c old a there then
-did_agree w (event.Cancel l) n old c what a there stood then = stays_agreed w n c old a there then
-did_agree w (event.Work k) n old c what a there stood then = stays_agreed w n c old a there then
-did_agree w (event.ToServer k m) n old c what a there stood then = stays_agreed w n c old a there then
-did_agree w (event.ToClient k m) n old c what a there stood then = stays_agreed w n c old a there then
-did_agree w (event.Cut k) n old c what a there stood then = stays_agreed w n c old a there then
-did_agree w event.RestartServer n old c what a there stood then = stays_agreed w n c old a there then
-did_agree w event.RestartClient n old c what a there stood then = stays_agreed w n c old a there then
+did_agree w e n old c what a there stood then = stays_agreed w n c old a there then
 
 acted_agrees : (w : World) (e : Event) (n : ℕ) (old : Connection) (x : Acted) → Agrees w → numbered w.connections n ≡ Some old → StandsFor e old.standing → OfActed (λ d. StandsThen w e old.standing d.standing) x → Agrees (settles e n w x).1
 acted_agrees w e n old (Refuses why) a there stood then = a

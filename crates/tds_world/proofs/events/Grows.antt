@@ -65,19 +65,7 @@ cut_grown setup answers R (c ∷ cs) g (suc k) b e = cut_grown setup answers R c
 
 pub notes_leave : (e : Event) (n heard : ℕ) (w : World) → (notes e n heard w).connections ≡ w.connections
 notes_leave event.Lease n heard w = refl
-notes_leave (event.Resume t) n heard w = refl
-notes_leave (event.GiveBack l) n heard w = refl
-notes_leave (event.Keep l) n heard w = refl
-notes_leave (event.Abandon t) n heard w = refl
-notes_leave (event.Ask l q) n heard w = refl
-notes_leave (event.Send l) n heard w = refl
-notes_leave (event.Cancel l) n heard w = refl
-notes_leave (event.Work k) n heard w = refl
-notes_leave (event.ToServer k m) n heard w = refl
-notes_leave (event.ToClient k m) n heard w = refl
-notes_leave (event.Cut k) n heard w = refl
-notes_leave event.RestartServer n heard w = refl
-notes_leave event.RestartClient n heard w = refl
+notes_leave e n heard w = refl
 
 did_grow : (setup : Setup) (answers : Answers) (R : Connection → Connection → Type 0) (e : Event) (n : ℕ) (w : World) (c : Connection) (what : Outcome) → Growth setup answers R → ((b : Connection) → numbered w.connections n ≡ Some b → R b c) → Grown R w.connections (settles e n w (Does what c)).1.connections
 did_grow setup answers R e n w c what g r =

@@ -99,11 +99,7 @@ Before (Cuts n) c = Unit {0}
 abbrev pub mark_by : Stand → Option Reset → Option Reset
 mark_by Lends mark = strongest (Some Full) mark
 mark_by (Resumes ticket) mark = strongest (Some KeepTransaction) mark
-mark_by (GivesBack lease) mark = mark
-mark_by (Keeps lease) mark = mark
-mark_by (Abandons ticket) mark = mark
-mark_by (Drains n count) mark = mark
-mark_by (Cuts n) mark = mark
+mark_by e mark = mark
 
 abbrev pub standing_by : World → Stand → Bool → Standing → Standing
 standing_by w Lends idle s = In (place.Leased (next_number w.leases))
@@ -228,12 +224,7 @@ none_come = omega arith
 
 asks_none : (r : Stand) (n heard : ℕ) (w : World) → (notes (event_of r) n heard w).asked_on ≡ w.asked_on
 asks_none Lends n heard w = refl
-asks_none (Resumes ticket) n heard w = refl
-asks_none (GivesBack lease) n heard w = refl
-asks_none (Keeps lease) n heard w = refl
-asks_none (Abandons ticket) n heard w = refl
-asks_none (Drains i count) n heard w = refl
-asks_none (Cuts i) n heard w = refl
+asks_none r n heard w = refl
 
 -- What a move of one connection keeps, where it keeps too when the world notes something but a new request.
 module _ (setup : Setup) (answers : Answers) (E : ℕ → Event → Type 0) (P : World → Invariant) (noted : (w v : World) (c : Connection) (ups : List Up) (downs : List Down) → v.asked_on ≡ w.asked_on → Adds w v → P w c ups downs → P v c ups downs) (k : MovesOver setup answers E FreeIn P) where

@@ -1,23 +1,20 @@
 -- Each connection's server is told once what to do at an attention: when the connection is opened.
-use Rattle.std.proofs.Common.{◌≡◌, ◌-◌, List, [], ◌∷◌, Bool, true, false, refl, ◌∙◌}
-use Rattle.tds_session.specs.Answer as answer
+use Rattle.std.proofs.Common.{◌≡◌, ◌-◌, Bool, true, false, refl, ◌∙◌}
 use Rattle.tds_session.specs.Answer.{Answers}
 use Rattle.tds_world.specs.declared.event.Setup.{Setup}
-use Rattle.tds_world.specs.Arrivals.{server_acts, client_acts, works_on}
+use Rattle.tds_world.specs.Arrivals.{server_acts, client_acts}
 use Rattle.tds_world.specs.Caller.{cancels_by, sends_by}
 use Rattle.tds_world.specs.Connection.{Connection}
-use Rattle.tds_world.specs.Entries.{Up, Part, End, Drop, Attention, Down, Step, Acknowledgement}
+use Rattle.tds_world.specs.Entries.{Up, Part, Down, Step, Acknowledgement}
 use Rattle.tds_world.specs.Lane.{passed}
-use Rattle.tds_world.specs.Phase.{Phase, Settled, Asked, Sending, Reading, Cancelling}
+use Rattle.tds_world.specs.Phase.{Phase, Settled}
 use Rattle.tds_world.specs.Record.{Record}
-use Rattle.tds_world.proofs.events.Moves.{KeptByMoves, Of, by_moves}
+use Rattle.tds_world.proofs.events.Moves.{KeptByMoves, by_moves}
 use Rattle.tds_world.proofs.events.Worlds.{Any, Kept}
 
 pub server_told : (answers : Answers) (c : Connection) (e : Up) → (server_acts answers c e).on_attention ≡ c.on_attention
 server_told answers c (Part r p) = refl
-server_told answers c (End r a p) = refl
-server_told answers c (Drop r p) = refl
-server_told answers c (Attention r) = refl
+server_told answers c e = refl
 
 pub client_told : (c : Connection) (e : Down) → (client_acts c e).on_attention ≡ c.on_attention
 client_told c (Step r place s) = refl
@@ -25,10 +22,7 @@ client_told c (Acknowledgement r place changes) = refl
 
 pub cancels_told : (p : Phase) (q : Record) (c : Connection) → (cancels_by p q c).on_attention ≡ c.on_attention
 cancels_told Settled q c = refl
-cancels_told Asked q c = refl
-cancels_told Sending q c = refl
-cancels_told Reading q c = refl
-cancels_told Cancelling q c = refl
+cancels_told p q c = refl
 
 sends_told : (setup : Setup) (b : Bool) (q : Record) (c : Connection) → (sends_by b (setup.packet_size - 8) q c).on_attention ≡ c.on_attention
 sends_told setup true q c = refl

@@ -87,10 +87,7 @@ number_stands w why n (Some c) e =
 -- The connection to lend is free.
 free_stands : (s : Standing) → is_free s ≡ true → s ≡ In place.Free
 free_stands (In place.Free) e = refl
-free_stands (In (place.Leased l)) e = absurd (cc)
-free_stands (In (place.Kept t)) e = absurd (cc)
-free_stands (In place.Draining) e = absurd (cc)
-free_stands Cut e = absurd (cc)
+free_stands s e = absurd (cc)
 
 -- The first free one of a list whose first has number k.
 abbrev FirstFree : ℕ → List Connection → ℕ → Type 0

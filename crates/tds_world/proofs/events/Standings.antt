@@ -12,7 +12,7 @@ use Rattle.tds_world.specs.declared.report.Place.TheVariants as place
 use Rattle.tds_world.specs.Arrivals.{server_acts, client_acts, reach_server, reach_client, to_server, to_client, works, works_on, drained}
 use Rattle.tds_world.specs.Caller.{cancels, cancels_in, cancels_by, sends_by, sends_last}
 use Rattle.tds_world.specs.Connection.{Connection, phase, is_idle, Standing, In, Cut, up_underway, down_underway}
-use Rattle.tds_world.specs.Entries.{Up, Part, End, Drop, Attention, Down, Step, Acknowledgement, up_bytes, down_bytes}
+use Rattle.tds_world.specs.Entries.{Up, Part, Down, Step, Acknowledgement, up_bytes, down_bytes}
 use Rattle.tds_world.specs.Events.{acts, asks_by, sends_in}
 use Rattle.tds_world.specs.Lane.{passed, with_waiting}
 use Rattle.tds_world.specs.Phase.{Phase, Settled, Asked, Sending, Reading, Cancelling, phase_of}
@@ -47,10 +47,7 @@ same_still s t e p i h = subst (StandsAt p) (sym e) h
 
 pub cancels_stand_by : (p : Phase) (q : Record) (c : Connection) → (cancels_by p q c).standing ≡ c.standing
 cancels_stand_by Settled q c = refl
-cancels_stand_by Asked q c = refl
-cancels_stand_by Sending q c = refl
-cancels_stand_by Reading q c = refl
-cancels_stand_by Cancelling q c = refl
+cancels_stand_by p q c = refl
 
 pub cancels_stand_in : (current : Option Record) (c : Connection) → (cancels_in current c).standing ≡ c.standing
 cancels_stand_in None c = refl
@@ -62,9 +59,7 @@ works_stand c (s ∷ ss) = refl
 
 server_stands : (answers : Answers) (c : Connection) (e : Up) → (server_acts answers c e).standing ≡ c.standing
 server_stands answers c (Part r p) = refl
-server_stands answers c (End r a p) = refl
-server_stands answers c (Drop r p) = refl
-server_stands answers c (Attention r) = refl
+server_stands answers c e = refl
 
 client_stands : (c : Connection) (e : Down) → (client_acts c e).standing ≡ c.standing
 client_stands c (Step r place s) = refl

@@ -110,19 +110,7 @@ about_has P setup w event.RestartClient h = tt
 -- What the world notes changes no connection.
 noted : (P : Connection → Type 0) (e : Event) (n heard : ℕ) (w : World) → AllByRecursion P w.connections → AllByRecursion P (notes e n heard w).connections
 noted P event.Lease n heard w h = h
-noted P (event.Resume t) n heard w h = h
-noted P (event.GiveBack l) n heard w h = h
-noted P (event.Keep l) n heard w h = h
-noted P (event.Abandon t) n heard w h = h
-noted P (event.Ask l q) n heard w h = h
-noted P (event.Send l) n heard w h = h
-noted P (event.Cancel l) n heard w h = h
-noted P (event.Work k) n heard w h = h
-noted P (event.ToServer k m) n heard w h = h
-noted P (event.ToClient k m) n heard w h = h
-noted P (event.Cut k) n heard w h = h
-noted P event.RestartServer n heard w h = h
-noted P event.RestartClient n heard w h = h
+noted P e n heard w h = h
 
 pub settled : (P : Connection → Type 0) (e : Event) (n : ℕ) (w : World) (a : Acted) → OfActed P a → AllByRecursion P w.connections → AllByRecursion P (settles e n w a).1.connections
 settled P e n w (Refuses why) g h = h

@@ -11,7 +11,6 @@ use Rattle.tds_world.specs.declared.outcome.SendOutcome.TheVariants as sent
 use Rattle.tds_world.specs.declared.outcome.WorkOutcome.TheVariants as work
 use Rattle.tds_world.specs.declared.report.ClientView.TheVariants.{Idle}
 use Rattle.tds_world.specs.declared.report.Place.TheVariants.{Leased}
-use Rattle.tds_world.specs.declared.report.Report.{Report}
 use Rattle.tds_world.specs.declared.report.RequestStatus.TheVariants as status
 use Rattle.tds_world.specs.Bounds.{begun_on}
 use Rattle.tds_world.specs.Events.{world_after}

@@ -1,6 +1,6 @@
 -- A kept transaction, to a server that rolls back at an attention. A request that is cancelled before a
 -- step of it was done leaves the transaction to the next one. One whose reset was done does not.
-use Rattle.std.specs.Prelude.{◌≡◌, refl, List, [], ◌∷◌, ◌++◌, Some, None, codes}
+use Rattle.std.specs.Prelude.{refl, List, [], ◌∷◌, ◌++◌, Some, None, codes}
 use Rattle.tds_request.specs.declared.request.Request.TheVariants.{Batch}
 use Rattle.tds_session.specs.Answer.{script_answers}
 use Rattle.tds_world.specs.declared.event.Event.{Event}

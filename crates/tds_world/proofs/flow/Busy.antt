@@ -19,17 +19,11 @@ NoEnd (Attention r ∷ es) = NoEnd es
 -- An entry waits for the client.
 pub busy_down : (p : Phase) (r a : ℕ) (ups : List Up) (e : Down) (es : List Down) (parts : List ℕ) (due : List answer.Step) → FlowIn p r a ups (e ∷ es) parts due → is_settled p ≡ false
 busy_down Settled r a ups e es parts due f = let z : e ∷ es ≡ [] = f.1 in absurd (cc)
-busy_down Asked r a ups e es parts due f = refl
-busy_down Sending r a ups e es parts due f = refl
-busy_down Reading r a ups e es parts due f = refl
-busy_down Cancelling r a ups e es parts due f = refl
+busy_down p r a ups e es parts due f = refl
 
 pub busy_up : (p : Phase) (r a : ℕ) (e : Up) (es : List Up) (downs : List Down) (parts : List ℕ) (due : List answer.Step) → FlowIn p r a (e ∷ es) downs parts due → is_settled p ≡ false
 busy_up Settled r a e es downs parts due f = let z : e ∷ es ≡ [] = f.0 in absurd (cc)
-busy_up Asked r a e es downs parts due f = refl
-busy_up Sending r a e es downs parts due f = refl
-busy_up Reading r a e es downs parts due f = refl
-busy_up Cancelling r a e es downs parts due f = refl
+busy_up p r a e es downs parts due f = refl
 
 -- A step is due: all of the request is out, it is the one that the server answers, and its end has
 -- arrived.

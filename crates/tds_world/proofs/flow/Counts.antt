@@ -61,10 +61,7 @@ works_count c (s ∷ ss) h = rw (acknowledgements_append c.to_client.waiting _) 
 
 cancels_count_by : (p : Phase) (q : Record) (c : Connection) → Counted c → Counted (cancels_by p q c)
 cancels_count_by Settled q c h = h
-cancels_count_by Asked q c h = h
-cancels_count_by Sending q c h = h
-cancels_count_by Reading q c h = h
-cancels_count_by Cancelling q c h = h
+cancels_count_by p q c h = h
 
 sends_count : (setup : Setup) (last : Bool) (q : Record) (c : Connection) → c.current ≡ Some q → is_sending (phase_of q) ≡ true → sends_last (setup.packet_size - 8) q ≡ last → Counted c → Counted (sends_by last (setup.packet_size - 8) q c)
 sends_count setup true q c is at l h = h

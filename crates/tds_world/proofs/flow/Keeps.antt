@@ -84,10 +84,7 @@ works_keeps_on c (s ∷ ss) e f =
 -- a new request
 pub ask_fits : (p : Phase) (r a : ℕ) (ups : List Up) (downs : List Down) (parts : List ℕ) (due : List answer.Step) → is_settled p ≡ true → FlowIn p r a ups downs parts due → Quiet ups downs parts due
 ask_fits Settled r a ups downs parts due e f = f
-ask_fits Asked r a ups downs parts due e f = absurd (cc)
-ask_fits Sending r a ups downs parts due e f = absurd (cc)
-ask_fits Reading r a ups downs parts due e f = absurd (cc)
-ask_fits Cancelling r a ups downs parts due e f = absurd (cc)
+ask_fits p r a ups downs parts due e f = absurd (cc)
 
 pub asks_keeps : (number lease n : ℕ) (q : Request) (c : Connection) → is_idle c ≡ true → Sound c → Sound (asks number lease n q c)
 asks_keeps number lease n q c e f = (ask_fits (phase c) (number_in c.current) c.answering c.to_server.waiting c.to_client.waiting c.parts c.due e f.0, f.1)

@@ -108,9 +108,7 @@ come_none bytes k h = h
 -- to that.
 server_leaves : (answers : Answers) (c : Connection) (e : Up) → (server_acts answers c e).to_server ≡ c.to_server
 server_leaves answers c (Part r p) = refl
-server_leaves answers c (End r a p) = refl
-server_leaves answers c (Drop r p) = refl
-server_leaves answers c (Attention r) = refl
+server_leaves answers c e = refl
 
 client_leaves : (c : Connection) (e : Down) → (client_acts c e).to_client ≡ c.to_client
 client_leaves c (Step r place s) = refl

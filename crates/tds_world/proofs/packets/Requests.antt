@@ -171,10 +171,7 @@ same c d u p q h = record {
 
 runs_by : (p : Phase) (q : Record) (before : SessionState) (s : answer.Step) (m : Message) → OutBy p q m → OutBy p (runs before s q) m
 runs_by Settled q before s m h = h
-runs_by Asked q before s m h = h
-runs_by Sending q before s m h = h
-runs_by Reading q before s m h = h
-runs_by Cancelling q before s m h = h
+runs_by p q before s m h = h
 
 runs_out : (o : Option Record) (c : Connection) (s : answer.Step) (m : Message) → OutIn o m → OutIn (option_map (if_numbered c.answering (runs c.session s)) o) m
 runs_out None c s m h = h
@@ -265,10 +262,7 @@ cancels_spelled_by Reading q c h e n =
 
 settled_out : (p : Phase) (q : Record) (m : Message) → is_settled p ≡ true → OutBy p q m → m ≡ Nothing
 settled_out Settled q m e h = h
-settled_out Asked q m e h = absurd (cc)
-settled_out Sending q m e h = absurd (cc)
-settled_out Reading q m e h = absurd (cc)
-settled_out Cancelling q m e h = absurd (cc)
+settled_out p q m e h = absurd (cc)
 
 idle_out : (o : Option Record) (m : Message) → is_settled (phase_in o) ≡ true → OutIn o m → m ≡ Nothing
 idle_out None m e h = h

@@ -103,10 +103,7 @@ works_sent answers P c (s ∷ ss) e k h =
 
 cancels_sent_by : (P : Saying) (p : Phase) (q : Record) (c : Connection) → Sent P c → Sent P (cancels_by p q c)
 cancels_sent_by P Settled q c h = h
-cancels_sent_by P Asked q c h = h
-cancels_sent_by P Sending q c h = h
-cancels_sent_by P Reading q c h = h
-cancels_sent_by P Cancelling q c h = h
+cancels_sent_by P p q c h = h
 
 sends_sent : (P : Saying) (b : Bool) (room : ℕ) (q : Record) (c : Connection) → Sent P c → Sent P (sends_by b room q c)
 sends_sent P true room q c h = h

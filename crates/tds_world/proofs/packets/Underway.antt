@@ -93,10 +93,7 @@ works_send n c (s ∷ ss) h =
 
 cancels_send : (n : ℕ) (p : Phase) (q : Record) (c : Connection) → AtMost n c → AtMost n (cancels_by p q c)
 cancels_send n Settled q c h = h
-cancels_send n Asked q c h = h
-cancels_send n Sending q c h = h
-cancels_send n Reading q c h = h
-cancels_send n Cancelling q c h = h
+cancels_send n p q c h = h
 
 cancels_send_in : (n : ℕ) (o : Option Record) (c : Connection) → AtMost n c → AtMost n (cancels_in o c)
 cancels_send_in n None c h = h

@@ -16,7 +16,7 @@ use Rattle.tds_world.specs.Connection.{Connection, phase, Standing, In, Cut}
 use Rattle.tds_world.specs.Events.{about, sends_in, settles, happens_at, happens, world_after}
 use Rattle.tds_world.specs.Losses.{Loss, Nothing, Failed, Played, bringing, met, link_of, cuts_after, is_lost, world_then, with_cuts, report_then, event_reports_with}
 use Rattle.tds_world.specs.Observed.{snapshots, event_report, event_reports}
-use Rattle.tds_world.specs.Phase.{Phase, Settled, Asked, Sending, Reading, Cancelling}
+use Rattle.tds_world.specs.Phase.{Phase, Asked, Sending}
 use Rattle.tds_world.specs.Pool.{gives_back_at}
 use Rattle.tds_world.specs.Record.{Record}
 use Rattle.tds_world.specs.Reports.{Ask, asked_by, asked_in, makes, kept_in, KeepsIfResumed, OfEachOutcome}
@@ -102,36 +102,13 @@ same_asked : (l : ℕ) (q : Request) (r s : EventReport) (o : Outcome) → r.sna
 same_asked l q r s (outcome.Asked n) e =
     ap (λ shown. (let a : Ask = record { number = n; lease = l; request = q; snapshots = shown } in a) ∷ []) e
 same_asked l q r s (outcome.Leased a b c) e = refl
-same_asked l q r s (outcome.GivenBack a) e = refl
-same_asked l q r s (outcome.Kept a) e = refl
-same_asked l q r s (outcome.Abandoned a) e = refl
-same_asked l q r s (outcome.Sent a) e = refl
-same_asked l q r s (outcome.Cancel a) e = refl
-same_asked l q r s (outcome.Work a) e = refl
-same_asked l q r s (outcome.ToServer a) e = refl
-same_asked l q r s (outcome.ToClient a) e = refl
-same_asked l q r s outcome.Cut e = refl
-same_asked l q r s outcome.RestartedServer e = refl
-same_asked l q r s outcome.RestartedClient e = refl
-same_asked l q r s (outcome.Refused a) e = refl
-same_asked l q r s (outcome.Fault a b c) e = refl
+same_asked l q r s o e = refl
 
 asked_failed : (setup : Setup) (answers : Answers) (k : ℕ) (e : Event) (w : World) → asked_by e (told_of setup answers (Failed k) (link_of setup w e) e w) (happens setup answers (bringing k e) w).0 ≡ asked_by (bringing k e) (event_report (happens setup answers (bringing k e) w)) (happens setup answers (bringing k e) w).0
 asked_failed setup answers k (event.Ask l q) w =
     same_asked l q (told_of setup answers (Failed k) None (event.Ask l q) w) (event_report (happens setup answers (event.Ask l q) w)) (happens setup answers (event.Ask l q) w).0 refl
 asked_failed setup answers k event.Lease w = refl
-asked_failed setup answers k (event.Resume t) w = refl
-asked_failed setup answers k (event.GiveBack l) w = refl
-asked_failed setup answers k (event.Keep l) w = refl
-asked_failed setup answers k (event.Abandon t) w = refl
-asked_failed setup answers k (event.Send l) w = refl
-asked_failed setup answers k (event.Cancel l) w = refl
-asked_failed setup answers k (event.Work n) w = refl
-asked_failed setup answers k (event.ToServer n m) w = refl
-asked_failed setup answers k (event.ToClient n m) w = refl
-asked_failed setup answers k (event.Cut n) w = refl
-asked_failed setup answers k event.RestartServer w = refl
-asked_failed setup answers k event.RestartClient w = refl
+asked_failed setup answers k e w = refl
 
 asked_now : (setup : Setup) (answers : Answers) (l : Loss) (e : Event) (w : World) → asked_by e (told_of setup answers l (link_of setup w e) e w) (happens setup answers (met l e) w).0 ≡ asked_by (met l e) (event_report (happens setup answers (met l e) w)) (happens setup answers (met l e) w).0
 asked_now setup answers Nothing e w = refl
@@ -169,13 +146,9 @@ no_back setup answers t l w (Here n c) = back t l n w c.standing c
 no_back setup answers t l w (Opens n) = refl
 
 sent : (t l n : ℕ) (w : World) (p : Phase) (room : ℕ) (current : Option Record) (c : Connection) → makes t (settles (event.Send l) n w (sends_in p room current c)).0 ≡ false
-sent t l n w Asked room (Some q) c = refl
-sent t l n w Sending room (Some q) c = refl
 sent t l n w Asked room None c = refl
 sent t l n w Sending room None c = refl
-sent t l n w Settled room current c = refl
-sent t l n w Reading room current c = refl
-sent t l n w Cancelling room current c = refl
+sent t l n w p room current c = refl
 
 no_send : (setup : Setup) (answers : Answers) (t l : ℕ) (w : World) (f : Found) → makes t (happens_at setup answers (event.Send l) w f).0 ≡ false
 no_send setup answers t l w (Missing why) = refl
@@ -215,13 +188,7 @@ makes_none setup answers t k n (event.Cancel l) w x = no_cancel setup answers t 
 makes_none setup answers t k n (event.Work i) w x = no_work setup answers t i w (about setup w (event.Work i))
 makes_none setup answers t k n (event.ToServer i m) w x = no_to_server setup answers t i k w (about setup w (event.ToServer i k))
 makes_none setup answers t k n (event.ToClient i m) w x = no_to_client setup answers t i k w (about setup w (event.ToClient i k))
-makes_none setup answers t k n (event.Resume u) w x = absurd (cc)
-makes_none setup answers t k n (event.Keep l) w x = absurd (cc)
-makes_none setup answers t k n (event.Abandon u) w x = absurd (cc)
-makes_none setup answers t k n (event.Ask l q) w x = absurd (cc)
-makes_none setup answers t k n (event.Cut i) w x = absurd (cc)
-makes_none setup answers t k n event.RestartServer w x = absurd (cc)
-makes_none setup answers t k n event.RestartClient w x = absurd (cc)
+makes_none setup answers t k n e w x = absurd (cc)
 
 -- Where neither the event nor its cut made the ticket, the later ones are looked at.
 passes : (t : ℕ) (a b : EventReport) (shown : List Snapshot) (rs : List EventReport) → makes t a.outcome ≡ false → makes t b.outcome ≡ false → cond (makes t a.outcome) shown (kept_in t rs) ≡ kept_in t (a ∷ b ∷ rs)
@@ -250,20 +217,8 @@ same_kept setup answers t (p ∷ ps) w =
 
 resumes_met : (r : Report) (l : Loss) (e : Event) (o : Outcome) → KeepsIfResumed r (met l e) o → KeepsIfResumed r e o
 resumes_met r Nothing e o h = h
-resumes_met r (Failed k) event.Lease o h = tt
 resumes_met r (Failed k) (event.Resume t) o h = h
-resumes_met r (Failed k) (event.GiveBack l) o h = tt
-resumes_met r (Failed k) (event.Keep l) o h = tt
-resumes_met r (Failed k) (event.Abandon t) o h = tt
-resumes_met r (Failed k) (event.Ask l q) o h = tt
-resumes_met r (Failed k) (event.Send l) o h = tt
-resumes_met r (Failed k) (event.Cancel l) o h = tt
-resumes_met r (Failed k) (event.Work n) o h = tt
-resumes_met r (Failed k) (event.ToServer n m) o h = tt
-resumes_met r (Failed k) (event.ToClient n m) o h = tt
-resumes_met r (Failed k) (event.Cut n) o h = tt
-resumes_met r (Failed k) event.RestartServer o h = tt
-resumes_met r (Failed k) event.RestartClient o h = tt
+resumes_met r (Failed k) e o h = tt
 
 one_resumes : (r : Report) (setup : Setup) (answers : Answers) (l : Loss) (link : Option ℕ) (e : Event) (es : List Event) (w : World) → OfEachOutcome (KeepsIfResumed r) ((met l e ∷ cuts_after l link) ++ es) (event_reports setup answers ((met l e ∷ cuts_after l link) ++ es) w) → KeepsIfResumed r e (happens setup answers (met l e) w).0 × OfEachOutcome (KeepsIfResumed r) es (event_reports setup answers es (world_after setup answers (met l e ∷ cuts_after l link) w))
 one_resumes r setup answers Nothing link e es w h = h

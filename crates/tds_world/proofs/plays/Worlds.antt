@@ -26,21 +26,9 @@ always_with P setup answers h ps = subst P (sym (plain_worlds setup answers ps n
 
 -- ---- Its events
 
-bringing_is : (k : ℕ) (e : Event) → IsEvent e → IsEvent (bringing k e)
+pub bringing_is : (k : ℕ) (e : Event) → IsEvent e → IsEvent (bringing k e)
 bringing_is k event.Lease x = x
-bringing_is k (event.Resume t) x = x
-bringing_is k (event.GiveBack l) x = x
-bringing_is k (event.Keep l) x = x
-bringing_is k (event.Abandon t) x = x
-bringing_is k (event.Ask l q) x = x
-bringing_is k (event.Send l) x = x
-bringing_is k (event.Cancel l) x = x
-bringing_is k (event.Work n) x = x
-bringing_is k (event.ToServer n m) x = x
-bringing_is k (event.ToClient n m) x = x
-bringing_is k (event.Cut n) x = x
-bringing_is k event.RestartServer x = x
-bringing_is k event.RestartClient x = x
+bringing_is k e x = x
 
 -- The events that one stands for, and others behind them.
 plainly_are : (l : Loss) (link : Option ℕ) (e : Event) (es : List Event) → IsEvent e → AllByRecursion IsEvent es → AllByRecursion IsEvent ((met l e ∷ cuts_after l link) ++ es)

@@ -22,8 +22,8 @@ use Rattle.tds_world.specs.Events.{happens, world_after}
 use Rattle.tds_world.specs.Lawful.{Lawful}
 use Rattle.tds_world.specs.Observed.{event_reports, observed, request_report, request_reports}
 use Rattle.tds_world.specs.Order.{number_if, numbers_on, RequestsInOrder}
-use Rattle.tds_world.specs.Phase.{Phase, Settled, Asked, Sending, Reading, Cancelling, phase_of, status_by}
-use Rattle.tds_world.specs.Record.{Record, Fate, Open, Finished, Cancelled, Acknowledged, is_finished}
+use Rattle.tds_world.specs.Phase.{Phase, Settled, phase_of, status_by}
+use Rattle.tds_world.specs.Record.{Record, Fate, Open, Cancelled, is_finished}
 use Rattle.tds_world.specs.Reports.{Ask, asked_in}
 use Rattle.tds_world.specs.World.{World, Holding, new_world, numbered}
 use Rattle.tds_world.proofs.alone.AsIfAlone.{alone_after}
@@ -103,26 +103,11 @@ none_are (x ∷ xs) e = absurd (cc)
 -- ---- One request
 
 shown_as : (fate : Fate) (cut : Bool) (p : Phase) → is_shown_finished (status_by fate cut p) ≡ is_finished fate
-shown_as Finished cut p = refl
-shown_as Acknowledged cut p = refl
-shown_as Open cut Settled = refl
-shown_as Open true Asked = refl
-shown_as Open true Sending = refl
-shown_as Open true Reading = refl
-shown_as Open true Cancelling = refl
-shown_as Open false Asked = refl
-shown_as Open false Sending = refl
-shown_as Open false Reading = refl
-shown_as Open false Cancelling = refl
-shown_as Cancelled cut Settled = refl
-shown_as Cancelled true Asked = refl
-shown_as Cancelled true Sending = refl
-shown_as Cancelled true Reading = refl
-shown_as Cancelled true Cancelling = refl
-shown_as Cancelled false Asked = refl
-shown_as Cancelled false Sending = refl
-shown_as Cancelled false Reading = refl
-shown_as Cancelled false Cancelling = refl
+shown_as Open true Settled = refl
+shown_as Open false Settled = refl
+shown_as Cancelled true Settled = refl
+shown_as Cancelled false Settled = refl
+shown_as fate cut p = refl
 
 one_shown : (w : World) (m : ℕ) (a : Ask) (q : Record) (c : Connection) (cut : Bool) → numbered w.connections m ≡ Some c → q.conn ≡ m → a.number ≡ q.number → q.asking.request ≡ a.request → exchange_shown (far_in w) a (request_report cut q) ≡ exchange_of c q
 one_shown w m a q c cut t e n r =
@@ -207,19 +192,7 @@ alone_for attention answers w l m xs (Some c) h o t a =
 -- A lease that came from a ticket was resumed.
 resumed_by : (e : Event) (h : Option ℕ) → FromTicket e h → session_from h ≡ own_by opened.Resumed
 resumed_by (event.Resume t) h f = ap session_from f
-resumed_by event.Lease h f = absurd f
-resumed_by (event.GiveBack l) h f = absurd f
-resumed_by (event.Keep l) h f = absurd f
-resumed_by (event.Abandon t) h f = absurd f
-resumed_by (event.Ask l q) h f = absurd f
-resumed_by (event.Send l) h f = absurd f
-resumed_by (event.Cancel l) h f = absurd f
-resumed_by (event.Work n) h f = absurd f
-resumed_by (event.ToServer n m) h f = absurd f
-resumed_by (event.ToClient n m) h f = absurd f
-resumed_by (event.Cut n) h f = absurd f
-resumed_by event.RestartServer h f = absurd f
-resumed_by event.RestartClient h f = absurd f
+resumed_by e h f = absurd f
 
 from_by : (e : Event) (o : Opened) (h : Option ℕ) → CameBy e o h → session_from h ≡ own_by o
 from_by e opened.New h f = ap session_from f
@@ -243,19 +216,7 @@ told_alone attention answers v e (outcome.Leased lease n o) hs asks rs f x g = (
   tt,
 )
 told_alone attention answers v e (outcome.GivenBack x0) hs asks rs f x g = tt
-told_alone attention answers v e (outcome.Kept x0) hs asks rs f x g = tt
-told_alone attention answers v e (outcome.Abandoned x0) hs asks rs f x g = tt
-told_alone attention answers v e (outcome.Asked x0) hs asks rs f x g = tt
-told_alone attention answers v e (outcome.Sent x0) hs asks rs f x g = tt
-told_alone attention answers v e (outcome.Cancel x0) hs asks rs f x g = tt
-told_alone attention answers v e (outcome.Work x0) hs asks rs f x g = tt
-told_alone attention answers v e (outcome.ToServer x0) hs asks rs f x g = tt
-told_alone attention answers v e (outcome.ToClient x0) hs asks rs f x g = tt
-told_alone attention answers v e outcome.Cut hs asks rs f x g = tt
-told_alone attention answers v e outcome.RestartedServer hs asks rs f x g = tt
-told_alone attention answers v e outcome.RestartedClient hs asks rs f x g = tt
-told_alone attention answers v e (outcome.Refused x0) hs asks rs f x g = tt
-told_alone attention answers v e (outcome.Fault x0 x1 x2) hs asks rs f x g = tt
+told_alone attention answers v e what hs asks rs f x g = tt
 
 each_alone : (setup : Setup) (answers : Answers) (events : List Event) (w : World) (asks : List Ask) (rs : List RequestReport) → AllAlone setup.on_attention answers (world_after setup answers events w) asks rs → AllByRecursion (λ (r : EventReport). AllByRecursion (IsAlone setup.on_attention answers) (lease_in (far_in (world_after setup answers events w)) asks rs r.outcome)) (event_reports setup answers events w)
 each_alone setup answers [] w asks rs g = tt

@@ -61,10 +61,7 @@ shown_cancelling Open (Whole n) e = absurd (cc)
 becomes : (s later : RequestStatus) → (s ≡ status.Open → later ≡ status.Finished) → (s ≡ status.Cancelling → later ≡ status.Acknowledged) → BecomesOf s later
 becomes status.Open later f g = f refl
 becomes status.Cancelling later f g = g refl
-becomes status.Finished later f g = tt
-becomes status.Acknowledged later f g = tt
-becomes status.Unsent later f g = tt
-becomes status.Lost later f g = tt
+becomes s later f g = tt
 
 -- ---- The newest request
 

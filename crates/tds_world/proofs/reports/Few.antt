@@ -111,13 +111,7 @@ noted n (event.Ask x q) k heard w cs l h = record {
   asked = one_more n w.asked_on _ h.asked;
 }
 noted n (event.Send x) k heard w cs l h = others_stay n w cs l h
-noted n (event.Cancel x) k heard w cs l h = others_stay n w cs l h
-noted n (event.Work x) k heard w cs l h = others_stay n w cs l h
-noted n (event.ToServer x m) k heard w cs l h = others_stay n w cs l h
-noted n (event.ToClient x m) k heard w cs l h = others_stay n w cs l h
-noted n (event.Cut x) k heard w cs l h = others_stay n w cs l h
-noted n event.RestartServer k heard w cs l h = others_stay n w cs l h
-noted n event.RestartClient k heard w cs l h = others_stay n w cs l h
+noted n e k heard w cs l h = others_stay n w cs l h
 
 settled : (n : ℕ) (e : Event) (k : ℕ) (w : World) (a : Acted) → AreFew n w → AreFew (suc n) (settles e k w a).1
 settled n e k w (Refuses why) h = more n w h

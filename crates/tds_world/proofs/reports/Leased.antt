@@ -19,7 +19,7 @@ use Rattle.tds_world.specs.Events.{about, acts, asks_by, sends_in, settles, happ
 use Rattle.tds_world.specs.Lawful.{Lawful}
 use Rattle.tds_world.specs.Laws.{HasKept, StartsFrom, StartsUnder}
 use Rattle.tds_world.specs.Observed.{event_reports, request_reports}
-use Rattle.tds_world.specs.Phase.{Phase, Settled, Asked, Sending, Reading, Cancelling}
+use Rattle.tds_world.specs.Phase.{Phase, Asked, Sending}
 use Rattle.tds_world.specs.Pool.{Acted, Refuses, Does, gives_back_at, abandons_at, keeps_by, is_full, opens}
 use Rattle.tds_world.specs.Record.{Record}
 use Rattle.tds_world.specs.Reports.{AlwaysShown, asked_in, first_run, StartsBy, StartsIfLeased, ShowsFreshStart}
@@ -102,13 +102,9 @@ asked l n w true number q c = tt
 asked l n w false number q c = tt
 
 sent : (l n : ℕ) (w : World) (p : Phase) (room : ℕ) (current : Option Record) (c : Connection) → IsNoted (event.Send l) (settles (event.Send l) n w (sends_in p room current c))
-sent l n w Asked room (Some q) c = tt
-sent l n w Sending room (Some q) c = tt
 sent l n w Asked room None c = tt
 sent l n w Sending room None c = tt
-sent l n w Settled room current c = tt
-sent l n w Reading room current c = tt
-sent l n w Cancelling room current c = tt
+sent l n w p room current c = tt
 
 acted : (setup : Setup) (answers : Answers) (w : World) (e : Event) (n : ℕ) (c : Connection) → IsNoted e (settles e n w (acts setup answers w e n c))
 acted setup answers w event.Lease n c = (holding n c.heard None, last_numbered w.leases (holding n c.heard None), refl)
@@ -118,13 +114,7 @@ acted setup answers w (event.Keep l) n c = kept l n w (is_idle c) (c.heard == 0 
 acted setup answers w (event.Abandon t) n c = abandoned t n w c.standing c
 acted setup answers w (event.Ask l q) n c = asked l n w (is_idle c) (next_number w.asked_on) q c
 acted setup answers w (event.Send l) n c = sent l n w (phase c) (setup.packet_size - 8) c.current c
-acted setup answers w (event.Cancel l) n c = tt
-acted setup answers w (event.Work k) n c = tt
-acted setup answers w (event.ToServer k m) n c = tt
-acted setup answers w (event.ToClient k m) n c = tt
-acted setup answers w (event.Cut k) n c = tt
-acted setup answers w event.RestartServer n c = tt
-acted setup answers w event.RestartClient n c = tt
+acted setup answers w e n c = tt
 
 found_noted : (setup : Setup) (answers : Answers) (e : Event) (w : World) (f : Found) → IsNoted e (happens_at setup answers e w f)
 found_noted setup answers e w (Missing why) = tt
@@ -162,20 +152,7 @@ lease_starts v e o h (Some k) s f g x = starts_by v e o h.resumed k.resumed s f 
 
 told_starts : (v : World) (e : Event) (what : Outcome) (hs : List Holding) (rs : List RequestReport) → NotedAs e what hs → Extends hs v.leases → ((lease : ℕ) (s : SessionState) → first_run lease rs ≡ Some s → StartsUnder v (numbered v.leases lease) s) → StartsIfLeased rs what
 told_starts v e (outcome.Leased lease n o) hs rs f x g = λ s i. lease_starts v e o f.0 (numbered v.leases lease) s f.2 (x lease f.0 f.1) (g lease s i)
-told_starts v e (outcome.GivenBack x0) hs rs f x g = tt
-told_starts v e (outcome.Kept x0) hs rs f x g = tt
-told_starts v e (outcome.Abandoned x0) hs rs f x g = tt
-told_starts v e (outcome.Asked x0) hs rs f x g = tt
-told_starts v e (outcome.Sent x0) hs rs f x g = tt
-told_starts v e (outcome.Cancel x0) hs rs f x g = tt
-told_starts v e (outcome.Work x0) hs rs f x g = tt
-told_starts v e (outcome.ToServer x0) hs rs f x g = tt
-told_starts v e (outcome.ToClient x0) hs rs f x g = tt
-told_starts v e outcome.Cut hs rs f x g = tt
-told_starts v e outcome.RestartedServer hs rs f x g = tt
-told_starts v e outcome.RestartedClient hs rs f x g = tt
-told_starts v e (outcome.Refused x0) hs rs f x g = tt
-told_starts v e (outcome.Fault x0 y z) hs rs f x g = tt
+told_starts v e what hs rs f x g = tt
 
 each_starts : (setup : Setup) (answers : Answers) (events : List Event) (w : World) (rs : List RequestReport) → ((lease : ℕ) (s : SessionState) → first_run lease rs ≡ Some s → StartsUnder (world_after setup answers events w) (numbered (world_after setup answers events w).leases lease) s) → AllByRecursion (λ (r : EventReport). StartsIfLeased rs r.outcome) (event_reports setup answers events w)
 each_starts setup answers [] w rs g = tt

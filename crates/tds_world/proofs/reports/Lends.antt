@@ -15,7 +15,7 @@ use Rattle.tds_world.specs.Events.{about, acts, asks_by, sends_in, settles, happ
 use Rattle.tds_world.specs.Lawful.{Lawful}
 use Rattle.tds_world.specs.Lending.{LendsIdle}
 use Rattle.tds_world.specs.Observed.{snapshot_of, snapshots, snapshots_from, event_reports}
-use Rattle.tds_world.specs.Phase.{Phase, Settled, Asked, Sending, Reading, Cancelling, state_of, is_settled}
+use Rattle.tds_world.specs.Phase.{Phase, Settled, Asked, Sending, state_of, is_settled}
 use Rattle.tds_world.specs.Pool.{gives_back_at, abandons_at, keeps_by, is_full}
 use Rattle.tds_world.specs.Record.{Record}
 use Rattle.tds_world.specs.Reports.{AlwaysShown, IsLent, LentIfLeased, IsLentIdle, ShowsLendsIdle}
@@ -28,10 +28,7 @@ use Rattle.tds_world.proofs.requests.Lending.{lends_idle}
 
 idle_view : (p : Phase) → is_settled p ≡ true → state_of p ≡ view.Idle
 idle_view Settled e = refl
-idle_view Asked e = absurd (cc)
-idle_view Sending e = absurd (cc)
-idle_view Reading e = absurd (cc)
-idle_view Cancelling e = absurd (cc)
+idle_view p e = absurd (cc)
 
 lent : (lease n : ℕ) (cs : List Connection) (d : Connection) → numbered cs n ≡ Some d → d.standing ≡ In (place.Leased lease) → is_idle d ≡ true → IsLent lease n (snapshots_from 1 cs)
 lent lease n cs d i s h = record {
@@ -71,13 +68,9 @@ asked l n w true number q c = tt
 asked l n w false number q c = tt
 
 sent : (l n : ℕ) (w : World) (p : Phase) (room : ℕ) (current : Option Record) (c : Connection) → Lends (settles (event.Send l) n w (sends_in p room current c))
-sent l n w Asked room (Some q) c = tt
-sent l n w Sending room (Some q) c = tt
 sent l n w Asked room None c = tt
 sent l n w Sending room None c = tt
-sent l n w Settled room current c = tt
-sent l n w Reading room current c = tt
-sent l n w Cancelling room current c = tt
+sent l n w p room current c = tt
 
 acted : (setup : Setup) (answers : Answers) (w : World) (e : Event) (n : ℕ) (c : Connection) → LendsIdle setup w → about setup w e ≡ Here n c → numbered w.connections n ≡ Some c → Lends (settles e n w (acts setup answers w e n c))
 acted setup answers w event.Lease n c h a i =
@@ -89,13 +82,7 @@ acted setup answers w (event.Keep l) n c h a i = kept l n w (is_idle c) (c.heard
 acted setup answers w (event.Abandon t) n c h a i = abandoned t n w c.standing c
 acted setup answers w (event.Ask l q) n c h a i = asked l n w (is_idle c) (next_number w.asked_on) q c
 acted setup answers w (event.Send l) n c h a i = sent l n w (phase c) (setup.packet_size - 8) c.current c
-acted setup answers w (event.Cancel l) n c h a i = tt
-acted setup answers w (event.Work k) n c h a i = tt
-acted setup answers w (event.ToServer k m) n c h a i = tt
-acted setup answers w (event.ToClient k m) n c h a i = tt
-acted setup answers w (event.Cut k) n c h a i = tt
-acted setup answers w event.RestartServer n c h a i = tt
-acted setup answers w event.RestartClient n c h a i = tt
+acted setup answers w e n c h a i = tt
 
 found_lends : (setup : Setup) (answers : Answers) (e : Event) (w : World) (f : Found) → LendsIdle setup w → about setup w e ≡ f → FoundWith w (StandsFor e) f → Lends (happens_at setup answers e w f)
 found_lends setup answers e w (Missing why) h a s = tt

@@ -1,5 +1,5 @@
 -- No event comes to a fault.
-use Rattle.std.proofs.Common.{ℕ, List, [], ◌∷◌, Bool, true, false, ◌-◌, refl, Option, Some, None}
+use Rattle.std.proofs.Common.{ℕ, List, [], ◌∷◌, Bool, true, false, ◌-◌, refl, Option, None}
 use Rattle.std.specs.List.{AllByRecursion}
 use Rattle.std.specs.Prelude.{◌==◌, ◌||◌}
 use Rattle.tds_request.specs.declared.request.Request.{Request}
@@ -10,7 +10,7 @@ use Rattle.tds_world.specs.declared.event.Setup.{Setup}
 use Rattle.tds_world.specs.Connection.{Connection, phase, is_idle, Standing, In, Cut}
 use Rattle.tds_world.specs.Events.{about, acts, asks_by, sends_in, settles, happens_at, happens}
 use Rattle.tds_world.specs.Observed.{event_reports}
-use Rattle.tds_world.specs.Phase.{Phase, Settled, Asked, Sending, Reading, Cancelling}
+use Rattle.tds_world.specs.Phase.{Phase, Asked, Sending}
 use Rattle.tds_world.specs.Pool.{Acted, Refuses, Does, gives_back_at, abandons_at, keeps_by, is_full}
 use Rattle.tds_world.specs.Record.{Record}
 use Rattle.tds_world.specs.Reports.{AlwaysShown, IsNoFault, IsWithoutFault, ShowsNoFault}
@@ -40,29 +40,17 @@ asked true number lease n q c = tt
 asked false number lease n q c = tt
 
 sent : (p : Phase) (room : ℕ) (current : Option Record) (c : Connection) → Fine (sends_in p room current c)
-sent Asked room (Some q) c = tt
-sent Sending room (Some q) c = tt
 sent Asked room None c = tt
 sent Sending room None c = tt
-sent Settled room current c = tt
-sent Reading room current c = tt
-sent Cancelling room current c = tt
+sent p room current c = tt
 
 acted : (setup : Setup) (answers : Answers) (w : World) (e : Event) (n : ℕ) (c : Connection) → Fine (acts setup answers w e n c)
-acted setup answers w event.Lease n c = tt
-acted setup answers w (event.Resume t) n c = tt
 acted setup answers w (event.GiveBack l) n c = back c.standing c
 acted setup answers w (event.Keep l) n c = kept (is_idle c) (c.heard == 0 || is_full c.mark) (next_number w.tickets) c
 acted setup answers w (event.Abandon t) n c = abandoned c.standing c
 acted setup answers w (event.Ask l q) n c = asked (is_idle c) (next_number w.asked_on) l n q c
 acted setup answers w (event.Send l) n c = sent (phase c) (setup.packet_size - 8) c.current c
-acted setup answers w (event.Cancel l) n c = tt
-acted setup answers w (event.Work k) n c = tt
-acted setup answers w (event.ToServer k m) n c = tt
-acted setup answers w (event.ToClient k m) n c = tt
-acted setup answers w (event.Cut k) n c = tt
-acted setup answers w event.RestartServer n c = tt
-acted setup answers w event.RestartClient n c = tt
+acted setup answers w e n c = tt
 
 settled : (e : Event) (n : ℕ) (w : World) (a : Acted) → Fine a → IsNoFault (settles e n w a).0
 settled e n w (Refuses why) h = tt

@@ -15,7 +15,7 @@ use Rattle.tds_world.specs.Events.{happens, world_after}
 use Rattle.tds_world.specs.Lawful.{Lawful}
 use Rattle.tds_world.specs.Laws.{QuietIfIdle}
 use Rattle.tds_world.specs.Observed.{snapshot_of, seen, snapshots_from, event_report, event_reports}
-use Rattle.tds_world.specs.Phase.{Phase, Settled, Asked, Sending, Reading, Cancelling, state_of}
+use Rattle.tds_world.specs.Phase.{Phase, Settled, state_of}
 use Rattle.tds_world.specs.Reports.{AlwaysShown, AlwaysShownOf, ShowsFewUnderway, ShowsIdleQuiet, ShowsQuietIfIdle}
 use Rattle.tds_world.specs.World.{World, new_world}
 use Rattle.tds_world.proofs.flow.Quiet.{idle_is_quiet}
@@ -56,10 +56,7 @@ any (e ∷ es) = (tt, any es)
 
 idle_settled : (p : Phase) → state_of p ≡ view.Idle → p ≡ Settled
 idle_settled Settled e = refl
-idle_settled Asked e = absurd (cc)
-idle_settled Sending e = absurd (cc)
-idle_settled Reading e = absurd (cc)
-idle_settled Cancelling e = absurd (cc)
+idle_settled p e = absurd (cc)
 
 shows_quiet : Shows QuietIfIdle ShowsQuietIfIdle
 shows_quiet n c p h e =

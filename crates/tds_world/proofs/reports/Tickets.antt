@@ -20,7 +20,7 @@ use Rattle.tds_world.specs.Events.{about, acts, asks_by, sends_in, settles, happ
 use Rattle.tds_world.specs.Lawful.{Lawful}
 use Rattle.tds_world.specs.Laws.{HasKept, StartsFrom, StartsUnder}
 use Rattle.tds_world.specs.Observed.{snapshot_of, snapshots, event_report, event_reports, observed}
-use Rattle.tds_world.specs.Phase.{Phase, Settled, Asked, Sending, Reading, Cancelling}
+use Rattle.tds_world.specs.Phase.{Phase, Asked, Sending}
 use Rattle.tds_world.specs.Pool.{gives_back_at, abandons_at, keeps_by, is_full}
 use Rattle.tds_world.specs.Record.{Record}
 use Rattle.tds_world.specs.Reports.{AlwaysTold, asked_in, first_run, snapshot_in, kept_in, IsInKept, KeepsIfResumed, OfEachOutcome, ShowsKeptTransaction}
@@ -104,29 +104,18 @@ asked l n w true number q c = refl
 asked l n w false number q c = refl
 
 sent : (l n : ℕ) (w : World) (p : Phase) (room : ℕ) (current : Option Record) (c : Connection) → Makes w (settles (event.Send l) n w (sends_in p room current c))
-sent l n w Asked room (Some q) c = refl
-sent l n w Sending room (Some q) c = refl
 sent l n w Asked room None c = refl
 sent l n w Sending room None c = refl
-sent l n w Settled room current c = refl
-sent l n w Reading room current c = refl
-sent l n w Cancelling room current c = refl
+sent l n w p room current c = refl
 
 acted : (setup : Setup) (answers : Answers) (w : World) (e : Event) (n : ℕ) (c : Connection) → numbered w.connections n ≡ Some c → Makes w (settles e n w (acts setup answers w e n c))
-acted setup answers w event.Lease n c i = refl
 acted setup answers w (event.Resume t) n c i = length_ended t w.tickets
 acted setup answers w (event.GiveBack l) n c i = back l n w c.standing c
 acted setup answers w (event.Keep l) n c i = kept l n w (is_idle c) (c.heard == 0 || is_full c.mark) c i
 acted setup answers w (event.Abandon t) n c i = abandoned t n w c.standing c
 acted setup answers w (event.Ask l q) n c i = asked l n w (is_idle c) (next_number w.asked_on) q c
 acted setup answers w (event.Send l) n c i = sent l n w (phase c) (setup.packet_size - 8) c.current c
-acted setup answers w (event.Cancel l) n c i = refl
-acted setup answers w (event.Work k) n c i = refl
-acted setup answers w (event.ToServer k m) n c i = refl
-acted setup answers w (event.ToClient k m) n c i = refl
-acted setup answers w (event.Cut k) n c i = refl
-acted setup answers w event.RestartServer n c i = refl
-acted setup answers w event.RestartClient n c i = refl
+acted setup answers w e n c i = refl
 
 found_makes : (setup : Setup) (answers : Answers) (e : Event) (w : World) (f : Found) → FoundWith w (StandsFor e) f → Makes w (happens_at setup answers e w f)
 found_makes setup answers e w (Missing why) s = refl
@@ -200,20 +189,7 @@ passes n m t e l f = f (omega arith)
 
 told_kept : (o : Outcome) (ts : List Holding) (t : ℕ) (w v : World) (h : Holding) (rs : List EventReport) → Made ts o w → Extends w.tickets v.tickets → numbered v.tickets t ≡ Some h → length ts < t → (length w.tickets < t → IsKept t h (kept_in t rs)) → IsKept t h (kept_in t (event_report (o, w) ∷ rs))
 told_kept (outcome.Kept k) ts t w v h rs m x i l f = kept_step ts k t w v h (kept_in t rs) m x i l f
-told_kept (outcome.Leased a b c) ts t w v h rs m x i l f = passes (length w.tickets) (length ts) t m l f
-told_kept (outcome.GivenBack a) ts t w v h rs m x i l f = passes (length w.tickets) (length ts) t m l f
-told_kept (outcome.Abandoned a) ts t w v h rs m x i l f = passes (length w.tickets) (length ts) t m l f
-told_kept (outcome.Asked a) ts t w v h rs m x i l f = passes (length w.tickets) (length ts) t m l f
-told_kept (outcome.Sent a) ts t w v h rs m x i l f = passes (length w.tickets) (length ts) t m l f
-told_kept (outcome.Cancel a) ts t w v h rs m x i l f = passes (length w.tickets) (length ts) t m l f
-told_kept (outcome.Work a) ts t w v h rs m x i l f = passes (length w.tickets) (length ts) t m l f
-told_kept (outcome.ToServer a) ts t w v h rs m x i l f = passes (length w.tickets) (length ts) t m l f
-told_kept (outcome.ToClient a) ts t w v h rs m x i l f = passes (length w.tickets) (length ts) t m l f
-told_kept outcome.Cut ts t w v h rs m x i l f = passes (length w.tickets) (length ts) t m l f
-told_kept outcome.RestartedServer ts t w v h rs m x i l f = passes (length w.tickets) (length ts) t m l f
-told_kept outcome.RestartedClient ts t w v h rs m x i l f = passes (length w.tickets) (length ts) t m l f
-told_kept (outcome.Refused a) ts t w v h rs m x i l f = passes (length w.tickets) (length ts) t m l f
-told_kept (outcome.Fault a b c) ts t w v h rs m x i l f = passes (length w.tickets) (length ts) t m l f
+told_kept o ts t w v h rs m x i l f = passes (length w.tickets) (length ts) t m l f
 
 ticket_kept : (setup : Setup) (answers : Answers) (events : List Event) (w : World) (t : ℕ) (h : Holding) → Agrees w → numbered (world_after setup answers events w).tickets t ≡ Some h → length w.tickets < t → IsKept t h (kept_in t (event_reports setup answers events w))
 ticket_kept setup answers [] w t h a i l = absurd (none_beyond w.tickets t h i l)
@@ -250,35 +226,11 @@ resumed_keeps v r t (outcome.Leased lease n opened.Reused) hs z f x = tt
 resumed_keeps v r t (outcome.Leased lease n opened.Resumed) hs z f x = λ s i.
     in_kept v r t (numbered v.tickets t) s refl (from_lease v t f.0 (numbered v.leases lease) s f.2 (x lease f.0 f.1) (z.starts lease s i)) (z.kept t)
 resumed_keeps v r t (outcome.GivenBack a) hs z f x = tt
-resumed_keeps v r t (outcome.Kept a) hs z f x = tt
-resumed_keeps v r t (outcome.Abandoned a) hs z f x = tt
-resumed_keeps v r t (outcome.Asked a) hs z f x = tt
-resumed_keeps v r t (outcome.Sent a) hs z f x = tt
-resumed_keeps v r t (outcome.Cancel a) hs z f x = tt
-resumed_keeps v r t (outcome.Work a) hs z f x = tt
-resumed_keeps v r t (outcome.ToServer a) hs z f x = tt
-resumed_keeps v r t (outcome.ToClient a) hs z f x = tt
-resumed_keeps v r t outcome.Cut hs z f x = tt
-resumed_keeps v r t outcome.RestartedServer hs z f x = tt
-resumed_keeps v r t outcome.RestartedClient hs z f x = tt
-resumed_keeps v r t (outcome.Refused a) hs z f x = tt
-resumed_keeps v r t (outcome.Fault a b c) hs z f x = tt
+resumed_keeps v r t what hs z f x = tt
 
 event_keeps : (v : World) (r : Report) (e : Event) (what : Outcome) (hs : List Holding) → AtEnd v r → NotedAs e what hs → Extends hs v.leases → KeepsIfResumed r e what
 event_keeps v r (event.Resume t) what hs z f x = resumed_keeps v r t what hs z f x
-event_keeps v r event.Lease what hs z f x = tt
-event_keeps v r (event.GiveBack l) what hs z f x = tt
-event_keeps v r (event.Keep l) what hs z f x = tt
-event_keeps v r (event.Abandon t) what hs z f x = tt
-event_keeps v r (event.Ask l q) what hs z f x = tt
-event_keeps v r (event.Send l) what hs z f x = tt
-event_keeps v r (event.Cancel l) what hs z f x = tt
-event_keeps v r (event.Work n) what hs z f x = tt
-event_keeps v r (event.ToServer n m) what hs z f x = tt
-event_keeps v r (event.ToClient n m) what hs z f x = tt
-event_keeps v r (event.Cut n) what hs z f x = tt
-event_keeps v r event.RestartServer what hs z f x = tt
-event_keeps v r event.RestartClient what hs z f x = tt
+event_keeps v r e what hs z f x = tt
 
 pub each_keeps : (setup : Setup) (answers : Answers) (events : List Event) (w : World) (r : Report) → AtEnd (world_after setup answers events w) r → OfEachOutcome (KeepsIfResumed r) events (event_reports setup answers events w)
 each_keeps setup answers [] w r z = tt

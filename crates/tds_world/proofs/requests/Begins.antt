@@ -19,7 +19,7 @@ use Rattle.tds_world.specs.Entries.{Up, Part, End, Drop, Attention, Down, Step, 
 use Rattle.tds_world.specs.Events.{world_after}
 use Rattle.tds_world.specs.Lane.{passed}
 use Rattle.tds_world.specs.Laws.{Always}
-use Rattle.tds_world.specs.Phase.{Phase, Settled, Asked, Sending, Reading, Cancelling, phase_of}
+use Rattle.tds_world.specs.Phase.{Phase, Settled, phase_of}
 use Rattle.tds_world.specs.Record.{Record}
 use Rattle.tds_world.specs.World.{new_world}
 use Rattle.tds_world.proofs.events.Moves.{KeptByMoves, by_moves}
@@ -106,10 +106,7 @@ works_begun c (s ∷ ss) e h =
 
 cancels_begun_by : (p : Phase) (q : Record) (c : Connection) → c.current ≡ Some q → phase_of q ≡ p → Begun c → Begun (cancels_by p q c)
 cancels_begun_by Settled q c is at h = h
-cancels_begun_by Asked q c is at h = h
-cancels_begun_by Sending q c is at h = h
-cancels_begun_by Reading q c is at h = h
-cancels_begun_by Cancelling q c is at h = h
+cancels_begun_by p q c is at h = h
 
 sends_begun : (setup : Setup) (last : Bool) (q : Record) (c : Connection) → c.current ≡ Some q → is_sending (phase_of q) ≡ true → sends_last (setup.packet_size - 8) q ≡ last → Begun c → Begun (sends_by last (setup.packet_size - 8) q c)
 sends_begun setup true q c is at l h = h

@@ -7,7 +7,7 @@ use Rattle.tds_session.specs.Session.{SessionState}
 use Rattle.tds_world.specs.Arrivals.{server_acts, client_acts}
 use Rattle.tds_world.specs.Caller.{cancels_by, sends_by}
 use Rattle.tds_world.specs.Connection.{Connection, joined}
-use Rattle.tds_world.specs.Entries.{Asking, Up, Part, End, Drop, Attention, Down, Step, Acknowledgement}
+use Rattle.tds_world.specs.Entries.{Asking, Up, Part, Down, Step, Acknowledgement}
 use Rattle.tds_world.specs.Lane.{passed}
 use Rattle.tds_world.specs.Phase.{Phase, Settled, Asked, Sending, Reading, Cancelling}
 use Rattle.tds_world.specs.Record.{Record, gives, acknowledges, when, if_numbered}
@@ -60,9 +60,7 @@ client_same c (Acknowledgement r place changes) = (map_cores (if_numbered r ackn
 
 pub server_same : (answers : Answers) (c : Connection) (e : Up) → SameCores c (server_acts answers (record c { to_server = passed e c.to_server }) e)
 server_same answers c (Part r p) = (refl, refl)
-server_same answers c (End r a p) = (refl, refl)
-server_same answers c (Drop r p) = (refl, refl)
-server_same answers c (Attention r) = (refl, refl)
+server_same answers c e = (refl, refl)
 
 newest_same : (q : Record) (o : Option Record) → o ≡ Some q → option_map core_of (Some q) ≡ option_map core_of o
 newest_same q o e = sym (ap (option_map core_of) e)

@@ -52,10 +52,7 @@ cancels_ease_by Reading q c i e = rw i (open_eases q (is_settled (phase_of q)) (
 -- It is at the place where it stood, under the mark that it had.
 cancelled_by : (w : World) (p : Phase) (q : Record) (c : Connection) → IsReadyBy w (cores (cancels_by p q c)) c.mark c.session c.standing (open_lease (cancels_by p q c).current) → IsReady w (cancels_by p q c)
 cancelled_by w Settled q c h = h
-cancelled_by w Cancelling q c h = h
-cancelled_by w Asked q c h = h
-cancelled_by w Sending q c h = h
-cancelled_by w Reading q c h = h
+cancelled_by w p q c h = h
 
 cancels_ready : (w : World) (p : Phase) (q : Record) (c : Connection) → c.current ≡ Some q → phase_of q ≡ p → IsReady w c → IsReady w (cancels_by p q c)
 cancels_ready w p q c i e h = cancelled_by w p q c (same_ready w c (cancels_by p q c) (cancels_same_by p q c i) (cancels_ease_by p q c i e) h)

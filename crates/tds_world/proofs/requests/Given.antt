@@ -7,7 +7,7 @@ use Rattle.tds_world.specs.declared.event.Setup.{Setup}
 use Rattle.tds_world.specs.Arrivals.{server_acts, client_acts, works_on}
 use Rattle.tds_world.specs.Caller.{cancels_by, sends_by, asks}
 use Rattle.tds_world.specs.Connection.{Connection, joined, records}
-use Rattle.tds_world.specs.Entries.{Up, Part, End, Drop, Attention, Down, Step, Acknowledgement}
+use Rattle.tds_world.specs.Entries.{Up, Part, Down, Step, Acknowledgement}
 use Rattle.tds_world.specs.Events.{world_after}
 use Rattle.tds_world.specs.Lane.{passed}
 use Rattle.tds_world.specs.Laws.{NothingAfterCancel, request_in, request_on}
@@ -112,9 +112,7 @@ works_follow c (s ∷ ss) =
 
 server_follows : (answers : Answers) (c : Connection) (e : Up) → Follows c (server_acts answers c e)
 server_follows answers c (Part r p) = longer_same (records c)
-server_follows answers c (End r a p) = longer_same (records c)
-server_follows answers c (Drop r p) = longer_same (records c)
-server_follows answers c (Attention r) = longer_same (records c)
+server_follows answers c e = longer_same (records c)
 
 client_follows : (c : Connection) (e : Down) → Follows c (client_acts c e)
 client_follows c (Step r place s) =

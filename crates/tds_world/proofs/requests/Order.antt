@@ -141,19 +141,7 @@ listed_moves setup answers n = record {
 -- What holds where nothing is asked, and where a request is.
 pub asked_cases : (n : ℕ) (ns : List ℕ) (P : List ℕ → Type 0) → P ns → P (ns ++ n ∷ []) → (e : Event) → P (asked_then e n ns)
 asked_cases n ns P none one (event.Ask l q) = one
-asked_cases n ns P none one event.Lease = none
-asked_cases n ns P none one (event.Resume t) = none
-asked_cases n ns P none one (event.GiveBack l) = none
-asked_cases n ns P none one (event.Keep l) = none
-asked_cases n ns P none one (event.Abandon t) = none
-asked_cases n ns P none one (event.Send l) = none
-asked_cases n ns P none one (event.Cancel l) = none
-asked_cases n ns P none one (event.Work k) = none
-asked_cases n ns P none one (event.ToServer k i) = none
-asked_cases n ns P none one (event.ToClient k i) = none
-asked_cases n ns P none one (event.Cut k) = none
-asked_cases n ns P none one event.RestartServer = none
-asked_cases n ns P none one event.RestartClient = none
+asked_cases n ns P none one e = none
 
 -- On another connection nothing is asked.
 elsewhere : (e : Event) (n m : ℕ) (ns : List ℕ) (xs : List Core) → eqb n m ≡ false → Listed m ns xs → Listed m (asked_then e n ns) xs
@@ -161,19 +149,7 @@ elsewhere e n m ns xs d h = asked_cases n ns (λ ms. Listed m ms xs) h (h.0 ∙ 
 
 pub notes_asked : (e : Event) (n heard : ℕ) (w : World) → (notes e n heard w).asked_on ≡ asked_then e n w.asked_on
 notes_asked (event.Ask l q) n heard w = refl
-notes_asked event.Lease n heard w = refl
-notes_asked (event.Resume t) n heard w = refl
-notes_asked (event.GiveBack l) n heard w = refl
-notes_asked (event.Keep l) n heard w = refl
-notes_asked (event.Abandon t) n heard w = refl
-notes_asked (event.Send l) n heard w = refl
-notes_asked (event.Cancel l) n heard w = refl
-notes_asked (event.Work k) n heard w = refl
-notes_asked (event.ToServer k i) n heard w = refl
-notes_asked (event.ToClient k i) n heard w = refl
-notes_asked (event.Cut k) n heard w = refl
-notes_asked event.RestartServer n heard w = refl
-notes_asked event.RestartClient n heard w = refl
+notes_asked e n heard w = refl
 
 listed_then : (e : Event) (n : ℕ) (w : World) (a : Acted) → OfActed (λ d. ListedOn n (world_with e n w d).asked_on d) a → OfActed (ListedOn n (asked_then e n w.asked_on)) a
 listed_then e n w (Refuses why) h = tt

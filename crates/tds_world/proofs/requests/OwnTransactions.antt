@@ -19,7 +19,7 @@ use Rattle.tds_world.specs.Laws.{Always}
 use Rattle.tds_world.specs.Phase.{phase_in, phase_of}
 use Rattle.tds_world.specs.Record.{Record, runs, if_numbered}
 use Rattle.tds_world.specs.World.{World, new_world, next_number}
-use Rattle.tds_world.proofs.events.Moves.{Invariant, FreeIn, BothIn, MovesOver, NotedOver, Stand, Lends, Resumes, GivesBack, Keeps, Abandons, Drains, Cuts, Before, restood, noted_on_top, by_noted_moves, AnyAt}
+use Rattle.tds_world.proofs.events.Moves.{Invariant, FreeIn, BothIn, MovesOver, NotedOver, Stand, Lends, Resumes, Before, restood, noted_on_top, by_noted_moves, AnyAt}
 use Rattle.tds_world.proofs.events.Noted.{KeptIn, always_in}
 use Rattle.tds_world.proofs.events.Worlds.{each_follows}
 use Rattle.tds_world.proofs.flow.Busy.{Rests, Answering, busy_due}
@@ -92,11 +92,7 @@ resume_idle t c e h = subst (λ s. Rests s (is_idle c)) e h
 stood_marked : (answers : Answers) (w : World) (r : Stand) (c : Connection) → Before r c → SoundAndIdle w c → Marked answers c → Marked answers (restood w r c)
 stood_marked answers w Lends c b f h = (h.0, marks_idle answers c (strongest (Some Full) c.mark) (lend_idle c b f.1) f.0 h.1)
 stood_marked answers w (Resumes t) c b f h = (h.0, marks_idle answers c (strongest (Some KeepTransaction) c.mark) (resume_idle t c b f.1) f.0 h.1)
-stood_marked answers w (GivesBack l) c b f h = h
-stood_marked answers w (Keeps l) c b f h = h
-stood_marked answers w (Abandons t) c b f h = h
-stood_marked answers w (Drains n k) c b f h = h
-stood_marked answers w (Cuts n) c b f h = h
+stood_marked answers w r c b f h = h
 
 abbrev MarkedWith : Answers → Invariant
 MarkedWith answers c ups downs = OwnPast c × NewestWith answers c ups downs

@@ -7,7 +7,7 @@ use Rattle.tds_world.specs.declared.report.Place.TheVariants as place
 use Rattle.tds_world.specs.Arrivals.{server_acts, client_acts, works_on, drained}
 use Rattle.tds_world.specs.Caller.{sends_by, cancels_by}
 use Rattle.tds_world.specs.Connection.{Connection, phase, is_idle, Standing, In, Cut}
-use Rattle.tds_world.specs.Entries.{Up, Part, End, Drop, Attention, Down, Step, Acknowledgement}
+use Rattle.tds_world.specs.Entries.{Up, Part, Down, Step, Acknowledgement}
 use Rattle.tds_world.specs.Lane.{passed}
 use Rattle.tds_world.specs.Lawful.{Lawful}
 use Rattle.tds_world.specs.Phase.{Phase, Settled, Asked, Sending, Reading, Cancelling, phase_in, phase_of, is_settled}
@@ -30,9 +30,7 @@ leased_rests l b s e = rw e tt
 
 server_rests : (answers : Answers) (c : Connection) (e : Up) → RestsIdle c → RestsIdle (server_acts answers (record c { to_server = passed e c.to_server }) e)
 server_rests answers c (Part r p) h = h
-server_rests answers c (End r a p) h = h
-server_rests answers c (Drop r p) h = h
-server_rests answers c (Attention r) h = h
+server_rests answers c e h = h
 
 -- Something waits, so it has no such place.
 down_is_busy : (c : Connection) (e : Down) (es : List Down) → SoundWith c c.to_server.waiting (e ∷ es) → RestsIdle c → (b : Bool) → Rests c.standing b

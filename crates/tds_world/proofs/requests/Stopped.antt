@@ -4,19 +4,17 @@ use Rattle.std.proofs.Common.{◌≡◌, ◌≢◌, ◌≤◌, ◌⊎◌, ◌-�
 use Rattle.std.proofs.lemmas.Bool.Decides.{nat_tests}
 use Rattle.std.proofs.lemmas.List.{append_assoc}
 use Rattle.std.specs.List.{AllByRecursion}
-use Rattle.std.specs.Prelude.{nat_lt}
-use Rattle.tds_packet.specs.declared.status.Reset.{Reset}
 use Rattle.tds_session.specs.declared.attention.OnAttention.{OnAttention}
 use Rattle.tds_session.specs.declared.attention.OnAttention.TheVariants.{RollBack}
 use Rattle.tds_session.specs.Answer as answer
 use Rattle.tds_session.specs.Answer.{Answers, EndsOnce}
 use Rattle.tds_session.specs.Attention.{stop_by, rolls_back}
-use Rattle.tds_session.specs.Session.{SessionState, IsFresh, is_in_transaction}
+use Rattle.tds_session.specs.Session.{SessionState, is_in_transaction}
 use Rattle.tds_world.specs.declared.event.Setup.{Setup}
 use Rattle.tds_world.specs.declared.report.Place.TheVariants as place
-use Rattle.tds_world.specs.Arrivals.{server_acts, client_acts, works_on, is_midway, stops}
+use Rattle.tds_world.specs.Arrivals.{server_acts, client_acts, is_midway, stops}
 use Rattle.tds_world.specs.Caller.{cancels_by, sends_by}
-use Rattle.tds_world.specs.Connection.{Connection, Standing, In, phase, records}
+use Rattle.tds_world.specs.Connection.{Connection, In, phase, records}
 use Rattle.tds_world.specs.Entries.{Up, Part, End, Drop, Attention, Down, Step, Acknowledgement}
 use Rattle.tds_world.specs.Events.{world_after}
 use Rattle.tds_world.specs.Lane.{passed}
@@ -26,16 +24,15 @@ use Rattle.tds_world.specs.Phase.{Phase, Settled, Asked, Sending, Reading, Cance
 use Rattle.tds_world.specs.Record.{Record, Acknowledged, gives, acknowledges, runs, when, if_numbered}
 use Rattle.tds_world.specs.Rollback.{NoLast, IsStopped, IsOutside, StoppedIsOutside, IsUnrun, KeptUntilRun}
 use Rattle.tds_world.specs.Steps.{EndsIfDue}
-use Rattle.tds_world.specs.World.{World, Holding, numbered, new_world}
+use Rattle.tds_world.specs.World.{World, Holding, new_world}
 use Rattle.tds_world.proofs.events.Moves.{BothIn, MovesOver, noted_on_top, by_noted_moves, AnyAt}
 use Rattle.tds_world.proofs.events.Noted.{KeptIn, always_in}
-use Rattle.tds_world.proofs.events.Options.{server_told, client_told, cancels_told}
 use Rattle.tds_world.proofs.events.Worlds.{each_follows}
 use Rattle.tds_world.proofs.flow.Arrivals.{same_number, of_changed}
-use Rattle.tds_world.proofs.flow.Flow.{FlowIn, Quiet, number_in, Hears, Sound, SoundWith}
+use Rattle.tds_world.proofs.flow.Flow.{FlowIn, Quiet, number_in, Hears, Sound}
 use Rattle.tds_world.proofs.flow.Stops.{rolls}
 use Rattle.tds_world.proofs.requests.Asking.{ByRan, Newest, NewestWith}
-use Rattle.tds_world.proofs.requests.Cores.{Core, core_of, joined_cores}
+use Rattle.tds_world.proofs.requests.Cores.{core_of, joined_cores}
 use Rattle.tds_world.proofs.requests.FreshStarts.{ReadyAndMarked, ready_kept}
 use Rattle.tds_world.proofs.requests.Newest.{answering}
 use Rattle.tds_world.proofs.requests.OwnTransactions.{WellMarked, WellMarkedWith, marked_noted}

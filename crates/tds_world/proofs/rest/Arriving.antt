@@ -8,7 +8,7 @@ use Rattle.tds_world.specs.declared.event.Setup.{Setup}
 use Rattle.tds_world.specs.Arrivals.{server_acts, client_acts, reach_server, reach_client, to_server, to_client, works, works_on}
 use Rattle.tds_world.specs.Caller.{cancels, cancels_in, cancels_by}
 use Rattle.tds_world.specs.Connection.{Connection, phase, up_underway, down_underway}
-use Rattle.tds_world.specs.Entries.{Up, Part, End, Drop, Attention, Down, Step, Acknowledgement, up_bytes, down_bytes}
+use Rattle.tds_world.specs.Entries.{Up, Part, Attention, Down, Step, Acknowledgement, up_bytes, down_bytes}
 use Rattle.tds_world.specs.Lane.{Lane, passed, with_waiting, underway, IsLongestFront}
 use Rattle.tds_world.specs.Lawful.{Lawful}
 use Rattle.tds_world.specs.Phase.{Phase, Settled, Asked, Sending, Reading, Cancelling, phase_in, phase_of, is_settled}
@@ -82,9 +82,7 @@ nobody_waits c f s u d e =
 -- A delivery to the server: the requests.
 pub server_leaves_newest : (answers : Answers) (c : Connection) (e : Up) → (server_acts answers c e).current ≡ c.current
 server_leaves_newest answers c (Part r p) = refl
-server_leaves_newest answers c (End r a p) = refl
-server_leaves_newest answers c (Drop r p) = refl
-server_leaves_newest answers c (Attention r) = refl
+server_leaves_newest answers c e = refl
 
 reach_server_leaves : (answers : Answers) (c : Connection) (es : List Up) (k : ℕ) → (reach_server answers c es k).current ≡ c.current
 reach_server_leaves answers c [] k = refl

@@ -254,15 +254,9 @@ did_hold setup w (event.Keep k) n old d what f i s h =
     held_then w (ended_numbered k w.leases) n d (room_for w.connections n old i) (λ l z. absurd (s l z))
     (others_stay w.leases k n (held_by w refusal.UnknownLease n old w.leases k (numbered w.leases k) refl (not_cut_is (by_lease w k) n old f))) h
 did_hold setup w (event.Abandon t) n old d what f i s h = held_then w w.leases n d (room_for w.connections n old i) (λ l z. absurd (s l z)) (all_stay w.leases n) h
-did_hold setup w (event.Ask k q) n old d what f i s h = held_then w w.leases n d (room_for w.connections n old i) (λ l z. h n old l i (s l z)) (all_stay w.leases n) h
-did_hold setup w (event.Send k) n old d what f i s h = held_then w w.leases n d (room_for w.connections n old i) (λ l z. h n old l i (s l z)) (all_stay w.leases n) h
-did_hold setup w (event.Cancel k) n old d what f i s h = held_then w w.leases n d (room_for w.connections n old i) (λ l z. h n old l i (s l z)) (all_stay w.leases n) h
-did_hold setup w (event.Work k) n old d what f i s h = held_then w w.leases n d (room_for w.connections n old i) (λ l z. h n old l i (s l z)) (all_stay w.leases n) h
-did_hold setup w (event.ToServer k m) n old d what f i s h = held_then w w.leases n d (room_for w.connections n old i) (λ l z. h n old l i (s l z)) (all_stay w.leases n) h
-did_hold setup w (event.ToClient k m) n old d what f i s h = held_then w w.leases n d (room_for w.connections n old i) (λ l z. h n old l i (s l z)) (all_stay w.leases n) h
-did_hold setup w (event.Cut k) n old d what f i s h = held_then w w.leases n d (room_for w.connections n old i) (λ l z. h n old l i (s l z)) (all_stay w.leases n) h
 did_hold setup w event.RestartServer n old d what f i s h = absurd (cc)
 did_hold setup w event.RestartClient n old d what f i s h = absurd (cc)
+did_hold setup w e n old d what f i s h = held_then w w.leases n d (room_for w.connections n old i) (λ l z. h n old l i (s l z)) (all_stay w.leases n) h
 
 acted_hold : (setup : Setup) (w : World) (e : Event) (n : ℕ) (old : Connection) (a : Acted) → about setup w e ≡ Here n old → numbered w.connections n ≡ Some old → OfActed (λ d. StoodFor w e old.standing d.standing) a → AllHeld w → AllHeld (settles e n w a).1
 acted_hold setup w e n old (Refuses why) f i s h = h

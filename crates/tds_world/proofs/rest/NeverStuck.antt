@@ -127,10 +127,7 @@ to_server_stands answers k c = reach_server_stands answers c c.to_server.waiting
 
 drained_rests : (s : Standing) → drained true s ≡ rested s
 drained_rests (In place.Draining) = refl
-drained_rests (In place.Free) = refl
-drained_rests (In (place.Leased l)) = refl
-drained_rests (In (place.Kept t)) = refl
-drained_rests Cut = refl
+drained_rests s = refl
 
 -- An idle connection that was delivered to.
 rests : (setup : Setup) (answers : Answers) (k : ℕ) (c d : Connection) → Lawful answers → IsGood d → d.standing ≡ c.standing → phase (to_client k d) ≡ Settled → ComesToRest c (to_client k d)

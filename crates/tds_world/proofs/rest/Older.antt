@@ -6,10 +6,10 @@ use Rattle.tds_world.specs.declared.event.Setup.{Setup}
 use Rattle.tds_world.specs.Arrivals.{server_acts, client_acts, works_on}
 use Rattle.tds_world.specs.Caller.{cancels_by, sends_by}
 use Rattle.tds_world.specs.Connection.{Connection, joined}
-use Rattle.tds_world.specs.Entries.{Up, Part, End, Drop, Attention}
+use Rattle.tds_world.specs.Entries.{Up, Part}
 use Rattle.tds_world.specs.Lane.{passed}
 use Rattle.tds_world.specs.Lawful.{Lawful}
-use Rattle.tds_world.specs.Phase.{Phase, Settled, Asked, Sending, Reading, Cancelling, phase_in, phase_of, is_settled}
+use Rattle.tds_world.specs.Phase.{Phase, Settled, phase_in, phase_of, is_settled}
 use Rattle.tds_world.specs.Record.{Record}
 use Rattle.tds_world.specs.World.{World}
 use Rattle.tds_world.proofs.events.Moves.{BothIn, MovesOver, noted_on_top, by_noted_moves, AnyAt}
@@ -35,16 +35,11 @@ sends_past false room q c = refl
 
 cancels_past : (p : Phase) (q : Record) (c : Connection) → (cancels_by p q c).past ≡ c.past
 cancels_past Settled q c = refl
-cancels_past Asked q c = refl
-cancels_past Sending q c = refl
-cancels_past Reading q c = refl
-cancels_past Cancelling q c = refl
+cancels_past p q c = refl
 
 server_past : (answers : Answers) (c : Connection) (e : Up) → (server_acts answers c e).past ≡ c.past
 server_past answers c (Part r p) = refl
-server_past answers c (End r a p) = refl
-server_past answers c (Drop r p) = refl
-server_past answers c (Attention r) = refl
+server_past answers c e = refl
 
 then_settled : (c d : Connection) → d.past ≡ c.past → OlderSettled c → OlderSettled d
 then_settled c d e h = subst AreSettled (sym e) h

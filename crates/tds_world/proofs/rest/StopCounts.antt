@@ -1,5 +1,5 @@
 -- How many bytes a cancel sends, and how many the server answers to it.
-use Rattle.std.proofs.Common.{◌≡◌, ◌≤◌, ◌+◌, ◌-◌, ◌*◌, ℕ, List, [], ◌∷◌, ◌++◌, length, ltb, min, refl, ap, ◌∙◌, flat_map, arith, lit≤, Option, Some, None}
+use Rattle.std.proofs.Common.{◌≡◌, ◌≤◌, ◌+◌, ◌-◌, ℕ, List, [], ◌∷◌, ◌++◌, length, ltb, min, refl, ap, ◌∙◌, flat_map, arith, lit≤, Option, Some, None}
 use Rattle.std.proofs.lemmas.Grind.{flat_map-append}
 use Rattle.std.proofs.lemmas.List.{length-append}
 use Rattle.std.specs.Prelude.{◌&&◌, Bool, true, false}
@@ -59,10 +59,7 @@ cancel_sends_in (Some q) c = cancel_sends_by (phase_of q) q c
 
 cancel_leaves_by : (p : Phase) (q : Record) (c : Connection) → down_underway (cancels_by p q c) ≡ down_underway c
 cancel_leaves_by Settled q c = refl
-cancel_leaves_by Asked q c = refl
-cancel_leaves_by Sending q c = refl
-cancel_leaves_by Reading q c = refl
-cancel_leaves_by Cancelling q c = refl
+cancel_leaves_by p q c = refl
 
 cancel_leaves_in : (o : Option Record) (c : Connection) → down_underway (cancels_in o c) ≡ down_underway c
 cancel_leaves_in None c = refl

@@ -6,14 +6,14 @@ use Rattle.tds_world.specs.declared.report.Place.TheVariants as place
 use Rattle.tds_world.specs.Arrivals.{server_acts, client_acts, works_on, drained}
 use Rattle.tds_world.specs.Caller.{cancels_by, sends_by}
 use Rattle.tds_world.specs.Connection.{Connection, phase, is_idle, Standing, In, Cut}
-use Rattle.tds_world.specs.Entries.{Up, Part, End, Drop, Attention, Down, Step, Acknowledgement}
+use Rattle.tds_world.specs.Entries.{Up, Part, Down, Step, Acknowledgement}
 use Rattle.tds_world.specs.Lane.{passed}
 use Rattle.tds_world.specs.Lawful.{Lawful}
 use Rattle.tds_world.specs.Phase.{Phase, Settled, Asked, Sending, Reading, Cancelling, phase_in, phase_of, is_settled}
 use Rattle.tds_world.specs.Pool.{place_back}
 use Rattle.tds_world.specs.Record.{Record, gives, acknowledges, when, if_numbered}
 use Rattle.tds_world.specs.World.{World}
-use Rattle.tds_world.proofs.events.Moves.{Free, Both, Invariant, MovesOver, Stand, Lends, Resumes, GivesBack, Keeps, Abandons, Drains, Cuts, Before, restood, unnoted, noted_on_top, by_noted_moves, AnyAt}
+use Rattle.tds_world.proofs.events.Moves.{Free, Both, Invariant, MovesOver, Stand, GivesBack, Drains, Before, restood, unnoted, noted_on_top, by_noted_moves, AnyAt}
 use Rattle.tds_world.proofs.events.Noted.{KeptIn}
 use Rattle.tds_world.proofs.events.Standings.{cancels_stand_by, sends_stand}
 use Rattle.tds_world.proofs.events.Worlds.{Any}
@@ -36,10 +36,7 @@ Stops c = StopsIn c.standing (phase c)
 -- What stops one phase stops another one that is stopped too.
 stops_more : (s : Standing) (p r : Phase) → (is_stopped p ≡ true → is_stopped r ≡ true) → StopsIn s p → StopsIn s r
 stops_more (In place.Draining) p r f h = f h
-stops_more (In place.Free) p r f h = tt
-stops_more (In (place.Kept t)) p r f h = tt
-stops_more (In (place.Leased l)) p r f h = tt
-stops_more Cut p r f h = tt
+stops_more s p r f h = tt
 
 leased_stops : (l : ℕ) (s : Standing) (p : Phase) → s ≡ In (place.Leased l) → StopsIn s p
 leased_stops l s p e = rw e tt
@@ -57,13 +54,9 @@ drained_stops true Cut p h = tt
 drained_stops false s p h = h
 
 stood_stops : (w : World) (r : Stand) (c : Connection) → Before r c → Stops c → Stops (restood w r c)
-stood_stops w Lends c b h = tt
-stood_stops w (Resumes t) c b h = tt
 stood_stops w (GivesBack l) c b h = back_stops (is_idle c) (phase c) b
-stood_stops w (Keeps l) c b h = tt
-stood_stops w (Abandons t) c b h = tt
 stood_stops w (Drains n k) c b h = drained_stops (is_idle c) c.standing (phase c) h
-stood_stops w (Cuts n) c b h = tt
+stood_stops w r c b h = tt
 
 -- It stands where it stood.
 then_stops : (c d : Connection) → d.standing ≡ c.standing → (is_stopped (phase c) ≡ true → is_stopped (phase d) ≡ true) → Stops c → Stops d
@@ -88,9 +81,7 @@ cancels_stop_by Reading q c h = cancelled_stops q.out
 
 server_same : (answers : Answers) (c : Connection) (e : Up) → (server_acts answers c e).standing ≡ c.standing
 server_same answers c (Part r p) = refl
-server_same answers c (End r a p) = refl
-server_same answers c (Drop r p) = refl
-server_same answers c (Attention r) = refl
+server_same answers c e = refl
 
 client_same : (c : Connection) (e : Down) → (client_acts c e).standing ≡ c.standing
 client_same c (Step r place s) = refl

@@ -56,12 +56,7 @@ joined columns after (t ∷ ts) bytes h = rw h.3 (same_bytes h.4.spelled (joined
 -- A token has a byte.
 a_byte : (t : Token) → 1 ≤ length (spelling t)
 a_byte (token.Info m) = omega arith
-a_byte (token.Error m) = omega arith
-a_byte (token.ReturnStatus v) = omega arith
-a_byte (token.Columns cs) = omega arith
-a_byte (token.Row vs) = omega arith
-a_byte (token.Env e) = omega arith
-a_byte (token.Done status cur_cmd rows) = omega arith
+a_byte t = omega arith
 
 some_bytes : (ts : List Token) → 0 < length ts → 1 ≤ length (flat_map spelling ts)
 some_bytes [] h = absurd (omega (arith, h))

@@ -126,14 +126,11 @@ more_counts : (s : SessionState) (e : Effect) → Counts s e → Counts s (with_
 more_counts s e h = done_counts (list_any is_error e.tokens) s e h
 
 step_counts : (s : SessionState) (q : Statement) → Counts s (step_of s q)
-step_counts s (statement.Say word) = refl
 step_counts s (statement.Rows first count) = subst (λ cs. CountFrom s.next_descriptor (flat_map begun_by cs) s.next_descriptor) (sym (rows_begin_nothing first count count)) refl
-step_counts s (statement.Set key v) = refl
-step_counts s (statement.Get key) = refl
 step_counts s statement.Begin = more_counts s (begins s) (begin_counts (s.descriptor == 0) (s.next_descriptor == last_descriptor) s)
 step_counts s statement.Commit = more_counts s (ends change.Commit s) (commit_counts (s.descriptor == 0) s)
 step_counts s statement.Rollback = more_counts s (ends change.Rollback s) (rollback_counts (s.descriptor == 0) s)
-step_counts s (statement.Fail n) = refl
+step_counts s q = refl
 
 pub script_hands_out_next : HandsOutNext script_answers
 script_hands_out_next = hands_out_next statements_of step_of step_counts
