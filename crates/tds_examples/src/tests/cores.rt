@@ -110,34 +110,39 @@ fn changed_bytes(rt: HostRuntime) -> Result<(), Fail> {
     for (place, byte, fault) in TO_SERVER {
         let bytes = changed(rt.alloc(), &BEGIN, place, byte)?;
         let found = server_fault(rt.alloc(), bytes.as_slice())?;
-        assert_eq!(rt; found, fault, "at {place} of a begin");
+        assert!(rt; found == fault, "{found:?} at {place} of a begin");
     }
     for (place, byte, fault) in TO_CLIENT {
         let bytes = changed(rt.alloc(), &BEGUN, place, byte)?;
         let found = client_fault(rt.alloc(), bytes.as_slice())?;
-        assert_eq!(rt; found, fault, "at {place} of an answer");
+        assert!(rt; found == fault, "{found:?} at {place} of an answer");
     }
     Ok(())
 }
 
-#[test]
-fn descriptor_that_differs(rt: HostRuntime) -> Result<(), Fail> {
-    let alloc = rt.alloc();
+/// Whether a server takes this request, and answers it with these packets and no more.
+fn answers(alloc: Global, request: &[u8], packets: [&[u8]; 3]) -> Result<bool, Fail> {
     let mut reader = PacketReader::new(alloc, size()?, Direction::ToServer)?;
-    let _ = reader.feed(&GET_IN_SEVEN);
+    let _ = reader.feed(request);
     let mut server = Server::new(alloc, ScriptEngine, size()?);
     let mut out = Vec::new(alloc);
     let packet = reader.packet().ok_or("no whole packet")?;
-    assert!(rt; server.take(packet, &mut out).is_ok());
-    assert_eq!(rt; out.as_slice(), b"".as_slice());
-    for answer in [
+    let mut is_answered = server.take(packet, &mut out).is_ok() && out.is_empty();
+    for packet in packets {
+        out.clear();
+        let _ = server.work(&mut out)?;
+        is_answered = is_answered && out.as_slice() == packet;
+    }
+    Ok(is_answered)
+}
+
+#[test]
+fn descriptor_that_differs(rt: HostRuntime) -> Result<(), Fail> {
+    let packets = [
         WRONG_DESCRIPTOR.as_slice(),
         ENDED_BY_ERROR.as_slice(),
         b"".as_slice(),
-    ] {
-        out.clear();
-        let _ = server.work(&mut out)?;
-        assert_eq!(rt; out.as_slice(), answer);
-    }
+    ];
+    assert!(rt; answers(rt.alloc(), &GET_IN_SEVEN, packets)?);
     Ok(())
 }

@@ -150,7 +150,7 @@ fn each_outcome(rt: HostRuntime) -> Result<(), Fail> {
     for (outcomes, expected) in [(nothing, b"".as_slice()), (&OUTCOMES, OUTCOMES_TEXT)] {
         let report = report_of(rt.alloc(), outcomes)?;
         let bytes = written(rt.alloc(), &report)?;
-        assert_eq!(rt; bytes.as_slice(), expected);
+        assert!(rt; bytes.as_slice() == expected);
     }
     Ok(())
 }
@@ -182,7 +182,7 @@ fn each_token(rt: HostRuntime) -> Result<(), Fail> {
         b"request 1 lease 2 on 3 open ran 0 -\n  info 50000  ~\\u005c\\u001f\\u007f\\ud83d\\u000a\n\
         \x20 info -1 \n  error 50001 x\n  status -2147483648\n  columns n, \\u005c\n  row 5,-6\n\
         \x20 done abcd 18446744073709551615\n";
-    assert_eq!(rt; bytes.as_slice(), expected.as_slice());
+    assert!(rt; bytes.as_slice() == expected.as_slice());
     Ok(())
 }
 
@@ -239,7 +239,7 @@ fn connections_of_the_last_event(rt: HostRuntime) -> Result<(), Fail> {
         connection 2 sending kept 5 descriptor 3 mark full server 0 x=7,y=-1 underway 8 21\n\
         connection 3 reading free descriptor 3 mark keep server 0 x=7,y=-1 underway 8 21\n\
         connection 4 cancelling draining descriptor 3 mark none server 0 x=7,y=-1 underway 8 21\n";
-    assert_eq!(rt; bytes.as_slice(), expected.as_slice());
+    assert!(rt; bytes.as_slice() == expected.as_slice());
     Ok(())
 }
 
@@ -272,7 +272,7 @@ fn each_status(rt: HostRuntime) -> Result<(), Fail> {
         b"request 1 lease 1 on 1 open not run\nrequest 2 lease 1 on 1 cancelling not run\n\
         request 3 lease 1 on 1 finished not run\nrequest 4 lease 1 on 1 acknowledged not run\n\
         request 5 lease 1 on 1 unsent not run\nrequest 6 lease 1 on 1 lost not run\n";
-    assert_eq!(rt; bytes.as_slice(), expected.as_slice());
+    assert!(rt; bytes.as_slice() == expected.as_slice());
     Ok(())
 }
 
@@ -327,9 +327,8 @@ fn a_slow_writer(rt: HostRuntime) -> Result<(), Fail> {
         (3, b"1 ", 3, 1),
     ] {
         let (found, found_calls, fault) = slowly(rt.alloc(), fails_at)?;
-        assert_eq!(rt; found.as_slice(), bytes, "at {fails_at}");
-        assert_eq!(rt; found_calls, calls, "at {fails_at}");
-        assert_eq!(rt; fault, number, "at {fails_at}");
+        let is_so = found.as_slice() == bytes && (found_calls, fault) == (calls, number);
+        assert!(rt; is_so, "at {fails_at}: {found_calls} calls, fault {fault}");
     }
     Ok(())
 }

@@ -20,9 +20,12 @@ fn fill(alloc: Global, pool: &mut Pool, left: u32) -> u8 {
 fn the_65th_of_64_connections_is_refused(rt: HostRuntime) -> Result<(), Fail> {
     let alloc = rt.alloc();
     let mut pool = pool(alloc, 64)?;
-    assert_eq!(rt; fill(alloc, &mut pool, 64), 1);
-    assert_eq!(rt; pool.len(), 64);
-    assert_eq!(rt; pool.count(tds_pool::Place::Free), 64);
+    let refusal = fill(alloc, &mut pool, 64);
+    let (all, free) = (pool.len(), pool.count(tds_pool::Place::Free));
+    assert!(rt;
+        refusal == 1 && all == 64 && free == 64,
+        "{refusal} {all} {free}"
+    );
     Ok(())
 }
 
@@ -30,9 +33,12 @@ fn the_65th_of_64_connections_is_refused(rt: HostRuntime) -> Result<(), Fail> {
 fn a_pool_has_1_to_64_connections(rt: HostRuntime) -> Result<(), Fail> {
     let alloc = rt.alloc();
     let size = PacketSize::new(512).ok_or("size")?;
-    assert_eq!(rt; Pool::new(alloc, 0, size).is_some(), false);
-    assert_eq!(rt; Pool::new(alloc, 1, size).is_some(), true);
-    assert_eq!(rt; Pool::new(alloc, 64, size).is_some(), true);
-    assert_eq!(rt; Pool::new(alloc, 65, size).is_some(), false);
+    let are_made = [
+        Pool::new(alloc, 0, size).is_some(),
+        Pool::new(alloc, 1, size).is_some(),
+        Pool::new(alloc, 64, size).is_some(),
+        Pool::new(alloc, 65, size).is_some(),
+    ];
+    assert!(rt; are_made == [false, true, true, false], "{are_made:?}");
     Ok(())
 }

@@ -41,18 +41,6 @@ fn keeps(alloc: Global, pool: &mut Pool, number: u32, before: Before) -> u8 {
     if done { refused } else { 101 }
 }
 
-#[test]
-fn keep_is_refused_in_order(rt: HostRuntime) -> Result<(), Fail> {
-    let alloc = rt.alloc();
-    let mut pool = pool(alloc, 1)?;
-    assert_eq!(rt; keeps(alloc, &mut pool, 1, Before::Nothing), 4);
-    assert_eq!(rt; keeps(alloc, &mut pool, 2, Before::Begun), 0);
-    assert_eq!(rt; keeps(alloc, &mut pool, 3, Before::Asked), 3);
-    assert_eq!(rt; keeps(alloc, &mut pool, 4, Before::AskedAndBroken), 5);
-    assert_eq!(rt; keeps(alloc, &mut pool, 5, Before::Lost), 2);
-    Ok(())
-}
-
 /// A transaction that a full reset is about to end isn't kept.
 fn under_full_mark(alloc: Global, pool: &mut Pool) -> u8 {
     let Some(first) = lease(alloc, pool, Opened::New(1)) else {
@@ -66,13 +54,6 @@ fn under_full_mark(alloc: Global, pool: &mut Pool) -> u8 {
         Some(second) => refused_keep(alloc, pool, second),
         None => 102,
     }
-}
-
-#[test]
-fn nothing_is_kept_under_a_full_reset(rt: HostRuntime) -> Result<(), Fail> {
-    let alloc = rt.alloc();
-    assert_eq!(rt; under_full_mark(alloc, &mut pool(alloc, 1)?), 4);
-    Ok(())
 }
 
 /// Keeps a transaction, does something, and resumes it: the refusal's number, or 0 for none.
@@ -117,12 +98,31 @@ fn resumes(alloc: Global, pool: &mut Pool, number: u32, before: Before) -> u8 {
 }
 
 #[test]
+fn keep_is_refused_in_order(rt: HostRuntime) -> Result<(), Fail> {
+    let alloc = rt.alloc();
+    let mut kept = pool(alloc, 1)?;
+    let refused = [
+        keeps(alloc, &mut kept, 1, Before::Nothing),
+        keeps(alloc, &mut kept, 2, Before::Begun),
+        keeps(alloc, &mut kept, 3, Before::Asked),
+        keeps(alloc, &mut kept, 4, Before::AskedAndBroken),
+        keeps(alloc, &mut kept, 5, Before::Lost),
+        under_full_mark(alloc, &mut pool(alloc, 1)?),
+    ];
+    assert!(rt; refused == [4, 0, 3, 5, 2, 4], "{refused:?}");
+    Ok(())
+}
+
+#[test]
 fn resume_is_refused_in_order(rt: HostRuntime) -> Result<(), Fail> {
     let alloc = rt.alloc();
     let mut pool = pool(alloc, 1)?;
-    assert_eq!(rt; resumes(alloc, &mut pool, 1, Before::Nothing), 0);
-    assert_eq!(rt; resumes(alloc, &mut pool, 2, Before::Asked), 3);
-    assert_eq!(rt; resumes(alloc, &mut pool, 3, Before::AskedAndBroken), 5);
-    assert_eq!(rt; resumes(alloc, &mut pool, 4, Before::Lost), 2);
+    let refused = [
+        resumes(alloc, &mut pool, 1, Before::Nothing),
+        resumes(alloc, &mut pool, 2, Before::Asked),
+        resumes(alloc, &mut pool, 3, Before::AskedAndBroken),
+        resumes(alloc, &mut pool, 4, Before::Lost),
+    ];
+    assert!(rt; refused == [0, 3, 5, 2], "{refused:?}");
     Ok(())
 }

@@ -351,7 +351,6 @@ fn a_writer_that_fails(rt: HostRuntime) {
     let mut output = Narrow::new(rt.alloc(), 9);
     let mut errors = Vec::new(rt.alloc());
     let status = run_show(rt.alloc(), "0601000800000100", &mut output, &mut errors);
-    assert_eq!(rt; status, 1);
-    assert_eq!(rt; output.bytes.as_slice(), b"packet 06".as_slice());
-    assert_eq!(rt; errors.as_slice(), b"error: output\n".as_slice());
+    let is_told = status == 1 && errors.as_slice() == b"error: output\n".as_slice();
+    assert!(rt; is_told && output.bytes.as_slice() == b"packet 06".as_slice());
 }

@@ -71,33 +71,45 @@ fn words(rt: HostRuntime) -> Result<(), Fail> {
             "at {words:?}"
         );
     }
-    assert_eq!(rt; LineFault::Memory.number(), 2);
+    assert!(rt; LineFault::Memory.number() == 2);
     Ok(())
 }
 
+/// Words, and the bytes that they spell.
+const SPELLED: [(&str, &[u8]); 4] = [
+    ("", &[]),
+    ("00", &[0]),
+    ("09aFfA90", &[0x09, 0xAF, 0xFA, 0x90]),
+    ("AbCdEf", &[0xAB, 0xCD, 0xEF]),
+];
+
+/// Odd counts, and what stands round the digits in the table of characters.
+const NO_DIGITS: [&str; 11] = [
+    "0", "000", "0g", "G0", "/0", "0:", "@0", "0`", " 00", "0x00", "é",
+];
+
+/// Whether a word spells these bytes.
+fn spells(alloc: Global, word: &str, bytes: &[u8]) -> bool {
+    match word_bytes(alloc, word) {
+        Ok(found) => found.as_slice() == bytes,
+        Err(_) => false,
+    }
+}
+
+/// Whether a word spells none, by the fault of number 1.
+fn spells_none(alloc: Global, word: &str) -> bool {
+    match word_bytes(alloc, word) {
+        Ok(_) => false,
+        Err(fault) => fault.number() == 1,
+    }
+}
+
 #[test]
-fn words_of_digits(rt: HostRuntime) -> Result<(), Fail> {
-    let table: [(&str, &[u8]); 4] = [
-        ("", &[]),
-        ("00", &[0]),
-        ("09aFfA90", &[0x09, 0xAF, 0xFA, 0x90]),
-        ("AbCdEf", &[0xAB, 0xCD, 0xEF]),
-    ];
-    for (word, bytes) in table {
-        let Ok(found) = word_bytes(rt.alloc(), word) else {
-            return Err("a fault".into());
-        };
-        assert_eq!(rt; found.as_slice(), bytes, "at {word}");
+fn words_of_digits(rt: HostRuntime) {
+    for (word, bytes) in SPELLED {
+        assert!(rt; spells(rt.alloc(), word, bytes), "at {word}");
     }
-    // Odd counts, and what stands round the digits in the table of characters.
-    for word in [
-        "0", "000", "0g", "G0", "/0", "0:", "@0", "0`", " 00", "0x00", "é",
-    ] {
-        let number = match word_bytes(rt.alloc(), word) {
-            Ok(_) => 0,
-            Err(fault) => fault.number(),
-        };
-        assert_eq!(rt; number, 1, "at {word}");
+    for word in NO_DIGITS {
+        assert!(rt; spells_none(rt.alloc(), word), "at {word}");
     }
-    Ok(())
 }
