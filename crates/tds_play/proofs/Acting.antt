@@ -21,7 +21,7 @@ use Rattle.tds_world.specs.Pool.{Acted, Does, abandons, abandons_at, gives_back,
 use Rattle.tds_world.specs.World.{World}
 use Rattle.tds_client.specs.Session.{ClientSession, unless_idle}
 use Rattle.tds_play.specs.Lending.{standing_by}
-use Rattle.tds_play.specs.Seats.{Seat, lent_as, placed_at, placed_behind, seated}
+use Rattle.tds_play.specs.Seats.{Seat, drained, lent_as, placed_at, placed_behind, seated}
 use Rattle.tds_play.specs.Pipe.{Pipe}
 use Rattle.tds_play.specs.Plays.{RefinesAct, RepresentsConnection, acts_at, acts_on, after, count_of, delivers_down, delivers_up, loss_of, on_cut, outcome_of}
 use Rattle.tds_ends.specs.ModelGives.{IsCountable}
@@ -29,7 +29,7 @@ use Rattle.tds_play.specs.Seen.{done_as}
 use Rattle.tds_ends.specs.Stays.{RefinesIdle, PoolIsUnseen}
 use Rattle.tds_play.specs.declared.link.EventDone.{EventDone}
 use Rattle.tds_play.specs.declared.link.Link.{Link}
-use Rattle.tds_play.proofs.Losing.{down_met, met_ok, plain_met, up_met}
+use Rattle.tds_play.proofs.Losing.{down_met, met_ok, plain_met, up_met, whole_ok}
 use Rattle.tds_play.proofs.Placed.{DoesWhole, RefinesMarks, lent_played, placed_played}
 
 -- ---- A connection that isn't cut
@@ -77,7 +77,7 @@ event_at setup answers w e kind n c p at is = ap (λ (x : Event). acts_on setup 
 pub by_event : {E S : Type 0} (number size : ℕ) (engine : E) (done : EventDone) (new : Link E S) (seat : Seat) (pipe : Option Pipe) (c : Connection) (a b : Acted) → a ≡ b → DoesWhole number size engine done new seat pipe b c → DoesWhole number size engine done new seat pipe a c
 by_event number size engine done new seat pipe c a b e h = subst (λ x. DoesWhole number size engine done new seat pipe x c) (sym e) h
 
-pub by_event_ok : {E S B : Type 0} (number size : ℕ) (engine : E) (r : Result EventDone B) (new : Link E S) (seat : Seat) (pipe : Option Pipe) (c : Connection) (a b : Acted) → a ≡ b → IfOk r (λ done. DoesWhole number size engine done new seat pipe b c) → IfOk r (λ done. DoesWhole number size engine done new seat pipe a c)
+by_event_ok : {E S B : Type 0} (number size : ℕ) (engine : E) (r : Result EventDone B) (new : Link E S) (seat : Seat) (pipe : Option Pipe) (c : Connection) (a b : Acted) → a ≡ b → IfOk r (λ done. DoesWhole number size engine done new seat pipe b c) → IfOk r (λ done. DoesWhole number size engine done new seat pipe a c)
 by_event_ok number size engine r new seat pipe c a b e h = subst (λ x. IfOk r (λ done. DoesWhole number size engine done new seat pipe x c)) (sym e) h
 
 pub few_then : (c : Connection) (a b : Acted) → a ≡ b → IsCountable (after a c) → IsCountable (after b c)
@@ -90,7 +90,7 @@ few_back c p at few = (few_then c (gives_back c) (comes_back (cancels c)) (comes
 -- ---- An event as it was met
 
 -- One that isn't a delivery is what it is.
-pub plain_ok : {E S B : Type 0} (number size : ℕ) (engine : E) (r : Result EventDone B) (new : Link E S) (seat : Seat) (pipe : Option Pipe) (setup : Setup) (answers : Answers) (w : World) (e kind : Event) (c : Connection) (p : Place)
+plain_ok : {E S B : Type 0} (number size : ℕ) (engine : E) (r : Result EventDone B) (new : Link E S) (seat : Seat) (pipe : Option Pipe) (setup : Setup) (answers : Answers) (w : World) (e kind : Event) (c : Connection) (p : Place)
     → c.standing ≡ In p → e ≡ kind → ((k : ℕ) → bringing k kind ≡ kind)
     → IfOk r (λ done. RefinesAct number size engine done new seat pipe (acts setup answers w kind number c) c)
     → IfOk r (λ done. RefinesAct number size engine done new seat pipe (acts_on setup answers w (met (loss_of done) e) number c) c)
@@ -98,7 +98,7 @@ plain_ok number size engine r new seat pipe setup answers w e kind c p at is pla
     met_ok number size engine r new seat pipe c (λ done. acts_on setup answers w (met (loss_of done) e) number c) (λ done. acts setup answers w kind number c)
     (λ done. event_at setup answers w (met (loss_of done) e) kind number c p at (ap (met (loss_of done)) is ∙ plain_met done.lost done.outcome kind plain)) h
 
-pub plain_few : (setup : Setup) (answers : Answers) (w : World) (e kind : Event) (number : ℕ) (c : Connection) (p : Place)
+plain_few : (setup : Setup) (answers : Answers) (w : World) (e kind : Event) (number : ℕ) (c : Connection) (p : Place)
     → c.standing ≡ In p → e ≡ kind → ((k : ℕ) → bringing k kind ≡ kind)
     → ((k : ℕ) → IsCountable (after (acts_on setup answers w (bringing k e) number c) c))
     → IsCountable (after (acts setup answers w kind number c) c)
@@ -107,7 +107,7 @@ plain_few setup answers w e kind number c p at is plain few =
     (event_at setup answers w (bringing 0 e) kind number c p at (ap (bringing 0) is ∙ plain 0)) (few 0)
 
 -- A delivery brings what came.
-pub up_ok : {E S B : Type 0} (number size : ℕ) (engine : E) (r : Result EventDone B) (new : Link E S) (seat : Seat) (pipe : Option Pipe) (setup : Setup) (answers : Answers) (w : World) (e : Event) (n count : ℕ) (c : Connection) (p : Place)
+up_ok : {E S B : Type 0} (number size : ℕ) (engine : E) (r : Result EventDone B) (new : Link E S) (seat : Seat) (pipe : Option Pipe) (setup : Setup) (answers : Answers) (w : World) (e : Event) (n count : ℕ) (c : Connection) (p : Place)
     → c.standing ≡ In p → e ≡ event.ToServer n count
     → IfOk r (λ done. RefinesAct number size engine done new seat pipe (delivers_up answers (count_of done count) c) c)
     → IfOk r (λ done. RefinesAct number size engine done new seat pipe (acts_on setup answers w (met (loss_of done) e) number c) c)
@@ -115,7 +115,7 @@ up_ok number size engine r new seat pipe setup answers w e n count c p at is h =
     met_ok number size engine r new seat pipe c (λ done. acts_on setup answers w (met (loss_of done) e) number c) (λ done. delivers_up answers (count_of done count) c)
     (λ done. event_at setup answers w (met (loss_of done) e) (event.ToServer n (count_of done count)) number c p at (ap (met (loss_of done)) is ∙ up_met done.lost done.outcome n count)) h
 
-pub up_few : (setup : Setup) (answers : Answers) (w : World) (e : Event) (number n count : ℕ) (c : Connection) (p : Place)
+up_few : (setup : Setup) (answers : Answers) (w : World) (e : Event) (number n count : ℕ) (c : Connection) (p : Place)
     → c.standing ≡ In p → e ≡ event.ToServer n count
     → ((k : ℕ) → IsCountable (after (acts_on setup answers w (bringing k e) number c) c))
     → (k : ℕ) → IsCountable (to_server answers k c)
@@ -123,7 +123,7 @@ up_few setup answers w e number n count c p at is few = λ k.
     few_then c (acts_on setup answers w (bringing k e) number c) (acts setup answers w (event.ToServer n k) number c)
     (event_at setup answers w (bringing k e) (event.ToServer n k) number c p at (ap (bringing k) is)) (few k)
 
-pub down_ok : {E S B : Type 0} (number size : ℕ) (engine : E) (r : Result EventDone B) (new : Link E S) (seat : Seat) (pipe : Option Pipe) (setup : Setup) (answers : Answers) (w : World) (e : Event) (n count : ℕ) (c : Connection) (p : Place)
+down_ok : {E S B : Type 0} (number size : ℕ) (engine : E) (r : Result EventDone B) (new : Link E S) (seat : Seat) (pipe : Option Pipe) (setup : Setup) (answers : Answers) (w : World) (e : Event) (n count : ℕ) (c : Connection) (p : Place)
     → c.standing ≡ In p → e ≡ event.ToClient n count
     → IfOk r (λ done. RefinesAct number size engine done new seat pipe (delivers_down (count_of done count) c) c)
     → IfOk r (λ done. RefinesAct number size engine done new seat pipe (acts_on setup answers w (met (loss_of done) e) number c) c)
@@ -133,30 +133,62 @@ down_ok number size engine r new seat pipe setup answers w e n count c p at is h
 
 -- ---- Where it stands behind it
 
-pub behind_ok : {E S B : Type 0} (number size : ℕ) (engine : E) (r : Result EventDone B) (new : Link E S) (client : ClientSession) (pipe : Option Pipe) (c : Connection) (acted : EventDone → Acted) (e kind : Event) (p : Place)
+behind_ok : {E S B : Type 0} (number size : ℕ) (engine : E) (r : Result EventDone B) (new : Link E S) (client : ClientSession) (pipe : Option Pipe) (c : Connection) (acted : EventDone → Acted) (e kind : Event) (p : Place)
     → e ≡ kind
     → IfOk r (λ done. RefinesAct number size engine done new (seated (placed_behind kind client p) client) pipe (acted done) c)
     → IfOk r (λ done. RefinesAct number size engine done new (seated (placed_behind e client p) client) pipe (acted done) c)
 behind_ok number size engine r new client pipe c acted e kind p is h =
     subst (λ (x : Event). IfOk r (λ done. RefinesAct number size engine done new (seated (placed_behind x client p) client) pipe (acted done) c)) (sym is) h
 
+-- ---- What an event of the ends comes to
+
+-- An event on a connection that isn't cut, at its ends.
+module _ {E S B : Type 0} {engine : E} {link : Link E S} {p : Place} {before : ClientSession} {old : Option Pipe} {c : Connection} (setup : Setup) (answers : Answers) (w : World) (e : Event)
+    (new : Link E S) (client : ClientSession) (pipe : Option Pipe) (r : Result EventDone B)
+    (stands : RepresentsConnection link.number setup.packet_size engine link (seated p before) old c) (live : link.is_cut ≡ false) where
+  at_place : c.standing ≡ In p
+  at_place = stands_in link.number setup.packet_size engine link (seated p before) old c stands live
+
+  -- One that can't meet the carrier.
+  pub whole_act : (kind : Event) → e ≡ kind
+      → IfOk r (λ done. DoesWhole link.number setup.packet_size engine done new (seated (placed_behind kind client p) client) pipe (acts setup answers w kind link.number c) c)
+      → IfOk r (λ done. RefinesAct link.number setup.packet_size engine done new (seated (placed_behind e client p) client) pipe (acts_on setup answers w (met (loss_of done) e) link.number c) c)
+  whole_act kind is h =
+      behind_ok link.number setup.packet_size engine r new client pipe c (λ done. acts_on setup answers w (met (loss_of done) e) link.number c) e kind p is
+      (whole_ok link.number setup.packet_size engine r new (seated (placed_behind kind client p) client) pipe (λ x. acts_on setup answers w x link.number c) e c
+      (by_event_ok link.number setup.packet_size engine r new (seated (placed_behind kind client p) client) pipe c _ _ (event_at setup answers w e kind link.number c p at_place is) h))
+
+  -- One that isn't a delivery.
+  pub plain_act : (kind : Event) → e ≡ kind → ((k : ℕ) → bringing k kind ≡ kind)
+      → ((k : ℕ) → IsCountable (after (acts_on setup answers w (bringing k e) link.number c) c))
+      → (IsCountable (after (acts setup answers w kind link.number c) c) → IfOk r (λ done. RefinesAct link.number setup.packet_size engine done new (seated (placed_behind kind client p) client) pipe (acts setup answers w kind link.number c) c))
+      → IfOk r (λ done. RefinesAct link.number setup.packet_size engine done new (seated (placed_behind e client p) client) pipe (acts_on setup answers w (met (loss_of done) e) link.number c) c)
+  plain_act kind is plain few does =
+      behind_ok link.number setup.packet_size engine r new client pipe c (λ done. acts_on setup answers w (met (loss_of done) e) link.number c) e kind p is
+      (plain_ok link.number setup.packet_size engine r new (seated (placed_behind kind client p) client) pipe setup answers w e kind c p at_place is plain
+      (does (plain_few setup answers w e kind link.number c p at_place is plain few)))
+
+  pub up_act : (n count : ℕ) → e ≡ event.ToServer n count
+      → ((k : ℕ) → IsCountable (after (acts_on setup answers w (bringing k e) link.number c) c))
+      → (((k : ℕ) → IsCountable (to_server answers k c)) → IfOk r (λ done. RefinesAct link.number setup.packet_size engine done new (seated p client) pipe (delivers_up answers (count_of done count) c) c))
+      → IfOk r (λ done. RefinesAct link.number setup.packet_size engine done new (seated (placed_behind e client p) client) pipe (acts_on setup answers w (met (loss_of done) e) link.number c) c)
+  up_act n count is few does =
+      behind_ok link.number setup.packet_size engine r new client pipe c (λ done. acts_on setup answers w (met (loss_of done) e) link.number c) e (event.ToServer n count) p is
+      (up_ok link.number setup.packet_size engine r new (seated p client) pipe setup answers w e n count c p at_place is
+      (does (up_few setup answers w e link.number n count c p at_place is few)))
+
+  pub down_act : (n count : ℕ) → e ≡ event.ToClient n count
+      → IfOk r (λ done. RefinesAct link.number setup.packet_size engine done new (drained (seated p client)) pipe (delivers_down (count_of done count) c) c)
+      → IfOk r (λ done. RefinesAct link.number setup.packet_size engine done new (seated (placed_behind e client p) client) pipe (acts_on setup answers w (met (loss_of done) e) link.number c) c)
+  down_act n count is does =
+      behind_ok link.number setup.packet_size engine r new client pipe c (λ done. acts_on setup answers w (met (loss_of done) e) link.number c) e (event.ToClient n count) p is
+      (down_ok link.number setup.packet_size engine r new (drained (seated p client)) pipe setup answers w e n count c p at_place is does)
+
 -- ---- A connection that is cut
 
 left_as : (e : Event) (c : Connection) → after (on_cut e c) c ≡ c
 left_as event.Lease c = refl
-left_as (event.Resume ticket) c = refl
-left_as (event.GiveBack lease) c = refl
-left_as (event.Keep lease) c = refl
-left_as (event.Abandon ticket) c = refl
-left_as (event.Ask lease q) c = refl
-left_as (event.Send lease) c = refl
-left_as (event.Cancel lease) c = refl
-left_as (event.Work n) c = refl
-left_as (event.ToServer n count) c = refl
-left_as (event.ToClient n count) c = refl
-left_as (event.Cut n) c = refl
-left_as event.RestartServer c = refl
-left_as event.RestartClient c = refl
+left_as e c = refl
 
 pub cut_alike : {E S : Type 0} (number size : ℕ) (engine : E) (link : Link E S) (seat : Seat) (pipe : Option Pipe) (setup : Setup) (answers : Answers) (w : World) (e : Event) (c : Connection) (done : EventDone)
     → RepresentsConnection number size engine link seat pipe c → link.is_cut ≡ true → done ≡ done_as (outcome_of (on_cut e c))

@@ -1,6 +1,7 @@
 -- A connection whose newest request is cancelled, in a play and in the model.
 use Rattle.std.specs.Prelude.{is_none}
 use Rattle.std.proofs.Common.{◌≡◌, ◌≤◌, ◌∙◌, ℕ, Bool, true, false, cond, refl, sym, ap, subst, Option, Some, None, option_map, Result, Ok, List}
+use Rattle.tds_packet.specs.declared.kind.Direction.TheVariants.{ToServer}
 use Rattle.tds_client.specs.declared.fault.ClientRefusal.{ClientRefusal}
 use Rattle.tds_client.specs.declared.state.Cancelled.{Cancelled}
 use Rattle.tds_client.specs.declared.state.Cancelled.TheVariants as client
@@ -32,7 +33,7 @@ use Rattle.tds_ends.specs.Stands.{Sends}
 use Rattle.tds_ends.specs.Stays.{RefinesIdle, PoolIsUnseen, ServerStays}
 use Rattle.tds_play.specs.declared.link.Link.{Link}
 use Rattle.tds_play.specs.declared.request.Record.{Record}
-use Rattle.tds_play.proofs.Outward.{HandedUp, SentMore, sent_played}
+use Rattle.tds_play.proofs.Outward.{Handed, SentMore, sent_played}
 
 -- ---- The client
 
@@ -64,10 +65,7 @@ record Leaves (c d : Connection) : Type 0 where
 
 leaves_by : (p : Phase) (q : world.Record) (c : Connection) → Leaves c (cancels_by p q c)
 leaves_by Settled q c = record { standing = refl; below = refl; past = refl }
-leaves_by Cancelling q c = record { standing = refl; below = refl; past = refl }
-leaves_by Asked q c = record { standing = refl; below = refl; past = refl }
-leaves_by Sending q c = record { standing = refl; below = refl; past = refl }
-leaves_by Reading q c = record { standing = refl; below = refl; past = refl }
+leaves_by p q c = record { standing = refl; below = refl; past = refl }
 
 leaves_in : (current : Option world.Record) (c : Connection) → Leaves c (cancels_in current c)
 leaves_in None c = record { standing = refl; below = refl; past = refl }
@@ -84,9 +82,7 @@ current_behind client.Asked r = option_map (with_status status.Cancelling) r
 
 link_by : {E S : Type 0} (a : Cancelled) (link : Link E S) → cancelled_as a link ≡ record link { current = current_behind a link.current }
 link_by client.Nothing link = refl
-link_by client.Already link = refl
-link_by client.Unsent link = refl
-link_by client.Asked link = refl
+link_by a link = refl
 
 -- One of which nothing was out is never sent.
 unsent_is : (fate : world.Fate) (out : Out) → PhaseTells Asked fate out → status.Unsent ≡ status_by world.Cancelled false (phase_by world.Cancelled out)
@@ -148,7 +144,7 @@ cancelled_at : {E S : Type 0} → RefinesCancels E → (number size : ℕ) (engi
     → (a : RefinesCancel seat.client c) → bytes ≡ a.0.bytes
     → d ≡ record (cancels c) { standing = In p }
     → up_underway (cancels c) ≤ 18446744073709551615
-    → HandedUp (record link { current = current_behind a.0.answer link.current }) new pipe then bytes
+    → Handed ToServer (record link { current = current_behind a.0.answer link.current }) new pipe then bytes
     → RepresentsConnection number size engine new (seated p a.0.session) then d
 cancelled_at {E} {S} so number size engine link new seat p pipe then c d bytes i live a out at few h =
     let e = a.0 in
@@ -169,14 +165,14 @@ pub cancelled_played : {E S : Type 0} → RefinesCancels E → (number size : �
     → RepresentsConnection number size engine link seat pipe c → link.is_cut ≡ false
     → (a : RefinesCancel seat.client c) → mid ≡ cancelled_as a.0.answer link → bytes ≡ a.0.bytes
     → up_underway (cancels c) ≤ 18446744073709551615
-    → HandedUp mid new pipe then bytes
+    → Handed ToServer mid new pipe then bytes
     → RepresentsConnection number size engine new (seated seat.place a.0.session) then (cancels c)
 cancelled_played {E} {S} so number size engine link mid new seat pipe then c bytes i live a is out few h =
     let l = leaves_in c.current c in
     cancelled_at so number size engine link new seat seat.place pipe then c (cancels c) bytes i live a out
     (ap (λ s. record (cancels c) { standing = s }) (l.standing ∙ sym i.standing ∙ ap (λ (b : Bool). standing_by b seat.place) live))
     few
-    (subst (λ (x : Link E S). HandedUp x new pipe then bytes) (is ∙ link_by a.0.answer link) h)
+    (subst (λ (x : Link E S). Handed ToServer x new pipe then bytes) (is ∙ link_by a.0.answer link) h)
 
 -- The lease ends then.
 pub back_played : {E S : Type 0} → RefinesCancels E → RefinesIdle → (number size : ℕ) (engine : E) (link mid new : Link E S) (seat : Seat) (idle : Bool) (pipe then : Option Pipe) (c : Connection) (bytes : List ℕ)
@@ -184,7 +180,7 @@ pub back_played : {E S : Type 0} → RefinesCancels E → RefinesIdle → (numbe
     → (a : RefinesCancel seat.client c) → mid ≡ cancelled_as a.0.answer link → bytes ≡ a.0.bytes
     → idle ≡ is_none (unless_idle a.0.session.stage)
     → up_underway (cancels c) ≤ 18446744073709551615
-    → HandedUp mid new pipe then bytes
+    → Handed ToServer mid new pipe then bytes
     → (outcome.GivenBack (returned_as idle) ≡ outcome_of (comes_back (cancels c))) × RepresentsConnection number size engine new (seated (place_back idle) a.0.session) then (after (comes_back (cancels c)) c)
 back_played {E} {S} so alike number size engine link mid new seat idle pipe then c bytes i live a is out waits few h =
     let same : idle ≡ is_idle (cancels c) = waits ∙ alike a.0.session (cancels c) a.3 in (
@@ -192,5 +188,5 @@ back_played {E} {S} so alike number size engine link mid new seat idle pipe then
       cancelled_at so number size engine link new seat (place_back idle) pipe then c (after (comes_back (cancels c)) c) bytes i live a out
           (ap (λ (b : Bool). record (cancels c) { standing = In (place_back b) }) (sym same))
           few
-          (subst (λ (x : Link E S). HandedUp x new pipe then bytes) (is ∙ link_by a.0.answer link) h),
+          (subst (λ (x : Link E S). Handed ToServer x new pipe then bytes) (is ∙ link_by a.0.answer link) h),
     )

@@ -18,33 +18,17 @@ use Rattle.tds_play.specs.declared.request.Record.{Record}
 
 -- A settled request stays what it is.
 settled_stays : (fate : world.Fate) (p : Phase) → p ≡ Settled → status_by fate false p ≡ status_by fate true p
-settled_stays world.Finished p e = refl
-settled_stays world.Acknowledged p e = refl
 settled_stays world.Open Settled e = refl
-settled_stays world.Open Asked e = absurd (cc)
-settled_stays world.Open Sending e = absurd (cc)
-settled_stays world.Open Reading e = absurd (cc)
-settled_stays world.Open Cancelling e = absurd (cc)
+settled_stays world.Open p e = absurd (cc)
 settled_stays world.Cancelled Settled e = refl
-settled_stays world.Cancelled Asked e = absurd (cc)
-settled_stays world.Cancelled Sending e = absurd (cc)
-settled_stays world.Cancelled Reading e = absurd (cc)
-settled_stays world.Cancelled Cancelling e = absurd (cc)
+settled_stays world.Cancelled p e = absurd (cc)
+settled_stays fate p e = refl
 
 -- Any other one is lost.
 lost_is : (fate : world.Fate) (p : Phase) → lost_status (status_by fate false p) ≡ status_by fate true p
-lost_is world.Finished p = refl
-lost_is world.Acknowledged p = refl
 lost_is world.Open Settled = refl
-lost_is world.Open Asked = refl
-lost_is world.Open Sending = refl
-lost_is world.Open Reading = refl
-lost_is world.Open Cancelling = refl
 lost_is world.Cancelled Settled = refl
-lost_is world.Cancelled Asked = refl
-lost_is world.Cancelled Sending = refl
-lost_is world.Cancelled Reading = refl
-lost_is world.Cancelled Cancelling = refl
+lost_is fate p = refl
 
 older_cut : (number : ℕ) (rs : List Record) (qs : List world.Record) → AreOlder number false rs qs → AreOlder number true rs qs
 older_cut number [] [] h = tt

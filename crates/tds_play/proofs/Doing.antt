@@ -25,6 +25,16 @@ pub ended : {E S : Type 0} (n m size : ℕ) (engine : E) (mid new : Link E S) (s
 ended {E} {S} n m size engine mid new seat before after lost c at ends =
     subst (λ (k : ℕ). RepresentsConnection k size engine mid seat (before k) c → RepresentsConnection k size engine new seat (after k) (cut_where lost c)) at ends
 
+-- So it did what the act does.
+pub ends_so : {E S : Type 0} (n m size : ℕ) (engine : E) (done : EventDone) (what : Outcome) (lost : Bool) (mid new : Link E S) (seat : Seat) (old last : ℕ → Option Pipe) (acted : Acted) (c : Connection)
+    → m ≡ n → done ≡ record { outcome = what; lost = lost } → what ≡ outcome_of acted
+    → ((d : Connection) → RepresentsConnection m size engine mid seat (old m) d → RepresentsConnection m size engine new seat (last m) (cut_where lost d))
+    → RepresentsConnection n size engine mid seat (old n) (after acted c)
+    → RefinesAct n size engine done new seat (last n) acted c
+ends_so n m size engine done what lost mid new seat old last acted c at is same ends then =
+    does_so n size engine done what lost new seat (last n) acted c is same
+    (ended n m size engine mid new seat old last lost (after acted c) at (ends (after acted c)) then)
+
 -- ---- What a call answered
 
 pub ok_so : {A B : Type 0} (r : Result A B) (x : A) (Q : A → Type 0) → r ≡ Ok x → IfOk r Q → Q x

@@ -42,62 +42,40 @@ fails_of_more calls more true pipe fails = record {
 
 pub cut_no_more : (pipe : Option Pipe) → FailsNoMore pipe (cut_pipe pipe)
 cut_no_more None call = refl
-cut_no_more (Some p) Open = refl
 cut_no_more (Some p) (Send ToServer) = refl
-cut_no_more (Some p) (Send ToClient) = refl
 cut_no_more (Some p) (Carry ToServer) = refl
-cut_no_more (Some p) (Carry ToClient) = refl
+cut_no_more (Some p) call = refl
 
 pub carried_no_more : (pipe : Option Pipe) (d : Direction) (bytes : List ℕ) → FailsNoMore pipe (carried_on pipe d bytes)
 carried_no_more None d bytes call = refl
-carried_no_more (Some p) ToServer bytes Open = refl
 carried_no_more (Some p) ToServer bytes (Send ToServer) = refl
-carried_no_more (Some p) ToServer bytes (Send ToClient) = refl
 carried_no_more (Some p) ToServer bytes (Carry ToServer) = refl
-carried_no_more (Some p) ToServer bytes (Carry ToClient) = refl
-carried_no_more (Some p) ToClient bytes Open = refl
 carried_no_more (Some p) ToClient bytes (Send ToServer) = refl
-carried_no_more (Some p) ToClient bytes (Send ToClient) = refl
 carried_no_more (Some p) ToClient bytes (Carry ToServer) = refl
-carried_no_more (Some p) ToClient bytes (Carry ToClient) = refl
+carried_no_more (Some p) d bytes call = refl
 
 sent_no_more : (pipe : Option Pipe) (d : Direction) (bytes : List ℕ) → FailsNoMore pipe (sent_on pipe d bytes 0)
 sent_no_more None d bytes call = refl
-sent_no_more (Some p) ToServer bytes Open = refl
 sent_no_more (Some p) ToServer bytes (Send ToServer) = omega arith
-sent_no_more (Some p) ToServer bytes (Send ToClient) = refl
 sent_no_more (Some p) ToServer bytes (Carry ToServer) = refl
-sent_no_more (Some p) ToServer bytes (Carry ToClient) = refl
-sent_no_more (Some p) ToClient bytes Open = refl
-sent_no_more (Some p) ToClient bytes (Send ToServer) = refl
 sent_no_more (Some p) ToClient bytes (Send ToClient) = omega arith
 sent_no_more (Some p) ToClient bytes (Carry ToServer) = refl
-sent_no_more (Some p) ToClient bytes (Carry ToClient) = refl
+sent_no_more (Some p) d bytes call = refl
 
 -- Where a send fails, no other call has failed more often.
 sent_else : (p : Pipe) (d : Direction) (bytes : List ℕ) (call : Call) → (call ≡ Send d) ⊎ (failures (sent_on (Some p) d bytes 1) call ≡ failures (Some p) call)
-sent_else p ToServer bytes Open = inr refl
 sent_else p ToServer bytes (Send ToServer) = inl refl
-sent_else p ToServer bytes (Send ToClient) = inr refl
 sent_else p ToServer bytes (Carry ToServer) = inr refl
-sent_else p ToServer bytes (Carry ToClient) = inr refl
-sent_else p ToClient bytes Open = inr refl
-sent_else p ToClient bytes (Send ToServer) = inr refl
 sent_else p ToClient bytes (Send ToClient) = inl refl
 sent_else p ToClient bytes (Carry ToServer) = inr refl
-sent_else p ToClient bytes (Carry ToClient) = inr refl
+sent_else p d bytes call = inr refl
 
 stuck_else : (p : Pipe) (d : Direction) (call : Call) → (call ≡ Carry d) ⊎ (failures (stuck_on (Some p) d) call ≡ failures (Some p) call)
-stuck_else p ToServer Open = inr refl
-stuck_else p ToServer (Send ToServer) = inr refl
-stuck_else p ToServer (Send ToClient) = inr refl
 stuck_else p ToServer (Carry ToServer) = inl refl
-stuck_else p ToServer (Carry ToClient) = inr refl
-stuck_else p ToClient Open = inr refl
-stuck_else p ToClient (Send ToServer) = inr refl
-stuck_else p ToClient (Send ToClient) = inr refl
-stuck_else p ToClient (Carry ToServer) = inr refl
+stuck_else p ToServer (Send ToServer) = inr refl
 stuck_else p ToClient (Carry ToClient) = inl refl
+stuck_else p ToClient (Send ToServer) = inr refl
+stuck_else p d call = inr refl
 
 one_more : (n : ℕ) → n + 1 ≢ 0
 one_more n none = absurd (omega (arith, none))
@@ -155,16 +133,13 @@ new_fails = record {
     opened : (call : Call) → failures (Some (new_pipe 1)) call ≢ 0 → IsOneOf call (Open ∷ [])
     opened Open failed = inl refl
     opened (Send ToServer) failed = absurd (failed refl)
-    opened (Send ToClient) failed = absurd (failed refl)
     opened (Carry ToServer) failed = absurd (failed refl)
-    opened (Carry ToClient) failed = absurd (failed refl)
+    opened call failed = absurd (failed refl)
 
 pub new_fine : HasNoFailure (Some (new_pipe 0))
-new_fine Open = refl
 new_fine (Send ToServer) = refl
-new_fine (Send ToClient) = refl
 new_fine (Carry ToServer) = refl
-new_fine (Carry ToClient) = refl
+new_fine call = refl
 
 -- ---- How an event ends
 

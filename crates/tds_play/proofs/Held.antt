@@ -51,62 +51,14 @@ leases_noted event.Lease n heard w = given_held w.leases n heard None
 leases_noted (event.Resume ticket) n heard w = given_held w.leases n heard (Some ticket)
 leases_noted (event.GiveBack lease) n heard w = ended_held w.leases lease
 leases_noted (event.Keep lease) n heard w = ended_held w.leases lease
-leases_noted (event.Abandon ticket) n heard w = refl
-leases_noted (event.Ask lease q) n heard w = refl
-leases_noted (event.Send lease) n heard w = refl
-leases_noted (event.Cancel lease) n heard w = refl
-leases_noted (event.Work c) n heard w = refl
-leases_noted (event.ToServer c count) n heard w = refl
-leases_noted (event.ToClient c count) n heard w = refl
-leases_noted (event.Cut c) n heard w = refl
-leases_noted event.RestartServer n heard w = refl
-leases_noted event.RestartClient n heard w = refl
+leases_noted e n heard w = refl
 
 pub tickets_noted : (e : Event) (n heard : ℕ) (w : World) → tickets_after e n (holdings_of w.tickets) ≡ holdings_of (notes e n heard w).tickets
-tickets_noted event.Lease n heard w = refl
 tickets_noted (event.Resume ticket) n heard w = ended_held w.tickets ticket
-tickets_noted (event.GiveBack lease) n heard w = refl
 tickets_noted (event.Keep lease) n heard w = given_held w.tickets n heard None
 tickets_noted (event.Abandon ticket) n heard w = ended_held w.tickets ticket
-tickets_noted (event.Ask lease q) n heard w = refl
-tickets_noted (event.Send lease) n heard w = refl
-tickets_noted (event.Cancel lease) n heard w = refl
-tickets_noted (event.Work c) n heard w = refl
-tickets_noted (event.ToServer c count) n heard w = refl
-tickets_noted (event.ToClient c count) n heard w = refl
-tickets_noted (event.Cut c) n heard w = refl
-tickets_noted event.RestartServer n heard w = refl
-tickets_noted event.RestartClient n heard w = refl
+tickets_noted e n heard w = refl
 
 pub asked_noted : (e : Event) (n heard : ℕ) (w : World) → asked_after e n w.asked_on ≡ (notes e n heard w).asked_on
 asked_noted event.Lease n heard w = refl
-asked_noted (event.Resume ticket) n heard w = refl
-asked_noted (event.GiveBack lease) n heard w = refl
-asked_noted (event.Keep lease) n heard w = refl
-asked_noted (event.Abandon ticket) n heard w = refl
-asked_noted (event.Ask lease q) n heard w = refl
-asked_noted (event.Send lease) n heard w = refl
-asked_noted (event.Cancel lease) n heard w = refl
-asked_noted (event.Work c) n heard w = refl
-asked_noted (event.ToServer c count) n heard w = refl
-asked_noted (event.ToClient c count) n heard w = refl
-asked_noted (event.Cut c) n heard w = refl
-asked_noted event.RestartServer n heard w = refl
-asked_noted event.RestartClient n heard w = refl
-
--- A note changes no connection.
-pub connections_noted : (e : Event) (n heard : ℕ) (w : World) → (notes e n heard w).connections ≡ w.connections
-connections_noted event.Lease n heard w = refl
-connections_noted (event.Resume ticket) n heard w = refl
-connections_noted (event.GiveBack lease) n heard w = refl
-connections_noted (event.Keep lease) n heard w = refl
-connections_noted (event.Abandon ticket) n heard w = refl
-connections_noted (event.Ask lease q) n heard w = refl
-connections_noted (event.Send lease) n heard w = refl
-connections_noted (event.Cancel lease) n heard w = refl
-connections_noted (event.Work c) n heard w = refl
-connections_noted (event.ToServer c count) n heard w = refl
-connections_noted (event.ToClient c count) n heard w = refl
-connections_noted (event.Cut c) n heard w = refl
-connections_noted event.RestartServer n heard w = refl
-connections_noted event.RestartClient n heard w = refl
+asked_noted e n heard w = refl

@@ -17,10 +17,10 @@ use Rattle.tds_world.specs.Losses.{bringing, came_in, cuts, link_of, loss_by, me
 use Rattle.tds_world.specs.Pool.{Acted, Refuses, Does, opens, to_lend}
 use Rattle.tds_world.specs.World.{World, next_number, put, uncut_in}
 use Rattle.tds_world.specs.World as world
+use Rattle.tds_world.proofs.events.Grows.{notes_leave}
 use Rattle.tds_play.specs.Plays.{after, cut_where}
 use Rattle.tds_play.proofs.AllCut.{cut_again}
 use Rattle.tds_play.proofs.AllPlayed.{put_same}
-use Rattle.tds_play.proofs.Held.{connections_noted}
 
 -- ---- What is put at a place
 
@@ -80,7 +80,7 @@ cut_moved setup answers w cs place d most at =
 settled_at : (e : Event) (place : ℕ) (w : World) (c : Connection) (acted : Acted) → slice_get w.connections place ≡ Some c
     → (settles e (suc place) w acted).1.connections ≡ put place (after acted c) w.connections
 settled_at e place w c (Refuses why) there = sym (put_same w.connections place c there)
-settled_at e place w c (Does what d) there = connections_noted e (suc place) d.heard (record w { connections = put place d w.connections })
+settled_at e place w c (Does what d) there = notes_leave e (suc place) d.heard (record w { connections = put place d w.connections })
 
 -- An event that moved the connection at a place, which is cut where it was lost.
 moved_by : (setup : Setup) (answers : Answers) (w then : World) (e : Event) (place : ℕ) (d : Connection) (lost : Bool) (o : Outcome) → place ≤ length w.connections

@@ -10,11 +10,9 @@ use Rattle.tds_play.specs.Memory.{pipe_at, pipe_of}
 
 pipe_is_fine : (p : Option MemoryPipe) → HasNoFailure (option_map pipe_of p)
 pipe_is_fine None call = refl
-pipe_is_fine (Some p) Open = refl
 pipe_is_fine (Some p) (Send ToServer) = refl
-pipe_is_fine (Some p) (Send ToClient) = refl
 pipe_is_fine (Some p) (Carry ToServer) = refl
-pipe_is_fine (Some p) (Carry ToClient) = refl
+pipe_is_fine (Some p) call = refl
 
 pub none_fails : (pipes : BTreeMap ℕ MemoryPipe) (n : ℕ) → HasNoFailure (pipe_at pipes n)
 none_fails pipes n = pipe_is_fine (get nat_cmp pipes n)

@@ -1,6 +1,7 @@
 -- What an event sends, from either end: the connection then, in a play and in the model.
 use Rattle.std.proofs.Common.{◌≡◌, ◌≢◌, ◌≤◌, ◌∙◌, ◌+◌, ℕ, Bool, true, false, cond, refl, sym, ap, subst, Option, Some, None, List, [], ◌∷◌, ◌++◌, length, arith}
 use Rattle.tds_client.specs.Session.{ClientSession}
+use Rattle.tds_packet.specs.declared.kind.Direction.{Direction}
 use Rattle.tds_packet.specs.declared.kind.Direction.TheVariants.{ToServer, ToClient}
 use Rattle.tds_packet.specs.Reading.{Reading}
 use Rattle.tds_server.specs.State.{ServerState}
@@ -16,7 +17,7 @@ use Rattle.tds_play.specs.Pipe.{Pipe, Traffic, traffic, sent, sent_on, IsOpen}
 use Rattle.tds_play.specs.Plays.{RepresentsConnection}
 use Rattle.tds_play.specs.Requests.{AreOlder, IsNewest}
 use Rattle.tds_ends.specs.Stands.{MatchesClient, MatchesServer, Sends}
-use Rattle.tds_play.specs.Ties.{saturated, with_counted}
+use Rattle.tds_play.specs.Ties.{counted, saturated, with_counted}
 use Rattle.tds_play.specs.declared.link.Link.{Link}
 use Rattle.tds_play.specs.declared.request.Record.{Record}
 use Rattle.tds_play.proofs.Between.{lane_came, lane_sent}
@@ -24,92 +25,71 @@ use Rattle.tds_play.proofs.ServerEvent.{sent_none, count_by}
 
 -- ---- Handing over
 
--- These bytes were handed over towards the server, and counted; that may have failed.
-pub record HandedUp {E S : Type 0} (mid new : Link E S) (pipe after : Option Pipe) (bytes : List ℕ) : Type 0 where
-  pub link : new ≡ record mid { to_server = new.to_server }
-  pub counts : mid.to_server + length bytes ≤ 18446744073709551615 → new.to_server ≡ mid.to_server + length bytes
-  pub failures : ℕ
-  pub up : traffic after ToServer ≡ sent (traffic pipe ToServer) bytes failures
-  pub down : traffic after ToClient ≡ traffic pipe ToClient
+-- The traffic each way, where these bytes are handed over in this direction.
+abbrev pub with_sent : Direction → Direction → Traffic → List ℕ → ℕ → Traffic
+with_sent ToServer ToServer t bytes failures = sent t bytes failures
+with_sent ToClient ToClient t bytes failures = sent t bytes failures
+with_sent d way t bytes failures = t
 
--- The same towards the client.
-pub record HandedDown {E S : Type 0} (mid new : Link E S) (pipe after : Option Pipe) (bytes : List ℕ) : Type 0 where
-  pub link : new ≡ record mid { to_client = new.to_client }
-  pub counts : mid.to_client + length bytes ≤ 18446744073709551615 → new.to_client ≡ mid.to_client + length bytes
+-- These bytes were handed over, and counted; that may have failed.
+pub record Handed {E S : Type 0} (d : Direction) (mid new : Link E S) (pipe after : Option Pipe) (bytes : List ℕ) : Type 0 where
+  pub link : new ≡ with_counted mid d (counted new d)
+  pub counts : counted mid d + length bytes ≤ 18446744073709551615 → counted new d ≡ counted mid d + length bytes
   pub failures : ℕ
-  pub up : traffic after ToServer ≡ traffic pipe ToServer
-  pub down : traffic after ToClient ≡ sent (traffic pipe ToClient) bytes failures
+  pub each : (way : Direction) → traffic after way ≡ with_sent d way (traffic pipe way) bytes failures
 
-handed_up : {E S : Type 0} (mid new : Link E S) (pipe after : Option Pipe) (bytes : List ℕ) (failures : ℕ) → IsOpen pipe
+as_counted : {E S : Type 0} (d : Direction) (link : Link E S) → link ≡ with_counted link d (counted link d)
+as_counted ToServer link = refl
+as_counted ToClient link = refl
+
+count_is : {E S : Type 0} (d : Direction) (link : Link E S) (n : ℕ) → counted (with_counted link d n) d ≡ n
+count_is ToServer link n = refl
+count_is ToClient link n = refl
+
+nothing_sent : (d way : Direction) (p : Pipe) → traffic (Some p) way ≡ with_sent d way (traffic (Some p) way) [] 0
+nothing_sent ToServer ToServer p = sent_none p.to_server
+nothing_sent ToClient ToClient p = sent_none p.to_client
+nothing_sent d way p = refl
+
+bytes_sent : (d way : Direction) (p : Pipe) (bytes : List ℕ) (failures : ℕ) → traffic (sent_on (Some p) d bytes failures) way ≡ with_sent d way (traffic (Some p) way) bytes failures
+bytes_sent ToServer ToServer p bytes failures = refl
+bytes_sent ToClient ToClient p bytes failures = refl
+bytes_sent d way p bytes failures = refl
+
+handed : {E S : Type 0} (d : Direction) (mid new : Link E S) (pipe after : Option Pipe) (bytes : List ℕ) (failures : ℕ) → IsOpen pipe
     → (bytes ≡ [] → (new ≡ mid) × (after ≡ pipe))
-    → (bytes ≢ [] → (new ≡ with_counted mid ToServer (saturated (mid.to_server + length bytes))) × (after ≡ sent_on pipe ToServer bytes failures))
-    → HandedUp mid new pipe after bytes
-handed_up mid new None after bytes failures open_ none some = absurd open_
-handed_up mid new (Some p) after [] failures open_ none some =
+    → (bytes ≢ [] → (new ≡ with_counted mid d (saturated (counted mid d + length bytes))) × (after ≡ sent_on pipe d bytes failures))
+    → Handed d mid new pipe after bytes
+handed d mid new None after bytes failures open_ none some = absurd open_
+handed {E} {S} d mid new (Some p) after [] failures open_ none some =
     let h = none refl in
     record {
-      link = h.0 ∙ ap (λ (n : ℕ). record mid { to_server = n }) (ap (λ l. l.to_server) (sym h.0));
-      counts = count_by mid.to_server new.to_server [] (λ e. ap (λ l. l.to_server) h.0) (λ full. absurd (full refl));
+      link = h.0 ∙ as_counted d mid ∙ ap (λ (l : Link E S). with_counted mid d (counted l d)) (sym h.0);
+      counts = count_by (counted mid d) (counted new d) [] (λ e. ap (λ (l : Link E S). counted l d) h.0) (λ full. absurd (full refl));
       failures = 0;
-      up = ap (λ o. traffic o ToServer) h.1 ∙ sent_none p.to_server;
-      down = ap (λ o. traffic o ToClient) h.1;
+      each = λ way. ap (λ o. traffic o way) h.1 ∙ nothing_sent d way p;
     }
-handed_up mid new (Some p) after (b ∷ bs) failures open_ none some =
+handed {E} {S} d mid new (Some p) after (b ∷ bs) failures open_ none some =
     let h = some (λ e. absurd (cc)) in
+    let count : counted new d ≡ saturated (counted mid d + length (b ∷ bs)) = ap (λ (l : Link E S). counted l d) h.0 ∙ count_is d mid (saturated (counted mid d + length (b ∷ bs))) in
     record {
-      link = h.0 ∙ ap (λ (n : ℕ). record mid { to_server = n }) (ap (λ l. l.to_server) (sym h.0));
-      counts = count_by mid.to_server new.to_server (b ∷ bs) (λ e. absurd (cc)) (λ full. ap (λ l. l.to_server) h.0);
+      link = h.0 ∙ ap (with_counted mid d) (sym count);
+      counts = count_by (counted mid d) (counted new d) (b ∷ bs) (λ e. absurd (cc)) (λ full. count);
       failures = failures;
-      up = ap (λ o. traffic o ToServer) h.1;
-      down = ap (λ o. traffic o ToClient) h.1;
-    }
-
-handed_down : {E S : Type 0} (mid new : Link E S) (pipe after : Option Pipe) (bytes : List ℕ) (failures : ℕ) → IsOpen pipe
-    → (bytes ≡ [] → (new ≡ mid) × (after ≡ pipe))
-    → (bytes ≢ [] → (new ≡ with_counted mid ToClient (saturated (mid.to_client + length bytes))) × (after ≡ sent_on pipe ToClient bytes failures))
-    → HandedDown mid new pipe after bytes
-handed_down mid new None after bytes failures open_ none some = absurd open_
-handed_down mid new (Some p) after [] failures open_ none some =
-    let h = none refl in
-    record {
-      link = h.0 ∙ ap (λ (n : ℕ). record mid { to_client = n }) (ap (λ l. l.to_client) (sym h.0));
-      counts = count_by mid.to_client new.to_client [] (λ e. ap (λ l. l.to_client) h.0) (λ full. absurd (full refl));
-      failures = 0;
-      up = ap (λ o. traffic o ToServer) h.1;
-      down = ap (λ o. traffic o ToClient) h.1 ∙ sent_none p.to_client;
-    }
-handed_down mid new (Some p) after (b ∷ bs) failures open_ none some =
-    let h = some (λ e. absurd (cc)) in
-    record {
-      link = h.0 ∙ ap (λ (n : ℕ). record mid { to_client = n }) (ap (λ l. l.to_client) (sym h.0));
-      counts = count_by mid.to_client new.to_client (b ∷ bs) (λ e. absurd (cc)) (λ full. ap (λ l. l.to_client) h.0);
-      failures = failures;
-      up = ap (λ o. traffic o ToServer) h.1;
-      down = ap (λ o. traffic o ToClient) h.1;
+      each = λ way. ap (λ o. traffic o way) h.1 ∙ bytes_sent d way p (b ∷ bs) failures;
     }
 
 -- What was handed over on the connection of this number.
-pub given_up : {E S : Type 0} (n : ℕ) (mid out : Link E S) (before after : ℕ → Option Pipe) (bytes : List ℕ) (lost : Bool)
+pub given : {E S : Type 0} (d : Direction) (n : ℕ) (mid out : Link E S) (before after : ℕ → Option Pipe) (bytes : List ℕ) (lost : Bool)
     → mid.number ≡ n → IsOpen (before n)
     → (bytes ≡ [] → (out ≡ mid) × (after ≡ before))
-    → (bytes ≢ [] → after mid.number ≡ sent_on (before mid.number) ToServer bytes (cond lost 1 0))
-    → (bytes ≢ [] → out ≡ with_counted mid ToServer (saturated (mid.to_server + length bytes)))
-    → HandedUp mid out (before n) (after n) bytes
-given_up n mid out before after bytes lost at open_ none handed counted =
-    handed_up mid out (before n) (after n) bytes (cond lost 1 0) open_
+    → (bytes ≢ [] → after mid.number ≡ sent_on (before mid.number) d bytes (cond lost 1 0))
+    → (bytes ≢ [] → out ≡ with_counted mid d (saturated (counted mid d + length bytes)))
+    → Handed d mid out (before n) (after n) bytes
+given d n mid out before after bytes lost at open_ none hands counts =
+    handed d mid out (before n) (after n) bytes (cond lost 1 0) open_
     (λ e. ((none e).0, ap (λ f. f n) (none e).1))
-    (λ full. (counted full, subst (λ (k : ℕ). after k ≡ sent_on (before k) ToServer bytes (cond lost 1 0)) at (handed full)))
-
-pub given_down : {E S : Type 0} (n : ℕ) (mid out : Link E S) (before after : ℕ → Option Pipe) (bytes : List ℕ) (lost : Bool)
-    → mid.number ≡ n → IsOpen (before n)
-    → (bytes ≡ [] → (out ≡ mid) × (after ≡ before))
-    → (bytes ≢ [] → after mid.number ≡ sent_on (before mid.number) ToClient bytes (cond lost 1 0))
-    → (bytes ≢ [] → out ≡ with_counted mid ToClient (saturated (mid.to_client + length bytes)))
-    → HandedDown mid out (before n) (after n) bytes
-given_down n mid out before after bytes lost at open_ none handed counted =
-    handed_down mid out (before n) (after n) bytes (cond lost 1 0) open_
-    (λ e. ((none e).0, ap (λ f. f n) (none e).1))
-    (λ full. (counted full, subst (λ (k : ℕ). after k ≡ sent_on (before k) ToClient bytes (cond lost 1 0)) at (handed full)))
+    (λ full. (counts full, subst (λ (k : ℕ). after k ≡ sent_on (before k) d bytes (cond lost 1 0)) at (hands full)))
 
 -- ---- The connection then
 
@@ -120,7 +100,7 @@ SentMore {Entry} bytes = (more : List ℕ) (old new : Lane Entry) → Sends byte
 -- The client did it: it sent these bytes, and the connection's newest request and place may have changed.
 pub sent_played : {E S : Type 0} → SentMore up_bytes → (number size : ℕ) (engine : E) (link new : Link E S) (seat : Seat) (s : ClientSession) (q : Option Record) (p : Place) (pipe after : Option Pipe) (c d : Connection) (bytes : List ℕ)
     → RepresentsConnection number size engine link seat pipe c → link.is_cut ≡ false
-    → HandedUp (record link { current = q }) new pipe after bytes
+    → Handed ToServer (record link { current = q }) new pipe after bytes
     → d.standing ≡ In p → s.size ≡ seat.client.size
     → MatchesClient s d → MatchesServer link.server d
     → Sends up_bytes bytes c.to_server d.to_server → d.to_client ≡ c.to_client
@@ -136,13 +116,13 @@ sent_played {E} {S} appends number size engine link new seat s q p pipe after c 
   newest =
       subst (λ (l : Link E S). IsNewest number l.is_cut l.current d.current) (sym h.link)
       (subst (λ (b : Bool). IsNewest number b q d.current) (sym live) newest);
-  to_server = ap (λ t. t.handed) h.up ∙ ap (λ (xs : List ℕ). xs ++ bytes) i.to_server ∙ sym (appends bytes c.to_server d.to_server sends);
-  to_client = ap (λ t. t.handed) h.down ∙ i.to_client ∙ ap (sent_bytes down_bytes) (sym below);
+  to_server = ap (λ t. t.handed) (h.each ToServer) ∙ ap (λ (xs : List ℕ). xs ++ bytes) i.to_server ∙ sym (appends bytes c.to_server d.to_server sends);
+  to_client = ap (λ t. t.handed) (h.each ToClient) ∙ i.to_client ∙ ap (sent_bytes down_bytes) (sym below);
   came_up =
-      ap (λ t. t.came) h.up
+      ap (λ t. t.came) (h.each ToServer)
       ∙ lane_came up_bytes (sent (traffic pipe ToServer) bytes h.failures) d.to_server link.server_reader.taken (link.to_server + length bytes)
       (lane_sent up_bytes bytes h.failures (traffic pipe ToServer) c.to_server d.to_server link.server_reader.taken link.to_server (link.to_server + length bytes) (i.lives live).stands.up sends refl);
-  came_down = ap (λ t. t.came) h.down ∙ i.came_down ∙ ap (come_bytes down_bytes) (sym below);
+  came_down = ap (λ t. t.came) (h.each ToClient) ∙ i.came_down ∙ ap (come_bytes down_bytes) (sym below);
   lives = λ uncut.
       let v = i.lives live in
       let lane : (now : ℕ) → now ≡ link.to_server + length bytes → IsLane up_bytes (sent (traffic pipe ToServer) bytes h.failures) d.to_server link.server_reader.taken now = λ now e. lane_sent up_bytes bytes h.failures (traffic pipe ToServer) c.to_server d.to_server link.server_reader.taken link.to_server now v.stands.up sends e in
@@ -152,10 +132,10 @@ sent_played {E} {S} appends number size engine link new seat s q p pipe after c 
           client = client;
           server = subst (λ (l : Link E S). MatchesServer l.server d) (sym h.link) server;
           up =
-              subst (λ (t : Traffic). IsLane up_bytes t d.to_server new.server_reader.taken new.to_server) (sym h.up)
+              subst (λ (t : Traffic). IsLane up_bytes t d.to_server new.server_reader.taken new.to_server) (sym (h.each ToServer))
               (subst (λ (r : Reading). IsLane up_bytes (sent (traffic pipe ToServer) bytes h.failures) d.to_server r.taken new.to_server) (sym (ap (λ l. l.server_reader) h.link)) (lane new.to_server counts));
           down =
-              subst (λ (t : Traffic). IsLane down_bytes t d.to_client new.client_reader.taken new.to_client) (sym h.down)
+              subst (λ (t : Traffic). IsLane down_bytes t d.to_client new.client_reader.taken new.to_client) (sym (h.each ToClient))
               (subst (λ (lane : Lane Down). IsLane down_bytes (traffic pipe ToClient) lane new.client_reader.taken new.to_client) (sym below)
               (subst (λ (l : Link E S). IsLane down_bytes (traffic pipe ToClient) c.to_client l.client_reader.taken l.to_client) (sym h.link) v.stands.down));
         };
@@ -172,7 +152,7 @@ sent_played {E} {S} appends number size engine link new seat s q p pipe after c 
 -- The server did it: it sent these bytes, and the newest request may have changed.
 pub replied_played : {E S : Type 0} → SentMore down_bytes → (number size : ℕ) (engine : E) (link new : Link E S) (seat : Seat) (s : ServerState E) (q : Option Record) (pipe after : Option Pipe) (c d : Connection) (bytes : List ℕ)
     → RepresentsConnection number size engine link seat pipe c → link.is_cut ≡ false
-    → HandedDown (record link { server = s; current = q }) new pipe after bytes
+    → Handed ToClient (record link { server = s; current = q }) new pipe after bytes
     → d.standing ≡ c.standing → s.engine ≡ link.server.engine
     → MatchesClient seat.client d → MatchesServer s d
     → Sends down_bytes bytes c.to_client d.to_client → d.to_server ≡ c.to_server
@@ -188,11 +168,11 @@ replied_played {E} {S} appends number size engine link new seat s q pipe after c
   newest =
       subst (λ (l : Link E S). IsNewest number l.is_cut l.current d.current) (sym h.link)
       (subst (λ (b : Bool). IsNewest number b q d.current) (sym live) newest);
-  to_server = ap (λ t. t.handed) h.up ∙ i.to_server ∙ ap (sent_bytes up_bytes) (sym above);
-  to_client = ap (λ t. t.handed) h.down ∙ ap (λ (xs : List ℕ). xs ++ bytes) i.to_client ∙ sym (appends bytes c.to_client d.to_client sends);
-  came_up = ap (λ t. t.came) h.up ∙ i.came_up ∙ ap (come_bytes up_bytes) (sym above);
+  to_server = ap (λ t. t.handed) (h.each ToServer) ∙ i.to_server ∙ ap (sent_bytes up_bytes) (sym above);
+  to_client = ap (λ t. t.handed) (h.each ToClient) ∙ ap (λ (xs : List ℕ). xs ++ bytes) i.to_client ∙ sym (appends bytes c.to_client d.to_client sends);
+  came_up = ap (λ t. t.came) (h.each ToServer) ∙ i.came_up ∙ ap (come_bytes up_bytes) (sym above);
   came_down =
-      ap (λ t. t.came) h.down
+      ap (λ t. t.came) (h.each ToClient)
       ∙ lane_came down_bytes (sent (traffic pipe ToClient) bytes h.failures) d.to_client link.client_reader.taken (link.to_client + length bytes)
       (lane_sent down_bytes bytes h.failures (traffic pipe ToClient) c.to_client d.to_client link.client_reader.taken link.to_client (link.to_client + length bytes) (i.lives live).stands.down sends refl);
   lives = λ uncut.
@@ -204,11 +184,11 @@ replied_played {E} {S} appends number size engine link new seat s q pipe after c
           client = client;
           server = subst (λ (l : Link E S). MatchesServer l.server d) (sym h.link) server;
           up =
-              subst (λ (t : Traffic). IsLane up_bytes t d.to_server new.server_reader.taken new.to_server) (sym h.up)
+              subst (λ (t : Traffic). IsLane up_bytes t d.to_server new.server_reader.taken new.to_server) (sym (h.each ToServer))
               (subst (λ (lane : Lane Up). IsLane up_bytes (traffic pipe ToServer) lane new.server_reader.taken new.to_server) (sym above)
               (subst (λ (l : Link E S). IsLane up_bytes (traffic pipe ToServer) c.to_server l.server_reader.taken l.to_server) (sym h.link) v.stands.up));
           down =
-              subst (λ (t : Traffic). IsLane down_bytes t d.to_client new.client_reader.taken new.to_client) (sym h.down)
+              subst (λ (t : Traffic). IsLane down_bytes t d.to_client new.client_reader.taken new.to_client) (sym (h.each ToClient))
               (subst (λ (r : Reading). IsLane down_bytes (sent (traffic pipe ToClient) bytes h.failures) d.to_client r.taken new.to_client) (sym (ap (λ l. l.client_reader) h.link)) (lane new.to_client counts));
         };
         engine_is = ap (λ l. l.server.engine) h.link ∙ same ∙ v.engine_is;

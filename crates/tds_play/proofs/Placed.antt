@@ -13,11 +13,11 @@ use Rattle.tds_world.specs.Connection.{Connection, Standing, In, is_idle, phase}
 use Rattle.tds_world.specs.Phase.{Phase, Settled, Asked, Sending, Reading, Cancelling, is_settled}
 use Rattle.tds_world.specs.Pool.{Acted, is_full, keeps, keeps_by}
 use Rattle.tds_play.specs.Lending.{standing_by}
-use Rattle.tds_play.specs.Seats.{Seat, lent_as, placed_at, unless_kept, unless_kept_by}
+use Rattle.tds_play.specs.Seats.{Seat, lent_as, placed_at, seated, unless_kept, unless_kept_by}
 use Rattle.tds_play.specs.Pipe.{Pipe}
 use Rattle.tds_play.specs.Plays.{RepresentsConnection, after, outcome_of}
 use Rattle.tds_play.specs.Seen.{done_as}
-use Rattle.tds_ends.specs.Stands.{MatchesClient}
+use Rattle.tds_ends.specs.Stands.{MatchesClient, MatchesServer}
 use Rattle.tds_ends.specs.Stays.{RefinesIdle, PoolIsUnseen}
 use Rattle.tds_play.specs.declared.link.EventDone.{EventDone}
 use Rattle.tds_play.specs.declared.link.Link.{Link}
@@ -26,10 +26,7 @@ use Rattle.tds_play.specs.declared.link.Link.{Link}
 
 settled_where : (p : Phase) → is_settled p ≡ true → p ≡ Settled
 settled_where Settled e = refl
-settled_where Asked e = absurd (cc)
-settled_where Sending e = absurd (cc)
-settled_where Reading e = absurd (cc)
-settled_where Cancelling e = absurd (cc)
+settled_where p e = absurd (cc)
 
 pub idle_settled : (c : Connection) → is_idle c ≡ true → phase c ≡ Settled
 idle_settled c e = settled_where (phase c) e
@@ -43,10 +40,13 @@ idle_unless waits s c m e = none_where (unless_idle s.stage) (waits s c m ∙ e)
 
 -- ---- Elsewhere in the pool
 
-pub placed_played : {E S : Type 0} → PoolIsUnseen E → (number size : ℕ) (engine : E) (link : Link E S) (seat : Seat) (pipe : Option Pipe) (c : Connection) (p : Place)
-    → RepresentsConnection number size engine link seat pipe c → link.is_cut ≡ false
-    → RepresentsConnection number size engine link (placed_at p seat) pipe (record c { standing = In p })
-placed_played unseen number size engine link seat pipe c p i live = record {
+-- It stands there with this client, and may be marked.
+stood : {E S : Type 0} (number size : ℕ) (engine : E) (link : Link E S) (seat : Seat) (pipe : Option Pipe) (c : Connection) (client : ClientSession) (p : Place) (mark : Option Reset)
+    → RepresentsConnection number size engine link seat pipe c → link.is_cut ≡ false → client.size ≡ seat.client.size
+    → (MatchesClient seat.client c → MatchesClient client (record c { mark = mark; standing = In p }))
+    → (MatchesServer link.server c → MatchesServer link.server (record c { mark = mark; standing = In p }))
+    → RepresentsConnection number size engine link (seated p client) pipe (record c { mark = mark; standing = In p })
+stood number size engine link seat pipe c client p mark i live sized caller server = record {
   numbered = i.numbered;
   standing = ap (λ (b : Bool). standing_by b p) live;
   older = i.older;
@@ -57,16 +57,10 @@ placed_played unseen number size engine link seat pipe c p i live = record {
   came_down = i.came_down;
   lives = λ uncut.
       let v = i.lives uncut in
-      let s = v.stands in
       record {
-        stands = record {
-          client = unseen.client (In p) seat.client c s.client;
-          server = unseen.server c.mark (In p) link.server c s.server;
-          up = s.up;
-          down = s.down;
-        };
+        stands = record { client = caller v.stands.client; server = server v.stands.server; up = v.stands.up; down = v.stands.down };
         engine_is = v.engine_is;
-        size_is = v.size_is;
+        size_is = sized ∙ v.size_is;
         server_reads = v.server_reads;
         server_size = v.server_size;
         client_reads = v.client_reads;
@@ -74,6 +68,12 @@ placed_played unseen number size engine link seat pipe c p i live = record {
       };
   gone = i.gone;
 }
+
+pub placed_played : {E S : Type 0} → PoolIsUnseen E → (number size : ℕ) (engine : E) (link : Link E S) (seat : Seat) (pipe : Option Pipe) (c : Connection) (p : Place)
+    → RepresentsConnection number size engine link seat pipe c → link.is_cut ≡ false
+    → RepresentsConnection number size engine link (placed_at p seat) pipe (record c { standing = In p })
+placed_played unseen number size engine link seat pipe c p i live =
+    stood number size engine link seat pipe c seat.client p c.mark i live refl (unseen.client (In p) seat.client c) (unseen.server c.mark (In p) link.server c)
 
 -- A client that is marked for a reset stands for a connection that is lent again.
 abbrev pub RefinesMarks : Type 0
@@ -84,40 +84,9 @@ pub lent_played : {E S : Type 0} → PoolIsUnseen E → RefinesIdle → RefinesM
     → (unless_idle seat.client.stage ≡ None → new ≡ lent_as lease mark seat)
     → RepresentsConnection number size engine link new pipe (record c { mark = strongest (Some mark) c.mark; standing = In (place.Leased lease) })
 lent_played {E} {S} unseen waits marks number size lease mark engine link seat new pipe c i live idle is =
-    rw (is (idle_unless waits seat.client c (i.lives live).stands.client idle)) here
-  where
-    d : Connection
-    d = record c { mark = strongest (Some mark) c.mark; standing = In (place.Leased lease) }
-
-    here : RepresentsConnection number size engine link (lent_as lease mark seat) pipe d
-    here = record {
-      numbered = i.numbered;
-      standing = ap (λ (b : Bool). standing_by b (place.Leased lease)) live;
-      older = i.older;
-      newest = i.newest;
-      to_server = i.to_server;
-      to_client = i.to_client;
-      came_up = i.came_up;
-      came_down = i.came_down;
-      lives = λ uncut.
-          let v = i.lives uncut in
-          let s = v.stands in
-          record {
-            stands = record {
-              client = marks seat.client c mark (In (place.Leased lease)) s.client (idle_settled c idle);
-              server = unseen.server (strongest (Some mark) c.mark) (In (place.Leased lease)) link.server c s.server;
-              up = s.up;
-              down = s.down;
-            };
-            engine_is = v.engine_is;
-            size_is = v.size_is;
-            server_reads = v.server_reads;
-            server_size = v.server_size;
-            client_reads = v.client_reads;
-            client_size = v.client_size;
-          };
-      gone = i.gone;
-    }
+    rw (is (idle_unless waits seat.client c (i.lives live).stands.client idle))
+    (stood number size engine link seat pipe c (marked seat.client mark) (place.Leased lease) (strongest (Some mark) c.mark) i live refl
+    (λ m. marks seat.client c mark (In (place.Leased lease)) m (idle_settled c idle)) (unseen.server (strongest (Some mark) c.mark) (In (place.Leased lease)) link.server c))
 
 -- ---- Keeping
 

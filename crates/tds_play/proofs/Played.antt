@@ -42,9 +42,7 @@ either false c x y f g = g
 
 acts_same : (answers : Answers) (c : Connection) (e : Up) → SameRequests c (server_acts answers (record c { to_server = passed e c.to_server }) e)
 acts_same answers c (Part r p) = record { past = refl; current = refl; standing = refl }
-acts_same answers c (End r a p) = record { past = refl; current = refl; standing = refl }
-acts_same answers c (Drop r p) = record { past = refl; current = refl; standing = refl }
-acts_same answers c (Attention r) = record { past = refl; current = refl; standing = refl }
+acts_same answers c e = record { past = refl; current = refl; standing = refl }
 
 pub reach_same : (answers : Answers) (c : Connection) (es : List Up) (k : ℕ) → SameRequests c (reach_server answers c es k)
 reach_same answers c [] k = record { past = refl; current = refl; standing = refl }

@@ -20,6 +20,7 @@ use Rattle.tds_world.specs.Phase.{Phase, Settled, Asked, Sending, Reading, Cance
 use Rattle.tds_world.specs.Pool.{Acted, Refuses, Does, abandons_at, gives_back_at, is_full, keeps_by}
 use Rattle.tds_world.specs.Record.{Record}
 use Rattle.tds_world.specs.World.{World, next_number, put, put_numbered}
+use Rattle.tds_world.proofs.events.Grows.{notes_leave}
 use Rattle.tds_play.specs.declared.link.EventDone.{EventDone}
 use Rattle.tds_play.specs.Seats.{Seated}
 use Rattle.tds_play.specs.declared.player.Player.{Player}
@@ -32,7 +33,7 @@ use Rattle.tds_ends.specs.ModelGives.{IsCountable}
 use Rattle.tds_play.specs.Plays.{RepresentConnections, RefinesAct, RepresentsConnection, IsReady, MayLose, acts_at, acts_on, after, cut_where, holdings_of, loss_of, outcome_of}
 use Rattle.tds_play.proofs.AllCut.{played_there, put_changed}
 use Rattle.tds_play.proofs.LossWorld.{IsMoved, put_there, settled_moved}
-use Rattle.tds_play.proofs.Held.{asked_noted, connections_noted, leases_noted, tickets_noted}
+use Rattle.tds_play.proofs.Held.{asked_noted, leases_noted, tickets_noted}
 
 -- ---- What applies is no refusal
 
@@ -67,36 +68,19 @@ sent_never Reading room o c = tt
 sent_never Cancelling room o c = tt
 
 in_never : (place : Place) (setup : Setup) (answers : Answers) (w : World) (e : Event) (n : ℕ) (c : Connection) → NeverRefused (acts_at (In place) setup answers w e n c)
-in_never place setup answers w event.Lease n c = λ why e. cc
-in_never place setup answers w (event.Resume ticket) n c = λ why e. cc
 in_never place setup answers w (event.GiveBack lease) n c = back_never c.standing c
 in_never place setup answers w (event.Keep lease) n c = kept_never (is_idle c) (c.heard == 0 || is_full c.mark) (next_number w.tickets) c
 in_never place setup answers w (event.Abandon ticket) n c = abandoned_never c.standing c
 in_never place setup answers w (event.Ask lease q) n c = asked_never (is_idle c) (next_number w.asked_on) lease n q c
 in_never place setup answers w (event.Send lease) n c = sent_never (phase c) (setup.packet_size - 8) c.current c
-in_never place setup answers w (event.Cancel lease) n c = λ why e. cc
-in_never place setup answers w (event.Work m) n c = λ why e. cc
-in_never place setup answers w (event.ToServer m count) n c = λ why e. cc
-in_never place setup answers w (event.ToClient m count) n c = λ why e. cc
-in_never place setup answers w (event.Cut m) n c = λ why e. cc
 in_never place setup answers w event.RestartServer n c = tt
 in_never place setup answers w event.RestartClient n c = tt
+in_never place setup answers w e n c = λ why is. cc
 
 cut_never : (setup : Setup) (answers : Answers) (w : World) (e : Event) (n : ℕ) (c : Connection) → NeverRefused (acts_at Cut setup answers w e n c)
-cut_never setup answers w event.Lease n c = tt
-cut_never setup answers w (event.Resume ticket) n c = tt
 cut_never setup answers w (event.GiveBack lease) n c = λ why e. cc
-cut_never setup answers w (event.Keep lease) n c = tt
 cut_never setup answers w (event.Abandon ticket) n c = λ why e. cc
-cut_never setup answers w (event.Ask lease q) n c = tt
-cut_never setup answers w (event.Send lease) n c = tt
-cut_never setup answers w (event.Cancel lease) n c = tt
-cut_never setup answers w (event.Work m) n c = tt
-cut_never setup answers w (event.ToServer m count) n c = tt
-cut_never setup answers w (event.ToClient m count) n c = tt
-cut_never setup answers w (event.Cut m) n c = tt
-cut_never setup answers w event.RestartServer n c = tt
-cut_never setup answers w event.RestartClient n c = tt
+cut_never setup answers w e n c = tt
 
 at_never : (s : Standing) (setup : Setup) (answers : Answers) (w : World) (e : Event) (n : ℕ) (c : Connection) → NeverRefused (acts_at s setup answers w e n c)
 at_never (In place) setup answers w e n c = in_never place setup answers w e n c
@@ -118,7 +102,7 @@ pub after_at : (P : Connection → Type 0) (w : World) (e : Event) (place : ℕ)
 after_at P w e place c (Refuses why) there all = all_at P w.connections place c all there
 after_at P w e place c (Does what d) there all =
     let now : World = record w { connections = put place d w.connections } in
-    all_at P (put place d w.connections) place d (subst (AllByRecursion P) (connections_noted e (suc place) d.heard now) all)
+    all_at P (put place d w.connections) place d (subst (AllByRecursion P) (notes_leave e (suc place) d.heard now) all)
     (put_there w.connections place d (omega (arith, slice_get_within w.connections place c there)))
 
 stands_cut : (b : Bool) (p : Place) (s : Standing) → standing_by b p ≡ s → b ≡ is_cut s
@@ -186,19 +170,7 @@ applied_notes f e n w (Does what d) noted applied is = is d.heard (put_numbered 
 noted_met : (l : Loss) (e : Event) (n heard : ℕ) (w : World) → notes e n heard w ≡ notes (met l e) n heard w
 noted_met Nothing e n heard w = refl
 noted_met (Failed k) event.Lease n heard w = refl
-noted_met (Failed k) (event.Resume ticket) n heard w = refl
-noted_met (Failed k) (event.GiveBack lease) n heard w = refl
-noted_met (Failed k) (event.Keep lease) n heard w = refl
-noted_met (Failed k) (event.Abandon ticket) n heard w = refl
-noted_met (Failed k) (event.Ask lease q) n heard w = refl
-noted_met (Failed k) (event.Send lease) n heard w = refl
-noted_met (Failed k) (event.Cancel lease) n heard w = refl
-noted_met (Failed k) (event.Work m) n heard w = refl
-noted_met (Failed k) (event.ToServer m count) n heard w = refl
-noted_met (Failed k) (event.ToClient m count) n heard w = refl
-noted_met (Failed k) (event.Cut m) n heard w = refl
-noted_met (Failed k) event.RestartServer n heard w = refl
-noted_met (Failed k) event.RestartClient n heard w = refl
+noted_met l e n heard w = refl
 
 -- An event that was refused is not noted.
 pub refused_alike : {E S : Type 0} (setup : Setup) (engine : E) (answers : Answers) (w : World) (e : Event) (place : ℕ) (c : Connection) (player new : Player E S) (pipes pipes' : ℕ → Option Pipe) (done : EventDone) (why : Refusal)

@@ -30,20 +30,9 @@ use Rattle.tds_play.proofs.Lent.{lends_alike}
 
 -- An event that is no restart is about one connection.
 pub about_one : (e : Event) → (e ≡ event.RestartServer → ⊥) → (e ≡ event.RestartClient → ⊥) → IsAboutOne e
-about_one event.Lease server client = tt
-about_one (event.Resume ticket) server client = tt
-about_one (event.GiveBack lease) server client = tt
-about_one (event.Keep lease) server client = tt
-about_one (event.Abandon ticket) server client = tt
-about_one (event.Ask lease q) server client = tt
-about_one (event.Send lease) server client = tt
-about_one (event.Cancel lease) server client = tt
-about_one (event.Work n) server client = tt
-about_one (event.ToServer n count) server client = tt
-about_one (event.ToClient n count) server client = tt
-about_one (event.Cut n) server client = tt
 about_one event.RestartServer server client = server refl
 about_one event.RestartClient server client = client refl
+about_one e server client = tt
 
 -- What the player's lists say of it and what the world's do.
 about_world : {E S : Type 0} (setup : Setup) (engine : E) (w : World) (e : Event) (player : Player E S) (pipes : ℕ → Option Pipe) → RepresentsWorld setup engine player pipes w
@@ -113,35 +102,11 @@ some_one x y e = cc
 -- It is about the same connection.
 about_bringing : (k : ℕ) (e : Event) (standings : List Standing) (max : ℕ) (leases tickets : List (Option ℕ)) → about_of (bringing k e) standings max leases tickets ≡ about_of e standings max leases tickets
 about_bringing k event.Lease standings max leases tickets = refl
-about_bringing k (event.Resume ticket) standings max leases tickets = refl
-about_bringing k (event.GiveBack lease) standings max leases tickets = refl
-about_bringing k (event.Keep lease) standings max leases tickets = refl
-about_bringing k (event.Abandon ticket) standings max leases tickets = refl
-about_bringing k (event.Ask lease q) standings max leases tickets = refl
-about_bringing k (event.Send lease) standings max leases tickets = refl
-about_bringing k (event.Cancel lease) standings max leases tickets = refl
-about_bringing k (event.Work n) standings max leases tickets = refl
-about_bringing k (event.ToServer n count) standings max leases tickets = refl
-about_bringing k (event.ToClient n count) standings max leases tickets = refl
-about_bringing k (event.Cut n) standings max leases tickets = refl
-about_bringing k event.RestartServer standings max leases tickets = refl
-about_bringing k event.RestartClient standings max leases tickets = refl
+about_bringing k e standings max leases tickets = refl
 
 one_bringing : (k : ℕ) (e : Event) → IsAboutOne e → IsAboutOne (bringing k e)
 one_bringing k event.Lease one = one
-one_bringing k (event.Resume ticket) one = one
-one_bringing k (event.GiveBack lease) one = one
-one_bringing k (event.Keep lease) one = one
-one_bringing k (event.Abandon ticket) one = one
-one_bringing k (event.Ask lease q) one = one
-one_bringing k (event.Send lease) one = one
-one_bringing k (event.Cancel lease) one = one
-one_bringing k (event.Work n) one = one
-one_bringing k (event.ToServer n count) one = one
-one_bringing k (event.ToClient n count) one = one
-one_bringing k (event.Cut n) one = one
-one_bringing k event.RestartServer one = one
-one_bringing k event.RestartClient one = one
+one_bringing k e one = one
 
 about_met : (l : Loss) (e : Event) (standings : List Standing) (max : ℕ) (leases tickets : List (Option ℕ)) → about_of (met l e) standings max leases tickets ≡ about_of e standings max leases tickets
 about_met Nothing e standings max leases tickets = refl

@@ -28,10 +28,7 @@ IsHeard size c = (r : Reading) → r.direction ≡ ToClient → r.size ≡ size 
 -- A connection is idle where its phase is settled.
 settled : (p : Phase) → is_settled p ≡ true → p ≡ Settled
 settled Settled e = refl
-settled Asked e = absurd (cc)
-settled Sending e = absurd (cc)
-settled IsReading e = absurd (cc)
-settled Cancelling e = absurd (cc)
+settled p e = absurd (cc)
 
 countable : (n : ℕ) (c : Connection) → n ≤ 20000 → up_underway c ≤ 4094 → down_underway c ≤ 512 * suc n → IsCountable c
 countable n c few up down = (omega (arith, up), omega (arith, few, down))

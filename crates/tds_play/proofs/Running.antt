@@ -52,11 +52,7 @@ keeps_same (Some x) = refl
 
 abbrev is_output : RunFault → ℕ
 is_output run.Output = 1
-is_output run.File = 0
-is_output run.Json = 0
-is_output (run.Schedule place) = 0
-is_output (run.Play refusal) = 0
-is_output run.Memory = 0
+is_output e = 0
 
 -- reading failed
 pub file_unread : (left : Option (List ℕ)) → IsUnread run.File left
@@ -68,12 +64,9 @@ memory_unread left = let some = some_left left in ((some.0, some.1, tt), λ e. l
 
 -- nothing is printed before a fault that comes first
 pub leaves_all : (pipes : ℕ → Option Pipe) (fault : RunFault) (bytes : List ℕ) (a : Option (List ℕ)) → IsBeforeOutput fault → LeavesOutput pipes fault bytes a a
-leaves_all pipes run.File bytes a h = keeps_same a
-leaves_all pipes run.Json bytes a h = keeps_same a
-leaves_all pipes (run.Schedule place) bytes a h = keeps_same a
-leaves_all pipes (run.Play refusal) bytes a h = keeps_same a
 leaves_all pipes run.Output bytes a h = absurd (h refl)
 leaves_all pipes run.Memory bytes a h = inl (keeps_same a)
+leaves_all pipes fault bytes a h = keeps_same a
 
 -- printing that fails leaves a beginning of the report's text
 ends_by : (pipes : ℕ → Option Pipe) (fault : RunFault) (left old new : Option (List ℕ)) (bytes : List ℕ) (report : Report) → AreLeft left bytes → IsReportOf pipes bytes report

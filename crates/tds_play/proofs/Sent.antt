@@ -1,6 +1,7 @@
 -- A connection on which a request's next packet goes out, in a play and in the model.
 use Rattle.std.specs.Prelude.{is_ok, IfOk}
 use Rattle.std.proofs.Common.{◌≡◌, ◌≤◌, ◌∙◌, ◌-◌, ◌+◌, ℕ, Bool, true, false, cond, refl, sym, ap, subst, Option, Some, None, Result, Ok, Err, List}
+use Rattle.tds_packet.specs.declared.kind.Direction.TheVariants.{ToServer}
 use Rattle.tds_client.specs.declared.fault.ClientRefusal.{ClientRefusal}
 use Rattle.tds_client.specs.declared.state.Sent.{Sent}
 use Rattle.tds_client.specs.Sending.{Effect, sent, sent_in, sent_of, room}
@@ -30,7 +31,7 @@ use Rattle.tds_play.specs.Requests.{IsNewest}
 use Rattle.tds_ends.specs.Stands.{is_sending, MatchesServer}
 use Rattle.tds_play.specs.declared.link.Link.{Link}
 use Rattle.tds_play.specs.declared.request.Record.{Record}
-use Rattle.tds_play.proofs.Outward.{HandedUp, SentMore, sent_played}
+use Rattle.tds_play.proofs.Outward.{Handed, SentMore, sent_played}
 
 -- ---- The client
 
@@ -115,7 +116,7 @@ next_sent : {E S : Type 0} → SentMore up_bytes → ((q : world.Record) → Pha
     → ((q : world.Record) → c.current ≡ Some q → MatchesServer link.server (sends room q c))
     → sends_in (phase c) room c.current c ≡ a → RefinesSend c (Ok e) a → e.session.size ≡ seat.client.size
     → up_underway (after a c) ≤ 18446744073709551615
-    → HandedUp link new pipe then e.bytes
+    → Handed ToServer link new pipe then e.bytes
     → (outcome.Sent (send_outcome e.answer) ≡ outcome_of a) × RepresentsConnection number size engine new (seated seat.place e.session) then (after a c)
 next_sent appends tells number size room engine link new seat pipe then c e (Refuses why) i live stays is alike sized few h = absurd alike
 next_sent appends tells number size room engine link new seat pipe then c e (Does what d) i live stays is alike sized few h =
@@ -144,7 +145,7 @@ pub packet_played : {E S : Type 0} → SentMore up_bytes → ((q : world.Record)
     → sent seat.client ≡ Ok e
     → up_underway (after (sends_in (phase c) (size - 8) c.current c) c) ≤ 18446744073709551615
     → mid ≡ link → bytes ≡ e.bytes
-    → HandedUp mid new pipe then bytes
+    → Handed ToServer mid new pipe then bytes
     → (outcome.Sent (send_outcome e.answer) ≡ outcome_of (sends_in (phase c) (size - 8) c.current c))
     × RepresentsConnection number size engine new (seated seat.place e.session) then (after (sends_in (phase c) (size - 8) c.current c) c)
 packet_played {E} {S} appends tells number size engine link mid new seat pipe then c bytes e i live goes stays is few at out h =
@@ -153,7 +154,7 @@ packet_played {E} {S} appends tells number size engine link mid new seat pipe th
     subst (λ (n : ℕ). RefinesSend c (Ok e) (sends_in (phase c) (n - 8) c.current c)) v.size_is
     (subst (λ r. RefinesSend c r (sends_in (phase c) (room seat.client) c.current c)) is goes) in
     next_sent appends tells number size (size - 8) engine link new seat pipe then c e (sends_in (phase c) (size - 8) c.current c) i live stays refl alike (size_in seat.client.stage seat.client e is) few
-    (subst (λ (l : Link E S). HandedUp l new pipe then e.bytes) at (subst (λ (bs : List ℕ). HandedUp mid new pipe then bs) out h))
+    (subst (λ (l : Link E S). Handed ToServer l new pipe then e.bytes) at (subst (λ (bs : List ℕ). Handed ToServer mid new pipe then bs) out h))
 
 -- ---- Refusing
 

@@ -41,10 +41,7 @@ none_more h xs i x before after less is kept e then =
 
 view_by : (p : Phase) (q : Record) → view_of (stage_by p q) ≡ Some (state_of p)
 view_by Settled q = refl
-view_by Asked q = refl
-view_by Sending q = refl
-view_by Reading q = refl
-view_by Cancelling q = refl
+view_by p q = refl
 
 view_in : (current : Option Record) → view_of (stage_in current) ≡ Some (state_of (phase_in current))
 view_in None = refl

@@ -24,6 +24,7 @@ use Rattle.tds_world.specs.Losses.{Loss, Nothing, Failed, Played, bringing, cuts
 use Rattle.tds_world.specs.WithLosses.{IsReportWith, MarksNothing}
 use Rattle.tds_world.specs.Observed.{observed, snapshots, request_reports, bytes_in, bytes_of}
 use Rattle.tds_world.specs.World.{World, new_world, numbered}
+use Rattle.tds_world.proofs.plays.Worlds.{bringing_is}
 use Rattle.tds_play.specs.declared.link.EventDone.{EventDone}
 use Rattle.tds_play.specs.declared.link.Link.{Link}
 use Rattle.tds_play.specs.Seats.{Seat, Seated}
@@ -107,31 +108,14 @@ each_countable : (E : Type 0) (answers : Answers) (size : ℕ) (cs : List Connec
 each_countable E answers size [] h = tt
 each_countable E answers size (c ∷ cs) h = (h.0.countable, each_countable E answers size cs h.1)
 
--- A delivery of other bytes is one too.
-pub brought_known : (k : ℕ) (e : Event) → IsEvent e → IsEvent (bringing k e)
-brought_known k event.Lease known = known
-brought_known k (event.Resume ticket) known = known
-brought_known k (event.GiveBack lease) known = known
-brought_known k (event.Keep lease) known = known
-brought_known k (event.Abandon ticket) known = known
-brought_known k (event.Ask lease q) known = known
-brought_known k (event.Send lease) known = known
-brought_known k (event.Cancel lease) known = known
-brought_known k (event.Work n) known = known
-brought_known k (event.ToServer n count) known = known
-brought_known k (event.ToClient n count) known = known
-brought_known k (event.Cut n) known = known
-brought_known k event.RestartServer known = known
-brought_known k event.RestartClient known = known
-
 met_known : (l : Loss) (e : Event) → IsEvent e → IsEvent (met l e)
 met_known Nothing e known = known
-met_known (Failed k) e known = brought_known k e known
+met_known (Failed k) e known = bringing_is k e known
 
 plainly_known : (l : Loss) (link : Option ℕ) (e : Event) → IsEvent e → AllByRecursion IsEvent (met l e ∷ cuts_after l link)
 plainly_known Nothing link e known = (known, tt)
-plainly_known (Failed k) None e known = (brought_known k e known, tt)
-plainly_known (Failed k) (Some n) e known = (brought_known k e known, (tt, tt))
+plainly_known (Failed k) None e known = (bringing_is k e known, tt)
+plainly_known (Failed k) (Some n) e known = (bringing_is k e known, (tt, tt))
 
 all_joined : {A : Type 0} (P : A → Type 0) (xs ys : List A) → AllByRecursion P xs → AllByRecursion P ys → AllByRecursion P (xs ++ ys)
 all_joined P [] ys h k = k

@@ -1,5 +1,6 @@
 -- A connection on which the server works, in a play and in the model.
 use Rattle.std.proofs.Common.{◌≡◌, ◌≤◌, ◌∙◌, ℕ, Bool, true, false, refl, sym, ap, subst, Option, Some, None, option_map, List, [], ◌∷◌}
+use Rattle.tds_packet.specs.declared.kind.Direction.TheVariants.{ToClient}
 use Rattle.tds_packet.specs.declared.status.Reset.{Reset}
 use Rattle.tds_server.specs.declared.outcome.Worked.{Worked}
 use Rattle.tds_server.specs.declared.outcome.Worked.TheVariants as server
@@ -27,7 +28,7 @@ use Rattle.tds_play.specs.Requests.{MatchesRecord, IsNewest}
 use Rattle.tds_play.specs.declared.link.Link.{Link}
 use Rattle.tds_play.specs.Seats.{Seat}
 use Rattle.tds_play.specs.declared.request.Record.{Record}
-use Rattle.tds_play.proofs.Outward.{HandedDown, SentMore, replied_played}
+use Rattle.tds_play.proofs.Outward.{Handed, SentMore, replied_played}
 
 -- ---- What the server's work changes
 
@@ -42,18 +43,13 @@ worked_is true state link = refl
 worked_is false state link = refl
 
 link_by : {E S : Type 0} (p : Phase) (link : Link E S) → worked_as (works_in link.server p) link ≡ record link { server = (works_in link.server p).state; current = current_behind (works_in link.server p).answer link.server.session (works_in link.server p).state.session link.current }
-link_by phase.Waiting link = refl
-link_by (phase.Receiving m) link = refl
-link_by (phase.Answering [] id begun) link = refl
 link_by (phase.Answering (s ∷ ss) id begun) link = worked_is s.last (works_in link.server (phase.Answering (s ∷ ss) id begun)).state link
-link_by (phase.Broken fault) link = refl
+link_by p link = refl
 
 engine_by : {E : Type 0} (p : Phase) (s : ServerState E) → (works_in s p).state.engine ≡ s.engine
-engine_by phase.Waiting s = refl
-engine_by (phase.Receiving m) s = refl
 engine_by (phase.Answering [] id begun) s = refl
 engine_by (phase.Answering (t ∷ ts) id begun) s = refl
-engine_by (phase.Broken fault) s = refl
+engine_by p s = refl
 
 -- ---- What the model's work leaves
 
@@ -121,7 +117,7 @@ pub worked_played : {E S : Type 0} → SentMore down_bytes → (number size : �
     → RefinesWork c (worked link.server) → MatchesClient seat.client (works c)
     → WorksOnNewest c c.due → (works c).past ≡ c.past → down_underway (works c) ≤ 18446744073709551615
     → mid ≡ worked_as (worked link.server) link → bytes ≡ (worked link.server).packet
-    → HandedDown mid new pipe after bytes
+    → Handed ToClient mid new pipe after bytes
     → (worked_outcome (worked link.server).answer ≡ work_outcome c.due) × RepresentsConnection number size engine new seat after (works c)
 worked_played {E} {S} appends number size engine link mid new seat pipe after c bytes i live a stays newest past few is sent h =
     let w = worked link.server in
@@ -130,7 +126,7 @@ worked_played {E} {S} appends number size engine link mid new seat pipe after c 
     let at : mid ≡ record link { server = w.state; current = behind } = is ∙ link_by link.server.phase link in (
       sym a.outcome,
       replied_played appends number size engine link new seat w.state behind pipe after c (works c) w.packet i live
-          (subst (λ (l : Link E S). HandedDown l new pipe after w.packet) at (subst (λ (bs : List ℕ). HandedDown mid new pipe after bs) sent h))
+          (subst (λ (l : Link E S). Handed ToClient l new pipe after w.packet) at (subst (λ (bs : List ℕ). Handed ToClient mid new pipe after bs) sent h))
           (standing_kept c c.due) (engine_by link.server.phase link.server)
           stays a.matches a.sends (above_kept c c.due) past
           (newest_by number c.due w.answer link.server.session w.state.session c link.current refl a.outcome newest v.server.session a.matches.session

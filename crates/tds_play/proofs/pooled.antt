@@ -27,6 +27,7 @@ pub mod Records
 pub mod Steps
 pub mod Shown
 pub mod Unseen
+pub mod There
 pub mod InPlace
 pub mod Keeping
 pub mod Resuming

@@ -45,21 +45,8 @@ brings_refused true r why came = refl
 brings_refused false r why came = refl
 
 refused_one : (r : Reading) (o : Outcome) (came : List ℕ) → IsRefused o → AnswersWith r o came came
-refused_one r (outcome.Leased lease conn opened) came is = absurd is
-refused_one r (outcome.GivenBack what) came is = absurd is
-refused_one r (outcome.Kept ticket) came is = absurd is
-refused_one r (outcome.Abandoned what) came is = absurd is
-refused_one r (outcome.Asked q) came is = absurd is
-refused_one r (outcome.Sent what) came is = absurd is
-refused_one r (outcome.Cancel what) came is = absurd is
-refused_one r (outcome.Work what) came is = absurd is
-refused_one r (outcome.ToServer k) came is = absurd is
-refused_one r (outcome.ToClient k) came is = absurd is
-refused_one r outcome.Cut came is = absurd is
-refused_one r outcome.RestartedServer came is = absurd is
-refused_one r outcome.RestartedClient came is = absurd is
 refused_one r (outcome.Refused why) came is = refl
-refused_one r (outcome.Fault end layer number) came is = absurd is
+refused_one r o came is = absurd is
 
 refused_answered : (r : Reading) (came : List ℕ) (os : List Outcome) → AllByRecursion IsRefused os → AnswerInTurn r came os came
 refused_answered r came [] all = refl
@@ -75,40 +62,18 @@ one_refused false why os all = subst (AllByRecursion IsRefused) (sym (append-nil
 -- ---- Which connection a delivery is about
 
 about_here : (e : Event) (place : ℕ) (d : Direction) → IsAbout e place → is_delivery e (suc place) d ≡ delivers e d
-about_here event.Lease place d is = refl
-about_here (event.Resume ticket) place d is = refl
-about_here (event.GiveBack lease) place d is = refl
-about_here (event.Keep lease) place d is = refl
-about_here (event.Abandon ticket) place d is = refl
-about_here (event.Ask lease q) place d is = refl
-about_here (event.Send lease) place d is = refl
-about_here (event.Cancel lease) place d is = refl
-about_here (event.Work n) place d is = refl
 about_here (event.ToServer n count) place ToServer is = eq-eqb n (suc place) is
 about_here (event.ToServer n count) place ToClient is = refl
 about_here (event.ToClient n count) place ToServer is = refl
 about_here (event.ToClient n count) place ToClient is = eq-eqb n (suc place) is
-about_here (event.Cut n) place d is = refl
-about_here event.RestartServer place d is = refl
-about_here event.RestartClient place d is = refl
+about_here e place d is = refl
 
 about_other : (e : Event) (place n : ℕ) (d : Direction) → IsAbout e place → n ≢ suc place → is_delivery e n d ≡ false
-about_other event.Lease place n d is other = refl
-about_other (event.Resume ticket) place n d is other = refl
-about_other (event.GiveBack lease) place n d is other = refl
-about_other (event.Keep lease) place n d is other = refl
-about_other (event.Abandon ticket) place n d is other = refl
-about_other (event.Ask lease q) place n d is other = refl
-about_other (event.Send lease) place n d is other = refl
-about_other (event.Cancel lease) place n d is other = refl
-about_other (event.Work m) place n d is other = refl
 about_other (event.ToServer m count) place n ToServer is other = ne_eqb m n (λ same. other (sym same ∙ is))
 about_other (event.ToServer m count) place n ToClient is other = refl
 about_other (event.ToClient m count) place n ToServer is other = refl
 about_other (event.ToClient m count) place n ToClient is other = ne_eqb m n (λ same. other (sym same ∙ is))
-about_other (event.Cut m) place n d is other = refl
-about_other event.RestartServer place n d is other = refl
-about_other event.RestartClient place n d is other = refl
+about_other e place n d is other = refl
 
 -- ---- All connections
 

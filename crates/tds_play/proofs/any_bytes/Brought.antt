@@ -11,6 +11,7 @@ use Rattle.tds_world.specs.declared.outcome.Outcome.{Outcome}
 use Rattle.tds_world.specs.declared.outcome.Outcome.TheVariants as outcome
 use Rattle.tds_world.specs.Connection.{Connection}
 use Rattle.tds_play.specs.declared.feeding.Fault.{Fault}
+use Rattle.tds_play.specs.declared.link.EventDone.{EventDone}
 use Rattle.tds_play.specs.declared.link.Link.{Link}
 use Rattle.tds_play.specs.AnyBytes.{FaultsBy}
 use Rattle.tds_play.specs.Pipe.{Pipe, traffic}
@@ -19,10 +20,6 @@ use Rattle.tds_play.specs.Plays as plays
 use Rattle.tds_play.specs.Reads.{BringsAny, BringsBy, IsReading, ReadsNoMore, ReadsOn, delivers, given_by}
 use Rattle.tds_play.specs.Seen as seen
 use Rattle.tds_play.proofs.any_bytes.Stays.{reading_stays}
-
-pub on_done : {A B : Type 0} (r : Result A B) (P : Type 0) (Q : A → Type 0) → OnOk r P → ((x : A) → P → Q x) → IfOk r Q
-on_done (Ok x) P Q h f = f x h
-on_done (Err e) P Q h f = tt
 
 -- What a call answered of a value that it handed on.
 pub fed_so : {A E : Type 0} (r : Result A E) (x y : A) (P : A → Type 0) → r ≡ Ok x → x ≡ y → IfOk r P → P y
@@ -43,24 +40,19 @@ still_on size e o link new columns then before after none reads still same = rec
   brings = λ d. no_bytes (delivers e d) (new_reader d size) o (traffic before d).came (traffic after d).came (none d) (still.came d);
 }
 
+-- So it is of a call that answered, for an event of this kind.
+pub still_ok : {E S B : Type 0} (size : ℕ) (e kind : Event) (r : Result EventDone B) (link new : Link E S) (columns then : Option ℕ) (before after : Option Pipe) → e ≡ kind → ((d : Direction) → delivers kind d ≡ false) → IsReading size link columns before → OnOk r (ReadsNoMore link new before after) → then ≡ columns → IfOk r (λ done. ReadsOn size e done.outcome new then before after)
+still_ok size e kind (Ok done) link new columns then before after is none reads still same =
+    still_on size e done.outcome link new columns then before after (λ d. ap (λ (x : Event). delivers x d) is ∙ none d) reads still same
+still_ok size e kind (Err why) link new columns then before after is none reads still same = tt
+
 -- Where the connection is cut.
 refused_there : (e : Event) (c : Connection) (size : ℕ) (d : Direction) (came : List ℕ) → BringsBy (delivers e d) (new_reader d size) (plays.outcome_of (on_cut e c)) came came
-refused_there event.Lease c size d came = refl
-refused_there (event.Resume ticket) c size d came = refl
-refused_there (event.GiveBack lease) c size d came = refl
-refused_there (event.Keep lease) c size d came = refl
-refused_there (event.Abandon ticket) c size d came = refl
-refused_there (event.Ask lease q) c size d came = refl
-refused_there (event.Send lease) c size d came = refl
-refused_there (event.Cancel lease) c size d came = refl
-refused_there (event.Work n) c size d came = refl
 refused_there (event.ToServer n count) c size ToServer came = refl
 refused_there (event.ToServer n count) c size ToClient came = refl
 refused_there (event.ToClient n count) c size ToServer came = refl
 refused_there (event.ToClient n count) c size ToClient came = refl
-refused_there (event.Cut n) c size d came = refl
-refused_there event.RestartServer c size d came = refl
-refused_there event.RestartClient c size d came = refl
+refused_there e c size d came = refl
 
 pub gone_on : {E S : Type 0} (size : ℕ) (e : Event) (o : Outcome) (c : Connection) (link : Link E S) (columns : Option ℕ) (pipe : Option Pipe) → o ≡ plays.outcome_of (on_cut e c) → IsReading size link columns pipe → ReadsOn size e o link columns pipe pipe
 gone_on size e o c link columns pipe is reads = record {

@@ -20,20 +20,9 @@ place_of zero count place why is = absurd (cc)
 place_of (suc m) count place why is = place_by (nat_lt m count) m place why is
 
 pub about_there : (e : Event) (standings : List Standing) (max : ℕ) (leases tickets : List (Option ℕ)) (place : ℕ) → Here place ≡ about_of e standings max leases tickets → IsAbout e place
-about_there event.Lease standings max leases tickets place is = tt
-about_there (event.Resume ticket) standings max leases tickets place is = tt
-about_there (event.GiveBack lease) standings max leases tickets place is = tt
-about_there (event.Keep lease) standings max leases tickets place is = tt
-about_there (event.Abandon ticket) standings max leases tickets place is = tt
-about_there (event.Ask lease q) standings max leases tickets place is = tt
-about_there (event.Send lease) standings max leases tickets place is = tt
-about_there (event.Cancel lease) standings max leases tickets place is = tt
-about_there (event.Work n) standings max leases tickets place is = tt
 about_there (event.ToServer n count) standings max leases tickets place is = place_of n (length standings) place _ is
 about_there (event.ToClient n count) standings max leases tickets place is = place_of n (length standings) place _ is
-about_there (event.Cut n) standings max leases tickets place is = tt
-about_there event.RestartServer standings max leases tickets place is = tt
-about_there event.RestartClient standings max leases tickets place is = tt
+about_there e standings max leases tickets place is = tt
 
 not_opened : (b : Bool) (m : ℕ) (why : Refusal) → Opens ≡ cond b (Here m) (Missing why) → ⊥
 not_opened true m why is = absurd (cc)
@@ -44,17 +33,6 @@ none_opened zero count why is = absurd (cc)
 none_opened (suc m) count why is = not_opened (nat_lt m count) m why is
 
 pub opens_none : (e : Event) (standings : List Standing) (max : ℕ) (leases tickets : List (Option ℕ)) → Opens ≡ about_of e standings max leases tickets → (n : ℕ) (d : Direction) → is_delivery e n d ≡ false
-opens_none event.Lease standings max leases tickets is n d = refl
-opens_none (event.Resume ticket) standings max leases tickets is n d = refl
-opens_none (event.GiveBack lease) standings max leases tickets is n d = refl
-opens_none (event.Keep lease) standings max leases tickets is n d = refl
-opens_none (event.Abandon ticket) standings max leases tickets is n d = refl
-opens_none (event.Ask lease q) standings max leases tickets is n d = refl
-opens_none (event.Send lease) standings max leases tickets is n d = refl
-opens_none (event.Cancel lease) standings max leases tickets is n d = refl
-opens_none (event.Work m) standings max leases tickets is n d = refl
 opens_none (event.ToServer m count) standings max leases tickets is n d = absurd (none_opened m (length standings) _ is)
 opens_none (event.ToClient m count) standings max leases tickets is n d = absurd (none_opened m (length standings) _ is)
-opens_none (event.Cut m) standings max leases tickets is n d = refl
-opens_none event.RestartServer standings max leases tickets is n d = refl
-opens_none event.RestartClient standings max leases tickets is n d = refl
+opens_none e standings max leases tickets is n d = refl

@@ -144,6 +144,14 @@ stays_twice link mid new before between after one two = record {
 pub stays_numbered : {E S : Type 0} (number conn : ℕ) (link new : Link E S) (pipes pipes' : ℕ → Option Pipe) → number ≡ conn → ReadsNoMore link new (pipes number) (pipes' number) → ReadsNoMore link new (pipes conn) (pipes' conn)
 stays_numbered number conn link new pipes pipes' is still = subst (λ (k : ℕ). ReadsNoMore link new (pipes k) (pipes' k)) is still
 
+-- Bytes were handed over and the event ended, each under the number that the connection then had.
+pub stays_handed : {E S : Type 0} (conn m k : ℕ) (link mid out new : Link E S) (old pipes last : ℕ → Option Pipe) → m ≡ conn → k ≡ m
+    → ReadsNoMore link mid (old conn) (old conn) → ReadsNoMore mid out (old m) (pipes m) → ReadsNoMore out new (pipes k) (last k)
+    → ReadsNoMore link new (old conn) (last conn)
+stays_handed conn m k link mid out new old pipes last put handed begins hands ends =
+    stays_twice link mid new (old conn) (old conn) (last conn) begins
+    (stays_twice mid out new (old conn) (pipes conn) (last conn) (stays_numbered m conn mid out old pipes put hands) (stays_numbered k conn out new pipes last (handed ∙ put) ends))
+
 lost_tokens : (r : Option Record) → told_in (option_map lost_record r) ≡ told_in r
 lost_tokens None = refl
 lost_tokens (Some r) = refl
@@ -184,11 +192,8 @@ by_effect : {A : Type 0} (found : Result (Effect A) ClientRefusal) (one e : Effe
 by_effect found one e o first at is = let same : one ≡ e = cc (at, is) in ap (λ x. x.session.columns) (sym same) ∙ first
 
 sent_in_columns : (s : ClientSession) (stage : Stage) (e : Effect Sent) → sent_in s stage ≡ Ok e → e.session.columns ≡ s.columns
-sent_in_columns s Idle e is = absurd (cc)
 sent_in_columns s (Sending kind left packets) e is = by_effect (sent_in s (Sending kind left packets)) (sent_of s kind left packets) e s.columns (sent_of_columns s kind left packets) refl is
-sent_in_columns s Reading e is = absurd (cc)
-sent_in_columns s Cancelling e is = absurd (cc)
-sent_in_columns s (Broken fault) e is = absurd (cc)
+sent_in_columns s stage e is = absurd (cc)
 
 cancelled_in_columns : (s : ClientSession) (stage : Stage) (e : Effect Cancelled) → cancelled_in s stage ≡ Ok e → e.session.columns ≡ s.columns
 cancelled_in_columns s Idle e is = by_effect (cancelled_in s Idle) _ e s.columns refl refl is

@@ -118,11 +118,8 @@ pub ok_unless_broken : (s : ClientSession) → is_broken s.stage ≡ false → (
 ok_unless_broken s sound = by_stage s.stage sound
   where
     by_stage : (t : Stage) → is_broken t ≡ false → (e : Effect Cancelled) × (cancelled_in s t ≡ Ok e)
-    by_stage Idle e = (_, refl)
-    by_stage (Sending kind left packets) e = (_, refl)
-    by_stage Reading e = (_, refl)
-    by_stage Cancelling e = (_, refl)
     by_stage (Broken fault) e = absurd (cc)
+    by_stage t e = (_, refl)
 
 -- It has nothing more to cancel.
 pub cancelled_has_none : (old new : ClientSession) → is_broken old.stage ≡ false → IfOk (cancelled old) (λ e. new ≡ e.session) → HasNoMore new
@@ -141,11 +138,8 @@ sending_columns s kind packets = by_count (eqb packets 0)
     by_count false = refl
 
 behind_columns_by : (s : ClientSession) (t : Stage) → (session_behind (cancelled_in s t) s).columns ≡ s.columns
-behind_columns_by s Idle = refl
 behind_columns_by s (Sending kind left packets) = sending_columns s kind packets
-behind_columns_by s Reading = refl
-behind_columns_by s Cancelling = refl
-behind_columns_by s (Broken fault) = refl
+behind_columns_by s t = refl
 
 pub behind_columns : (s : ClientSession) → (session_behind (cancelled s) s).columns ≡ s.columns
 behind_columns s = behind_columns_by s s.stage
@@ -210,11 +204,8 @@ kept_seat ticket n holder cs c is known =
 
 -- Its client is idle, so it is free once it is abandoned.
 unbroken_idle : (s : Stage) → is_idle s ≡ true → is_broken s ≡ false
-unbroken_idle Idle e = refl
-unbroken_idle (Sending kind left packets) e = refl
-unbroken_idle Reading e = refl
-unbroken_idle Cancelling e = refl
 unbroken_idle (Broken fault) e = absurd (cc)
+unbroken_idle s e = refl
 
 pub kept_rests : (ticket : Ticket) (n holder : ℕ) (cs : List Connection) (c : Connection) → ticket.number ≡ n → kept_for ticket cs ≡ Some c → is_idle c.client.stage ≡ true
     → (seat_by holder (numbered n (abandoned ticket cs).connections) ≡ placed_at PlayFree (seat_by holder (Some c))) × (rests_in (abandoned ticket cs).answer ≡ true)

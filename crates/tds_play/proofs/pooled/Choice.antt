@@ -31,10 +31,7 @@ use Rattle.tds_play.proofs.pooled.Seated.{seated_same}
 
 idle_by : (p : Phase) (q : Record) → is_settled p ≡ true → stage_by p q ≡ Idle
 idle_by Settled q e = refl
-idle_by Asked q e = absurd (cc)
-idle_by Sending q e = absurd (cc)
-idle_by Reading q e = absurd (cc)
-idle_by Cancelling q e = absurd (cc)
+idle_by p q e = absurd (cc)
 
 idle_in : (o : Option Record) → is_settled (phase_in o) ≡ true → stage_in o ≡ Idle
 idle_in None e = refl
@@ -46,9 +43,7 @@ client_idle s c m idle = ap calls.is_idle (m.stage ∙ idle_in c.current idle)
 
 free_alike : (holder : ℕ) (p : PoolPlace) → is_free (In (place_by holder p)) ≡ calls.is_free p
 free_alike holder pooled.Leased = refl
-free_alike holder pooled.Kept = refl
-free_alike holder pooled.Free = refl
-free_alike holder pooled.Draining = refl
+free_alike holder p = refl
 
 -- The first free one of a list is idle, where the first of the list has this number.
 abbrev pub LowestIsIdle : ℕ → List Connection → Type 0

@@ -20,19 +20,9 @@ use Rattle.tds_play.proofs.pooled.Unseen.{as_long}
 
 pub one_of : (e : Event) → (e ≡ event.Lease → ⊥) → (e ≡ event.RestartServer → ⊥) → (e ≡ event.RestartClient → ⊥) → IsOfOne e
 one_of event.Lease lease server client = lease refl
-one_of (event.Resume ticket) lease server client = tt
-one_of (event.GiveBack n) lease server client = tt
-one_of (event.Keep n) lease server client = tt
-one_of (event.Abandon ticket) lease server client = tt
-one_of (event.Ask n q) lease server client = tt
-one_of (event.Send n) lease server client = tt
-one_of (event.Cancel n) lease server client = tt
-one_of (event.Work n) lease server client = tt
-one_of (event.ToServer n count) lease server client = tt
-one_of (event.ToClient n count) lease server client = tt
-one_of (event.Cut n) lease server client = tt
 one_of event.RestartServer lease server client = server refl
 one_of event.RestartClient lease server client = client refl
+one_of e lease server client = tt
 
 -- ---- All connections are cut
 

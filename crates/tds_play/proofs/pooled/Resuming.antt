@@ -162,10 +162,7 @@ pub record ResumesNot {E S : Type 0} (ticket : Ticket) (why : Refusal) (h k : He
 -- A client that is idle is so for the pool too.
 none_idle : (s : Stage) → unless_idle s ≡ None → calls.unless_idle s ≡ None
 none_idle Idle e = refl
-none_idle (Sending kind left packets) e = absurd (cc)
-none_idle Reading e = absurd (cc)
-none_idle Cancelling e = absurd (cc)
-none_idle (Broken fault) e = absurd (cc)
+none_idle s e = absurd (cc)
 
 pub unresumed_steps : {E S : Type 0} (answers : E → Answers) → RefinesIdle → (place number : ℕ) (old new : Player E S) (h k : Held E S) (ticket : Ticket) (why : Refusal) (pipes : ℕ → Option Pipe) (done : EventDone)
     → AreHeld old → slice_get old.links.items place ≡ Some h

@@ -25,10 +25,7 @@ use Rattle.tds_play.proofs.pooled.Changes.{SameBut, by_number, changed_here, cha
 
 unbroken_by : (p : Phase) (q : Record) → is_broken (stage_by p q) ≡ false
 unbroken_by Settled q = refl
-unbroken_by Asked q = refl
-unbroken_by PhaseSending q = refl
-unbroken_by PhaseReading q = refl
-unbroken_by PhaseCancelling q = refl
+unbroken_by p q = refl
 
 unbroken_in : (o : Option Record) → is_broken (stage_in o) ≡ false
 unbroken_in None = refl
@@ -41,10 +38,7 @@ unbroken s c m = ap is_broken m.stage ∙ unbroken_in c.current
 -- Both crates' words for a client that is idle.
 pub idle_alike : (s : Stage) → is_idle s ≡ is_none (unless_idle s)
 idle_alike Idle = refl
-idle_alike (Sending kind left packets) = refl
-idle_alike Reading = refl
-idle_alike Cancelling = refl
-idle_alike (Broken fault) = refl
+idle_alike s = refl
 
 -- ---- Where it rests
 
@@ -60,11 +54,8 @@ abbrev pub rest_returned : ℕ → Bool → List Connection → Returned
 rest_returned n idle pcs = record { answer = rest_answer idle n; connections = at_place n (rest_place idle) pcs }
 
 pub rested_is : (n : ℕ) (s : Stage) (pcs : List Connection) → is_broken s ≡ false → rested n (rests_at s) pcs ≡ rest_returned n (is_idle s) pcs
-rested_is n Idle pcs e = refl
-rested_is n (Sending kind left packets) pcs e = refl
-rested_is n Reading pcs e = refl
-rested_is n Cancelling pcs e = refl
 rested_is n (Broken fault) pcs e = absurd (cc)
+rested_is n s pcs e = refl
 
 -- What is found under a number has it.
 pub number_found : (n : ℕ) (pcs : List Connection) (c : Connection) → numbered n pcs ≡ Some c → c.number ≡ n

@@ -93,21 +93,8 @@ steps_lost answers e place old new pipes pipes' told still done s tied setup eng
 
 -- An outcome is a refusal, or not.
 by_outcome : (Q : Outcome → Type 0) (o : Outcome) → ((why : Refusal) → Q (outcome.Refused why)) → (((why : Refusal) → o ≡ outcome.Refused why → ⊥) → Q o) → Q o
-by_outcome Q (outcome.Leased lease conn opened) refused applied = applied (λ why z. cc)
-by_outcome Q (outcome.GivenBack what) refused applied = applied (λ why z. cc)
-by_outcome Q (outcome.Kept ticket) refused applied = applied (λ why z. cc)
-by_outcome Q (outcome.Abandoned what) refused applied = applied (λ why z. cc)
-by_outcome Q (outcome.Asked q) refused applied = applied (λ why z. cc)
-by_outcome Q (outcome.Sent what) refused applied = applied (λ why z. cc)
-by_outcome Q (outcome.Cancel what) refused applied = applied (λ why z. cc)
-by_outcome Q (outcome.Work what) refused applied = applied (λ why z. cc)
-by_outcome Q (outcome.ToServer k) refused applied = applied (λ why z. cc)
-by_outcome Q (outcome.ToClient k) refused applied = applied (λ why z. cc)
-by_outcome Q outcome.Cut refused applied = applied (λ why z. cc)
-by_outcome Q outcome.RestartedServer refused applied = applied (λ why z. cc)
-by_outcome Q outcome.RestartedClient refused applied = applied (λ why z. cc)
 by_outcome Q (outcome.Refused why) refused applied = refused why
-by_outcome Q (outcome.Fault end layer number) refused applied = applied (λ why z. cc)
+by_outcome Q o refused applied = applied (λ why z. cc)
 
 pub steps_refine : {E S : Type 0} (answers : E → Answers) (e : Event) (place : ℕ) (old new : Player E S) (pipes pipes' : ℕ → Option Pipe) (told still : Type 0) (done : EventDone) → StepsAt answers e place old new pipes pipes' told still done → (setup : Setup) (engine : E) (w : World) (c : Connection) → told → RepresentsWorld setup engine old pipes w → ModelGivesEach E (answers engine) setup w → IsFound setup (answers engine) w e place c → ((k : ℕ) → OfEachConnection IsCountable (happens setup (answers engine) (bringing k e) w).1) → RefinesEvent setup engine (answers engine) done new pipes' e w
 steps_refine {E} {S} answers e place old new pipes pipes' told still done s setup engine w c tells is promised found countable =

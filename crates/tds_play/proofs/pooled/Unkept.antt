@@ -26,10 +26,7 @@ by_mark descriptor (Some KeepTransaction) = plain_mark (eqb descriptor 0)
 
 by_stage : (s : ClientSession) (stage : Stage) → option_map keeps_not (unless_open s stage) ≡ unless_kept_by (is_none (unless_idle stage)) (eqb s.heard.descriptor 0 || is_full s.heard.mark)
 by_stage s Idle = by_mark s.heard.descriptor s.heard.mark
-by_stage s (Sending kind left packets) = refl
-by_stage s Reading = refl
-by_stage s Cancelling = refl
-by_stage s (Broken fault) = refl
+by_stage s stage = refl
 
 pub unkept_alike : (s : ClientSession) → option_map keeps_not (unless_open s s.stage) ≡ unless_kept s
 unkept_alike s = by_stage s s.stage

@@ -20,9 +20,10 @@ use Rattle.tds_ends.specs.ModelGives.{IsCountable, ModelGives}
 use Rattle.tds_play.specs.Failures.{LiveAreSound}
 use Rattle.tds_play.proofs.Accounts.{told_none}
 use Rattle.tds_play.proofs.Marking.{told_in_the_end, told_one_more, unfailing_in_the_end}
-use Rattle.tds_play.proofs.Turns.{brought_known, known_so_far, countable_then, of_play, of_play_then, one_event_more, in_the_end, none_tied, so_many, world_is}
+use Rattle.tds_play.proofs.Turns.{known_so_far, countable_then, of_play, of_play_then, one_event_more, in_the_end, none_tied, so_many, world_is}
 use Rattle.std.proofs.Common.{List, refl}
 use Rattle.tds_world.specs.declared.report.EventReport.{EventReport}
+use Rattle.tds_world.proofs.plays.Worlds.{bringing_is}
 use Rattle.tds_play.specs.Reads.{AllRead}
 use Rattle.tds_play.proofs.any_bytes.Answered.{answers_of, none_read, read_more}
 use Rattle.tds_play.proofs.any_bytes.Given.{read_in_the_end}
@@ -102,7 +103,7 @@ events-preserved g c =
           let countable : (k : ℕ) → OfEachConnection IsCountable (happens setup answers (bringing k c.event-item.result) w).1 = (λ k.
           countable_then g.row.E.Denot setup answers (happens setup answers (bringing k c.event-item.result) w).1
           (of_play_then (OfEachConnection (ModelGives g.row.E.Denot answers setup.packet_size)) 20000 setup answers (take i es) rs (bringing k c.event-item.result) so_far inv.known
-          (brought_known k c.event-item.result c.known.ensures) (λ fs all few. c.worlds_hold.ensures.each setup fs is all few))) in
+          (bringing_is k c.event-item.result c.known.ensures) (λ fs all few. c.worlds_hold.ensures.each setup fs is all few))) in
           one_event_more setup answers engine es i c.event-item.result c.events.player c.happen.new.self _ _ rs _ c.in_ok-done.done c.new.result
           c.events-test.true c.event-item.is inv.count (said.refines setup engine w (inv.tells tells) far.play before countable)
           (c.new.ensures ∙ c.in_ok-snapshots.ensures) c.in_ok-push.ensures.items far;

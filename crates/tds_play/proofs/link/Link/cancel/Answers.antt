@@ -7,12 +7,12 @@ use Rattle.tds_play.specs.Pipe.{Pipe}
 use Rattle.tds_play.specs.Plays.{RepresentsConnection}
 use Rattle.tds_play.specs.Seats.{seated}
 use Rattle.tds_play.proofs.Cancelled.{cancelled_played}
-use Rattle.tds_play.proofs.Doing.{does_so, ended, ok_so}
-use Rattle.tds_play.proofs.Outward.{given_up}
+use Rattle.tds_play.proofs.Doing.{ends_so, ok_so}
+use Rattle.tds_play.proofs.Outward.{given}
 use Rattle.tds_play.specs.Failures.{Send}
 use Rattle.tds_packet.specs.declared.kind.Direction.TheVariants.{ToServer}
 use Rattle.tds_play.proofs.Failing.{sent_as}
-use Rattle.tds_play.proofs.any_bytes.Stays.{stays_numbered, stays_twice}
+use Rattle.tds_play.proofs.any_bytes.Stays.{stays_handed}
 use Rattle.tds_play.proofs.link.Link.cancel.Goals as goal
 
 pub returns-clause-refines : goal.returns-clause-refines
@@ -24,16 +24,14 @@ returns-clause-refines g c = λ size engine p d played few.
     let a = c.cancels_alike.ensures c.args.client.now d (played.lives c.requires.live).stands.client in
     let does = ok_so (client.cancelled c.args.client.now) a.0 _ a.1 put.cancelled in
     let bytes = c.as_slice.ensures.value ∙ does.3 ∙ ap (λ (xs : List ℕ). xs ++ a.0.bytes) c.new-out.ensures.items in
-    let handed = given_up conn c.cancel_request.new.self c.hand_over.new.self old (g.C.Carrier.pipes c.hand_over.new.carrier) c.as_slice.result.now c.in_ok-lost.lost
+    let handed = given ToServer conn c.cancel_request.new.self c.hand_over.new.self old (g.C.Carrier.pipes c.hand_over.new.carrier) c.as_slice.result.now c.in_ok-lost.lost
     put.number (c.requires.tied.holds c.requires.live).is_open
     (λ e. let h = out.nothing e in (h.1, ap g.C.Carrier.pipes h.2)) out.handed out.counted in
-    does_so conn size engine c.end.result _ c.in_ok-lost.lost c.end.new.self (seated p c.cancel_request.new.client) (g.C.Carrier.pipes c.end.new.carrier conn) _ d c.end.ensures.done
-    (ap outcome.Cancel (does.0 ∙ sym a.2))
-    (ended conn c.hand_over.new.self.number size engine c.hand_over.new.self c.end.new.self (seated p c.cancel_request.new.client) (g.C.Carrier.pipes c.hand_over.new.carrier) (g.C.Carrier.pipes c.end.new.carrier) c.in_ok-lost.lost _
-    (out.number ∙ put.number) (c.end.ensures.refines size engine (seated p c.cancel_request.new.client) _)
+    ends_so conn c.hand_over.new.self.number size engine c.end.result _ c.in_ok-lost.lost c.hand_over.new.self c.end.new.self (seated p c.cancel_request.new.client) (g.C.Carrier.pipes c.hand_over.new.carrier) (g.C.Carrier.pipes c.end.new.carrier) _ d
+    (out.number ∙ put.number) c.end.ensures.done (ap outcome.Cancel (does.0 ∙ sym a.2)) (c.end.ensures.refines size engine (seated p c.cancel_request.new.client))
     (subst (λ (s : ClientSession). RepresentsConnection conn size engine c.hand_over.new.self (seated p s) (g.C.Carrier.pipes c.hand_over.new.carrier conn) (cancels d)) (sym does.1)
     (cancelled_played (record { appends = c.sends_append.ensures.to_server; tells = c.phases_tell.ensures; stays = c.the_other_stays.ensures.cancels; unseen = c.pool_is_unseen.ensures }) conn size engine c.args.self.now c.cancel_request.new.self c.hand_over.new.self (seated p c.args.client.now) (old conn) (g.C.Carrier.pipes c.hand_over.new.carrier conn) d c.as_slice.result.now
-    played c.requires.live a does.2 bytes few handed)))
+    played c.requires.live a does.2 bytes few handed))
 
 pub returns-clause-failed : goal.returns-clause-failed
 returns-clause-failed g c =
@@ -44,13 +42,7 @@ returns-clause-failed g c =
 
 pub returns-clause-still : goal.returns-clause-still
 returns-clause-still g c =
-    let conn : ℕ = c.args.self.now.number in
-    let pipe : Option Pipe = g.C.Carrier.pipes c.args.carrier.now conn in
-    let put = c.in_ok-cancelled.ensures in
     let out = c.in_ok-lost.ensures in
-    let first = put.still pipe in
-    let number = put.number in
-    let handed = stays_numbered c.cancel_request.new.self.number conn c.cancel_request.new.self c.hand_over.new.self (g.C.Carrier.pipes c.args.carrier.now) (g.C.Carrier.pipes c.hand_over.new.carrier) number out.still in
-    let ended = stays_numbered c.hand_over.new.self.number conn c.hand_over.new.self c.end.new.self (g.C.Carrier.pipes c.hand_over.new.carrier) (g.C.Carrier.pipes c.end.new.carrier) (out.number ∙ number) c.end.ensures.still in
-    stays_twice c.args.self.now c.cancel_request.new.self c.end.new.self pipe pipe (g.C.Carrier.pipes c.end.new.carrier conn) first
-    (stays_twice c.cancel_request.new.self c.hand_over.new.self c.end.new.self pipe (g.C.Carrier.pipes c.hand_over.new.carrier conn) (g.C.Carrier.pipes c.end.new.carrier conn) handed ended)
+    stays_handed c.args.self.now.number c.cancel_request.new.self.number c.hand_over.new.self.number c.args.self.now c.cancel_request.new.self c.hand_over.new.self c.end.new.self
+    (g.C.Carrier.pipes c.args.carrier.now) (g.C.Carrier.pipes c.hand_over.new.carrier) (g.C.Carrier.pipes c.end.new.carrier)
+    c.in_ok-cancelled.ensures.number out.number (c.in_ok-cancelled.ensures.still _) out.still c.end.ensures.still

@@ -19,7 +19,7 @@ use Rattle.tds_ends.specs.AllBytes.{ServerHasRead, new_reader}
 use Rattle.tds_play.specs.declared.link.EventDone.{EventDone}
 use Rattle.tds_play.specs.Reads.{ServerIsFed, given_by}
 use Rattle.tds_play.proofs.any_bytes.Brought.{faulty_served, fed_so, served_reads}
-use Rattle.tds_play.proofs.any_bytes.Stays.{stays_numbered, stays_twice}
+use Rattle.tds_play.proofs.any_bytes.Stays.{stays, stays_handed, stays_numbered}
 use Rattle.tds_play.proofs.link.Link.deliver_to_server.Goals as goal
 
 -- The server takes all that came, so it finds no fault.
@@ -132,12 +132,12 @@ returns-in-None-clause-reads g c = λ size n columns reads.
     let fed = fed_so c.feed_server.result c.in_ok-feed_server.field-0 None (ServerIsFed size c.feed_server.new.reader ((traffic pipe ToServer).came ++ c.as_slice-piece.result.now))
     c.in_ok-feed_server.was c.in-None.is
     (c.feed_server.ensures.any size (traffic pipe ToServer).came before) in
-    let handed = stays_numbered c.carry.new.self.number conn turned c.hand_over.new.self (g.C.Carrier.pipes c.carry.new.carrier) (g.C.Carrier.pipes c.hand_over.new.carrier) number c.in_ok-lost-in-None.ensures.still in
-    let ended = stays_numbered c.hand_over.new.self.number conn c.hand_over.new.self c.end.new.self (g.C.Carrier.pipes c.hand_over.new.carrier) (g.C.Carrier.pipes c.end.new.carrier) (c.in_ok-lost-in-None.ensures.number ∙ number) c.end.ensures.still in
     served_reads size n c.args.most c.in_ok-carried.carried.count c.args.self.now turned c.end.new.self columns pipe mid (g.C.Carrier.pipes c.end.new.carrier conn) c.new-piece.result.items c.carry.new.out.items c.as_slice-piece.result.now c.end.result.outcome
     reads live b piece (ap (λ l. l.client_reader) counted) (ap given_by counted)
     fed (c.no_fault_is_read.ensures (new_reader ToServer size) c.feed_server.new.reader _ fed.0 fed.1)
-    (stays_twice turned c.hand_over.new.self c.end.new.self mid (g.C.Carrier.pipes c.hand_over.new.carrier conn) (g.C.Carrier.pipes c.end.new.carrier conn) handed ended)
+    (stays_handed conn c.carry.new.self.number c.hand_over.new.self.number turned turned c.hand_over.new.self c.end.new.self
+    (g.C.Carrier.pipes c.carry.new.carrier) (g.C.Carrier.pipes c.hand_over.new.carrier) (g.C.Carrier.pipes c.end.new.carrier)
+    number c.in_ok-lost-in-None.ensures.number (stays turned mid) c.in_ok-lost-in-None.ensures.still c.end.ensures.still)
     (ap (λ (d : EventDone). d.outcome) c.end.ensures.done)
 
 pub returns-clause-reads : goal.returns-clause-reads

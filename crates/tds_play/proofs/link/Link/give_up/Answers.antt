@@ -10,7 +10,7 @@ use Rattle.tds_play.specs.Seats.{seated}
 use Rattle.tds_play.specs.Pipe.{Pipe}
 use Rattle.tds_play.proofs.Cancelled.{back_played}
 use Rattle.tds_play.proofs.Doing.{ok_so}
-use Rattle.tds_play.proofs.Outward.{given_up}
+use Rattle.tds_play.proofs.Outward.{given}
 use Rattle.tds_play.specs.Failures.{Send}
 use Rattle.tds_packet.specs.declared.kind.Direction.TheVariants.{ToServer}
 use Rattle.tds_play.proofs.Failing.{sent_so}
@@ -28,7 +28,7 @@ returns-clause-refines g c = λ size engine p d played few.
     let does = ok_so (client.cancelled c.args.client.now) a.0 _ a.1 put.cancelled in
     let bytes = c.as_slice.ensures.value ∙ does.3 ∙ ap (λ (xs : List ℕ). xs ++ a.0.bytes) c.new-out.ensures.items in
     let waits : idle ≡ is_none (unless_idle a.0.session.stage) = ap (λ s. is_none (unless_idle s.stage)) does.1 in
-    let handed = given_up conn c.cancel_request.new.self c.hand_over.new.self old (g.C.Carrier.pipes c.hand_over.new.carrier) c.as_slice.result.now c.in_ok-lost.lost
+    let handed = given ToServer conn c.cancel_request.new.self c.hand_over.new.self old (g.C.Carrier.pipes c.hand_over.new.carrier) c.as_slice.result.now c.in_ok-lost.lost
     put.number (c.requires.tied.holds c.requires.live).is_open
     (λ e. let h = out.nothing e in (h.1, ap g.C.Carrier.pipes h.2)) out.handed out.counted in
     let then = back_played (record { appends = c.sends_append.ensures.to_server; tells = c.phases_tell.ensures; stays = c.the_other_stays.ensures.cancels; unseen = c.pool_is_unseen.ensures }) c.idle_alike.ensures conn size engine c.args.self.now c.cancel_request.new.self c.hand_over.new.self (seated p c.args.client.now) idle (old conn) (g.C.Carrier.pipes c.hand_over.new.carrier conn) d c.as_slice.result.now

@@ -7,13 +7,13 @@ use Rattle.tds_play.specs.Plays.{RepresentsConnection, after}
 use Rattle.tds_world.specs.Connection.{Connection, phase}
 use Rattle.tds_world.specs.Events.{sends_in}
 use Rattle.tds_play.specs.Seats.{seated}
-use Rattle.tds_play.proofs.Doing.{does_so, ended, ok_so, some_is, some_told}
-use Rattle.tds_play.proofs.Outward.{given_up}
+use Rattle.tds_play.proofs.Doing.{does_so, ends_so, ok_so, some_is, some_told}
+use Rattle.tds_play.proofs.Outward.{given}
 use Rattle.tds_play.proofs.Sent.{packet_played, packet_refused, none_sent, some_sent}
 use Rattle.tds_play.specs.Failures.{Send}
 use Rattle.tds_packet.specs.declared.kind.Direction.TheVariants.{ToServer}
 use Rattle.tds_play.proofs.Failing.{sent_as, whole_as}
-use Rattle.tds_play.proofs.any_bytes.Stays.{stays_numbered, stays_twice}
+use Rattle.tds_play.proofs.any_bytes.Stays.{stays, stays_handed}
 use Rattle.tds_play.proofs.link.Link.send.Goals as goal
 
 pub returns-clause-refines : goal.returns-clause-refines
@@ -25,19 +25,16 @@ returns-clause-refines g c = λ size engine p d played few.
     let does = some_sent (sent c.args.client.now) (λ e. some_told c.in-Some.sent c.in_ok-sent.field-0 (Ok c.in_ok-sent.field-0) c.in-Some.is refl (put.refused e).0) in
     let sends = ok_so (sent c.args.client.now) does.0 _ does.1 put.sent in
     let bytes = c.as_slice.ensures.value ∙ sends.2 ∙ ap (λ (xs : List ℕ). xs ++ does.0.bytes) c.new-out.ensures.items in
-    let handed = given_up conn c.args.self.now c.hand_over.new.self old (g.C.Carrier.pipes c.hand_over.new.carrier) c.as_slice.result.now c.in_ok-lost.lost
+    let handed = given ToServer conn c.args.self.now c.hand_over.new.self old (g.C.Carrier.pipes c.hand_over.new.carrier) c.as_slice.result.now c.in_ok-lost.lost
     refl (c.requires.tied.holds c.requires.live).is_open
     (λ e. let h = out.nothing e in (h.1, ap g.C.Carrier.pipes h.2)) out.handed out.counted in
     let live = played.lives c.requires.live in
     let goes = c.sends_alike.ensures c.args.client.now d live.stands.client in
     let then = packet_played c.sends_append.ensures.to_server c.phases_tell.ensures conn size engine c.args.self.now c.args.self.now c.hand_over.new.self (seated p c.args.client.now) (old conn) (g.C.Carrier.pipes c.hand_over.new.carrier conn) d c.as_slice.result.now does.0
     played c.requires.live goes (λ q is. c.the_other_stays.ensures.sends (size - 8) c.args.self.now.server d q is live.stands.server) does.1 few refl bytes handed in
-    let then_is : Connection = after (sends_in (phase d) (size - 8) d.current d) d in
-    does_so conn size engine c.end.result _ c.in_ok-lost.lost c.end.new.self (seated p c.put_next.new.client) (g.C.Carrier.pipes c.end.new.carrier conn) _ d c.end.ensures.done
-    (ap outcome.Sent (some_is c.in-Some.sent _ c.in_ok-sent.field-0 c.in-Some.is sends.0) ∙ then.0)
-    (ended conn c.hand_over.new.self.number size engine c.hand_over.new.self c.end.new.self (seated p c.put_next.new.client) (g.C.Carrier.pipes c.hand_over.new.carrier) (g.C.Carrier.pipes c.end.new.carrier) c.in_ok-lost.lost then_is
-    out.number (c.end.ensures.refines size engine (seated p c.put_next.new.client) then_is)
-    (subst (λ (s : ClientSession). RepresentsConnection conn size engine c.hand_over.new.self (seated p s) (g.C.Carrier.pipes c.hand_over.new.carrier conn) then_is) (sym sends.1) then.1))
+    ends_so conn c.hand_over.new.self.number size engine c.end.result _ c.in_ok-lost.lost c.hand_over.new.self c.end.new.self (seated p c.put_next.new.client) (g.C.Carrier.pipes c.hand_over.new.carrier) (g.C.Carrier.pipes c.end.new.carrier) _ d
+    out.number c.end.ensures.done (ap outcome.Sent (some_is c.in-Some.sent _ c.in_ok-sent.field-0 c.in-Some.is sends.0) ∙ then.0) (c.end.ensures.refines size engine (seated p c.put_next.new.client))
+    (subst (λ (s : ClientSession). RepresentsConnection conn size engine c.hand_over.new.self (seated p s) (g.C.Carrier.pipes c.hand_over.new.carrier conn) (after (sends_in (phase d) (size - 8) d.current d) d)) (sym sends.1) then.1)
 
 pub returns-in_default-clause-refines : goal.returns-in_default-clause-refines
 returns-in_default-clause-refines g c = λ size engine p d played few.
@@ -59,8 +56,7 @@ returns-in_default-clause-failed g c = whole_as (Send ToServer ∷ []) c.refused
 
 pub returns-clause-still : goal.returns-clause-still
 returns-clause-still g c =
-    let conn : ℕ = c.args.self.now.number in
-    let pipe : Option Pipe = g.C.Carrier.pipes c.args.carrier.now conn in
     let out = c.in_ok-lost.ensures in
-    let ended = stays_numbered c.hand_over.new.self.number conn c.hand_over.new.self c.end.new.self (g.C.Carrier.pipes c.hand_over.new.carrier) (g.C.Carrier.pipes c.end.new.carrier) out.number c.end.ensures.still in
-    stays_twice c.args.self.now c.hand_over.new.self c.end.new.self pipe (g.C.Carrier.pipes c.hand_over.new.carrier conn) (g.C.Carrier.pipes c.end.new.carrier conn) out.still ended
+    stays_handed c.args.self.now.number c.args.self.now.number c.hand_over.new.self.number c.args.self.now c.args.self.now c.hand_over.new.self c.end.new.self
+    (g.C.Carrier.pipes c.args.carrier.now) (g.C.Carrier.pipes c.hand_over.new.carrier) (g.C.Carrier.pipes c.end.new.carrier)
+    refl out.number (stays c.args.self.now (g.C.Carrier.pipes c.args.carrier.now c.args.self.now.number)) out.still c.end.ensures.still

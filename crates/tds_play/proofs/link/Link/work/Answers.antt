@@ -2,13 +2,13 @@ use Rattle.std.proofs.Common.{false, [], ◌∷◌, ◌∙◌, ◌++◌, ℕ, Li
 use Rattle.tds_server.specs.Working.{worked}
 use Rattle.tds_world.specs.declared.outcome.Outcome.TheVariants as outcome
 use Rattle.tds_play.specs.Pipe.{Pipe}
-use Rattle.tds_play.proofs.Doing.{does_so, ended}
-use Rattle.tds_play.proofs.Outward.{given_down}
+use Rattle.tds_play.proofs.Doing.{ends_so}
+use Rattle.tds_play.proofs.Outward.{given}
 use Rattle.tds_play.proofs.Worked.{worked_played}
 use Rattle.tds_play.specs.Failures.{Send}
 use Rattle.tds_packet.specs.declared.kind.Direction.TheVariants.{ToClient}
 use Rattle.tds_play.proofs.Failing.{sent_as}
-use Rattle.tds_play.proofs.any_bytes.Stays.{stays_numbered, stays_twice}
+use Rattle.tds_play.proofs.any_bytes.Stays.{stays_handed}
 use Rattle.tds_play.proofs.link.Link.work.Goals as goal
 
 pub returns-clause-refines : goal.returns-clause-refines
@@ -19,16 +19,14 @@ returns-clause-refines g c = λ size engine seat d played ends newest past few.
     let step = c.in_ok-outcome.ensures in
     let out = c.in_ok-lost.ensures in
     let bytes = c.as_slice.ensures.value ∙ step.bytes ∙ ap (λ (xs : List ℕ). xs ++ w.packet) c.new-out.ensures.items in
-    let handed = given_down conn c.put_step.new.self c.hand_over.new.self old (g.C.Carrier.pipes c.hand_over.new.carrier) c.as_slice.result.now c.in_ok-lost.lost
+    let handed = given ToClient conn c.put_step.new.self c.hand_over.new.self old (g.C.Carrier.pipes c.hand_over.new.carrier) c.as_slice.result.now c.in_ok-lost.lost
     step.number (c.requires.tied.holds c.requires.live).is_open
     (λ e. let h = out.nothing e in (h.1, ap g.C.Carrier.pipes h.2)) out.handed out.counted in
     let stands = (played.lives c.requires.live).stands in
     let then = worked_played c.sends_append.ensures.to_client conn size engine c.args.self.now c.put_step.new.self c.hand_over.new.self seat (old conn) (g.C.Carrier.pipes c.hand_over.new.carrier conn) d c.as_slice.result.now
     played c.requires.live (c.works_alike.ensures c.args.self.now.server d stands.server ends) (c.the_other_stays.ensures.works seat.client d stands.client) newest past few step.value bytes handed in
-    does_so conn size engine c.end.result _ c.in_ok-lost.lost c.end.new.self seat (g.C.Carrier.pipes c.end.new.carrier conn) _ d c.end.ensures.done
-    (ap outcome.Work (step.outcome ∙ then.0))
-    (ended conn c.hand_over.new.self.number size engine c.hand_over.new.self c.end.new.self seat (g.C.Carrier.pipes c.hand_over.new.carrier) (g.C.Carrier.pipes c.end.new.carrier) c.in_ok-lost.lost _
-    (out.number ∙ step.number) (c.end.ensures.refines size engine seat _) then.1)
+    ends_so conn c.hand_over.new.self.number size engine c.end.result _ c.in_ok-lost.lost c.hand_over.new.self c.end.new.self seat (g.C.Carrier.pipes c.hand_over.new.carrier) (g.C.Carrier.pipes c.end.new.carrier) _ d
+    (out.number ∙ step.number) c.end.ensures.done (ap outcome.Work (step.outcome ∙ then.0)) (c.end.ensures.refines size engine seat) then.1
 
 pub returns-clause-failed : goal.returns-clause-failed
 returns-clause-failed g c =
@@ -39,13 +37,7 @@ returns-clause-failed g c =
 
 pub returns-clause-still : goal.returns-clause-still
 returns-clause-still g c =
-    let conn : ℕ = c.args.self.now.number in
-    let pipe : Option Pipe = g.C.Carrier.pipes c.args.carrier.now conn in
-    let put = c.in_ok-outcome.ensures in
     let out = c.in_ok-lost.ensures in
-    let first = put.still pipe in
-    let number = put.number in
-    let handed = stays_numbered c.put_step.new.self.number conn c.put_step.new.self c.hand_over.new.self (g.C.Carrier.pipes c.args.carrier.now) (g.C.Carrier.pipes c.hand_over.new.carrier) number out.still in
-    let ended = stays_numbered c.hand_over.new.self.number conn c.hand_over.new.self c.end.new.self (g.C.Carrier.pipes c.hand_over.new.carrier) (g.C.Carrier.pipes c.end.new.carrier) (out.number ∙ number) c.end.ensures.still in
-    stays_twice c.args.self.now c.put_step.new.self c.end.new.self pipe pipe (g.C.Carrier.pipes c.end.new.carrier conn) first
-    (stays_twice c.put_step.new.self c.hand_over.new.self c.end.new.self pipe (g.C.Carrier.pipes c.hand_over.new.carrier conn) (g.C.Carrier.pipes c.end.new.carrier conn) handed ended)
+    stays_handed c.args.self.now.number c.put_step.new.self.number c.hand_over.new.self.number c.args.self.now c.put_step.new.self c.hand_over.new.self c.end.new.self
+    (g.C.Carrier.pipes c.args.carrier.now) (g.C.Carrier.pipes c.hand_over.new.carrier) (g.C.Carrier.pipes c.end.new.carrier)
+    c.in_ok-outcome.ensures.number out.number (c.in_ok-outcome.ensures.still _) out.still c.end.ensures.still

@@ -8,35 +8,22 @@ use Rattle.tds_play.specs.Plays.{RefinesAct, acts_on, loss_of}
 use Rattle.tds_play.specs.Pooled.{seat_in}
 use Rattle.tds_play.specs.declared.seat.Held.{Held}
 use Rattle.tds_play.proofs.Failing.{whole_as}
-use Rattle.tds_play.proofs.pooled.Acted.{there_at}
+use Rattle.tds_play.proofs.pooled.There.{stands_there}
 use Rattle.tds_play.proofs.pooled.Ending.{kept_there, met_abandoned, spared_others, ticket_ends, ticket_ends_few, ticket_ends_noted}
-use Rattle.tds_play.proofs.pooled.Unseen.{number_at, read_at, slot_of, tied_at, touched_steps}
+use Rattle.tds_play.proofs.pooled.Unseen.{slot_of, touched_steps}
 use Rattle.tds_play.proofs.player.Player.abandon.Goals as goal
 
-pub abandon-requires-clause-tied : goal.abandon-requires-clause-tied
-abandon-requires-clause-tied g c =
+pub abandon-requires : goal.abandon-requires
+abandon-requires g c =
     let old = c.args.self.now in
-    tied_at old c.args.place c.index_mut.result.now (g.C.Carrier.pipes c.args.carrier.now) c.requires.tied (read_at old.links.items c.args.place c.index_mut.result.now c.requires.there c.index_mut.ensures.value)
-
-pub abandon-requires-clause-there : goal.abandon-requires-clause-there
-abandon-requires-clause-there g c =
-    let old = c.args.self.now in
-    let at = read_at old.links.items c.args.place c.index_mut.result.now c.requires.there c.index_mut.ensures.value in
-    there_at old.max old.size c.args.place old.links.items c.index_mut.result.now old.pool c.requires.held.pooled at (number_at old c.args.place c.index_mut.result.now (g.C.Carrier.pipes c.args.carrier.now) c.requires.tied at)
-
-pub abandon-requires-clause-named : goal.abandon-requires-clause-named
-abandon-requires-clause-named g c =
-    let old = c.args.self.now in
-    let at = read_at old.links.items c.args.place c.index_mut.result.now c.requires.there c.index_mut.ensures.value in
-    (slot_of (λ (t : Ticket). t.number) old.tickets c.args.number (suc c.args.place) c.in-Some.ticket c.requires.kept c.in-Some.ensures.taken).conn_is
-    ∙ sym (number_at old c.args.place c.index_mut.result.now (g.C.Carrier.pipes c.args.carrier.now) c.requires.tied at)
-
-pub abandon-requires-clause-known : goal.abandon-requires-clause-known
-abandon-requires-clause-known g c =
-    let old = c.args.self.now in
-    let at = read_at old.links.items c.args.place c.index_mut.result.now c.requires.there c.index_mut.ensures.value in
-    kept_there old c.args.place c.args.number c.in-Some.ticket c.index_mut.result.now c.requires.held at
-    (slot_of (λ (t : Ticket). t.number) old.tickets c.args.number (suc c.args.place) c.in-Some.ticket c.requires.kept c.in-Some.ensures.taken)
+    let stands = stands_there old c.args.place c.index_mut.result.now (g.C.Carrier.pipes c.args.carrier.now) c.requires.tied c.requires.held c.requires.there c.index_mut.ensures.value in
+    let slot = slot_of (λ (t : Ticket). t.number) old.tickets c.args.number (suc c.args.place) c.in-Some.ticket c.requires.kept c.in-Some.ensures.taken in
+    record {
+      tied = stands.tied;
+      there = stands.there;
+      named = slot.conn_is ∙ sym stands.number;
+      known = kept_there old c.args.place c.args.number c.in-Some.ticket c.index_mut.result.now c.requires.held stands.at slot;
+    }
 
 pub returns : goal.returns
 returns g c =
@@ -45,12 +32,11 @@ returns g c =
     let k = c.abandon.new.self in
     let said = c.abandon.ensures in
     let pipes = g.C.Carrier.pipes in
-    let at = read_at old.links.items c.args.place h c.requires.there c.index_mut.ensures.value in
-    let number = number_at old c.args.place h (pipes c.args.carrier.now) c.requires.tied at in
+    let stands = stands_there old c.args.place h (pipes c.args.carrier.now) c.requires.tied c.requires.held c.requires.there c.index_mut.ensures.value in
     let slot = slot_of (λ (t : Ticket). t.number) old.tickets c.args.number (suc c.args.place) c.in-Some.ticket c.requires.kept c.in-Some.ensures.taken in
-    touched_steps (λ x. answer_of (g.E.Engine.statements_of x) (g.E.Engine.step_of x)) (event.Abandon c.args.number) c.args.place old _ h k (pipes c.args.carrier.now) (pipes c.abandon.new.carrier) _ _ c.abandon.result c.requires.tied at said.number refl
-    (spared_others c.args.place h k old.pool c.abandon.new.pool number said.pool)
-    (ticket_ends c.args.place c.args.number old _ h k c.in-Some.ticket c.requires.held at number said.number slot said.pool said.there
+    touched_steps (λ x. answer_of (g.E.Engine.statements_of x) (g.E.Engine.step_of x)) (event.Abandon c.args.number) c.args.place old _ h k (pipes c.args.carrier.now) (pipes c.abandon.new.carrier) _ _ c.abandon.result c.requires.tied stands.at said.number refl
+    (spared_others c.args.place h k old.pool c.abandon.new.pool stands.number said.pool)
+    (ticket_ends c.args.place c.args.number old _ h k c.in-Some.ticket c.requires.held stands.at stands.number said.number slot said.pool said.there
     (λ cut. ap (λ (x : Held g.row.E.Denot g.row.E-Stmt.Denot). x.link.is_cut) (said.gone cut).1 ∙ cut) refl refl c.in-Some.ensures.left (record { engine_is = refl; max_is = refl; size_is = refl; told_is = refl }))
     (said.ties)
     (λ fine. whole_as (calls_of (event.Abandon c.args.number)) c.abandon.result k.link (pipes c.abandon.new.carrier h.link.number) said.whole (λ call. said.failed call ∙ fine call))

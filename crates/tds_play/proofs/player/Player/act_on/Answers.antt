@@ -8,21 +8,20 @@ use Rattle.tds_play.specs.Pooled.{ChangesOne, seat_in}
 use Rattle.tds_play.specs.Reads.{ReadsOn}
 use Rattle.tds_play.specs.declared.player.Player.{Player}
 use Rattle.tds_play.specs.declared.seat.Held.{Held}
-use Rattle.tds_play.proofs.pooled.Acted.{there_at}
+use Rattle.tds_play.proofs.pooled.There.{stands_there}
 use Rattle.tds_play.proofs.pooled.Noting.{acts_few, acts_held}
-use Rattle.tds_play.proofs.pooled.Unseen.{number_at, read_at, tied_at, touched_steps}
+use Rattle.tds_play.proofs.pooled.Unseen.{touched_steps}
 use Rattle.tds_play.proofs.player.Player.act_on.Goals as goal
 
-pub act-requires-clause-tied : goal.act-requires-clause-tied
-act-requires-clause-tied g c =
+pub act-requires : goal.act-requires
+act-requires g c =
     let old = c.args.self.now in
-    tied_at old c.args.place c.index_mut.result.now (g.C.Carrier.pipes c.args.carrier.now) c.requires.tied (read_at old.links.items c.args.place c.index_mut.result.now c.requires.there c.index_mut.ensures.value)
-
-pub act-requires-clause-there : goal.act-requires-clause-there
-act-requires-clause-there g c =
-    let old = c.args.self.now in
-    let at = read_at old.links.items c.args.place c.index_mut.result.now c.requires.there c.index_mut.ensures.value in
-    there_at old.max old.size c.args.place old.links.items c.index_mut.result.now old.pool c.requires.held.pooled at (number_at old c.args.place c.index_mut.result.now (g.C.Carrier.pipes c.args.carrier.now) c.requires.tied at)
+    let stands = stands_there old c.args.place c.index_mut.result.now (g.C.Carrier.pipes c.args.carrier.now) c.requires.tied c.requires.held c.requires.there c.index_mut.ensures.value in
+    record {
+      tied = stands.tied;
+      there = stands.there;
+      ends = c.requires.ends;
+    }
 
 pub returns : goal.returns
 returns g c =
@@ -35,15 +34,14 @@ returns g c =
     let noted = c.in_ok-note.ensures.noted in
     let rest = c.in_ok-note.ensures.rest in
     let pipes = g.C.Carrier.pipes in
-    let at = read_at old.links.items c.args.place h c.requires.there c.index_mut.ensures.value in
-    let number = number_at old c.args.place h (pipes c.args.carrier.now) c.requires.tied at in
+    let stands = stands_there old c.args.place h (pipes c.args.carrier.now) c.requires.tied c.requires.held c.requires.there c.index_mut.ensures.value in
     let pool : new.pool ≡ c.act.new.pool = ap (λ (p : Player g.row.E.Denot g.row.E-Stmt.Denot). p.pool) rest in
     let leases : new.leases ≡ old.leases = ap (λ (p : Player g.row.E.Denot g.row.E-Stmt.Denot). p.leases) rest in
     let tickets : new.tickets ≡ old.tickets = ap (λ (p : Player g.row.E.Denot g.row.E-Stmt.Denot). p.tickets) rest in
     let links = ap (λ (p : Player g.row.E.Denot g.row.E-Stmt.Denot). p.links.items) rest in
-    touched_steps (λ x. answer_of (g.E.Engine.statements_of x) (g.E.Engine.step_of x)) c.args.event.now c.args.place old new h k (pipes c.args.carrier.now) (pipes c.act.new.carrier) _ _ done c.requires.tied at said.number links
-    (λ m other. ap (λ (q : PoolState). numbered m (connections q)) pool ∙ said.pool.others m (λ is. other (is ∙ number)))
-    (acts_held c.args.place old new h k c.requires.held at number said.holder
+    touched_steps (λ x. answer_of (g.E.Engine.statements_of x) (g.E.Engine.step_of x)) c.args.event.now c.args.place old new h k (pipes c.args.carrier.now) (pipes c.act.new.carrier) _ _ done c.requires.tied stands.at said.number links
+    (λ m other. ap (λ (q : PoolState). numbered m (connections q)) pool ∙ said.pool.others m (λ is. other (is ∙ stands.number)))
+    (acts_held c.args.place old new h k c.requires.held stands.at stands.number said.holder
     (subst (λ (q : PoolState). ChangesOne h.link.number k.link.is_cut old.pool q) (sym pool) said.pool)
     (λ cut. ap (λ (x : Held g.row.E.Denot g.row.E-Stmt.Denot). x.link.is_cut) (said.gone cut).1 ∙ cut)
     links leases tickets (record {

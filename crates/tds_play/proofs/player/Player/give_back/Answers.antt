@@ -7,35 +7,22 @@ use Rattle.tds_play.specs.Plays.{RefinesAct, acts_on, loss_of}
 use Rattle.tds_play.specs.Pooled.{seat_in}
 use Rattle.tds_play.specs.declared.seat.Held.{Held}
 use Rattle.tds_world.specs.World.{numbered}
-use Rattle.tds_play.proofs.pooled.Acted.{there_at}
+use Rattle.tds_play.proofs.pooled.There.{stands_there}
 use Rattle.tds_play.proofs.pooled.Ending.{lent_there, met_back, spared_others, lease_ends, lease_ends_few, lease_ends_noted, taken_slot}
-use Rattle.tds_play.proofs.pooled.Unseen.{number_at, read_at, slot_of, tied_at, touched_steps}
+use Rattle.tds_play.proofs.pooled.Unseen.{slot_of, touched_steps}
 use Rattle.tds_play.proofs.player.Player.give_back.Goals as goal
 
-pub give_back-requires-clause-tied : goal.give_back-requires-clause-tied
-give_back-requires-clause-tied g c =
+pub give_back-requires : goal.give_back-requires
+give_back-requires g c =
     let old = c.args.self.now in
-    tied_at old c.args.place c.index_mut.result.now (g.C.Carrier.pipes c.args.carrier.now) c.requires.tied (read_at old.links.items c.args.place c.index_mut.result.now c.requires.there c.index_mut.ensures.value)
-
-pub give_back-requires-clause-there : goal.give_back-requires-clause-there
-give_back-requires-clause-there g c =
-    let old = c.args.self.now in
-    let at = read_at old.links.items c.args.place c.index_mut.result.now c.requires.there c.index_mut.ensures.value in
-    there_at old.max old.size c.args.place old.links.items c.index_mut.result.now old.pool c.requires.held.pooled at (number_at old c.args.place c.index_mut.result.now (g.C.Carrier.pipes c.args.carrier.now) c.requires.tied at)
-
-pub give_back-requires-clause-named : goal.give_back-requires-clause-named
-give_back-requires-clause-named g c =
-    let old = c.args.self.now in
-    let at = read_at old.links.items c.args.place c.index_mut.result.now c.requires.there c.index_mut.ensures.value in
-    (slot_of (λ (l : Lease). l.number) old.leases c.args.number (suc c.args.place) c.in-Some.lease c.requires.lent c.in-Some.ensures.taken).conn_is
-    ∙ sym (number_at old c.args.place c.index_mut.result.now (g.C.Carrier.pipes c.args.carrier.now) c.requires.tied at)
-
-pub give_back-requires-clause-lent : goal.give_back-requires-clause-lent
-give_back-requires-clause-lent g c =
-    let old = c.args.self.now in
-    let at = read_at old.links.items c.args.place c.index_mut.result.now c.requires.there c.index_mut.ensures.value in
-    lent_there old c.args.place c.args.number c.in-Some.lease c.index_mut.result.now c.requires.held at
-    (slot_of (λ (l : Lease). l.number) old.leases c.args.number (suc c.args.place) c.in-Some.lease c.requires.lent c.in-Some.ensures.taken)
+    let stands = stands_there old c.args.place c.index_mut.result.now (g.C.Carrier.pipes c.args.carrier.now) c.requires.tied c.requires.held c.requires.there c.index_mut.ensures.value in
+    let slot = slot_of (λ (l : Lease). l.number) old.leases c.args.number (suc c.args.place) c.in-Some.lease c.requires.lent c.in-Some.ensures.taken in
+    record {
+      tied = stands.tied;
+      there = stands.there;
+      named = slot.conn_is ∙ sym stands.number;
+      lent = lent_there old c.args.place c.args.number c.in-Some.lease c.index_mut.result.now c.requires.held stands.at slot;
+    }
 
 pub put-requires : goal.put-requires
 put-requires g c =
@@ -51,12 +38,11 @@ returns-in-Ok g c =
     let done = c.in-Ok.done in
     let said = c.in-Ok.ensures in
     let pipes = g.C.Carrier.pipes in
-    let at = read_at old.links.items c.args.place h c.requires.there c.index_mut.ensures.value in
-    let number = number_at old c.args.place h (pipes c.args.carrier.now) c.requires.tied at in
+    let stands = stands_there old c.args.place h (pipes c.args.carrier.now) c.requires.tied c.requires.held c.requires.there c.index_mut.ensures.value in
     let slot = slot_of (λ (l : Lease). l.number) old.leases c.args.number (suc c.args.place) c.in-Some.lease c.requires.lent c.in-Some.ensures.taken in
-    touched_steps (λ x. answer_of (g.E.Engine.statements_of x) (g.E.Engine.step_of x)) (event.GiveBack c.args.number) c.args.place old _ h k (pipes c.args.carrier.now) (pipes c.give_back.new.carrier) _ _ done c.requires.tied at said.number refl
-    (spared_others c.args.place h k old.pool c.give_back.new.pool number said.pool)
-    (lease_ends c.args.place c.args.number old _ h k c.in-Some.lease c.requires.held at number said.number slot said.pool said.there
+    touched_steps (λ x. answer_of (g.E.Engine.statements_of x) (g.E.Engine.step_of x)) (event.GiveBack c.args.number) c.args.place old _ h k (pipes c.args.carrier.now) (pipes c.give_back.new.carrier) _ _ done c.requires.tied stands.at said.number refl
+    (spared_others c.args.place h k old.pool c.give_back.new.pool stands.number said.pool)
+    (lease_ends c.args.place c.args.number old _ h k c.in-Some.lease c.requires.held stands.at stands.number said.number slot said.pool said.there
     (λ cut. ap (λ (x : Held g.row.E.Denot g.row.E-Stmt.Denot). x.link.is_cut) (said.gone cut).1 ∙ cut) refl c.in-Some.ensures.left refl (record { engine_is = refl; max_is = refl; size_is = refl; told_is = refl }))
     (said.ties)
     (said.failed c.args.number)
