@@ -3,4 +3,6 @@ mod cores;
 mod faults;
 mod files;
 mod runs;
+mod showing;
+mod tcp;
 mod texts;

@@ -96,6 +96,10 @@ fault_line run.Memory = codes "error: memory\n"
 abbrev pub TellsFault : Option (List ℕ) → Option (List ℕ) → RunFault → Type 0
 TellsFault old new fault = WritesBeginning old new (fault_line fault) ⊎ WritesBeginning old new (fault_line run.Memory)
 
+-- A fault that these bytes may end a run by, and its line went out, as TellsFault says.
+abbrev pub TellsFaultOf : List ℕ → Option (List ℕ) → Option (List ℕ) → Type 0
+TellsFaultOf bytes old new = (fault : RunFault) × IsFaultOf fault bytes × TellsFault old new fault
+
 -- The bytes that were left are a schedule that is played, and the text of its report went out.
 abbrev pub Reports : (ℕ → Option Pipe) → Option (List ℕ) → Option (List ℕ) → Option (List ℕ) → Type 0
 Reports pipes left old new = (bytes : List ℕ) × AreLeft left bytes

@@ -1,10 +1,30 @@
 -- A play for C.
-use Rattle.std.specs.Prelude.{◌≡◌, ℕ, List, [], ◌++◌, length, drop, Option, Some}
-use Rattle.tds_play.specs.Pipe.{Pipe}
-use Rattle.tds_play.specs.Runs.{Reports}
+use Rattle.std.specs.Prelude.{◌≡◌, ℕ, List, [], ◌++◌, length, drop, Some, None}
+use Rattle.tds_session.specs.Answer.{script_answers}
+use Rattle.tds_world.specs.declared.event.Setup.{Setup}
+use Rattle.tds_world.specs.declared.event.Event.{Event}
+use Rattle.tds_world.specs.Observed.{observed}
+use Rattle.tds_text.specs.Files.{Spells}
+use Rattle.tds_text.specs.Lines.{text_of}
+use Rattle.tds_play.specs.Refused.{first_refusal}
+use Rattle.tds_play.specs.Runs.{TellsFaultOf}
 
--- The text of the report of these bytes stands at the front of the buffer.
-abbrev pub RepresentsConnection : List ℕ → List ℕ → List ℕ → ℕ → Type 0
-RepresentsConnection schedule before after count =
-    (pipes : ℕ → Option Pipe) × (text : List ℕ) × Reports pipes (Some schedule) (Some []) (Some text)
-    × (after ≡ text ++ drop (length text) before) × (count ≡ length text)
+-- The bytes are a schedule file of what is played, and this is the text of the model's report of its
+-- events, with nothing lost.
+abbrev pub IsReportText : List ℕ → List ℕ → Type 0
+IsReportText schedule text = (setup : Setup) × (events : List Event) × Spells schedule setup events
+    × (first_refusal setup (length events) ≡ None) × (text ≡ text_of (observed setup script_answers events))
+
+-- This is the line of a fault that the bytes show, or a beginning of it.
+abbrev pub IsFaultText : List ℕ → List ℕ → Type 0
+IsFaultText schedule text = TellsFaultOf schedule (Some []) (Some text)
+
+-- The text stands at the front of the buffer, and behind it nothing changed.
+abbrev pub Writes : List ℕ → List ℕ → List ℕ → ℕ → Type 0
+Writes text before after count = (after ≡ text ++ drop (length text) before) × (count ≡ length text)
+
+abbrev pub WritesReport : List ℕ → List ℕ → List ℕ → ℕ → Type 0
+WritesReport schedule before after count = (text : List ℕ) × IsReportText schedule text × Writes text before after count
+
+abbrev pub WritesFault : List ℕ → List ℕ → List ℕ → ℕ → Type 0
+WritesFault schedule before after count = (text : List ℕ) × IsFaultText schedule text × Writes text before after count

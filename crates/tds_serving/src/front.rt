@@ -49,6 +49,9 @@ impl Front {
     /// Takes bytes up to the end of one packet, and answers how many. What is answered at once is
     /// appended to `out`. Where attentions are to wait (`waits`), one that has come is kept, and taken by
     /// the first call in which they aren't.
+    ///
+    /// `Err` says that memory was wanted. The packet is gone then, with the bytes up to its end, and what
+    /// was appended of an answer may be a part of it: the connection is of no use any more.
     pub fn take(
         &mut self,
         alloc: Global,

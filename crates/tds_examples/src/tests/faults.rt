@@ -103,10 +103,7 @@ fn writer_that_fails(rt: HostRuntime) {
     let mut reader: &[u8] =
         b"{\"version\":1,\"packet_size\":512,\"max\":1,\"events\":[[\"lease\"]]}";
     let mut carrier = MemoryCarrier::new(alloc);
-    let mut output = Narrow {
-        bytes: Vec::new(alloc),
-        room: 8,
-    };
+    let mut output = Narrow::new(alloc, 8);
     let mut errors = Vec::new(alloc);
     let status = run_play(alloc, &mut reader, &mut carrier, &mut output, &mut errors);
     let is_told = status == 1 && errors.as_slice() == b"error: output\n".as_slice();

@@ -13,6 +13,15 @@ pub struct Ended {
     pub errors: Vec<u8>,
 }
 
+impl Ended {
+    /// Whether it ended so, with nothing on the error output.
+    pub(super) fn is(&self, status: u8, output: &str) -> bool {
+        self.status == status
+            && self.output.as_slice() == output.as_bytes()
+            && self.errors.is_empty()
+    }
+}
+
 /// Runs the schedule file that this reader gives.
 fn run<R: Read>(alloc: Global, reader: &mut R) -> Ended {
     let mut carrier = MemoryCarrier::new(alloc);
@@ -67,6 +76,15 @@ pub(super) fn pieced(alloc: Global, pieces: &[(&str, usize)]) -> Result<String, 
 pub struct Narrow {
     pub bytes: Vec<u8>,
     pub room: usize,
+}
+
+impl Narrow {
+    pub(super) fn new(alloc: Global, room: usize) -> Narrow {
+        Narrow {
+            bytes: Vec::new(alloc),
+            room,
+        }
+    }
 }
 
 impl Write for Narrow {

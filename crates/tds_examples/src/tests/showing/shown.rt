@@ -1,6 +1,6 @@
 //! Packets as text. The texts were written by hand, from the tables of the wire.
 
-use super::{Ended, Narrow};
+use crate::tests::runs::{Ended, Narrow};
 use std::alloc::Global;
 use tds_show::run_show;
 

@@ -1,6 +1,6 @@
 //! The vectors, and some that are changed.
 
-use super::{Ended, Narrow};
+use crate::tests::runs::{Ended, Narrow};
 use std::alloc::Global;
 use tds_show::{VECTORS, Vector, run_vectors, run_vectors_among};
 

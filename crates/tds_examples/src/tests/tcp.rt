@@ -1,3 +1,5 @@
+//! The carrier over TCP, and plays over it.
+
 mod carrying;
 mod opening;
 mod plays;

@@ -1,5 +1,0 @@
-//! Tests alone: the carrier over TCP, and plays over it.
-#![tactic(auto)]
-
-#[cfg(test)]
-mod tests;
