@@ -61,8 +61,12 @@ impl From<clap::Error> for LineFault {
 
 /// Reads the words behind the program's name.
 pub fn read_words(alloc: Global, words: &[String]) -> Result<Command, LineFault> {
-    let commands = commands(alloc)?;
-    let matches = commands.try_get_matches_from(words)?;
+    let matches = commands(alloc)?.try_get_matches_from(words)?;
+    command_of(alloc, &matches)
+}
+
+/// The command that was met.
+fn command_of(alloc: Global, matches: &ArgMatches<'_>) -> Result<Command, LineFault> {
     match matches.subcommand() {
         Some(("play", used)) => Ok(Command::Play(word_of(alloc, used)?)),
         Some(("loopback", used)) => Ok(Command::Loopback(word_of(alloc, used)?)),
@@ -82,21 +86,30 @@ fn word_of(alloc: Global, used: &ArgMatches<'_>) -> Result<String, LineFault> {
 
 /// The commands that there are. A call for help names none of them.
 fn commands<'a>(alloc: Global) -> Result<clap::Command<'a>, AllocError> {
-    let play = clap::Command::new(alloc, "play").arg(one_word(alloc))?;
-    let loopback = clap::Command::new(alloc, "loopback").arg(one_word(alloc))?;
+    let commands = with_word(alloc, no_commands(alloc), "play", one_word(alloc))?;
+    let commands = with_word(alloc, commands, "loopback", one_word(alloc))?;
     // Whether the word is one of digits is for `show` to say, also where it begins with a dash.
     let digits = one_word(alloc).allow_hyphen_values(true);
-    let show = clap::Command::new(alloc, "show").arg(digits)?;
-    let vectors = clap::Command::new(alloc, "vectors");
+    let commands = with_word(alloc, commands, "show", digits)?;
+    commands.subcommand(clap::Command::new(alloc, "vectors"))
+}
+
+fn no_commands<'a>(alloc: Global) -> clap::Command<'a> {
     clap::Command::new(alloc, "tdsplay")
         .no_binary_name(true)
         .disable_help_flag(true)
         .disable_help_subcommand(true)
         .subcommand_required(true)
-        .subcommand(play)?
-        .subcommand(loopback)?
-        .subcommand(show)?
-        .subcommand(vectors)
+}
+
+/// These commands, and one more with its word.
+fn with_word<'a>(
+    alloc: Global,
+    commands: clap::Command<'a>,
+    name: &'a str,
+    word: Arg<'a>,
+) -> Result<clap::Command<'a>, AllocError> {
+    commands.subcommand(clap::Command::new(alloc, name).arg(word)?)
 }
 
 /// The one word behind a command's name.
