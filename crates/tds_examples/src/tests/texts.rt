@@ -155,34 +155,53 @@ fn each_outcome(rt: HostRuntime) -> Result<(), Fail> {
     Ok(())
 }
 
+/// Space, tilde, a backslash, the units around the plain ones, and half of a pair.
+const ODD: [u16; 7] = [0x20, 0x7E, 0x5C, 0x1F, 0x7F, 0xD83D, 0x0A];
+
+/// Two columns.
+fn columns(alloc: Global) -> Result<ColumnList, AllocError> {
+    let mut columns = Vec::new(alloc);
+    for name in [[0x6E].as_slice(), &[0x20, 0x5C]] {
+        columns.push(column(alloc, name)?)?;
+    }
+    Ok(ColumnList::new(columns))
+}
+
+/// The tokens of the text below: the one at this place, if there is one.
+fn token_at(alloc: Global, place: usize) -> Result<Option<Token>, AllocError> {
+    Ok(Some(match place {
+        0 => Token::Info(message(alloc, 50000, &ODD)?),
+        1 => Token::Info(message(alloc, -1, &[])?),
+        2 => Token::Error(message(alloc, 50001, &[0x78])?),
+        3 => Token::ReturnStatus(-2147483648),
+        4 => Token::Columns(columns(alloc)?),
+        5 => Token::Row(Row::new([5, -6].to_vec(alloc)?)),
+        6 => Token::Env(EnvChange::Begin(1)),
+        7 => Token::Done {
+            status: 0xABCD,
+            cur_cmd: 9,
+            rows: 18446744073709551615,
+        },
+        _ => return Ok(None),
+    }))
+}
+
+const TOKENS_TEXT: &[u8] =
+    b"request 1 lease 2 on 3 open ran 0 -\n  info 50000  ~\\u005c\\u001f\\u007f\\ud83d\\u000a\n\
+    \x20 info -1 \n  error 50001 x\n  status -2147483648\n  columns n, \\u005c\n  row 5,-6\n\
+    \x20 done abcd 18446744073709551615\n";
+
 #[test]
 fn each_token(rt: HostRuntime) -> Result<(), Fail> {
-    let alloc = rt.alloc();
-    let mut columns = Vec::new(alloc);
-    columns.push(column(alloc, &[0x6E])?)?;
-    columns.push(column(alloc, &[0x20, 0x5C])?)?;
-    let mut tokens = Vec::new(alloc);
-    // Space, tilde, a backslash, the units around the plain ones, and half of a pair.
-    let odd = [0x20, 0x7E, 0x5C, 0x1F, 0x7F, 0xD83D, 0x0A];
-    tokens.push(Token::Info(message(alloc, 50000, &odd)?))?;
-    tokens.push(Token::Info(message(alloc, -1, &[])?))?;
-    tokens.push(Token::Error(message(alloc, 50001, &[0x78])?))?;
-    tokens.push(Token::ReturnStatus(-2147483648))?;
-    tokens.push(Token::Columns(ColumnList::new(columns)))?;
-    tokens.push(Token::Row(Row::new([5, -6].to_vec(alloc)?)))?;
-    tokens.push(Token::Env(EnvChange::Begin(1)))?;
-    tokens.push(Token::Done {
-        status: 0xABCD,
-        cur_cmd: 9,
-        rows: 18446744073709551615,
-    })?;
-    let report = report_with(alloc, tokens)?;
-    let bytes = written(alloc, &report)?;
-    let expected =
-        b"request 1 lease 2 on 3 open ran 0 -\n  info 50000  ~\\u005c\\u001f\\u007f\\ud83d\\u000a\n\
-        \x20 info -1 \n  error 50001 x\n  status -2147483648\n  columns n, \\u005c\n  row 5,-6\n\
-        \x20 done abcd 18446744073709551615\n";
-    assert!(rt; bytes.as_slice() == expected.as_slice());
+    let mut tokens = Vec::new(rt.alloc());
+    for place in 0..8 {
+        if let Some(token) = token_at(rt.alloc(), place)? {
+            tokens.push(token)?;
+        }
+    }
+    let report = report_with(rt.alloc(), tokens)?;
+    let bytes = written(rt.alloc(), &report)?;
+    assert!(rt; bytes.as_slice() == TOKENS_TEXT);
     Ok(())
 }
 
@@ -203,43 +222,61 @@ fn snapshot(conn: u32, client: ClientView, place: Place, mark: Option<Reset>) ->
     }
 }
 
-#[test]
-fn connections_of_the_last_event(rt: HostRuntime) -> Result<(), Fail> {
-    let alloc = rt.alloc();
-    let mut first = Vec::new(alloc);
-    first.push(snapshot(9, ClientView::Idle, Place::Free, None))?;
-    let mut last = Vec::new(alloc);
-    last.push(snapshot(1, ClientView::Idle, Place::Leased(4), None))?;
-    last.push(snapshot(2, ClientView::Sending, Place::Kept(5), Some(Reset::Full)))?;
-    last.push(snapshot(
+/// A connection, its client, its place and its mark.
+type Standing = (u32, ClientView, Place, Option<Reset>);
+
+/// What stood behind the event before the last, and behind the last.
+const FIRST: [Standing; 1] = [(9, ClientView::Idle, Place::Free, None)];
+
+const LAST: [Standing; 4] = [
+    (1, ClientView::Idle, Place::Leased(4), None),
+    (2, ClientView::Sending, Place::Kept(5), Some(Reset::Full)),
+    (
         3,
         ClientView::Reading,
         Place::Free,
         Some(Reset::KeepTransaction),
-    ))?;
-    last.push(snapshot(4, ClientView::Cancelling, Place::Draining, None))?;
+    ),
+    (4, ClientView::Cancelling, Place::Draining, None),
+];
+
+const LAST_TEXT: &[u8] = b"1 cut\n2 sent more lost\n\
+    connection 1 idle leased 4 descriptor 3 mark none server 0 x=7,y=-1 underway 8 21\n\
+    connection 2 sending kept 5 descriptor 3 mark full server 0 x=7,y=-1 underway 8 21\n\
+    connection 3 reading free descriptor 3 mark keep server 0 x=7,y=-1 underway 8 21\n\
+    connection 4 cancelling draining descriptor 3 mark none server 0 x=7,y=-1 underway 8 21\n";
+
+/// An event, and the connections after it.
+fn followed(
+    alloc: Global,
+    outcome: Outcome,
+    lost: bool,
+    standing: &[Standing],
+) -> Result<EventReport, AllocError> {
+    let mut snapshots = Vec::new(alloc);
+    for (conn, client, place, mark) in standing {
+        snapshots.push(snapshot(*conn, *client, *place, *mark))?;
+    }
+    Ok(EventReport {
+        outcome,
+        lost,
+        snapshots: Sequence::new(snapshots),
+    })
+}
+
+#[test]
+fn connections_of_the_last_event(rt: HostRuntime) -> Result<(), Fail> {
+    let alloc = rt.alloc();
     let mut events = Vec::new(alloc);
-    events.push(EventReport {
-        outcome: Outcome::Cut,
-        lost: false,
-        snapshots: Sequence::new(first),
-    })?;
-    events.push(EventReport {
-        outcome: Outcome::Sent(SendOutcome::More),
-        lost: true,
-        snapshots: Sequence::new(last),
-    })?;
+    events.push(followed(alloc, Outcome::Cut, false, &FIRST)?)?;
+    let sent = Outcome::Sent(SendOutcome::More);
+    events.push(followed(alloc, sent, true, &LAST)?)?;
     let report = Report {
         events: Sequence::new(events),
         requests: Sequence::new(Vec::new(alloc)),
     };
     let bytes = written(alloc, &report)?;
-    let expected = b"1 cut\n2 sent more lost\n\
-        connection 1 idle leased 4 descriptor 3 mark none server 0 x=7,y=-1 underway 8 21\n\
-        connection 2 sending kept 5 descriptor 3 mark full server 0 x=7,y=-1 underway 8 21\n\
-        connection 3 reading free descriptor 3 mark keep server 0 x=7,y=-1 underway 8 21\n\
-        connection 4 cancelling draining descriptor 3 mark none server 0 x=7,y=-1 underway 8 21\n";
-    assert!(rt; bytes.as_slice() == expected.as_slice());
+    assert!(rt; bytes.as_slice() == LAST_TEXT);
     Ok(())
 }
 

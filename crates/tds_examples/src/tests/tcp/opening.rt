@@ -1,5 +1,6 @@
 //! Listeners and connections, many of them.
 
+use std::alloc::Global;
 use std::fs;
 use std::io::{self, Error, ErrorKind, Read};
 use std::net::{Net, SocketAddr, TcpListener, TcpStream};
@@ -38,29 +39,24 @@ impl Read for Counted {
     }
 }
 
-#[test]
-fn a_refused_listener_is_told_before_anything_is_read(rt: HostRuntime) -> Result<(), Fail> {
-    let alloc = rt.alloc();
-    match TcpCarrier::listen(alloc, Deaf) {
-        Err(CarrierError::Lost) => {}
-        Err(CarrierError::Memory) => return Err("no memory".into()),
-        Ok(_) => return Err("it listens".into()),
-    }
-    let mut file = Counted { reads: 0 };
+/// Whether a run over this system prints nothing but this error line, and ends with status 1.
+fn tells<N: Net + Drop>(alloc: Global, net: N, file: &mut Counted, line: &[u8]) -> bool {
     let mut output = Vec::new(alloc);
     let mut errors = Vec::new(alloc);
-    let status = run_loopback(alloc, Deaf, &mut file, &mut output, &mut errors);
-    assert_eq!(rt; status, 1);
-    assert_eq!(rt; file.reads, 0);
-    assert!(rt; output.is_empty());
-    assert_eq!(rt; errors.as_slice(), b"error: listen\n".as_slice());
+    let status = run_loopback(alloc, net, file, &mut output, &mut errors);
+    status == 1 && output.is_empty() && errors.as_slice() == line
+}
+
+#[test]
+fn a_refused_listener_is_told_before_anything_is_read(rt: HostRuntime) {
+    let listened = TcpCarrier::listen(rt.alloc(), Deaf);
+    assert!(rt; matches!(listened, Err(CarrierError::Lost)), "it listens");
+    let mut file = Counted { reads: 0 };
+    let is_told = tells(rt.alloc(), Deaf, &mut file, b"error: listen\n");
+    assert!(rt; is_told && file.reads == 0, "the listener");
     // With a listener the file is read, and it is no JSON text.
-    let mut errors = Vec::new(alloc);
-    let status = run_loopback(alloc, &rt, &mut file, &mut output, &mut errors);
-    assert_eq!(rt; status, 1);
-    assert!(rt; file.reads > 0);
-    assert_eq!(rt; errors.as_slice(), b"error: json\n".as_slice());
-    Ok(())
+    let is_told = tells(rt.alloc(), &rt, &mut file, b"error: json\n");
+    assert!(rt; is_told && file.reads > 0, "the file");
 }
 
 /// How many files and sockets this process has open.

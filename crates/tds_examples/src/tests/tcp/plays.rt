@@ -1,6 +1,7 @@
 //! Plays over sockets beside plays over memory.
 
 use std::alloc::{AllocError, Global};
+use std::net::Net;
 use std::test::Fail;
 use tds_play::{Carrier, MemoryCarrier, run_play};
 use tds_tcp::{TcpCarrier, run_loopback};
@@ -36,51 +37,52 @@ fn full_report(alloc: Global, last: &str) -> Result<String, AllocError> {
     Ok(text)
 }
 
-/// What the play of a schedule prints; nothing where it ends with another status than 0.
-fn printed<C: Carrier>(
-    alloc: Global,
-    schedule: &str,
-    carrier: &mut C,
-) -> Result<Vec<u8>, AllocError> {
+/// The 24th step of the play, where it is lost and where it isn't, and what is behind it.
+const LOST: &str = "28 work step lost\nrequest 1 lease 1 on 1 lost ran 0 -\n";
+
+const WHOLE: &str = "28 work step\nrequest 1 lease 1 on 1 open ran 0 -\n\
+    connection 1 reading leased 1 descriptor 0 mark none server 0 - underway 0 8496\n";
+
+/// Whether the play of a schedule prints this text and no other, and ends with status 0.
+fn is_printed<C: Carrier>(alloc: Global, schedule: &str, carrier: &mut C, text: &[u8]) -> bool {
     let mut output = Vec::new(alloc);
     let mut errors = Vec::new(alloc);
     let mut reader = schedule.as_bytes();
     let status = run_play(alloc, &mut reader, carrier, &mut output, &mut errors);
-    if status == 0 && errors.is_empty() {
-        return Ok(output);
-    }
-    Ok(Vec::new(alloc))
+    status == 0 && errors.is_empty() && output.as_slice() == text
+}
+
+/// The same of a run over sockets of its own.
+fn is_run<N: Net + Drop>(alloc: Global, net: N, schedule: &str, text: &[u8]) -> bool {
+    let mut output = Vec::new(alloc);
+    let mut errors = Vec::new(alloc);
+    let mut file = schedule.as_bytes();
+    let status = run_loopback(alloc, net, &mut file, &mut output, &mut errors);
+    status == 0 && errors.is_empty() && output.as_slice() == text
 }
 
 #[test]
 fn what_sockets_do_not_hold_is_lost(rt: HostRuntime) -> Result<(), Fail> {
     let alloc = rt.alloc();
     let schedule = full_direction(alloc)?;
+    let lost = full_report(alloc, LOST)?;
     let Ok(mut sockets) = TcpCarrier::listen(alloc, &rt) else {
         return Err("no listener".into());
     };
-    let lost = full_report(
-        alloc,
-        "28 work step lost\nrequest 1 lease 1 on 1 lost ran 0 -\n",
-    )?;
-    let found = printed(alloc, schedule.as_str(), &mut sockets)?;
-    assert_eq!(rt; found.as_slice(), lost.as_bytes());
-    assert_eq!(rt; sockets.accepted(), 1);
-    let mut output = Vec::new(alloc);
-    let mut errors = Vec::new(alloc);
-    let mut file = schedule.as_bytes();
-    let status = run_loopback(alloc, &rt, &mut file, &mut output, &mut errors);
-    assert_eq!(rt; status, 0);
-    assert_eq!(rt; output.as_slice(), lost.as_bytes());
-    assert!(rt; errors.is_empty());
-    let whole = full_report(
-        alloc,
-        "28 work step\nrequest 1 lease 1 on 1 open ran 0 -\n\
-         connection 1 reading leased 1 descriptor 0 mark none server 0 - underway 0 8496\n",
-    )?;
+    let is_lost = is_printed(alloc, schedule.as_str(), &mut sockets, lost.as_bytes());
+    assert!(rt; is_lost && sockets.accepted() == 1, "over sockets");
+    let is_lost = is_run(alloc, &rt, schedule.as_str(), lost.as_bytes());
+    assert!(rt; is_lost, "in a run over sockets");
+    Ok(())
+}
+
+#[test]
+fn memory_holds_what_sockets_do_not(rt: HostRuntime) -> Result<(), Fail> {
+    let alloc = rt.alloc();
+    let schedule = full_direction(alloc)?;
+    let whole = full_report(alloc, WHOLE)?;
     let mut memory = MemoryCarrier::new(alloc);
-    let found = printed(alloc, schedule.as_str(), &mut memory)?;
-    assert_eq!(rt; found.as_slice(), whole.as_bytes());
+    assert!(rt; is_printed(alloc, schedule.as_str(), &mut memory, whole.as_bytes()));
     Ok(())
 }
 
@@ -101,16 +103,10 @@ fn two_carriers_do_not_meet(rt: HostRuntime) -> Result<(), Fail> {
     };
     // The connections of the first play stay open during the second, and the third begins anew.
     for _ in 0..2 {
-        assert_eq!(rt;
-            printed(alloc, schedule, &mut first)?.as_slice(),
-            text.as_slice()
-        );
-        assert_eq!(rt;
-            printed(alloc, schedule, &mut second)?.as_slice(),
-            text.as_slice()
-        );
+        let is_first = is_printed(alloc, schedule, &mut first, text);
+        let is_second = is_printed(alloc, schedule, &mut second, text);
+        assert!(rt; is_first && is_second, "{is_first}, {is_second}");
     }
-    assert_eq!(rt; first.accepted(), 4);
-    assert_eq!(rt; second.accepted(), 4);
+    assert!(rt; (first.accepted(), second.accepted()) == (4, 4));
     Ok(())
 }
