@@ -3,9 +3,9 @@ use Rattle.std.proofs.Common.{ℕ, Option, Some, None, refl}
 use Rattle.std.specs.BTreeMap.{BTreeMap, get}
 use Rattle.std.specs.Ordering.{nat_cmp}
 use Rattle.std.specs.Prelude.{option_map}
-use Rattle.tds_packet.specs.declared.kind.Direction.TheVariants.{ToServer, ToClient}
+use Rattle.tds_packet.specs.declared.kind.Direction.TheVariants.{ToServer}
 use Rattle.tds_play.specs.declared.memory.MemoryPipe.{MemoryPipe}
-use Rattle.tds_play.specs.Failures.{Open, Send, Carry, HasNoFailure}
+use Rattle.tds_play.specs.Failures.{Send, Carry, HasNoFailure}
 use Rattle.tds_play.specs.Memory.{pipe_at, pipe_of}
 
 pipe_is_fine : (p : Option MemoryPipe) → HasNoFailure (option_map pipe_of p)

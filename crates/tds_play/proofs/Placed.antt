@@ -10,7 +10,7 @@ use Rattle.tds_world.specs.declared.outcome.Refusal.TheVariants.{NotIdle, Nothin
 use Rattle.tds_world.specs.declared.report.Place.{Place}
 use Rattle.tds_world.specs.declared.report.Place.TheVariants as place
 use Rattle.tds_world.specs.Connection.{Connection, Standing, In, is_idle, phase}
-use Rattle.tds_world.specs.Phase.{Phase, Settled, Asked, Sending, Reading, Cancelling, is_settled}
+use Rattle.tds_world.specs.Phase.{Phase, Settled, is_settled}
 use Rattle.tds_world.specs.Pool.{Acted, is_full, keeps, keeps_by}
 use Rattle.tds_play.specs.Lending.{standing_by}
 use Rattle.tds_play.specs.Seats.{Seat, lent_as, placed_at, seated, unless_kept, unless_kept_by}

@@ -5,7 +5,7 @@ use Rattle.tds_session.specs.Answer.{Answers}
 use Rattle.tds_world.specs.declared.outcome.Outcome.{Outcome}
 use Rattle.tds_world.specs.Arrivals.{server_acts, reach_server, to_server}
 use Rattle.tds_world.specs.Connection.{Connection}
-use Rattle.tds_world.specs.Entries.{Up, Part, End, Drop, Attention, up_bytes, down_bytes}
+use Rattle.tds_world.specs.Entries.{Up, Part, up_bytes, down_bytes}
 use Rattle.tds_world.specs.Lane.{passed, with_waiting}
 use Rattle.tds_play.specs.declared.link.EventDone.{EventDone}
 use Rattle.tds_play.specs.declared.link.Link.{Link}

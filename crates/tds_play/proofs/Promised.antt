@@ -9,7 +9,7 @@ use Rattle.tds_world.specs.Counts.{AreFew}
 use Rattle.tds_world.specs.Deliveries.{DeliversOn}
 use Rattle.tds_world.specs.Laws.{QuietIfIdle}
 use Rattle.tds_world.specs.Newest.{ActsOnNewest, WorksOnNewest}
-use Rattle.tds_world.specs.Phase.{Phase, Settled, Asked, Sending, Reading as IsReading, Cancelling, is_settled}
+use Rattle.tds_world.specs.Phase.{Phase, Settled, is_settled}
 use Rattle.tds_world.specs.Steps.{EndsIfDue}
 use Rattle.tds_world.specs.World.{World}
 use Rattle.tds_ends.specs.Deliveries.{AllArrive, AllHeard}

@@ -10,7 +10,7 @@ use Rattle.tds_world.specs.declared.report.Place.{Place}
 use Rattle.tds_world.specs.declared.report.Snapshot.{Snapshot}
 use Rattle.tds_world.specs.Connection.{Connection, phase, up_underway}
 use Rattle.tds_world.specs.Observed.{seen, snapshot_of, snapshots_from}
-use Rattle.tds_world.specs.Phase.{Phase, Settled, Asked, Sending, Reading, Cancelling, phase_of, phase_in, state_of}
+use Rattle.tds_world.specs.Phase.{Phase, Settled, phase_of, phase_in, state_of}
 use Rattle.tds_world.specs.Record.{Record}
 use Rattle.tds_play.specs.Lending.{standing_by}
 use Rattle.tds_play.specs.Pipe.{Pipe}

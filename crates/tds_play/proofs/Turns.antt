@@ -20,7 +20,7 @@ use Rattle.tds_world.specs.Bounds.{IsEvent, IsSetup}
 use Rattle.tds_world.specs.Connection.{Connection, Standing, is_cut}
 use Rattle.tds_world.specs.Events.{happens, world_after}
 use Rattle.tds_world.specs.Laws.{OfEachConnection}
-use Rattle.tds_world.specs.Losses.{Loss, Nothing, Failed, Played, bringing, cuts_after, event_reports_with, is_lost, link_of, loss_by, loss_in, marked, met, observed_with, plainly, report_then, with_cuts, world_then, world_with}
+use Rattle.tds_world.specs.Losses.{Loss, Nothing, Failed, Played, cuts_after, event_reports_with, is_lost, link_of, loss_by, loss_in, marked, met, observed_with, plainly, report_then, with_cuts, world_then, world_with}
 use Rattle.tds_world.specs.WithLosses.{IsReportWith, MarksNothing}
 use Rattle.tds_world.specs.Observed.{observed, snapshots, request_reports, bytes_in, bytes_of}
 use Rattle.tds_world.specs.World.{World, new_world, numbered}

@@ -24,7 +24,7 @@ use tds_token::Token;
 use tds_world::{End, Layer, Outcome, RequestStatus};
 
 /// What an end refused: the layer, and the fault's number in it.
-#[derive(Clone, Copy, Debug)]
+#[derive(Clone, Copy)]
 pub(crate) struct Fault {
     end: End,
     layer: Layer,
@@ -85,7 +85,7 @@ impl Fault {
 }
 
 /// What a client made of a piece.
-#[derive(Clone, Copy, Debug)]
+#[derive(Clone, Copy)]
 pub(crate) struct Heard {
     /// What became of the request, if it was settled.
     pub(crate) settled: Option<RequestStatus>,

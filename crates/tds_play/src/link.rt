@@ -1,12 +1,14 @@
 //! One connection: both its ends, what is underway between them, and the requests asked on it.
-ghost use Rattle.std.specs.Prelude.{[], ◌∷◌, ◌≡◌, ℕ, false, Some, IfOk, OnOk, None};
+ghost use Rattle.std.specs.Prelude.{[], ◌∷◌, ◌≡◌, ℕ, reverse, false, Some, IfOk, OnOk, None};
 ghost use Rattle.tds_client.specs.Session.{new_session};
+ghost use Rattle.tds_ends.specs.AllBytes.{new_reader};
 ghost use Rattle.tds_play.specs.Failures.{Fails, Open};
-ghost use Rattle.tds_play.specs.Links.{IsNewLink, newest_first};
+ghost use Rattle.tds_play.specs.Links.{IsNewLink, behind, newest_first};
 ghost use Rattle.tds_play.specs.Seats.{seated};
 ghost use Rattle.tds_play.specs.Seen.{seen_in};
 ghost use Rattle.tds_play.specs.Plays.{RepresentsConnection, cut_where};
 ghost use Rattle.tds_packet.specs.declared.kind.Direction.{Direction};
+ghost use Rattle.tds_packet.specs.declared.kind.Direction.TheVariants.{ToClient, ToServer};
 ghost use Rattle.tds_play.specs.Pipe.{new_pipe, traffic};
 ghost use Rattle.tds_play.specs.Reads.{IsReading};
 ghost use Rattle.tds_play.specs.Ties.{IsTied, KeepsTies};
@@ -31,7 +33,7 @@ use tds_session::{Engine, OnAttention};
 use tds_world::{ClientView, Outcome, Place, Snapshot};
 
 /// What an event came to on its connection.
-#[derive(Clone, Copy, Debug)]
+#[derive(Clone, Copy)]
 pub(crate) struct EventDone {
     pub(crate) outcome: Outcome,
     /// Whether the carrier failed, so that the connection was cut.
@@ -56,6 +58,15 @@ pub(crate) struct Link<E: Engine + Drop> {
     past: Vec<Record>,
 }
 
+/// What reads at the client and at the server, before anything came.
+fn readers(alloc: Global, size: PacketSize) -> Result<(PacketReader, PacketReader), NoMemory>
+    ensures client { IfOk result (λ readers. readers.0 ≡ new_reader ToClient size) }
+    ensures server { IfOk result (λ readers. readers.1 ≡ new_reader ToServer size) }
+{
+    let client = PacketReader::new(alloc, size, Direction::ToClient)?;
+    Ok((client, PacketReader::new(alloc, size, Direction::ToServer)?))
+}
+
 impl<E: Engine + Drop> Link<E> {
     /// A connection as it begins.
     fn new(
@@ -70,12 +81,13 @@ impl<E: Engine + Drop> Link<E> {
         ensures live { IfOk result (λ link. link.is_cut ≡ false) }
         ensures value { IfOk result (IsNewLink number size engine on_attention) }
     {
+        let (client_reader, server_reader) = readers(alloc, size)?;
         Ok(Link {
             number,
             is_cut: false,
             server: Server::with_attention(alloc, engine, size, on_attention),
-            client_reader: PacketReader::new(alloc, size, Direction::ToClient)?,
-            server_reader: PacketReader::new(alloc, size, Direction::ToServer)?,
+            client_reader,
+            server_reader,
             to_server: 0,
             to_client: 0,
             current: None,
@@ -153,15 +165,18 @@ impl<E: Engine + Drop> Link<E> {
     pub(crate) fn into_records(self) -> Result<Vec<Record>, NoMemory>
         ensures { IfOk result (λ records. records.items ≡ newest_first self) }
     {
-        let Link {
-            current,
-            mut past,
-            ..
-        } = self;
-        if let Some(record) = current {
-            past.push(record)?;
-        }
-        past.reverse();
-        Ok(past)
+        let Link { current, past, .. } = self;
+        turned(past, current)
     }
+}
+
+/// Requests in their order and the one behind them, turned round.
+fn turned(mut past: Vec<Record>, newest: Option<Record>) -> Result<Vec<Record>, NoMemory>
+    ensures { IfOk result (λ records. records.items ≡ reverse (behind past.items newest)) }
+{
+    if let Some(record) = newest {
+        past.push(record)?;
+    }
+    past.reverse();
+    Ok(past)
 }

@@ -12,13 +12,13 @@ use std::marker::Model;
 use tds_packet::Direction;
 
 /// The bytes of one direction, and how many of them came out.
-#[derive(Debug, Drop)]
+#[derive(Drop)]
 struct Queue {
     bytes: Vec<u8>,
     place: usize,
 }
 
-#[derive(Debug, Drop)]
+#[derive(Drop)]
 struct MemoryPipe {
     to_server: Queue,
     to_client: Queue,

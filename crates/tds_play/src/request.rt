@@ -11,7 +11,7 @@ use tds_token::Token;
 use tds_world::{RequestReport, RequestStatus, Sequence};
 
 /// What is known of a request.
-#[derive(Debug, Drop)]
+#[derive(Drop)]
 pub(crate) struct Record {
     lease: u32,
     /// The reset that it asks for.

@@ -19,7 +19,7 @@ use tds_world::Report;
 const FILE_LIMIT: usize = 33_554_432;
 
 /// What ends a run before the whole report is printed.
-#[derive(Debug, Drop)]
+#[derive(Drop)]
 pub(crate) enum RunFault {
     /// Reading failed, or there is more than a schedule file may have.
     File,

@@ -14,7 +14,7 @@ use Rattle.tds_world.specs.declared.outcome.Refusal.TheVariants.{AllInUse}
 use Rattle.tds_world.specs.declared.report.Place.{Place}
 use Rattle.tds_world.specs.Connection.{Connection, Standing, In, is_cut, is_idle}
 use Rattle.tds_world.specs.Lending.{LendsIdle}
-use Rattle.tds_world.specs.Phase.{Phase, Settled, Asked, Sending, Reading, Cancelling, is_settled, phase_in, phase_of}
+use Rattle.tds_world.specs.Phase.{Phase, Settled, is_settled, phase_in, phase_of}
 use Rattle.tds_world.specs.Pool.{is_free, first_of, lowest_free, pool_count, to_lend, to_lend_by}
 use Rattle.tds_world.specs.Record.{Record}
 use Rattle.tds_world.specs.World.{World, Here, Missing, Opens, next_number, there}

@@ -3,7 +3,7 @@ use Rattle.std.proofs.Common.{◌≡◌, ◌∙◌, ℕ, suc, ◌≤◌, min, Li
 use Rattle.std.proofs.lemmas.List.{length-set}
 use Rattle.std.specs.List.{slice_get}
 use Rattle.std.specs.Prelude.{slice_set}
-use Rattle.tds_client.specs.Session.{Broken, Cancelling, Idle, Reading, Sending, Stage, marked, unless_idle}
+use Rattle.tds_client.specs.Session.{Idle, Stage, marked, unless_idle}
 use Rattle.tds_ends.specs.Stays.{PoolIsUnseen, RefinesIdle}
 use Rattle.tds_packet.specs.declared.status.Reset.TheVariants.{KeepTransaction}
 use Rattle.tds_session.specs.Answer.{Answers}

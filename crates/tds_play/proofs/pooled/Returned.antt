@@ -2,7 +2,7 @@
 -- number.
 use Rattle.std.proofs.Common.{◌≡◌, ◌∙◌, ℕ, Bool, true, false, List, [], ◌∷◌, Option, Some, None, refl, sym, ap, cond}
 use Rattle.std.specs.Prelude.{is_none, option_map}
-use Rattle.tds_client.specs.Session.{ClientSession, Stage, Idle, Sending, Reading, Cancelling, Broken, unless_idle}
+use Rattle.tds_client.specs.Session.{ClientSession, Stage, Idle, Broken, unless_idle}
 use Rattle.tds_client.specs.Sending.{cancelled}
 use Rattle.tds_ends.specs.Stands.{MatchesClient, stage_by, stage_in}
 use Rattle.tds_pool.specs.Calls.{Returned, abandoned, all_numbers, given_back, is_broken, is_draining, is_idle, kept_for, lent_to, only, put_back, rested, rests_at, session_behind}
@@ -15,7 +15,7 @@ use Rattle.tds_pool.specs.declared.lease.Ticket.{Ticket}
 use Rattle.tds_pool.specs.declared.seat.Place.{Place}
 use Rattle.tds_pool.specs.declared.seat.Place.TheVariants.{Draining, Free, Kept, Leased}
 use Rattle.tds_world.specs.Connection as model
-use Rattle.tds_world.specs.Phase.{Phase, Settled, Asked, Sending as PhaseSending, Reading as PhaseReading, Cancelling as PhaseCancelling, phase_of}
+use Rattle.tds_world.specs.Phase.{Phase, Settled, phase_of}
 use Rattle.tds_world.specs.Record.{Record}
 use Rattle.tds_play.specs.Pooled.{seat_by}
 use Rattle.tds_play.specs.Seats as seats

@@ -21,7 +21,7 @@ use tds_session::Engine;
 use tds_world::Outcome;
 
 /// What a carrier brought.
-#[derive(Clone, Copy, Debug)]
+#[derive(Clone, Copy)]
 pub(super) struct Carried {
     pub(super) count: u32,
     /// Whether it failed then.

@@ -1,13 +1,8 @@
 use Rattle.std.proofs.Common.{subst}
 use Rattle.std.proofs.lemmas.Result.{IfOk-weaker}
 use Rattle.tds_session.specs.Answer.{script_answers}
-use Rattle.tds_world.specs.Bounds.{BeginsOnce, OneAttention}
 use Rattle.tds_world.specs.Losses.{marked}
-use Rattle.tds_world.specs.Reports.{ShowsFewUnderway, ShowsFreshStart, ShowsIdleQuiet, ShowsKeptTransaction, ShowsLendsIdle, ShowsOwnAnswers, ShowsOwnTransaction}
-use Rattle.tds_world.specs.rest.Rest.{NeverStuck}
-use Rattle.tds_world.specs.rest.RestShown.{ShowsNeverStuckWith}
-use Rattle.tds_world.specs.WithLosses.{GivesNoMoreWith, IsReportWith, MarksNothing, ShowsNoEndFaults}
-use Rattle.tds_play.specs.WholePlay.{CarriesBytesOf, CutsThoseOf, HandsBytesOf, IsReportOfPlay, IsWholePlayOf, world_of}
+use Rattle.tds_world.specs.WithLosses.{IsReportWith}
 use Rattle.tds_play.proofs.playing.play.Goals as goal
 
 pub returns-clause-report : goal.returns-clause-report

@@ -4,7 +4,7 @@ use Rattle.tds_world.specs.declared.outcome.Outcome.TheVariants as outcome
 use Rattle.tds_client.specs.Session.{ClientSession}
 use Rattle.tds_play.specs.Pipe.{Pipe}
 use Rattle.tds_play.specs.Plays.{RepresentsConnection, after}
-use Rattle.tds_world.specs.Connection.{Connection, phase}
+use Rattle.tds_world.specs.Connection.{phase}
 use Rattle.tds_world.specs.Events.{sends_in}
 use Rattle.tds_play.specs.Seats.{seated}
 use Rattle.tds_play.proofs.Doing.{does_so, ends_so, ok_so, some_is, some_told}
