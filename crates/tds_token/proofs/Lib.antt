@@ -1,4 +1,5 @@
 pub mod Keeping
+pub mod Growing
 pub mod Fields
 pub mod Small
 pub mod Wordings
