@@ -1,13 +1,13 @@
 //! What is left of an answer, and how its next step is done.
-ghost use Rattle.std.specs.Prelude.{◌≡◌, ℕ, false, ◌∷◌, ◌+◌, ◌++◌, [], drop, IfOk, OnOk, IfNone, IfSome, None, Some};
+ghost use Rattle.std.specs.Prelude.{◌≡◌, ℕ, false, ◌∷◌, ◌+◌, ◌++◌, [], drop, codes, IfOk, OnOk, IfNone, IfSome, None, Some};
 ghost use Rattle.std.specs.List.{list_any};
 ghost use Rattle.tds_server.specs.declared.answer.Answer.{Answer};
 ghost use Rattle.tds_server.specs.declared.answer.Due.TheVariants as due;
-ghost use Rattle.tds_server.specs.Due.{IsNext, compared, refused, statements_in, steps_of, reset_in, first_of};
+ghost use Rattle.tds_server.specs.Due.{IsNext, compared, refused, run, statements_in, steps_of, reset_in, first_of};
 ghost use Rattle.tds_server.specs.Packets.{AreShort, FitsOnePacket, final};
-ghost use Rattle.tds_session.specs.Answer.{answer_of, answer_to, batch_steps};
-ghost use Rattle.tds_session.specs.Effects.{Effect, completes, is_error};
-ghost use Rattle.tds_session.specs.Session.{SessionState, after_reset};
+ghost use Rattle.tds_session.specs.Answer.{answer_of, answer_to, batch_steps, last_step};
+ghost use Rattle.tds_session.specs.Effects.{Effect, begins, completes, error, is_error};
+ghost use Rattle.tds_session.specs.Session.{SessionState, IsSession, after_reset};
 ghost use Rattle.tds_token.specs.declared.env_change.EnvChange.TheVariants as change;
 ghost use Rattle.tds_token.specs.declared.token.Token.TheVariants as token;
 
@@ -35,7 +35,7 @@ pub(crate) enum Task<S: Drop> {
 }
 
 /// What the next step of an answer does.
-#[derive(Clone, Copy, Debug)]
+#[derive(Clone, Copy)]
 pub(crate) enum Due {
     /// It takes this reset.
     Reset(Reset),
@@ -62,7 +62,7 @@ pub(crate) struct Answer<S: Drop> {
 
 /// A step that is done: the tokens of its packet, and what is due behind it. Behind the last one
 /// nothing is.
-#[derive(Debug, Drop)]
+#[derive(Drop)]
 pub(crate) struct Done {
     pub(crate) tokens: Vec<Token>,
     pub(crate) next: Option<Due>,
@@ -180,7 +180,7 @@ fn take_reset(alloc: Global, reset: Reset, session: &mut Session) -> Result<Done
 }
 
 /// Compares the descriptors, and does the first step of the task, or refuses it.
-#[tactic(auto, unfolding(crate::specs::Due::compared), using(crate::proofs::Short::begins_short, crate::proofs::Short::completes_short, crate::proofs::Short::syntax_error))]
+#[tactic(auto, unfolding(crate::specs::Due::compared))]
 fn begin_task<E: Engine>(
     alloc: Global,
     engine: &E,
@@ -195,21 +195,78 @@ fn begin_task<E: Engine>(
     if answer.descriptor != session.descriptor() {
         return refuse(alloc, &answer.task);
     }
+    run_task(alloc, engine, answer, session)
+}
+
+/// Does the first step of the task.
+fn run_task<E: Engine>(
+    alloc: Global,
+    engine: &E,
+    answer: &Answer<E::Stmt>,
+    session: &mut Session,
+) -> Result<Done, NoMemory>
+    ensures next { IfOk result (λ done. IsNext (E.step_of engine.now)
+        (run (E.step_of engine.now) session.old answer.now.task)
+        answer.now None done.tokens.items session.new done.next) }
+    ensures fits { IsSession session.old
+        → IfOk result (λ done. FitsOnePacket done.tokens.items) }
+{
     match &answer.task {
         Task::Batch(Some(_)) => run_statement(alloc, engine, answer, 0, session),
-        Task::Batch(None) => end_batch(alloc, error_token(alloc, 50001, b"syntax")?),
-        Task::Begin => {
-            let mut tokens = Vec::new(alloc);
-            begin_transaction(alloc, session, &mut tokens)?;
-            end_request(tokens)
-        }
-        Task::Commit(anew) => end_request(complete(alloc, session, Ending::Commit, *anew)?),
-        Task::Rollback(anew) => end_request(complete(alloc, session, Ending::Rollback, *anew)?),
+        Task::Batch(None) => refuse_text(alloc),
+        Task::Begin => begin(alloc, session),
+        Task::Commit(anew) => complete(alloc, session, Ending::Commit, *anew),
+        Task::Rollback(anew) => complete(alloc, session, Ending::Rollback, *anew),
     }
 }
 
+/// Refuses a text that is not in the language.
+#[tactic(auto, using(crate::proofs::Short::syntax_error))]
+fn refuse_text(alloc: Global) -> Result<Done, NoMemory>
+    ensures tokens { IfOk result
+        (λ done. done.tokens.items ≡ error 50001 (codes "syntax") ∷ []) }
+    ensures next { IfOk result (λ done. done.next ≡ Some due.Failed) }
+    ensures fits { IfOk result (λ done. FitsOnePacket done.tokens.items) }
+{
+    end_batch(alloc, error_token(alloc, 50001, b"syntax")?)
+}
+
+/// Begins a transaction.
+#[tactic(auto, using(crate::proofs::Short::begins_short))]
+fn begin(alloc: Global, session: &mut Session) -> Result<Done, NoMemory>
+    ensures tokens { IfOk result
+        (λ done. done.tokens.items ≡ (last_step (begins session.old)).tokens) }
+    ensures next { IfOk result (λ done. done.next ≡ None) }
+    ensures session { OnOk result (session.new ≡ (begins session.old).after) }
+    ensures fits { IsSession session.old
+        → IfOk result (λ done. FitsOnePacket done.tokens.items) }
+{
+    let mut tokens = Vec::new(alloc);
+    begin_transaction(alloc, session, &mut tokens)?;
+    end_request(tokens)
+}
+
 /// Ends the transaction, and at an isolation level begins the next one in the same change.
+#[tactic(auto, using(crate::proofs::Short::completes_short))]
 fn complete(
+    alloc: Global,
+    session: &mut Session,
+    ending: Ending,
+    anew: Option<Isolation>,
+) -> Result<Done, NoMemory>
+    ensures tokens { IfOk result
+        (λ done. done.tokens.items ≡ (last_step (completes ending anew session.old)).tokens) }
+    ensures next { IfOk result (λ done. done.next ≡ None) }
+    ensures session { OnOk result (session.new ≡ (completes ending anew session.old).after) }
+    ensures fits { IsSession session.old
+        → IfOk result (λ done. FitsOnePacket done.tokens.items) }
+{
+    let tokens = completed(alloc, session, ending, anew)?;
+    end_request(tokens)
+}
+
+/// What the end of a transaction gives.
+fn completed(
     alloc: Global,
     session: &mut Session,
     ending: Ending,
@@ -259,11 +316,11 @@ fn end_batch(alloc: Global, error: Token) -> Result<Done, NoMemory>
 
 /// The one step of a transaction manager request: what it gave, and the final DONE.
 fn end_request(given: Vec<Token>) -> Result<Done, NoMemory>
-    requires { AreShort given.items }
     ensures tokens { IfOk result (λ done. done.tokens.items
         ≡ given.items ++ final (list_any is_error given.items) ∷ []) }
     ensures next { IfOk result (λ done. done.next ≡ None) }
-    ensures fits { IfOk result (λ done. FitsOnePacket done.tokens.items) }
+    ensures fits { AreShort given.items
+        → IfOk result (λ done. FitsOnePacket done.tokens.items) }
 {
     let failed = has_error(given.as_slice());
     let mut tokens = given;
