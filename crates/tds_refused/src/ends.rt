@@ -1,128 +1,170 @@
 //! The calls of the ends, which have a core and its reader.
 
-use crate::cores::{ANSWER, GET};
-use crate::layers::{begin, size};
-use crate::tried::{Fault, Tried};
+use crate::cores::{ANSWER, GET, ask};
+use crate::layers::size;
+use crate::tried::{Fault, Tried, again};
 use std::alloc::Global;
-use tds_client::{ClientState, Sent};
-use tds_ends::{ClientEnd, ClientFed, ClientStop, ServerEnd, ServerFed, ServerStop};
+use tds_client::ClientState;
+use tds_ends::{ClientEnd, ClientStop, ServerEnd, ServerStop};
 use tds_server::Worked;
 use tds_session::ScriptEngine;
+use tds_token::Token;
 
-pub fn client_end_new(alloc: Global) -> Result<Tried, Fault> {
-    let mut tried = Tried::new(alloc);
-    let size = size()?;
-    let end = match ClientEnd::new(alloc, size) {
-        Ok(end) => end,
-        Err(_) => {
-            tried.refuse(true);
-            ClientEnd::new(alloc, size)?
-        }
-    };
-    tried.count(end.client().descriptor())?;
-    Ok(tried)
+/// A call of an end.
+#[derive(Clone, Copy)]
+pub enum EndCall {
+    NewClient,
+    NewServer,
+    Listen,
+    Serve,
+    Work,
 }
 
-pub fn server_end_new(alloc: Global) -> Result<Tried, Fault> {
-    let mut tried = Tried::new(alloc);
-    let size = size()?;
-    let end = match ServerEnd::new(alloc, ScriptEngine, size) {
-        Ok(end) => end,
-        Err(_) => {
-            tried.refuse(true);
-            ServerEnd::new(alloc, ScriptEngine, size)?
-        }
-    };
-    tried.count(end.server().session().descriptor())?;
-    Ok(tried)
+/// Makes it.
+pub fn call(alloc: Global, call: EndCall, tried: &mut Tried) -> Result<(), Fault> {
+    match call {
+        EndCall::NewClient => client_end_new(alloc, tried),
+        EndCall::NewServer => server_end_new(alloc, tried),
+        EndCall::Listen => client_listen(alloc, tried),
+        EndCall::Serve => server_end(alloc, false, tried),
+        EndCall::Work => server_end(alloc, true, tried),
+    }
+}
+
+fn client_end_new(alloc: Global, tried: &mut Tried) -> Result<(), Fault> {
+    match ClientEnd::new(alloc, size()?) {
+        Ok(end) => tried.count(end.client().descriptor()),
+        Err(_) => Err(Fault::Refused),
+    }
+}
+
+fn server_end_new(alloc: Global, tried: &mut Tried) -> Result<(), Fault> {
+    match ServerEnd::new(alloc, ScriptEngine, size()?) {
+        Ok(end) => tried.count(end.server().session().descriptor()),
+        Err(_) => Err(Fault::Refused),
+    }
+}
+
+/// Listens to a piece. `None` where all of it was taken, and how many bytes were where memory was
+/// wanted. The last piece ends the request, and no other does.
+fn hear(
+    end: &mut ClientEnd,
+    piece: &[u8],
+    is_last: bool,
+    told: &mut Vec<Token>,
+) -> Result<Option<usize>, Fault> {
+    let fed = end.listen(piece, told);
+    match &fed.stop {
+        None if fed.count == piece.len() && fed.settled.is_some() == is_last => Ok(None),
+        Some(ClientStop::NoMemory) => Ok(Some(fed.count)),
+        _ => Err(Fault::Wrong),
+    }
+}
+
+/// Listens to an answer.
+fn client_listen(alloc: Global, tried: &mut Tried) -> Result<(), Fault> {
+    let mut end = ClientEnd::new(alloc, size()?)?;
+    let mut told = Vec::new(alloc);
+    listen_to_all(alloc, &mut end, &mut told, tried)
 }
 
 /// The answer comes in two pieces; where memory was wanted, what is left of it comes again.
-pub fn client_listen(alloc: Global) -> Result<Tried, Fault> {
-    let mut tried = Tried::new(alloc);
-    let mut end = ClientEnd::new(alloc, size()?)?;
-    if end.client_mut().start(&begin()?).is_err() {
-        return Err(Fault::Memory);
-    }
-    let mut out = Vec::new(alloc);
-    let Ok(Sent::Last) = end.client_mut().send(&mut out) else {
-        return Err(Fault::Memory);
-    };
-    let mut told = Vec::new(alloc);
-    let first = end.listen(&ANSWER[..30], &mut told);
-    if first.stop.is_some() || first.count != 30 {
-        return Err(Fault::Wrong);
-    }
-    let mut fed = end.listen(&ANSWER[30..], &mut told);
-    if let Some(ClientStop::NoMemory) = &fed.stop {
-        let reading = matches!(end.client().state(), ClientState::Reading);
-        tried.refuse(reading && told.is_empty());
-        fed = go_on(&mut end, &fed, &mut told);
-    }
-    if fed.stop.is_some() || fed.settled.is_none() {
-        return Err(Fault::Wrong);
-    }
-    tried.count(told.len() as u64)?;
-    Ok(tried)
-}
-
-/// What is left of the second piece.
-fn go_on(end: &mut ClientEnd, fed: &ClientFed, told: &mut Vec<tds_token::Token>) -> ClientFed {
-    let rest = ANSWER.get(30 + fed.count.min(10)..).unwrap_or(&[]);
-    end.listen(rest, told)
-}
-
-/// A batch comes in two pieces; where memory was wanted, what is left of it comes again.
-pub fn server_serve(alloc: Global) -> Result<Tried, Fault> {
-    let mut tried = Tried::new(alloc);
-    let mut end = ServerEnd::new(alloc, ScriptEngine, size()?)?;
-    serve_all(alloc, &mut end, &mut tried)?;
-    let mut out = Vec::new(alloc);
-    end.work(&mut out)?;
-    tried.get(out.as_slice())?;
-    Ok(tried)
-}
-
-fn serve_all(
+fn listen_to_all(
     alloc: Global,
-    end: &mut ServerEnd<ScriptEngine>,
+    end: &mut ClientEnd,
+    told: &mut Vec<Token>,
     tried: &mut Tried,
 ) -> Result<(), Fault> {
-    let mut reply = Vec::new(alloc);
-    let first = end.serve(&GET[..30], &mut reply);
-    if first.stop.is_some() || first.count != 30 {
-        return Err(Fault::Wrong);
+    ask(alloc, end.client_mut())?;
+    all_taken(hear(end, &ANSWER[..30], false, told)?)?;
+    if let Some(count) = hear(end, &ANSWER[30..], true, told)? {
+        let is_reading = matches!(end.client().state(), ClientState::Reading);
+        tried.refuse(is_reading && told.is_empty());
+        all_taken(hear(end, behind(&ANSWER, count), true, told)?)?;
     }
-    let mut fed = end.serve(&GET[30..], &mut reply);
-    if let Some(ServerStop::NoMemory) = &fed.stop {
-        tried.refuse(reply.is_empty() && end.server().session().descriptor() == 0);
-        fed = serve_on(end, &fed, &mut reply);
-    }
-    match fed.stop {
+    tried.count(told.len() as u64)
+}
+
+/// What is left of these bytes where so many of the second piece were taken.
+fn behind(bytes: &[u8; 40], count: usize) -> &[u8] {
+    &bytes[30 + count.min(10)..]
+}
+
+fn all_taken(taken: Option<usize>) -> Result<(), Fault> {
+    match taken {
         None => Ok(()),
         Some(_) => Err(Fault::Wrong),
     }
 }
 
-fn serve_on(end: &mut ServerEnd<ScriptEngine>, fed: &ServerFed, reply: &mut Vec<u8>) -> ServerFed {
-    let rest = GET.get(30 + fed.count.min(10)..).unwrap_or(&[]);
-    end.serve(rest, reply)
+/// The same of a server.
+fn serve(
+    end: &mut ServerEnd<ScriptEngine>,
+    piece: &[u8],
+    reply: &mut Vec<u8>,
+) -> Result<Option<usize>, Fault> {
+    let fed = end.serve(piece, reply);
+    match &fed.stop {
+        None if fed.count == piece.len() => Ok(None),
+        Some(ServerStop::NoMemory) => Ok(Some(fed.count)),
+        _ => Err(Fault::Wrong),
+    }
 }
 
-pub fn server_end_work(alloc: Global) -> Result<Tried, Fault> {
-    let mut tried = Tried::new(alloc);
-    let mut unseen = Tried::new(alloc);
+/// Does a step of the answer, which isn't its last.
+fn work(end: &mut ServerEnd<ScriptEngine>, out: &mut Vec<u8>) -> Result<(), Fault> {
+    match end.work(out) {
+        Ok(Worked::Step) => Ok(()),
+        Ok(_) => Err(Fault::Wrong),
+        Err(_) => Err(Fault::Memory),
+    }
+}
+
+/// Whether a server's end is as it was made, and has replied nothing.
+fn is_untouched(end: &ServerEnd<ScriptEngine>, reply: &[u8]) -> bool {
+    end.server().session().descriptor() == 0 && reply.is_empty()
+}
+
+/// Makes a call of a server's end: `work`, or `serve` before it.
+fn server_end(alloc: Global, is_work: bool, tried: &mut Tried) -> Result<(), Fault> {
     let mut end = ServerEnd::new(alloc, ScriptEngine, size()?)?;
-    serve_all(alloc, &mut end, &mut unseen)?;
     let mut out = Vec::new(alloc);
-    let mut worked = end.work(&mut out);
-    if worked.is_err() {
-        tried.refuse(out.is_empty() && end.server().session().descriptor() == 0);
-        worked = end.work(&mut out);
+    if is_work {
+        work_on_all(&mut end, &mut out, tried)
+    } else {
+        serve_all(&mut end, &mut out, tried)
     }
-    match worked? {
-        Worked::Step => tried.get(out.as_slice())?,
-        _ => return Err(Fault::Wrong),
+}
+
+/// A batch comes in two pieces; where memory was wanted, what is left of it comes again.
+fn serve_all(
+    end: &mut ServerEnd<ScriptEngine>,
+    out: &mut Vec<u8>,
+    tried: &mut Tried,
+) -> Result<(), Fault> {
+    all_taken(serve(end, &GET[..30], out)?)?;
+    if let Some(count) = serve(end, &GET[30..], out)? {
+        tried.refuse(is_untouched(end, out.as_slice()));
+        all_taken(serve(end, behind(&GET, count), out)?)?;
     }
-    Ok(tried)
+    work(end, out)?;
+    tried.get(out.as_slice())
+}
+
+fn work_on_all(
+    end: &mut ServerEnd<ScriptEngine>,
+    out: &mut Vec<u8>,
+    tried: &mut Tried,
+) -> Result<(), Fault> {
+    if serve(end, &GET, out)?.is_some() {
+        return Err(Fault::Memory);
+    }
+    match work(end, out) {
+        Err(Fault::Memory) => {
+            tried.refuse(is_untouched(end, out.as_slice()));
+            again(work(end, out))?;
+        }
+        worked => worked?,
+    }
+    tried.get(out.as_slice())
 }

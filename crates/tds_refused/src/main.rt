@@ -10,50 +10,72 @@ mod plays;
 mod pools;
 mod tried;
 
+use cores::{ClientCall, ServerCall};
+use ends::EndCall;
+use layers::{Appended, LayerCall};
+use plays::PlayCall;
+use pools::PoolCall;
 use std::alloc::Global;
 use std::env;
 use std::io::Write;
 use std::process::ExitCode;
 use tried::{Fault, Tried};
 
+/// A call of a crate.
+#[derive(Clone, Copy)]
+enum Call {
+    Layer(LayerCall),
+    Client(ClientCall),
+    Server(ServerCall),
+    Pool(PoolCall),
+    End(EndCall),
+    Play(PlayCall),
+}
+
 /// The calls, by the names that the program takes.
-const NAMES: [&str; 36] = [
-    "PacketReader::new",
-    "put_packet",
-    "put_sent",
-    "put_token",
-    "TokenRef::own:message",
-    "TokenRef::own:columns",
-    "TokenRef::own:row",
-    "encode",
-    "decode",
-    "Engine::parse",
-    "Engine::step",
-    "begin_transaction",
-    "error_token",
-    "Client::start",
-    "Client::send",
-    "Client::cancel",
-    "Client::take",
-    "Server::take",
-    "Server::take:attention",
-    "Server::work",
-    "Pool::lease",
-    "Pool::give_back",
-    "Pool::numbers",
-    "Pool::numbers_at",
-    "ClientEnd::new",
-    "ServerEnd::new",
-    "ClientEnd::listen",
-    "ServerEnd::serve",
-    "ServerEnd::work",
-    "play",
-    "play_with",
-    "render",
-    "read_schedule",
-    "word_bytes",
-    "read_words",
-    "MemoryCarrier",
+const CALLS: [(&str, Call); 36] = [
+    ("PacketReader::new", Call::Layer(LayerCall::NewReader)),
+    ("put_packet", Call::Layer(LayerCall::Put(Appended::Packet))),
+    (
+        "put_sent",
+        Call::Layer(LayerCall::Put(Appended::SentPacket)),
+    ),
+    ("put_token", Call::Layer(LayerCall::Put(Appended::Token))),
+    ("TokenRef::own:message", Call::Layer(LayerCall::Own(0))),
+    ("TokenRef::own:columns", Call::Layer(LayerCall::Own(1))),
+    ("TokenRef::own:row", Call::Layer(LayerCall::Own(2))),
+    ("encode", Call::Layer(LayerCall::Put(Appended::Request))),
+    ("decode", Call::Layer(LayerCall::Decode)),
+    ("Engine::parse", Call::Layer(LayerCall::Parse)),
+    ("Engine::step", Call::Layer(LayerCall::Step)),
+    ("begin_transaction", Call::Layer(LayerCall::Begin)),
+    ("error_token", Call::Layer(LayerCall::Error)),
+    ("Client::start", Call::Client(ClientCall::Start)),
+    ("Client::send", Call::Client(ClientCall::Send)),
+    ("Client::cancel", Call::Client(ClientCall::Cancel)),
+    ("Client::take", Call::Client(ClientCall::Take)),
+    ("Server::take", Call::Server(ServerCall::TakeBatch)),
+    (
+        "Server::take:attention",
+        Call::Server(ServerCall::TakeAttention),
+    ),
+    ("Server::work", Call::Server(ServerCall::Work)),
+    ("Pool::lease", Call::Pool(PoolCall::Lease)),
+    ("Pool::give_back", Call::Pool(PoolCall::GiveBack)),
+    ("Pool::numbers", Call::Pool(PoolCall::Numbers)),
+    ("Pool::numbers_at", Call::Pool(PoolCall::NumbersAt)),
+    ("ClientEnd::new", Call::End(EndCall::NewClient)),
+    ("ServerEnd::new", Call::End(EndCall::NewServer)),
+    ("ClientEnd::listen", Call::End(EndCall::Listen)),
+    ("ServerEnd::serve", Call::End(EndCall::Serve)),
+    ("ServerEnd::work", Call::End(EndCall::Work)),
+    ("play", Call::Play(PlayCall::Play)),
+    ("play_with", Call::Play(PlayCall::PlayWith)),
+    ("render", Call::Play(PlayCall::Render)),
+    ("read_schedule", Call::Play(PlayCall::ReadSchedule)),
+    ("word_bytes", Call::Play(PlayCall::ReadWord)),
+    ("read_words", Call::Play(PlayCall::ReadLine)),
+    ("MemoryCarrier", Call::Play(PlayCall::Carry)),
 ];
 
 fn main(rt: HostRuntime) -> ExitCode {
@@ -66,79 +88,68 @@ fn main(rt: HostRuntime) -> ExitCode {
     }
 }
 
-/// Makes the calls that the words name: `names` prints the names, and `all` makes each call.
+/// Does what the words say, and prints what came of it.
 fn run(rt: &HostRuntime) -> Result<(), Fault> {
-    let alloc = rt.alloc();
-    let mut text = String::new(alloc);
-    let words = env::args(rt).map_err(|_| Fault::Memory)?;
-    for word in words.skip(1) {
-        match word.as_str() {
-            "names" => {
-                for name in NAMES.iter() {
-                    text.push_str(name)?;
-                    text.push_str("\n")?;
-                }
-            }
-            "all" => {
-                for name in NAMES.iter() {
-                    call(alloc, name)?.tell(name, &mut text)?;
-                }
-            }
-            name => call(alloc, name)?.tell(name, &mut text)?,
-        }
-    }
+    let mut text = String::new(rt.alloc());
+    heed_all(rt, &mut text)?;
     match rt.stdout().write_all(text.as_bytes()) {
         Ok(()) => Ok(()),
         Err(_) => Err(Fault::Output),
     }
 }
 
-/// The call of this name.
-fn call(alloc: Global, name: &str) -> Result<Tried, Fault> {
-    match name {
-        "PacketReader::new" => layers::reader_new(alloc),
-        "put_packet" => layers::put_a_packet(alloc),
-        "put_sent" => layers::put_a_sent_packet(alloc),
-        "put_token" => layers::put_a_token(alloc),
-        "TokenRef::own:message" => layers::own_a_message(alloc),
-        "TokenRef::own:columns" => layers::own_columns(alloc),
-        "TokenRef::own:row" => layers::own_a_row(alloc),
-        "encode" => layers::encode_a_batch(alloc),
-        "decode" => layers::decode_a_batch(alloc),
-        "Engine::parse" => layers::parse_a_text(alloc),
-        "Engine::step" => layers::step_a_statement(alloc),
-        "begin_transaction" => layers::begin_in_a_session(alloc),
-        "error_token" => layers::make_an_error(alloc),
-        "Client::start" => cores::client_start(alloc),
-        "Client::send" => cores::client_send(alloc),
-        "Client::cancel" => cores::client_cancel(alloc),
-        "Client::take" => cores::client_take(alloc),
-        "Server::take" => cores::server_take(alloc),
-        "Server::take:attention" => cores::server_take_attention(alloc),
-        "Server::work" => cores::server_work(alloc),
-        "Pool::lease" => pools::pool_lease(alloc),
-        "Pool::give_back" => pools::pool_give_back(alloc),
-        "Pool::numbers" => pools::pool_numbers(alloc),
-        "Pool::numbers_at" => pools::pool_numbers_at(alloc),
-        name => call_above(alloc, name),
+fn heed_all(rt: &HostRuntime, text: &mut String) -> Result<(), Fault> {
+    let alloc = rt.alloc();
+    let mut tried = Tried::new(alloc);
+    let Ok(words) = env::args(rt) else {
+        return Err(Fault::Memory);
+    };
+    for word in words.skip(1) {
+        heed(alloc, word.as_str(), &mut tried, text)?;
+    }
+    Ok(())
+}
+
+/// A word is a call's name; `names` puts the names, and `all` makes each call.
+fn heed(alloc: Global, word: &str, tried: &mut Tried, text: &mut String) -> Result<(), Fault> {
+    let mut is_known = false;
+    for (name, call) in CALLS.iter() {
+        if word == "names" {
+            text.push_str(name)?;
+            text.push_str("\n")?;
+            is_known = true;
+        } else if word == "all" || word == *name {
+            make(alloc, *call, tried)?;
+            tried.tell(name, text)?;
+            is_known = true;
+        }
+    }
+    if is_known {
+        Ok(())
+    } else {
+        Err(Fault::Unknown)
     }
 }
 
-/// Those of the ends and of a play.
-fn call_above(alloc: Global, name: &str) -> Result<Tried, Fault> {
-    match name {
-        "ClientEnd::new" => ends::client_end_new(alloc),
-        "ServerEnd::new" => ends::server_end_new(alloc),
-        "ClientEnd::listen" => ends::client_listen(alloc),
-        "ServerEnd::serve" => ends::server_serve(alloc),
-        "ServerEnd::work" => ends::server_end_work(alloc),
-        "play" => plays::play_a_schedule(alloc),
-        "play_with" => plays::play_with_an_engine(alloc),
-        "render" => plays::render_a_report(alloc),
-        "read_schedule" => plays::read_a_schedule(alloc),
-        "word_bytes" => plays::read_a_word(alloc),
-        "read_words" => plays::read_a_line(alloc),
-        "MemoryCarrier" => plays::memory_carrier(alloc),
-        _ => Err(Fault::Unknown),
+/// Makes a call. One that has nothing which could change is made again here, the others see to it
+/// themselves.
+fn make(alloc: Global, call: Call, tried: &mut Tried) -> Result<(), Fault> {
+    match make_once(alloc, call, tried) {
+        Err(Fault::Refused) => {
+            tried.refuse(true);
+            make_once(alloc, call, tried)
+        }
+        made => made,
+    }
+}
+
+fn make_once(alloc: Global, call: Call, tried: &mut Tried) -> Result<(), Fault> {
+    match call {
+        Call::Layer(call) => layers::call(alloc, call, tried),
+        Call::Client(call) => cores::call_client(alloc, call, tried),
+        Call::Server(call) => cores::call_server(alloc, call, tried),
+        Call::Pool(call) => pools::call(alloc, call, tried),
+        Call::End(call) => ends::call(alloc, call, tried),
+        Call::Play(call) => plays::call(alloc, call, tried),
     }
 }

@@ -1,6 +1,6 @@
 //! The calls that play, and those of the texts around a play.
 
-use crate::tried::{Fault, Tried};
+use crate::tried::{Fault, Tried, again};
 use std::alloc::Global;
 use tds_packet::Direction;
 use tds_play::{
@@ -8,6 +8,31 @@ use tds_play::{
     Setup, WordFault, play, play_with, read_schedule, read_words, render, word_bytes,
 };
 use tds_session::ScriptEngine;
+
+/// A call that plays, or one of the texts around a play.
+#[derive(Clone, Copy)]
+pub enum PlayCall {
+    Play,
+    PlayWith,
+    Render,
+    ReadSchedule,
+    ReadWord,
+    ReadLine,
+    Carry,
+}
+
+/// Makes it.
+pub fn call(alloc: Global, call: PlayCall, tried: &mut Tried) -> Result<(), Fault> {
+    match call {
+        PlayCall::Play => play_a_schedule(alloc, tried),
+        PlayCall::PlayWith => play_with_an_engine(alloc, tried),
+        PlayCall::Render => render_a_report(alloc, tried),
+        PlayCall::ReadSchedule => read_a_schedule(alloc, tried),
+        PlayCall::ReadWord => read_a_word(alloc, tried),
+        PlayCall::ReadLine => read_a_line(alloc, tried),
+        PlayCall::Carry => memory_carrier(alloc, tried),
+    }
+}
 
 /// A lease asks for a value, and is answered.
 const SCHEDULE: &[u8] = br#"{"version":1,"packet_size":512,"max":1,"events":[
@@ -24,136 +49,108 @@ fn schedule(alloc: Global) -> Result<(Setup, Vec<Event>), Fault> {
 /// The report's text.
 fn say_report(alloc: Global, report: &Report, tried: &mut Tried) -> Result<(), Fault> {
     let mut text = Vec::new(alloc);
-    if render(alloc, report, &mut text).is_err() {
-        return Err(Fault::Memory);
+    match render(alloc, report, &mut text) {
+        Ok(()) => tried.say_bytes(text.as_slice()),
+        Err(_) => Err(Fault::Memory),
     }
-    say_bytes(text.as_slice(), tried)
 }
 
-/// A text of ASCII, from a new line on.
-fn say_bytes(text: &[u8], tried: &mut Tried) -> Result<(), Fault> {
-    tried.say_byte(b'\n')?;
-    for byte in text {
-        tried.say_byte(*byte)?;
+/// Plays it over this carrier.
+fn report_over(alloc: Global, carrier: &mut MemoryCarrier) -> Result<Report, Fault> {
+    let (setup, events) = schedule(alloc)?;
+    match play(alloc, &setup, events.as_slice(), carrier) {
+        Ok(report) => Ok(report),
+        Err(PlayRefusal::Memory) => Err(Fault::Refused),
+        Err(_) => Err(Fault::Wrong),
     }
-    Ok(())
 }
 
 /// What `play` answered; again, with a new carrier, where memory was wanted.
-pub fn play_a_schedule(alloc: Global) -> Result<Tried, Fault> {
-    let mut tried = Tried::new(alloc);
+fn play_a_schedule(alloc: Global, tried: &mut Tried) -> Result<(), Fault> {
+    let report = report_over(alloc, &mut MemoryCarrier::new(alloc))?;
+    say_report(alloc, &report, tried)
+}
+
+/// Plays it with an engine, over this carrier.
+fn report_with(alloc: Global, carrier: &mut MemoryCarrier) -> Result<Report, Fault> {
     let (setup, events) = schedule(alloc)?;
-    let mut carrier = MemoryCarrier::new(alloc);
-    let played = match play(alloc, &setup, events.as_slice(), &mut carrier) {
-        Err(PlayRefusal::Memory) => {
-            tried.refuse(true);
-            let mut again = MemoryCarrier::new(alloc);
-            play(alloc, &setup, events.as_slice(), &mut again)
-        }
-        played => played,
-    };
-    match played {
-        Ok(report) => say_report(alloc, &report, &mut tried)?,
-        Err(_) => return Err(Fault::Wrong),
+    match play_with(alloc, &setup, events.as_slice(), ScriptEngine, carrier) {
+        Ok(report) => Ok(report),
+        Err(PlayRefusal::Memory) => Err(Fault::Refused),
+        Err(_) => Err(Fault::Wrong),
     }
-    Ok(tried)
 }
 
 /// The same of `play_with`, over the carrier that was used.
-pub fn play_with_an_engine(alloc: Global) -> Result<Tried, Fault> {
-    let mut tried = Tried::new(alloc);
-    let (setup, events) = schedule(alloc)?;
+fn play_with_an_engine(alloc: Global, tried: &mut Tried) -> Result<(), Fault> {
     let mut carrier = MemoryCarrier::new(alloc);
-    let played = match play_with(alloc, &setup, events.as_slice(), ScriptEngine, &mut carrier) {
-        Err(PlayRefusal::Memory) => {
+    let report = report_with_twice(alloc, &mut carrier, tried)?;
+    say_report(alloc, &report, tried)
+}
+
+fn report_with_twice(
+    alloc: Global,
+    carrier: &mut MemoryCarrier,
+    tried: &mut Tried,
+) -> Result<Report, Fault> {
+    match report_with(alloc, carrier) {
+        Err(Fault::Refused) => {
             tried.refuse(true);
-            play_with(alloc, &setup, events.as_slice(), ScriptEngine, &mut carrier)
+            match report_with(alloc, carrier) {
+                Ok(report) => Ok(report),
+                Err(_) => Err(Fault::Wrong),
+            }
         }
-        played => played,
-    };
-    match played {
-        Ok(report) => say_report(alloc, &report, &mut tried)?,
-        Err(_) => return Err(Fault::Wrong),
+        report => report,
     }
-    Ok(tried)
 }
 
 /// A report is rendered; again, with a new writer, where memory was wanted.
-pub fn render_a_report(alloc: Global) -> Result<Tried, Fault> {
-    let mut tried = Tried::new(alloc);
-    let (setup, events) = schedule(alloc)?;
-    let mut carrier = MemoryCarrier::new(alloc);
-    let Ok(report) = play(alloc, &setup, events.as_slice(), &mut carrier) else {
+fn render_a_report(alloc: Global, tried: &mut Tried) -> Result<(), Fault> {
+    let Ok(report) = report_over(alloc, &mut MemoryCarrier::new(alloc)) else {
         return Err(Fault::Memory);
     };
     let mut text = Vec::new(alloc);
     if render(alloc, &report, &mut text).is_err() {
         let mut whole = Vec::new(alloc);
-        if render(alloc, &report, &mut whole).is_err() {
-            return Err(Fault::Wrong);
-        }
+        again(render(alloc, &report, &mut whole))?;
         tried.refuse(whole.as_slice().starts_with(text.as_slice()));
         text = whole;
     }
-    say_bytes(text.as_slice(), &mut tried)?;
-    Ok(tried)
+    tried.say_bytes(text.as_slice())
 }
 
-pub fn read_a_schedule(alloc: Global) -> Result<Tried, Fault> {
-    let mut tried = Tried::new(alloc);
-    let read = match read_schedule(alloc, SCHEDULE) {
-        Err(ScheduleFault::Memory) => {
-            tried.refuse(true);
-            read_schedule(alloc, SCHEDULE)
-        }
-        read => read,
-    };
-    match read {
+fn read_a_schedule(alloc: Global, tried: &mut Tried) -> Result<(), Fault> {
+    match read_schedule(alloc, SCHEDULE) {
         Ok((setup, events)) => {
             tried.count(u64::from(setup.max))?;
-            tried.count(events.len() as u64)?;
+            tried.count(events.len() as u64)
         }
-        Err(_) => return Err(Fault::Wrong),
+        Err(ScheduleFault::Memory) => Err(Fault::Refused),
+        Err(_) => Err(Fault::Wrong),
     }
-    Ok(tried)
 }
 
-pub fn read_a_word(alloc: Global) -> Result<Tried, Fault> {
-    let mut tried = Tried::new(alloc);
-    let bytes = match word_bytes(alloc, "0601000800000100") {
-        Err(WordFault::Memory) => {
-            tried.refuse(true);
-            word_bytes(alloc, "0601000800000100")
-        }
-        bytes => bytes,
-    };
-    match bytes {
-        Ok(bytes) => tried.get(bytes.as_slice())?,
-        Err(_) => return Err(Fault::Wrong),
+fn read_a_word(alloc: Global, tried: &mut Tried) -> Result<(), Fault> {
+    match word_bytes(alloc, "0601000800000100") {
+        Ok(bytes) => tried.get(bytes.as_slice()),
+        Err(WordFault::Memory) => Err(Fault::Refused),
+        Err(_) => Err(Fault::Wrong),
     }
-    Ok(tried)
 }
 
-pub fn read_a_line(alloc: Global) -> Result<Tried, Fault> {
-    let mut tried = Tried::new(alloc);
+fn read_a_line(alloc: Global, tried: &mut Tried) -> Result<(), Fault> {
     let mut words = Vec::new(alloc);
     for word in ["play", "a_file"] {
         let mut text = String::new(alloc);
         text.push_str(word)?;
         words.push(text)?;
     }
-    let read = match read_words(alloc, words.as_slice()) {
-        Err(LineFault::Memory) => {
-            tried.refuse(true);
-            read_words(alloc, words.as_slice())
-        }
-        read => read,
-    };
-    match read {
-        Ok(tds_play::Command::Play(name)) => tried.say(name.as_str())?,
-        _ => return Err(Fault::Wrong),
+    match read_words(alloc, words.as_slice()) {
+        Ok(tds_play::Command::Play(name)) => tried.say(name.as_str()),
+        Err(LineFault::Memory) => Err(Fault::Refused),
+        _ => Err(Fault::Wrong),
     }
-    Ok(tried)
 }
 
 /// A connection is opened, handed bytes, and asked for them. Where memory is refused nothing is
@@ -165,19 +162,17 @@ fn carry(alloc: Global, out: &mut Vec<u8>) -> Result<usize, CarrierError> {
     carrier.carry(1, Direction::ToServer, 2, out)
 }
 
-pub fn memory_carrier(alloc: Global) -> Result<Tried, Fault> {
-    let mut tried = Tried::new(alloc);
+fn memory_carrier(alloc: Global, tried: &mut Tried) -> Result<(), Fault> {
     let mut out = Vec::new(alloc);
-    let carried = match carry(alloc, &mut out) {
+    match carry(alloc, &mut out) {
+        Ok(2) => tried.get(out.as_slice()),
         Err(CarrierError::Memory) => {
             tried.refuse(out.is_empty());
-            carry(alloc, &mut out)
+            match carry(alloc, &mut out) {
+                Ok(2) => tried.get(out.as_slice()),
+                _ => Err(Fault::Wrong),
+            }
         }
-        carried => carried,
-    };
-    match carried {
-        Ok(2) => tried.get(out.as_slice())?,
-        _ => return Err(Fault::Wrong),
+        _ => Err(Fault::Wrong),
     }
-    Ok(tried)
 }

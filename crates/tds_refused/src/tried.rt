@@ -1,11 +1,13 @@
 //! What came of a call that was made again where memory was refused.
 
 use std::alloc::{AllocError, AllocFailed, Global};
-use std::fmt::{Error, Write};
+use std::fmt::Write;
 
 /// Why a call was not tried.
-#[derive(Clone, Copy, PartialEq, Eq, Debug)]
+#[derive(Clone, Copy)]
 pub enum Fault {
+    /// Memory was refused inside of the call, which has nothing that could have changed.
+    Refused,
     /// Memory was refused beside the call: for its state, or for what is printed of it.
     Memory,
     /// The call answered what it should not.
@@ -20,6 +22,7 @@ impl Fault {
     /// The word behind `error: `.
     pub fn word(self) -> &'static str {
         match self {
+            Fault::Refused => "refused",
             Fault::Memory => "memory",
             Fault::Wrong => "wrong",
             Fault::Unknown => "unknown",
@@ -31,7 +34,7 @@ impl Fault {
     pub fn status(self) -> u8 {
         match self {
             Fault::Memory => 1,
-            Fault::Wrong | Fault::Unknown | Fault::Output => 2,
+            Fault::Refused | Fault::Wrong | Fault::Unknown | Fault::Output => 2,
         }
     }
 }
@@ -48,14 +51,16 @@ impl<T: Drop> From<AllocFailed<T>> for Fault {
     }
 }
 
-impl From<Error> for Fault {
-    fn from(_: Error) -> Fault {
-        Fault::Memory
+/// A call that is made again gives what it should.
+pub fn again<T: Drop, E: Drop>(called: Result<T, E>) -> Result<(), Fault> {
+    match called {
+        Ok(_) => Ok(()),
+        Err(_) => Err(Fault::Wrong),
     }
 }
 
-/// What came of a call.
-#[derive(Debug, Drop)]
+/// What came of a call. It is kept for the next one.
+#[derive(Drop)]
 pub struct Tried {
     /// Whether memory was refused inside of it, so that it was made again.
     was_refused: bool,
@@ -102,21 +107,30 @@ impl Tried {
         Ok(())
     }
 
-    /// The call gave what this byte of ASCII says.
-    pub fn say_byte(&mut self, byte: u8) -> Result<(), Fault> {
-        self.got.push(char::from(byte))?;
+    /// The call gave what this text of ASCII says, from a new line on.
+    pub fn say_bytes(&mut self, text: &[u8]) -> Result<(), Fault> {
+        self.got.push('\n')?;
+        for byte in text {
+            self.got.push(char::from(*byte))?;
+        }
         Ok(())
     }
 
-    /// A line for the refusal, if there was one, and a line for what the call gave.
-    pub fn tell(&self, name: &str, text: &mut String) -> Result<(), Fault> {
+    /// A line for the refusal, if there was one, and a line for what the call gave. Then it is empty.
+    pub fn tell(&mut self, name: &str, text: &mut String) -> Result<(), Fault> {
         if self.was_refused {
-            writeln!(text, "refused")?;
+            text.push_str("refused\n")?;
         }
         if self.has_changed {
-            writeln!(text, "changed")?;
+            text.push_str("changed\n")?;
         }
-        writeln!(text, "{name}:{}", self.got.as_str())?;
+        self.was_refused = false;
+        self.has_changed = false;
+        text.push_str(name)?;
+        text.push_str(":")?;
+        text.push_str(self.got.as_str())?;
+        text.push_str("\n")?;
+        self.got.clear();
         Ok(())
     }
 }
