@@ -1,7 +1,6 @@
 //! A client of the server, which never waits.
-ghost use Rattle.std.specs.Prelude.{◌≡◌};
 
-use anyhow::bail;
+use crate::trouble::Trouble;
 use std::alloc::Global;
 use std::io::{ErrorKind, Read, Write};
 use std::net::{SocketAddr, TcpStream};
@@ -13,6 +12,40 @@ use tds_request::{BatchText, Request};
 use tds_text::put_token_line;
 use tds_token::Token;
 
+/// A packet size.
+fn size_of(bytes: u16) -> Result<PacketSize, Trouble> {
+    PacketSize::new(bytes).ok_or(Trouble::Value)
+}
+
+/// A login that asks for packets of this size.
+pub fn login(alloc: Global, size: u16) -> Result<Vec<u8>, Trouble> {
+    let size = size_of(size)?;
+    let mut out = Vec::new(alloc);
+    put_login(&mut out, size)?;
+    Ok(out)
+}
+
+/// A connection that never waits, on which these bytes were sent.
+pub fn connect(rt: &HostRuntime, address: SocketAddr, bytes: &[u8]) -> Result<TcpStream, Trouble> {
+    let mut stream = TcpStream::connect(rt, address)?;
+    stream.set_nodelay(true)?;
+    stream.set_nonblocking(true)?;
+    stream.write_all(bytes)?;
+    Ok(stream)
+}
+
+/// A batch of this text.
+fn batch(alloc: Global, text: &str) -> Result<Request, Trouble> {
+    let mut units = Vec::new(alloc);
+    for unit in text.encode_utf16() {
+        units.push(unit)?;
+    }
+    match BatchText::new(units) {
+        Some(text) => Ok(Request::Batch(text)),
+        None => Err(Trouble::Value),
+    }
+}
+
 /// A client with its connection.
 #[derive(Drop)]
 pub struct Caller {
@@ -22,123 +55,96 @@ pub struct Caller {
     login: Vec<u8>,
     pub is_in: bool,
     /// What its request was told.
-    pub told: Vec<Token>,
+    told: Vec<Token>,
     /// What became of its request.
     pub became: Option<RequestStatus>,
     /// How many bytes have come since it was asked.
-    pub bytes: usize,
-    /// How many reads brought them.
-    pub reads: usize,
+    bytes: usize,
     /// Whether the server has closed the connection.
     pub is_over: bool,
 }
 
 impl Caller {
     /// Connects, and asks to be let in.
-    pub fn new(rt: &HostRuntime, alloc: Global, address: SocketAddr) -> anyhow::Result<Caller> {
-        let Some(size) = PacketSize::new(4096) else {
-            bail!("no packet size");
-        };
-        let mut stream = TcpStream::connect(rt, address)?;
-        stream.set_nodelay(true)?;
-        stream.set_nonblocking(true)?;
-        let mut out = Vec::new(alloc);
-        put_login(&mut out, size)?;
-        stream.write_all(out.as_slice())?;
+    pub fn new(rt: &HostRuntime, alloc: Global, address: SocketAddr) -> Result<Caller, Trouble> {
+        let size = size_of(4096)?;
+        let login = login(alloc, 4096)?;
+        let stream = connect(rt, address, login.as_slice())?;
+        let end = ClientEnd::new(alloc, size)?;
         Ok(Caller {
             stream,
-            end: ClientEnd::new(alloc, size)?,
+            end,
             login: Vec::new(alloc),
             is_in: false,
             told: Vec::new(alloc),
             became: None,
             bytes: 0,
-            reads: 0,
             is_over: false,
         })
     }
 
-    /// The descriptor of the open transaction, 0 for none.
-    pub fn descriptor(&self) -> u64 {
-        self.end.client().descriptor()
-    }
-
     /// Asks for a batch of this text.
-    pub fn ask(&mut self, alloc: Global, text: &str) -> anyhow::Result<()> {
-        let out = self.spell(alloc, text)?;
+    pub fn ask(&mut self, alloc: Global, text: &str) -> Result<(), Trouble> {
+        let mut out = Vec::new(alloc);
+        self.spell(alloc, text, &mut out)?;
         self.stream.write_all(out.as_slice())?;
         Ok(())
     }
 
-    /// Starts a batch of this text, and gives its bytes.
-    pub fn spell(&mut self, alloc: Global, text: &str) -> anyhow::Result<Vec<u8>> {
-        let mut units = Vec::new(alloc);
-        for unit in text.encode_utf16() {
-            units.push(unit)?;
-        }
-        let Some(text) = BatchText::new(units) else {
-            bail!("no batch");
-        };
-        if self.end.client_mut().start(&Request::Batch(text)).is_err() {
-            bail!("a request is underway");
-        }
-        let mut out = Vec::new(alloc);
-        for _ in 0..u64::MAX {
-            match self.end.client_mut().send(&mut out) {
-                Ok(Sent::More) => {}
-                Ok(Sent::Last) => break,
-                Err(_) => bail!("nothing to send"),
-            }
-        }
+    /// Starts a batch of this text, and appends its bytes, which are one packet's.
+    pub fn spell(&mut self, alloc: Global, text: &str, out: &mut Vec<u8>) -> Result<(), Trouble> {
+        let request = batch(alloc, text)?;
         self.told.clear();
         self.became = None;
         self.bytes = 0;
-        self.reads = 0;
-        Ok(out)
+        let client = self.end.client_mut();
+        if client.start(&request).is_err() {
+            return Err(Trouble::Refused);
+        }
+        match client.send(out) {
+            Ok(Sent::Last) => Ok(()),
+            _ => Err(Trouble::Refused),
+        }
     }
 
     /// Cancels its request.
-    pub fn cancel(&mut self, alloc: Global) -> anyhow::Result<()> {
+    pub fn cancel(&mut self, alloc: Global) -> Result<(), Trouble> {
         let mut out = Vec::new(alloc);
         if self.end.client_mut().cancel(&mut out).is_err() {
-            bail!("no cancel");
+            return Err(Trouble::Refused);
         }
         self.stream.write_all(out.as_slice())?;
         Ok(())
     }
 
     /// Takes what has come, if anything has.
-    pub fn hear(&mut self) -> anyhow::Result<()> {
+    pub fn hear(&mut self) -> Result<(), Trouble> {
         let mut piece = [0u8; 4096];
-        let count = match self.stream.read(&mut piece) {
-            Ok(0) => {
-                self.is_over = true;
-                return Ok(());
-            }
-            Ok(count) => count,
-            Err(error) if error.kind() == ErrorKind::WouldBlock => return Ok(()),
-            Err(_) => {
-                self.is_over = true;
-                return Ok(());
-            }
-        };
-        if !self.is_in {
-            return self.hear_login(&piece[..count]);
+        match self.stream.read(&mut piece) {
+            Ok(0) => self.is_over = true,
+            Ok(count) if self.is_in => return self.take(&piece[..count]),
+            Ok(count) => return self.take_login(&piece[..count]),
+            Err(error) if error.kind() == ErrorKind::WouldBlock => {}
+            Err(_) => self.is_over = true,
         }
-        self.bytes = self.bytes.saturating_add(count);
-        self.reads = self.reads.saturating_add(1);
-        let fed = self.end.listen(&piece[..count], &mut self.told);
-        if let Some(stop) = fed.stop {
-            bail!("the client stopped: {stop:?}");
+        Ok(())
+    }
+
+    /// Takes a piece of an answer.
+    fn take(&mut self, piece: &[u8]) -> Result<(), Trouble> {
+        self.bytes = self.bytes.saturating_add(piece.len());
+        let fed = self.end.listen(piece, &mut self.told);
+        if fed.stop.is_some() {
+            return Err(Trouble::Stopped);
         }
-        if let Some(status) = fed.settled {
-            self.became = Some(status);
+        if fed.settled.is_some() {
+            self.became = fed.settled;
         }
         Ok(())
     }
 
     /// Takes a piece of the login's answer, which is one packet.
-    fn hear_login(&mut self, piece: &[u8]) -> anyhow::Result<()> {
+    fn take_login(&mut self, piece: &[u8]) -> Result<(), Trouble> {
         self.login.extend_from_slice(piece)?;
         let [_, _, high, low, _, _, _, _, data @ ..] = self.login.as_slice() else {
             return Ok(());
@@ -147,19 +153,56 @@ impl Caller {
         if data.len() < length.saturating_sub(8) {
             return Ok(());
         }
-        if !is_let_in(data) {
-            bail!("the login is refused");
+        self.is_in = is_let_in(data);
+        if self.is_in {
+            Ok(())
+        } else {
+            Err(Trouble::Stopped)
         }
-        self.is_in = true;
+    }
+
+    /// Whether its request is answered whole.
+    pub fn is_finished(&self) -> bool {
+        self.became == Some(RequestStatus::Finished)
+    }
+
+    /// Appends the lines of what it was told.
+    pub fn put_lines(&self, text: &mut String) -> Result<(), Trouble> {
+        for token in self.told.iter() {
+            put_token_line(text, token)?;
+        }
         Ok(())
     }
 
-    /// The lines of what it was told.
-    pub fn lines(&self, alloc: Global) -> anyhow::Result<String> {
+    /// Whether it was told these lines.
+    pub fn is_told(&self, alloc: Global, wanted: &str) -> Result<bool, Trouble> {
         let mut lines = String::new(alloc);
-        for token in self.told.iter() {
-            put_token_line(&mut lines, token)?;
-        }
-        Ok(lines)
+        self.put_lines(&mut lines)?;
+        Ok(lines.as_str() == wanted)
     }
+
+    /// What became of its request, in a word.
+    fn became(&self) -> &'static str {
+        match self.became {
+            Some(RequestStatus::Finished) => "finished",
+            Some(RequestStatus::Acknowledged) => "acknowledged",
+            Some(_) => "lost",
+            None if self.is_over => "cut",
+            None => "waits",
+        }
+    }
+
+    /// Appends what its request met.
+    pub fn put_met(&self, text: &mut String) -> Result<(), Trouble> {
+        text.push_str(self.became())?;
+        text.push_str("\n")?;
+        self.put_lines(text)?;
+        let (bytes, descriptor) = (self.bytes, self.end.client().descriptor());
+        put_counts(bytes, descriptor, text)
+    }
+}
+
+fn put_counts(bytes: usize, descriptor: u64, text: &mut String) -> Result<(), Trouble> {
+    writeln!(text, "  {bytes} bytes, descriptor {descriptor}")?;
+    Ok(())
 }

@@ -1,13 +1,13 @@
 //! Peers that send rubbish without end.
 
+use crate::caller::{connect, login};
+use crate::trouble::Trouble;
 use std::alloc::Global;
 use std::io::{ErrorKind, Read, Write};
 use std::net::{SocketAddr, TcpStream};
-use tds_login::put_login;
-use tds_packet::PacketSize;
 
 /// What a flood sends.
-#[derive(Clone, Copy, Debug, PartialEq, Eq)]
+#[derive(Clone, Copy)]
 pub enum Kind {
     /// Rubbish from the first byte on.
     AtOnce,
@@ -38,10 +38,10 @@ impl Flood {
     }
 
     /// Sends a piece, on a new connection where the last one was cut.
-    pub fn push(&mut self, rt: &HostRuntime, alloc: Global) -> anyhow::Result<()> {
+    pub fn push(&mut self, rt: &HostRuntime, alloc: Global) -> Result<(), Trouble> {
         let mut stream = match self.stream.take() {
             Some(stream) => stream,
-            None => self.connect(rt, alloc)?,
+            None => start(rt, alloc, self.kind, self.address)?,
         };
         if is_alive(&mut stream, self.kind) {
             self.stream = Some(stream);
@@ -50,23 +50,27 @@ impl Flood {
         }
         Ok(())
     }
+}
 
-    fn connect(&self, rt: &HostRuntime, alloc: Global) -> anyhow::Result<TcpStream> {
-        let mut stream = TcpStream::connect(rt, self.address)?;
-        stream.set_nonblocking(true)?;
-        if let (Kind::BehindLogin, Some(size)) = (self.kind, PacketSize::new(512)) {
-            let mut out = Vec::new(alloc);
-            put_login(&mut out, size)?;
-            stream.write_all(out.as_slice())?;
+fn start(
+    rt: &HostRuntime,
+    alloc: Global,
+    kind: Kind,
+    address: SocketAddr,
+) -> Result<TcpStream, Trouble> {
+    match kind {
+        Kind::BehindLogin => {
+            let login = login(alloc, 512)?;
+            connect(rt, address, login.as_slice())
         }
-        Ok(stream)
+        Kind::AtOnce | Kind::EndlessLogin => connect(rt, address, &[]),
     }
 }
 
 /// Sends a piece, and takes what comes. False where the server has cut the connection.
 fn is_alive(stream: &mut TcpStream, kind: Kind) -> bool {
     let mut piece = [0xa5u8; 4096];
-    if kind == Kind::EndlessLogin {
+    if let Kind::EndlessLogin = kind {
         piece[..8].copy_from_slice(&[0x10, 0, 0x10, 0, 0, 0, 1, 0]);
     }
     match stream.write(&piece) {

@@ -1,8 +1,9 @@
 //! Batches as command-line clients and drivers send them: with blanks and line ends behind the text.
 
-use crate::caller::Caller;
-use crate::site::Site;
+use crate::site::Meeting;
+use crate::trouble::Trouble;
 use std::alloc::Global;
+use std::fmt::Write;
 use tds_serving::Script;
 use tds_session::OnAttention;
 
@@ -16,18 +17,24 @@ const TEXTS: [&str; 6] = [
     "get a\t\r\n",
 ];
 
-/// Asks for each, and gives what is told.
-pub fn run(rt: &HostRuntime, alloc: Global) -> anyhow::Result<String> {
-    let mut site = Site::new(rt, alloc, OnAttention::Keep, Script::none(alloc))?;
-    let mut caller = Caller::new(rt, alloc, site.address)?;
-    site.settle(rt, &mut caller)?;
-    let mut text = String::new(alloc);
+/// Asks for each, and appends what is told.
+pub fn run(rt: &HostRuntime, alloc: Global, text: &mut String) -> Result<(), Trouble> {
+    let mut meeting = Meeting::new(rt, alloc, OnAttention::Keep, Script::none(alloc))?;
+    ask_all(rt, alloc, &mut meeting, text)
+}
+
+fn ask_all(
+    rt: &HostRuntime,
+    alloc: Global,
+    meeting: &mut Meeting,
+    text: &mut String,
+) -> Result<(), Trouble> {
+    meeting.settle(rt)?;
     for (index, asked) in TEXTS.iter().enumerate() {
-        caller.ask(alloc, asked)?;
-        site.settle(rt, &mut caller)?;
-        let lines = caller.lines(alloc)?;
-        let line = format!(in alloc; "line end {index}\n{lines}")?;
-        text.push_str(line.as_str())?;
+        meeting.caller.ask(alloc, asked)?;
+        meeting.settle(rt)?;
+        writeln!(text, "line end {index}")?;
+        meeting.caller.put_lines(text)?;
     }
-    Ok(text)
+    Ok(())
 }

@@ -1,10 +1,10 @@
 //! A server on a port of its own.
 
 use crate::caller::Caller;
-use anyhow::Context;
+use crate::trouble::Trouble;
 use mio::Events;
 use std::alloc::Global;
-use std::io::{self, Stderr};
+use std::io::{self, Sink};
 use std::net::SocketAddr;
 use tds_serving::{House, Log, Manner, Script};
 use tds_session::OnAttention;
@@ -18,7 +18,7 @@ const PATIENCE: usize = 2000;
 /// A server, and where it listens.
 #[derive(Drop)]
 pub struct Site {
-    house: House<io::Sink>,
+    house: House<Sink>,
     events: Events<Global>,
     pub address: SocketAddr,
 }
@@ -29,9 +29,9 @@ impl Site {
         alloc: Global,
         on_attention: OnAttention,
         script: Script,
-    ) -> anyhow::Result<Site> {
+    ) -> Result<Site, Trouble> {
         let Ok(address) = "127.0.0.1:0".parse::<SocketAddr>() else {
-            anyhow::bail!("no address");
+            return Err(Trouble::Value);
         };
         let manner = Manner {
             address,
@@ -39,7 +39,7 @@ impl Site {
             pace: 0,
         };
         let house = House::new(rt, alloc, manner, script, Log::new(io::sink(), false))?;
-        let address = house.local_addr().context("no port")?;
+        let address = house.local_addr()?;
         Ok(Site {
             house,
             events: Events::with_capacity(alloc, 256)?,
@@ -48,24 +48,45 @@ impl Site {
     }
 
     /// A round of the server, which waits for nothing.
-    pub fn round(&mut self, rt: &HostRuntime) -> io::Result<()> {
-        self.house.round(rt, &mut self.events, 0)
-    }
-
-    /// Lets the server and a client go on until nothing comes any more, or the client is cut.
-    pub fn settle(&mut self, rt: &HostRuntime, caller: &mut Caller) -> anyhow::Result<()> {
-        for _ in 0..PATIENCE {
-            self.round(rt)?;
-            caller.hear()?;
-            if caller.is_over {
-                break;
-            }
-        }
+    pub fn round(&mut self, rt: &HostRuntime) -> Result<(), Trouble> {
+        self.house.round(rt, &mut self.events, 0)?;
         Ok(())
     }
 
     /// How many connections the server has.
     pub fn count(&self) -> usize {
         self.house.count()
+    }
+}
+
+/// A server with one client that goes on.
+#[derive(Drop)]
+pub struct Meeting {
+    pub site: Site,
+    pub caller: Caller,
+}
+
+impl Meeting {
+    pub fn new(
+        rt: &HostRuntime,
+        alloc: Global,
+        on_attention: OnAttention,
+        script: Script,
+    ) -> Result<Meeting, Trouble> {
+        let site = Site::new(rt, alloc, on_attention, script)?;
+        let caller = Caller::new(rt, alloc, site.address)?;
+        Ok(Meeting { site, caller })
+    }
+
+    /// Lets both go on until nothing comes any more, or the client is cut.
+    pub fn settle(&mut self, rt: &HostRuntime) -> Result<(), Trouble> {
+        for _ in 0..PATIENCE {
+            self.site.round(rt)?;
+            self.caller.hear()?;
+            if self.caller.is_over {
+                break;
+            }
+        }
+        Ok(())
     }
 }

@@ -1,6 +1,8 @@
 //! Files that are no scripts, and what is said of them.
 
+use crate::trouble::Trouble;
 use std::alloc::Global;
+use std::fmt::Write;
 use tds_serving::read_script;
 
 /// Each file, and its line.
@@ -67,24 +69,44 @@ const RIGHT: &str =
     "{\"version\": 1, \"events\": [[\"hold\", 1, 2], [\"cross\", 2, 0], [\"cut\", 3, 0], \
     [\"split\", 7]]}";
 
-/// Reads each file, and tells the lines that differ.
-pub fn run(alloc: Global) -> anyhow::Result<String> {
-    let mut text = String::new(alloc);
+/// Reads each file, and appends the lines that differ.
+pub fn run(alloc: Global, text: &mut String) -> Result<(), Trouble> {
     let mut right = 0usize;
-    for (index, (file, wanted)) in FILES.iter().enumerate() {
-        let said = match read_script(alloc, "f", file.as_bytes()) {
-            Ok(_) => String::from_str(alloc, "a script")?,
-            Err(fault) => format!(in alloc; "{fault}")?,
-        };
-        if said.as_str() == *wanted {
+    for (index, row) in FILES.iter().enumerate() {
+        if is_told(alloc, index, row.0, row.1, text)? {
             right = right.saturating_add(1);
-        } else {
-            let line = format!(in alloc; "of file {index} it says: {said}\n")?;
-            text.push_str(line.as_str())?;
         }
     }
     let is_read = read_script(alloc, "f", RIGHT.as_bytes()).is_ok();
-    let line = format!(in alloc; "{right} of 16 wrong files told, a right one read: {is_read}\n")?;
-    text.push_str(line.as_str())?;
-    Ok(text)
+    writeln!(
+        text,
+        "{right} of 16 wrong files told, a right one read: {is_read}"
+    )?;
+    Ok(())
+}
+
+/// Whether this is said of a file. If not, its line is appended.
+fn is_told(
+    alloc: Global,
+    index: usize,
+    file: &str,
+    wanted: &str,
+    text: &mut String,
+) -> Result<bool, Trouble> {
+    let said = said(alloc, file)?;
+    let is_right = said.as_str() == wanted;
+    if !is_right {
+        writeln!(text, "of file {index} it says: {said}")?;
+    }
+    Ok(is_right)
+}
+
+/// What is said of a file.
+fn said(alloc: Global, file: &str) -> Result<String, Trouble> {
+    let mut said = String::new(alloc);
+    match read_script(alloc, "f", file.as_bytes()) {
+        Ok(_) => said.push_str("a script")?,
+        Err(fault) => write!(said, "{fault}")?,
+    }
+    Ok(said)
 }
