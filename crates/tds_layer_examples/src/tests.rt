@@ -1,6 +1,7 @@
 mod client;
 mod ends;
 mod packets;
+mod pool;
 mod reports;
 mod requests;
 mod server;
