@@ -17,28 +17,20 @@ fn fill(alloc: Global, pool: &mut Pool, left: u32) -> u8 {
 }
 
 #[test]
-fn the_65th_of_64_connections_is_refused(rt: HostRuntime) -> Result<(), Fail> {
-    let alloc = rt.alloc();
-    let mut pool = pool(alloc, 64)?;
-    let refusal = fill(alloc, &mut pool, 64);
-    let (all, free) = (pool.len(), pool.count(tds_pool::Place::Free));
-    assert!(rt;
-        refusal == 1 && all == 64 && free == 64,
-        "{refusal} {all} {free}"
-    );
-    Ok(())
+fn the_65th_of_64_connections_is_refused(rt: HostRuntime) {
+    let found = match pool(rt.alloc(), 64) {
+        Some(mut pool) => {
+            let refusal = fill(rt.alloc(), &mut pool, 64);
+            (refusal, pool.len(), pool.count(tds_pool::Place::Free))
+        }
+        None => (100, 0, 0),
+    };
+    assert!(rt; found == (1, 64, 64), "{found:?}");
 }
 
 #[test]
-fn a_pool_has_1_to_64_connections(rt: HostRuntime) -> Result<(), Fail> {
-    let alloc = rt.alloc();
-    let size = PacketSize::new(512).ok_or("size")?;
-    let are_made = [
-        Pool::new(alloc, 0, size).is_some(),
-        Pool::new(alloc, 1, size).is_some(),
-        Pool::new(alloc, 64, size).is_some(),
-        Pool::new(alloc, 65, size).is_some(),
-    ];
-    assert!(rt; are_made == [false, true, true, false], "{are_made:?}");
-    Ok(())
+fn a_pool_has_1_to_64_connections(rt: HostRuntime) {
+    for (max, is_made) in [(0, false), (1, true), (64, true), (65, false)] {
+        assert!(rt; pool(rt.alloc(), max).is_some() == is_made, "{max}");
+    }
 }
