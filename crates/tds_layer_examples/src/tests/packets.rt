@@ -1,26 +1,17 @@
 //! Packets by themselves: what a reader is fed with, and headers.
+use super::known::{ATTENTION, BEGUN};
 use bitflags::Flags;
 use std::alloc::Global;
-use std::test::Fail;
 use tds_packet::*;
 
-/// The answer to a begin: a packet of 35 bytes.
-const BEGUN: [u8; 35] = [
-    0x04, 0x01, 0x00, 0x23, 0x00, 0x00, 0x01, 0x00, 0xE3, 0x0B, 0x00, 0x08, 0x08, 0x01, 0x00, 0x00,
-    0x00, 0x00, 0x00, 0x00, 0x00, 0x00, 0xFD, 0x00, 0x00, 0x00, 0x00, 0x00, 0x00, 0x00, 0x00, 0x00,
-    0x00, 0x00, 0x00,
-];
-
-/// Its data.
+/// The data of `BEGUN`.
 const BEGUN_DATA: [u8; 27] = [
     0xE3, 0x0B, 0x00, 0x08, 0x08, 0x01, 0x00, 0x00, 0x00, 0x00, 0x00, 0x00, 0x00, 0x00, 0xFD, 0x00,
     0x00, 0x00, 0x00, 0x00, 0x00, 0x00, 0x00, 0x00, 0x00, 0x00, 0x00,
 ];
 
-const ATTENTION: [u8; 8] = [0x06, 0x01, 0x00, 0x08, 0x00, 0x00, 0x01, 0x00];
-
 /// A call of a reader, and what is expected of it.
-#[derive(Drop)]
+#[derive(Clone, Copy)]
 enum Step<'a> {
     /// Of this piece so many bytes are taken.
     Feed(&'a [u8], usize),
@@ -93,26 +84,16 @@ const HOSTILE: [(Direction, [u8; 8], u8); 7] = [
     (Direction::ToServer, [0x01, 0x00, 0x00, 0x08, 0, 0, 1, 0], 6),
 ];
 
-fn holds(reader: &mut PacketReader, step: &Step<'_>) -> bool {
+fn holds(reader: &mut PacketReader, step: Step<'_>) -> bool {
     match step {
-        Step::Feed(piece, count) => takes(reader, piece, *count),
-        Step::EachByte(piece) => {
-            for byte in piece.iter() {
-                if reader.packet().is_some() || !takes(reader, &[*byte], 1) {
-                    return false;
-                }
-            }
-            true
-        }
-        Step::Refuse(piece, number) => match reader.feed(piece) {
-            Ok(_) => false,
-            Err(fault) => fault.number() == *number,
-        },
+        Step::Feed(piece, count) => takes(reader, piece, Ok(count)),
+        Step::EachByte(piece) => takes_each_byte(reader, piece),
+        Step::Refuse(piece, number) => takes(reader, piece, Err(number)),
         Step::Lends(kind, status, data) => match reader.packet() {
             None => false,
             Some(packet) => {
                 let header = packet.header;
-                header.kind == *kind && header.status.bits() == *status && packet.data == *data
+                header.kind == kind && header.status.bits() == status && packet.data == data
             }
         },
         Step::LendsNothing => reader.packet().is_none(),
@@ -123,32 +104,46 @@ fn holds(reader: &mut PacketReader, step: &Step<'_>) -> bool {
     }
 }
 
-fn takes(reader: &mut PacketReader, piece: &[u8], expected: usize) -> bool {
+/// Whether so many bytes of a piece are taken, or it is answered with the fault of this number.
+fn takes(reader: &mut PacketReader, piece: &[u8], expected: Result<usize, u8>) -> bool {
     match reader.feed(piece) {
-        Ok(count) => count == expected,
-        Err(_) => false,
+        Ok(count) => expected == Ok(count),
+        Err(fault) => expected == Err(fault.number()),
     }
 }
 
-/// Plays a script on a new reader: how many steps held before the first that didn't.
-fn play(alloc: Global, direction: Direction, steps: &[Step<'_>]) -> Result<usize, Fail> {
-    let size = PacketSize::new(512).ok_or("size")?;
-    let mut reader = PacketReader::new(alloc, size, direction)?;
-    for (at, step) in steps.iter().enumerate() {
-        if !holds(&mut reader, step) {
-            return Ok(at);
+fn takes_each_byte(reader: &mut PacketReader, piece: &[u8]) -> bool {
+    for byte in piece {
+        if reader.packet().is_some() || !takes(reader, &[*byte], Ok(1)) {
+            return false;
         }
     }
-    Ok(steps.len())
+    true
 }
 
-/// Each script, and each hostile header: its fault comes with its last byte, and is answered again.
-#[test]
-fn each_script(rt: HostRuntime) -> Result<(), Fail> {
-    for (name, direction, steps) in &SCRIPTS {
-        let held = play(rt.alloc(), *direction, steps)?;
-        assert!(rt; held == steps.len(), "{name}, step {held}");
+/// Plays a script on a new reader: how many steps held before the first that didn't. None at want of
+/// memory for the reader.
+fn play(alloc: Global, direction: Direction, steps: &[Step<'_>]) -> Option<usize> {
+    let mut reader = PacketReader::new(alloc, PacketSize::new(512)?, direction).ok()?;
+    for (at, step) in steps.iter().enumerate() {
+        if !holds(&mut reader, *step) {
+            return Some(at);
+        }
     }
+    Some(steps.len())
+}
+
+#[test]
+fn each_script(rt: HostRuntime) {
+    for (name, direction, steps) in &SCRIPTS {
+        let held = play(rt.alloc(), *direction, steps);
+        assert!(rt; held == Some(steps.len()), "{name}, step {held:?}");
+    }
+}
+
+/// The fault of a header comes with its last byte, and is answered again.
+#[test]
+fn each_hostile_header(rt: HostRuntime) {
     for (direction, header, number) in &HOSTILE {
         let steps = [
             Step::Feed(&header[..7], 7),
@@ -157,10 +152,9 @@ fn each_script(rt: HostRuntime) -> Result<(), Fail> {
             Step::Refuse(&[], *number),
             Step::LendsNothing,
         ];
-        let held = play(rt.alloc(), *direction, &steps)?;
-        assert!(rt; held == 5, "{header:?}, step {held}");
+        let held = play(rt.alloc(), *direction, &steps);
+        assert!(rt; held == Some(5), "{header:?}, step {held:?}");
     }
-    Ok(())
 }
 
 fn size_of(size: u16) -> Option<u16> {
@@ -200,9 +194,8 @@ fn sizes_and_resets(rt: HostRuntime) {
     assert!(rt; resets == expected, "{resets:?}");
 }
 
-/// Counts the fault that a header has on its way to a server, 0 for none, at packet size 512.
-fn count_fault(counts: &mut [u32; 7], header: &[u8; 8]) -> Result<(), Fail> {
-    let size = PacketSize::new(512).ok_or("size")?;
+/// Counts the fault that a header has on its way to a server, 0 for none, at this packet size.
+fn count_fault(counts: &mut [u32; 7], header: &[u8; 8], size: PacketSize) {
     let number = match Header::read(header, size, Direction::ToServer) {
         Ok(_) => 0,
         Err(fault) => fault.number(),
@@ -210,31 +203,40 @@ fn count_fault(counts: &mut [u32; 7], header: &[u8; 8]) -> Result<(), Fail> {
     if let Some(count) = counts.get_mut(usize::from(number)) {
         *count = count.wrapping_add(1);
     }
-    Ok(())
 }
 
-/// The headers of an attention with each type, each status and each length.
-#[test]
-fn each_header(rt: HostRuntime) -> Result<(), Fail> {
+/// The faults of the headers of an attention with each type, each status and each length.
+fn counts(size: PacketSize) -> [[u32; 7]; 3] {
     let (mut types, mut statuses, mut lengths) = ([0u32; 7], [0u32; 7], [0u32; 7]);
     for byte in 0..=255 {
-        count_fault(&mut types, &[byte, 0x01, 0x00, 0x08, 0, 0, 1, 0])?;
-        count_fault(&mut statuses, &[0x06, byte, 0x00, 0x08, 0, 0, 1, 0])?;
+        count_fault(&mut types, &[byte, 0x01, 0x00, 0x08, 0, 0, 1, 0], size);
+        count_fault(&mut statuses, &[0x06, byte, 0x00, 0x08, 0, 0, 1, 0], size);
         for low in 0..=255 {
-            count_fault(&mut lengths, &[0x06, 0x01, byte, low, 0, 0, 1, 0])?;
+            count_fault(&mut lengths, &[0x06, 0x01, byte, low, 0, 0, 1, 0], size);
         }
     }
-    // Three types go to the server, and one to the client.
-    assert!(rt; types == [3, 252, 1, 0, 0, 0, 0], "{types:?}");
-    // Of the sixteen sets of bits, eight have end of message, without which there must be data.
-    assert!(rt; statuses == [8, 0, 0, 0, 0, 240, 8], "{statuses:?}");
-    // Lengths of 0 to 7 are short, of 8 to 512 lawful, and all others long.
-    assert!(rt; lengths == [505, 0, 0, 8, 65023, 0, 0], "{lengths:?}");
-    Ok(())
+    [types, statuses, lengths]
 }
 
 #[test]
-fn writes_what_it_reads(rt: HostRuntime) -> Result<(), Fail> {
+fn each_header(rt: HostRuntime) {
+    let expected = [
+        // Three types go to the server, and one to the client.
+        [3, 252, 1, 0, 0, 0, 0],
+        // Of the sixteen sets of bits, eight have end of message, without which there must be data.
+        [8, 0, 0, 0, 0, 240, 8],
+        // Lengths of 0 to 7 are short, of 8 to 512 lawful, and all others long.
+        [505, 0, 0, 8, 65023, 0, 0],
+    ];
+    let found = match PacketSize::new(512) {
+        Some(size) => counts(size),
+        None => [[0; 7]; 3],
+    };
+    assert!(rt; found == expected, "{found:?}");
+}
+
+/// Whether the header of an attention is written as its bytes, and read of them.
+fn is_written_and_read(alloc: Global) -> Option<bool> {
     let header = Header {
         kind: Kind::Attention,
         status: Status::END_OF_MESSAGE,
@@ -243,12 +245,13 @@ fn writes_what_it_reads(rt: HostRuntime) -> Result<(), Fail> {
         packet_id: 1,
         window: 0,
     };
-    let mut out = Vec::new(rt.alloc());
-    put_packet(&mut out, header, &[])?;
-    let size = PacketSize::new(512).ok_or("size")?;
-    let Ok(read) = Header::read(&ATTENTION, size, Direction::ToServer) else {
-        return Err("a fault".into());
-    };
-    assert!(rt; out.as_slice() == ATTENTION.as_slice() && read == header);
-    Ok(())
+    let mut out = Vec::new(alloc);
+    put_packet(&mut out, header, &[]).ok()?;
+    let read = Header::read(&ATTENTION, PacketSize::new(512)?, Direction::ToServer).ok()?;
+    Some(out.as_slice() == ATTENTION.as_slice() && read == header)
+}
+
+#[test]
+fn writes_what_it_reads(rt: HostRuntime) {
+    assert!(rt; is_written_and_read(rt.alloc()) == Some(true));
 }

@@ -1,8 +1,8 @@
 //! The server by itself. A script is a list of calls with what is expected of each; one function
 //! plays them all.
 
+use super::known::*;
 use std::alloc::Global;
-use std::test::Fail;
 use tds_packet::{Direction, PacketReader, PacketSize};
 use tds_server::*;
 
@@ -14,28 +14,6 @@ mod faults;
 mod messages;
 mod renewals;
 mod rollbacks;
-
-/// A begin at isolation level 0, with descriptor 0.
-const BEGIN: [u8; 34] = [
-    0x0E, 0x01, 0x00, 0x22, 0x00, 0x00, 0x01, 0x00, 0x16, 0x00, 0x00, 0x00, 0x12, 0x00, 0x00, 0x00,
-    0x02, 0x00, 0x00, 0x00, 0x00, 0x00, 0x00, 0x00, 0x00, 0x00, 0x01, 0x00, 0x00, 0x00, 0x05, 0x00,
-    0x00, 0x00,
-];
-
-/// Its answer: descriptor 1 has begun, and a final DONE.
-const BEGUN: [u8; 35] = [
-    0x04, 0x01, 0x00, 0x23, 0x00, 0x00, 0x01, 0x00, 0xE3, 0x0B, 0x00, 0x08, 0x08, 0x01, 0x00, 0x00,
-    0x00, 0x00, 0x00, 0x00, 0x00, 0x00, 0xFD, 0x00, 0x00, 0x00, 0x00, 0x00, 0x00, 0x00, 0x00, 0x00,
-    0x00, 0x00, 0x00,
-];
-
-const ATTENTION: [u8; 8] = [0x06, 0x01, 0x00, 0x08, 0x00, 0x00, 0x01, 0x00];
-
-/// A message that is an acknowledgement alone: a DONE with `0020`.
-const ACKNOWLEDGED: [u8; 21] = [
-    0x04, 0x01, 0x00, 0x15, 0x00, 0x00, 0x01, 0x00, 0xFD, 0x20, 0x00, 0x00, 0x00, 0, 0, 0, 0, 0, 0,
-    0, 0,
-];
 
 /// A call of a server, and what is expected of it.
 #[derive(Clone, Copy)]
@@ -57,99 +35,102 @@ enum Call<'a> {
 /// There is nothing to do.
 const IDLE: Call = Call::Work(Worked::Idle, &[]);
 
-fn size() -> Result<PacketSize, Fail> {
-    Ok(PacketSize::new(512).ok_or("size")?)
+/// A server with what its calls need. Each is made once, and cleared where it is used again.
+#[derive(Drop)]
+struct Player<E: Engine + Drop> {
+    server: Server<E>,
+    reader: PacketReader,
+    /// What the last call appended.
+    out: Vec<u8>,
+}
+
+/// A new server. None at want of memory for what its calls need.
+fn new_player<E: Engine + Drop>(
+    alloc: Global,
+    engine: E,
+    on_attention: OnAttention,
+) -> Option<Player<E>> {
+    let size = PacketSize::new(512)?;
+    Some(Player {
+        reader: PacketReader::new(alloc, size, Direction::ToServer).ok()?,
+        server: Server::with_attention(alloc, engine, size, on_attention),
+        out: Vec::new(alloc),
+    })
 }
 
 /// Hands the packet that these bytes spell to a server: whether the outcome is this one, or the
 /// fault has this number, and whether the reply is this one.
 fn takes<E: Engine + Drop>(
-    alloc: Global,
-    server: &mut Server<E>,
+    player: &mut Player<E>,
     bytes: &[u8],
     expected: Result<ServerTook, u8>,
-    expected_reply: &[u8],
-) -> Result<bool, Fail> {
-    let mut reader = PacketReader::new(alloc, size()?, Direction::ToServer)?;
-    reader.feed(bytes).ok().ok_or("a packet fault")?;
-    let packet = reader.packet().ok_or("no packet")?;
-    let mut reply = Vec::new(alloc);
-    let is_expected = match server.take(packet, &mut reply) {
-        Ok(took) => expected == Ok(took),
-        Err(fault) => expected == Err(fault.number()),
-    };
-    Ok(is_expected && reply.as_slice() == expected_reply)
+    reply: &[u8],
+) -> bool {
+    player.reader.done();
+    player.out.clear();
+    if player.reader.feed(bytes).is_err() {
+        return false;
+    }
+    match player.reader.packet() {
+        Some(packet) if packet.header.kind.direction() == Direction::ToServer => {
+            let is_expected = match player.server.take(packet, &mut player.out) {
+                Ok(took) => expected == Ok(took),
+                Err(fault) => expected == Err(fault.number()),
+            };
+            is_expected && player.out.as_slice() == reply
+        }
+        _ => false,
+    }
 }
 
 /// One call of `work`: whether its outcome and its packet are these.
-fn works<E: Engine + Drop>(
-    alloc: Global,
-    server: &mut Server<E>,
-    expected: Worked,
-    expected_packet: &[u8],
-) -> Result<bool, Fail> {
-    let mut out = Vec::new(alloc);
-    let worked = server.work(&mut out)?;
-    Ok(worked == expected && out.as_slice() == expected_packet)
+fn works<E: Engine + Drop>(player: &mut Player<E>, expected: Worked, packet: &[u8]) -> bool {
+    player.out.clear();
+    match player.server.work(&mut player.out) {
+        Ok(worked) => worked == expected && player.out.as_slice() == packet,
+        Err(_) => false,
+    }
 }
 
 /// Whether a call goes as expected.
-fn goes<E: Engine + Drop>(
-    alloc: Global,
-    server: &mut Server<E>,
-    call: Call<'_>,
-) -> Result<bool, Fail> {
+fn goes<E: Engine + Drop>(player: &mut Player<E>, call: Call<'_>) -> bool {
     match call {
-        Call::Take(bytes, took, reply) => takes(alloc, server, bytes, Ok(took), reply),
-        Call::Refuse(bytes, fault) => takes(alloc, server, bytes, Err(fault), &[]),
-        Call::Work(worked, packet) => works(alloc, server, worked, packet),
+        Call::Take(bytes, took, reply) => takes(player, bytes, Ok(took), reply),
+        Call::Refuse(bytes, fault) => takes(player, bytes, Err(fault), &[]),
+        Call::Work(worked, packet) => works(player, worked, packet),
         Call::Lose => {
-            server.lost();
-            Ok(true)
+            player.server.lost();
+            true
         }
-        Call::NewSession => Ok(*server.session() == Session::new()),
-        Call::Descriptor(descriptor) => Ok(server.session().descriptor() == descriptor),
+        Call::NewSession => *player.server.session() == Session::new(),
+        Call::Descriptor(descriptor) => player.server.session().descriptor() == descriptor,
     }
 }
 
-/// Plays a script on a new server. The place of the first call that goes otherwise, from 0; None
-/// where there is none.
-fn plays<E: Engine + Drop>(
-    alloc: Global,
-    engine: E,
-    calls: &[Call<'_>],
-) -> Result<Option<usize>, Fail> {
-    let mut server = Server::new(alloc, engine, size()?);
-    plays_on(alloc, &mut server, calls)
-}
-
-/// Plays a script on this server.
-fn plays_on<E: Engine + Drop>(
-    alloc: Global,
-    server: &mut Server<E>,
-    calls: &[Call<'_>],
-) -> Result<Option<usize>, Fail> {
+/// Plays a script on a new server: how many calls went as expected before the first that didn't.
+fn plays(alloc: Global, on_attention: OnAttention, calls: &[Call<'_>]) -> Option<usize> {
+    let mut player = new_player(alloc, ScriptEngine, on_attention)?;
     for (place, call) in calls.iter().enumerate() {
-        if !goes(alloc, server, *call)? {
-            return Ok(Some(place));
+        if !goes(&mut player, *call) {
+            return Some(place);
         }
     }
-    Ok(None)
+    Some(calls.len())
 }
 
 /// Each script on a new server of its own.
 #[test]
-fn each_script(rt: HostRuntime) -> Result<(), Fail> {
+fn each_script(rt: HostRuntime) {
     for scripts in [
         answers::ANSWERS.as_slice(),
         attentions::ATTENTIONS.as_slice(),
         faults::FAULTS.as_slice(),
         messages::MESSAGES.as_slice(),
+        renewals::RENEWALS.as_slice(),
     ] {
         for (name, calls) in scripts {
-            let other = plays(rt.alloc(), ScriptEngine, calls)?;
-            assert!(rt; other.is_none(), "{name}, call {other:?}");
+            let went = plays(rt.alloc(), OnAttention::Keep, calls);
+            assert!(rt; went == Some(calls.len()), "{name}, call {went:?}");
         }
     }
-    Ok(())
 }

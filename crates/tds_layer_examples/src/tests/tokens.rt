@@ -25,14 +25,8 @@ fn read(tokens: &mut Tokens<'_>, alloc: Global) -> Result<(Vec<Token>, Vec<u8>),
     Ok((all, faults))
 }
 
-/// The bytes of these tokens. One that does not fit is None.
-fn written(alloc: Global, tokens: &[Token]) -> Result<Option<Vec<u8>>, NoMemory> {
-    let mut bytes = Vec::new(alloc);
-    for token in tokens {
-        if !token.fits() {
-            return Ok(None);
-        }
-        put_token(&mut bytes, token)?;
-    }
-    Ok(Some(bytes))
+/// The same as `Debug` writes it.
+fn read_text(tokens: &mut Tokens<'_>, alloc: Global) -> Result<String, NoMemory> {
+    let all = read(tokens, alloc)?;
+    format!(in alloc; "{all:?}")
 }

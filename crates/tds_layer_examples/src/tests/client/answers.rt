@@ -19,14 +19,7 @@ const ROWS: [u8; 36] = [
     0x00, 0x00, 0x00, 0x00,
 ];
 
-/// A part with all rows: columns of one name, `n`, rows of 5 and 6, and a DONE with `0011`.
-const ROWED: [u8; 44] = [
-    0x04, 0x00, 0x00, 0x2C, 0x00, 0x00, 0x01, 0x00, 0x81, 0x01, 0x00, 0x00, 0x00, 0x00, 0x00, 0x00,
-    0x00, 0x38, 0x01, 0x6E, 0x00, 0xD1, 0x05, 0x00, 0x00, 0x00, 0xD1, 0x06, 0x00, 0x00, 0x00, 0xFD,
-    0x11, 0x00, 0x00, 0x00, 0x02, 0x00, 0x00, 0x00, 0x00, 0x00, 0x00, 0x00,
-];
-
-/// What it and `DONE` tell.
+/// What it and `SECOND_ENDS` tell.
 const ROWED_AND_DONE: [u8; 49] = [
     0x81, 0x01, 0x00, 0x00, 0x00, 0x00, 0x00, 0x00, 0x00, 0x38, 0x01, 0x6E, 0x00, 0xD1, 0x05, 0x00,
     0x00, 0x00, 0xD1, 0x06, 0x00, 0x00, 0x00, 0xFD, 0x11, 0x00, 0x00, 0x00, 0x02, 0x00, 0x00, 0x00,
@@ -34,7 +27,7 @@ const ROWED_AND_DONE: [u8; 49] = [
     0x00,
 ];
 
-/// What the final DONE of a begin, `GOT`, `COMMITTED` and `DONE` tell.
+/// What the final DONE of a begin, `GOT`, `COMMITTED` and `SECOND_ENDS` tell.
 const GOT_AND_COMMITTED: [u8; 57] = [
     0xFD, 0x00, 0x00, 0x00, 0x00, 0x00, 0x00, 0x00, 0x00, 0x00, 0x00, 0x00, 0x00, 0x79, 0x00, 0x00,
     0x00, 0x00, 0xFD, 0x01, 0x00, 0x00, 0x00, 0x00, 0x00, 0x00, 0x00, 0x00, 0x00, 0x00, 0x00, 0xFD,
@@ -42,13 +35,7 @@ const GOT_AND_COMMITTED: [u8; 57] = [
     0x00, 0x00, 0x00, 0x00, 0x00, 0x00, 0x00, 0x00, 0x00,
 ];
 
-/// What `SAID` tells: INFO 50000 `a`, and a DONE with `0001`.
-const TOLD_ONCE: [u8; 32] = [
-    0xAB, 0x10, 0x00, 0x50, 0xC3, 0x00, 0x00, 0x01, 0x00, 0x01, 0x00, 0x61, 0x00, 0x00, 0x00, 0x00,
-    0x00, 0x00, 0x00, 0xFD, 0x01, 0x00, 0x00, 0x00, 0, 0, 0, 0, 0, 0, 0, 0,
-];
-
-/// What `SAID` and `DONE` tell.
+/// What `SAID` and `SECOND_ENDS` tell.
 const SAID_AND_DONE: [u8; 45] = [
     0xAB, 0x10, 0x00, 0x50, 0xC3, 0x00, 0x00, 0x01, 0x00, 0x01, 0x00, 0x61, 0x00, 0x00, 0x00, 0x00,
     0x00, 0x00, 0x00, 0xFD, 0x01, 0x00, 0x00, 0x00, 0, 0, 0, 0, 0, 0, 0, 0, 0xFD, 0x00, 0x00, 0x00,
@@ -67,12 +54,6 @@ const ACKNOWLEDGED_PART: [u8; 21] = [
     0, 0,
 ];
 
-/// An acknowledgement in the third packet of its message.
-const ACKNOWLEDGED_LATE: [u8; 21] = [
-    0x04, 0x01, 0x00, 0x15, 0x00, 0x00, 0x03, 0x00, 0xFD, 0x20, 0x00, 0x00, 0x00, 0, 0, 0, 0, 0, 0,
-    0, 0,
-];
-
 /// An empty packet that ends a message behind another one.
 const END: [u8; 8] = [0x04, 0x01, 0x00, 0x08, 0x00, 0x00, 0x02, 0x00];
 
@@ -84,7 +65,7 @@ const TWO_FINAL_DONES: [u8; 26] = [
 const AN_ANSWER_IN_PARTS: [Step; 4] = [
     Step::Asks(Ask::Batch(b"say a")),
     Step::Take(&SAID, Taken::More),
-    Step::Take(&DONE, Taken::Finished),
+    Step::Take(&SECOND_ENDS, Taken::Finished),
     Step::Told(&SAID_AND_DONE),
 ];
 
@@ -99,7 +80,7 @@ const ROWS_IN_TWO_PACKETS: [Step; 4] = [
 const ROWS_IN_ONE_PACKET: [Step; 4] = [
     Step::Asks(Ask::Batch(b"rows 5 2")),
     Step::Take(&ROWED, Taken::More),
-    Step::Take(&DONE, Taken::Finished),
+    Step::Take(&SECOND_ENDS, Taken::Finished),
     Step::Told(&ROWED_AND_DONE),
 ];
 
@@ -115,7 +96,7 @@ const A_COMMIT_BEHIND_A_RESET: [Step; 12] = [
     Step::Descriptor(1),
     Step::Take(&COMMITTED, Taken::More),
     Step::Descriptor(0),
-    Step::Take(&DONE, Taken::Finished),
+    Step::Take(&SECOND_ENDS, Taken::Finished),
     Step::Told(&GOT_AND_COMMITTED),
 ];
 
@@ -148,16 +129,16 @@ const CANCELLED_IN_THE_MIDDLE: [Step; 7] = [
     Step::Take(&SAID, Taken::More),
     Step::Cancel(Cancelled::Asked, &ATTENTION),
     Step::Take(&SAID, Taken::More),
-    Step::Take(&ACKNOWLEDGED_LATE, Taken::Acknowledged),
+    Step::Take(&ACKNOWLEDGED_THIRD, Taken::Acknowledged),
     Step::Is(Stands::Idle),
-    Step::Told(&TOLD_ONCE),
+    Step::Told(&SAID_TOKENS),
 ];
 
 const ANSWER_AND_ATTENTION_CROSS: [Step; 8] = [
     Step::Asks(Ask::Batch(b"get x")),
     Step::Cancel(Cancelled::Asked, &ATTENTION),
     Step::Take(&GOT, Taken::More),
-    Step::Take(&DONE, Taken::More),
+    Step::Take(&SECOND_ENDS, Taken::More),
     Step::Is(Stands::Cancelling),
     Step::Take(&ACKNOWLEDGED, Taken::Acknowledged),
     Step::Is(Stands::Idle),

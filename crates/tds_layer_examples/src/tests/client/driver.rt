@@ -1,23 +1,8 @@
+use crate::tests::{Ask, are_spelled, request};
 use std::alloc::Global;
-use std::test::Fail;
 use tds_client::*;
 use tds_packet::{Direction, Kind, PacketReader, PacketSize, Reset};
-use tds_request::{BatchText, Isolation, Request};
-use tds_token::{Token, put_token};
-
-/// A request.
-#[derive(Clone, Copy)]
-pub enum Ask {
-    /// A begin at this isolation level.
-    Begin(u8),
-    /// A batch of this text.
-    Batch(&'static [u8]),
-    /// A batch of this many letters.
-    LongBatch(usize),
-    /// A commit, which may begin anew at this isolation level.
-    Commit(Option<u8>),
-    Rollback(Option<u8>),
-}
+use tds_token::Token;
 
 /// What goes out.
 #[derive(Clone, Copy)]
@@ -78,60 +63,69 @@ pub enum Step {
 /// A script with its name.
 pub type Script = (&'static str, &'static [Step]);
 
-/// A client, and all tokens that it has told.
+/// A client with what its calls need. Each is made once, and cleared where it is used again.
 #[derive(Drop)]
 struct Player {
     alloc: Global,
     client: Client,
+    reader: PacketReader,
+    /// All tokens that the client has told.
     told: Vec<Token>,
+    /// What the last call appended.
+    out: Vec<u8>,
 }
 
 /// Plays a script on an idle client for packets of 512 bytes: how many steps held before the first
-/// that didn't.
-fn play(alloc: Global, steps: &[Step]) -> Result<usize, Fail> {
+/// that didn't. None at want of memory for what the calls need.
+fn play(alloc: Global, steps: &[Step]) -> Option<usize> {
+    let size = PacketSize::new(512)?;
     let mut player = Player {
         alloc,
-        client: new_client(alloc, 512)?,
+        client: Client::new(alloc, size),
+        reader: PacketReader::new(alloc, size, Direction::ToClient).ok()?,
         told: Vec::new(alloc),
+        out: Vec::new(alloc),
     };
     for (at, step) in steps.iter().enumerate() {
-        if !holds(&mut player, *step)? {
-            return Ok(at);
+        if !holds(&mut player, *step) {
+            return Some(at);
         }
     }
-    Ok(steps.len())
+    Some(steps.len())
 }
 
 /// The first script in which a step doesn't hold, with the number of steps before it.
 pub(super) fn first_failure(
     alloc: Global,
     scripts: &[Script],
-) -> Result<Option<(&'static str, usize)>, Fail> {
+) -> Option<(&'static str, Option<usize>)> {
     for (name, steps) in scripts {
-        let held = play(alloc, steps)?;
-        if held != steps.len() {
-            return Ok(Some((*name, held)));
+        let held = play(alloc, steps);
+        if held != Some(steps.len()) {
+            return Some((*name, held));
         }
     }
-    Ok(None)
+    None
 }
 
-fn holds(player: &mut Player, step: Step) -> Result<bool, Fail> {
+fn holds(player: &mut Player, step: Step) -> bool {
     match step {
         Step::New(size) => renews(player, size),
-        Step::Start(ask) => Ok(start(player, ask)? == 0),
-        Step::Send(answer, out) => sends(player, answer, out),
-        Step::Asks(ask) => asks(player, ask),
-        Step::Cancel(answer, bytes) => cancels(player, answer, bytes),
-        Step::Take(bytes, answer) => takes(player, bytes, answer),
+        Step::Start(ask) => starts(player, ask, Ok(())),
+        Step::NoStart(ask, number) => starts(player, ask, Err(number)),
+        Step::Send(answer, out) => sends(player, Ok(answer))
+            && goes_out(player.out.as_slice(), out),
+        Step::NoSend(number) => sends(player, Err(number)) && player.out.is_empty(),
+        Step::Asks(ask) => starts(player, ask, Ok(())) && sends(player, Ok(Sent::Last)),
+        Step::Cancel(answer, bytes) => cancels(player, Ok(answer))
+            && player.out.as_slice() == bytes,
+        Step::NoCancel(number) => cancels(player, Err(number)) && player.out.is_empty(),
+        Step::Take(bytes, answer) => takes(player, bytes, Answer::Taken(answer)),
         Step::TakeRows(count) => takes_rows(player, count),
-        Step::Fault(bytes, number) => faults(player, bytes, number),
-        Step::TokenFault(bytes, number) => faults_by_token(player, bytes, number),
-        Step::NoStart(ask, number) => Ok(start(player, ask)? == number),
-        Step::NoSend(number) => refuses_to_send(player, number),
-        Step::NoCancel(number) => refuses_to_cancel(player, number),
+        Step::Fault(bytes, number) => takes(player, bytes, Answer::Fault(number)),
+        Step::TokenFault(bytes, number) => takes(player, bytes, Answer::TokenFault(number)),
         Step::Told(bytes) => tells(player, bytes),
-        _ => Ok(is_met(&mut player.client, step)),
+        _ => is_met(&mut player.client, step),
     }
 }
 
@@ -164,55 +158,38 @@ fn state_of(client: &Client) -> Stands {
     }
 }
 
-fn new_client(alloc: Global, size: u16) -> Result<Client, Fail> {
-    let size = PacketSize::new(size).ok_or("size")?;
-    Ok(Client::new(alloc, size))
+fn renews(player: &mut Player, size: u16) -> bool {
+    let Some(size) = PacketSize::new(size) else {
+        return false;
+    };
+    player.client = Client::new(player.alloc, size);
+    true
 }
 
-fn renews(player: &mut Player, size: u16) -> Result<bool, Fail> {
-    player.client = new_client(player.alloc, size)?;
-    Ok(true)
-}
-
-fn request(alloc: Global, ask: Ask) -> Result<Request, Fail> {
-    match ask {
-        Ask::Begin(level) => Ok(Request::Begin(Isolation::new(level).ok_or("level")?)),
-        Ask::Batch(text) => batch(alloc, text),
-        Ask::LongBatch(count) => long_batch(alloc, count),
-        Ask::Commit(anew) => Ok(Request::Commit(isolation(anew)?)),
-        Ask::Rollback(anew) => Ok(Request::Rollback(isolation(anew)?)),
-    }
-}
-
-fn isolation(level: Option<u8>) -> Result<Option<Isolation>, Fail> {
-    match level {
-        Some(level) => Ok(Some(Isolation::new(level).ok_or("level")?)),
-        None => Ok(None),
-    }
-}
-
-fn batch(alloc: Global, text: &[u8]) -> Result<Request, Fail> {
-    let mut units = Vec::new(alloc);
-    for byte in text {
-        units.push(u16::from(*byte))?;
-    }
-    Ok(Request::Batch(BatchText::new(units).ok_or("text")?))
-}
-
-fn long_batch(alloc: Global, count: usize) -> Result<Request, Fail> {
-    let mut units = Vec::new(alloc);
-    for _ in 0..count {
-        units.push(0x61)?;
-    }
-    Ok(Request::Batch(BatchText::new(units).ok_or("text")?))
-}
-
-/// Starts a request: the refusal's number, or 0 for none.
-fn start(player: &mut Player, ask: Ask) -> Result<u8, Fail> {
-    let request = request(player.alloc, ask)?;
+/// Starts a request: whether this is answered, or it is refused with this number.
+fn starts(player: &mut Player, ask: Ask, expected: Result<(), u8>) -> bool {
+    let Some(request) = request(player.alloc, ask) else {
+        return false;
+    };
     match player.client.start(&request) {
-        Ok(()) => Ok(0),
-        Err(refusal) => Ok(refusal.number()),
+        Ok(()) => expected == Ok(()),
+        Err(refusal) => expected == Err(refusal.number()),
+    }
+}
+
+fn sends(player: &mut Player, expected: Result<Sent, u8>) -> bool {
+    player.out.clear();
+    match player.client.send(&mut player.out) {
+        Ok(sent) => expected == Ok(sent),
+        Err(refusal) => expected == Err(refusal.number()),
+    }
+}
+
+fn cancels(player: &mut Player, expected: Result<Cancelled, u8>) -> bool {
+    player.out.clear();
+    match player.client.cancel(&mut player.out) {
+        Ok(cancelled) => expected == Ok(cancelled),
+        Err(refusal) => expected == Err(refusal.number()),
     }
 }
 
@@ -224,126 +201,79 @@ fn goes_out(found: &[u8], expected: Out) -> bool {
     }
 }
 
-fn sends(player: &mut Player, answer: Sent, expected: Out) -> Result<bool, Fail> {
-    let mut out = Vec::new(player.alloc);
-    match player.client.send(&mut out) {
-        Ok(sent) => Ok(sent == answer && goes_out(out.as_slice(), expected)),
-        Err(_) => Ok(false),
+/// What a packet is answered with.
+#[derive(Clone, Copy)]
+enum Answer {
+    Taken(Taken),
+    /// The fault of this number.
+    Fault(u8),
+    /// The token fault of this number.
+    TokenFault(u8),
+}
+
+fn is_fault(fault: &ClientFault, expected: Answer) -> bool {
+    match (fault, expected) {
+        (_, Answer::Fault(number)) => fault.number() == number,
+        (ClientFault::Token(fault), Answer::TokenFault(number)) => fault.number() == number,
+        _ => false,
     }
 }
 
-fn asks(player: &mut Player, ask: Ask) -> Result<bool, Fail> {
-    if start(player, ask)? != 0 {
-        return Ok(false);
+/// Hands the packet that these bytes spell to the client. A fault tells nothing.
+fn takes(player: &mut Player, bytes: &[u8], expected: Answer) -> bool {
+    player.reader.done();
+    if player.reader.feed(bytes).is_err() {
+        return false;
     }
-    let mut out = Vec::new(player.alloc);
-    match player.client.send(&mut out) {
-        Ok(sent) => Ok(sent == Sent::Last),
-        Err(_) => Ok(false),
-    }
-}
-
-fn cancels(player: &mut Player, answer: Cancelled, expected: &[u8]) -> Result<bool, Fail> {
-    let mut out = Vec::new(player.alloc);
-    match player.client.cancel(&mut out) {
-        Ok(cancelled) => Ok(cancelled == answer && out.as_slice() == expected),
-        Err(_) => Ok(false),
-    }
-}
-
-fn refuses_to_send(player: &mut Player, number: u8) -> Result<bool, Fail> {
-    let mut out = Vec::new(player.alloc);
-    match player.client.send(&mut out) {
-        Ok(_) => Ok(false),
-        Err(refusal) => Ok(refusal.number() == number && out.is_empty()),
+    let told = player.told.len();
+    match player.reader.packet() {
+        Some(packet) if packet.header.kind == Kind::Answer => {
+            match player.client.take(packet, &mut player.told) {
+                Ok(taken) => matches!(expected, Answer::Taken(answer) if answer == taken),
+                Err(fault) => is_fault(&fault, expected) && player.told.len() == told,
+            }
+        }
+        _ => false,
     }
 }
 
-fn refuses_to_cancel(player: &mut Player, number: u8) -> Result<bool, Fail> {
-    let mut out = Vec::new(player.alloc);
-    match player.client.cancel(&mut out) {
-        Ok(_) => Ok(false),
-        Err(refusal) => Ok(refusal.number() == number && out.is_empty()),
-    }
-}
-
-/// Hands the packet that these bytes spell to the client.
-fn take(player: &mut Player, bytes: &[u8]) -> Result<Result<Taken, ClientFault>, Fail> {
-    let size = PacketSize::new(512).ok_or("size")?;
-    let mut reader = PacketReader::new(player.alloc, size, Direction::ToClient)?;
-    reader.feed(bytes).ok().ok_or("a packet fault")?;
-    let packet = reader.packet().ok_or("no packet")?;
-    if packet.header.kind != Kind::Answer {
-        return Err("no answer".into());
-    }
-    Ok(player.client.take(packet, &mut player.told))
-}
-
-fn takes(player: &mut Player, bytes: &[u8], answer: Taken) -> Result<bool, Fail> {
-    match take(player, bytes)? {
-        Ok(taken) => Ok(taken == answer),
-        Err(_) => Ok(false),
-    }
-}
-
-/// The head of a step with 64 rows, up to its PacketID.
-const ROWS_HEAD: [u8; 6] = [0x04, 0x00, 0x01, 0x62, 0x00, 0x00];
-
-/// Its COLMETADATA of one column, `n`.
-const ONE_COLUMN: [u8; 13] = [0x81, 0x01, 0, 0, 0, 0, 0, 0, 0, 0x38, 0x01, 0x6E, 0x00];
+/// The head of a step with 64 rows, and its COLMETADATA of one column, `n`.
+const ROWS_HEAD: [u8; 21] = [
+    0x04, 0x00, 0x01, 0x62, 0x00, 0x00, 0x00, 0x00, 0x81, 0x01, 0, 0, 0, 0, 0, 0, 0, 0x38, 0x01,
+    0x6E, 0x00,
+];
 
 /// Its DONE with `0011` and their count.
 const ROWS_DONE: [u8; 13] = [0xFD, 0x11, 0, 0, 0, 0x40, 0, 0, 0, 0, 0, 0, 0];
 
-/// The packet with this PacketID that gives the rows from 0 to 63.
-fn rows(alloc: Global, packet_id: u8) -> Result<Vec<u8>, Fail> {
-    let mut packet = Vec::new(alloc);
-    packet.extend_from_slice(&ROWS_HEAD)?;
-    packet.extend_from_slice(&[packet_id, 0])?;
-    packet.extend_from_slice(&ONE_COLUMN)?;
+/// The packet with this PacketID that gives the rows from 0 to 63. It takes no memory.
+fn rows(packet_id: u8) -> [u8; 354] {
+    let mut packet = [0; 354];
+    packet[..21].copy_from_slice(&ROWS_HEAD);
+    packet[6] = packet_id;
     for value in 0..64 {
-        packet.extend_from_slice(&[0xD1, value, 0, 0, 0])?;
+        let at = 21 + 5 * usize::from(value);
+        packet[at] = 0xD1;
+        packet[at + 1] = value;
     }
-    packet.extend_from_slice(&ROWS_DONE)?;
-    Ok(packet)
+    packet[341..].copy_from_slice(&ROWS_DONE);
+    packet
 }
 
-fn takes_rows(player: &mut Player, count: u8) -> Result<bool, Fail> {
+fn takes_rows(player: &mut Player, count: u8) -> bool {
     for place in 0..count {
-        let packet = rows(player.alloc, place.wrapping_add(1))?;
-        if !takes(player, packet.as_slice(), Taken::More)? {
-            return Ok(false);
+        let packet = rows(place.wrapping_add(1));
+        if !takes(player, &packet, Answer::Taken(Taken::More)) {
+            return false;
         }
     }
-    Ok(true)
-}
-
-fn faults(player: &mut Player, bytes: &[u8], number: u8) -> Result<bool, Fail> {
-    let told = player.told.len();
-    match take(player, bytes)? {
-        Ok(_) => Ok(false),
-        Err(fault) => Ok(fault.number() == number && player.told.len() == told),
-    }
-}
-
-fn faults_by_token(player: &mut Player, bytes: &[u8], number: u8) -> Result<bool, Fail> {
-    let told = player.told.len();
-    match take(player, bytes)? {
-        Err(ClientFault::Token(fault)) => {
-            Ok(fault.number() == number && player.told.len() == told)
-        }
-        _ => Ok(false),
-    }
+    true
 }
 
 /// Whether the tokens that were told are spelled by these bytes.
-fn tells(player: &mut Player, bytes: &[u8]) -> Result<bool, Fail> {
-    let mut spelled = Vec::new(player.alloc);
-    for token in player.told.as_slice() {
-        if !token.fits() {
-            return Ok(false);
-        }
-        put_token(&mut spelled, token)?;
-    }
-    Ok(spelled.as_slice() == bytes)
+fn tells(player: &Player, expected: &[u8]) -> bool {
+    matches!(
+        are_spelled(player.alloc, player.told.as_slice(), expected),
+        Ok(true)
+    )
 }

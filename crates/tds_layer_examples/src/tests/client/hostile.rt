@@ -71,7 +71,7 @@ const REFUSALS: [Step; 12] = [
     Step::NoMark(3),
     Step::NoSend(3),
     Step::NoCancel(3),
-    Step::Fault(&DONE, 9),
+    Step::Fault(&SECOND_ENDS, 9),
 ];
 
 // Each fault in reading is answered again, also to a lawful packet, and a loss doesn't change it.
@@ -80,7 +80,7 @@ const REFUSALS: [Step; 12] = [
 const AN_UNASKED_ACKNOWLEDGEMENT: [Step; 7] = [
     Step::Asks(Ask::Batch(b"get x")),
     Step::Fault(&ACKNOWLEDGED, 3),
-    Step::Fault(&DONE, 3),
+    Step::Fault(&SECOND_ENDS, 3),
     Step::Lost,
     Step::Is(Stands::Broken(3)),
     Step::Descriptor(0),
@@ -90,7 +90,7 @@ const AN_UNASKED_ACKNOWLEDGEMENT: [Step; 7] = [
 const A_WRONG_CHANGE: [Step; 11] = [
     Step::Asks(Ask::Batch(b"get x")),
     Step::Fault(&COMMITTED, 4),
-    Step::Fault(&DONE, 4),
+    Step::Fault(&SECOND_ENDS, 4),
     Step::Lost,
     Step::Is(Stands::Broken(4)),
     Step::Descriptor(0),
@@ -104,7 +104,7 @@ const A_WRONG_CHANGE: [Step; 11] = [
 const AN_UNASKED_RESET: [Step; 11] = [
     Step::Asks(Ask::Batch(b"get x")),
     Step::Fault(&RESET, 5),
-    Step::Fault(&DONE, 5),
+    Step::Fault(&SECOND_ENDS, 5),
     Step::Lost,
     Step::Is(Stands::Broken(5)),
     Step::Descriptor(0),
@@ -118,7 +118,7 @@ const AN_UNASKED_RESET: [Step; 11] = [
 const AN_END_WITHOUT_A_FINAL_DONE: [Step; 11] = [
     Step::Asks(Ask::Batch(b"get x")),
     Step::Fault(&EMPTY_END, 6),
-    Step::Fault(&DONE, 6),
+    Step::Fault(&SECOND_ENDS, 6),
     Step::Lost,
     Step::Is(Stands::Broken(6)),
     Step::Descriptor(0),
@@ -132,7 +132,7 @@ const AN_END_WITHOUT_A_FINAL_DONE: [Step; 11] = [
 const A_TOKEN_BEHIND_THE_FINAL_DONE: [Step; 11] = [
     Step::Asks(Ask::Batch(b"get x")),
     Step::Fault(&BEHIND, 7),
-    Step::Fault(&DONE, 7),
+    Step::Fault(&SECOND_ENDS, 7),
     Step::Lost,
     Step::Is(Stands::Broken(7)),
     Step::Descriptor(0),
@@ -146,7 +146,7 @@ const A_TOKEN_BEHIND_THE_FINAL_DONE: [Step; 11] = [
 const A_ROW_WITHOUT_COLUMNS: [Step; 11] = [
     Step::Asks(Ask::Batch(b"get x")),
     Step::Fault(&ROW, 8),
-    Step::Fault(&DONE, 8),
+    Step::Fault(&SECOND_ENDS, 8),
     Step::Lost,
     Step::Is(Stands::Broken(8)),
     Step::Descriptor(0),

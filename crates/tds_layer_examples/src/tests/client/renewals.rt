@@ -1,21 +1,6 @@
 //! A commit that begins anew, and its answer.
 use super::*;
 
-/// A commit of the transaction with descriptor 1 that begins anew at isolation level 2.
-const COMMIT: [u8; 36] = [
-    0x0E, 0x01, 0x00, 0x24, 0x00, 0x00, 0x01, 0x00, 0x16, 0x00, 0x00, 0x00, 0x12, 0x00, 0x00, 0x00,
-    0x02, 0x00, 0x01, 0x00, 0x00, 0x00, 0x00, 0x00, 0x00, 0x00, 0x01, 0x00, 0x00, 0x00, 0x07, 0x00,
-    0x00, 0x01, 0x02, 0x00,
-];
-
-/// Its answer: ENVCHANGE 9 with descriptor 1, ENVCHANGE 8 with descriptor 2, and the final DONE.
-const COMMITTED: [u8; 49] = [
-    0x04, 0x01, 0x00, 0x31, 0x00, 0x00, 0x01, 0x00, 0xE3, 0x0B, 0x00, 0x09, 0x00, 0x08, 0x01, 0x00,
-    0x00, 0x00, 0x00, 0x00, 0x00, 0x00, 0xE3, 0x0B, 0x00, 0x08, 0x08, 0x02, 0x00, 0x00, 0x00, 0x00,
-    0x00, 0x00, 0x00, 0x00, 0xFD, 0x00, 0x00, 0x00, 0x00, 0x00, 0x00, 0x00, 0x00, 0x00, 0x00, 0x00,
-    0x00,
-];
-
 /// The same with the beginning before the end.
 const BEGUN_FIRST: [u8; 49] = [
     0x04, 0x01, 0x00, 0x31, 0x00, 0x00, 0x01, 0x00, 0xE3, 0x0B, 0x00, 0x08, 0x08, 0x02, 0x00, 0x00,
@@ -28,9 +13,9 @@ const BEGUN_FIRST: [u8; 49] = [
 pub(super) const HEARD: [Step; 7] = [
     Step::Asks(Ask::Begin(0)),
     Step::Take(&BEGUN, Taken::Finished),
-    Step::Start(Ask::Commit(Some(2))),
-    Step::Send(Sent::Last, Out::Is(&COMMIT)),
-    Step::Take(&COMMITTED, Taken::Finished),
+    Step::Start(Ask::CommitAnew(2)),
+    Step::Send(Sent::Last, Out::Is(&COMMIT_ANEW)),
+    Step::Take(&COMMITTED_ANEW, Taken::Finished),
     Step::Is(Stands::Idle),
     Step::Descriptor(2),
 ];
@@ -39,9 +24,9 @@ pub(super) const HEARD: [Step; 7] = [
 pub(super) const CANCELLED: [Step; 8] = [
     Step::Asks(Ask::Begin(0)),
     Step::Take(&BEGUN, Taken::Finished),
-    Step::Asks(Ask::Commit(Some(2))),
+    Step::Asks(Ask::CommitAnew(2)),
     Step::Cancel(Cancelled::Asked, &ATTENTION),
-    Step::Take(&COMMITTED, Taken::More),
+    Step::Take(&COMMITTED_ANEW, Taken::More),
     Step::Take(&ACKNOWLEDGED, Taken::Acknowledged),
     Step::Descriptor(2),
     Step::Told(&FINAL_DONE),
@@ -51,7 +36,7 @@ pub(super) const CANCELLED: [Step; 8] = [
 pub(super) const BEGUN_BEFORE_ITS_END: [Step; 5] = [
     Step::Asks(Ask::Begin(0)),
     Step::Take(&BEGUN, Taken::Finished),
-    Step::Asks(Ask::Commit(Some(2))),
+    Step::Asks(Ask::CommitAnew(2)),
     Step::Fault(&BEGUN_FIRST, 4),
     Step::Descriptor(1),
 ];

@@ -7,26 +7,6 @@ const COMMIT: [u8; 34] = [
     0x00, 0x00,
 ];
 
-/// `get x` with the mark of a full reset, and descriptor 0.
-const RESET_AND_GET: [u8; 40] = [
-    0x01, 0x09, 0x00, 0x28, 0x00, 0x00, 0x01, 0x00, 0x16, 0x00, 0x00, 0x00, 0x12, 0x00, 0x00, 0x00,
-    0x02, 0x00, 0x00, 0x00, 0x00, 0x00, 0x00, 0x00, 0x00, 0x00, 0x01, 0x00, 0x00, 0x00, 0x67, 0x00,
-    0x65, 0x00, 0x74, 0x00, 0x20, 0x00, 0x78, 0x00,
-];
-
-/// A rollback with the mark of a reset that keeps the transaction, which has descriptor 1.
-const RESET_AND_ROLLBACK: [u8; 34] = [
-    0x0E, 0x11, 0x00, 0x22, 0x00, 0x00, 0x01, 0x00, 0x16, 0x00, 0x00, 0x00, 0x12, 0x00, 0x00, 0x00,
-    0x02, 0x00, 0x01, 0x00, 0x00, 0x00, 0x00, 0x00, 0x00, 0x00, 0x01, 0x00, 0x00, 0x00, 0x08, 0x00,
-    0x00, 0x00,
-];
-
-/// The end of its answer: descriptor 1 is rolled back, and a final DONE.
-const ROLLED_BACK: [u8; 35] = [
-    0x04, 0x01, 0x00, 0x23, 0x00, 0x00, 0x02, 0x00, 0xE3, 0x0B, 0x00, 0x0A, 0x00, 0x08, 0x01, 0x00,
-    0x00, 0x00, 0x00, 0x00, 0x00, 0x00, 0xFD, 0, 0, 0, 0, 0, 0, 0, 0, 0, 0, 0, 0,
-];
-
 /// The last of two packets, whose data are one letter.
 const ONE_LETTER: [u8; 10] = [0x01, 0x01, 0x00, 0x0A, 0x00, 0x00, 0x02, 0x00, 0x61, 0x00];
 
@@ -51,7 +31,7 @@ const A_BEGIN_AND_ITS_ANSWER: [Step; 10] = [
 const THE_DESCRIPTOR_HEARD_IS_IN_THE_NEXT_HEADER: [Step; 4] = [
     Step::Asks(Ask::Begin(0)),
     Step::Take(&BEGUN, Taken::Finished),
-    Step::Start(Ask::Commit(None)),
+    Step::Start(Ask::Commit),
     Step::Send(Sent::Last, Out::Is(&COMMIT)),
 ];
 
@@ -72,7 +52,7 @@ const A_RESET_THAT_KEEPS_THE_TRANSACTION: [Step; 10] = [
     Step::Asks(Ask::Begin(0)),
     Step::Take(&BEGUN, Taken::Finished),
     Step::Mark(Reset::KeepTransaction),
-    Step::Start(Ask::Rollback(None)),
+    Step::Start(Ask::Rollback),
     Step::Send(Sent::Last, Out::Is(&RESET_AND_ROLLBACK)),
     Step::Take(&RESET, Taken::More),
     Step::MarkIs(None),
@@ -82,7 +62,7 @@ const A_RESET_THAT_KEEPS_THE_TRANSACTION: [Step; 10] = [
 ];
 
 const ONE_FULL_PACKET: [Step; 2] = [
-    Step::Start(Ask::LongBatch(241)),
+    Step::Start(Ask::Batch(&[0x61; 241])),
     Step::Send(
         Sent::Last,
         Out::Starts(512, &[0x01, 0x01, 0x02, 0x00, 0x00, 0x00, 0x01, 0x00]),
@@ -91,7 +71,7 @@ const ONE_FULL_PACKET: [Step; 2] = [
 
 const TWO_PACKETS_OF_WHICH_THE_FIRST_HAS_THE_MARK: [Step; 4] = [
     Step::Mark(Reset::Full),
-    Step::Start(Ask::LongBatch(242)),
+    Step::Start(Ask::Batch(&[0x61; 242])),
     Step::Send(
         Sent::More,
         Out::Starts(512, &[0x01, 0x08, 0x02, 0x00, 0x00, 0x00, 0x01, 0x00]),
@@ -100,7 +80,7 @@ const TWO_PACKETS_OF_WHICH_THE_FIRST_HAS_THE_MARK: [Step; 4] = [
 ];
 
 const CANCELLED_BETWEEN_ITS_PACKETS: [Step; 6] = [
-    Step::Start(Ask::LongBatch(242)),
+    Step::Start(Ask::Batch(&[0x61; 242])),
     Step::Send(
         Sent::More,
         Out::Starts(512, &[0x01, 0x00, 0x02, 0x00, 0x00, 0x00, 0x01, 0x00]),
@@ -112,7 +92,7 @@ const CANCELLED_BETWEEN_ITS_PACKETS: [Step; 6] = [
 ];
 
 const THE_LONGEST_BATCH: [Step; 9] = [
-    Step::Start(Ask::LongBatch(2000)),
+    Step::Start(Ask::Batch(&[0x61; 2000])),
     Step::Send(
         Sent::More,
         Out::Starts(512, &[0x01, 0x00, 0x02, 0x00, 0x00, 0x00, 0x01, 0x00]),

@@ -1,13 +1,6 @@
 //! Attentions: each is acknowledged by one packet, and ends what is underway.
 
-use super::answers::SAID;
 use super::*;
-
-/// An acknowledgement that ends an answer of which one packet went out.
-pub(super) const ENDS_ANSWER: [u8; 21] = [
-    0x04, 0x01, 0x00, 0x15, 0x00, 0x00, 0x02, 0x00, 0xFD, 0x20, 0x00, 0x00, 0x00, 0, 0, 0, 0, 0, 0,
-    0, 0,
-];
 
 /// The batch `say a;say b`, with descriptor 0.
 const SAY_TWICE: [u8; 52] = [
@@ -35,7 +28,7 @@ pub(super) const ATTENTIONS: [(&str, &[Call]); 4] = [
         &[
             Call::Take(&SAY_TWICE, ServerTook::Request, &[]),
             Call::Work(Worked::Step, &SAID),
-            Call::Take(&ATTENTION, ServerTook::Acknowledged, &ENDS_ANSWER),
+            Call::Take(&ATTENTION, ServerTook::Acknowledged, &ACKNOWLEDGED_SECOND),
             IDLE,
         ],
     ),

@@ -1,6 +1,7 @@
 //! A batch whose answer has more packets than there are PacketIDs.
 
 use super::*;
+use crate::tests::NoMemory;
 
 const ALL_HEADERS: [u8; 22] = [
     0x16, 0x00, 0x00, 0x00, 0x12, 0x00, 0x00, 0x00, 0x02, 0x00, 0x00, 0x00, 0x00, 0x00, 0x00, 0x00,
@@ -13,9 +14,8 @@ const GET: [u8; 12] = [
 ];
 
 /// The data of a batch of 333 times `get a`, with a semicolon between each two.
-fn gets(alloc: Global) -> Result<Vec<u8>, Fail> {
-    let mut message = Vec::new(alloc);
-    message.extend_from_slice(&ALL_HEADERS)?;
+fn gets(alloc: Global) -> Result<Vec<u8>, NoMemory> {
+    let mut message = Vec::from_slice(alloc, &ALL_HEADERS)?;
     for _ in 0..333 {
         message.extend_from_slice(&GET)?;
     }
@@ -23,56 +23,59 @@ fn gets(alloc: Global) -> Result<Vec<u8>, Fail> {
     Ok(message)
 }
 
-/// Hands the next packet of a batch to a server, full unless it is the last, and gives the data
-/// that are left.
-fn send<'a>(
+/// The header of each packet but the last, which has 504 bytes of data.
+const FULL: [u8; 8] = [0x01, 0x00, 0x02, 0x00, 0x00, 0x00, 0x01, 0x00];
+
+/// The header of the last, the eighth: 488 bytes are left for it.
+const LAST: [u8; 8] = [0x01, 0x01, 0x01, 0xF0, 0x00, 0x00, 0x01, 0x00];
+
+/// Hands a batch of 4,016 bytes to a server, packet by packet.
+fn sends(
     alloc: Global,
-    server: &mut Server<ScriptEngine>,
-    message: &'a [u8],
-) -> Result<&'a [u8], Fail> {
-    let (part, rest) = message.split_at(message.len().min(504));
-    let length = (part.len() + 8) as u16;
+    player: &mut Player<ScriptEngine>,
+    message: &[u8],
+) -> Result<bool, NoMemory> {
     let mut packet = Vec::new(alloc);
-    packet.extend_from_slice(&[0x01, u8::from(rest.is_empty())])?;
-    packet.extend_from_slice(&length.to_be_bytes())?;
-    packet.extend_from_slice(&[0x00, 0x00, 0x01, 0x00])?;
-    packet.extend_from_slice(part)?;
-    let took = if rest.is_empty() {
-        ServerTook::Request
-    } else {
-        ServerTook::More
-    };
-    if !takes(alloc, server, packet.as_slice(), Ok(took), &[])? {
-        return Err("a packet goes otherwise".into());
+    for part in message.chunks(504) {
+        let (header, took) = if part.len() == 504 {
+            (FULL, ServerTook::More)
+        } else {
+            (LAST, ServerTook::Request)
+        };
+        packet.clear();
+        packet.extend_from_slice(&header)?;
+        packet.extend_from_slice(part)?;
+        if !takes(player, packet.as_slice(), Ok(took), &[]) {
+            return Ok(false);
+        }
     }
-    Ok(rest)
+    Ok(true)
 }
 
 /// The status and PacketID of each packet of an answer, up to its end.
-fn heads(alloc: Global, server: &mut Server<ScriptEngine>) -> Result<Vec<(u8, u8)>, Fail> {
+fn heads(alloc: Global, player: &mut Player<ScriptEngine>) -> Option<Vec<(u8, u8)>> {
     let mut heads = Vec::new(alloc);
     for _ in 0..400 {
-        let mut packet = Vec::new(alloc);
-        if server.work(&mut packet)? == Worked::Idle {
-            return Ok(heads);
+        player.out.clear();
+        if player.server.work(&mut player.out).ok()? == Worked::Idle {
+            return Some(heads);
         }
-        let [_, status, _, _, _, _, id, ..] = packet.as_slice() else {
-            return Err("a short packet".into());
+        let [_, status, _, _, _, _, id, ..] = player.out.as_slice() else {
+            return None;
         };
-        heads.push((*status, *id))?;
+        heads.push((*status, *id)).ok()?;
     }
-    Ok(heads)
+    None
 }
 
 /// The answer to a batch of 333 statements: the heads of its packets.
-fn answered(alloc: Global) -> Result<Vec<(u8, u8)>, Fail> {
-    let mut server = Server::new(alloc, ScriptEngine, size()?);
-    let message = gets(alloc)?;
-    let mut rest = message.as_slice();
-    for _ in 0..8 {
-        rest = send(alloc, &mut server, rest)?;
+fn answered(alloc: Global) -> Option<Vec<(u8, u8)>> {
+    let mut player = new_player(alloc, ScriptEngine, OnAttention::Keep)?;
+    let message = gets(alloc).ok()?;
+    if !sends(alloc, &mut player, message.as_slice()).ok()? {
+        return None;
     }
-    heads(alloc, &mut server)
+    heads(alloc, &mut player)
 }
 
 /// The first head, those about the last PacketID, and the last.
@@ -87,26 +90,29 @@ fn marked(heads: &[(u8, u8)]) -> [Option<(u8, u8)>; 5] {
 }
 
 /// 334 packets: PacketID 255 is followed by 0 and 1, and the last one alone ends the message.
+const MARKED: [Option<(u8, u8)>; 5] = [
+    Some((0, 1)),
+    Some((0, 255)),
+    Some((0, 0)),
+    Some((0, 1)),
+    Some((1, 78)),
+];
+
 #[test]
-fn packet_ids_begin_again(rt: HostRuntime) -> Result<(), Fail> {
-    let heads = answered(rt.alloc())?;
+fn packet_ids_begin_again(rt: HostRuntime) {
+    let heads = match answered(rt.alloc()) {
+        Some(heads) => heads,
+        None => Vec::new(rt.alloc()),
+    };
     let mut ends = 0u32;
     for (status, _) in heads.iter() {
         if *status != 0 {
             ends = ends.wrapping_add(1);
         }
     }
-    let expected = [
-        Some((0, 1)),
-        Some((0, 255)),
-        Some((0, 0)),
-        Some((0, 1)),
-        Some((1, 78)),
-    ];
     let found = marked(heads.as_slice());
     assert!(rt;
-        (heads.len(), ends) == (334, 1) && found == expected,
+        (heads.len(), ends) == (334, 1) && found == MARKED,
         "{found:?}"
     );
-    Ok(())
 }

@@ -1,6 +1,5 @@
 //! Messages of several packets, and those that are to be ignored.
 
-use super::answers::SAID;
 use super::*;
 
 /// The first packet of a batch: ALL_HEADERS, the first bytes of `say a`.

@@ -2,21 +2,6 @@
 
 use super::*;
 
-/// A commit of the transaction with descriptor 1 that begins anew at isolation level 2.
-const COMMIT: [u8; 36] = [
-    0x0E, 0x01, 0x00, 0x24, 0x00, 0x00, 0x01, 0x00, 0x16, 0x00, 0x00, 0x00, 0x12, 0x00, 0x00, 0x00,
-    0x02, 0x00, 0x01, 0x00, 0x00, 0x00, 0x00, 0x00, 0x00, 0x00, 0x01, 0x00, 0x00, 0x00, 0x07, 0x00,
-    0x00, 0x01, 0x02, 0x00,
-];
-
-/// Its answer: ENVCHANGE 9 with descriptor 1, ENVCHANGE 8 with descriptor 2, and the final DONE.
-const COMMITTED: [u8; 49] = [
-    0x04, 0x01, 0x00, 0x31, 0x00, 0x00, 0x01, 0x00, 0xE3, 0x0B, 0x00, 0x09, 0x00, 0x08, 0x01, 0x00,
-    0x00, 0x00, 0x00, 0x00, 0x00, 0x00, 0xE3, 0x0B, 0x00, 0x08, 0x08, 0x02, 0x00, 0x00, 0x00, 0x00,
-    0x00, 0x00, 0x00, 0x00, 0xFD, 0x00, 0x00, 0x00, 0x00, 0x00, 0x00, 0x00, 0x00, 0x00, 0x00, 0x00,
-    0x00,
-];
-
 /// A rollback of the transaction with descriptor 2 that begins anew at isolation level 0.
 const ROLLBACK: [u8; 36] = [
     0x0E, 0x01, 0x00, 0x24, 0x00, 0x00, 0x01, 0x00, 0x16, 0x00, 0x00, 0x00, 0x12, 0x00, 0x00, 0x00,
@@ -46,11 +31,6 @@ const KEEP_AND_COMMIT: [u8; 36] = [
     0x00, 0x01, 0x02, 0x00,
 ];
 
-/// The first packet of the answer to either: ENVCHANGE 18.
-const RESET: [u8; 14] = [
-    0x04, 0x00, 0x00, 0x0E, 0x00, 0x00, 0x01, 0x00, 0xE3, 0x03, 0x00, 0x12, 0x00, 0x00,
-];
-
 /// The second, behind a full reset: ERROR 50003 `no transaction`, and the final DONE after an
 /// error.
 const NO_TRANSACTION: [u8; 66] = [
@@ -61,28 +41,18 @@ const NO_TRANSACTION: [u8; 66] = [
     0x00, 0x00,
 ];
 
-/// An acknowledgement that ends an answer of which one packet went out.
-const ENDS_ANSWER: [u8; 21] = [
-    0x04, 0x01, 0x00, 0x15, 0x00, 0x00, 0x02, 0x00, 0xFD, 0x20, 0x00, 0x00, 0x00, 0, 0, 0, 0, 0, 0,
-    0, 0,
-];
-
-/// In transaction 1.
-const IN_ONE: [Call; 2] = [
-    Call::Take(&BEGIN, ServerTook::Request, &[]),
-    Call::Work(Worked::Finished, &BEGUN),
-];
-
 /// Requests to a server in transaction 1.
-const RENEWALS: [(&str, &[Call]); 6] = [
+pub(super) const RENEWALS: [(&str, &[Call]); 6] = [
     // A request that is taken changes no session; its one step ends the transaction and begins the
     // next one.
     (
         "a commit and then a rollback",
         &[
-            Call::Take(&COMMIT, ServerTook::Request, &[]),
+            Call::Take(&BEGIN, ServerTook::Request, &[]),
+            Call::Work(Worked::Finished, &BEGUN),
+            Call::Take(&COMMIT_ANEW, ServerTook::Request, &[]),
             Call::Descriptor(1),
-            Call::Work(Worked::Finished, &COMMITTED),
+            Call::Work(Worked::Finished, &COMMITTED_ANEW),
             Call::Descriptor(2),
             Call::Take(&ROLLBACK, ServerTook::Request, &[]),
             Call::Work(Worked::Finished, &ROLLED_BACK),
@@ -93,7 +63,9 @@ const RENEWALS: [(&str, &[Call]); 6] = [
     (
         "cancelled before its step",
         &[
-            Call::Take(&COMMIT, ServerTook::Request, &[]),
+            Call::Take(&BEGIN, ServerTook::Request, &[]),
+            Call::Work(Worked::Finished, &BEGUN),
+            Call::Take(&COMMIT_ANEW, ServerTook::Request, &[]),
             Call::Take(&ATTENTION, ServerTook::Acknowledged, &ACKNOWLEDGED),
             Call::Descriptor(1),
             IDLE,
@@ -102,8 +74,10 @@ const RENEWALS: [(&str, &[Call]); 6] = [
     (
         "cancelled after its step",
         &[
-            Call::Take(&COMMIT, ServerTook::Request, &[]),
-            Call::Work(Worked::Finished, &COMMITTED),
+            Call::Take(&BEGIN, ServerTook::Request, &[]),
+            Call::Work(Worked::Finished, &BEGUN),
+            Call::Take(&COMMIT_ANEW, ServerTook::Request, &[]),
+            Call::Work(Worked::Finished, &COMMITTED_ANEW),
             Call::Take(&ATTENTION, ServerTook::Acknowledged, &ACKNOWLEDGED),
             Call::Descriptor(2),
             IDLE,
@@ -113,6 +87,8 @@ const RENEWALS: [(&str, &[Call]); 6] = [
     (
         "behind a full reset",
         &[
+            Call::Take(&BEGIN, ServerTook::Request, &[]),
+            Call::Work(Worked::Finished, &BEGUN),
             Call::Take(&RESET_AND_COMMIT, ServerTook::Request, &[]),
             Call::Work(Worked::Step, &RESET),
             Call::Descriptor(0),
@@ -124,9 +100,11 @@ const RENEWALS: [(&str, &[Call]); 6] = [
     (
         "cancelled behind a full reset",
         &[
+            Call::Take(&BEGIN, ServerTook::Request, &[]),
+            Call::Work(Worked::Finished, &BEGUN),
             Call::Take(&RESET_AND_COMMIT, ServerTook::Request, &[]),
             Call::Work(Worked::Step, &RESET),
-            Call::Take(&ATTENTION, ServerTook::Acknowledged, &ENDS_ANSWER),
+            Call::Take(&ATTENTION, ServerTook::Acknowledged, &ACKNOWLEDGED_SECOND),
             Call::Descriptor(0),
             IDLE,
         ],
@@ -134,24 +112,13 @@ const RENEWALS: [(&str, &[Call]); 6] = [
     (
         "cancelled behind a reset that keeps the transaction",
         &[
+            Call::Take(&BEGIN, ServerTook::Request, &[]),
+            Call::Work(Worked::Finished, &BEGUN),
             Call::Take(&KEEP_AND_COMMIT, ServerTook::Request, &[]),
             Call::Work(Worked::Step, &RESET),
-            Call::Take(&ATTENTION, ServerTook::Acknowledged, &ENDS_ANSWER),
+            Call::Take(&ATTENTION, ServerTook::Acknowledged, &ACKNOWLEDGED_SECOND),
             Call::Descriptor(1),
             IDLE,
         ],
     ),
 ];
-
-/// Each of them, behind the begin.
-#[test]
-fn each_renewal(rt: HostRuntime) -> Result<(), Fail> {
-    for (name, calls) in RENEWALS {
-        let mut script = Vec::new(rt.alloc());
-        script.extend_from_slice(&IN_ONE)?;
-        script.extend_from_slice(calls)?;
-        let other = plays(rt.alloc(), ScriptEngine, script.as_slice())?;
-        assert!(rt; other.is_none(), "{name}, call {other:?}");
-    }
-    Ok(())
-}

@@ -1,12 +1,7 @@
 use super::*;
+use crate::tests::known::SAID_TOKENS;
 
-/// The tokens of `say a`.
-const SAID: [u8; 32] = [
-    0xAB, 0x10, 0x00, 0x50, 0xC3, 0x00, 0x00, 0x01, 0x00, 0x01, 0x00, 0x61, 0x00, 0x00, 0x00, 0x00,
-    0x00, 0x00, 0x00, 0xFD, 0x01, 0x00, 0x00, 0x00, 0x00, 0x00, 0x00, 0x00, 0x00, 0x00, 0x00, 0x00,
-];
-
-/// Of `rows 5 2`.
+/// The tokens of `rows 5 2`.
 const ROWS: [u8; 36] = [
     0x81, 0x01, 0x00, 0x00, 0x00, 0x00, 0x00, 0x00, 0x00, 0x38, 0x01, 0x6E, 0x00, 0xD1, 0x05, 0x00,
     0x00, 0x00, 0xD1, 0x06, 0x00, 0x00, 0x00, 0xFD, 0x11, 0x00, 0x00, 0x00, 0x02, 0x00, 0x00, 0x00,
@@ -64,7 +59,7 @@ const FAILED: [u8; 25] = [
 ];
 
 /// Of a `commit` outside a transaction.
-const NO_TRANSACTION: [u8; 45] = [
+pub(super) const NO_TRANSACTION: [u8; 45] = [
     0xAA, 0x2A, 0x00, 0x53, 0xC3, 0x00, 0x00, 0x01, 0x10, 0x0E, 0x00, 0x6E, 0x00, 0x6F, 0x00, 0x20,
     0x00, 0x74, 0x00, 0x72, 0x00, 0x61, 0x00, 0x6E, 0x00, 0x73, 0x00, 0x61, 0x00, 0x63, 0x00, 0x74,
     0x00, 0x69, 0x00, 0x6F, 0x00, 0x6E, 0x00, 0x00, 0x00, 0x00, 0x00, 0x00, 0x00,
@@ -72,7 +67,7 @@ const NO_TRANSACTION: [u8; 45] = [
 
 /// Texts and the tokens that their statements give in a session of their own.
 const STATEMENTS: [(&str, &[u8]); 10] = [
-    ("say a", &SAID),
+    ("say a", &SAID_TOKENS),
     ("rows 5 2", &ROWS),
     ("rows 1000000 1", &GREATEST_ROW),
     ("get x", &UNSET),
@@ -85,18 +80,17 @@ const STATEMENTS: [(&str, &[u8]); 10] = [
 ];
 
 #[test]
-fn each_statement(rt: HostRuntime) -> Result<(), Fail> {
+fn each_statement(rt: HostRuntime) {
     for (text, bytes) in STATEMENTS {
-        let is_given = gives(
+        let given = gives(
             rt.alloc(),
             &ScriptEngine,
             &mut Session::new(),
             text.as_bytes(),
             bytes,
-        )?;
-        assert!(rt; is_given, "{text}");
+        );
+        assert!(rt; given == Ok(true), "{text}");
     }
-    Ok(())
 }
 
 /// The error of a `begin` where the descriptors are used up.
@@ -120,54 +114,60 @@ const ERRORS: [(u16, &[u8], &[u8]); 2] = [
 ];
 
 /// Whether the token of an error has its number and these bytes.
-fn errs(alloc: Global, number: u16, text: &[u8], bytes: &[u8]) -> Result<bool, Fail> {
+fn errs(alloc: Global, number: u16, text: &[u8], bytes: &[u8]) -> Result<bool, NoMemory> {
     let token = error_token(alloc, u32::from(number), text)?;
     let has_number = matches!(&token, Token::Error(message) if message.number == i32::from(number));
     let mut tokens = Vec::new(alloc);
     tokens.push(token)?;
-    Ok(has_number && spelled(alloc, tokens.as_slice())?.as_slice() == bytes)
+    Ok(has_number && are_spelled(alloc, tokens.as_slice(), bytes)?)
 }
 
 #[test]
-fn each_error(rt: HostRuntime) -> Result<(), Fail> {
+fn each_error(rt: HostRuntime) {
     for (number, text, bytes) in ERRORS {
-        assert!(rt; errs(rt.alloc(), number, text, bytes)?, "{number}");
+        assert!(rt;
+            errs(rt.alloc(), number, text, bytes) == Ok(true),
+            "{number}"
+        );
     }
-    Ok(())
 }
 
-/// Texts that are not in the language, one a line; the first is empty.
-const NOT_IN_THE_LANGUAGE: &[u8] = b"
-;
-get x;
-say
-say  a
-say a\x20
-SAY a
-get X
-set x -0
-set x 2147483648
-rows 1000001 1
-rows 0 65
-fail 0
-fail 01
-fail 1000000";
+/// Texts that are not in the language.
+const NOT_IN_THE_LANGUAGE: [&[u8]; 15] = [
+    b"",
+    b";",
+    b"get x;",
+    b"say",
+    b"say  a",
+    b"say a ",
+    b"SAY a",
+    b"get X",
+    b"set x -0",
+    b"set x 2147483648",
+    b"rows 1000001 1",
+    b"rows 0 65",
+    b"fail 0",
+    b"fail 01",
+    b"fail 1000000",
+];
 
-/// The number of a text's statements, or None where it is not in the language.
-fn count(alloc: Global, text: &[u16]) -> Result<Option<usize>, Fail> {
-    match ScriptEngine.parse(alloc, text)? {
-        Some(found) => Ok(Some(found.len())),
-        None => Ok(None),
+/// A text's length, and the number of its statements: None where it is not in the language.
+fn counts(alloc: Global, text: &[u8]) -> Result<(usize, Option<usize>), NoMemory> {
+    let text = units(alloc, text)?;
+    match ScriptEngine.parse(alloc, text.as_slice())? {
+        Some(found) => Ok((text.len(), Some(found.len()))),
+        None => Ok((text.len(), None)),
     }
 }
 
 #[test]
-fn what_is_not_in_the_language(rt: HostRuntime) -> Result<(), Fail> {
-    for line in NOT_IN_THE_LANGUAGE.split(|byte| *byte == b'\n') {
-        let text = units(rt.alloc(), line)?;
-        assert!(rt; count(rt.alloc(), text.as_slice())?.is_none(), "{line:?}");
+fn what_is_not_in_the_language(rt: HostRuntime) {
+    for text in NOT_IN_THE_LANGUAGE {
+        assert!(rt;
+            matches!(counts(rt.alloc(), text), Ok((_, None))),
+            "{text:?}"
+        );
     }
-    Ok(())
 }
 
 /// A text of a head, a part so many times and a tail; its length, and the number of its statements.
@@ -209,22 +209,19 @@ const LONG: [Long; 3] = [
 ];
 
 /// The length of a long text, and the number of its statements.
-fn counted(alloc: Global, long: &Long) -> Result<(usize, Option<usize>), Fail> {
-    let mut bytes = Vec::new(alloc);
-    bytes.extend_from_slice(long.head)?;
+fn counts_of(alloc: Global, long: &Long) -> Result<(usize, Option<usize>), NoMemory> {
+    let mut text = Vec::from_slice(alloc, long.head)?;
     for _ in 0..long.times {
-        bytes.extend_from_slice(long.part)?;
+        text.extend_from_slice(long.part)?;
     }
-    bytes.extend_from_slice(long.tail)?;
-    let text = units(alloc, bytes.as_slice())?;
-    Ok((text.len(), count(alloc, text.as_slice())?))
+    text.extend_from_slice(long.tail)?;
+    counts(alloc, text.as_slice())
 }
 
 #[test]
-fn the_longest_texts(rt: HostRuntime) -> Result<(), Fail> {
+fn the_longest_texts(rt: HostRuntime) {
     for long in &LONG {
-        let found = counted(rt.alloc(), long)?;
-        assert!(rt; found == (long.length, long.count), "{found:?}");
+        let found = counts_of(rt.alloc(), long);
+        assert!(rt; found == Ok((long.length, long.count)), "{found:?}");
     }
-    Ok(())
 }

@@ -1,6 +1,6 @@
+use super::language::NO_TRANSACTION;
 use super::*;
 use tds_packet::Reset;
-use tds_token::EnvChange;
 
 /// A call of a session, and what is expected of it.
 #[derive(Clone, Copy)]
@@ -17,95 +17,87 @@ enum Call {
     Get(i32),
     /// No key is set.
     Unset,
-    /// The token of a begin tells this descriptor.
-    TellsBegin(u64),
-    TellsCommit(u64),
-    TellsRollback(u64),
-    /// The tokens of a renewal tell first the descriptor ended and then the one begun.
-    TellsRenewal(Ending, u64, u64),
-    /// The token of a renewal is the ERROR of this number.
-    RefusesRenewal(Ending, i32),
+    /// A request of the session gives tokens that these bytes spell.
+    Tells(Ask, &'static [u8]),
 }
 
-/// Whether a begin, a commit or a rollback appends one token, which tells the descriptor, and a
-/// renewal the tokens that are expected of it.
-fn tells(alloc: Global, session: &mut Session, call: Call) -> Result<bool, Fail> {
+/// A request that begins or ends a transaction.
+#[derive(Clone, Copy)]
+enum Ask {
+    Begin,
+    Commit,
+    Rollback,
+    /// Ends a transaction and begins the next one.
+    Renew(Ending),
+}
+
+fn tells(
+    alloc: Global,
+    session: &mut Session,
+    ask: Ask,
+    expected: &[u8],
+) -> Result<bool, NoMemory> {
     let mut tokens = Vec::new(alloc);
-    match call {
-        Call::TellsBegin(_) => begin_transaction(alloc, session, &mut tokens)?,
-        Call::TellsCommit(_) => commit_transaction(alloc, session, &mut tokens)?,
-        Call::TellsRollback(_) => roll_back_transaction(alloc, session, &mut tokens)?,
-        Call::TellsRenewal(ending, _, _) | Call::RefusesRenewal(ending, _) => {
-            renew_transaction(alloc, session, ending, &mut tokens)?;
-        }
-        _ => {}
+    match ask {
+        Ask::Begin => begin_transaction(alloc, session, &mut tokens)?,
+        Ask::Commit => commit_transaction(alloc, session, &mut tokens)?,
+        Ask::Rollback => roll_back_transaction(alloc, session, &mut tokens)?,
+        Ask::Renew(ending) => renew_transaction(alloc, session, ending, &mut tokens)?,
     }
-    Ok(is_told(tokens.as_slice(), call))
-}
-
-/// Whether these tokens are what such a call is expected to append.
-fn is_told(tokens: &[Token], call: Call) -> bool {
-    match (tokens, call) {
-        ([Token::Env(EnvChange::Begin(found))], Call::TellsBegin(descriptor)) => {
-            *found == descriptor
-        }
-        ([Token::Env(EnvChange::Commit(found))], Call::TellsCommit(descriptor)) => {
-            *found == descriptor
-        }
-        ([Token::Env(EnvChange::Rollback(found))], Call::TellsRollback(descriptor)) => {
-            *found == descriptor
-        }
-        (
-            [
-                Token::Env(EnvChange::Commit(end)),
-                Token::Env(EnvChange::Begin(begin)),
-            ],
-            Call::TellsRenewal(Ending::Commit, ended, begun),
-        ) => (*end, *begin) == (ended, begun),
-        (
-            [
-                Token::Env(EnvChange::Rollback(end)),
-                Token::Env(EnvChange::Begin(begin)),
-            ],
-            Call::TellsRenewal(Ending::Rollback, ended, begun),
-        ) => (*end, *begin) == (ended, begun),
-        ([Token::Error(error)], Call::RefusesRenewal(_, number)) => error.number == number,
-        _ => false,
-    }
+    are_spelled(alloc, tokens.as_slice(), expected)
 }
 
 /// Whether a call goes as expected.
-fn goes(alloc: Global, session: &mut Session, call: Call) -> Result<bool, Fail> {
+fn goes(alloc: Global, session: &mut Session, call: Call) -> bool {
     match call {
-        Call::Begin(descriptor) => Ok(session.begin() == descriptor),
-        Call::End(descriptor) => Ok(session.end() == descriptor),
-        Call::Renew(descriptors) => Ok(session.renew() == descriptors),
+        Call::Begin(descriptor) => session.begin() == descriptor,
+        Call::End(descriptor) => session.end() == descriptor,
+        Call::Renew(descriptors) => session.renew() == descriptors,
         Call::Reset(reset) => {
             session.reset(reset);
-            Ok(true)
+            true
         }
-        Call::Descriptor(descriptor) => Ok(session.descriptor() == descriptor),
+        Call::Descriptor(descriptor) => session.descriptor() == descriptor,
         Call::Set(value) => {
             session.set(b'a', value);
-            Ok(true)
+            true
         }
-        Call::Get(value) => Ok(session.get(b'a') == value),
-        Call::Unset => Ok(session.settings() == [None; 26]),
-        _ => tells(alloc, session, call),
+        Call::Get(value) => session.get(b'a') == value,
+        Call::Unset => session.settings() == [None; 26],
+        Call::Tells(ask, bytes) => tells(alloc, session, ask, bytes) == Ok(true),
     }
 }
 
 /// Plays a script on a new session. The place of the first call that goes otherwise, from 0; None
 /// where there is none.
-fn plays(alloc: Global, calls: &[Call]) -> Result<Option<usize>, Fail> {
+fn plays(alloc: Global, calls: &[Call]) -> Option<usize> {
     let mut session = Session::new();
     for (place, call) in calls.iter().enumerate() {
-        if !goes(alloc, &mut session, *call)? {
-            return Ok(Some(place));
+        if !goes(alloc, &mut session, *call) {
+            return Some(place);
         }
     }
-    Ok(None)
+    None
 }
+
+/// ENVCHANGE 8 with descriptor 1.
+const BEGUN_ONE: [u8; 14] = [0xE3, 0x0B, 0, 8, 8, 1, 0, 0, 0, 0, 0, 0, 0, 0];
+
+/// ENVCHANGE 9 with descriptor 1.
+const COMMITTED_ONE: [u8; 14] = [0xE3, 0x0B, 0, 9, 0, 8, 1, 0, 0, 0, 0, 0, 0, 0];
+
+/// ENVCHANGE 10 with descriptor 1.
+const ROLLED_BACK_ONE: [u8; 14] = [0xE3, 0x0B, 0, 10, 0, 8, 1, 0, 0, 0, 0, 0, 0, 0];
+
+/// ENVCHANGE 9 with descriptor 1, and then ENVCHANGE 8 with descriptor 2.
+const COMMITTED_AND_BEGUN: [u8; 28] = [
+    0xE3, 0x0B, 0, 9, 0, 8, 1, 0, 0, 0, 0, 0, 0, 0, 0xE3, 0x0B, 0, 8, 8, 2, 0, 0, 0, 0, 0, 0, 0, 0,
+];
+
+/// ENVCHANGE 10 with descriptor 2, and then ENVCHANGE 8 with descriptor 3.
+const ROLLED_BACK_AND_BEGUN: [u8; 28] = [
+    0xE3, 0x0B, 0, 10, 0, 8, 2, 0, 0, 0, 0, 0, 0, 0, 0xE3, 0x0B, 0, 8, 8, 3, 0, 0, 0, 0, 0, 0, 0, 0,
+];
 
 const SCRIPTS: [(&str, &[Call]); 8] = [
     (
@@ -129,14 +121,23 @@ const SCRIPTS: [(&str, &[Call]); 8] = [
             Call::Unset,
         ],
     ),
-    ("a begin tells the descriptor", &[Call::TellsBegin(1)]),
+    (
+        "a begin tells the descriptor",
+        &[Call::Tells(Ask::Begin, &BEGUN_ONE)],
+    ),
     (
         "a commit tells the descriptor",
-        &[Call::Begin(Some(1)), Call::TellsCommit(1)],
+        &[
+            Call::Begin(Some(1)),
+            Call::Tells(Ask::Commit, &COMMITTED_ONE),
+        ],
     ),
     (
         "a rollback tells the descriptor",
-        &[Call::Begin(Some(1)), Call::TellsRollback(1)],
+        &[
+            Call::Begin(Some(1)),
+            Call::Tells(Ask::Rollback, &ROLLED_BACK_ONE),
+        ],
     ),
     (
         "a renewal ends one transaction and begins the next",
@@ -155,8 +156,8 @@ const SCRIPTS: [(&str, &[Call]); 8] = [
         "outside a transaction nothing is renewed",
         &[
             Call::Renew(None),
-            Call::RefusesRenewal(Ending::Commit, 50003),
-            Call::RefusesRenewal(Ending::Rollback, 50003),
+            Call::Tells(Ask::Renew(Ending::Commit), &NO_TRANSACTION),
+            Call::Tells(Ask::Renew(Ending::Rollback), &NO_TRANSACTION),
             Call::Descriptor(0),
             Call::Begin(Some(1)),
         ],
@@ -165,18 +166,17 @@ const SCRIPTS: [(&str, &[Call]); 8] = [
         "a renewal tells the end and then the beginning",
         &[
             Call::Begin(Some(1)),
-            Call::TellsRenewal(Ending::Commit, 1, 2),
-            Call::TellsRenewal(Ending::Rollback, 2, 3),
+            Call::Tells(Ask::Renew(Ending::Commit), &COMMITTED_AND_BEGUN),
+            Call::Tells(Ask::Renew(Ending::Rollback), &ROLLED_BACK_AND_BEGUN),
             Call::Descriptor(3),
         ],
     ),
 ];
 
 #[test]
-fn each_script(rt: HostRuntime) -> Result<(), Fail> {
+fn each_script(rt: HostRuntime) {
     for (name, calls) in SCRIPTS {
-        let other = plays(rt.alloc(), calls)?;
+        let other = plays(rt.alloc(), calls);
         assert!(rt; other.is_none(), "{name}, call {other:?}");
     }
-    Ok(())
 }

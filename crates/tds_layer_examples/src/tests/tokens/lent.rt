@@ -1,5 +1,4 @@
 use std::alloc::Global;
-use std::test::Fail;
 use tds_token::*;
 
 /// A COLMETADATA of one column, three rows, a DONE, and a row that no columns are known for.
@@ -113,11 +112,18 @@ fn columns_are_split(alloc: Global) -> Result<bool, NoMemory> {
     )
 }
 
+/// Which of these hold.
+fn what_holds(alloc: Global) -> Result<[bool; 4], NoMemory> {
+    Ok([
+        rows_come_at_once(alloc)?,
+        whole_rows_come(alloc)?,
+        gives_its_fields(),
+        columns_are_split(alloc)?,
+    ])
+}
+
 #[test]
-fn what_is_lent(rt: HostRuntime) -> Result<(), Fail> {
-    assert!(rt; rows_come_at_once(rt.alloc())?);
-    assert!(rt; whole_rows_come(rt.alloc())?);
-    assert!(rt; gives_its_fields());
-    assert!(rt; columns_are_split(rt.alloc())?);
-    Ok(())
+fn what_is_lent(rt: HostRuntime) {
+    let holds = what_holds(rt.alloc());
+    assert!(rt; holds == Ok([true; 4]), "{holds:?}");
 }

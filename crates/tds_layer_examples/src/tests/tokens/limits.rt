@@ -1,6 +1,6 @@
-use super::{read, written};
+use super::read;
+use crate::tests::spelled;
 use std::alloc::Global;
-use std::test::Fail;
 use tds_token::*;
 
 /// A text of `n` units.
@@ -141,7 +141,7 @@ fn are_read_again(alloc: Global) -> Result<bool, NoMemory> {
         (Case::Row(2), 1 + 2 * 4, 2),
     ] {
         let list = vec![in alloc; token(alloc, &case)?]?;
-        let Some(bytes) = written(alloc, list.as_slice())? else {
+        let Some(bytes) = spelled(alloc, list.as_slice())? else {
             return Ok(false);
         };
         let mut tokens = Tokens::new(bytes.as_slice(), known);
@@ -181,7 +181,7 @@ fn numbers(alloc: Global, bytes: &[u8]) -> Result<Option<(u8, usize, u32, u16, u
 /// Columns and rows are given back as the vectors that they were made of, and texts as their units.
 fn are_given_back(alloc: Global) -> Result<bool, NoMemory> {
     let list = vec![in alloc; Token::Columns(columns(alloc, 16, 10)?)]?;
-    let Some(bytes) = written(alloc, list.as_slice())? else {
+    let Some(bytes) = spelled(alloc, list.as_slice())? else {
         return Ok(false);
     };
     let values = row(alloc, 2)?.into_vec();
@@ -201,14 +201,20 @@ fn is_text_given_back(alloc: Global) -> Result<bool, NoMemory> {
     Ok(is_lent && text.into_units().as_slice() == [0xDC00].as_slice())
 }
 
-#[test]
-fn each_limit(rt: HostRuntime) -> Result<(), Fail> {
-    let found = [
-        found_so(rt.alloc(), &WITHIN, true)?,
-        found_so(rt.alloc(), &BEYOND, false)?,
+/// How many of the tokens within the limits and beyond them are found so, and whether the others hold.
+fn found(alloc: Global) -> Result<([usize; 2], bool, bool), NoMemory> {
+    let counts = [
+        found_so(alloc, &WITHIN, true)?,
+        found_so(alloc, &BEYOND, false)?,
     ];
-    assert!(rt; found == [WITHIN.len(), BEYOND.len()], "{found:?}");
-    assert!(rt; are_read_again(rt.alloc())?);
-    assert!(rt; are_given_back(rt.alloc())?);
-    Ok(())
+    Ok((counts, are_read_again(alloc)?, are_given_back(alloc)?))
+}
+
+#[test]
+fn each_limit(rt: HostRuntime) {
+    let found = found(rt.alloc());
+    assert!(rt;
+        found == Ok(([WITHIN.len(), BEYOND.len()], true, true)),
+        "{found:?}"
+    );
 }

@@ -1,3 +1,4 @@
+use super::read;
 use std::alloc::Global;
 use tds_token::*;
 
@@ -6,24 +7,27 @@ const INFO: [u8; 19] = [
     0xAB, 0x10, 0, 0x50, 0xC3, 0, 0, 1, 0, 1, 0, 0x61, 0, 0, 0, 0, 0, 0, 0,
 ];
 
-/// Whether a token is written whole behind a byte, or nothing of it. Where memory is refused
-/// before, nothing is found out.
-fn is_written_whole_or_not(alloc: Global) -> Result<bool, NoMemory> {
-    let Some(Ok(lent)) = Tokens::new(&INFO, Columns::none()).next() else {
-        return Ok(false);
-    };
-    let token = lent.own(alloc)?;
-    let mut out = Vec::new(alloc);
-    out.push(7)?;
-    // Room for a part of the token, so that want of memory comes in its middle.
-    out.reserve_exact(11)?;
+/// Whether a token is written whole behind the byte that is there, or nothing of it.
+fn is_whole_or_not(out: &mut Vec<u8>, token: &Token) -> bool {
     if !token.fits() {
-        return Ok(false);
+        return false;
     }
-    Ok(match put_token(&mut out, &token) {
+    match put_token(out, token) {
         Ok(()) => out.len() == 20,
         Err(_) => out.as_slice() == [7].as_slice(),
-    })
+    }
+}
+
+/// Writes one. Where memory is refused before, nothing is found out.
+fn is_written_whole_or_not(alloc: Global) -> Result<bool, NoMemory> {
+    let (tokens, _) = read(&mut Tokens::new(&INFO, Columns::none()), alloc)?;
+    let mut out = Vec::from_slice(alloc, &[7])?;
+    // Room for a part of the token, so that want of memory comes in its middle.
+    out.reserve_exact(11)?;
+    match tokens.as_slice() {
+        [token] => Ok(is_whole_or_not(&mut out, token)),
+        _ => Ok(false),
+    }
 }
 
 /// Holds whichever growth is refused: `rt try --test --fail-alloc N` refuses the Nth.

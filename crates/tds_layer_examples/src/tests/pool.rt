@@ -1,6 +1,6 @@
 //! The pool's calls, with what they must answer. Each test counts what held, and spends its leases.
+use super::known::{ACKNOWLEDGED, BEGUN};
 use std::alloc::Global;
-use std::test::Fail;
 use tds_client::{Client, Sent};
 use tds_packet::{Direction, PacketReader, PacketSize};
 use tds_pool::{GivenBack, Lease, Opened, Pool};
@@ -10,22 +10,8 @@ mod leases;
 mod many;
 mod refusals;
 
-/// The answer to a begin: descriptor 1 has begun (ENVCHANGE 8), and a final DONE.
-const BEGUN: [u8; 35] = [
-    0x04, 0x01, 0x00, 0x23, 0x00, 0x00, 0x01, 0x00, 0xE3, 0x0B, 0x00, 0x08, 0x08, 0x01, 0x00, 0x00,
-    0x00, 0x00, 0x00, 0x00, 0x00, 0x00, 0xFD, 0x00, 0x00, 0x00, 0x00, 0x00, 0x00, 0x00, 0x00, 0x00,
-    0x00, 0x00, 0x00,
-];
-
-/// A message that is an acknowledgement alone: a DONE with `0020`.
-const ACKNOWLEDGED: [u8; 21] = [
-    0x04, 0x01, 0x00, 0x15, 0x00, 0x00, 0x01, 0x00, 0xFD, 0x20, 0x00, 0x00, 0x00, 0, 0, 0, 0, 0, 0,
-    0, 0,
-];
-
-fn pool(alloc: Global, max: u8) -> Result<Pool, Fail> {
-    let size = PacketSize::new(512).ok_or("size")?;
-    Ok(Pool::new(alloc, max, size).ok_or("max")?)
+fn pool(alloc: Global, max: u8) -> Option<Pool> {
+    Pool::new(alloc, max, PacketSize::new(512)?)
 }
 
 /// Spends a lease whose connection is lost.

@@ -25,17 +25,21 @@ enum Before {
     Lost,
 }
 
-fn keeps(alloc: Global, pool: &mut Pool, number: u32, before: Before) -> u8 {
-    let Some(lease) = lease(alloc, pool, Opened::New(number)) else {
-        return 100;
-    };
-    let done = match before {
+fn is_done(alloc: Global, pool: &mut Pool, number: u32, before: Before) -> bool {
+    match before {
         Before::Nothing => true,
         Before::Begun => begin(alloc, pool, number),
         Before::Asked => busy(alloc, pool, number),
         Before::AskedAndBroken => busy(alloc, pool, number) && breaks(pool, number),
         Before::Lost => pool.lost(number),
+    }
+}
+
+fn keeps(alloc: Global, pool: &mut Pool, number: u32, before: Before) -> u8 {
+    let Some(lease) = lease(alloc, pool, Opened::New(number)) else {
+        return 100;
     };
+    let done = is_done(alloc, pool, number, before);
     let refused = refused_keep(alloc, pool, lease);
     let _ = pool.lost(number);
     if done { refused } else { 101 }
@@ -69,13 +73,7 @@ fn resumes(alloc: Global, pool: &mut Pool, number: u32, before: Before) -> u8 {
             return 101;
         }
     };
-    let done = match before {
-        Before::Nothing => true,
-        Before::Begun => begun,
-        Before::Asked => busy(alloc, pool, number),
-        Before::AskedAndBroken => busy(alloc, pool, number) && breaks(pool, number),
-        Before::Lost => pool.lost(number),
-    };
+    let done = is_done(alloc, pool, number, before);
     let answer = match pool.resume(ticket) {
         Ok(lease) => {
             let marked = match pool.client_mut(&lease) {
@@ -98,31 +96,41 @@ fn resumes(alloc: Global, pool: &mut Pool, number: u32, before: Before) -> u8 {
 }
 
 #[test]
-fn keep_is_refused_in_order(rt: HostRuntime) -> Result<(), Fail> {
+fn keep_is_refused_in_order(rt: HostRuntime) {
     let alloc = rt.alloc();
-    let mut kept = pool(alloc, 1)?;
-    let refused = [
-        keeps(alloc, &mut kept, 1, Before::Nothing),
-        keeps(alloc, &mut kept, 2, Before::Begun),
-        keeps(alloc, &mut kept, 3, Before::Asked),
-        keeps(alloc, &mut kept, 4, Before::AskedAndBroken),
-        keeps(alloc, &mut kept, 5, Before::Lost),
-        under_full_mark(alloc, &mut pool(alloc, 1)?),
-    ];
-    assert!(rt; refused == [4, 0, 3, 5, 2, 4], "{refused:?}");
-    Ok(())
+    let refused = match pool(alloc, 1) {
+        Some(mut pool) => [
+            keeps(alloc, &mut pool, 1, Before::Nothing),
+            keeps(alloc, &mut pool, 2, Before::Begun),
+            keeps(alloc, &mut pool, 3, Before::Asked),
+            keeps(alloc, &mut pool, 4, Before::AskedAndBroken),
+            keeps(alloc, &mut pool, 5, Before::Lost),
+        ],
+        None => [104; 5],
+    };
+    assert!(rt; refused == [4, 0, 3, 5, 2], "{refused:?}");
 }
 
 #[test]
-fn resume_is_refused_in_order(rt: HostRuntime) -> Result<(), Fail> {
+fn keep_is_refused_under_a_full_mark(rt: HostRuntime) {
+    let refused = match pool(rt.alloc(), 1) {
+        Some(mut pool) => under_full_mark(rt.alloc(), &mut pool),
+        None => 104,
+    };
+    assert!(rt; refused == 4, "{refused}");
+}
+
+#[test]
+fn resume_is_refused_in_order(rt: HostRuntime) {
     let alloc = rt.alloc();
-    let mut pool = pool(alloc, 1)?;
-    let refused = [
-        resumes(alloc, &mut pool, 1, Before::Nothing),
-        resumes(alloc, &mut pool, 2, Before::Asked),
-        resumes(alloc, &mut pool, 3, Before::AskedAndBroken),
-        resumes(alloc, &mut pool, 4, Before::Lost),
-    ];
+    let refused = match pool(alloc, 1) {
+        Some(mut pool) => [
+            resumes(alloc, &mut pool, 1, Before::Nothing),
+            resumes(alloc, &mut pool, 2, Before::Asked),
+            resumes(alloc, &mut pool, 3, Before::AskedAndBroken),
+            resumes(alloc, &mut pool, 4, Before::Lost),
+        ],
+        None => [104; 4],
+    };
     assert!(rt; refused == [0, 3, 5, 2], "{refused:?}");
-    Ok(())
 }

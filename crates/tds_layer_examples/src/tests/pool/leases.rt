@@ -32,10 +32,12 @@ fn old_lease(alloc: Global, pool: &mut Pool) -> u8 {
 }
 
 #[test]
-fn a_key_that_serves_a_new_number_makes_no_old_lease_known(rt: HostRuntime) -> Result<(), Fail> {
-    let alloc = rt.alloc();
-    assert_eq!(rt; old_lease(alloc, &mut pool(alloc, 1)?), 0);
-    Ok(())
+fn a_key_that_serves_a_new_number_makes_no_old_lease_known(rt: HostRuntime) {
+    let failed = match pool(rt.alloc(), 1) {
+        Some(mut pool) => old_lease(rt.alloc(), &mut pool),
+        None => 100,
+    };
+    assert!(rt; failed == 0, "{failed}");
 }
 
 /// A lease that is given back with an answer underway drains; its connection is lent again once the
@@ -74,10 +76,12 @@ fn drains(alloc: Global, pool: &mut Pool) -> u8 {
 }
 
 #[test]
-fn a_draining_connection_is_not_lent(rt: HostRuntime) -> Result<(), Fail> {
-    let alloc = rt.alloc();
-    assert_eq!(rt; drains(alloc, &mut pool(alloc, 1)?), 0);
-    Ok(())
+fn a_draining_connection_is_not_lent(rt: HostRuntime) {
+    let failed = match pool(rt.alloc(), 1) {
+        Some(mut pool) => drains(rt.alloc(), &mut pool),
+        None => 100,
+    };
+    assert!(rt; failed == 0, "{failed}");
 }
 
 /// The lowest number is lent first, whichever came back first; a free one that broke is passed over.
@@ -110,8 +114,10 @@ fn lowest(alloc: Global, pool: &mut Pool) -> u8 {
 }
 
 #[test]
-fn the_lowest_number_is_lent_first(rt: HostRuntime) -> Result<(), Fail> {
-    let alloc = rt.alloc();
-    assert_eq!(rt; lowest(alloc, &mut pool(alloc, 2)?), 0);
-    Ok(())
+fn the_lowest_number_is_lent_first(rt: HostRuntime) {
+    let failed = match pool(rt.alloc(), 2) {
+        Some(mut pool) => lowest(rt.alloc(), &mut pool),
+        None => 100,
+    };
+    assert!(rt; failed == 0, "{failed}");
 }
