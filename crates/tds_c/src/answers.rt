@@ -9,7 +9,7 @@ use tds_packet::PacketFault;
 use tds_token::TokenFault;
 
 /// Why a call was not done, or what the peer did wrong.
-#[derive(Debug, Drop)]
+#[derive(Drop)]
 pub(crate) enum Stop {
     /// 20: the value is no client's.
     NoClient,

@@ -11,7 +11,7 @@ use tds_client::{Cancelled, ClientParts, ClientRefusal, StageParts};
 use tds_packet::Kind;
 
 /// The packets that a cancel sends.
-#[derive(Clone, Copy, Debug)]
+#[derive(Clone, Copy)]
 pub(crate) enum Written {
     Nothing,
     Attention([u8; 8]),
@@ -33,7 +33,7 @@ impl Written {
 }
 
 /// What a cancel answers, and what is to be sent.
-#[derive(Clone, Copy, Debug)]
+#[derive(Clone, Copy)]
 pub(crate) struct Ending {
     pub(crate) answer: Cancelled,
     pub(crate) written: Written,

@@ -13,7 +13,7 @@ use tds_packet::Kind;
 
 /// A client, in the caller's memory: `struct tds_client`.
 #[repr(C)]
-#[derive(Clone, Copy, PartialEq, Eq, Debug)]
+#[derive(Clone, Copy)]
 pub struct TdsClient {
     /// The descriptor of the open transaction, 0 for none.
     pub descriptor: u64,

@@ -36,7 +36,7 @@ fn put_units(out: &mut [u8], at: usize, text: &[u16])
 
 /// A request to the server's transaction manager, with the isolation level of the transaction that
 /// it begins (MS-TDS 2.2.6.9).
-#[derive(Clone, Copy, Debug)]
+#[derive(Clone, Copy)]
 pub(crate) enum Asked {
     Begin(u8),
     Commit(Option<u8>),
@@ -44,7 +44,7 @@ pub(crate) enum Asked {
 }
 
 /// What stands behind the headers of its message.
-#[derive(Clone, Copy, Debug)]
+#[derive(Clone, Copy)]
 pub(crate) enum Body {
     Short([u8; 4]),
     /// The next transaction begins at once.

@@ -17,7 +17,7 @@ use tds_packet::{Direction, Header, Kind, PacketRef, PacketSize, laws};
 
 /// A packet: `struct tds_packet`. Its data are the bytes from 8 up to `length`.
 #[repr(C)]
-#[derive(Clone, Copy, PartialEq, Eq, Debug)]
+#[derive(Clone, Copy)]
 pub struct TdsPacket {
     /// The bytes of it, its header counted.
     pub length: usize,

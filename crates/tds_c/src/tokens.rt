@@ -17,7 +17,7 @@ use tds_token::{EnvChange, MessageRef, TokenRef, Tokens};
 
 /// A place in a packet's data: `struct tds_cursor`.
 #[repr(C)]
-#[derive(Clone, Copy, PartialEq, Eq, Debug)]
+#[derive(Clone, Copy)]
 pub struct TdsCursor {
     /// The bytes before it.
     pub at: usize,
@@ -27,7 +27,7 @@ pub struct TdsCursor {
 
 /// A token: `struct tds_token`. A field that its kind does not have is 0.
 #[repr(C)]
-#[derive(Clone, Copy, PartialEq, Eq, Debug)]
+#[derive(Clone, Copy)]
 pub struct TdsToken {
     /// The rows of a DONE; the descriptor of an ENVCHANGE; the columns of a COLMETADATA; the values
     /// of a ROW.
@@ -52,7 +52,7 @@ pub struct TdsToken {
 
 /// Rows one behind the other: `struct tds_rows`. Each is its token byte and four bytes a column.
 #[repr(C)]
-#[derive(Clone, Copy, PartialEq, Eq, Debug)]
+#[derive(Clone, Copy)]
 pub struct TdsRows {
     /// The first byte of the first row in the data.
     pub start: usize,
@@ -63,7 +63,7 @@ pub struct TdsRows {
 }
 
 /// Why a call that reads several tokens stopped, where no byte is wrong.
-#[derive(Clone, Copy, Debug)]
+#[derive(Clone, Copy)]
 pub(crate) enum Ran {
     /// The room for tokens is full.
     Full,
