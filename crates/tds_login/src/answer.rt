@@ -41,7 +41,7 @@ const NAME: &[u8] = b"tdsserve";
 const PREPARED: [u8; 18] = [0, 0, 11, 0, 6, 1, 0, 17, 0, 1, 0xff, 11, 0, 0, 0, 0, 0, 2];
 
 /// The layout of tokens from TDS 7.2 on, or before it.
-#[derive(Clone, Copy, Debug, PartialEq, Eq)]
+#[derive(Clone, Copy)]
 enum Layout {
     /// Rows are counted in eight bytes, lines in four.
     Wide,
@@ -102,25 +102,39 @@ fn put_let_in(alloc: Global, out: &mut Vec<u8>, terms: Terms) -> Result<(), NoMe
     ensures short { vec_len out.new ≤ vec_len out.old + 4096 }
 {
     let mut data = Vec::new(alloc);
-    put_env_change(alloc, &mut data, 1, b"main", b"master")?;
-    put_counted(&mut data, 0xe3, &[7, 5, 0x09, 0x04, 0xd0, 0, 0x34, 0])?;
-    put_acknowledgement(alloc, &mut data, terms.version)?;
-    let digits = format!(in alloc; "{}", terms.size.get())?;
-    put_env_change(alloc, &mut data, 4, digits.as_bytes(), b"4096")?;
-    put_done_token(&mut data, Layout::Wide, 0)?;
+    put_terms(alloc, &mut data, terms)?;
     put_packet(out, data.as_slice())
+}
+
+/// Appends the tokens of that answer.
+fn put_terms(alloc: Global, data: &mut Vec<u8>, terms: Terms) -> Result<(), NoMemory> {
+    put_env_change(alloc, data, 1, b"main", b"master")?;
+    put_counted(data, 0xe3, &[7, 5, 0x09, 0x04, 0xd0, 0, 0x34, 0])?;
+    put_acknowledgement(alloc, data, terms.version)?;
+    put_size(alloc, data, terms.size)?;
+    put_done_token(data, Layout::Wide, 0)
+}
+
+/// Appends ENVCHANGE of the packet size.
+fn put_size(alloc: Global, data: &mut Vec<u8>, size: PacketSize) -> Result<(), NoMemory> {
+    let digits = format!(in alloc; "{}", size.get())?;
+    put_env_change(alloc, data, 4, digits.as_bytes(), b"4096")
 }
 
 /// Appends LOGINACK (MS-TDS 2.2.7.14).
 fn put_acknowledgement(alloc: Global, data: &mut Vec<u8>, version: u32) -> Result<(), NoMemory> {
-    let mut bytes = [0u8; 4];
-    BigEndian::write_u32(&mut bytes, version);
     let mut body = Vec::new(alloc);
-    body.push(1)?;
-    body.extend_from_slice(&bytes)?;
-    put_text(&mut body, NAME)?;
-    body.extend_from_slice(&[11, 0, 0, 1])?;
+    put_acknowledged(&mut body, version)?;
     put_counted(data, 0xad, body.as_slice())
+}
+
+/// Appends what stands behind LOGINACK's count of bytes.
+fn put_acknowledged(body: &mut Vec<u8>, version: u32) -> Result<(), NoMemory> {
+    let mut bytes = [1, 0, 0, 0, 0];
+    BigEndian::write_u32(&mut bytes[1..], version);
+    body.extend_from_slice(&bytes)?;
+    put_text(body, NAME)?;
+    body.extend_from_slice(&[11, 0, 0, 1])
 }
 
 /// Appends an answer of one ERROR (MS-TDS 2.2.7.10) and DONE, in this layout.
@@ -133,22 +147,43 @@ fn put_error_as(
 ) -> Result<(), NoMemory>
     ensures short { vec_len out.new ≤ vec_len out.old + 4096 }
 {
-    let text = &text[..text.len().min(200)];
-    let mut body = Vec::new(alloc);
-    put_u32(&mut body, number)?;
-    body.extend_from_slice(&[1, 20])?;
-    put_u16(&mut body, text.len() as u16)?;
-    put_units(&mut body, text)?;
-    put_text(&mut body, NAME)?;
-    put_text(&mut body, b"")?;
-    match layout {
-        Layout::Wide => put_u32(&mut body, 1)?,
-        Layout::Narrow => put_u16(&mut body, 1)?,
-    }
     let mut data = Vec::new(alloc);
-    put_counted(&mut data, 0xaa, body.as_slice())?;
+    put_error_token(alloc, &mut data, layout, number, text)?;
     put_done_token(&mut data, layout, 2)?;
     put_packet(out, data.as_slice())
+}
+
+/// Appends ERROR in this layout.
+fn put_error_token(
+    alloc: Global,
+    data: &mut Vec<u8>,
+    layout: Layout,
+    number: u32,
+    text: &[u8],
+) -> Result<(), NoMemory> {
+    let mut body = Vec::new(alloc);
+    put_error_body(&mut body, layout, number, text)?;
+    put_counted(data, 0xaa, body.as_slice())
+}
+
+/// Appends what stands behind ERROR's count of bytes. Of the text, 200 bytes count.
+fn put_error_body(
+    body: &mut Vec<u8>,
+    layout: Layout,
+    number: u32,
+    text: &[u8],
+) -> Result<(), NoMemory> {
+    let text = &text[..text.len().min(200)];
+    put_u32(body, number)?;
+    body.extend_from_slice(&[1, 20])?;
+    put_u16(body, text.len() as u16)?;
+    put_units(body, text)?;
+    put_text(body, NAME)?;
+    put_text(body, b"")?;
+    match layout {
+        Layout::Wide => put_u32(body, 1),
+        Layout::Narrow => put_u16(body, 1),
+    }
 }
 
 /// Appends ENVCHANGE (MS-TDS 2.2.7.9) of this type, from one text to another.

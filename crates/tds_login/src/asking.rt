@@ -4,29 +4,27 @@ use crate::NoMemory;
 use byteorder::{ByteOrder, LittleEndian};
 use tds_packet::PacketSize;
 
-/// The header of LOGIN7 in one packet: type 10, end of message, 102 bytes (MS-TDS 2.2.3.1).
-const HEADER: [u8; 8] = [0x10, 1, 0, 102, 0, 0, 1, 0];
+/// LOGIN7 without texts (MS-TDS 2.2.6.4), in one packet.
+const LOGIN: [u8; 102] = [
+    0x10, 1, 0, 102, 0, 0, 1, 0, // header: type 10, end of message, 102 bytes (MS-TDS 2.2.3.1)
+    94, 0, 0, 0, 4, 0, 0, 0x74, 0, 0, 0, 0, // length, TDS 7.4, the packet size
+    0, 0, 0, 0, 0, 0, 0, 0, 0, 0, 0, 0, 0, 0, 0, 0, 0, 0, 0, 0, 0, 0, 0, 0, //
+    // Nine texts, the client's address, and three texts, each empty and behind the 94 bytes.
+    94, 0, 0, 0, 94, 0, 0, 0, 94, 0, 0, 0, 94, 0, 0, 0, 94, 0, 0, 0, //
+    94, 0, 0, 0, 94, 0, 0, 0, 94, 0, 0, 0, 94, 0, 0, 0, //
+    0, 0, 0, 0, 0, 0, //
+    94, 0, 0, 0, 94, 0, 0, 0, 94, 0, 0, 0, //
+    0, 0, 0, 0,
+];
 
-/// The length of LOGIN7 without texts, and TDS 7.4 (MS-TDS 2.2.6.4).
-const LENGTH_AND_VERSION: [u8; 8] = [94, 0, 0, 0, 4, 0, 0, 0x74];
+/// Where the packet size stands in it.
+const SIZE_AT: usize = 16;
 
 /// Appends LOGIN7 of a client without a name that asks for packets of this size (MS-TDS 2.2.6.4).
 pub fn put_login(out: &mut Vec<u8>, size: PacketSize) -> Result<(), NoMemory> {
-    let mut asked = [0u8; 4];
-    LittleEndian::write_u32(&mut asked, u32::from(size.get()));
-    out.extend_from_slice(&HEADER)?;
-    out.extend_from_slice(&LENGTH_AND_VERSION)?;
-    out.extend_from_slice(&asked)?;
-    out.extend_from_slice(&[0; 24])?;
-    // Nine texts, the client's address, and three texts, each empty and behind the 94 bytes.
-    for _ in 0..9 {
-        out.extend_from_slice(&[94, 0, 0, 0])?;
-    }
-    out.extend_from_slice(&[0; 6])?;
-    for _ in 0..3 {
-        out.extend_from_slice(&[94, 0, 0, 0])?;
-    }
-    out.extend_from_slice(&[0; 4])
+    let mut login = LOGIN;
+    LittleEndian::write_u16(&mut login[SIZE_AT..], size.get());
+    out.extend_from_slice(&login)
 }
 
 /// Whether the data of a login's answer let the client in: they have LOGINACK (MS-TDS 2.2.7.14) among

@@ -43,7 +43,7 @@ pub struct LoginFed {
 }
 
 /// Where the login is.
-#[derive(Clone, Copy, Debug, PartialEq, Eq)]
+#[derive(Clone, Copy, Debug)]
 enum Stage {
     /// Nothing has been answered.
     Start,
@@ -54,14 +54,14 @@ enum Stage {
 }
 
 /// A message of the login.
-#[derive(Clone, Copy, Debug, PartialEq, Eq)]
+#[derive(Clone, Copy, Debug)]
 enum Message {
     PreLogin,
     Login7,
 }
 
 /// Which byte of a packet is due (MS-TDS 2.2.3.1).
-#[derive(Clone, Copy, Debug, PartialEq, Eq)]
+#[derive(Clone, Copy, Debug)]
 enum Due {
     Type,
     Status,

@@ -10,7 +10,7 @@ use tds_request::{BatchText, Request};
 use tds_server::{ScriptEngine, Worked};
 
 /// What there are many of.
-#[derive(Clone, Copy, Debug)]
+#[derive(Clone, Copy)]
 pub enum Idle {
     /// Clients' ends that were made, and did nothing.
     Client,

@@ -32,7 +32,7 @@ use tds_packet::PacketSize;
 use walks::{EachToken, Lengths, RowRuns, walked};
 
 /// What is done with the bytes.
-#[derive(Clone, Copy, Debug)]
+#[derive(Clone, Copy)]
 enum Walk {
     /// The packets are found.
     Packets,
@@ -122,37 +122,63 @@ fn main(rt: HostRuntime) -> ExitCode {
 }
 
 fn run(rt: &HostRuntime) -> Result<(), SpeedFault> {
-    let alloc = rt.alloc();
-    let mut words = Vec::new(alloc);
+    let words = given_words(rt)?;
+    obey(rt, words.as_slice())
+}
+
+/// The words of the command line behind the program's name.
+fn given_words(rt: &HostRuntime) -> Result<Vec<String>, SpeedFault> {
+    let mut words = Vec::new(rt.alloc());
     for word in env::args(rt)?.skip(1) {
         words.push(word)?;
     }
-    match words.as_slice() {
+    Ok(words)
+}
+
+/// Does what the words say.
+fn obey(rt: &HostRuntime, words: &[String]) -> Result<(), SpeedFault> {
+    match words {
         [verb] if verb.as_str() == "sizes" => print_sizes(rt),
         [verb, kind, count, size] if verb.as_str() == "memory" => {
-            let kind = Idle::named(kind.as_str()).ok_or(SpeedFault::Usage)?;
-            let count = number(count.as_str())?;
-            let made = kind.make(alloc, packet_size(size.as_str())?, count as usize)?;
-            println!(rt; "{made}")?;
-            Ok(())
+            print_made(rt, kind.as_str(), count.as_str(), size.as_str())
         }
         [verb, size, names @ ..] if verb.as_str() == "count" => {
-            let size = packet_size(size.as_str())?;
-            for name in names {
-                count(rt, size, fs::read(rt, name.as_str())?.as_slice())?;
-            }
-            Ok(())
+            count_all(rt, packet_size(size.as_str())?, names)
         }
         [verb, size, times, names @ ..] if verb.as_str() == "time" => {
             let size = packet_size(size.as_str())?;
-            let times = number(times.as_str())?;
-            for name in names {
-                time(rt, size, times, fs::read(rt, name.as_str())?.as_slice())?;
-            }
-            Ok(())
+            time_all(rt, size, number(times.as_str())?, names)
         }
         _ => Err(SpeedFault::Usage),
     }
+}
+
+/// Makes so many idle ends or pools of this kind, and prints how many there are.
+fn print_made(rt: &HostRuntime, kind: &str, count: &str, size: &str) -> Result<(), SpeedFault> {
+    let kind = Idle::named(kind).ok_or(SpeedFault::Usage)?;
+    let count = number(count)?;
+    let made = kind.make(rt.alloc(), packet_size(size)?, count as usize)?;
+    println!(rt; "{made}")?;
+    Ok(())
+}
+
+fn count_all(rt: &HostRuntime, size: PacketSize, names: &[String]) -> Result<(), SpeedFault> {
+    for name in names {
+        count(rt, size, fs::read(rt, name.as_str())?.as_slice())?;
+    }
+    Ok(())
+}
+
+fn time_all(
+    rt: &HostRuntime,
+    size: PacketSize,
+    times: u32,
+    names: &[String],
+) -> Result<(), SpeedFault> {
+    for name in names {
+        time(rt, size, times, fs::read(rt, name.as_str())?.as_slice())?;
+    }
+    Ok(())
 }
 
 fn number(word: &str) -> Result<u32, SpeedFault> {

@@ -7,7 +7,7 @@ use tds_packet::{Direction, PacketRef, PacketSize};
 use tds_server::{ScriptEngine, Server, ServerTook, Worked};
 
 /// What is looked at of an answer.
-#[derive(Clone, Copy, Debug)]
+#[derive(Clone, Copy)]
 pub enum Look {
     /// Its length. The lengths are summed.
     Length,
@@ -23,6 +23,26 @@ struct Serving {
 }
 
 impl Serving {
+    /// Takes all packets of these bytes.
+    fn answer_all(
+        &mut self,
+        size: PacketSize,
+        bytes: &[u8],
+        look: Look,
+    ) -> Result<Counted, SpeedFault> {
+        let mut counted = Counted::none();
+        for packet in Packets::new(size, Direction::ToServer, bytes) {
+            let packet = packet?;
+            counted.add_packet();
+            self.answer(packet, &mut counted)?;
+            match look {
+                Look::Length => counted.add(self.out.len() as u64),
+                Look::Bytes => mix(self.out.as_slice(), &mut counted),
+            }
+        }
+        Ok(counted)
+    }
+
     /// Takes a packet, and where it ends a request, does the steps of its answer.
     fn answer(&mut self, packet: PacketRef<'_>, counted: &mut Counted) -> Result<(), SpeedFault> {
         if packet.header.kind.direction() != Direction::ToServer {
@@ -56,21 +76,11 @@ pub fn serve(
     bytes: &[u8],
     look: Look,
 ) -> Result<Counted, SpeedFault> {
-    let mut counted = Counted::none();
     let mut serving = Serving {
         server: Server::new(alloc, ScriptEngine, size),
         out: Vec::new(alloc),
     };
-    for packet in Packets::new(size, Direction::ToServer, bytes) {
-        let packet = packet?;
-        counted.add_packet();
-        serving.answer(packet, &mut counted)?;
-        match look {
-            Look::Length => counted.add(serving.out.len() as u64),
-            Look::Bytes => mix(serving.out.as_slice(), &mut counted),
-        }
-    }
-    Ok(counted)
+    serving.answer_all(size, bytes, look)
 }
 
 /// Mixes these bytes into the sum, so that it tells them and their order.

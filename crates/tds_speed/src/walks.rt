@@ -30,7 +30,7 @@ pub fn walked<W: Walk>(mut walk: W, size: PacketSize, bytes: &[u8]) -> Result<Co
 }
 
 /// Finds the packets. Their lengths are summed.
-#[derive(Clone, Copy, Debug)]
+#[derive(Clone, Copy)]
 pub struct Lengths;
 
 impl Walk for Lengths {
@@ -41,7 +41,7 @@ impl Walk for Lengths {
 }
 
 /// Reads the tokens of each packet. The rows that the DONEs tell are summed.
-#[derive(Clone, Copy, Debug)]
+#[derive(Clone, Copy)]
 pub struct EachToken {
     /// The columns that are known behind what was read.
     columns: Columns,
@@ -72,7 +72,7 @@ impl Walk for EachToken {
 }
 
 /// The same in runs of rows, of which the values are summed.
-#[derive(Clone, Copy, Debug)]
+#[derive(Clone, Copy)]
 pub struct RowRuns {
     columns: Columns,
 }
@@ -89,13 +89,7 @@ impl Walk for RowRuns {
     fn packet(&mut self, packet: PacketRef<'_>, counted: &mut Counted) -> Result<(), SpeedFault> {
         let mut tokens = Tokens::new(packet.data, self.columns);
         for _ in 0..u64::MAX {
-            for row in tokens.rows() {
-                counted.add_token();
-                counted.add_row();
-                for value in row.values() {
-                    counted.add(u64::from(value.cast_unsigned()));
-                }
-            }
+            sum_run(&mut tokens, counted);
             let Some(next) = tokens.next() else {
                 break;
             };
@@ -104,5 +98,16 @@ impl Walk for RowRuns {
         }
         self.columns = tokens.columns();
         Ok(())
+    }
+}
+
+/// Sums the values of a run of rows.
+fn sum_run(tokens: &mut Tokens<'_>, counted: &mut Counted) {
+    for row in tokens.rows() {
+        counted.add_token();
+        counted.add_row();
+        for value in row.values() {
+            counted.add(u64::from(value.cast_unsigned()));
+        }
     }
 }
