@@ -2,7 +2,7 @@
 
 use crate::carrier::{Handed, KeepingCarrier};
 use crate::numbers::{numbered, numbered_mut};
-use crate::packets::{Packet, put_packets};
+use crate::packets::{Packet, put_all};
 use std::alloc::{AllocError, Global};
 use tds_packet::{Direction, PacketSize};
 use tds_play::{Event, EventReport, Opened, Outcome, PlayRefusal, Report, Setup, play};
@@ -89,15 +89,24 @@ impl Followed {
     ) -> Result<(), AllocError> {
         let mut rest = handed;
         for (index, (event, told)) in events.iter().zip(told.iter()).enumerate() {
-            let conn = self.note(event, told.outcome)?;
-            self.conns.push(conn)?;
-            let count = self.count_of(rest, told);
-            for handed in rest.iter().take(count) {
-                put_packets(self.alloc, packets, size, index.saturating_add(1), handed)?;
-            }
-            rest = rest.get(count..).unwrap_or(&[]);
+            let count = self.follow_one(event, told, rest)?;
+            let (made, left) = rest.split_at(count.min(rest.len()));
+            put_all(self.alloc, packets, size, index.saturating_add(1), made)?;
+            rest = left;
         }
         Ok(())
+    }
+
+    /// Goes through an event, and answers how many of these calls were made up to it.
+    fn follow_one(
+        &mut self,
+        event: &Event,
+        told: &EventReport,
+        handed: &[Handed],
+    ) -> Result<usize, AllocError> {
+        let conn = self.note(event, told.outcome)?;
+        self.conns.push(conn)?;
+        Ok(self.count_of(handed, told))
     }
 
     /// Notes an event, and answers the connection that it was about.

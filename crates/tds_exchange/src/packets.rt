@@ -28,15 +28,29 @@ impl Packet {
     }
 }
 
-/// Appends the packets that were handed over in one call, as of this event.
-pub(crate) fn put_packets(
+/// Appends the packets that were handed over in these calls, as of this event.
+pub(crate) fn put_all(
     alloc: Global,
     packets: &mut Vec<Packet>,
     size: PacketSize,
     event: usize,
+    made: &[Handed],
+) -> Result<(), AllocError> {
+    for handed in made {
+        let mut reader = PacketReader::new(alloc, size, handed.direction)?;
+        put_packets(alloc, packets, &mut reader, event, handed)?;
+    }
+    Ok(())
+}
+
+/// Appends those of one call, as this reader finds them.
+fn put_packets(
+    alloc: Global,
+    packets: &mut Vec<Packet>,
+    reader: &mut PacketReader,
+    event: usize,
     handed: &Handed,
 ) -> Result<(), AllocError> {
-    let mut reader = PacketReader::new(alloc, size, handed.direction)?;
     let mut rest = handed.bytes.as_slice();
     // A packet has a byte at least.
     for _ in 0..handed.bytes.len() {
@@ -46,18 +60,18 @@ pub(crate) fn put_packets(
         let Ok(count) = reader.feed(rest) else {
             return Ok(());
         };
-        let bytes = Vec::from_slice(alloc, &rest[..count])?;
-        rest = &rest[count..];
         let Some(packet) = reader.packet() else {
             return Ok(());
         };
+        let header = packet.header;
         packets.push(Packet {
             event,
             conn: handed.conn,
             direction: handed.direction,
-            header: packet.header,
-            bytes,
+            header,
+            bytes: Vec::from_slice(alloc, &rest[..count])?,
         })?;
+        rest = &rest[count..];
         reader.done();
     }
     Ok(())

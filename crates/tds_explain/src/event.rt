@@ -1,12 +1,13 @@
 //! One event that is wrong.
 
+use crate::outside::put_standing;
 use serde_json::Value;
 use std::alloc::{AllocError, Global};
 use std::fmt::Write;
 use tds_json::{Page, put_place, put_value};
 
 /// What stands behind an event's word.
-#[derive(Clone, Copy, PartialEq, Eq)]
+#[derive(Clone, Copy)]
 enum Field {
     Lease,
     Ticket,
@@ -82,16 +83,27 @@ pub(crate) struct WrongEvent<'a> {
 impl WrongEvent<'_> {
     /// Appends what is wrong with it.
     pub(crate) fn put(&self, text: &mut String, event: &Value) -> Result<(), AllocError> {
-        let Some(values) = event.as_array() else {
-            self.put_front(text, self.at)?;
-            text.push_str("an event is an array that begins with its word; here stands ")?;
-            put_value(self.alloc, text, event)?;
-            return text.push_str("\n");
-        };
-        let [first, fields @ ..] = values.as_slice() else {
-            self.put_front(text, self.at)?;
-            return text.push_str("an event's array begins with its word; here it is empty\n");
-        };
+        match event.as_array().map(|values| values.as_slice()) {
+            Some([first, fields @ ..]) => self.put_values(text, first, fields),
+            Some([]) => {
+                self.put_front(text, self.at)?;
+                text.push_str("an event's array begins with its word; here it is empty\n")
+            }
+            None => {
+                self.put_front(text, self.at)?;
+                text.push_str("an event is an array that begins with its word; ")?;
+                put_standing(self.alloc, text, event)
+            }
+        }
+    }
+
+    /// Appends what is wrong with its word, or with what stands behind it.
+    fn put_values(
+        &self,
+        text: &mut String,
+        first: &Value,
+        fields: &[Value],
+    ) -> Result<(), AllocError> {
         let word = first.as_str().unwrap_or("");
         match fields_of(word, fields.len(), self.version) {
             Some(wanted) => self.put_fields(text, word, wanted, fields),
@@ -123,30 +135,47 @@ impl WrongEvent<'_> {
         fields: &[Value],
     ) -> Result<(), AllocError> {
         if fields.len() != wanted.len() {
-            self.put_front(text, self.part(0))?;
-            write!(text, "behind \"{word}\" ")?;
-            put_wanted(text, wanted)?;
-            return match fields.len() {
-                1 => text.push_str("; here 1 stands\n"),
-                count => writeln!(text, "; here {count} stand"),
-            };
+            return self.put_count(text, word, wanted, fields.len());
         }
         for (index, (value, wanted)) in fields.iter().zip(wanted.iter()).enumerate() {
-            if wanted.takes(value) {
-                continue;
+            if !wanted.takes(value) {
+                let nth = index.saturating_add(1);
+                return self.put_other(text, word, nth, wanted.wanted(), value);
             }
-            let nth = index.saturating_add(1);
-            self.put_front(text, self.part(nth))?;
-            let wanted = wanted.wanted();
-            write!(
-                text,
-                "value {nth} behind \"{word}\" is {wanted}; here stands "
-            )?;
-            put_value(self.alloc, text, value)?;
-            return text.push_str("\n");
         }
         self.put_front(text, self.part(0))?;
         writeln!(text, "this version of schedules has no such \"{word}\"")
+    }
+
+    /// Appends which values stand behind its word, and how many stand there.
+    fn put_count(
+        &self,
+        text: &mut String,
+        word: &str,
+        wanted: &[Field],
+        stand: usize,
+    ) -> Result<(), AllocError> {
+        self.put_front(text, self.part(0))?;
+        write!(text, "behind \"{word}\" ")?;
+        put_wanted(text, wanted)?;
+        match stand {
+            1 => text.push_str("; here 1 stands\n"),
+            count => writeln!(text, "; here {count} stand"),
+        }
+    }
+
+    /// Appends what the value at this place, from 1, is, and what stands there.
+    fn put_other(
+        &self,
+        text: &mut String,
+        word: &str,
+        nth: usize,
+        wanted: &str,
+        value: &Value,
+    ) -> Result<(), AllocError> {
+        self.put_front(text, self.part(nth))?;
+        write!(text, "value {nth} behind \"{word}\" is {wanted}; ")?;
+        put_standing(self.alloc, text, value)
     }
 }
 

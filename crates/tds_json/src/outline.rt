@@ -28,25 +28,15 @@ impl Outline {
     /// Reads bytes that are JSON.
     pub fn read(alloc: Global, bytes: &[u8]) -> Result<Outline, AllocError> {
         let start = bytes.iter().position(|byte| !is_space(*byte)).unwrap_or(0);
+        let members = match bytes.get(start) {
+            Some(b'{') => members_of(alloc, bytes, start)?,
+            _ => Vec::new(alloc),
+        };
         let mut outline = Outline {
             start,
-            members: Vec::new(alloc),
+            members,
             events: Vec::new(alloc),
         };
-        if bytes.get(start) != Some(&b'{') {
-            return Ok(outline);
-        }
-        let parts = parts_of(alloc, bytes, start)?;
-        for pair in parts.as_slice().chunks(2) {
-            let [key_at, value_at] = pair else {
-                break;
-            };
-            outline.members.push(Member {
-                key: key_of(alloc, bytes.get(*key_at..*value_at).unwrap_or(&[]))?,
-                key_at: *key_at,
-                value_at: *value_at,
-            })?;
-        }
         if let Some(at) = outline.value_at("events") {
             outline.events = parts_of(alloc, bytes, at)?;
         }
@@ -55,8 +45,13 @@ impl Outline {
 
     /// Where the value of a key stands: the last one, where there are several.
     pub fn value_at(&self, key: &str) -> Option<usize> {
-        let found = self.members.iter().rev().find(|it| it.key.as_str() == key);
-        found.map(|it| it.value_at)
+        let mut found = None;
+        for member in self.members.iter() {
+            if member.key.as_str() == key {
+                found = Some(member.value_at);
+            }
+        }
+        found
     }
 
     /// Where an event begins, from 0.
@@ -67,6 +62,35 @@ impl Outline {
             .copied()
             .unwrap_or(self.start)
     }
+}
+
+/// The keys of the object that begins behind so many bytes.
+fn members_of(alloc: Global, bytes: &[u8], start: usize) -> Result<Vec<Member>, AllocError> {
+    let parts = parts_of(alloc, bytes, start)?;
+    let mut members = Vec::new(alloc);
+    put_members(alloc, &mut members, bytes, parts.as_slice())?;
+    Ok(members)
+}
+
+/// Appends the keys whose parts begin there: each key and its value in turn.
+fn put_members(
+    alloc: Global,
+    members: &mut Vec<Member>,
+    bytes: &[u8],
+    parts: &[usize],
+) -> Result<(), AllocError> {
+    for pair in parts.chunks(2) {
+        let [key_at, value_at] = pair else {
+            break;
+        };
+        let key = key_of(alloc, bytes.get(*key_at..*value_at).unwrap_or(&[]))?;
+        members.push(Member {
+            key,
+            key_at: *key_at,
+            value_at: *value_at,
+        })?;
+    }
+    Ok(())
 }
 
 /// The key that bytes spell which hold it and a colon.
@@ -88,7 +112,7 @@ pub fn put_doubled(
     for (index, member) in members.iter().enumerate() {
         let key = member.key.as_str();
         let before = members.get(..index).unwrap_or(&[]);
-        if before.iter().any(|it| it.key.as_str() == key) {
+        if stands_in(before, key) {
             put_place(text, page, member.key_at)?;
             writeln!(
                 text,
@@ -97,4 +121,14 @@ pub fn put_doubled(
         }
     }
     Ok(())
+}
+
+/// Whether a key is one of these.
+fn stands_in(members: &[Member], key: &str) -> bool {
+    for member in members {
+        if member.key.as_str() == key {
+            return true;
+        }
+    }
+    false
 }

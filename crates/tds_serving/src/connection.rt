@@ -46,7 +46,7 @@ pub struct Connection {
 }
 
 /// What a connection is to do after its turn.
-#[derive(Clone, Copy, Debug, PartialEq, Eq)]
+#[derive(Clone, Copy)]
 pub enum Then {
     /// Nothing until the system reports it.
     Wait,

@@ -30,37 +30,10 @@ impl<W: Write + Drop> Log<W> {
         if !self.is_on {
             return;
         }
-        let _ = match note {
-            Note::LoggedIn(size) => {
-                writeln!(
-                    self.writer,
-                    "connection {number} logged in, packets of {size}"
-                )
-            }
-            Note::OldVersion => writeln!(
-                self.writer,
-                "connection {number} refused: before TDS 7.2"
-            ),
-            Note::Encryption => {
-                writeln!(
-                    self.writer,
-                    "connection {number} refused: encryption demanded"
-                )
-            }
-            Note::Request(took) => {
-                let name = name_of(took);
-                writeln!(self.writer, "connection {number} {name}")
-            }
-            Note::Holds(steps) => {
-                writeln!(
-                    self.writer,
-                    "connection {number} is held behind {steps} steps"
-                )
-            }
-            Note::Rubbish => writeln!(
-                self.writer,
-                "connection {number} sent what isn't spoken here"
-            ),
+        let (words, count, behind) = words_of(note);
+        let _ = match count {
+            Some(count) => writeln!(self.writer, "connection {number} {words} {count}{behind}"),
+            None => writeln!(self.writer, "connection {number} {words}"),
         };
     }
 
@@ -69,6 +42,18 @@ impl<W: Write + Drop> Log<W> {
         if self.is_on {
             let _ = writeln!(self.writer, "connection {number} closed: {why}");
         }
+    }
+}
+
+/// What is written of a note: its words, and where it has a count, that and what stands behind it.
+fn words_of<'a>(note: Note) -> (&'a str, Option<u32>, &'a str) {
+    match note {
+        Note::LoggedIn(size) => ("logged in, packets of", Some(u32::from(size)), ""),
+        Note::OldVersion => ("refused: before TDS 7.2", None, ""),
+        Note::Encryption => ("refused: encryption demanded", None, ""),
+        Note::Request(took) => (name_of(took), None, ""),
+        Note::Holds(steps) => ("is held behind", Some(steps), " steps"),
+        Note::Rubbish => ("sent what isn't spoken here", None, ""),
     }
 }
 

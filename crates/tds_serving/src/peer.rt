@@ -30,7 +30,7 @@ enum Stage {
 }
 
 /// What becomes of a request's answer.
-#[derive(Clone, Copy, Debug, PartialEq, Eq)]
+#[derive(Clone, Copy, PartialEq, Eq)]
 enum Answering {
     /// No request is unanswered.
     No,

@@ -3,7 +3,7 @@
 use crate::connection::{Connection, Then};
 use crate::log::Log;
 use crate::script::Script;
-use mio::net::TcpListener;
+use mio::net::{TcpListener, TcpStream};
 use mio::{Events, Interest, Poll, Token};
 use slab::Slab;
 use std::alloc::Global;
@@ -60,11 +60,7 @@ pub fn serve<R: Net + Clock, W: Write + Drop>(
     log: Log<W>,
 ) -> io::Result<()> {
     let mut house = House::new(rt, alloc, manner, script, log)?;
-    let mut events = Events::with_capacity(alloc, ROUND)?;
-    for _ in 0..u64::MAX {
-        house.round(rt, &mut events, 1000)?;
-    }
-    Ok(())
+    house.serve(rt)
 }
 
 impl<W: Write + Drop> House<W> {
@@ -77,10 +73,7 @@ impl<W: Write + Drop> House<W> {
         log: Log<W>,
     ) -> io::Result<House<W>> {
         let start = Instant::now(rt)?;
-        let poll = Poll::new(rt)?;
-        let mut listener = TcpListener::bind(rt, manner.address)?;
-        poll.registry()
-            .register(&mut listener, LISTENER, Interest::READABLE)?;
+        let (poll, listener) = listen(rt, manner.address)?;
         Ok(House {
             alloc,
             manner,
@@ -94,6 +87,15 @@ impl<W: Write + Drop> House<W> {
             swept: 0,
             log,
         })
+    }
+
+    /// Serves until the system refuses to go on.
+    fn serve<R: Clock>(&mut self, rt: &R) -> io::Result<()> {
+        let mut events = Events::with_capacity(self.alloc, ROUND)?;
+        for _ in 0..u64::MAX {
+            self.round(rt, &mut events, 1000)?;
+        }
+        Ok(())
     }
 
     /// Where it listens.
@@ -117,20 +119,26 @@ impl<W: Write + Drop> House<W> {
         let timeout = Duration::from_millis(self.timeout(longest));
         self.poll.poll(events, Some(timeout))?;
         let now = self.start.elapsed(rt)?.as_secs();
+        self.hear(events, now)?;
+        self.give_turns(now)?;
+        if now > self.swept {
+            self.swept = now;
+            self.accept(now);
+            self.cut_late(now);
+        }
+        Ok(())
+    }
+
+    /// Does what the system reported asks for.
+    fn hear(&mut self, events: &Events<Global>, now: u64) -> io::Result<()> {
         for event in events.iter() {
             let token = event.token();
             if token == LISTENER {
-                self.accept(now)?;
+                self.accept(now);
             } else {
                 let readable = event.is_readable() || event.is_read_closed() || event.is_error();
                 self.reported(token.0, readable)?;
             }
-        }
-        self.give_turns(now)?;
-        if now > self.swept {
-            self.swept = now;
-            self.accept(now)?;
-            self.cut_late(now);
         }
         Ok(())
     }
@@ -168,8 +176,20 @@ impl<W: Write + Drop> House<W> {
     }
 
     fn give_turn(&mut self, key: usize, now: u64) -> io::Result<()> {
+        match self.turn_of(key, now) {
+            Ok(Then::Wait) => {}
+            Ok(Then::Again) => return self.reported(key, false),
+            Ok(Then::Close) => self.close(key, "its end"),
+            Ok(Then::Cut) => self.close(key, "its script cuts it"),
+            Err(_) => self.close(key, "its link failed"),
+        }
+        Ok(())
+    }
+
+    /// A connection's turn, whose notes are logged.
+    fn turn_of(&mut self, key: usize, now: u64) -> io::Result<Then> {
         let Some(connection) = self.connections.get_mut(key) else {
-            return Ok(());
+            return Ok(Then::Wait);
         };
         connection.listed = false;
         let number = connection.number;
@@ -179,14 +199,7 @@ impl<W: Write + Drop> House<W> {
         for note in notes.iter() {
             self.log.noted(number, *note);
         }
-        match then {
-            Ok(Then::Wait) => {}
-            Ok(Then::Again) => self.reported(key, false)?,
-            Ok(Then::Close) => self.close(key, "its end"),
-            Ok(Then::Cut) => self.close(key, "its script cuts it"),
-            Err(_) => self.close(key, "its link failed"),
-        }
-        Ok(())
+        then
     }
 
     fn close(&mut self, key: usize, why: &str) {
@@ -208,30 +221,47 @@ impl<W: Write + Drop> House<W> {
         }
     }
 
-    /// Accepts all that wait. One over the most connections is closed at once.
-    fn accept(&mut self, now: u64) -> io::Result<()> {
+    /// Accepts all that wait.
+    fn accept(&mut self, now: u64) {
         for _ in 0..MOST {
-            let Ok((mut stream, from)) = self.listener.accept() else {
-                return Ok(());
+            let Ok((stream, from)) = self.listener.accept() else {
+                return;
             };
-            if self.connections.len() >= MOST || stream.set_nodelay(true).is_err() {
-                continue;
+            if !self.take_in(stream, from, now) {
+                return;
             }
-            let key = self.connections.vacant_key();
-            let both = Interest::READABLE | Interest::WRITABLE;
-            let registry = self.poll.registry();
-            if registry.register(&mut stream, Token(key), both).is_err() {
-                continue;
-            }
-            self.opened = self.opened.saturating_add(1);
-            let number = self.opened;
-            let on_attention = self.manner.on_attention;
-            let connection = Connection::new(self.alloc, stream, number, on_attention, now);
-            if self.connections.insert(connection).is_err() {
-                return Ok(());
-            }
+        }
+    }
+
+    /// Takes a connection in. One over the most connections is closed at once, and one that the system
+    /// doesn't report. False where there is no memory for it.
+    fn take_in(&mut self, mut stream: TcpStream, from: SocketAddr, now: u64) -> bool {
+        if self.connections.len() >= MOST || stream.set_nodelay(true).is_err() {
+            return true;
+        }
+        let key = self.connections.vacant_key();
+        let both = Interest::READABLE | Interest::WRITABLE;
+        let registry = self.poll.registry();
+        if registry.register(&mut stream, Token(key), both).is_err() {
+            return true;
+        }
+        self.opened = self.opened.saturating_add(1);
+        let number = self.opened;
+        let on_attention = self.manner.on_attention;
+        let connection = Connection::new(self.alloc, stream, number, on_attention, now);
+        let is_in = self.connections.insert(connection).is_ok();
+        if is_in {
             self.log.opened(number, from);
         }
-        Ok(())
+        is_in
     }
+}
+
+/// A listener there, and what the system reports it to.
+fn listen<R: Net>(rt: &R, address: SocketAddr) -> io::Result<(Poll, TcpListener)> {
+    let poll = Poll::new(rt)?;
+    let mut listener = TcpListener::bind(rt, address)?;
+    poll.registry()
+        .register(&mut listener, LISTENER, Interest::READABLE)?;
+    Ok((poll, listener))
 }

@@ -2,7 +2,7 @@
 ghost use Rattle.std.specs.Prelude.{◌≡◌};
 
 use anyhow::bail;
-use std::alloc::Global;
+use std::alloc::{AllocError, Global};
 use std::io::{Read, Write};
 use std::net::TcpStream;
 use tds_client::Sent;
@@ -36,17 +36,7 @@ impl Asker {
         let Some(size) = PacketSize::new(SIZE) else {
             bail!("no packet size");
         };
-        let mut out = Vec::new(alloc);
-        put_login(&mut out, size)?;
-        stream.write_all(out.as_slice())?;
-        let mut header = [0u8; 8];
-        stream.read_exact(&mut header)?;
-        let length = (usize::from(header[2]) << 8) | usize::from(header[3]);
-        let mut data = vec![in alloc; 0u8; length.saturating_sub(8)]?;
-        stream.read_exact(data.as_mut_slice())?;
-        if !is_let_in(data.as_slice()) {
-            bail!("the login is refused");
-        }
+        log_in(alloc, &mut stream, size)?;
         Ok(Asker {
             stream,
             end: ClientEnd::new(alloc, size)?,
@@ -80,16 +70,7 @@ impl Asker {
         let mut told = Vec::new(alloc);
         let status = self.hear(alloc, &mut told)?;
         self.cancel_after = None;
-        let became = match status {
-            RequestStatus::Finished => "finished",
-            RequestStatus::Acknowledged => "acknowledged",
-            _ => "lost",
-        };
-        let mut lines = format!(in alloc; "request {} {became}\n", self.asked)?;
-        for token in told.iter() {
-            put_token_line(&mut lines, token)?;
-        }
-        Ok(lines)
+        Ok(lines_of(alloc, self.asked, status, told.as_slice())?)
     }
 
     /// Starts a request and sends all its packets.
@@ -144,4 +125,50 @@ impl Asker {
         self.stream.write_all(out.as_slice())?;
         Ok(())
     }
+}
+
+/// Logs in over a stream.
+fn log_in(alloc: Global, stream: &mut TcpStream, size: PacketSize) -> anyhow::Result<()> {
+    send_login(alloc, stream, size)?;
+    let answer = login_answer(alloc, stream)?;
+    if !is_let_in(answer.as_slice()) {
+        bail!("the login is refused");
+    }
+    Ok(())
+}
+
+fn send_login(alloc: Global, stream: &mut TcpStream, size: PacketSize) -> anyhow::Result<()> {
+    let mut out = Vec::new(alloc);
+    put_login(&mut out, size)?;
+    stream.write_all(out.as_slice())?;
+    Ok(())
+}
+
+/// The data of a login's answer, which is one packet.
+fn login_answer(alloc: Global, stream: &mut TcpStream) -> anyhow::Result<Vec<u8>> {
+    let mut header = [0u8; 8];
+    stream.read_exact(&mut header)?;
+    let length = (usize::from(header[2]) << 8) | usize::from(header[3]);
+    let mut data = vec![in alloc; 0u8; length.saturating_sub(8)]?;
+    stream.read_exact(data.as_mut_slice())?;
+    Ok(data)
+}
+
+/// The lines of an answer: what became of the request of this number, and a line a token.
+fn lines_of(
+    alloc: Global,
+    number: u64,
+    status: RequestStatus,
+    told: &[Token],
+) -> Result<String, AllocError> {
+    let became = match status {
+        RequestStatus::Finished => "finished",
+        RequestStatus::Acknowledged => "acknowledged",
+        _ => "lost",
+    };
+    let mut lines = format!(in alloc; "request {number} {became}\n")?;
+    for token in told {
+        put_token_line(&mut lines, token)?;
+    }
+    Ok(lines)
 }

@@ -18,26 +18,39 @@ pub enum Step {
 /// Reads the words behind the address; none where one of them is wrong.
 pub fn read_steps(alloc: Global, words: &[String]) -> Result<Option<Vec<Step>>, AllocError> {
     let mut steps = Vec::new(alloc);
+    if put_steps(alloc, &mut steps, words)? && !steps.is_empty() {
+        Ok(Some(steps))
+    } else {
+        Ok(None)
+    }
+}
+
+/// Appends what the words ask for, and answers whether each is right.
+fn put_steps(alloc: Global, steps: &mut Vec<Step>, words: &[String]) -> Result<bool, AllocError> {
     let mut counts = false;
     for word in words {
-        let step = if counts {
-            counts = false;
-            word.as_str().parse::<usize>().ok().map(Step::CancelAfter)
-        } else if word.as_str() == "--cancel" {
+        let word = word.as_str();
+        if !counts && word == "--cancel" {
             counts = true;
             continue;
+        }
+        let step = if counts {
+            read_count(word)
         } else {
-            read_step(alloc, word.as_str())?
+            read_step(alloc, word)?
         };
         let Some(step) = step else {
-            return Ok(None);
+            return Ok(false);
         };
+        counts = false;
         steps.push(step)?;
     }
-    if counts || steps.is_empty() {
-        return Ok(None);
-    }
-    Ok(Some(steps))
+    Ok(!counts)
+}
+
+/// The word behind `--cancel`.
+fn read_count(word: &str) -> Option<Step> {
+    word.parse::<usize>().ok().map(Step::CancelAfter)
 }
 
 fn read_step(alloc: Global, word: &str) -> Result<Option<Step>, AllocError> {

@@ -5,37 +5,50 @@ mod words;
 
 use std::alloc::Global;
 use std::process::ExitCode;
-use std::{env, fs};
+use std::{env, fs, io};
 use tds_serving::{Log, Script, ScriptFault, read_script, serve};
 use words::{Asked, read_words};
 
 fn main(rt: HostRuntime) -> ExitCode {
-    let alloc = rt.alloc();
     let Ok(words) = given_words(&rt) else {
         let _ = eprintln!(rt; "error: the words can't be read");
         return ExitCode::from(2);
     };
-    let asked = match read_words(alloc, words.as_slice()) {
-        Ok(asked) => asked,
+    match read_words(rt.alloc(), words.as_slice()) {
+        Ok(asked) => serve_as(&rt, asked),
         Err(error) => {
             let _ = eprintln!(rt; "{error}");
-            return ExitCode::from(2);
+            ExitCode::from(2)
         }
-    };
+    }
+}
+
+/// Serves as the words ask for, and gives the exit status.
+fn serve_as(rt: &HostRuntime, asked: Asked) -> ExitCode {
+    let alloc = rt.alloc();
     let Asked {
         manner,
         script,
         is_logged,
     } = asked;
-    let script = match given_script(&rt, alloc, script) {
-        Ok(script) => script,
+    match given_script(rt, alloc, script) {
+        Ok(script) => {
+            let _ = eprintln!(rt; "serving on {}", manner.address);
+            served(
+                rt,
+                serve(rt, alloc, manner, script, Log::new(rt.stderr(), is_logged)),
+            )
+        }
         Err(error) => {
             let _ = eprintln!(rt; "{error}");
-            return ExitCode::from(2);
+            ExitCode::from(2)
         }
-    };
-    let _ = eprintln!(rt; "serving on {}", manner.address);
-    match serve(&rt, alloc, manner, script, Log::new(rt.stderr(), is_logged)) {
+    }
+}
+
+/// The exit status of a server that has ended.
+fn served(rt: &HostRuntime, ended: io::Result<()>) -> ExitCode {
+    match ended {
         Ok(()) => ExitCode::from(0),
         Err(error) => {
             let _ = eprintln!(rt; "error: {error}");
@@ -60,7 +73,7 @@ fn given_script(
 }
 
 /// The words of the command line, the program's name too.
-fn given_words(rt: &HostRuntime) -> std::io::Result<Vec<String>> {
+fn given_words(rt: &HostRuntime) -> io::Result<Vec<String>> {
     let mut words = Vec::new(rt.alloc());
     for word in env::args(rt)? {
         words.push(word)?;

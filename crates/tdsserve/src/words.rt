@@ -1,6 +1,6 @@
 //! The words of the command line.
 
-use clap::{Arg, ArgAction, Command, Error};
+use clap::{Arg, ArgAction, ArgMatches, Command, Error};
 use std::alloc::{AllocError, Global};
 use std::net::SocketAddr;
 use tds_serving::Manner;
@@ -48,6 +48,16 @@ impl From<Error> for WordsFault {
 /// Reads the words, the program's name too.
 pub fn read_words(alloc: Global, words: &[String]) -> Result<Asked, WordsFault> {
     let matches = parser(alloc)?.try_get_matches_from(words)?;
+    let manner = manner_of(&matches)?;
+    Ok(Asked {
+        manner,
+        script: script_of(alloc, &matches)?,
+        is_logged: matches.get_flag("log"),
+    })
+}
+
+/// How it is to be served.
+fn manner_of(matches: &ArgMatches<'_>) -> Result<Manner, WordsFault> {
     let address = matches.get_str("ADDRESS").unwrap_or("");
     let Ok(address) = address.parse::<SocketAddr>() else {
         return Err(WordsFault::Address);
@@ -65,55 +75,71 @@ pub fn read_words(alloc: Global, words: &[String]) -> Result<Asked, WordsFault> 
     } else {
         OnAttention::Keep
     };
-    let script = match matches.get_str("script") {
-        Some(path) => Some(String::from_str(alloc, path)?),
-        None => None,
-    };
-    Ok(Asked {
-        script,
-        manner: Manner {
-            address,
-            on_attention,
-            pace,
-        },
-        is_logged: matches.get_flag("log"),
+    Ok(Manner {
+        address,
+        on_attention,
+        pace,
     })
 }
 
+/// The file of the script, if there is one.
+fn script_of(alloc: Global, matches: &ArgMatches<'_>) -> Result<Option<String>, AllocError> {
+    match matches.get_str("script") {
+        Some(path) => Ok(Some(String::from_str(alloc, path)?)),
+        None => Ok(None),
+    }
+}
+
 fn parser<'a>(alloc: Global) -> Result<Command<'a>, AllocError> {
-    let address = Arg::new(alloc, "ADDRESS").required(true);
-    let pace = Arg::new(alloc, "pace")
-        .long("pace")
-        .help(
-            "MILLISECONDS between two turns of all connections: a step of an answer each, so that a cancel can meet it",
-        )
-        .action(ArgAction::Set);
-    let script = Arg::new(alloc, "script")
-        .long("script")
-        .help("FILE that says what is done with answers (docs/SCRIPTS.md)")
-        .action(ArgAction::Set);
+    let parser = no_words(alloc).arg(address(alloc))?;
+    let parser = parser.arg(pace(alloc))?;
+    let parser = parser.arg(script(alloc))?;
+    let rollback = flag(
+        alloc,
+        "rollback-on-attention",
+        "an attention that stops an answer rolls the transaction back",
+    );
+    let parser = parser.arg(rollback)?;
+    let log = flag(
+        alloc,
+        "log",
+        "a line for each connection and each request, on standard error",
+    );
+    let parser = parser.arg(log)?;
+    parser.arg(flag(
+        alloc,
+        "let-others-in",
+        "listen on an address that isn't this machine's own, and let everybody in who can reach it",
+    ))
+}
+
+fn no_words<'a>(alloc: Global) -> Command<'a> {
     Command::new(alloc, "tdsserve")
         .version("unreleased")
         .about("Serves the batch language (docs/PROTOCOL.md) to TDS drivers, on this machine")
         .after_help("Login is not part of what is proved: every name and password is let in.")
-        .arg(address.help("where to listen, as 127.0.0.1:1433"))?
-        .arg(pace)?
-        .arg(script)?
-        .arg(flag(
-            alloc,
-            "rollback-on-attention",
-            "an attention that stops an answer rolls the transaction back",
-        ))?
-        .arg(flag(
-            alloc,
-            "log",
-            "a line for each connection and each request, on standard error",
-        ))?
-        .arg(flag(
-            alloc,
-            "let-others-in",
-            "listen on an address that isn't this machine's own, and let everybody in who can reach it",
-        ))
+}
+
+fn address<'a>(alloc: Global) -> Arg<'a> {
+    Arg::new(alloc, "ADDRESS")
+        .required(true)
+        .help("where to listen, as 127.0.0.1:1433")
+}
+
+fn pace<'a>(alloc: Global) -> Arg<'a> {
+    Arg::new(alloc, "pace")
+        .long("pace")
+        .help(
+            "MILLISECONDS between two turns of all connections: a step of an answer each, so that a cancel can meet it",
+        )
+        .action(ArgAction::Set)
+}
+
+fn script<'a>(alloc: Global) -> Arg<'a> {
+    Arg::new(alloc, "script")
+        .long("script")
+        .help("FILE that says what is done with answers (docs/SCRIPTS.md)")
+        .action(ArgAction::Set)
 }
 
 fn flag<'a>(alloc: Global, name: &'a str, help: &'a str) -> Arg<'a> {

@@ -5,7 +5,9 @@ use crate::script::{Event, Script, ScriptFault};
 use serde_json::Value;
 use std::alloc::{AllocError, Global};
 use std::fmt::Write;
-use tds_json::{Outline, Page, parts_of, put_doubled, put_json_fault, put_place, put_value};
+use tds_json::{
+    Member, Outline, Page, parts_of, put_doubled, put_json_fault, put_place, put_value,
+};
 
 /// The keys of a script.
 const KEYS: [&str; 2] = ["version", "events"];
@@ -23,23 +25,41 @@ const LARGEST: u64 = 1_000_000;
 pub fn read_script(alloc: Global, name: &str, bytes: &[u8]) -> Result<Script, ScriptFault> {
     let page = Page { name, bytes };
     let mut text = String::new(alloc);
-    let value = match Value::from_slice(alloc, bytes) {
-        Ok(value) => value,
-        Err(error) if error.is_memory() => return Err(ScriptFault::Memory),
-        Err(_) => {
-            put_json_fault(alloc, &mut text, page)?;
-            return Err(wrong(text));
-        }
-    };
-    let outline = Outline::read(alloc, bytes)?;
-    put_outside_faults(alloc, &mut text, page, &outline, &value)?;
-    if !text.is_empty() {
-        return Err(wrong(text));
-    }
-    match read_events(alloc, &mut text, page, &outline, &value)? {
+    match read_page(alloc, &mut text, page)? {
         Some(events) => Ok(Script::of(events)),
         None => Err(wrong(text)),
     }
+}
+
+/// The events of a file; or what is wrong with it is appended.
+fn read_page(
+    alloc: Global,
+    text: &mut String,
+    page: Page<'_>,
+) -> Result<Option<Vec<Event>>, AllocError> {
+    match Value::from_slice(alloc, page.bytes) {
+        Ok(value) => read_value(alloc, text, page, &value),
+        Err(error) if error.is_memory() => Err(AllocError),
+        Err(_) => {
+            put_json_fault(alloc, text, page)?;
+            Ok(None)
+        }
+    }
+}
+
+/// The events of a file that spells this value; or what is wrong with it is appended.
+fn read_value(
+    alloc: Global,
+    text: &mut String,
+    page: Page<'_>,
+    value: &Value,
+) -> Result<Option<Vec<Event>>, AllocError> {
+    let outline = Outline::read(alloc, page.bytes)?;
+    put_outside_faults(alloc, text, page, &outline, value)?;
+    if !text.is_empty() {
+        return Ok(None);
+    }
+    read_events(alloc, text, page, &outline, value)
 }
 
 /// The events; or what is wrong with the first wrong one is appended.
@@ -80,28 +100,45 @@ fn put_outside_faults(
 ) -> Result<(), AllocError> {
     if !value.is_object() {
         put_place(text, page, outline.start)?;
-        text.push_str("a script is an object with the keys version and events; here stands ")?;
-        put_value(alloc, text, value)?;
-        return text.push_str("\n");
+        text.push_str("a script is an object with the keys version and events; ")?;
+        return put_standing(alloc, text, value);
     }
     for key in &KEYS {
-        match outline.value_at(key) {
-            Some(at) => put_value_fault(alloc, text, page, at, key, value)?,
-            None => {
-                put_place(text, page, outline.start)?;
-                writeln!(text, "the key \"{key}\" is missing")?;
-            }
-        }
+        put_key_fault(alloc, text, page, outline, key, value)?;
     }
     for member in outline.members.iter() {
-        let key = member.key.as_str();
-        if !KEYS.iter().any(|it| *it == key) {
-            put_place(text, page, member.key_at)?;
-            let shown = key.escape_debug();
-            writeln!(text, "the key \"{shown}\" is none of version and events")?;
-        }
+        put_unknown(text, page, member)?;
     }
     put_doubled(text, page, outline.members.as_slice())
+}
+
+/// Appends a line where a key of a script is missing, or has a value that no script has there.
+fn put_key_fault(
+    alloc: Global,
+    text: &mut String,
+    page: Page<'_>,
+    outline: &Outline,
+    key: &str,
+    value: &Value,
+) -> Result<(), AllocError> {
+    match outline.value_at(key) {
+        Some(at) => put_value_fault(alloc, text, page, at, key, value),
+        None => {
+            put_place(text, page, outline.start)?;
+            writeln!(text, "the key \"{key}\" is missing")
+        }
+    }
+}
+
+/// Appends a line where this is no key of a script.
+fn put_unknown(text: &mut String, page: Page<'_>, member: &Member) -> Result<(), AllocError> {
+    let key = member.key.as_str();
+    if KEYS.iter().any(|it| *it == key) {
+        return Ok(());
+    }
+    put_place(text, page, member.key_at)?;
+    let shown = key.escape_debug();
+    writeln!(text, "the key \"{shown}\" is none of version and events")
 }
 
 /// Appends a line where the value of a key isn't one that a script has there.
@@ -116,21 +153,36 @@ fn put_value_fault(
     let Some(value) = value.get(key) else {
         return Ok(());
     };
-    let (is_right, wanted) = match key {
-        "version" => (value.as_u64() == Some(1), "the number 1"),
-        _ => (has_at_most(value, MOST), "an array of at most 1000 events"),
-    };
+    let (is_right, wanted) = judged(key, value);
     if is_right {
         return Ok(());
     }
     put_place(text, page, at)?;
-    write!(text, "\"{key}\" is {wanted}; here stands ")?;
-    put_value(alloc, text, value)?;
-    text.push_str("\n")
+    write!(text, "\"{key}\" is {wanted}; ")?;
+    put_standing(alloc, text, value)
+}
+
+/// Whether the value of a key is one that a script has there, and which that is.
+fn judged<'a>(key: &str, value: &Value) -> (bool, &'a str) {
+    match key {
+        "version" => (value.as_u64() == Some(1), "the number 1"),
+        _ => (has_at_most(value, MOST), "an array of at most 1000 events"),
+    }
 }
 
 fn has_at_most(value: &Value, most: usize) -> bool {
     value.as_array().is_some_and(|values| values.len() <= most)
+}
+
+/// An event in a file.
+#[derive(Clone, Copy)]
+struct Spot<'a> {
+    alloc: Global,
+    page: Page<'a>,
+    /// The event's place, from 1, where it begins, and where its parts do.
+    place: usize,
+    at: usize,
+    parts: &'a [usize],
 }
 
 /// The event at a place, from 1, that begins behind so many bytes; or what is wrong with it is appended.
@@ -142,64 +194,127 @@ fn read_event(
     place: usize,
     value: &Value,
 ) -> Result<Option<Event>, AllocError> {
-    let Some([first, fields @ ..]) = value.as_array().map(|values| values.as_slice()) else {
-        put_front(text, page, at, place)?;
-        text.push_str("an event is an array that begins with its word; here stands ")?;
-        put_value(alloc, text, value)?;
-        text.push_str("\n")?;
-        return Ok(None);
-    };
     let parts = parts_of(alloc, page.bytes, at)?;
-    let part = |index: usize| parts.as_slice().get(index).copied().unwrap_or(at);
-    let word = first.as_str().unwrap_or("");
-    let Some(wanted) = fields_of(word) else {
-        put_front(text, page, part(0), place)?;
-        text.push_str("there is no event ")?;
-        put_value(alloc, text, first)?;
-        writeln!(text, "; the words are {WORDS}")?;
-        return Ok(None);
+    let spot = Spot {
+        alloc,
+        page,
+        place,
+        at,
+        parts: parts.as_slice(),
     };
-    if fields.len() != wanted.len() {
-        put_front(text, page, part(0), place)?;
-        let (count, stand) = (wanted.len(), fields.len());
+    spot.read(text, value)
+}
+
+impl Spot<'_> {
+    /// The event, of this value; or what is wrong with it is appended.
+    fn read(&self, text: &mut String, value: &Value) -> Result<Option<Event>, AllocError> {
+        match value.as_array().map(|values| values.as_slice()) {
+            Some([first, fields @ ..]) => self.read_fields(text, first, fields),
+            _ => {
+                self.put_front(text, self.at)?;
+                text.push_str("an event is an array that begins with its word; ")?;
+                put_standing(self.alloc, text, value)?;
+                Ok(None)
+            }
+        }
+    }
+
+    /// The event of this word with what stands behind it; or what is wrong with them is appended.
+    fn read_fields(
+        &self,
+        text: &mut String,
+        first: &Value,
+        fields: &[Value],
+    ) -> Result<Option<Event>, AllocError> {
+        let word = first.as_str().unwrap_or("");
+        let Some(wanted) = fields_of(word) else {
+            self.put_no_word(text, first)?;
+            return Ok(None);
+        };
+        if self.put_field_fault(text, word, wanted, fields)? {
+            return Ok(None);
+        }
+        Ok(event_of(word, fields))
+    }
+
+    /// Where a part of it begins.
+    fn part(&self, index: usize) -> usize {
+        self.parts.get(index).copied().unwrap_or(self.at)
+    }
+
+    fn put_front(&self, text: &mut String, at: usize) -> Result<(), AllocError> {
+        put_place(text, self.page, at)?;
+        write!(text, "event {}: ", self.place)
+    }
+
+    /// Appends that no event has this word.
+    fn put_no_word(&self, text: &mut String, word: &Value) -> Result<(), AllocError> {
+        self.put_front(text, self.part(0))?;
+        text.push_str("there is no event ")?;
+        put_value(self.alloc, text, word)?;
+        writeln!(text, "; the words are {WORDS}")
+    }
+
+    /// Appends which field behind its word is wrong, and answers whether one is.
+    fn put_field_fault(
+        &self,
+        text: &mut String,
+        word: &str,
+        wanted: &[Field],
+        fields: &[Value],
+    ) -> Result<bool, AllocError> {
+        if fields.len() != wanted.len() {
+            self.put_count(text, word, wanted.len(), fields.len())?;
+            return Ok(true);
+        }
+        for (index, (value, wanted)) in fields.iter().zip(wanted.iter()).enumerate() {
+            if !wanted.takes(value) {
+                self.put_other(text, word, index.saturating_add(1), wanted.wanted(), value)?;
+                return Ok(true);
+            }
+        }
+        Ok(false)
+    }
+
+    /// Appends how many numbers stand behind its word, and how many stand there.
+    fn put_count(
+        &self,
+        text: &mut String,
+        word: &str,
+        count: usize,
+        stand: usize,
+    ) -> Result<(), AllocError> {
+        self.put_front(text, self.part(0))?;
         writeln!(
             text,
             "behind \"{word}\" stand {count} numbers; here stand {stand}"
-        )?;
-        return Ok(None);
+        )
     }
-    for (index, (value, wanted)) in fields.iter().zip(wanted.iter()).enumerate() {
-        if !wanted.takes(value) {
-            let nth = index.saturating_add(1);
-            put_front(text, page, part(nth), place)?;
-            write!(text, "value {nth} behind \"{word}\" is ")?;
-            put_other(alloc, text, *wanted, value)?;
-            return Ok(None);
-        }
+
+    /// Appends what the field at this place, from 1, is, and what stands there.
+    fn put_other(
+        &self,
+        text: &mut String,
+        word: &str,
+        nth: usize,
+        wanted: &str,
+        value: &Value,
+    ) -> Result<(), AllocError> {
+        self.put_front(text, self.part(nth))?;
+        write!(text, "value {nth} behind \"{word}\" is {wanted}; ")?;
+        put_standing(self.alloc, text, value)
     }
-    Ok(event_of(word, fields))
 }
 
-/// Appends what was wanted, and what stands there.
-fn put_other(
-    alloc: Global,
-    text: &mut String,
-    wanted: Field,
-    value: &Value,
-) -> Result<(), AllocError> {
-    text.push_str(wanted.wanted())?;
-    text.push_str("; here stands ")?;
+/// Appends what stands there, and the line's end.
+fn put_standing(alloc: Global, text: &mut String, value: &Value) -> Result<(), AllocError> {
+    text.push_str("here stands ")?;
     put_value(alloc, text, value)?;
     text.push_str("\n")
 }
 
-fn put_front(text: &mut String, page: Page<'_>, at: usize, place: usize) -> Result<(), AllocError> {
-    put_place(text, page, at)?;
-    write!(text, "event {place}: ")
-}
-
 /// What stands behind an event's word.
-#[derive(Clone, Copy, PartialEq, Eq)]
+#[derive(Clone, Copy)]
 enum Field {
     Request,
     Steps,
