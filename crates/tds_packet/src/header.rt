@@ -80,16 +80,26 @@ pub fn put_packet(out: &mut Vec<u8>, header: Header, data: &[u8]) -> Result<(), 
     ensures ok { OnOk result (out.new.items ≡ out.old.items ++ (header_bytes header ++ data.now)) }
     ensures err { OnErr result (out.new.items ≡ out.old.items) }
 {
-    let mut bytes = [0u8; 8];
-    bytes[0] = header.kind.byte();
-    bytes[1] = header.status.bits();
-    BigEndian::write_u16(&mut bytes[2..], header.length);
-    BigEndian::write_u16(&mut bytes[4..], header.spid);
-    bytes[6] = header.packet_id;
-    bytes[7] = header.window;
+    let bytes = bytes_of(header);
     out.reserve(8 + data.len())?;
     out.extend_from_slice(&bytes)?;
     out.extend_from_slice(data)
+}
+
+/// The header's bytes.
+fn bytes_of(header: Header) -> [u8; 8]
+    ensures { result ≡ header_bytes header }
+{
+    [
+        header.kind.byte(),
+        header.status.bits(),
+        (header.length / 256) as u8,
+        (header.length % 256) as u8,
+        (header.spid / 256) as u8,
+        (header.spid % 256) as u8,
+        header.packet_id,
+        header.window,
+    ]
 }
 
 /// Appends a packet as both ends send it: SPID and Window are 0, and the Length counts the data. At

@@ -9,3 +9,4 @@ pub mod Runs
 pub mod Told
 pub mod Vectors
 pub mod DoneStatus
+pub mod AsTokens

@@ -126,7 +126,7 @@ impl<'a> MessageRef<'a> {
 }
 
 /// The fields of a message, whose texts lie in a packet's data.
-#[derive(Debug, Drop)]
+#[derive(Drop)]
 pub(crate) struct Fields<'a> {
     pub(crate) number: i32,
     pub(crate) state: u8,

@@ -2,6 +2,7 @@
 //! `specs/Reading.antt` that it names: the value and the bytes after it, or the first fault.
 
 ghost use Rattle.std.specs.Prelude.{◌≡◌};
+ghost use Rattle.tds_token.specs.AsTokens.{status_token_at};
 ghost use Rattle.tds_token.specs.Layout.{is_done_status, token_of};
 ghost use Rattle.tds_token.specs.Reading.{Gives, done_at, token_behind, token_at};
 
@@ -51,6 +52,13 @@ fn done(bytes: &[u8]) -> Result<(TokenRef<'_>, &[u8]), TokenFault>
     ))
 }
 
+fn return_status(bytes: &[u8]) -> Result<(TokenRef<'_>, &[u8]), TokenFault>
+    ensures { Gives (λ x. (token_of x.0, x.1.now)) result (status_token_at bytes.now) }
+{
+    let (value, rest) = int(bytes, TokenFault::Cut)?;
+    Ok((TokenRef::ReturnStatus(value), rest))
+}
+
 /// The token with this token byte.
 #[tactic(auto, unfolding(crate::specs::Reading::token_behind))]
 #[inline(always)]
@@ -70,26 +78,11 @@ fn token_of_kind(
             let (message, rest) = message(bytes)?;
             Ok((TokenRef::Error(message), rest))
         }
-        0x79 => {
-            let (value, rest) = int(bytes, TokenFault::Cut)?;
-            Ok((TokenRef::ReturnStatus(value), rest))
-        }
-        0xE3 => {
-            let (change, rest) = env_change(bytes)?;
-            Ok((TokenRef::Env(change), rest))
-        }
+        0x79 => return_status(bytes),
+        0xE3 => env_change(bytes),
         0xFD => done(bytes),
-        0x81 => {
-            let (columns, rest) = column_list(bytes)?;
-            Ok((TokenRef::Columns(columns), rest))
-        }
-        0xD1 => {
-            let Some(count) = columns.count() else {
-                return Err(TokenFault::NoColumns);
-            };
-            let (values, rest) = row(bytes, count)?;
-            Ok((TokenRef::Row(values), rest))
-        }
+        0x81 => column_list(bytes),
+        0xD1 => row(columns, bytes),
         _ => Err(TokenFault::UnknownToken),
     }
 }

@@ -109,10 +109,10 @@ fn split_row(columns: u8, bytes: &[u8]) -> (RowRef<'_>, &[u8])
     ensures row { result.0 ≡ row_of columns bytes.now }
     ensures rest { result.1.now ≡ behind_row columns bytes.now }
 {
-    let (row, rest) = bytes.split_at(1 + 4 * usize::from(columns));
-    let [_, values @ ..] = row else {
+    let [_, behind @ ..] = bytes else {
         unreachable!();
     };
+    let (values, rest) = behind.split_at(4 * usize::from(columns));
     (RowRef::new(values), rest)
 }
 

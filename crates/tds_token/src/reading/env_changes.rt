@@ -1,11 +1,14 @@
 //! What stands behind the token byte of an ENVCHANGE (MS-TDS 2.2.7.9).
 
 ghost use Rattle.std.specs.Prelude.{◌≡◌};
-ghost use Rattle.tds_token.specs.Reading.{Gives, empty_at, descriptor_at, new_descriptor_in, old_descriptor_in, no_descriptor_in, env_of, env_in, env_at};
+ghost use Rattle.tds_token.specs.AsTokens.{env_token_at};
+ghost use Rattle.tds_token.specs.Layout.{token_of};
+ghost use Rattle.tds_token.specs.Reading.{Gives, empty_at, descriptor_at, new_descriptor_in, old_descriptor_in, no_descriptor_in, env_of, env_in};
 
 use crate::env_change::EnvChange;
 use crate::fault::TokenFault;
 use crate::reading::fields::{byte, number64, sized};
+use crate::token::TokenRef;
 
 /// A value of no bytes.
 #[tactic(auto, unfolding(crate::specs::Reading::empty_at))]
@@ -99,10 +102,10 @@ fn env_change_inside(inside: &[u8]) -> Result<EnvChange, TokenFault>
 
 #[tactic(auto, unfolding(crate::specs::Reading::env_at))]
 #[inline(always)]
-pub(crate) fn env_change(bytes: &[u8]) -> Result<(EnvChange, &[u8]), TokenFault>
-    ensures { Gives (λ x. (x.0, x.1.now)) result (env_at bytes.now) }
+pub(crate) fn env_change(bytes: &[u8]) -> Result<(TokenRef<'_>, &[u8]), TokenFault>
+    ensures { Gives (λ x. (token_of x.0, x.1.now)) result (env_token_at bytes.now) }
 {
     let (inside, rest) = sized(bytes)?;
     let change = env_change_inside(inside)?;
-    Ok((change, rest))
+    Ok((TokenRef::Env(change), rest))
 }

@@ -1,13 +1,15 @@
 //! What stands behind the token byte of a COLMETADATA or a ROW (MS-TDS 2.2.7.4, 2.2.7.20).
 
 ghost use Rattle.std.specs.Prelude.{◌≡◌};
-ghost use Rattle.tds_token.specs.Layout.{column_of};
-ghost use Rattle.tds_token.specs.Reading.{Gives, after_of, column_at, columns_at, column_list_at, columns_of, row_at};
+ghost use Rattle.tds_token.specs.AsTokens.{columns_token_at};
+ghost use Rattle.tds_token.specs.Layout.{column_of, token_of};
+ghost use Rattle.tds_token.specs.Reading.{Gives, after_of, column_at, columns_at, columns_of, row_under};
 
-use crate::columns::{ColumnRef, ColumnsRef};
+use crate::columns::{ColumnRef, Columns, ColumnsRef};
 use crate::fault::TokenFault;
 use crate::reading::fields::{byte, number16, number32, run, units};
 use crate::row::RowRef;
+use crate::token::TokenRef;
 
 /// A column.
 #[tactic(auto, unfolding(crate::specs::Reading::column_at))]
@@ -59,8 +61,8 @@ fn skip_columns(count: u8, bytes: &[u8]) -> Result<&[u8], TokenFault>
 
 #[tactic(auto, unfolding(crate::specs::Reading::column_list_at))]
 #[inline(always)]
-pub(crate) fn column_list(bytes: &[u8]) -> Result<(ColumnsRef<'_>, &[u8]), TokenFault>
-    ensures { Gives (λ x. (x.0, x.1.now)) result (column_list_at bytes.now) }
+pub(crate) fn column_list(bytes: &[u8]) -> Result<(TokenRef<'_>, &[u8]), TokenFault>
+    ensures { Gives (λ x. (token_of x.0, x.1.now)) result (columns_token_at bytes.now) }
 {
     let (count, rest) = number16(bytes, TokenFault::Cut)?;
     if count == 0 || count > 16 {
@@ -68,14 +70,17 @@ pub(crate) fn column_list(bytes: &[u8]) -> Result<(ColumnsRef<'_>, &[u8]), Token
     }
     let count = count as u8;
     let after = skip_columns(count, rest)?;
-    Ok((ColumnsRef::new(bytes), after))
+    Ok((TokenRef::Columns(ColumnsRef::new(bytes)), after))
 }
 
-/// A row of `count` values.
+/// A row, where it is known how many values it has.
 #[tactic(auto, unfolding(crate::specs::Reading::row_at))]
-pub(crate) fn row(bytes: &[u8], count: u8) -> Result<(RowRef<'_>, &[u8]), TokenFault>
-    ensures { Gives (λ x. (x.0, x.1.now)) result (row_at count bytes.now) }
+pub(crate) fn row(columns: Columns, bytes: &[u8]) -> Result<(TokenRef<'_>, &[u8]), TokenFault>
+    ensures { Gives (λ x. (token_of x.0, x.1.now)) result (row_under columns bytes.now) }
 {
+    let Some(count) = columns.count() else {
+        return Err(TokenFault::NoColumns);
+    };
     let (front, rest) = run(bytes, 4 * usize::from(count), TokenFault::Cut)?;
-    Ok((RowRef::new(front), rest))
+    Ok((TokenRef::Row(RowRef::new(front)), rest))
 }
