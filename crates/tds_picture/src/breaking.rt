@@ -9,35 +9,54 @@ const MOST: usize = 3;
 /// cut off leaves two dots.
 pub fn broken(alloc: Global, text: &str, width: usize) -> Result<Vec<String>, AllocError> {
     let lines = lines_of(alloc, text.as_bytes(), width)?;
-    let is_cut = lines.len() > MOST;
+    texts_of(alloc, lines.as_slice(), width)
+}
+
+/// The first lines as texts; the last of them is dotted where there are more.
+fn texts_of(alloc: Global, lines: &[Vec<u8>], width: usize) -> Result<Vec<String>, AllocError> {
     let mut texts = Vec::new(alloc);
-    for (index, line) in lines.iter().take(MOST).enumerate() {
-        let line = trimmed(line.as_slice());
-        texts.push(match is_cut && index.saturating_add(1) == MOST {
-            true => dotted(alloc, line, width)?,
-            false => String::from_utf8_lossy(alloc, line)?,
-        })?;
+    for line in lines.iter().take(MOST) {
+        let is_cut = lines.len() > MOST && texts.len().saturating_add(1) == MOST;
+        texts.push(line_text(alloc, trimmed(line.as_slice()), width, is_cut)?)?;
     }
     Ok(texts)
+}
+
+/// A line as a text, dotted where more is cut off.
+fn line_text(alloc: Global, line: &[u8], width: usize, is_cut: bool) -> Result<String, AllocError> {
+    match is_cut {
+        true => dotted(alloc, line, width),
+        false => String::from_utf8_lossy(alloc, line),
+    }
 }
 
 /// All lines of a text, with the spaces at their ends.
 fn lines_of(alloc: Global, text: &[u8], width: usize) -> Result<Vec<Vec<u8>>, AllocError> {
     let mut lines = Vec::new(alloc);
     let mut line = Vec::new(alloc);
+    put_pieces(alloc, &mut lines, &mut line, text, width)?;
+    lines.push(line)?;
+    Ok(lines)
+}
+
+/// Puts each piece of a text behind a line, or begins the next line with it.
+fn put_pieces(
+    alloc: Global,
+    lines: &mut Vec<Vec<u8>>,
+    line: &mut Vec<u8>,
+    text: &[u8],
+    width: usize,
+) -> Result<(), AllocError> {
     let mut begin = 0usize;
     for (index, byte) in text.iter().enumerate() {
         if matches!(*byte, b' ' | b';') {
             let end = index.saturating_add(1);
             let piece = text.get(begin..end).unwrap_or(&[]);
-            put_piece(alloc, &mut lines, &mut line, piece, width)?;
+            put_piece(alloc, lines, line, piece, width)?;
             begin = end;
         }
     }
-    let piece = text.get(begin..).unwrap_or(&[]);
-    put_piece(alloc, &mut lines, &mut line, piece, width)?;
-    lines.push(line)?;
-    Ok(lines)
+    put_piece(alloc, lines, line, text.get(begin..).unwrap_or(&[]), width)
 }
 
 /// Puts a piece behind a line, or begins the next line with it.

@@ -3,6 +3,7 @@
 mod lanes;
 
 use crate::breaking::cut_to;
+use crate::joining::put_all;
 use crate::scene::{
     BarMark, FlightEnd, Label, Line, Look, Panel, PlaceMark, Row, Scene, Sheet, Spot,
 };
@@ -42,15 +43,19 @@ const LEGEND: [(u8, &str); 5] = [
 
 /// Paints a scene in characters: of each sheet the first panel.
 pub fn paint_characters(alloc: Global, scene: &Scene) -> Result<String, AllocError> {
-    let mut text = String::from_str(alloc, scene.head.as_str())?;
-    text.push_str("\n")?;
+    let mut text = String::new(alloc);
+    put_scene(alloc, &mut text, scene)?;
+    Ok(text)
+}
+
+fn put_scene(alloc: Global, text: &mut String, scene: &Scene) -> Result<(), AllocError> {
+    put_all(text, &[scene.head.as_str(), "\n"])?;
     for sheet in scene.sheets.iter() {
         text.push_str("\n")?;
-        put_sheet(alloc, &mut text, sheet)?;
+        put_sheet(alloc, text, sheet)?;
     }
-    put_below(&mut text, scene.below.as_slice())?;
-    put_legend(&mut text, scene)?;
-    Ok(text)
+    put_below(text, scene.below.as_slice())?;
+    put_legend(text, scene)
 }
 
 /// Appends a sheet's first panel: characters have no room for two side by side.
@@ -72,8 +77,7 @@ fn put_below(text: &mut String, below: &[String]) -> Result<(), AllocError> {
         text.push_str("\n")?;
     }
     for line in below {
-        text.push_str(line.as_str())?;
-        text.push_str("\n")?;
+        put_all(text, &[line.as_str(), "\n"])?;
     }
     Ok(())
 }
@@ -119,26 +123,38 @@ fn has_mark(panel: &Panel, mark: u8) -> bool {
 /// The lines of a panel.
 #[derive(Drop)]
 pub(crate) struct Canvas {
-    lines: Vec<Vec<u8>>,
+    lines: Vec<[u8; WIDTH]>,
     /// Whether a lane goes through each place.
-    lanes: Vec<Vec<u8>>,
+    lanes: Vec<[u8; WIDTH]>,
 }
 
 impl Canvas {
     /// Paints a panel: what runs down first, and texts last.
     fn paint(&mut self, alloc: Global, panel: &Panel, rows: &[Row]) -> Result<(), AllocError> {
-        for line in panel.lines.iter() {
-            self.lines.push(Vec::from_slice(alloc, &[b' '; WIDTH])?)?;
-            self.lanes.push(Vec::from_slice(alloc, &[b' '; WIDTH])?)?;
-            self.paint_line(alloc, line)?;
-        }
+        self.paint_lines(alloc, panel)?;
         for row in rows {
             self.paint_row(alloc, row)?;
         }
         self.paint_flights(alloc, panel.flights.as_slice())?;
+        self.paint_labels(alloc, panel)
+    }
+
+    fn paint_lines(&mut self, alloc: Global, panel: &Panel) -> Result<(), AllocError> {
+        for line in panel.lines.iter() {
+            self.lines.push([b' '; WIDTH])?;
+            self.lanes.push([b' '; WIDTH])?;
+            self.paint_line(alloc, line)?;
+        }
+        Ok(())
+    }
+
+    fn paint_labels(&mut self, alloc: Global, panel: &Panel) -> Result<(), AllocError> {
         for label in panel.labels.iter() {
-            let place = panel.lines.get(label.line).map(|it| it.place);
-            self.paint_label(alloc, label, place.unwrap_or(PlaceMark::Nothing))?;
+            let place = match panel.lines.get(label.line) {
+                Some(line) => line.place,
+                None => PlaceMark::Nothing,
+            };
+            self.paint_label(alloc, label, place)?;
         }
         Ok(())
     }
@@ -146,17 +162,13 @@ impl Canvas {
     /// Appends the lines, without the spaces at their ends.
     fn put(&self, text: &mut String) -> Result<(), AllocError> {
         for line in self.lines.iter() {
-            let end = line.iter().rposition(|byte| *byte != b' ').unwrap_or(0);
-            for byte in line.as_slice().get(..=end).unwrap_or(&[]) {
-                text.push(char::from((*byte).min(126)))?;
-            }
-            text.push_str("\n")?;
+            put_trimmed(text, line.as_slice())?;
         }
         Ok(())
     }
 
     pub(crate) fn set(&mut self, line: usize, column: usize, byte: u8) {
-        set_byte(&mut self.lines, line, column, byte);
+        set_byte(self.lines.as_mut_slice(), line, column, byte);
     }
 
     pub(crate) fn write(&mut self, line: usize, column: usize, text: &str) {
@@ -175,7 +187,7 @@ impl Canvas {
     /// Paints a place of a lane.
     pub(crate) fn set_lane(&mut self, line: usize, column: usize, byte: u8) {
         self.set(line, column, byte);
-        set_byte(&mut self.lanes, line, column, b'|');
+        set_byte(self.lanes.as_mut_slice(), line, column, b'|');
     }
 
     /// Paints from a column to behind another one, but over no lane.
@@ -207,22 +219,31 @@ impl Canvas {
         end: &str,
     ) -> Result<(), AllocError> {
         match mark {
-            BarMark::Nothing => {}
-            BarMark::Opened(conn) => {
-                let text = format!(in alloc; "({end} {conn})")?;
-                self.write(line, column.saturating_sub(4), text.as_str());
+            BarMark::Nothing => Ok(()),
+            BarMark::Opened(conn) => self.paint_opened(alloc, line, column, (end, conn)),
+            _ => {
+                self.set(line, column, bar_byte(mark));
+                Ok(())
             }
-            _ => self.set(line, column, bar_byte(mark)),
         }
+    }
+
+    /// Paints the name of an end of a connection, with its number.
+    fn paint_opened(
+        &mut self,
+        alloc: Global,
+        line: usize,
+        column: usize,
+        name: (&str, u32),
+    ) -> Result<(), AllocError> {
+        let (end, conn) = name;
+        let text = format!(in alloc; "({end} {conn})")?;
+        self.write(line, column.saturating_sub(4), text.as_str());
         Ok(())
     }
 
     fn paint_row(&mut self, alloc: Global, row: &Row) -> Result<(), AllocError> {
-        let text = match row.number {
-            Some(number) => format!(in alloc; "{number:3} {}", row.text)?,
-            None => format!(in alloc; "    {}", row.text)?,
-        };
-        let text = cut_to(alloc, text.as_str(), PLACE.saturating_sub(1))?;
+        let text = row_text(alloc, row)?;
         self.write(row.line, 0, text.as_str());
         Ok(())
     }
@@ -267,31 +288,65 @@ impl Canvas {
     }
 }
 
+/// An event with its number, cut to the column of the rows.
+fn row_text(alloc: Global, row: &Row) -> Result<String, AllocError> {
+    let text = numbered(alloc, row)?;
+    cut_to(alloc, text.as_str(), PLACE.saturating_sub(1))
+}
+
+fn numbered(alloc: Global, row: &Row) -> Result<String, AllocError> {
+    match row.number {
+        Some(number) => format!(in alloc; "{number:3} {}", row.text),
+        None => format!(in alloc; "    {}", row.text),
+    }
+}
+
 /// A label with its number, what its look adds, and at a caller the lease or ticket that begins in its line.
 fn label_text(alloc: Global, label: &Label, place: PlaceMark) -> Result<String, AllocError> {
     let mut text = String::new(alloc);
-    match (label.spot, place) {
-        (Spot::Place, PlaceMark::LeaseBegins(lease)) => write!(text, "lease {lease}: ")?,
-        (Spot::Place, PlaceMark::TicketBegins(ticket)) => write!(text, "ticket {ticket}: ")?,
-        _ => {}
+    put_label(&mut text, label, place)?;
+    Ok(text)
+}
+
+fn put_label(text: &mut String, label: &Label, place: PlaceMark) -> Result<(), AllocError> {
+    if label.spot == Spot::Place {
+        put_place(text, place)?;
     }
     if label.has_badge {
         write!(text, "{}:", label.request)?;
     }
-    match label.look {
-        Look::Struck if label.is_first => text.push_str("x ")?,
-        Look::Pill if label.is_first => text.push_str("[")?,
-        _ => {}
+    let before = match label.look {
+        Look::Struck if label.is_first => "x ",
+        Look::Pill if label.is_first => "[",
+        _ => "",
+    };
+    let behind = match label.look {
+        Look::Pill if label.is_last => "]",
+        _ => "",
+    };
+    put_all(text, &[before, label.text.as_str(), behind])
+}
+
+/// Appends the lease or the ticket that begins.
+fn put_place(text: &mut String, place: PlaceMark) -> Result<(), AllocError> {
+    match place {
+        PlaceMark::LeaseBegins(lease) => write!(text, "lease {lease}: "),
+        PlaceMark::TicketBegins(ticket) => write!(text, "ticket {ticket}: "),
+        _ => Ok(()),
     }
-    text.push_str(label.text.as_str())?;
-    if label.look == Look::Pill && label.is_last {
-        text.push_str("]")?;
+}
+
+/// Appends a line without the spaces at its end. One of spaces alone keeps one.
+fn put_trimmed(text: &mut String, line: &[u8]) -> Result<(), AllocError> {
+    let end = line.iter().rposition(|byte| *byte != b' ').unwrap_or(0);
+    for byte in line.get(..=end).unwrap_or(&[]) {
+        text.push(char::from((*byte).min(126)))?;
     }
-    Ok(text)
+    text.push_str("\n")
 }
 
 /// Puts a byte into a line, where there is a place for it.
-fn set_byte(lines: &mut Vec<Vec<u8>>, line: usize, column: usize, byte: u8) {
+fn set_byte(lines: &mut [[u8; WIDTH]], line: usize, column: usize, byte: u8) {
     let Some(line) = lines.get_mut(line) else {
         return;
     };

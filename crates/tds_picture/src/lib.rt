@@ -4,6 +4,7 @@
 
 mod breaking;
 mod characters;
+mod joining;
 mod scene;
 mod svg;
 mod widths;

@@ -2,6 +2,11 @@
 
 use crate::scene::{Look, Spot};
 
+/// How many digits a number has.
+pub(crate) fn digits(number: u32) -> usize {
+    (number.checked_ilog10().unwrap_or(0) as usize).saturating_add(1)
+}
+
 /// How many characters a text has room for.
 #[derive(Clone, Copy)]
 pub struct Widths {

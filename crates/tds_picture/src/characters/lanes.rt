@@ -27,6 +27,16 @@ impl Canvas {
         flights: &[Flight],
     ) -> Result<(), AllocError> {
         let lanes = self.paint_lanes(alloc, flights)?;
+        self.paint_all_runs(alloc, flights, lanes.as_slice())
+    }
+
+    /// Paints each packet from its lane and to it.
+    fn paint_all_runs(
+        &mut self,
+        alloc: Global,
+        flights: &[Flight],
+        lanes: &[usize],
+    ) -> Result<(), AllocError> {
         for (flight, lane) in flights.iter().zip(lanes.iter()) {
             self.paint_runs(alloc, flight, *lane)?;
         }
@@ -134,19 +144,14 @@ impl Canvas {
         }
     }
 
-    /// Paints a packet's label at its sender's end; where it is too long, without the size.
+    /// Paints a packet's label at its sender's end.
     fn paint_name(
         &mut self,
         alloc: Global,
         flight: &Flight,
         line: usize,
     ) -> Result<(), AllocError> {
-        let width = LABEL_END.saturating_sub(LABEL);
-        let short = format!(in alloc; "{}:{}", flight.request, flight.name)?;
-        let mut text = format!(in alloc; "{short} {}", flight.size)?;
-        if text.len() > width {
-            text = cut_to(alloc, short.as_str(), width)?;
-        }
+        let text = name_text(alloc, flight)?;
         let column = match flight.direction {
             Direction::ToServer => LABEL,
             Direction::ToClient => LABEL_END.saturating_sub(text.len()),
@@ -154,6 +159,21 @@ impl Canvas {
         self.write(line, column, text.as_str());
         Ok(())
     }
+}
+
+/// A packet's label; where it is too long, without the size.
+fn name_text(alloc: Global, flight: &Flight) -> Result<String, AllocError> {
+    let width = LABEL_END.saturating_sub(LABEL);
+    let text = format!(in alloc; "{}:{} {}", flight.request, flight.name, flight.size)?;
+    match text.len() <= width {
+        true => Ok(text),
+        false => short_name(alloc, flight, width),
+    }
+}
+
+fn short_name(alloc: Global, flight: &Flight, width: usize) -> Result<String, AllocError> {
+    let text = format!(in alloc; "{}:{}", flight.request, flight.name)?;
+    cut_to(alloc, text.as_str(), width)
 }
 
 /// What stands at the end of a lane.

@@ -1,10 +1,9 @@
 //! What runs down in a panel, painted as SVG.
 
 use crate::scene::{BarMark, Line, PlaceMark};
-use crate::svg::marks::{color_of, put_cross};
+use crate::svg::marks::{Area, color_of, put_cross, put_rect, put_round};
 use crate::svg::panel::Painted;
 use std::alloc::AllocError;
-use std::fmt::Write;
 
 /// A column, of which pieces are painted.
 #[derive(Clone, Copy)]
@@ -53,11 +52,8 @@ impl<'a> Painted<'a> {
         }
         for (index, line) in self.panel.lines.iter().enumerate() {
             let y = self.plate.at(index);
-            for (x, mark) in [(self.client(), line.client), (self.server(), line.server)] {
-                if mark == BarMark::Cut {
-                    put_cross(body, x.saturating_add(4), y)?;
-                }
-            }
+            put_cut_end(body, self.client(), y, line.client)?;
+            put_cut_end(body, self.server(), y, line.server)?;
         }
         Ok(())
     }
@@ -66,19 +62,7 @@ impl<'a> Painted<'a> {
     fn put_pieces(&self, body: &mut String, column: Column) -> Result<(), AllocError> {
         let mut open: Option<Piece> = None;
         for (index, line) in self.panel.lines.iter().enumerate() {
-            let next = column.piece(index, line);
-            if let Some(piece) = open {
-                let goes_on = column.goes_on(piece, line);
-                if goes_on && next.is_some_and(|next| next.state == piece.state) {
-                    continue;
-                }
-                let last = match goes_on {
-                    true => index,
-                    false => index.saturating_sub(1),
-                };
-                self.put_piece(body, column, piece, self.plate.at(last))?;
-            }
-            open = next;
+            open = self.put_ended(body, column, open, index, line)?;
         }
         let Some(piece) = open else {
             return Ok(());
@@ -90,6 +74,31 @@ impl<'a> Painted<'a> {
         self.put_piece(body, column, piece, end)
     }
 
+    /// Appends the piece that is open above a line, where it ends there, and answers which one is open behind it.
+    fn put_ended(
+        &self,
+        body: &mut String,
+        column: Column,
+        open: Option<Piece>,
+        index: usize,
+        line: &Line,
+    ) -> Result<Option<Piece>, AllocError> {
+        let next = column.piece(index, line);
+        let Some(piece) = open else {
+            return Ok(next);
+        };
+        let goes_on = column.goes_on(piece, line);
+        if goes_on && next.is_some_and(|next| next.state == piece.state) {
+            return Ok(open);
+        }
+        let last = match goes_on {
+            true => index,
+            false => index.saturating_sub(1),
+        };
+        self.put_piece(body, column, piece, self.plate.at(last))?;
+        Ok(next)
+    }
+
     /// Appends a piece down to this height.
     fn put_piece(
         &self,
@@ -98,27 +107,41 @@ impl<'a> Painted<'a> {
         piece: Piece,
         end: usize,
     ) -> Result<(), AllocError> {
-        let at = self.plate.at(piece.line);
-        let (x, top, width) = match column {
+        let area = self.area_of(column, self.plate.at(piece.line), end);
+        let (class, color) = (class_of(piece.state), color_of(piece.request));
+        match column {
+            Column::Client | Column::Server => {
+                put_rect(body, area, &["bg"])?;
+                put_rect(body, area, &[class, " f", color, " s", color])
+            }
+            Column::Place => put_round(body, area, "3", &[class]),
+            Column::ClientLife | Column::ServerLife => put_rect(body, area, &[class]),
+        }
+    }
+
+    /// What a piece covers that begins in the line at this height, and ends at that one.
+    fn area_of(&self, column: Column, at: usize, end: usize) -> Area {
+        let (x, y, width) = match column {
             Column::Place => (self.place().saturating_sub(10), at.saturating_sub(15), 20),
             Column::ClientLife => (self.client().saturating_add(3), at.saturating_sub(14), 2),
             Column::ServerLife => (self.server().saturating_add(3), at.saturating_sub(14), 2),
             Column::Client => (self.client(), at, 8),
             Column::Server => (self.server(), at, 8),
         };
-        let height = end.saturating_sub(top);
-        let rect = format!(in self.alloc;
-            "<rect x=\"{x}\" y=\"{top}\" width=\"{width}\" height=\"{height}\" "
-        )?;
-        let (class, color) = (class_of(piece.state), color_of(piece.request));
-        match column {
-            Column::Client | Column::Server => {
-                writeln!(body, "{rect}class=\"bg\"/>")?;
-                writeln!(body, "{rect}class=\"{class} f{color} s{color}\"/>")
-            }
-            Column::Place => writeln!(body, "{rect}rx=\"3\" class=\"{class}\"/>"),
-            Column::ClientLife | Column::ServerLife => writeln!(body, "{rect}class=\"{class}\"/>"),
+        Area {
+            x,
+            y,
+            width,
+            height: end.saturating_sub(y),
         }
+    }
+}
+
+/// Appends a cross where an end of a connection is cut.
+fn put_cut_end(body: &mut String, x: usize, y: usize, mark: BarMark) -> Result<(), AllocError> {
+    match mark {
+        BarMark::Cut => put_cross(body, x.saturating_add(4), y),
+        _ => Ok(()),
     }
 }
 

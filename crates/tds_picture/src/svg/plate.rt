@@ -1,10 +1,9 @@
 //! A sheet painted as SVG: its rows, and its panels side by side.
 
-use crate::scene::{Row, Sheet};
-use crate::svg::marks::put_text;
+use crate::scene::{Line, Row, Sheet};
+use crate::svg::marks::{Area, put_cut, put_number, put_rect, put_text};
 use crate::svg::panel::Painted;
 use std::alloc::{AllocError, Global};
-use std::fmt::Write;
 
 /// How high a line is, and what stands below each row.
 const LINE: usize = 17;
@@ -25,6 +24,19 @@ pub(crate) fn width_of(panels: usize) -> usize {
         .saturating_mul(panels)
         .saturating_add(PANELS)
         .saturating_add(MARGIN)
+}
+
+/// Appends a sheet of this width, whose first row begins at this height, and answers where it ends.
+pub(crate) fn put_sheet(
+    alloc: Global,
+    body: &mut String,
+    sheet: &Sheet,
+    top: usize,
+    width: usize,
+) -> Result<usize, AllocError> {
+    let plate = Plate::new(alloc, sheet, top, width)?;
+    plate.put(body)?;
+    Ok(plate.bottom())
 }
 
 /// A sheet with the height of each of its lines.
@@ -101,34 +113,44 @@ impl<'a> Plate<'a> {
 
     /// Appends a band behind every second row, and a line across at each restart.
     fn put_bands(&self, body: &mut String) -> Result<(), AllocError> {
-        let width = self.width;
         for (index, row) in self.sheet.rows.iter().enumerate() {
-            if index % 2 == 0 {
-                continue;
+            if index % 2 != 0 {
+                self.put_band(body, index, row)?;
             }
-            let top = self.at(row.line).saturating_sub(LINE.saturating_add(1));
-            let end = match self.sheet.rows.get(index.saturating_add(1)) {
-                Some(next) => self.at(next.line).saturating_sub(LINE.saturating_add(1)),
-                None => self.bottom.saturating_sub(2),
-            };
-            let height = end.saturating_sub(top);
-            write!(
-                body,
-                "<rect x=\"0\" y=\"{top}\" width=\"{width}\" height=\"{height}\" "
-            )?;
-            body.push_str("class=\"band\"/>\n")?;
         }
-        let Some(panel) = self.sheet.panels.first() else {
-            return Ok(());
+        match self.sheet.panels.first() {
+            Some(panel) => self.put_cuts(body, panel.lines.as_slice()),
+            None => Ok(()),
+        }
+    }
+
+    /// Appends a band behind the row of this number, down to the next one.
+    fn put_band(&self, body: &mut String, index: usize, row: &Row) -> Result<(), AllocError> {
+        let top = self.top_of(row);
+        let end = match self.sheet.rows.get(index.saturating_add(1)) {
+            Some(next) => self.top_of(next),
+            None => self.bottom.saturating_sub(2),
         };
-        let right = width.saturating_sub(MARGIN);
-        for (index, _) in panel.lines.iter().enumerate().filter(|line| line.1.is_rule) {
-            let y = self.at(index);
-            write!(
-                body,
-                "<line x1=\"{MARGIN}\" y1=\"{y}\" x2=\"{right}\" y2=\"{y}\" "
-            )?;
-            body.push_str("class=\"cut\"/>\n")?;
+        let area = Area {
+            x: 0,
+            y: top,
+            width: self.width,
+            height: end.saturating_sub(top),
+        };
+        put_rect(body, area, &["band"])
+    }
+
+    /// Where a row begins.
+    fn top_of(&self, row: &Row) -> usize {
+        self.at(row.line).saturating_sub(LINE.saturating_add(1))
+    }
+
+    fn put_cuts(&self, body: &mut String, lines: &[Line]) -> Result<(), AllocError> {
+        for (index, line) in lines.iter().enumerate() {
+            if line.is_rule {
+                let right = self.width.saturating_sub(MARGIN);
+                put_cut(body, MARGIN, right, self.at(index))?;
+            }
         }
         Ok(())
     }
@@ -136,18 +158,13 @@ impl<'a> Plate<'a> {
     /// Appends an event's number and the event.
     fn put_row(&self, body: &mut String, row: &Row) -> Result<(), AllocError> {
         let y = self.at(row.line).saturating_sub(4);
-        if let Some(number) = row.number {
-            let text = format!(in self.alloc; "{number}")?;
-            let class = match row.is_muted {
-                true => "h e muted",
-                false => "h e",
-            };
-            put_text(body, 40, y, class, text.as_str())?;
-        }
-        let class = match row.is_muted {
-            true => "muted",
-            false => "",
+        let (number_class, class) = match row.is_muted {
+            true => ("h e muted", "muted"),
+            false => ("h e", ""),
         };
+        if let Some(number) = row.number {
+            put_number(body, 40, y, number_class, number)?;
+        }
         put_text(body, 47, y, class, row.text.as_str())
     }
 }
