@@ -14,25 +14,24 @@ pub(crate) fn print_check<W: Write>(
     names: &[String],
     output: &mut W,
 ) -> Result<bool, ViewFault> {
-    let alloc = rt.alloc();
     let mut is_well = true;
     for name in names {
-        let name = name.as_str();
-        let line = match difference(rt, name) {
-            Ok(None) => format!(in alloc; "{name}: ok\n")?,
-            Ok(Some(text)) => {
-                is_well = false;
-                format!(in alloc; "{name}: {text}")?
-            }
-            Err(ViewFault::Told(text)) => {
-                is_well = false;
-                format!(in alloc; "{text}\n")?
-            }
-            Err(fault) => return Err(fault),
-        };
+        let (line, is_alike) = check_line(rt, name.as_str())?;
+        is_well &= is_alike;
         write_whole(output, line.as_str())?;
     }
     Ok(is_well)
+}
+
+/// What is printed of a schedule, and whether it prints its text.
+fn check_line(rt: &HostRuntime, name: &str) -> Result<(String, bool), ViewFault> {
+    let alloc = rt.alloc();
+    match difference(rt, name) {
+        Ok(None) => Ok((format!(in alloc; "{name}: ok\n")?, true)),
+        Ok(Some(text)) => Ok((format!(in alloc; "{name}: {text}")?, false)),
+        Err(ViewFault::Told(text)) => Ok((format!(in alloc; "{text}\n")?, false)),
+        Err(fault) => Err(fault),
+    }
 }
 
 /// What of a schedule's report is not as the text beside it has it.

@@ -9,8 +9,8 @@ use clap::Error;
 use clap::error::ErrorKind;
 use std::alloc::{AllocError, Global};
 use std::io::Write;
-use tds_draw::{draw_svg, draw_text};
-use tds_listing::{print_bytes, print_snapshots};
+use tds_draw::{Choice, draw_svg, draw_text};
+use tds_listing::{BytesForm, print_bytes, print_snapshots};
 use tds_text::write_whole;
 
 /// Does what the words behind the program's name ask for. It answers the exit status: 0 where all is
@@ -58,33 +58,56 @@ pub fn explain<W: Write, F: Write>(
 
 /// Runs a command, and answers whether all is well.
 fn run<W: Write>(rt: &HostRuntime, command: Command, output: &mut W) -> Result<bool, ViewFault> {
-    let alloc = rt.alloc();
     match command {
-        Command::Bytes(name, form) => {
-            let exchange = play_named(rt, name.as_str())?;
-            print_bytes(alloc, &exchange, form, output)?;
-            Ok(true)
-        }
-        Command::Draw(name, painter, choice) => {
-            let exchange = play_named(rt, name.as_str())?;
-            let text = match painter {
-                Painter::Vector(arrangement) => draw_svg(alloc, &exchange, choice, arrangement)?,
-                Painter::Characters => draw_text(alloc, &exchange, choice)?,
-            };
-            write_whole(output, text.as_str())?;
-            Ok(true)
-        }
+        Command::Bytes(name, form) => print_packets(rt, name.as_str(), form, output)?,
+        Command::Draw(name, painter, choice) => print_picture(
+            rt,
+            name.as_str(),
+            painter,
+            choice,
+            output,
+        )?,
         Command::Snapshots(name) => {
             let exchange = play_named(rt, name.as_str())?;
-            print_snapshots(alloc, exchange.report, output)?;
-            Ok(true)
+            print_snapshots(rt.alloc(), exchange.report, output)?;
         }
         Command::Explain(name) => {
             let bytes = read_file(rt, name.as_str())?;
-            print_explanation(alloc, name.as_str(), bytes.as_slice(), output)
+            return print_explanation(rt.alloc(), name.as_str(), bytes.as_slice(), output);
         }
-        Command::Check(names) => print_check(rt, names.as_slice(), output),
+        Command::Check(names) => return print_check(rt, names.as_slice(), output),
     }
+    Ok(true)
+}
+
+/// Prints the packets of the play of a file.
+fn print_packets<W: Write>(
+    rt: &HostRuntime,
+    name: &str,
+    form: BytesForm,
+    output: &mut W,
+) -> Result<(), ViewFault> {
+    let exchange = play_named(rt, name)?;
+    print_bytes(rt.alloc(), &exchange, form, output)?;
+    Ok(())
+}
+
+/// Prints the play of a file as a picture.
+fn print_picture<W: Write>(
+    rt: &HostRuntime,
+    name: &str,
+    painter: Painter,
+    choice: Choice,
+    output: &mut W,
+) -> Result<(), ViewFault> {
+    let alloc = rt.alloc();
+    let exchange = play_named(rt, name)?;
+    let text = match painter {
+        Painter::Vector(arrangement) => draw_svg(alloc, &exchange, choice, arrangement)?,
+        Painter::Characters => draw_text(alloc, &exchange, choice)?,
+    };
+    write_whole(output, text.as_str())?;
+    Ok(())
 }
 
 /// Writes a line about what ended a command. Where that fails, there is nobody to tell.

@@ -83,6 +83,22 @@ fn files_of(alloc: Global, used: &ArgMatches<'_>) -> Result<Vec<String>, AllocEr
 }
 
 fn parser<'a>(alloc: Global) -> Result<Parser<'a>, AllocError> {
+    let parser = with(no_commands(alloc), bytes(alloc))?;
+    let parser = with(parser, draw(alloc))?;
+    let parser = with(parser, snapshots(alloc))?;
+    let parser = with(parser, explain(alloc))?;
+    with(parser, check(alloc))
+}
+
+/// These commands, and one more.
+fn with<'a>(
+    parser: Parser<'a>,
+    command: Result<Parser<'a>, AllocError>,
+) -> Result<Parser<'a>, AllocError> {
+    parser.subcommand(command?)
+}
+
+fn no_commands<'a>(alloc: Global) -> Parser<'a> {
     Parser::new(alloc, "tdsview")
         .version("unreleased")
         .about("Plays a schedule over memory, and shows more of it than tdsplay prints")
@@ -94,47 +110,56 @@ fn parser<'a>(alloc: Global) -> Result<Parser<'a>, AllocError> {
         .subcommand_required(true)
         .arg_required_else_help(true)
         .disable_help_subcommand(true)
-        .subcommand(bytes(alloc)?)?
-        .subcommand(draw(alloc)?)?
-        .subcommand(snapshots(alloc)?)?
-        .subcommand(explain(alloc)?)?
-        .subcommand(check(alloc)?)
 }
 
 fn bytes<'a>(alloc: Global) -> Result<Parser<'a>, AllocError> {
-    let show = Arg::new(alloc, "show")
+    let parser = Parser::new(alloc, "bytes").about(
+        "Prints every packet, in the order of the events, with its event and its bytes",
+    );
+    let parser = parser.arg(show(alloc))?;
+    let parser = parser.arg(frames(alloc)?)?;
+    parser.arg(one_file(alloc))
+}
+
+fn show<'a>(alloc: Global) -> Arg<'a> {
+    Arg::new(alloc, "show")
         .long("show")
         .action(ArgAction::SetTrue)
-        .help("Spells each packet out, as tdsplay show does");
+        .help("Spells each packet out, as tdsplay show does")
+}
+
+fn frames<'a>(alloc: Global) -> Result<Arg<'a>, AllocError> {
     let frames = Arg::new(alloc, "text2pcap")
         .long("text2pcap")
         .action(ArgAction::SetTrue)
-        .conflicts_with("show")?
         .help("Prints what Wireshark's text2pcap takes as it is, with each connection as TCP");
-    Parser::new(alloc, "bytes")
-        .about("Prints every packet, in the order of the events, with its event and its bytes")
-        .arg(show)?
-        .arg(frames)?
-        .arg(one_file(alloc))
+    frames.conflicts_with("show")
 }
 
 fn draw<'a>(alloc: Global) -> Result<Parser<'a>, AllocError> {
-    let text = Arg::new(alloc, "text")
+    let parser = Parser::new(alloc, "draw").about("Draws the play as a sequence picture, as SVG");
+    let parser = parser.arg(text(alloc))?;
+    let parser = parser.arg(beside(alloc)?)?;
+    let first = number(alloc, "from").help("The first event that is drawn");
+    let parser = parser.arg(first)?;
+    let last = number(alloc, "to").help("The last one; without it 300 events are drawn");
+    let parser = parser.arg(last)?;
+    parser.arg(one_file(alloc))
+}
+
+fn text<'a>(alloc: Global) -> Arg<'a> {
+    Arg::new(alloc, "text")
         .long("text")
         .action(ArgAction::SetTrue)
-        .help("Draws it in characters, 100 a line, in place of SVG");
+        .help("Draws it in characters, 100 a line, in place of SVG")
+}
+
+fn beside<'a>(alloc: Global) -> Result<Arg<'a>, AllocError> {
     let beside = Arg::new(alloc, "beside")
         .long("beside")
         .action(ArgAction::SetTrue)
-        .conflicts_with("text")?
         .help("Draws connections that are open at once side by side, not one below the other");
-    Parser::new(alloc, "draw")
-        .about("Draws the play as a sequence picture, as SVG")
-        .arg(text)?
-        .arg(beside)?
-        .arg(number(alloc, "from").help("The first event that is drawn"))?
-        .arg(number(alloc, "to").help("The last one; without it 300 events are drawn"))?
-        .arg(one_file(alloc))
+    beside.conflicts_with("text")
 }
 
 fn number<'a>(alloc: Global, name: &'a str) -> Arg<'a> {
