@@ -1,8 +1,9 @@
 //! What a login is answered with (MS-TDS 2.2.6.5, 2.2.7.6, 2.2.7.9, 2.2.7.10, 2.2.7.14).
-ghost use Rattle.std.specs.Prelude.{◌+◌, ◌≤◌, length, vec_len};
+ghost use Rattle.std.specs.Prelude.{◌≡◌, ◌+◌, ◌≤◌, ◌++◌, length, take, vec_len, OnOk, OnErr};
+ghost use Rattle.std.specs.Int.{w16, w32, to_le_bytes};
+ghost use Rattle.tds_login.specs.Answers as spelled;
 
 use crate::NoMemory;
-use byteorder::{BigEndian, ByteOrder, LittleEndian};
 use std::alloc::Global;
 use tds_packet::{Kind, PacketSize, Status, put_sent};
 
@@ -49,9 +50,12 @@ enum Layout {
     Narrow,
 }
 
-/// Appends the packet of an answer.
+/// Appends the packet of an answer. At want of memory nothing is appended.
 pub fn put_answer(alloc: Global, out: &mut Vec<u8>, answer: LoginAnswer) -> Result<(), NoMemory>
     ensures short { vec_len out.new ≤ vec_len out.old + 4096 }
+    ensures ok { OnOk result (out.new.items
+        ≡ out.old.items ++ spelled.answer_packet (spelled.data_of answer)) }
+    ensures err { OnErr result (out.new.items ≡ out.old.items) }
 {
     match answer {
         LoginAnswer::Prepare => put_packet(out, &PREPARED),
@@ -72,16 +76,23 @@ pub fn put_answer(alloc: Global, out: &mut Vec<u8>, answer: LoginAnswer) -> Resu
     }
 }
 
-/// Appends an answer of one ERROR with this number, and DONE. Of the text, in ASCII, 200 bytes count.
+/// Appends an answer of one ERROR with this number, and DONE. Of the text, in ASCII, 200 bytes count. At
+/// want of memory nothing is appended.
 pub fn put_error(alloc: Global, out: &mut Vec<u8>, number: u32, text: &[u8]) -> Result<(), NoMemory>
     ensures short { vec_len out.new ≤ vec_len out.old + 4096 }
+    ensures ok { OnOk result (out.new.items
+        ≡ out.old.items ++ spelled.answer_packet (spelled.refusal Layout.Wide number text.now)) }
+    ensures err { OnErr result (out.new.items ≡ out.old.items) }
 {
     put_error_as(alloc, out, Layout::Wide, number, text)
 }
 
-/// Appends an answer of DONE alone.
+/// Appends an answer of DONE alone. At want of memory nothing is appended.
 pub fn put_done(alloc: Global, out: &mut Vec<u8>) -> Result<(), NoMemory>
     ensures short { vec_len out.new ≤ vec_len out.old + 21 }
+    ensures ok { OnOk result (out.new.items
+        ≡ out.old.items ++ spelled.answer_packet (spelled.done Layout.Wide 0)) }
+    ensures err { OnErr result (out.new.items ≡ out.old.items) }
 {
     let mut data = Vec::new(alloc);
     put_done_token(&mut data, Layout::Wide, 0)?;
@@ -92,14 +103,24 @@ pub fn put_done(alloc: Global, out: &mut Vec<u8>) -> Result<(), NoMemory>
 fn put_packet(out: &mut Vec<u8>, data: &[u8]) -> Result<(), NoMemory>
     ensures short { vec_len out.new ≤ vec_len out.old + 4096 }
     ensures counted { vec_len out.new ≤ vec_len out.old + (8 + length «data».now) }
+    ensures ok { OnOk result (out.new.items ≡ out.old.items ++ spelled.answer_packet «data».now) }
+    ensures err { OnErr result (out.new.items ≡ out.old.items) }
 {
-    let data = &data[..data.len().min(4_088)];
-    put_sent(out, Kind::Answer, Status::of_answer(true), 1, data)
+    put_sent(
+        out,
+        Kind::Answer,
+        Status::of_answer(true),
+        1,
+        front(data, 4_088),
+    )
 }
 
 /// Appends the answer to a login that is let in: database, collation, LOGINACK, packet size, DONE.
 fn put_let_in(alloc: Global, out: &mut Vec<u8>, terms: Terms) -> Result<(), NoMemory>
     ensures short { vec_len out.new ≤ vec_len out.old + 4096 }
+    ensures ok { OnOk result (out.new.items
+        ≡ out.old.items ++ spelled.answer_packet (spelled.let_in terms)) }
+    ensures err { OnErr result (out.new.items ≡ out.old.items) }
 {
     let mut data = Vec::new(alloc);
     put_terms(alloc, &mut data, terms)?;
@@ -107,7 +128,9 @@ fn put_let_in(alloc: Global, out: &mut Vec<u8>, terms: Terms) -> Result<(), NoMe
 }
 
 /// Appends the tokens of that answer.
-fn put_terms(alloc: Global, data: &mut Vec<u8>, terms: Terms) -> Result<(), NoMemory> {
+fn put_terms(alloc: Global, data: &mut Vec<u8>, terms: Terms) -> Result<(), NoMemory>
+    ensures { OnOk result («data».new.items ≡ «data».old.items ++ spelled.let_in terms) }
+{
     put_env_change(alloc, data, 1, b"main", b"master")?;
     put_counted(data, 0xe3, &[7, 5, 0x09, 0x04, 0xd0, 0, 0x34, 0])?;
     put_acknowledgement(alloc, data, terms.version)?;
@@ -116,23 +139,28 @@ fn put_terms(alloc: Global, data: &mut Vec<u8>, terms: Terms) -> Result<(), NoMe
 }
 
 /// Appends ENVCHANGE of the packet size.
-fn put_size(alloc: Global, data: &mut Vec<u8>, size: PacketSize) -> Result<(), NoMemory> {
+fn put_size(alloc: Global, data: &mut Vec<u8>, size: PacketSize) -> Result<(), NoMemory>
+    ensures { OnOk result («data».new.items ≡ «data».old.items ++ spelled.size_change size) }
+{
     let digits = format!(in alloc; "{}", size.get())?;
     put_env_change(alloc, data, 4, digits.as_bytes(), b"4096")
 }
 
 /// Appends LOGINACK (MS-TDS 2.2.7.14).
-fn put_acknowledgement(alloc: Global, data: &mut Vec<u8>, version: u32) -> Result<(), NoMemory> {
+fn put_acknowledgement(alloc: Global, data: &mut Vec<u8>, version: u32) -> Result<(), NoMemory>
+    ensures { OnOk result («data».new.items ≡ «data».old.items ++ spelled.login_ack version) }
+{
     let mut body = Vec::new(alloc);
     put_acknowledged(&mut body, version)?;
     put_counted(data, 0xad, body.as_slice())
 }
 
 /// Appends what stands behind LOGINACK's count of bytes.
-fn put_acknowledged(body: &mut Vec<u8>, version: u32) -> Result<(), NoMemory> {
-    let mut bytes = [1, 0, 0, 0, 0];
-    BigEndian::write_u32(&mut bytes[1..], version);
-    body.extend_from_slice(&bytes)?;
+fn put_acknowledged(body: &mut Vec<u8>, version: u32) -> Result<(), NoMemory>
+    ensures { OnOk result (body.new.items ≡ body.old.items ++ spelled.acknowledged version) }
+{
+    body.push(1)?;
+    body.extend_from_slice(&version.to_be_bytes())?;
     put_text(body, NAME)?;
     body.extend_from_slice(&[11, 0, 0, 1])
 }
@@ -146,6 +174,9 @@ fn put_error_as(
     text: &[u8],
 ) -> Result<(), NoMemory>
     ensures short { vec_len out.new ≤ vec_len out.old + 4096 }
+    ensures ok { OnOk result (out.new.items
+        ≡ out.old.items ++ spelled.answer_packet (spelled.refusal layout number text.now)) }
+    ensures err { OnErr result (out.new.items ≡ out.old.items) }
 {
     let mut data = Vec::new(alloc);
     put_error_token(alloc, &mut data, layout, number, text)?;
@@ -160,7 +191,10 @@ fn put_error_token(
     layout: Layout,
     number: u32,
     text: &[u8],
-) -> Result<(), NoMemory> {
+) -> Result<(), NoMemory>
+    ensures { OnOk result («data».new.items
+        ≡ «data».old.items ++ spelled.error layout number text.now) }
+{
     let mut body = Vec::new(alloc);
     put_error_body(&mut body, layout, number, text)?;
     put_counted(data, 0xaa, body.as_slice())
@@ -172,18 +206,42 @@ fn put_error_body(
     layout: Layout,
     number: u32,
     text: &[u8],
-) -> Result<(), NoMemory> {
-    let text = &text[..text.len().min(200)];
+) -> Result<(), NoMemory>
+    ensures { OnOk result (body.new.items
+        ≡ body.old.items ++ spelled.error_body layout number (take 200 text.now)) }
+{
+    put_error_head(body, number)?;
+    put_long_text(body, front(text, 200))?;
+    put_place(body, layout)
+}
+
+/// Appends an error's number, its state, 1, and its class, 20.
+fn put_error_head(body: &mut Vec<u8>, number: u32) -> Result<(), NoMemory>
+    ensures { OnOk result (body.new.items ≡ body.old.items ++ spelled.error_head number) }
+{
     put_u32(body, number)?;
-    body.extend_from_slice(&[1, 20])?;
-    put_u16(body, text.len() as u16)?;
-    put_units(body, text)?;
+    body.extend_from_slice(&[1, 20])
+}
+
+/// Appends where an error occurred: on this server, in no procedure, in the first line.
+fn put_place(body: &mut Vec<u8>, layout: Layout) -> Result<(), NoMemory>
+    ensures { OnOk result (body.new.items ≡ body.old.items ++ spelled.place layout) }
+{
     put_text(body, NAME)?;
     put_text(body, b"")?;
     match layout {
         Layout::Wide => put_u32(body, 1),
         Layout::Narrow => put_u16(body, 1),
     }
+}
+
+/// As many bytes as these at most, the first ones.
+fn front(bytes: &[u8], most: usize) -> &[u8]
+    ensures front { result.now ≡ take most bytes.now }
+    ensures most { length result.now ≤ most }
+    ensures length { length result.now ≤ length bytes.now }
+{
+    &bytes[..most.min(bytes.len())]
 }
 
 /// Appends ENVCHANGE (MS-TDS 2.2.7.9) of this type, from one text to another.
@@ -193,7 +251,10 @@ fn put_env_change(
     kind: u8,
     new: &[u8],
     old: &[u8],
-) -> Result<(), NoMemory> {
+) -> Result<(), NoMemory>
+    ensures { OnOk result («data».new.items
+        ≡ «data».old.items ++ spelled.env_change kind new.now old.now) }
+{
     let mut body = Vec::new(alloc);
     body.push(kind)?;
     put_text(&mut body, new)?;
@@ -204,6 +265,7 @@ fn put_env_change(
 /// Appends DONE (MS-TDS 2.2.7.6) with this status.
 fn put_done_token(data: &mut Vec<u8>, layout: Layout, status: u8) -> Result<(), NoMemory>
     ensures short { vec_len «data».new ≤ vec_len «data».old + 13 }
+    ensures ok { OnOk result («data».new.items ≡ «data».old.items ++ spelled.done layout status) }
 {
     data.extend_from_slice(&[0xfd, status, 0, 0, 0])?;
     match layout {
@@ -213,37 +275,50 @@ fn put_done_token(data: &mut Vec<u8>, layout: Layout, status: u8) -> Result<(), 
 }
 
 /// Appends a token with the count of its bytes in front.
-fn put_counted(data: &mut Vec<u8>, kind: u8, body: &[u8]) -> Result<(), NoMemory> {
+fn put_counted(data: &mut Vec<u8>, kind: u8, body: &[u8]) -> Result<(), NoMemory>
+    ensures { OnOk result («data».new.items ≡ «data».old.items ++ spelled.counted kind body.now) }
+{
     data.push(kind)?;
-    put_u16(data, u16::try_from(body.len()).unwrap_or(0))?;
+    put_u16(data, (body.len() % 65_536) as u16)?;
     data.extend_from_slice(body)
 }
 
-/// Appends a text behind its count of units.
-fn put_text(data: &mut Vec<u8>, text: &[u8]) -> Result<(), NoMemory> {
-    data.push(u8::try_from(text.len()).unwrap_or(255))?;
+/// Appends a text behind its count of units, in one byte.
+fn put_text(data: &mut Vec<u8>, text: &[u8]) -> Result<(), NoMemory>
+    ensures { OnOk result («data».new.items ≡ «data».old.items ++ spelled.short_text text.now) }
+{
+    data.push((text.len() % 256) as u8)?;
+    put_units(data, text)
+}
+
+/// Appends a text behind its count of units, in two bytes.
+fn put_long_text(data: &mut Vec<u8>, text: &[u8]) -> Result<(), NoMemory>
+    ensures { OnOk result («data».new.items ≡ «data».old.items ++ spelled.long_text text.now) }
+{
+    put_u16(data, (text.len() % 65_536) as u16)?;
     put_units(data, text)
 }
 
 /// Appends a text of ASCII, each byte a unit.
-fn put_units(data: &mut Vec<u8>, text: &[u8]) -> Result<(), NoMemory> {
+fn put_units(data: &mut Vec<u8>, text: &[u8]) -> Result<(), NoMemory>
+    ensures { OnOk result («data».new.items ≡ «data».old.items ++ spelled.units_of text.now) }
+{
     for byte in text {
-        data.push(*byte)?;
-        data.push(0)?;
+        data.extend_from_slice(&[*byte, 0])?;
     }
     Ok(())
 }
 
 /// Appends two bytes, the lower one first.
-fn put_u16(data: &mut Vec<u8>, number: u16) -> Result<(), NoMemory> {
-    let mut bytes = [0u8; 2];
-    LittleEndian::write_u16(&mut bytes, number);
-    data.extend_from_slice(&bytes)
+fn put_u16(data: &mut Vec<u8>, number: u16) -> Result<(), NoMemory>
+    ensures { OnOk result («data».new.items ≡ «data».old.items ++ to_le_bytes w16 number) }
+{
+    data.extend_from_slice(&number.to_le_bytes())
 }
 
 /// Appends four bytes, the lowest one first.
-fn put_u32(data: &mut Vec<u8>, number: u32) -> Result<(), NoMemory> {
-    let mut bytes = [0u8; 4];
-    LittleEndian::write_u32(&mut bytes, number);
-    data.extend_from_slice(&bytes)
+fn put_u32(data: &mut Vec<u8>, number: u32) -> Result<(), NoMemory>
+    ensures { OnOk result («data».new.items ≡ «data».old.items ++ to_le_bytes w32 number) }
+{
+    data.extend_from_slice(&number.to_le_bytes())
 }
