@@ -47,7 +47,7 @@ holds_after link ToClient n (Some p) bytes h less long = record {
   to_client = less_came link.to_client n (length p.to_client.handed) p.to_client.came bytes h.to_client less long;
 }
 
-reads_same : {E S : Type 0} (link : Link E S) (d : Direction) (n : ℕ) → ((with_counted link d n).server_reader ≡ link.server_reader) × ((with_counted link d n).client_reader ≡ link.client_reader)
+pub reads_same : {E S : Type 0} (link : Link E S) (d : Direction) (n : ℕ) → ((with_counted link d n).server_reader ≡ link.server_reader) × ((with_counted link d n).client_reader ≡ link.client_reader)
 reads_same link ToServer n = (refl, refl)
 reads_same link ToClient n = (refl, refl)
 

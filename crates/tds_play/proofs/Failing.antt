@@ -187,6 +187,14 @@ pub brought_as : {E S : Type 0} (conn k : ℕ) (calls : List Call) (done : Event
 brought_as conn k calls done lost new mid after same ends fails =
     as_numbered k conn calls done new after same (ends (fails_numbered conn k calls lost mid (sym same) fails))
 
+-- What follows an event, under the number that the connection then had, lets no other call fail.
+pub settled_as : {E S : Type 0} (conn m : ℕ) (calls : List Call) (done : EventDone) (out new : Link E S) (mid last : ℕ → Option Pipe)
+    → m ≡ conn → (out.is_cut ≡ true → new.is_cut ≡ true) → FailsNoMore (mid m) (last m) → FailsAs calls done out (mid conn) → FailsAs calls done new (last conn)
+settled_as conn m calls done out new mid last same stays no_more fails = record {
+  failed = fails_no_more calls done.lost (mid conn) (last conn) (subst (λ (n : ℕ). FailsNoMore (mid n) (last n)) same no_more) fails.failed;
+  cut = λ lost. stays (fails.cut lost);
+}
+
 pub whole_ok : {E S B : Type 0} (calls : List Call) (r : Result EventDone B) (new : Link E S) (pipe : Option Pipe)
     → IfOk r (λ done. done.lost ≡ false) → HasNoFailure pipe → IfOk r (λ done. FailsAs calls done new pipe)
 whole_ok calls (Ok done) new pipe whole fine = whole_as calls done new pipe whole fine

@@ -14,6 +14,7 @@ pub mod Acting
 pub mod Losing
 pub mod Doing
 pub mod Carrying
+pub mod Tying
 pub mod Failing
 pub mod Accounts
 pub mod Marking

@@ -17,7 +17,7 @@ use Rattle.tds_world.specs.Entries.{down_bytes}
 use Rattle.tds_world.specs.Events.{work_outcome}
 use Rattle.tds_world.specs.Record.{ran_in, runs}
 use Rattle.tds_world.specs.Record as world
-use Rattle.tds_play.specs.Acts.{worked_as, worked_by}
+use Rattle.tds_play.specs.Acts.{current_behind, worked_as, worked_by}
 use Rattle.tds_ends.specs.Refines.{RefinesWork, worked_outcome}
 use Rattle.tds_ends.specs.Stands.{MatchesClient}
 use Rattle.tds_play.specs.Links.{stepped}
@@ -32,12 +32,6 @@ use Rattle.tds_play.proofs.Outward.{Handed, SentMore, replied_played}
 
 -- ---- What the server's work changes
 
--- The newest request behind it.
-abbrev current_behind : Worked → SessionState → SessionState → Option Record → Option Record
-current_behind server.Idle before after r = r
-current_behind server.Step before after r = option_map (stepped before after) r
-current_behind server.Finished before after r = option_map (stepped before after) r
-
 worked_is : {E S : Type 0} (b : Bool) (state : ServerState E) (link : Link E S) → worked_by (serving.worked_by b) state link ≡ record link { server = state; current = current_behind (serving.worked_by b) link.server.session state.session link.current }
 worked_is true state link = refl
 worked_is false state link = refl
@@ -45,6 +39,19 @@ worked_is false state link = refl
 link_by : {E S : Type 0} (p : Phase) (link : Link E S) → worked_as (works_in link.server p) link ≡ record link { server = (works_in link.server p).state; current = current_behind (works_in link.server p).answer link.server.session (works_in link.server p).state.session link.current }
 link_by (phase.Answering (s ∷ ss) id begun) link = worked_is s.last (works_in link.server (phase.Answering (s ∷ ss) id begun)).state link
 link_by p link = refl
+
+-- What a call left that did so.
+pub worked_so : {E S : Type 0} (link new : Link E S) (s : ServerState E) (a : Worked) (before : SessionState)
+    → s ≡ (worked link.server).state → a ≡ (worked link.server).answer → before ≡ link.server.session
+    → new ≡ record link { server = s; current = current_behind a before s.session link.current }
+    → new ≡ worked_as (worked link.server) link
+worked_so {E} {S} link new s a before server answer from is =
+    let w = worked link.server in
+    is
+    ∙ ap (λ (x : SessionState). record link { server = s; current = current_behind a x s.session link.current }) from
+    ∙ ap (λ (x : Worked). record link { server = s; current = current_behind x link.server.session s.session link.current }) answer
+    ∙ ap (λ (x : ServerState E). record link { server = x; current = current_behind w.answer link.server.session x.session link.current }) server
+    ∙ sym (link_by link.server.phase link)
 
 engine_by : {E : Type 0} (p : Phase) (s : ServerState E) → (works_in s p).state.engine ≡ s.engine
 engine_by (phase.Answering [] id begun) s = refl

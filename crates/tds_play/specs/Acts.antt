@@ -1,11 +1,12 @@
 -- What an end of a connection of a play does there, before its bytes are handed over.
-use Rattle.std.specs.Prelude.{Bool, true, false, option_map}
+use Rattle.std.specs.Prelude.{Bool, true, false, Option, option_map}
 use Rattle.tds_client.specs.declared.state.Cancelled.{Cancelled}
 use Rattle.tds_client.specs.declared.state.Cancelled.TheVariants as client
 use Rattle.tds_server.specs.declared.outcome.Worked.{Worked}
 use Rattle.tds_server.specs.declared.outcome.Worked.TheVariants as server
 use Rattle.tds_server.specs.State.{ServerState}
 use Rattle.tds_server.specs.Working.{Work}
+use Rattle.tds_session.specs.Session.{SessionState}
 use Rattle.tds_world.specs.declared.report.RequestStatus.{RequestStatus}
 use Rattle.tds_world.specs.declared.report.RequestStatus.TheVariants as status
 use Rattle.tds_play.specs.declared.link.Link.{Link}
@@ -37,6 +38,12 @@ cancelled_as client.Asked link =
     record link { current = option_map (with_status status.Cancelling) link.current }
 
 -- ---- Working
+
+-- The newest request behind a step from the one session to the other, if one was done.
+abbrev pub current_behind : Worked → SessionState → SessionState → Option Record → Option Record
+current_behind server.Idle before after r = r
+current_behind server.Step before after r = option_map (stepped before after) r
+current_behind server.Finished before after r = option_map (stepped before after) r
 
 -- A step was done, or none was due.
 abbrev pub worked_by : {E S : Type 0} → Worked → ServerState E → Link E S → Link E S

@@ -4,18 +4,24 @@ use Rattle.std.specs.Prelude.{flat_map}
 use Rattle.std.specs.Prelude.{Err, IfOk, Ok, OnErr, Result, nat_le}
 use Rattle.tds_client.specs.declared.fault.ClientRefusal.{ClientRefusal}
 use Rattle.tds_client.specs.declared.state.Cancelled.{Cancelled}
+use Rattle.tds_client.specs.declared.state.Cancelled.TheVariants as client
 use Rattle.tds_client.specs.declared.state.Sent.{Sent}
 use Rattle.tds_client.specs.Sending.{Does, Effect, cancelled, cancelled_in, cancelled_sending, room, sent, sent_in, sent_of}
 use Rattle.tds_client.specs.Session.{ClientSession, Stage, Idle, Sending, Reading, Cancelling, Broken}
 use Rattle.tds_packet.specs.declared.kind.Kind.{Kind}
 use Rattle.tds_world.specs.declared.report.RequestStatus.{RequestStatus}
-use Rattle.tds_play.specs.Acts.{with_status}
+use Rattle.tds_world.specs.declared.report.RequestStatus.TheVariants as status
+use Rattle.tds_server.specs.State.{ServerState}
+use Rattle.tds_server.specs.declared.outcome.Worked.{Worked}
+use Rattle.tds_server.specs.declared.outcome.Worked.TheVariants as server
+use Rattle.tds_session.specs.Session.{SessionState}
+use Rattle.tds_play.specs.Acts.{cancelled_as, current_behind, with_status}
 use Rattle.tds_packet.specs.declared.kind.Direction.{Direction}
 use Rattle.tds_packet.specs.declared.kind.Direction.TheVariants.{ToServer, ToClient}
 use Rattle.tds_packet.specs.Reading as reader
 use Rattle.tds_token.specs.declared.token.Token.{Token}
 use Rattle.tds_ends.specs.AllBytes.{AreToldBy, AreWhole, ClientHasRead, HasRead, ServerHasRead, new_reader}
-use Rattle.tds_play.specs.Links.{IsNewLink, behind, cut_of, lost_record, recounted}
+use Rattle.tds_play.specs.Links.{IsNewLink, behind, cut_of, lost_record, recounted, stepped}
 use Rattle.tds_play.specs.Listening.{told_in}
 use Rattle.tds_play.specs.Ties.{counted, with_counted}
 use Rattle.tds_play.specs.Pipe.{Brings, Pipe, IsOpen, carried_on, cut_pipe, new_pipe, sent_on, stuck_on, traffic}
@@ -210,15 +216,40 @@ pub cancelling_columns : (s new : ClientSession) (result : Result Cancelled Clie
 cancelling_columns s new (Ok answer) before after does same = cancelled_in_columns s s.stage (record { answer = answer; session = new; bytes = does.0 }) does.1
 cancelling_columns s new (Err refusal) before after does same = ap (λ (x : ClientSession). x.columns) same
 
-pub newest_stays : {E S : Type 0} (link : Link E S) (r new : Record) (status : RequestStatus) (pipe : Option Pipe) → link.current ≡ Some r → new ≡ with_status status r
-    → ReadsNoMore link (record link { current = Some new }) pipe pipe
-newest_stays link r new status pipe is settled = record {
+-- The newest request has another status, or ran.
+alike_stays : {E S : Type 0} (link : Link E S) (s : ServerState E) (q : Option Record) (pipe : Option Pipe) → told_in q ≡ told_in link.current → ReadsNoMore link (record link { server = s; current = q }) pipe pipe
+alike_stays link s q pipe same = record {
   came = λ d. refl;
   server_reader = refl;
   client_reader = refl;
-  given = ap (λ (ts : List Token). flat_map tokens_of link.past.items ++ ts) (ap (λ (x : Record). x.tokens.items) settled ∙ sym (ap told_in is));
+  given = ap (λ (ts : List Token). flat_map tokens_of link.past.items ++ ts) same;
   live = λ l. l;
 }
+
+status_told : (status : RequestStatus) (r : Option Record) → told_in (option_map (with_status status) r) ≡ told_in r
+status_told status None = refl
+status_told status (Some r) = refl
+
+stepped_told : (before after : SessionState) (r : Option Record) → told_in (option_map (stepped before after) r) ≡ told_in r
+stepped_told before after None = refl
+stepped_told before after (Some r) = refl
+
+behind_told : (a : Worked) (before after : SessionState) (r : Option Record) → told_in (current_behind a before after r) ≡ told_in r
+behind_told server.Idle before after r = refl
+behind_told server.Step before after r = stepped_told before after r
+behind_told server.Finished before after r = stepped_told before after r
+
+cancels_still : {E S : Type 0} (a : Cancelled) (link : Link E S) (pipe : Option Pipe) → ReadsNoMore link (cancelled_as a link) pipe pipe
+cancels_still client.Nothing link pipe = stays link pipe
+cancels_still client.Already link pipe = stays link pipe
+cancels_still client.Unsent link pipe = alike_stays link link.server _ pipe (status_told status.Unsent link.current)
+cancels_still client.Asked link pipe = alike_stays link link.server _ pipe (status_told status.Cancelling link.current)
+
+pub cancelled_stays : {E S : Type 0} (a : Cancelled) (link new : Link E S) (pipe : Option Pipe) → new ≡ cancelled_as a link → ReadsNoMore link new pipe pipe
+cancelled_stays {E} {S} a link new pipe is = subst (λ (l : Link E S). ReadsNoMore link l pipe pipe) (sym is) (cancels_still a link pipe)
+
+pub worked_stays : {E S : Type 0} (a : Worked) (before after : SessionState) (link new : Link E S) (s : ServerState E) (pipe : Option Pipe) → new ≡ record link { server = s; current = current_behind a before after link.current } → ReadsNoMore link new pipe pipe
+worked_stays {E} {S} a before after link new s pipe is = subst (λ (l : Link E S). ReadsNoMore link l pipe pipe) (sym is) (alike_stays link s _ pipe (behind_told a before after link.current))
 
 -- ---- The requests before the newest one
 

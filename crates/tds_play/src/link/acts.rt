@@ -3,7 +3,7 @@ ghost use Rattle.std.specs.Prelude.{[], ◌∷◌, ◌≡◌, ◌≤◌, ◌-◌
 ghost use Rattle.tds_packet.specs.declared.kind.Direction.TheVariants.{ToClient, ToServer};
 ghost use Rattle.tds_play.specs.Failures.{FailsAs, HasNoFailure, Send, calls_of};
 ghost use Rattle.tds_play.specs.Links.{recounted};
-ghost use Rattle.tds_play.specs.Acts.{unless_lost, worked_as};
+ghost use Rattle.tds_play.specs.Acts.{current_behind, unless_lost, worked_as};
 ghost use Rattle.tds_ends.specs.Refines.{worked_outcome};
 ghost use Rattle.tds_play.specs.Plays.{RefinesAct, RepresentsConnection, MayLose, acts_on, after, loss_of, on_cut, outcome_of};
 ghost use Rattle.tds_ends.specs.ModelGives.{IsCountable, ModelGives};
@@ -35,7 +35,7 @@ use tds_client::Client;
 use tds_ends::laws::{asks_alike, idle_alike, sends_append, the_other_stays, works_alike};
 use tds_packet::Direction;
 use tds_server::Worked;
-use tds_session::Engine;
+use tds_session::{Engine, Session};
 use tds_world::{AbandonOutcome, Event, GiveBackOutcome, Outcome, Refusal, WorkOutcome};
 
 /// An event that doesn't apply.
@@ -76,6 +76,17 @@ pub(crate) fn on_cut(event: &Event) -> EventDone
         | Event::Cancel(_)
         | Event::RestartServer
         | Event::RestartClient => refused(Refusal::ConnectionCut),
+    }
+}
+
+/// What a server's work comes to.
+fn as_outcome(worked: Worked) -> WorkOutcome
+    ensures { result ≡ worked_outcome worked }
+{
+    match worked {
+        Worked::Idle => WorkOutcome::Idle,
+        Worked::Step => WorkOutcome::Step,
+        Worked::Finished => WorkOutcome::Finished,
     }
 }
 
@@ -163,16 +174,27 @@ impl<E: Engine + Drop> Link<E> {
             → OnOk result (ReadsNoMore self.old self.new pipe pipe) }
     {
         let before = *self.server.session();
-        let outcome = match self.server.work(out)? {
-            Worked::Idle => return Ok(WorkOutcome::Idle),
-            Worked::Step => WorkOutcome::Step,
-            Worked::Finished => WorkOutcome::Finished,
-        };
-        let after = *self.server.session();
-        if let Some(record) = &mut self.current {
-            record.note_step(before, after);
+        let worked = self.server.work(out)?;
+        self.note_step(worked, before);
+        Ok(as_outcome(worked))
+    }
+
+    /// The newest request's record of a step from this session to the server's, if one was done.
+    fn note_step(&mut self, worked: Worked, before: Session)
+        ensures { self.new ≡ record self.old {
+          current = current_behind worked before
+              self.old.server.session self.old.current;
+        } }
+    {
+        match worked {
+            Worked::Idle => {}
+            Worked::Step | Worked::Finished => {
+                let after = *self.server.session();
+                if let Some(record) = &mut self.current {
+                    record.note_step(before, after);
+                }
+            }
         }
-        Ok(outcome)
     }
 
     /// The server does the next step of the answer that is due.

@@ -56,6 +56,33 @@ fn put_next(client: &mut Client, out: &mut Vec<u8>) -> Result<Option<SendOutcome
     }
 }
 
+/// The client appends what goes out for a cancel.
+fn put_cancel(client: &mut Client, out: &mut Vec<u8>) -> Result<Cancelled, NoMemory>
+    ensures cancelled { IfOk (cancelled client.old) (λ e. IfOk result (λ answer.
+        (answer ≡ e.answer) × (client.new ≡ e.session)
+        × (out.new.items ≡ out.old.items ++ e.bytes))) }
+    ensures columns { client.new.columns ≡ client.old.columns }
+{
+    match client.cancel(out) {
+        Ok(cancelled) => Ok(cancelled),
+        Err(ClientRefusal::Memory) => Err(AllocError),
+        // A connection whose client broke is cut, so this does not come.
+        Err(_) => Ok(Cancelled::Nothing),
+    }
+}
+
+/// What a cancel comes to.
+fn as_outcome(cancelled: Cancelled) -> CancelOutcome
+    ensures { result ≡ cancel_outcome cancelled }
+{
+    match cancelled {
+        Cancelled::Nothing => CancelOutcome::Nothing,
+        Cancelled::Already => CancelOutcome::Already,
+        Cancelled::Unsent => CancelOutcome::Unsent,
+        Cancelled::Asked => CancelOutcome::Asked,
+    }
+}
+
 impl<E: Engine + Drop> Link<E> {
     /// A request is asked. None of it goes out yet.
     pub(super) fn ask(
@@ -170,19 +197,23 @@ impl<E: Engine + Drop> Link<E> {
             × (self.new ≡ cancelled_as e.answer self.old)
             × (out.new.items ≡ out.old.items ++ e.bytes))) }
     {
-        let (outcome, is_out) = match client.cancel(out) {
-            Ok(Cancelled::Nothing) => return Ok(CancelOutcome::Nothing),
-            Ok(Cancelled::Already) => return Ok(CancelOutcome::Already),
-            Ok(Cancelled::Unsent) => (CancelOutcome::Unsent, false),
-            Ok(Cancelled::Asked) => (CancelOutcome::Asked, true),
-            Err(ClientRefusal::Memory) => return Err(AllocError),
-            // A connection whose client broke is cut, so this does not come.
-            Err(_) => return Ok(CancelOutcome::Nothing),
+        let cancelled = put_cancel(client, out)?;
+        self.note_cancel(cancelled);
+        Ok(as_outcome(cancelled))
+    }
+
+    /// The newest request is never sent, or its attention is out.
+    fn note_cancel(&mut self, cancelled: Cancelled)
+        ensures { self.new ≡ cancelled_as cancelled self.old }
+    {
+        let is_out = match cancelled {
+            Cancelled::Nothing | Cancelled::Already => return,
+            Cancelled::Unsent => false,
+            Cancelled::Asked => true,
         };
         if let Some(record) = &mut self.current {
             record.cancel(is_out);
         }
-        Ok(outcome)
     }
 
     /// The request underway is cancelled.

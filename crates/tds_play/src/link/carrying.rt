@@ -1,9 +1,9 @@
 //! What goes to the carrier and what comes from it, on a connection, and how an event ends there.
-ghost use Rattle.std.specs.Prelude.{◌≡◌, ◌≢◌, ◌≤◌, ◌+◌, ◌-◌, ◌++◌, ◌||◌, ◌∷◌, ℕ, Bool, List, [], length, true, false, if◌then◌else◌, Ok, IfOk, OnOk};
+ghost use Rattle.std.specs.Prelude.{◌≡◌, ◌≢◌, ◌<◌, ◌≤◌, ◌+◌, ◌-◌, ◌++◌, ◌||◌, ◌∷◌, ℕ, Bool, List, [], length, true, false, if◌then◌else◌, Ok, IfOk, OnOk};
 ghost use Rattle.tds_packet.specs.declared.kind.Direction.TheVariants.{ToServer, ToClient};
 ghost use Rattle.tds_play.specs.Failures.{Call, Carry, Fails, FailsAs, FailsNoMore, HasNoFailure, Send};
 ghost use Rattle.tds_play.specs.Links.{cut_of, recounted};
-ghost use Rattle.tds_play.specs.Pipe.{Brings, IsUncut, cut_pipe, sent_on};
+ghost use Rattle.tds_play.specs.Pipe.{Brings, Changes, IsOpen, IsUncut, cut_pipe, sent_on};
 ghost use Rattle.tds_play.specs.Plays.{RepresentsConnection, cut_where};
 ghost use Rattle.tds_play.specs.Reads.{BringsAny, ReadsNoMore};
 ghost use Rattle.tds_play.specs.Seen.{outcome_of};
@@ -26,6 +26,26 @@ pub(super) struct Carried {
     pub(super) count: u32,
     /// Whether it failed then.
     pub(super) lost: bool,
+}
+
+/// Hands bytes over, at least one. It answers whether the carrier failed.
+fn hand_bytes<C: Carrier>(
+    carrier: &mut C,
+    number: u32,
+    direction: Direction,
+    bytes: &[u8],
+) -> Result<bool, NoMemory>
+    requires some { 0 < length bytes.now }
+    requires there { IsOpen (C.pipes carrier.old number) }
+    ensures handed { IfOk result (λ lost. Changes (C.pipes carrier.old) (C.pipes carrier.new) number
+        (sent_on (C.pipes carrier.old number) direction bytes.now (if lost then 1 else 0))) }
+    ensures tells { OnOk result (C.tells carrier.old → C.tells carrier.new) }
+{
+    match carrier.send(number, direction, bytes) {
+        Ok(()) => Ok(false),
+        Err(CarrierError::Lost) => Ok(true),
+        Err(CarrierError::Memory) => Err(AllocError),
+    }
 }
 
 impl<E: Engine + Drop> Link<E> {
@@ -62,17 +82,20 @@ impl<E: Engine + Drop> Link<E> {
         if bytes.is_empty() {
             return Ok(false);
         }
-        let lost = match carrier.send(self.number, direction, bytes) {
-            Ok(()) => false,
-            Err(CarrierError::Lost) => true,
-            Err(CarrierError::Memory) => return Err(AllocError),
-        };
-        let count = bytes.len() as u64;
+        let lost = hand_bytes(carrier, self.number, direction, bytes)?;
+        self.went(direction, bytes.len() as u64);
+        Ok(lost)
+    }
+
+    /// So many bytes more are underway.
+    fn went(&mut self, direction: Direction, count: u64)
+        ensures { self.new ≡ with_counted self.old direction
+            (saturated (counted self.old direction + count)) }
+    {
         match direction {
             Direction::ToServer => self.to_server = self.to_server.saturating_add(count),
             Direction::ToClient => self.to_client = self.to_client.saturating_add(count),
         }
-        Ok(lost)
     }
 
     /// So many of the bytes underway have come.

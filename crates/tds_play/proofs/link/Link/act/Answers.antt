@@ -10,6 +10,7 @@ use Rattle.tds_play.proofs.Listening.{if_ok}
 use Rattle.tds_play.specs.Failures.{calls_of}
 use Rattle.tds_play.proofs.Failing.{whole_as}
 use Rattle.tds_play.proofs.Failing as failing
+use Rattle.tds_play.proofs.Tying.{may_lose, whole_loses}
 use Rattle.tds_world.specs.declared.event.Event.{Event}
 use Rattle.tds_play.specs.Reads.{delivers}
 use Rattle.tds_play.proofs.any_bytes.Brought.{still_ok, still_on}
@@ -108,3 +109,21 @@ returns-in-Cut-clause-reads g c = λ size reads.
     let conn : ℕ = c.args.self.now.number in
     still_on size c.args.event.now c.done.result.outcome c.args.self.now c.cut.new.self c.args.client.now.columns c.args.client.now.columns (g.C.Carrier.pipes c.args.carrier.now conn) (g.C.Carrier.pipes c.cut.new.carrier conn)
     (λ d. ap (λ (e : Event). delivers e d) c.in-Cut.is) reads c.cut.ensures.still refl
+
+pub returns-in-Ask-clause-loses : goal.returns-in-Ask-clause-loses
+returns-in-Ask-clause-loses g c = whole_loses c.ask.result c.args.event.now c.ask.ensures.whole
+
+pub returns-in-Send-clause-loses : goal.returns-in-Send-clause-loses
+returns-in-Send-clause-loses g c = may_lose c.send.result c.args.event.now _ c.in-Send.is tt
+
+pub returns-in-Cancel-clause-loses : goal.returns-in-Cancel-clause-loses
+returns-in-Cancel-clause-loses g c = may_lose c.cancel.result c.args.event.now _ c.in-Cancel.is tt
+
+pub returns-in-Work-clause-loses : goal.returns-in-Work-clause-loses
+returns-in-Work-clause-loses g c = may_lose c.work.result c.args.event.now _ c.in-Work.is tt
+
+pub returns-in-ToServer-clause-loses : goal.returns-in-ToServer-clause-loses
+returns-in-ToServer-clause-loses g c = may_lose c.deliver_to_server.result c.args.event.now _ c.in-ToServer.is tt
+
+pub returns-in-ToClient-clause-loses : goal.returns-in-ToClient-clause-loses
+returns-in-ToClient-clause-loses g c = may_lose c.deliver_to_client.result c.args.event.now _ c.in-ToClient.is tt

@@ -12,6 +12,8 @@ use Rattle.tds_play.proofs.Outward.{given}
 use Rattle.tds_play.specs.Failures.{Send}
 use Rattle.tds_packet.specs.declared.kind.Direction.TheVariants.{ToServer}
 use Rattle.tds_play.proofs.Failing.{sent_as}
+use Rattle.tds_play.specs.Acts.{cancelled_as}
+use Rattle.tds_play.proofs.Tying.{ended_link, if_told, ties_handed}
 use Rattle.tds_play.proofs.any_bytes.Stays.{stays_handed}
 use Rattle.tds_play.proofs.link.Link.cancel.Goals as goal
 
@@ -46,3 +48,27 @@ returns-clause-still g c =
     stays_handed c.args.self.now.number c.cancel_request.new.self.number c.hand_over.new.self.number c.args.self.now c.cancel_request.new.self c.hand_over.new.self c.end.new.self
     (g.C.Carrier.pipes c.args.carrier.now) (g.C.Carrier.pipes c.hand_over.new.carrier) (g.C.Carrier.pipes c.end.new.carrier)
     c.in_ok-cancelled.ensures.number out.number (c.in_ok-cancelled.ensures.still _) out.still c.end.ensures.still
+
+pub returns-clause-number : goal.returns-clause-number
+returns-clause-number g c = c.end.ensures.number ∙ c.in_ok-lost.ensures.number ∙ c.in_ok-cancelled.ensures.number
+
+pub returns-clause-columns : goal.returns-clause-columns
+returns-clause-columns g c = c.in_ok-cancelled.ensures.columns
+
+pub returns-clause-ties : goal.returns-clause-ties
+returns-clause-ties g c =
+    let out = c.in_ok-lost.ensures in
+    ties_handed c.args.self.now.number c.cancel_request.new.self.number c.hand_over.new.self.number c.hand_over.new.self c.end.new.self
+    (g.C.Carrier.pipes c.args.carrier.now) (g.C.Carrier.pipes c.hand_over.new.carrier) (g.C.Carrier.pipes c.end.new.carrier)
+    (g.C.Carrier.tells c.args.carrier.now) (g.C.Carrier.tells c.hand_over.new.carrier) (g.C.Carrier.tells c.end.new.carrier)
+    c.in_ok-cancelled.ensures.number out.number out.ties c.end.ensures.ties
+
+pub returns-clause-cancelled : goal.returns-clause-cancelled
+returns-clause-cancelled g c =
+    if_told (client.cancelled c.args.client.now) _ _
+    (λ e h. (
+      ap (λ d. d.outcome) c.end.ensures.done ∙ ap outcome.Cancel h.0,
+      h.1,
+      ended_link c.end.result.lost c.in_ok-lost.lost c.cancel_request.new.self c.hand_over.new.self c.end.new.self (cancelled_as e.answer c.args.self.now)
+          (ap (λ d. d.lost) c.end.ensures.done) c.end.ensures.value c.in_ok-lost.ensures.rest h.2,
+    )) c.in_ok-cancelled.ensures.cancelled

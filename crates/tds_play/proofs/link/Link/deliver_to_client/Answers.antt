@@ -15,6 +15,8 @@ use Rattle.tds_play.specs.declared.link.EventDone.{EventDone}
 use Rattle.tds_play.specs.Reads.{ClientIsFed, given_by}
 use Rattle.tds_play.proofs.any_bytes.Brought.{faulty_heard, heard_reads}
 use Rattle.tds_play.specs.Seats.{drained, seated}
+use Rattle.tds_play.specs.Ties.{IsTied}
+use Rattle.tds_play.proofs.Tying.{ties_handed}
 use Rattle.tds_play.proofs.any_bytes.Stays.{stays_numbered}
 use Rattle.tds_play.proofs.link.Link.deliver_to_client.Goals as goal
 
@@ -110,3 +112,35 @@ returns-in-Some-clause-reads g c = λ size n reads.
     let ended = stays_numbered c.hear.new.self.number conn c.hear.new.self c.end_by_fault.new.self (g.C.Carrier.pipes c.carry.new.carrier) (g.C.Carrier.pipes c.end_by_fault.new.carrier) (c.in_ok-heard.ensures.number ∙ c.in_ok-carried.ensures.number) c.end_by_fault.ensures.still in
     faulty_heard size n c.args.most c.in_ok-carried.carried.count c.args.self.now c.hear.new.self c.end_by_fault.new.self c.args.client.now.columns c.hear.new.client.columns pipe mid (g.C.Carrier.pipes c.end_by_fault.new.carrier conn) c.new-piece.result.items c.carry.new.out.items c.as_slice.result.now c.end_by_fault.result.outcome c.in-Some.fault
     reads b piece fed.0 fed.1 ended (ap (λ l. l.is_cut) c.end_by_fault.ensures.value) (ap (λ (d : EventDone). d.outcome) c.end_by_fault.ensures.done)
+
+-- ---- What stays tied
+
+pub end_by_fault-requires-clause-tied : goal.end_by_fault-requires-clause-tied
+end_by_fault-requires-clause-tied g c =
+    let here = c.in_ok-heard.ensures.number ∙ c.in_ok-carried.ensures.number in
+    c.in_ok-heard.ensures.tied _ (subst (λ (n : ℕ). IsTied c.carry.new.self (g.C.Carrier.pipes c.carry.new.carrier n)) (sym here) c.in_ok-carried.ensures.ties.tied)
+
+pub end-requires-clause-tied : goal.end-requires-clause-tied
+end-requires-clause-tied g c =
+    let here = c.in_ok-heard.ensures.number ∙ c.in_ok-carried.ensures.number in
+    c.in_ok-heard.ensures.tied _ (subst (λ (n : ℕ). IsTied c.carry.new.self (g.C.Carrier.pipes c.carry.new.carrier n)) (sym here) c.in_ok-carried.ensures.ties.tied)
+
+pub returns-in-Some-clause-number : goal.returns-in-Some-clause-number
+returns-in-Some-clause-number g c = c.end_by_fault.ensures.number ∙ c.in_ok-heard.ensures.number ∙ c.in_ok-carried.ensures.number
+
+pub returns-in-Some-clause-ties : goal.returns-in-Some-clause-ties
+returns-in-Some-clause-ties g c =
+    ties_handed c.args.self.now.number c.args.self.now.number c.hear.new.self.number c.carry.new.self c.end_by_fault.new.self
+    (g.C.Carrier.pipes c.args.carrier.now) (g.C.Carrier.pipes c.carry.new.carrier) (g.C.Carrier.pipes c.end_by_fault.new.carrier)
+    (g.C.Carrier.tells c.args.carrier.now) (g.C.Carrier.tells c.carry.new.carrier) (g.C.Carrier.tells c.end_by_fault.new.carrier)
+    refl (c.in_ok-heard.ensures.number ∙ c.in_ok-carried.ensures.number) c.in_ok-carried.ensures.ties c.end_by_fault.ensures.ties
+
+pub returns-clause-number : goal.returns-clause-number
+returns-clause-number g c = c.end.ensures.number ∙ c.in_ok-heard.ensures.number ∙ c.in_ok-carried.ensures.number
+
+pub returns-clause-ties : goal.returns-clause-ties
+returns-clause-ties g c =
+    ties_handed c.args.self.now.number c.args.self.now.number c.hear.new.self.number c.carry.new.self c.end.new.self
+    (g.C.Carrier.pipes c.args.carrier.now) (g.C.Carrier.pipes c.carry.new.carrier) (g.C.Carrier.pipes c.end.new.carrier)
+    (g.C.Carrier.tells c.args.carrier.now) (g.C.Carrier.tells c.carry.new.carrier) (g.C.Carrier.tells c.end.new.carrier)
+    refl (c.in_ok-heard.ensures.number ∙ c.in_ok-carried.ensures.number) c.in_ok-carried.ensures.ties c.end.ensures.ties

@@ -19,6 +19,8 @@ use Rattle.tds_ends.specs.AllBytes.{ServerHasRead, new_reader}
 use Rattle.tds_play.specs.declared.link.EventDone.{EventDone}
 use Rattle.tds_play.specs.Reads.{ServerIsFed, given_by}
 use Rattle.tds_play.proofs.any_bytes.Brought.{faulty_served, fed_so, served_reads}
+use Rattle.tds_play.specs.Ties.{IsTied}
+use Rattle.tds_play.proofs.Tying.{retied_reader, ties_handed}
 use Rattle.tds_play.proofs.any_bytes.Stays.{stays, stays_handed, stays_numbered}
 use Rattle.tds_play.proofs.link.Link.deliver_to_server.Goals as goal
 
@@ -159,3 +161,48 @@ returns-clause-reads g c = λ size n columns reads.
     let ended = stays_numbered c.carry.new.self.number conn turned c.end_by_fault.new.self (g.C.Carrier.pipes c.carry.new.carrier) (g.C.Carrier.pipes c.end_by_fault.new.carrier) number c.end_by_fault.ensures.still in
     faulty_served size n c.args.most c.in_ok-carried.carried.count c.args.self.now turned c.end_by_fault.new.self columns pipe mid (g.C.Carrier.pipes c.end_by_fault.new.carrier conn) c.new-piece.result.items c.carry.new.out.items c.as_slice-piece.result.now c.end_by_fault.result.outcome c.in-Some.fault
     reads b piece (ap given_by counted) fed ended (ap (λ l. l.is_cut) c.end_by_fault.ensures.value) (ap (λ (d : EventDone). d.outcome) c.end_by_fault.ensures.done)
+
+-- ---- What stays tied
+
+pub hand_over-requires-clause-tied : goal.hand_over-requires-clause-tied
+hand_over-requires-clause-tied g c =
+    retied_reader c.carry.new.self c.feed_server.new.server c.feed_server.new.reader c.args.self.now.number (g.C.Carrier.pipes c.carry.new.carrier)
+    c.in_ok-carried.ensures.number c.feed_server.ensures.reads c.in_ok-carried.ensures.ties.tied
+
+pub end_by_fault-requires-clause-tied : goal.end_by_fault-requires-clause-tied
+end_by_fault-requires-clause-tied g c =
+    retied_reader c.carry.new.self c.feed_server.new.server c.feed_server.new.reader c.args.self.now.number (g.C.Carrier.pipes c.carry.new.carrier)
+    c.in_ok-carried.ensures.number c.feed_server.ensures.reads c.in_ok-carried.ensures.ties.tied
+
+pub end-requires-clause-tied : goal.end-requires-clause-tied
+end-requires-clause-tied g c =
+    let out = c.in_ok-lost-in-None.ensures in
+    subst (λ (n : ℕ). IsTied c.hand_over.new.self (g.C.Carrier.pipes c.hand_over.new.carrier n)) (sym out.number) out.ties.tied
+
+pub returns-clause-number : goal.returns-clause-number
+returns-clause-number g c = c.end_by_fault.ensures.number ∙ c.in_ok-carried.ensures.number
+
+pub returns-clause-ties : goal.returns-clause-ties
+returns-clause-ties g c =
+    ties_handed c.args.self.now.number c.args.self.now.number c.carry.new.self.number c.carry.new.self c.end_by_fault.new.self
+    (g.C.Carrier.pipes c.args.carrier.now) (g.C.Carrier.pipes c.carry.new.carrier) (g.C.Carrier.pipes c.end_by_fault.new.carrier)
+    (g.C.Carrier.tells c.args.carrier.now) (g.C.Carrier.tells c.carry.new.carrier) (g.C.Carrier.tells c.end_by_fault.new.carrier)
+    refl c.in_ok-carried.ensures.number c.in_ok-carried.ensures.ties c.end_by_fault.ensures.ties
+
+pub returns-in-None-clause-number : goal.returns-in-None-clause-number
+returns-in-None-clause-number g c = c.end.ensures.number ∙ c.in_ok-lost-in-None.ensures.number ∙ c.in_ok-carried.ensures.number
+
+pub returns-in-None-clause-ties : goal.returns-in-None-clause-ties
+returns-in-None-clause-ties g c =
+    let conn : ℕ = c.args.self.now.number in
+    let here = c.in_ok-carried.ensures.number in
+    let out = c.in_ok-lost-in-None.ensures in
+    ties_handed conn conn c.hand_over.new.self.number c.hand_over.new.self c.end.new.self
+    (g.C.Carrier.pipes c.args.carrier.now) (g.C.Carrier.pipes c.hand_over.new.carrier) (g.C.Carrier.pipes c.end.new.carrier)
+    (g.C.Carrier.tells c.args.carrier.now) (g.C.Carrier.tells c.hand_over.new.carrier) (g.C.Carrier.tells c.end.new.carrier)
+    refl (out.number ∙ here)
+    (ties_handed conn conn c.carry.new.self.number c.carry.new.self c.hand_over.new.self
+    (g.C.Carrier.pipes c.args.carrier.now) (g.C.Carrier.pipes c.carry.new.carrier) (g.C.Carrier.pipes c.hand_over.new.carrier)
+    (g.C.Carrier.tells c.args.carrier.now) (g.C.Carrier.tells c.carry.new.carrier) (g.C.Carrier.tells c.hand_over.new.carrier)
+    refl here c.in_ok-carried.ensures.ties out.ties)
+    c.end.ensures.ties

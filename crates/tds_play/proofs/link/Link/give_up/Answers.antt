@@ -14,6 +14,7 @@ use Rattle.tds_play.proofs.Outward.{given}
 use Rattle.tds_play.specs.Failures.{Send}
 use Rattle.tds_packet.specs.declared.kind.Direction.TheVariants.{ToServer}
 use Rattle.tds_play.proofs.Failing.{sent_so}
+use Rattle.tds_play.proofs.Tying.{if_told, ties_numbered}
 use Rattle.tds_play.proofs.any_bytes.Stays.{stays_numbered, stays_twice}
 use Rattle.tds_play.proofs.link.Link.give_up.Goals as goal
 
@@ -53,3 +54,18 @@ returns-clause-still g c =
     let put = c.in_ok-cancel_request.ensures in
     let handed = stays_numbered c.cancel_request.new.self.number conn c.cancel_request.new.self c.hand_over.new.self (g.C.Carrier.pipes c.args.carrier.now) (g.C.Carrier.pipes c.hand_over.new.carrier) put.number c.in_ok-lost.ensures.still in
     stays_twice c.args.self.now c.cancel_request.new.self c.hand_over.new.self pipe pipe (g.C.Carrier.pipes c.hand_over.new.carrier conn) (put.still pipe) handed
+
+pub returns-clause-number : goal.returns-clause-number
+returns-clause-number g c = c.in_ok-lost.ensures.number ∙ c.in_ok-cancel_request.ensures.number
+
+pub returns-clause-columns : goal.returns-clause-columns
+returns-clause-columns g c = c.in_ok-cancel_request.ensures.columns
+
+pub returns-clause-ties : goal.returns-clause-ties
+returns-clause-ties g c =
+    ties_numbered c.args.self.now.number c.cancel_request.new.self.number c.hand_over.new.self
+    (g.C.Carrier.pipes c.args.carrier.now) (g.C.Carrier.pipes c.hand_over.new.carrier) (g.C.Carrier.tells c.args.carrier.now) (g.C.Carrier.tells c.hand_over.new.carrier)
+    c.in_ok-cancel_request.ensures.number c.in_ok-lost.ensures.ties
+
+pub returns-clause-session : goal.returns-clause-session
+returns-clause-session g c = if_told (client.cancelled c.args.client.now) _ _ (λ e h. h.1) c.in_ok-cancel_request.ensures.cancelled

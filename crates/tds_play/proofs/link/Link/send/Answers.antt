@@ -13,6 +13,7 @@ use Rattle.tds_play.proofs.Sent.{packet_played, packet_refused, none_sent, some_
 use Rattle.tds_play.specs.Failures.{Send}
 use Rattle.tds_packet.specs.declared.kind.Direction.TheVariants.{ToServer}
 use Rattle.tds_play.proofs.Failing.{sent_as, whole_as}
+use Rattle.tds_play.proofs.Tying.{ended_link, if_told, ties_handed}
 use Rattle.tds_play.proofs.any_bytes.Stays.{stays, stays_handed}
 use Rattle.tds_play.proofs.link.Link.send.Goals as goal
 
@@ -60,3 +61,27 @@ returns-clause-still g c =
     stays_handed c.args.self.now.number c.args.self.now.number c.hand_over.new.self.number c.args.self.now c.args.self.now c.hand_over.new.self c.end.new.self
     (g.C.Carrier.pipes c.args.carrier.now) (g.C.Carrier.pipes c.hand_over.new.carrier) (g.C.Carrier.pipes c.end.new.carrier)
     refl out.number (stays c.args.self.now (g.C.Carrier.pipes c.args.carrier.now c.args.self.now.number)) out.still c.end.ensures.still
+
+pub returns-clause-number : goal.returns-clause-number
+returns-clause-number g c = c.end.ensures.number ∙ c.in_ok-lost.ensures.number
+
+pub returns-clause-columns : goal.returns-clause-columns
+returns-clause-columns g c = c.in_ok-sent.ensures.columns
+
+pub returns-clause-ties : goal.returns-clause-ties
+returns-clause-ties g c =
+    let out = c.in_ok-lost.ensures in
+    ties_handed c.args.self.now.number c.args.self.now.number c.hand_over.new.self.number c.hand_over.new.self c.end.new.self
+    (g.C.Carrier.pipes c.args.carrier.now) (g.C.Carrier.pipes c.hand_over.new.carrier) (g.C.Carrier.pipes c.end.new.carrier)
+    (g.C.Carrier.tells c.args.carrier.now) (g.C.Carrier.tells c.hand_over.new.carrier) (g.C.Carrier.tells c.end.new.carrier)
+    refl out.number out.ties c.end.ensures.ties
+
+pub returns-clause-sent : goal.returns-clause-sent
+returns-clause-sent g c =
+    if_told (sent c.args.client.now) _ _
+    (λ e h. (
+      ap (λ d. d.outcome) c.end.ensures.done ∙ ap outcome.Sent (some_is c.in-Some.sent _ c.in_ok-sent.field-0 c.in-Some.is h.0),
+      h.1,
+      ended_link c.end.result.lost c.in_ok-lost.lost c.args.self.now c.hand_over.new.self c.end.new.self c.args.self.now
+          (ap (λ d. d.lost) c.end.ensures.done) c.end.ensures.value c.in_ok-lost.ensures.rest refl,
+    )) c.in_ok-sent.ensures.sent

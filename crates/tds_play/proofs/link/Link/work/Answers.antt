@@ -8,6 +8,8 @@ use Rattle.tds_play.proofs.Worked.{worked_played}
 use Rattle.tds_play.specs.Failures.{Send}
 use Rattle.tds_packet.specs.declared.kind.Direction.TheVariants.{ToClient}
 use Rattle.tds_play.proofs.Failing.{sent_as}
+use Rattle.tds_play.specs.Acts.{worked_as}
+use Rattle.tds_play.proofs.Tying.{ended_link, ties_handed}
 use Rattle.tds_play.proofs.any_bytes.Stays.{stays_handed}
 use Rattle.tds_play.proofs.link.Link.work.Goals as goal
 
@@ -41,3 +43,22 @@ returns-clause-still g c =
     stays_handed c.args.self.now.number c.put_step.new.self.number c.hand_over.new.self.number c.args.self.now c.put_step.new.self c.hand_over.new.self c.end.new.self
     (g.C.Carrier.pipes c.args.carrier.now) (g.C.Carrier.pipes c.hand_over.new.carrier) (g.C.Carrier.pipes c.end.new.carrier)
     c.in_ok-outcome.ensures.number out.number (c.in_ok-outcome.ensures.still _) out.still c.end.ensures.still
+
+pub returns-clause-number : goal.returns-clause-number
+returns-clause-number g c = c.end.ensures.number ∙ c.in_ok-lost.ensures.number ∙ c.in_ok-outcome.ensures.number
+
+pub returns-clause-ties : goal.returns-clause-ties
+returns-clause-ties g c =
+    let out = c.in_ok-lost.ensures in
+    ties_handed c.args.self.now.number c.put_step.new.self.number c.hand_over.new.self.number c.hand_over.new.self c.end.new.self
+    (g.C.Carrier.pipes c.args.carrier.now) (g.C.Carrier.pipes c.hand_over.new.carrier) (g.C.Carrier.pipes c.end.new.carrier)
+    (g.C.Carrier.tells c.args.carrier.now) (g.C.Carrier.tells c.hand_over.new.carrier) (g.C.Carrier.tells c.end.new.carrier)
+    c.in_ok-outcome.ensures.number out.number out.ties c.end.ensures.ties
+
+pub returns-clause-worked : goal.returns-clause-worked
+returns-clause-worked g c =
+    let step = c.in_ok-outcome.ensures in (
+      ap (λ d. d.outcome) c.end.ensures.done ∙ ap outcome.Work step.outcome,
+      ended_link c.end.result.lost c.in_ok-lost.lost c.put_step.new.self c.hand_over.new.self c.end.new.self (worked_as (worked c.args.self.now.server) c.args.self.now)
+          (ap (λ d. d.lost) c.end.ensures.done) c.end.ensures.value c.in_ok-lost.ensures.rest step.value,
+    )

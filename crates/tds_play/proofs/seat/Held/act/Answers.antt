@@ -1,4 +1,4 @@
-use Rattle.std.proofs.Common.{◌≡◌, ◌∙◌, ℕ, Option, Some, refl, sym, ap, subst}
+use Rattle.std.proofs.Common.{◌≡◌, ◌∙◌, ℕ, Bool, true, false, Option, Some, refl, sym, ap, subst}
 use Rattle.std.specs.Prelude.{IsSome}
 use Rattle.tds_client.specs.Session.{ClientSession}
 use Rattle.tds_pool.specs.Connections.{PoolState, connections, numbered}
@@ -10,11 +10,14 @@ use Rattle.tds_world.specs.declared.report.Place.{Place}
 use Rattle.tds_world.specs.declared.report.Place.TheVariants.{Leased}
 use Rattle.tds_play.specs.declared.link.EventDone.{EventDone}
 use Rattle.tds_play.specs.Pipe.{Pipe}
-use Rattle.tds_play.specs.Plays.{RepresentsConnection}
+use Rattle.tds_play.specs.Failures.{calls_of}
+use Rattle.tds_play.specs.Plays.{MayLose, RepresentsConnection}
 use Rattle.tds_play.specs.Pooled.{ChangesOne, place_by, seat_by, seat_in}
 use Rattle.tds_play.specs.Reads.{IsReading}
 use Rattle.tds_play.specs.Seats.{Seat, behind_event, placed_behind, seated}
 use Rattle.tds_play.specs.declared.seat.Held.{Held}
+use Rattle.tds_play.proofs.Failing.{settled_as}
+use Rattle.tds_play.proofs.Tying.{ties_handed}
 use Rattle.tds_play.proofs.any_bytes.Brought.{gone_on}
 use Rattle.tds_play.proofs.any_bytes.Stays.{stays_numbered}
 use Rattle.tds_play.proofs.pooled.Numbers.{IsIn}
@@ -103,3 +106,32 @@ returns-clause-refines g c = λ setup w m engine tells played gives few next.
           let z = c.settle.ensures.sound lives (ap (λ (x : Seat). is_broken x.client.stage) is ∙ fine) in
           (z.0, ap (λ x. g.C.Carrier.pipes x n) z.1, z.2 ∙ ap (behind_event c.args.event.now) is));
     }
+
+pub returns-clause-number : goal.returns-clause-number
+returns-clause-number g c = c.settle.ensures.number ∙ c.in_ok-done.ensures.number
+
+pub returns-clause-holder : goal.returns-clause-holder
+returns-clause-holder g c = c.settle.ensures.holder
+
+pub returns-clause-there : goal.returns-clause-there
+returns-clause-there g c = c.settle.ensures.there
+
+pub returns-clause-ties : goal.returns-clause-ties
+returns-clause-ties g c =
+    let n : ℕ = c.args.self.now.link.number in
+    ties_handed n n c.act.new.self.number c.act.new.self c.settle.new.self.link
+    (g.C.Carrier.pipes c.args.carrier.now) (g.C.Carrier.pipes c.act.new.carrier) (g.C.Carrier.pipes c.settle.new.carrier)
+    (g.C.Carrier.tells c.args.carrier.now) (g.C.Carrier.tells c.act.new.carrier) (g.C.Carrier.tells c.settle.new.carrier)
+    refl c.in_ok-done.ensures.number c.in_ok-done.ensures.ties c.settle.ensures.ties
+
+pub returns-clause-failed : goal.returns-clause-failed
+returns-clause-failed g c = λ fine.
+    settled_as c.args.self.now.link.number c.act.new.self.number (calls_of c.args.event.now) c.in_ok-done.done c.act.new.self c.settle.new.self.link
+    (g.C.Carrier.pipes c.act.new.carrier) (g.C.Carrier.pipes c.settle.new.carrier)
+    c.in_ok-done.ensures.number (λ cut. ap (λ h. h.link.is_cut) (c.settle.ensures.cut cut).0 ∙ cut) c.settle.ensures.failed (c.in_ok-done.ensures.failed fine)
+
+pub returns-clause-gone : goal.returns-clause-gone
+returns-clause-gone g c = λ cut. let bad : true ≡ false = sym cut ∙ c.if-self.false in absurd (cc)
+
+pub returns-clause-loses : goal.returns-clause-loses
+returns-clause-loses g c = λ lost. subst (λ (b : Bool). MayLose b c.args.event.now) (sym c.if-self.false) (c.in_ok-done.ensures.loses lost)

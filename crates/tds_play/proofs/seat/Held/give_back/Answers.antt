@@ -1,4 +1,4 @@
-use Rattle.std.proofs.Common.{◌≡◌, ◌∙◌, ℕ, Bool, true, false, List, Option, Some, None, Result, refl, sym, ap, subst}
+use Rattle.std.proofs.Common.{◌≡◌, ◌∙◌, ℕ, Bool, true, false, List, [], ◌∷◌, Option, Some, None, Result, refl, sym, ap, subst}
 use Rattle.std.specs.Prelude.{IsSome, OnOk, is_none}
 use Rattle.tds_client.specs.Session.{ClientSession, unless_idle}
 use Rattle.tds_pool.specs.Calls.{Returned, all_numbers, given_back, is_broken, is_idle, is_leased, lent_to}
@@ -14,10 +14,14 @@ use Rattle.tds_world.specs.declared.report.Place.{Place}
 use Rattle.tds_play.specs.declared.link.EventDone.{EventDone}
 use Rattle.tds_play.specs.declared.seat.Held.{Held}
 use Rattle.tds_play.specs.Pipe.{Pipe}
-use Rattle.tds_play.specs.Plays.{RepresentsConnection, acts_on, after, cut_where, outcome_of}
+use Rattle.tds_packet.specs.declared.kind.Direction.TheVariants.{ToServer}
+use Rattle.tds_play.specs.Failures.{FailsNoMore, Send}
+use Rattle.tds_play.specs.Plays.{MayLose, RepresentsConnection, acts_on, after, cut_where, outcome_of}
 use Rattle.tds_play.specs.Pooled.{Spares, came_back, place_by, rests_in, seat_by, seat_in}
 use Rattle.tds_play.specs.Seats.{Seat, seated}
 use Rattle.tds_play.proofs.Acting.{acts_there, comes_there, few_back, few_then, stands_in}
+use Rattle.tds_play.proofs.Failing.{ended_as}
+use Rattle.tds_play.proofs.Tying.{ties_handed}
 use Rattle.tds_play.proofs.any_bytes.Brought.{still_on}
 use Rattle.tds_play.proofs.any_bytes.Stays.{stays_numbered}
 use Rattle.tds_play.proofs.pooled.Back.{back_answer, back_rests, back_spares, back_there, behind_columns, cancelled_has_none, given_here, given_rests, lives_rests, back_ended, spares_of, standing_client}
@@ -173,3 +177,31 @@ returns-in-Ok-give_back-clause-refines g c = λ setup w k m engine played few.
           (back_ended n c.give_up.new.self.number size engine c.give_up.new.self c.come_back.new.self.link back now (g.C.Carrier.pipes c.give_up.new.carrier) (g.C.Carrier.pipes c.come_back.new.carrier) c.in-Ok-give_up.lost (after (comes_back (cancels m)) m) c.in-Ok-give_up.ensures.number
           (λ i. c.come_back.ensures.refines size engine back now (after (comes_back (cancels m)) m) rests i same) b.played));
     }
+
+-- ---- What stays, and what fails
+
+pub returns-in-Ok-give_back-clause-number : goal.returns-in-Ok-give_back-clause-number
+returns-in-Ok-give_back-clause-number g c = c.come_back.ensures.number ∙ c.in-Ok-give_up.ensures.number
+
+pub returns-in-Ok-give_back-clause-ties : goal.returns-in-Ok-give_back-clause-ties
+returns-in-Ok-give_back-clause-ties g c =
+    let n : ℕ = c.args.self.now.link.number in
+    ties_handed n n c.give_up.new.self.number c.give_up.new.self c.come_back.new.self.link
+    (g.C.Carrier.pipes c.args.carrier.now) (g.C.Carrier.pipes c.give_up.new.carrier) (g.C.Carrier.pipes c.come_back.new.carrier)
+    (g.C.Carrier.tells c.args.carrier.now) (g.C.Carrier.tells c.give_up.new.carrier) (g.C.Carrier.tells c.come_back.new.carrier)
+    refl c.in-Ok-give_up.ensures.number c.in-Ok-give_up.ensures.ties c.come_back.ensures.ties
+
+pub returns-in-Ok-give_back-clause-failed : goal.returns-in-Ok-give_back-clause-failed
+returns-in-Ok-give_back-clause-failed g c = λ k fine.
+    let n : ℕ = c.args.self.now.link.number in
+    ended_as (Send ToServer ∷ []) c.come_back.result _ c.in-Ok-give_up.lost c.come_back.new.self.link
+    (g.C.Carrier.pipes c.give_up.new.carrier n) (g.C.Carrier.pipes c.come_back.new.carrier n)
+    c.come_back.ensures.done c.come_back.ensures.cut
+    (subst (λ (j : ℕ). FailsNoMore (g.C.Carrier.pipes c.give_up.new.carrier j) (g.C.Carrier.pipes c.come_back.new.carrier j)) c.in-Ok-give_up.ensures.number c.come_back.ensures.failed)
+    (c.in-Ok-give_up.ensures.failed fine)
+
+pub returns-in-Ok-give_back-clause-gone : goal.returns-in-Ok-give_back-clause-gone
+returns-in-Ok-give_back-clause-gone g c = λ cut. let bad : true ≡ false = sym cut ∙ c.if-self.false in absurd (cc)
+
+pub returns-in-Ok-give_back-clause-loses : goal.returns-in-Ok-give_back-clause-loses
+returns-in-Ok-give_back-clause-loses g c = λ k lost. subst (λ (b : Bool). MayLose b (event.GiveBack k)) (sym c.if-self.false) tt
