@@ -1,3 +1,5 @@
 pub mod Asked
 pub mod Reading
 pub mod Answers
+pub mod LineEnds
+pub mod Asking

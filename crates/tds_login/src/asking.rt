@@ -1,30 +1,30 @@
 //! What a client sends and hears at a login.
 
+ghost use Rattle.std.specs.Prelude.{◌≡◌, ◌++◌, OnOk, OnErr};
+ghost use Rattle.tds_login.specs.Asking.{login_of};
+
 use crate::NoMemory;
 use byteorder::{ByteOrder, LittleEndian};
 use tds_packet::PacketSize;
 
-/// LOGIN7 without texts (MS-TDS 2.2.6.4), in one packet.
-const LOGIN: [u8; 102] = [
-    0x10, 1, 0, 102, 0, 0, 1, 0, // header: type 10, end of message, 102 bytes (MS-TDS 2.2.3.1)
-    94, 0, 0, 0, 4, 0, 0, 0x74, 0, 0, 0, 0, // length, TDS 7.4, the packet size
-    0, 0, 0, 0, 0, 0, 0, 0, 0, 0, 0, 0, 0, 0, 0, 0, 0, 0, 0, 0, 0, 0, 0, 0, //
-    // Nine texts, the client's address, and three texts, each empty and behind the 94 bytes.
-    94, 0, 0, 0, 94, 0, 0, 0, 94, 0, 0, 0, 94, 0, 0, 0, 94, 0, 0, 0, //
-    94, 0, 0, 0, 94, 0, 0, 0, 94, 0, 0, 0, 94, 0, 0, 0, //
-    0, 0, 0, 0, 0, 0, //
-    94, 0, 0, 0, 94, 0, 0, 0, 94, 0, 0, 0, //
-    0, 0, 0, 0,
-];
-
-/// Where the packet size stands in it.
-const SIZE_AT: usize = 16;
-
-/// Appends LOGIN7 of a client without a name that asks for packets of this size (MS-TDS 2.2.6.4).
-pub fn put_login(out: &mut Vec<u8>, size: PacketSize) -> Result<(), NoMemory> {
-    let mut login = LOGIN;
-    LittleEndian::write_u16(&mut login[SIZE_AT..], size.get());
-    out.extend_from_slice(&login)
+/// Appends LOGIN7 of a client without a name that asks for packets of this size (MS-TDS 2.2.6.4), in one
+/// packet. At want of memory nothing is appended.
+pub fn put_login(out: &mut Vec<u8>, size: PacketSize) -> Result<(), NoMemory>
+    ensures ok { OnOk result (out.new.items ≡ out.old.items ++ login_of size) }
+    ensures err { OnErr result (out.new.items ≡ out.old.items) }
+{
+    let [a, b, c, d] = u32::from(size.get()).to_le_bytes();
+    out.extend_from_slice(&[
+        0x10, 1, 0, 102, 0, 0, 1, 0, // header: type 10, end of message, 102 bytes (MS-TDS 2.2.3.1)
+        94, 0, 0, 0, 4, 0, 0, 0x74, a, b, c, d, // length, TDS 7.4, the packet size
+        0, 0, 0, 0, 0, 0, 0, 0, 0, 0, 0, 0, 0, 0, 0, 0, 0, 0, 0, 0, 0, 0, 0, 0, //
+        // Nine texts, the client's address, and three texts, each empty and behind the 94 bytes.
+        94, 0, 0, 0, 94, 0, 0, 0, 94, 0, 0, 0, 94, 0, 0, 0, 94, 0, 0, 0, //
+        94, 0, 0, 0, 94, 0, 0, 0, 94, 0, 0, 0, 94, 0, 0, 0, //
+        0, 0, 0, 0, 0, 0, //
+        94, 0, 0, 0, 94, 0, 0, 0, 94, 0, 0, 0, //
+        0, 0, 0, 0,
+    ])
 }
 
 /// Whether the data of a login's answer let the client in: they have LOGINACK (MS-TDS 2.2.7.14) among

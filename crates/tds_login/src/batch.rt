@@ -1,5 +1,7 @@
 //! What of a batch is a client program's or a driver's own.
-ghost use Rattle.std.specs.Prelude.{◌≤◌, length};
+ghost use Rattle.std.specs.Prelude.{◌≡◌, ◌≤◌, length, true};
+ghost use Rattle.tds_login.specs.LineEnds.{left_of, least_of};
+ghost use Rattle.tds_login.specs.LineEnds as spelled;
 
 /// The bytes of the headers before a batch's text (MS-TDS 2.2.5.3).
 const HEADERS: usize = 22;
@@ -11,17 +13,24 @@ const OWN_SETTING: &[u8] = b"set textsize ";
 /// text: command-line clients send them behind each batch. Of a packet that is a whole batch, the headers
 /// and one unit stay.
 pub fn without_line_ends(data: &[u8], is_whole: bool) -> usize
-    ensures within { result ≤ length data.now }
+    ensures left { result ≡ left_of «data».now (least_of is_whole) (length «data».now) }
+    ensures within { result ≤ length «data».now }
 {
     let least = if is_whole { HEADERS + 2 } else { 0 };
     let mut end = data.len();
-    for _ in 0..data.len() {
-        match data.get(..end) {
-            Some([.., 0x20 | 0x09 | 0x0a | 0x0d, 0]) if end > least => end = end.saturating_sub(2),
-            _ => break,
-        }
+    while end > least && ends_blank(data, end) {
+        end -= 2;
     }
-    end.min(data.len())
+    end
+}
+
+/// Whether the last unit of the first `end` bytes is a blank, a tab, or an end of a line.
+fn ends_blank(data: &[u8], end: usize) -> bool
+    requires { end ≤ length «data».now }
+    ensures is { result ≡ spelled.ends_blank «data».now end }
+    ensures two { result ≡ true → 2 ≤ end }
+{
+    end >= 2 && data[end - 1] == 0 && matches!(data[end - 2], b' ' | b'\t' | b'\n' | b'\r')
 }
 
 /// Whether a batch's data, headers and text, are one setting that a driver sends by itself:
