@@ -1,4 +1,3 @@
-pub mod Queues
 pub mod MemoryFails
 pub mod Listed
 pub mod Running
