@@ -1,4 +1,4 @@
-/* The walks of tds_speed (crates/tds_speed/src/walks.rt), by the calls of include/tds.h.
+/* The walks of bench_calls (crates/bench_calls/src/walks.rt), by the calls of include/tds.h.
  *
  * usage: calls FILE SIZE TIMES      prints a walk's name, its nanoseconds, and what it counts:
  *                                   packets, tokens, rows and a sum

@@ -1,4 +1,4 @@
-/* The walks of tds_speed in plain C, written for this: they look at every length and number that
+/* The walks of bench_calls in plain C, written for this: they look at every length and number that
  * the proved readers look at, and nothing more. A client isn't part of them.
  *
  * usage: plain FILE SIZE TIMES      prints as calls does

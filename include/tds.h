@@ -3,7 +3,9 @@
  * no thread; each call is proved to be the client's call on the value that is handed to it.
  *
  * WHAT A CALLER OWES. The proofs hold where each call is made so; nothing checks it.
- *  - No pointer is null, also where its length is 0.
+ *  - No pointer is null, also where its length is 0: hand over the address of any object then. No
+ *    call looks for one, so nothing is promised of it. With length or room 0 the library as it is
+ *    built now reads and writes nothing there; a null client ends the process.
  *  - A pointer to a struct has one; a pointer with a length has that many elements, which the call
  *    may read, and write where the pointer isn't const. No length is over PTRDIFF_MAX bytes.
  *    What a call only writes (a count, a packet, a token, a message, bytes that go out, a new

@@ -39,6 +39,20 @@ pub(crate) struct Ending {
     pub(crate) written: Written,
 }
 
+impl Ending {
+    /// This answer, with nothing to be sent.
+    #[inline(always)]
+    fn silent(answer: Cancelled) -> Ending
+        ensures answer { result.answer ≡ answer }
+        ensures written { written_bytes result.written ≡ [] }
+    {
+        Ending {
+            answer,
+            written: Written::Nothing,
+        }
+    }
+}
+
 /// An attention (MS-TDS 2.2.1.7).
 #[inline(always)]
 fn attention_packet() -> [u8; 8]
@@ -73,18 +87,12 @@ pub(crate) fn cancel(parts: &mut ClientParts) -> Result<Ending, ClientRefusal>
         refusal_of (cancelled (session_from parts.old [])) ≡ Some refusal) }
 {
     match &parts.stage {
-        StageParts::Idle => Ok(Ending {
-            answer: Cancelled::Nothing,
-            written: Written::Nothing,
-        }),
+        StageParts::Idle => Ok(Ending::silent(Cancelled::Nothing)),
         StageParts::Sending { kind, packets } => {
             let (kind, packets) = (*kind, *packets);
             if packets == 0 {
                 parts.stage = StageParts::Idle;
-                return Ok(Ending {
-                    answer: Cancelled::Unsent,
-                    written: Written::Nothing,
-                });
+                return Ok(Ending::silent(Cancelled::Unsent));
             }
             parts.stage = StageParts::Cancelling;
             Ok(Ending {
@@ -99,10 +107,7 @@ pub(crate) fn cancel(parts: &mut ClientParts) -> Result<Ending, ClientRefusal>
                 written: Written::Attention(attention_packet()),
             })
         }
-        StageParts::Cancelling => Ok(Ending {
-            answer: Cancelled::Already,
-            written: Written::Nothing,
-        }),
+        StageParts::Cancelling => Ok(Ending::silent(Cancelled::Already)),
         StageParts::Broken(_) => Err(ClientRefusal::Broken),
     }
 }

@@ -166,7 +166,7 @@ fn shown(start: usize, columns: u8, token: &TokenRef<'_>) -> TdsToken
 /// The token at the cursor, which goes on behind it. None at the end of the data.
 #[inline(always)]
 fn next(data: &[u8], cursor: &mut TdsCursor) -> Result<Option<TdsToken>, Stop>
-    ensures { Reads data.now cursor.old cursor.new result }
+    ensures { Reads «data».now cursor.old cursor.new result }
 {
     let Some(columns) = columns_from(cursor.columns) else {
         return Err(Stop::NoPlace);
@@ -195,7 +195,7 @@ fn next(data: &[u8], cursor: &mut TdsCursor) -> Result<Option<TdsToken>, Stop>
 #[unsafe(no_mangle)]
 pub extern "C" fn tds_token_next(data: &[u8], cursor: &mut TdsCursor, token: &mut TdsToken) -> u8
     ensures { (answer : Result (Option TdsToken) Stop) × (result ≡ number_of found_number answer)
-        × Reads data.now cursor.old cursor.new answer × (token.new ≡ given token.old answer) }
+        × Reads «data».now cursor.old cursor.new answer × (token.new ≡ given token.old answer) }
 {
     match next(data, cursor) {
         Ok(Some(found)) => {
@@ -213,7 +213,7 @@ pub extern "C" fn tds_token_next(data: &[u8], cursor: &mut TdsCursor, token: &mu
 /// instructions.
 #[inline(always)]
 fn next_row(data: &[u8], cursor: &mut TdsCursor) -> Option<TdsToken>
-    ensures row { IfSome result (λ row. Reads data.now cursor.old cursor.new (Ok (Some row))) }
+    ensures row { IfSome result (λ row. Reads «data».now cursor.old cursor.new (Ok (Some row))) }
     ensures none { IfNone result (cursor.new ≡ cursor.old) }
 {
     if cursor.at >= data.len() || data[cursor.at] != 0xD1 {
@@ -233,9 +233,9 @@ fn next_row(data: &[u8], cursor: &mut TdsCursor) -> Option<TdsToken>
 fn run_rows(data: &[u8], cursor: &mut TdsCursor, tokens: &mut [TdsToken], read: usize) -> usize
     requires { read ≤ length tokens.old }
     ensures run { (first : TdsCursor) (room : List TdsToken) → length room ≡ length tokens.old
-        → HasRun data.now first cursor.old
+        → HasRun «data».now first cursor.old
         (record { before = room; after = tokens.old; count = read })
-        → HasRun data.now first cursor.new
+        → HasRun «data».now first cursor.new
         (record { before = room; after = tokens.new; count = result }) }
     ensures same { length tokens.new ≡ length tokens.old }
     ensures within { result ≤ length tokens.old }
@@ -260,7 +260,7 @@ fn run(
     tokens: &mut [TdsToken],
     count: &mut usize,
 ) -> Result<Ran, Stop>
-    ensures { ReadsRun data.now cursor.old cursor.new
+    ensures { ReadsRun «data».now cursor.old cursor.new
         (record { before = tokens.old; after = tokens.new; count = count.new }) result }
 {
     let mut place = *cursor;
@@ -301,7 +301,7 @@ pub extern "C" fn tds_tokens_next(
     count: &mut usize,
 ) -> u8
     ensures { (answer : Result Ran Stop) × (result ≡ number_of ran_number answer)
-        × ReadsRun data.now cursor.old cursor.new
+        × ReadsRun «data».now cursor.old cursor.new
         (record { before = tokens.old; after = tokens.new; count = count.new }) answer }
 {
     match run(data, cursor, tokens, count) {
@@ -314,7 +314,7 @@ pub extern "C" fn tds_tokens_next(
 /// The rows at the cursor, which goes on behind them.
 #[inline(always)]
 fn run_of_rows(data: &[u8], cursor: &mut TdsCursor, rows: &mut TdsRows) -> Result<(), Stop>
-    ensures { ReadsRows data.now cursor.old cursor.new rows.old rows.new result }
+    ensures { ReadsRows «data».now cursor.old cursor.new rows.old rows.new result }
 {
     let Some(columns) = columns_from(cursor.columns) else {
         return Err(Stop::NoPlace);
@@ -339,7 +339,7 @@ fn run_of_rows(data: &[u8], cursor: &mut TdsCursor, rows: &mut TdsRows) -> Resul
 #[unsafe(no_mangle)]
 pub extern "C" fn tds_rows_next(data: &[u8], cursor: &mut TdsCursor, rows: &mut TdsRows) -> u8
     ensures { (answer : Result (Unit {0}) Stop) × (result ≡ number_of done_number answer)
-        × ReadsRows data.now cursor.old cursor.new rows.old rows.new answer }
+        × ReadsRows «data».now cursor.old cursor.new rows.old rows.new answer }
 {
     done_code(run_of_rows(data, cursor, rows))
 }

@@ -64,14 +64,14 @@ at_most_one Cancelling = omega arith
 at_most_one (Broken fault) = omega arith
 
 -- What one call does.
-record Keeps (size before : ℕ) (t : Turn) : Type 0 where
-  size_is : t.session.size ≡ size
-  kind : KindIn t.session.stage
-  packets : List Packet
-  spelled : ArePackets size t.bytes packets
-  counted : attentions packets + before ≤ one_if t.acknowledged + out t.session.stage
+pub record Keeps (size before : ℕ) (t : Turn) : Type 0 where
+  pub size_is : t.session.size ≡ size
+  pub kind : KindIn t.session.stage
+  pub packets : List Packet
+  pub spelled : ArePackets size t.bytes packets
+  pub counted : attentions packets + before ≤ one_if t.acknowledged + out t.session.stage
 
-quiet : (size before : ℕ) (next : ClientSession) → next.size ≡ size → KindIn next.stage → before ≤ out next.stage → Keeps size before (silent next)
+pub quiet : (size before : ℕ) (next : ClientSession) → next.size ≡ size → KindIn next.stage → before ≤ out next.stage → Keeps size before (silent next)
 quiet size before next size_is kind less = record { size_is = size_is; kind = kind; packets = []; spelled = refl; counted = omega (arith, less) }
 
 -- ---- Marking and starting
@@ -100,12 +100,12 @@ starts size s request (Broken fault) h e = quiet size 1 s h.size_is h.kind (omeg
 one_packet : (size : ℕ) (bytes : List ℕ) (packet : Packet) → IsPacket ToServer size bytes packet.header packet.content → ArePackets size bytes (packet ∷ [])
 one_packet size bytes packet is = (bytes, [], sym (append-nil bytes), is, refl)
 
-joined : (size : ℕ) (a b : List ℕ) (first others : List Packet) → ArePackets size a first → ArePackets size b others → ArePackets size (a ++ b) (first ++ others)
+pub joined : (size : ℕ) (a b : List ℕ) (first others : List Packet) → ArePackets size a first → ArePackets size b others → ArePackets size (a ++ b) (first ++ others)
 joined size a b [] others x y = subst (λ (a : List ℕ). ArePackets size (a ++ b) others) (sym x) y
 joined size a b (packet ∷ first) others (front, rest, split, is, more) y =
     (front, rest ++ b, ap (λ (a : List ℕ). a ++ b) split ∙ append_assoc front rest b, is, joined size rest b first others more y)
 
-counted_both : (first others : List Packet) → attentions (first ++ others) ≡ attentions first + attentions others
+pub counted_both : (first others : List Packet) → attentions (first ++ others) ≡ attentions first + attentions others
 counted_both [] others = omega arith
 counted_both (packet ∷ first) others = omega (arith, counted_both first others)
 
@@ -227,7 +227,7 @@ cancels_keep size s before (Err refusal) c = c
 
 -- ---- Taking
 
-breaks : (size : ℕ) (s : ClientSession) (fault : ClientFault) (stage : Stage) → IsCalled size s → Keeps size (out stage) (silent (broken_by s fault))
+pub breaks : (size : ℕ) (s : ClientSession) (fault : ClientFault) (stage : Stage) → IsCalled size s → Keeps size (out stage) (silent (broken_by s fault))
 breaks size s fault stage h = quiet size (out stage) (broken_by s fault) h.size_is tt (at_most_one stage)
 
 reads : (size : ℕ) (s : ClientSession) (ends : Bool) (heard : Heard) (contents : Contents) → IsCalled size s → s.stage ≡ Reading → Keeps size 0 (took_of s (Ok (read s ends heard contents)))
@@ -274,7 +274,7 @@ loses size s (Broken fault) h = quiet size 1 _ h.size_is tt (omega arith)
 
 -- ---- All calls
 
-keeps : (size : ℕ) (s : ClientSession) (call : Call) → IsCalled size s → Keeps size (out s.stage) (turn s call)
+pub keeps : (size : ℕ) (s : ClientSession) (call : Call) → IsCalled size s → Keeps size (out s.stage) (turn s call)
 keeps size s (MarkReset reset) h = stays size s (marked s reset) (unless_idle s.stage) h refl refl
 keeps size s (Start request) h = starts size s request s.stage h refl
 keeps size s Send h = sends size s s.stage h refl

@@ -11,10 +11,11 @@ use Rattle.tds_client.specs.declared.fault.ClientFault.TheVariants as faults
 use Rattle.tds_client.specs.declared.heard.Heard.{Heard}
 use Rattle.tds_client.specs.declared.heard.FinalDone.{FinalDone}
 use Rattle.tds_client.specs.declared.heard.FinalDone.TheVariants.{Awaited, Answered, Acknowledged}
-use Rattle.tds_client.specs.Hearing.{◌>>=◌, with_done, changed, hear_change, hear_done, hear_token, hear_before, hear, hear_all, mark_after}
+use Rattle.tds_client.specs.Hearing.{◌>>=◌, with_done, changed, hear_change, hear_done, strict_sign, strict_before, hear, hear_all, mark_after}
 use Rattle.tds_packet.specs.Layout.{has_bit}
 use Rattle.tds_packet.specs.Resets.{reset_effect}
 use Rattle.tds_client.specs.Marks.{mark_behind}
+use Rattle.tds_client.specs.Signs.{sign_of}
 
 abbrev Answer : Type 0
 Answer = Result Heard ClientFault
@@ -84,7 +85,7 @@ module _ (effect : ResetEffect) (heard next : Heard) (status cur_cmd rows : ℕ)
 
 -- ---- One token
 
-token_moves : (effect : ResetEffect) (cancelling : Bool) (heard next : Heard) (t : Token) → Allows effect heard.mark → hear_token cancelling heard t ≡ Ok next → Moves effect heard t next
+token_moves : (effect : ResetEffect) (cancelling : Bool) (heard next : Heard) (t : Token) → Allows effect heard.mark → strict_sign cancelling heard (sign_of t) ≡ Ok next → Moves effect heard t next
 unfolding hear_change hear_done
 token_moves effect cancelling heard next (tokens.Info m) allows e = subst (Moves effect heard (tokens.Info m)) (heard_is heard next e) (record { descriptor = λ ts. refl; mark = λ ts. refl; allows = allows })
 token_moves effect cancelling heard next (tokens.Error m) allows e = subst (Moves effect heard (tokens.Error m)) (heard_is heard next e) (record { descriptor = λ ts. refl; mark = λ ts. refl; allows = allows })
@@ -95,7 +96,7 @@ token_moves effect cancelling heard next (tokens.Env change) allows e = change_m
 token_moves effect cancelling heard next (tokens.Done status cur_cmd rows) allows e =
     done_moves effect heard next status cur_cmd rows allows (has_bit status 0x20) (has_bit status 1) cancelling e
 
-before_moves : (effect : ResetEffect) (done : FinalDone) (cancelling : Bool) (heard next : Heard) (t : Token) → Allows effect heard.mark → hear_before done cancelling heard t ≡ Ok next
+before_moves : (effect : ResetEffect) (done : FinalDone) (cancelling : Bool) (heard next : Heard) (t : Token) → Allows effect heard.mark → strict_before done cancelling heard (sign_of t) ≡ Ok next
     → Moves effect heard t next
 before_moves effect Awaited cancelling heard next t allows e = token_moves effect cancelling heard next t allows e
 before_moves effect Answered cancelling heard next t allows e = absurd cc

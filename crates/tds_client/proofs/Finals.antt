@@ -11,8 +11,9 @@ use Rattle.tds_client.specs.declared.fault.ClientFault.TheVariants as faults
 use Rattle.tds_client.specs.declared.heard.Heard.{Heard}
 use Rattle.tds_client.specs.declared.heard.FinalDone.{FinalDone}
 use Rattle.tds_client.specs.declared.heard.FinalDone.TheVariants.{Awaited, Answered, Acknowledged}
-use Rattle.tds_client.specs.Hearing.{◌>>=◌, with_done, changed, hear_change, hear_done, hear_token, hear_before, hear, hear_all, hear_packet, at_end_of_data, at_end_of_message}
+use Rattle.tds_client.specs.Hearing.{◌>>=◌, with_done, changed, hear_change, hear_done, strict_sign, strict_before, hear, hear_all, hear_packet, at_end_of_data, at_end_of_message}
 use Rattle.tds_packet.specs.Layout.{has_bit}
+use Rattle.tds_client.specs.Signs.{sign_of}
 use Rattle.tds_client.specs.Promises.{final_done, status_acknowledges}
 use Rattle.tds_client.proofs.Lawful.{LawfulDone, IsLawful, AreLawful, within}
 
@@ -58,7 +59,7 @@ module _ (cancelling : Bool) (heard next : Heard) (ts : List Token) (others : (m
   by_done status false true c lawful awaited a more e = hears_on heard awaited e
   by_done status false false c lawful awaited a more e = others _ e ∙ sym (ap (λ (a : Bool). cond a Acknowledged Answered) a)
 
-  by_token : (t : Token) → IsLawful t → heard.done ≡ Awaited → (hear_token cancelling heard t >>= rest) ≡ Ok next → next.done ≡ done_of (final_done (t ∷ ts))
+  by_token : (t : Token) → IsLawful t → heard.done ≡ Awaited → (strict_sign cancelling heard (sign_of t) >>= rest) ≡ Ok next → next.done ≡ done_of (final_done (t ∷ ts))
   unfolding hear_change hear_done
   by_token (tokens.Info m) l awaited e = hears_on heard awaited e
   by_token (tokens.Error m) l awaited e = hears_on heard awaited e
@@ -68,7 +69,7 @@ module _ (cancelling : Bool) (heard next : Heard) (ts : List Token) (others : (m
   by_token (tokens.Env change) l awaited e = by_change change _ awaited e
   by_token (tokens.Done status cur_cmd rows) l awaited e = by_done status (has_bit status 0x20) (has_bit status 1) cancelling l awaited refl refl e
 
-  by_stand : (t : Token) (done : FinalDone) → IsLawful t → heard.done ≡ done → (hear_before done cancelling heard t >>= rest) ≡ Ok next → next.done ≡ done_behind done (t ∷ ts)
+  by_stand : (t : Token) (done : FinalDone) → IsLawful t → heard.done ≡ done → (strict_before done cancelling heard (sign_of t) >>= rest) ≡ Ok next → next.done ≡ done_behind done (t ∷ ts)
   by_stand t Awaited l is e = by_token t l is e
   by_stand t Answered l is e = absurd cc
   by_stand t Acknowledged l is e = absurd cc

@@ -3,6 +3,12 @@ pub mod Walking
 pub mod Changes
 pub mod Parts
 pub mod Attentions
+pub mod HeardAttentions
+pub mod Acknowledged
+pub mod Placed
+pub mod TakenHeard
+pub mod Ending
+pub mod Alike
 pub mod Lawful
 pub mod Finals
 pub mod Ends

@@ -4,6 +4,8 @@ use Rattle.tds_token.specs.declared.token.Token.{Token}
 use Rattle.tds_token.specs.Contents.{Contents}
 use Rattle.tds_token.specs.Told.{told}
 use Rattle.tds_client.specs.declared.client.taking.Judged.{Judged}
+use Rattle.tds_client.specs.declared.heard.FinalDone.{FinalDone}
+use Rattle.tds_client.specs.declared.heard.FinalDone.TheVariants.{Awaited, Answered, Acknowledged}
 use Rattle.tds_client.specs.declared.state.Taken.{Taken}
 use Rattle.tds_client.specs.declared.state.Taken.TheVariants as takes
 use Rattle.tds_client.specs.Session.{ClientSession, Stage, Idle, Sending, Reading, Cancelling, Broken}
@@ -15,6 +17,12 @@ stage_behind takes.More stage = stage
 stage_behind takes.Finished stage = Idle
 stage_behind takes.Acknowledged stage = Idle
 stage_behind takes.NoMemory stage = stage
+
+-- what the end of a message answers in cancelling
+abbrev pub answer_skipped : FinalDone → Taken
+answer_skipped Awaited = takes.More
+answer_skipped Answered = takes.More
+answer_skipped Acknowledged = takes.Acknowledged
 
 -- the client that takes it
 abbrev pub judged : ClientSession → Judged → ClientSession

@@ -1,10 +1,13 @@
 pub mod Faults
 pub mod Session
 pub mod Packets
+pub mod Signs
 pub mod Sending
 pub mod Hearing
 pub mod Taking
 pub mod Judging
+pub mod Machine
+pub mod Acts
 pub mod Marks
 pub mod Fields
 pub mod Parts

@@ -4,6 +4,7 @@ ghost use Rattle.tds_client.specs.declared.state.Cancelled.{Cancelled};
 ghost use Rattle.tds_client.specs.Session.{new_session, state_of, lost, marked, unless_idle};
 ghost use Rattle.tds_client.specs.Sending.{Does, IsRefusal, started, sent, cancelled, refusal_of};
 
+mod hearing;
 mod parts;
 mod sending;
 mod taking;

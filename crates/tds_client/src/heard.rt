@@ -1,10 +1,16 @@
 ghost use Rattle.tds_token.specs.Layout.{token_of};
+ghost use Rattle.std.specs.Prelude.{◌≡◌};
+ghost use Rattle.tds_packet.specs.declared.status.Reset.{Reset};
 ghost use Rattle.tds_client.specs.Hearing.{Gives, hear, hear_change, hear_done};
+ghost use Rattle.tds_client.specs.Hearing.{acknowledges_by, any_sign, begun_at, done_behind, ended_at};
+ghost use Rattle.tds_client.specs.Hearing.{hear_sign, is_full, may_end, place_change, place_done};
+ghost use Rattle.tds_client.specs.Hearing.{strict_before, strict_sign};
 
 use crate::fault::ClientFault;
+use crate::sign::{DoneKind, Rules, Sign, sign_of};
 use tds_packet::Reset;
 use tds_token::done_status::{ATTENTION, MORE};
-use tds_token::{EnvChange, TokenRef};
+use tds_token::{EnvChange, TokenFault, TokenRef};
 
 /// How the message that comes stands: whether its final DONE has come, and which (MS-TDS 2.2.7.6).
 /// A DONE is final when its bit `0001` is clear.
@@ -30,25 +36,68 @@ pub struct Heard {
 }
 
 impl Heard {
-    /// Hears one token. `cancelling` says whether an attention is out.
+    /// Hears one token of the strict profile. `cancelling` says whether an attention is out.
     #[tactic(auto, unfolding(crate::specs::Hearing::hear))]
     #[inline(always)]
     pub(crate) fn hear(self, cancelling: bool, token: &TokenRef<'_>) -> Result<Heard, ClientFault>
         ensures { Gives result (hear cancelling self (token_of token.now)) }
+    {
+        self.hear_sign(Rules::Strict, cancelling, sign_of(token))
+    }
+
+    /// Hears the sign of one token.
+    #[inline(always)]
+    pub(crate) fn hear_sign(
+        self,
+        rules: Rules,
+        cancelling: bool,
+        sign: Sign,
+    ) -> Result<Heard, ClientFault>
+        ensures { Gives result (hear_sign rules cancelling self sign) }
+    {
+        match rules {
+            Rules::Strict => self.hear_strict(cancelling, sign),
+            Rules::Any => self.hear_any(cancelling, sign),
+        }
+    }
+
+    /// Hears a sign of the strict profile: none stands behind the final DONE.
+    #[inline(always)]
+    fn hear_strict(self, cancelling: bool, sign: Sign) -> Result<Heard, ClientFault>
+        ensures { Gives result (strict_before self.done cancelling self sign) }
     {
         match self.done {
             FinalDone::Awaited => {}
             FinalDone::Answered => return Err(ClientFault::BehindFinalDone),
             FinalDone::Acknowledged => return Err(ClientFault::BehindFinalDone),
         }
-        match token {
-            TokenRef::Info(_) => Ok(self),
-            TokenRef::Error(_) => Ok(self),
-            TokenRef::ReturnStatus(_) => Ok(self),
-            TokenRef::Columns(_) => Ok(self),
-            TokenRef::Row(_) => Ok(self),
-            TokenRef::Env(change) => self.hear_change(*change),
-            TokenRef::Done { status, .. } => self.hear_done(cancelling, *status),
+        match sign {
+            Sign::Nothing => Ok(self),
+            Sign::Change(change) => self.hear_change(change),
+            Sign::Done {
+                kind: DoneKind::Statement,
+                status,
+            } => self.hear_done(cancelling, status),
+            Sign::Done {
+                kind: DoneKind::Procedure,
+                ..
+            } => Err(ClientFault::Token(TokenFault::UnknownToken)),
+            Sign::Done {
+                kind: DoneKind::InProcedure,
+                ..
+            } => Err(ClientFault::Token(TokenFault::UnknownToken)),
+        }
+    }
+
+    /// Hears a sign of any server.
+    #[inline(always)]
+    fn hear_any(self, cancelling: bool, sign: Sign) -> Result<Heard, ClientFault>
+        ensures { Gives result (any_sign cancelling self sign) }
+    {
+        match sign {
+            Sign::Nothing => Ok(self),
+            Sign::Change(change) => self.place_change(change),
+            Sign::Done { kind, status } => self.place_done(cancelling, kind, status),
         }
     }
 
@@ -122,5 +171,119 @@ impl Heard {
             done: FinalDone::Answered,
             ..self
         })
+    }
+
+    /// Whether a message may end here. It ends behind its final DONE; where an attention is out,
+    /// any server may break an answer off.
+    pub(crate) fn may_end(self, rules: Rules, cancelling: bool) -> bool
+        ensures { result ≡ may_end rules cancelling self.done }
+    {
+        match self.done {
+            FinalDone::Awaited => match rules {
+                Rules::Strict => false,
+                Rules::Any => cancelling,
+            },
+            FinalDone::Answered => true,
+            FinalDone::Acknowledged => true,
+        }
+    }
+
+    /// Whether a full reset is still to be told.
+    fn awaits_full_reset(self) -> bool
+        ensures { result ≡ is_full self.mark }
+    {
+        match self.mark {
+            None => false,
+            Some(Reset::Full) => true,
+            Some(Reset::KeepTransaction) => false,
+        }
+    }
+
+    /// The descriptor behind the begin of this transaction, or none where it can't be placed: a
+    /// full reset ends what was begun before it, so its end is told first.
+    fn begun_at(self, begun: u64) -> Option<u64>
+        ensures { result ≡ begun_at self.mark self.descriptor begun }
+    {
+        if begun == 0 || self.awaits_full_reset() {
+            return None;
+        }
+        if self.descriptor == 0 || self.descriptor == begun {
+            return Some(begun);
+        }
+        None
+    }
+
+    /// The descriptor behind the end of this transaction, or none where another one is known.
+    fn ended_at(self, ended: u64) -> Option<u64>
+        ensures { result ≡ ended_at self.descriptor ended }
+    {
+        if self.descriptor == 0 || self.descriptor == ended {
+            return Some(0);
+        }
+        None
+    }
+
+    /// Applies a change that any server tells: one of a transaction that can't be placed is a fault.
+    #[tactic(auto, unfolding(crate::specs::Hearing::place_change, crate::specs::Hearing::hear_change))]
+    fn place_change(self, change: EnvChange) -> Result<Heard, ClientFault>
+        ensures { Gives result (place_change self change) }
+    {
+        let placed = match change {
+            EnvChange::Begin(begun) => self.begun_at(begun),
+            EnvChange::Commit(ended) => self.ended_at(ended),
+            EnvChange::Rollback(ended) => self.ended_at(ended),
+            EnvChange::ResetDone => return self.hear_reset(),
+        };
+        match placed {
+            None => Err(ClientFault::WrongEnvChange),
+            Some(descriptor) => Ok(Heard { descriptor, ..self }),
+        }
+    }
+
+    /// How the message stands behind a DONE of any kind with this status that acknowledges nothing.
+    fn done_behind(self, status: u16) -> FinalDone
+        ensures { result ≡ done_behind self.done status }
+    {
+        if self.done == FinalDone::Acknowledged {
+            return FinalDone::Acknowledged;
+        }
+        if status & MORE == MORE {
+            FinalDone::Awaited
+        } else {
+            FinalDone::Answered
+        }
+    }
+
+    /// Hears a DONE of any server.
+    #[tactic(auto, unfolding(crate::specs::Hearing::place_done))]
+    fn place_done(self, cancelling: bool, kind: DoneKind, status: u16) -> Result<Heard, ClientFault>
+        ensures { Gives result (place_done cancelling self kind status) }
+    {
+        if kind.acknowledges(status) {
+            if !cancelling {
+                return Err(ClientFault::UnaskedAcknowledgement);
+            }
+            return Ok(Heard {
+                done: FinalDone::Acknowledged,
+                ..self
+            });
+        }
+        Ok(Heard {
+            done: self.done_behind(status),
+            ..self
+        })
+    }
+}
+
+impl DoneKind {
+    /// Whether a DONE of this kind with this status acknowledges an attention.
+    fn acknowledges(self, status: u16) -> bool
+        ensures { result ≡ acknowledges_by self status }
+    {
+        match self {
+            DoneKind::Statement => status & ATTENTION == ATTENTION,
+            DoneKind::Procedure => false,
+            DoneKind::InProcedure => false,
+        }
     }
 }

@@ -6,14 +6,17 @@
 mod client;
 mod fault;
 mod heard;
+pub mod heard_laws;
 pub mod laws;
 mod packets;
+mod sign;
 mod state;
 mod walks;
 
 pub use client::{Client, ClientParts, NextPacket, StageParts};
 pub use fault::{ClientFault, ClientRefusal};
 pub use heard::{FinalDone, Heard};
+pub use sign::{DoneKind, Rules, Sign, sign_of};
 pub use state::{Cancelled, ClientState, Sent, Taken};
 
 /// The answer of a growth that was refused.

@@ -14,10 +14,10 @@ pub(crate) fn put(
     before: usize,
     data: &[u8],
 ) -> Result<(), NoMemory>
-    requires length { length data.now ≤ 32759 }
+    requires length { length «data».now ≤ 32759 }
     requires before { before < 2 ^ 63 }
     ensures ok { OnOk result
-        (out.new.items ≡ out.old.items ++ packet_bytes kind (bits_of status) before data.now) }
+        (out.new.items ≡ out.old.items ++ packet_bytes kind (bits_of status) before «data».now) }
     ensures err { OnErr result (out.new.items ≡ out.old.items) }
 {
     put_sent(out, kind, status, ((before + 1) % 256) as u8, data)
@@ -26,9 +26,9 @@ pub(crate) fn put(
 /// The header of a packet with these data that stands behind `before` others of its message.
 #[inline(always)]
 pub(crate) fn header(kind: Kind, status: Status, before: usize, data: &[u8]) -> [u8; 8]
-    requires length { length data.now ≤ 32759 }
+    requires length { length «data».now ≤ 32759 }
     requires before { before < 2 ^ 63 }
-    ensures { result ++ data.now ≡ packet_bytes kind (bits_of status) before data.now }
+    ensures { result ++ «data».now ≡ packet_bytes kind (bits_of status) before «data».now }
 {
     sent_header(kind, status, ((before + 1) % 256) as u8, data)
 }

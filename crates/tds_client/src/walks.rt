@@ -8,7 +8,8 @@ ghost use Rattle.tds_client.specs.Hearing.{hear_contents, hear_packet};
 
 use crate::NoMemory;
 use crate::fault::ClientFault;
-use crate::heard::{FinalDone, Heard};
+use crate::heard::Heard;
+use crate::sign::Rules;
 use std::alloc::Global;
 use tds_token::{Columns, Token, Tokens};
 
@@ -21,9 +22,9 @@ fn hear_data(
     data: &[u8],
 ) -> Result<(Heard, Columns), ClientFault>
     ensures heard { MatchResult result
-        (λ x. hear_contents cancelling heard (contents_of columns data.now) ≡ Ok x.0)
-        (λ fault. hear_contents cancelling heard (contents_of columns data.now) ≡ Err fault) }
-    ensures columns { IfOk result (λ x. x.1 ≡ (contents_of columns data.now).columns) }
+        (λ x. hear_contents cancelling heard (contents_of columns «data».now) ≡ Ok x.0)
+        (λ fault. hear_contents cancelling heard (contents_of columns «data».now) ≡ Err fault) }
+    ensures columns { IfOk result (λ x. x.1 ≡ (contents_of columns «data».now).columns) }
 {
     let mut tokens = Tokens::new(data, columns);
     let mut heard = heard;
@@ -46,18 +47,18 @@ pub(crate) fn hear_packet(
     data: &[u8],
 ) -> Result<(Heard, Columns), ClientFault>
     ensures heard { MatchResult result
-        (λ x. hear_packet cancelling heard ends (contents_of columns data.now) ≡ Ok x.0)
-        (λ fault. hear_packet cancelling heard ends (contents_of columns data.now) ≡ Err fault) }
-    ensures columns { IfOk result (λ x. x.1 ≡ (contents_of columns data.now).columns) }
+        (λ x. hear_packet cancelling heard ends (contents_of columns «data».now) ≡ Ok x.0)
+        (λ fault. hear_packet cancelling heard ends (contents_of columns «data».now) ≡ Err fault) }
+    ensures columns { IfOk result (λ x. x.1 ≡ (contents_of columns «data».now).columns) }
 {
     let (heard, columns) = hear_data(cancelling, heard, columns, data)?;
     if !ends {
         return Ok((heard, columns));
     }
-    match heard.done {
-        FinalDone::Awaited => Err(ClientFault::NoFinalDone),
-        FinalDone::Answered => Ok((heard, columns)),
-        FinalDone::Acknowledged => Ok((heard, columns)),
+    if heard.may_end(Rules::Strict, false) {
+        Ok((heard, columns))
+    } else {
+        Err(ClientFault::NoFinalDone)
     }
 }
 
@@ -70,9 +71,9 @@ pub(crate) fn put_told(
     out: &mut Vec<Token>,
 ) -> Result<(), NoMemory>
     ensures ok { OnOk result
-        (out.new.items ≡ out.old.items ++ told (contents_of columns data.now).tokens) }
+        (out.new.items ≡ out.old.items ++ told (contents_of columns «data».now).tokens) }
     ensures kept { take (length out.old.items) out.new.items ≡ out.old.items }
-    ensures telling { OnErr result (told (contents_of columns data.now).tokens ≢ []) }
+    ensures telling { OnErr result (told (contents_of columns «data».now).tokens ≢ []) }
 {
     let mut tokens = Tokens::new(data, columns);
     'tokens: while let Some(next) = tokens.next() {

@@ -76,8 +76,8 @@ impl Header {
 /// Appends a packet: the header's eight bytes (MS-TDS 2.2.3.1), then the data. The header's Length
 /// counts both. At want of memory nothing is appended.
 pub fn put_packet(out: &mut Vec<u8>, header: Header, data: &[u8]) -> Result<(), NoMemory>
-    requires { header.length ≡ 8 + length data.now }
-    ensures ok { OnOk result (out.new.items ≡ out.old.items ++ (header_bytes header ++ data.now)) }
+    requires { header.length ≡ 8 + length «data».now }
+    ensures ok { OnOk result (out.new.items ≡ out.old.items ++ (header_bytes header ++ «data».now)) }
     ensures err { OnErr result (out.new.items ≡ out.old.items) }
 {
     let bytes = bytes_of(header);
@@ -111,9 +111,9 @@ pub fn put_sent(
     packet_id: u8,
     data: &[u8],
 ) -> Result<(), NoMemory>
-    requires { length data.now ≤ 65527 }
+    requires { length «data».now ≤ 65527 }
     ensures ok { OnOk result
-        (out.new.items ≡ out.old.items ++ sent_bytes kind (bits_of status) packet_id data.now) }
+        (out.new.items ≡ out.old.items ++ sent_bytes kind (bits_of status) packet_id «data».now) }
     ensures err { OnErr result (out.new.items ≡ out.old.items) }
 {
     let header = Header {
@@ -131,8 +131,8 @@ pub fn put_sent(
 /// packet: SPID and Window are 0, and the Length counts the data.
 #[inline(always)]
 pub fn sent_header(kind: Kind, status: Status, packet_id: u8, data: &[u8]) -> [u8; 8]
-    requires { length data.now ≤ 65527 }
-    ensures { result ++ data.now ≡ sent_bytes kind (bits_of status) packet_id data.now }
+    requires { length «data».now ≤ 65527 }
+    ensures { result ++ «data».now ≡ sent_bytes kind (bits_of status) packet_id «data».now }
 {
     let length = 8 + data.len();
     [

@@ -188,7 +188,7 @@ impl PacketReader {
         ensures whole { IsSome result ↔ IsWhole self.now }
         ensures lent { IfSome result
             (λ packet. IsPacket self.now.direction self.now.size self.now.taken packet.header
-            packet.data.now) }
+            packet.«data».now) }
     {
         if self.missing() > 0 {
             return None;

@@ -131,8 +131,8 @@ pub fn play<C: Carrier>(
     // Where no event is lost both are the model's of the events as they are.
     ensures whole { C.tells carrier.old → IfOk result (λ report. MarksNothing report
         → IsWholePlayOf setup.now script_answers events.now report) }
-    // An event is marked lost exactly where calls that it makes failed on the connection whose link
-    // it uses. Where no call failed, none is.
+    // The calls that failed on a connection, over the whole run, are of the kinds that its one lost
+    // event makes. Where no call failed, none is marked.
     ensures lost { C.tells carrier.old → IfOk result (λ report. TellFailures setup.now
         script_answers (marked events.now report.events) (C.pipes carrier.new)) }
     ensures unfailing { C.tells carrier.old → FailNowhere (C.pipes carrier.new)
@@ -149,13 +149,14 @@ pub fn play<C: Carrier>(
     ensures kept_transaction { C.tells carrier.old
         → IfOk result (ShowsKeptTransaction events.now) }
     ensures lends_idle { C.tells carrier.old → IfOk result ShowsLendsIdle }
-    // Where nobody waits nothing is underway, and at no time much is. Neither end refuses what
-    // comes to it.
+    // Where nobody waits nothing is underway, and at no time much is. No outcome is an end's
+    // fault.
     ensures idle_is_quiet { C.tells carrier.old → IfOk result ShowsIdleQuiet }
     ensures few_underway { C.tells carrier.old → IfOk result ShowsFewUnderway }
     ensures no_fault { C.tells carrier.old → IfOk result ShowsNoEndFaults }
-    // In the world whose bytes were handed over at most one attention of a connection is without
-    // an acknowledgement that came, and no transaction of a connection begins twice.
+    // Facts of the model's world of that play, whose bytes were handed over: at most one attention
+    // of a connection is without an acknowledgement that came, and no transaction of a connection
+    // begins twice.
     ensures one_attention { C.tells carrier.old → IfOk result (λ report.
         OneAttention (world_of setup.now events.now report.events)) }
     ensures begins_once { C.tells carrier.old → IfOk result (λ report.
@@ -212,8 +213,8 @@ pub fn play_with<E: Engine + Copy, C: Carrier>(
     ensures refines { C.tells carrier.old → IfOk result (λ report. IsReportOfPlay setup.now
         (answer_of (E.statements_of engine) (E.step_of engine)) events.now report
         (C.pipes carrier.new)) }
-    // An event is marked lost exactly where calls that it makes failed on the connection whose link
-    // it uses. Where no call failed, none is.
+    // The calls that failed on a connection, over the whole run, are of the kinds that its one lost
+    // event makes. Where no call failed, none is marked.
     ensures lost { C.tells carrier.old → IfOk result (λ report. TellFailures setup.now
         (answer_of (E.statements_of engine) (E.step_of engine)) (marked events.now report.events)
         (C.pipes carrier.new)) }

@@ -49,7 +49,7 @@ impl<E: Engine + Drop> Model for Server<E> {
       on_attention = a.on_attention;
       session = a.session;
       phase = phase_of
-          (E.step_of a.engine) a.session a.state a.data.items;
+          (E.step_of a.engine) a.session a.state a.«data».items;
     } };
 }
 
@@ -123,15 +123,15 @@ impl<E: Engine + Drop> Server<E> {
             → self.new.session ≡ self.old.session }
         ensures state { result ≢ Ok NoMemory
             → self.new ≡ (taken (answer_of (E.statements_of self.old.engine)
-            (E.step_of self.old.engine)) self.old packet.entry.header packet.entry.data.now).state }
+            (E.step_of self.old.engine)) self.old packet.entry.header packet.entry.«data».now).state }
         ensures answer { result ≢ Ok NoMemory
             → result ≡ (taken (answer_of (E.statements_of self.old.engine)
             (E.step_of self.old.engine)) self.old
-            packet.entry.header packet.entry.data.now).answer }
+            packet.entry.header packet.entry.«data».now).answer }
         ensures reply { result ≢ Ok NoMemory
             → reply.new.items ≡ reply.old.items
             ++ (taken (answer_of (E.statements_of self.old.engine)
-            (E.step_of self.old.engine)) self.old packet.entry.header packet.entry.data.now).reply }
+            (E.step_of self.old.engine)) self.old packet.entry.header packet.entry.«data».now).reply }
         // An acknowledgement, and what it tells of the transaction that it rolled back.
         ensures short { length reply.new.items ≤ length reply.old.items + 35 }
         // At want of memory nothing changes. It comes only where a growth is needed, so not in
@@ -141,7 +141,7 @@ impl<E: Engine + Drop> Server<E> {
         ensures wanted { result ≡ Ok NoMemory
             → TakesMemory (moved (answer_of (E.statements_of self.old.engine)
             (E.step_of self.old.engine)) self.old.on_attention self.old.session self.old.phase
-            packet.entry.header packet.entry.data.now) }
+            packet.entry.header packet.entry.«data».now) }
     {
         match self.take_unbroken(packet, reply) {
             Ok(took) => Ok(took),
@@ -167,18 +167,18 @@ impl<E: Engine + Drop> Server<E> {
         ensures moved { IfOk result (λ took. took ≢ NoMemory
             → Moves (moved (answer_of (E.statements_of self.old.engine)
             (E.step_of self.old.engine)) self.old.on_attention self.old.session self.old.phase
-            packet.entry.header packet.entry.data.now)
+            packet.entry.header packet.entry.«data».now)
             took self.new.session self.new.phase reply.old.items reply.new.items) }
         ensures memory { result ≡ Ok NoMemory
             → (self.new ≡ self.old) × (reply.new.items ≡ reply.old.items) }
         ensures wanted { result ≡ Ok NoMemory
             → TakesMemory (moved (answer_of (E.statements_of self.old.engine)
             (E.step_of self.old.engine)) self.old.on_attention self.old.session self.old.phase
-            packet.entry.header packet.entry.data.now) }
+            packet.entry.header packet.entry.«data».now) }
         ensures fault { IfErr result
             (λ fault. moved (answer_of (E.statements_of self.old.engine)
             (E.step_of self.old.engine)) self.old.on_attention self.old.session self.old.phase
-            packet.entry.header packet.entry.data.now ≡ Err fault) }
+            packet.entry.header packet.entry.«data».now ≡ Err fault) }
         ensures short { length reply.new.items ≤ length reply.old.items + 35 }
         ensures quiet { OnErr result (reply.new.items ≡ reply.old.items) }
     {

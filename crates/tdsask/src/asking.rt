@@ -1,10 +1,9 @@
 //! A connection that is logged in, and what is asked on it.
 ghost use Rattle.std.specs.Prelude.{◌≡◌};
 
-use anyhow::bail;
+use crate::link::Link;
+use anyhow::{Context, bail};
 use std::alloc::{AllocError, Global};
-use std::io::{Read, Write};
-use std::net::TcpStream;
 use tds_client::Sent;
 use tds_ends::{ClientEnd, RequestStatus};
 use tds_login::{is_let_in, put_login};
@@ -22,7 +21,7 @@ const PIECE: usize = 16;
 /// A client with its connection.
 #[derive(Drop)]
 pub struct Asker {
-    stream: TcpStream,
+    link: Link,
     end: ClientEnd,
     /// How many tokens the next request is told before it is cancelled.
     cancel_after: Option<usize>,
@@ -32,13 +31,14 @@ pub struct Asker {
 
 impl Asker {
     /// Logs in.
-    pub fn new(alloc: Global, mut stream: TcpStream) -> anyhow::Result<Asker> {
+    pub fn new(rt: &HostRuntime, mut link: Link) -> anyhow::Result<Asker> {
+        let alloc = rt.alloc();
         let Some(size) = PacketSize::new(SIZE) else {
             bail!("no packet size");
         };
-        log_in(alloc, &mut stream, size)?;
+        log_in(rt, &mut link, size).context("awaiting the login's answer")?;
         Ok(Asker {
-            stream,
+            link,
             end: ClientEnd::new(alloc, size)?,
             cancel_after: None,
             asked: 0,
@@ -64,21 +64,33 @@ impl Asker {
     }
 
     /// Asks, and gives the lines of the answer: what became of the request, and a line a token.
-    pub fn ask(&mut self, alloc: Global, request: &Request) -> anyhow::Result<String> {
+    pub fn ask(&mut self, rt: &HostRuntime, request: &Request) -> anyhow::Result<String> {
+        let alloc = rt.alloc();
         self.asked = self.asked.saturating_add(1);
-        self.send(alloc, request)?;
         let mut told = Vec::new(alloc);
-        let status = self.hear(alloc, &mut told)?;
+        let awaited = format!(in alloc; "awaiting the answer to request {}", self.asked)?;
+        let status = self.settle(rt, request, &mut told).context(awaited)?;
         self.cancel_after = None;
         Ok(lines_of(alloc, self.asked, status, told.as_slice())?)
     }
 
+    /// Sends a request, and takes what comes until it is settled.
+    fn settle(
+        &mut self,
+        rt: &HostRuntime,
+        request: &Request,
+        told: &mut Vec<Token>,
+    ) -> anyhow::Result<RequestStatus> {
+        self.send(rt, request)?;
+        self.hear(rt, told)
+    }
+
     /// Starts a request and sends all its packets.
-    fn send(&mut self, alloc: Global, request: &Request) -> anyhow::Result<()> {
+    fn send(&mut self, rt: &HostRuntime, request: &Request) -> anyhow::Result<()> {
         if self.end.client_mut().start(request).is_err() {
             bail!("a request is underway");
         }
-        let mut out = Vec::new(alloc);
+        let mut out = Vec::new(rt.alloc());
         for _ in 0..u64::MAX {
             match self.end.client_mut().send(&mut out) {
                 Ok(Sent::More) => {}
@@ -86,31 +98,31 @@ impl Asker {
                 Err(_) => bail!("nothing to send"),
             }
         }
-        self.stream.write_all(out.as_slice())?;
-        Ok(())
+        self.link.send(rt, out.as_slice())
     }
 
     /// Takes what comes until the request is settled.
-    fn hear(&mut self, alloc: Global, told: &mut Vec<Token>) -> anyhow::Result<RequestStatus> {
+    fn hear(&mut self, rt: &HostRuntime, told: &mut Vec<Token>) -> anyhow::Result<RequestStatus> {
         let mut piece = [0u8; PIECE];
         for _ in 0..u64::MAX {
-            self.cancel_in_time(alloc, told.len())?;
-            let count = self.stream.read(&mut piece)?;
-            let fed = self.end.listen(&piece[..count], told);
+            self.cancel_in_time(rt, told.len())?;
+            let count = self.link.read(rt, &mut piece)?;
+            let Some(came) = piece.get(..count) else {
+                break;
+            };
+            let fed = self.end.listen(came, told);
             if let Some(stop) = fed.stop {
                 bail!("the client stopped: {stop:?}");
             }
-            match fed.settled {
-                Some(status) => return Ok(status),
-                None if count == 0 => bail!("the server has gone"),
-                None => {}
+            if let Some(status) = fed.settled {
+                return Ok(status);
             }
         }
         bail!("no end")
     }
 
     /// Cancels, where so many tokens are enough.
-    fn cancel_in_time(&mut self, alloc: Global, told: usize) -> anyhow::Result<()> {
+    fn cancel_in_time(&mut self, rt: &HostRuntime, told: usize) -> anyhow::Result<()> {
         let Some(count) = self.cancel_after else {
             return Ok(());
         };
@@ -118,39 +130,33 @@ impl Asker {
             return Ok(());
         }
         self.cancel_after = None;
-        let mut out = Vec::new(alloc);
+        let mut out = Vec::new(rt.alloc());
         if self.end.client_mut().cancel(&mut out).is_err() {
             bail!("no cancel");
         }
-        self.stream.write_all(out.as_slice())?;
-        Ok(())
+        self.link.send(rt, out.as_slice())
     }
 }
 
-/// Logs in over a stream.
-fn log_in(alloc: Global, stream: &mut TcpStream, size: PacketSize) -> anyhow::Result<()> {
-    send_login(alloc, stream, size)?;
-    let answer = login_answer(alloc, stream)?;
-    if !is_let_in(answer.as_slice()) {
-        bail!("the login is refused");
-    }
-    Ok(())
-}
-
-fn send_login(alloc: Global, stream: &mut TcpStream, size: PacketSize) -> anyhow::Result<()> {
-    let mut out = Vec::new(alloc);
+/// Logs in over a connection.
+fn log_in(rt: &HostRuntime, link: &mut Link, size: PacketSize) -> anyhow::Result<()> {
+    let mut out = Vec::new(rt.alloc());
     put_login(&mut out, size)?;
-    stream.write_all(out.as_slice())?;
+    link.send(rt, out.as_slice())?;
+    let answer = login_answer(rt, link)?;
+    if !is_let_in(answer.as_slice()) {
+        bail!("what came refuses the login, or is no answer to it");
+    }
     Ok(())
 }
 
 /// The data of a login's answer, which is one packet.
-fn login_answer(alloc: Global, stream: &mut TcpStream) -> anyhow::Result<Vec<u8>> {
+fn login_answer(rt: &HostRuntime, link: &mut Link) -> anyhow::Result<Vec<u8>> {
     let mut header = [0u8; 8];
-    stream.read_exact(&mut header)?;
+    link.fill(rt, &mut header)?;
     let length = (usize::from(header[2]) << 8) | usize::from(header[3]);
-    let mut data = vec![in alloc; 0u8; length.saturating_sub(8)]?;
-    stream.read_exact(data.as_mut_slice())?;
+    let mut data = vec![in rt.alloc(); 0u8; length.saturating_sub(8)]?;
+    link.fill(rt, data.as_mut_slice())?;
     Ok(data)
 }
 

@@ -2,19 +2,40 @@
 #![tactic(auto)]
 
 mod asking;
+mod link;
 mod words;
 
 use anyhow::{Context, bail};
 use asking::Asker;
-use std::alloc::Global;
-use std::net::TcpStream;
+use link::Link;
 use std::process::ExitCode;
 use std::time::Duration;
 use std::{env, io};
-use words::{Step, read_steps};
+use words::{Asked, Step, read_asked};
 
 /// What is printed where the words are wrong.
-const USAGE: &str = "usage: tdsask ADDRESS WORD.. (docs/SERVING.md)";
+const USAGE: &str = "usage: tdsask ADDRESS WORD.. (tdsask --help lists the words)";
+
+const HELP: &str = "\
+A client by words: it asks a server for what each word says, in order, and prints what it is told
+
+Usage: tdsask ADDRESS WORD..
+
+  ADDRESS           where to connect, as 127.0.0.1:1433 or localhost:1433
+  TEXT              a batch of this text
+  --begin, --commit, --rollback
+                    this transaction request
+  --commit-begin, --rollback-begin
+                    one that begins the next transaction too
+  --reset, --reset-keep
+                    the next request asks for a reset, or for one that keeps the transaction
+  --cancel N        the next request is cancelled once N tokens were told
+  --wait SECONDS    how long the connection, the login's answer and each request's are awaited, each:
+                    1 to 86400, and 10 where nothing is said
+  --help, --version alone
+";
+
+const VERSION: &str = "tdsask unreleased\n";
 
 fn main(rt: HostRuntime) -> ExitCode {
     match run(&rt) {
@@ -28,13 +49,26 @@ fn main(rt: HostRuntime) -> ExitCode {
 
 fn run(rt: &HostRuntime) -> anyhow::Result<()> {
     let words = given_words(rt)?;
-    let [address, rest @ ..] = words.as_slice() else {
+    let [first, rest @ ..] = words.as_slice() else {
         bail!("{USAGE}");
     };
-    let Some(steps) = read_steps(rt.alloc(), rest)? else {
-        bail!("{USAGE}");
-    };
-    ask_all(rt, address.as_str(), steps.as_slice())
+    match first.as_str() {
+        "--help" | "-h" => print(rt, HELP),
+        "--version" | "-V" => print(rt, VERSION),
+        address => ask_for(rt, address, rest),
+    }
+}
+
+fn print(rt: &HostRuntime, text: &str) -> anyhow::Result<()> {
+    print!(rt; "{text}").context("output")
+}
+
+/// Asks there for what the words say.
+fn ask_for(rt: &HostRuntime, address: &str, words: &[String]) -> anyhow::Result<()> {
+    match read_asked(rt.alloc(), words)? {
+        Some(asked) => ask_all(rt, address, &asked).context(address),
+        None => bail!("{USAGE}"),
+    }
 }
 
 /// The words of the command line behind the program's name.
@@ -47,40 +81,33 @@ fn given_words(rt: &HostRuntime) -> io::Result<Vec<String>> {
 }
 
 /// Logs in there, does all steps, and prints what comes of them.
-fn ask_all(rt: &HostRuntime, address: &str, steps: &[Step]) -> anyhow::Result<()> {
-    let mut asker = Asker::new(rt.alloc(), connected(rt, address)?)?;
-    take_steps(rt, &mut asker, steps)?;
-    println!(rt; "descriptor {}", asker.descriptor())?;
-    Ok(())
-}
-
-/// A stream to there.
-fn connected(rt: &HostRuntime, address: &str) -> anyhow::Result<TcpStream> {
-    let stream = TcpStream::connect(rt, address).context("no connection")?;
-    stream.set_nodelay(true)?;
-    stream.set_read_timeout(Some(Duration::from_secs(60)))?;
-    Ok(stream)
+fn ask_all(rt: &HostRuntime, address: &str, asked: &Asked) -> anyhow::Result<()> {
+    let limit = Duration::from_secs(asked.wait);
+    let link = Link::connect(rt, address, limit).context("no connection")?;
+    let mut asker = Asker::new(rt, link)?;
+    take_steps(rt, &mut asker, asked.steps.as_slice())?;
+    println!(rt; "descriptor {}", asker.descriptor()).context("output")
 }
 
 fn take_steps(rt: &HostRuntime, asker: &mut Asker, steps: &[Step]) -> anyhow::Result<()> {
     for step in steps {
-        let report = take_step(rt.alloc(), asker, step)?;
-        print!(rt; "{report}")?;
+        let report = take_step(rt, asker, step)?;
+        print!(rt; "{report}").context("output")?;
     }
     Ok(())
 }
 
 /// Does what a word says, and gives the lines of a request.
-fn take_step(alloc: Global, asker: &mut Asker, step: &Step) -> anyhow::Result<String> {
+fn take_step(rt: &HostRuntime, asker: &mut Asker, step: &Step) -> anyhow::Result<String> {
     match step {
-        Step::Ask(request) => asker.ask(alloc, request),
+        Step::Ask(request) => asker.ask(rt, request),
         Step::Reset(reset) => {
             asker.mark_reset(*reset)?;
-            Ok(String::new(alloc))
+            Ok(String::new(rt.alloc()))
         }
         Step::CancelAfter(count) => {
             asker.cancel_after(*count);
-            Ok(String::new(alloc))
+            Ok(String::new(rt.alloc()))
         }
     }
 }

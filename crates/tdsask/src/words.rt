@@ -4,6 +4,11 @@ use std::alloc::{AllocError, Global};
 use tds_packet::Reset;
 use tds_request::{BatchText, Isolation, Request};
 
+/// The seconds that an answer is awaited, where no word says it, and the most that one can say.
+const WAIT: u64 = 10;
+
+const MOST_WAIT: u64 = 86_400;
+
 /// What a word asks for.
 #[derive(Drop)]
 pub enum Step {
@@ -15,42 +20,93 @@ pub enum Step {
     CancelAfter(usize),
 }
 
-/// Reads the words behind the address; none where one of them is wrong.
-pub fn read_steps(alloc: Global, words: &[String]) -> Result<Option<Vec<Step>>, AllocError> {
-    let mut steps = Vec::new(alloc);
-    if put_steps(alloc, &mut steps, words)? && !steps.is_empty() {
-        Ok(Some(steps))
+/// What the words behind the address ask for.
+#[derive(Drop)]
+pub struct Asked {
+    pub steps: Vec<Step>,
+    /// How many seconds the connection, the login's answer and each request's are awaited, each.
+    pub wait: u64,
+}
+
+/// A word that a number stands behind.
+#[derive(Clone, Copy)]
+enum Counted {
+    Cancel,
+    Wait,
+}
+
+/// Reads the words behind the address; none where one of them is wrong, or nothing is asked for.
+pub fn read_asked(alloc: Global, words: &[String]) -> Result<Option<Asked>, AllocError> {
+    let mut asked = Asked {
+        steps: Vec::new(alloc),
+        wait: WAIT,
+    };
+    if put_words(alloc, &mut asked, words)? && !asked.steps.is_empty() {
+        Ok(Some(asked))
     } else {
         Ok(None)
     }
 }
 
-/// Appends what the words ask for, and answers whether each is right.
-fn put_steps(alloc: Global, steps: &mut Vec<Step>, words: &[String]) -> Result<bool, AllocError> {
-    let mut counts = false;
+/// Takes down what the words ask for, and answers whether each is right.
+fn put_words(alloc: Global, asked: &mut Asked, words: &[String]) -> Result<bool, AllocError> {
+    let mut before = None;
     for word in words {
         let word = word.as_str();
-        if !counts && word == "--cancel" {
-            counts = true;
+        let counted = before;
+        before = counted_by(word);
+        if counted.is_none() && before.is_some() {
             continue;
         }
-        let step = if counts {
-            read_count(word)
-        } else {
-            read_step(alloc, word)?
+        before = None;
+        let is_right = match counted {
+            Some(counted) => put_count(asked, counted, word)?,
+            None => put_step(asked, read_step(alloc, word)?)?,
         };
-        let Some(step) = step else {
+        if !is_right {
             return Ok(false);
-        };
-        counts = false;
-        steps.push(step)?;
+        }
     }
-    Ok(!counts)
+    Ok(before.is_none())
 }
 
-/// The word behind `--cancel`.
-fn read_count(word: &str) -> Option<Step> {
-    word.parse::<usize>().ok().map(Step::CancelAfter)
+/// What a number behind this word counts, if one stands there.
+fn counted_by(word: &str) -> Option<Counted> {
+    match word {
+        "--cancel" => Some(Counted::Cancel),
+        "--wait" => Some(Counted::Wait),
+        _ => None,
+    }
+}
+
+/// Takes down a word that is to be a number.
+fn put_count(asked: &mut Asked, counted: Counted, word: &str) -> Result<bool, AllocError> {
+    match counted {
+        Counted::Cancel => put_step(asked, word.parse::<usize>().ok().map(Step::CancelAfter)),
+        Counted::Wait => Ok(put_wait(asked, word)),
+    }
+}
+
+/// Takes down how many seconds are waited.
+fn put_wait(asked: &mut Asked, word: &str) -> bool {
+    match word.parse::<u64>() {
+        Ok(wait) if wait >= 1 && wait <= MOST_WAIT => {
+            asked.wait = wait;
+            true
+        }
+        _ => false,
+    }
+}
+
+/// Takes down a step, if there is one.
+fn put_step(asked: &mut Asked, step: Option<Step>) -> Result<bool, AllocError> {
+    match step {
+        Some(step) => {
+            asked.steps.push(step)?;
+            Ok(true)
+        }
+        None => Ok(false),
+    }
 }
 
 fn read_step(alloc: Global, word: &str) -> Result<Option<Step>, AllocError> {

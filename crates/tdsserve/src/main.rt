@@ -1,75 +1,46 @@
 //! A server of the batch language for TDS drivers, over TCP: one thread, many connections.
 #![tactic(auto)]
 
+mod address;
+mod beginning;
+mod fault;
 mod words;
 
-use std::alloc::Global;
+use beginning::begin;
+use fault::ServeFault;
+use serve_drivers::House;
+use std::env;
+use std::io::{self, Stderr};
 use std::process::ExitCode;
-use std::{env, fs, io};
-use tds_serving::{Log, Script, ScriptFault, read_script, serve};
-use words::{Asked, read_words};
+use words::read_words;
 
 fn main(rt: HostRuntime) -> ExitCode {
-    let Ok(words) = given_words(&rt) else {
-        let _ = eprintln!(rt; "error: the words can't be read");
-        return ExitCode::from(2);
-    };
-    match read_words(rt.alloc(), words.as_slice()) {
-        Ok(asked) => serve_as(&rt, asked),
-        Err(error) => {
-            let _ = eprintln!(rt; "{error}");
-            ExitCode::from(2)
-        }
-    }
-}
-
-/// Serves as the words ask for, and gives the exit status.
-fn serve_as(rt: &HostRuntime, asked: Asked) -> ExitCode {
-    let alloc = rt.alloc();
-    let Asked {
-        manner,
-        script,
-        is_logged,
-    } = asked;
-    match given_script(rt, alloc, script) {
-        Ok(script) => {
-            let _ = eprintln!(rt; "serving on {}", manner.address);
-            served(
-                rt,
-                serve(rt, alloc, manner, script, Log::new(rt.stderr(), is_logged)),
-            )
-        }
-        Err(error) => {
-            let _ = eprintln!(rt; "{error}");
-            ExitCode::from(2)
-        }
-    }
-}
-
-/// The exit status of a server that has ended.
-fn served(rt: &HostRuntime, ended: io::Result<()>) -> ExitCode {
-    match ended {
+    match run(&rt) {
         Ok(()) => ExitCode::from(0),
-        Err(error) => {
-            let _ = eprintln!(rt; "error: {error}");
-            ExitCode::from(1)
-        }
+        Err(fault) => ExitCode::from(answer(&rt, &fault)),
     }
 }
 
-/// The script in the file of this name, if there is one.
-fn given_script(
-    rt: &HostRuntime,
-    alloc: Global,
-    path: Option<String>,
-) -> Result<Script, ScriptFault> {
-    let Some(path) = path else {
-        return Ok(Script::none(alloc));
-    };
-    match fs::read(rt, path.as_str()) {
-        Ok(bytes) => read_script(alloc, path.as_str(), bytes.as_slice()),
-        Err(error) => Err(ScriptFault::Wrong(format!(in alloc; "{path}: {error}")?)),
+/// Prints help or the version, or tells what keeps it from serving, and gives the exit status.
+fn answer(rt: &HostRuntime, fault: &ServeFault) -> u8 {
+    if !fault.is_told() {
+        match print!(rt; "{fault}") {
+            Ok(()) => return 0,
+            Err(_) => {
+                let _ = eprintln!(rt; "error: output");
+                return 1;
+            }
+        }
     }
+    let _ = eprintln!(rt; "{fault}");
+    fault.status()
+}
+
+/// Serves as the words ask for.
+fn run(rt: &HostRuntime) -> Result<(), ServeFault> {
+    let words = given_words(rt).map_err(ServeFault::of_words)?;
+    let asked = read_words(rt.alloc(), words.as_slice())?;
+    serve(rt, begin(rt, &asked)?)
 }
 
 /// The words of the command line, the program's name too.
@@ -79,4 +50,14 @@ fn given_words(rt: &HostRuntime) -> io::Result<Vec<String>> {
         words.push(word)?;
     }
     Ok(words)
+}
+
+/// Says where it serves, serves, and says what it had done once it ends.
+fn serve(rt: &HostRuntime, mut house: House<Stderr>) -> Result<(), ServeFault> {
+    let address = house.local_addr().map_err(ServeFault::Refused)?;
+    let _ = eprintln!(rt; "serving on {address}");
+    let open = house.serve(rt).map_err(ServeFault::Refused)?;
+    let came = house.opened();
+    let _ = eprintln!(rt; "ended: connections {came}, open {open}");
+    Ok(())
 }

@@ -1,85 +1,68 @@
 //! The words of the command line.
 
-use clap::{Arg, ArgAction, ArgMatches, Command, Error};
+use crate::fault::ServeFault;
+use clap::{Arg, ArgAction, ArgMatches, Command};
 use std::alloc::{AllocError, Global};
-use std::net::SocketAddr;
-use tds_serving::Manner;
 use tds_session::OnAttention;
+
+/// The seconds that a logged-in peer may be silent, where no word says it: longer than a person at a
+/// breakpoint or an idle pool mostly takes.
+const SILENCE: u64 = 900;
 
 /// What the words ask for.
 #[derive(Drop)]
 pub struct Asked {
-    pub manner: Manner,
+    /// The word that stands for the address.
+    pub address: String,
+    pub lets_others_in: bool,
+    pub on_attention: OnAttention,
+    /// The milliseconds between two steps of an answer.
+    pub pace: u64,
+    /// The seconds that a logged-in peer may be silent, 0 for as long as it likes.
+    pub silence: u64,
+    /// Whether it ends in order where standard input does.
+    pub ends_with_input: bool,
     /// The file of the script, if there is one.
     pub script: Option<String>,
     /// Whether each connection and each request has a line on standard error.
     pub is_logged: bool,
 }
 
-/// Why words ask for nothing that is served.
-#[derive(Debug, Drop, thiserror::Error)]
-pub enum WordsFault {
-    /// They are no lawful words, or ask for help.
-    #[error("{0}")]
-    Usage(Error),
-    #[error("error: ADDRESS is an IP address, a colon and a port, as 127.0.0.1:1433")]
-    Address,
-    #[error("error: ADDRESS isn't this machine's own; --let-others-in listens there, and lets everybody in \
-         who can reach it, whatever name and password they give")]
-    NotOwn,
-    #[error("error: --pace takes 0 to 60000 milliseconds")]
-    Pace,
-    #[error("error: memory")]
-    Memory,
-}
-
-impl From<AllocError> for WordsFault {
-    fn from(_error: AllocError) -> WordsFault {
-        WordsFault::Memory
-    }
-}
-
-impl From<Error> for WordsFault {
-    fn from(error: Error) -> WordsFault {
-        WordsFault::Usage(error)
-    }
-}
-
 /// Reads the words, the program's name too.
-pub fn read_words(alloc: Global, words: &[String]) -> Result<Asked, WordsFault> {
+pub fn read_words(alloc: Global, words: &[String]) -> Result<Asked, ServeFault> {
     let matches = parser(alloc)?.try_get_matches_from(words)?;
-    let manner = manner_of(&matches)?;
+    let pace = number_of(matches.get_str("pace"), 0, 60_000);
+    let silence = number_of(matches.get_str("silence"), SILENCE, 86_400);
     Ok(Asked {
-        manner,
-        script: script_of(alloc, &matches)?,
+        pace: pace.ok_or(ServeFault::Pace)?,
+        silence: silence.ok_or(ServeFault::Silence)?,
+        on_attention: on_attention_of(&matches),
+        lets_others_in: matches.get_flag("let-others-in"),
+        ends_with_input: matches.get_flag("until-input-ends"),
         is_logged: matches.get_flag("log"),
+        address: String::from_str(alloc, matches.get_str("ADDRESS").unwrap_or(""))?,
+        script: script_of(alloc, &matches)?,
     })
 }
 
-/// How it is to be served.
-fn manner_of(matches: &ArgMatches<'_>) -> Result<Manner, WordsFault> {
-    let address = matches.get_str("ADDRESS").unwrap_or("");
-    let Ok(address) = address.parse::<SocketAddr>() else {
-        return Err(WordsFault::Address);
+/// The number that a word is, the usual one where there is no word; none where it is no number up to
+/// the most.
+fn number_of(word: Option<&str>, usual: u64, most: u64) -> Option<u64> {
+    let Some(word) = word else {
+        return Some(usual);
     };
-    if !address.ip().is_loopback() && !matches.get_flag("let-others-in") {
-        return Err(WordsFault::NotOwn);
+    match word.parse::<u64>() {
+        Ok(number) if number <= most => Some(number),
+        _ => None,
     }
-    let pace = matches.get_str("pace").unwrap_or("0").parse::<u64>();
-    let pace = match pace {
-        Ok(pace) if pace <= 60_000 => pace,
-        _ => return Err(WordsFault::Pace),
-    };
-    let on_attention = if matches.get_flag("rollback-on-attention") {
+}
+
+fn on_attention_of(matches: &ArgMatches<'_>) -> OnAttention {
+    if matches.get_flag("rollback-on-attention") {
         OnAttention::RollBack
     } else {
         OnAttention::Keep
-    };
-    Ok(Manner {
-        address,
-        on_attention,
-        pace,
-    })
+    }
 }
 
 /// The file of the script, if there is one.
@@ -93,6 +76,7 @@ fn script_of(alloc: Global, matches: &ArgMatches<'_>) -> Result<Option<String>, 
 fn parser<'a>(alloc: Global) -> Result<Command<'a>, AllocError> {
     let parser = no_words(alloc).arg(address(alloc))?;
     let parser = parser.arg(pace(alloc))?;
+    let parser = parser.arg(silence(alloc))?;
     let parser = parser.arg(script(alloc))?;
     let rollback = flag(
         alloc,
@@ -106,6 +90,12 @@ fn parser<'a>(alloc: Global) -> Result<Command<'a>, AllocError> {
         "a line for each connection and each request, on standard error",
     );
     let parser = parser.arg(log)?;
+    let until = flag(
+        alloc,
+        "until-input-ends",
+        "end in order where standard input, a pipe, is closed",
+    );
+    let parser = parser.arg(until)?;
     parser.arg(flag(
         alloc,
         "let-others-in",
@@ -121,9 +111,9 @@ fn no_words<'a>(alloc: Global) -> Command<'a> {
 }
 
 fn address<'a>(alloc: Global) -> Arg<'a> {
-    Arg::new(alloc, "ADDRESS")
-        .required(true)
-        .help("where to listen, as 127.0.0.1:1433")
+    Arg::new(alloc, "ADDRESS").required(true).help(
+        "where to listen, as 127.0.0.1:1433 or localhost:1433; port 0 is a free one",
+    )
 }
 
 fn pace<'a>(alloc: Global) -> Arg<'a> {
@@ -131,6 +121,15 @@ fn pace<'a>(alloc: Global) -> Arg<'a> {
         .long("pace")
         .help(
             "MILLISECONDS between two turns of all connections: a step of an answer each, so that a cancel can meet it",
+        )
+        .action(ArgAction::Set)
+}
+
+fn silence<'a>(alloc: Global) -> Arg<'a> {
+    Arg::new(alloc, "silence")
+        .long("silence")
+        .help(
+            "SECONDS that a logged-in peer may be silent before it is cut; 0: as long as it likes [900]",
         )
         .action(ArgAction::Set)
 }

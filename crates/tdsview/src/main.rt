@@ -5,7 +5,7 @@
 use std::env;
 use std::io::{self, ErrorKind};
 use std::process::ExitCode;
-use tds_view::run_view;
+use view_words::run_view;
 
 fn main(rt: HostRuntime) -> ExitCode {
     let words = match words(&rt) {

@@ -67,14 +67,14 @@ impl ClientParts {
         ensures ok { IfOk result (λ packet. sent (session_from self.old left.now)
             ≡ Ok (record {
               answer = packet.answer;
-              session = session_from self.new (drop (length packet.data.now) left.now);
-              bytes = packet.header ++ packet.data.now;
+              session = session_from self.new (drop (length packet.«data».now) left.now);
+              bytes = packet.header ++ packet.«data».now;
             })) }
         ensures header { IfOk result (λ packet. length packet.header ≡ 8) }
-        ensures fits { IfOk result (λ packet. length packet.data.now ≤ length left.now) }
+        ensures fits { IfOk result (λ packet. length packet.«data».now ≤ length left.now) }
         // Nothing is left where the request is out.
-        ensures rest { IfOk result (λ packet. drop (length packet.data.now) left.now
-            ≡ left_by self.new.stage (drop (length packet.data.now) left.now)) }
+        ensures rest { IfOk result (λ packet. drop (length packet.«data».now) left.now
+            ≡ left_by self.new.stage (drop (length packet.«data».now) left.now)) }
         ensures refused { IfErr result (λ refusal.
             refusal_of (sent (session_from self.old left.now)) ≡ Some refusal) }
         ensures err { OnErr result (self.new ≡ self.old) }
@@ -99,13 +99,13 @@ impl ClientParts {
         requires whole { AreParts self.old.stage left.now }
         ensures value { sent (session_from self.old left.now) ≡ Ok (record {
           answer = result.answer;
-          session = session_from self.new (drop (length result.data.now) left.now);
-          bytes = result.header ++ result.data.now;
+          session = session_from self.new (drop (length result.«data».now) left.now);
+          bytes = result.header ++ result.«data».now;
         }) }
         ensures header { length result.header ≡ 8 }
-        ensures fits { length result.data.now ≤ length left.now }
-        ensures rest { drop (length result.data.now) left.now
-            ≡ left_by self.new.stage (drop (length result.data.now) left.now) }
+        ensures fits { length result.«data».now ≤ length left.now }
+        ensures rest { drop (length result.«data».now) left.now
+            ≡ left_by self.new.stage (drop (length result.«data».now) left.now) }
     {
         let room = usize::from(self.size.get()) - 8;
         if left.len() <= room {

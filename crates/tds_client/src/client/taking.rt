@@ -5,7 +5,8 @@ ghost use Rattle.tds_client.specs.declared.fault.ClientFault.{ClientFault};
 ghost use Rattle.tds_client.specs.declared.state.Taken.TheVariants as takes;
 ghost use Rattle.tds_client.specs.declared.heard.FinalDone.TheVariants.{Awaited};
 ghost use Rattle.tds_client.specs.Hearing.{with_done};
-ghost use Rattle.tds_client.specs.Judging.{judged, told_in, took_by};
+ghost use Rattle.tds_client.specs.Judging.{answer_skipped, judged, told_in, took_by};
+ghost use Rattle.tds_client.specs.Machine.{message_ended};
 ghost use Rattle.tds_client.specs.Session.{Reading, Cancelling, Broken};
 ghost use Rattle.tds_client.specs.Taking.{Hears, Takes, broken_by};
 ghost use Rattle.tds_client.specs.Taking.{taken, taken_of, taken_reading, taken_cancelling};
@@ -14,6 +15,7 @@ use super::{Client, Stage};
 use crate::NoMemory;
 use crate::fault::ClientFault;
 use crate::heard::{FinalDone, Heard};
+use crate::sign::Rules;
 use crate::state::Taken;
 use crate::walks::{hear_packet, put_told};
 use tds_packet::PacketRef;
@@ -21,7 +23,7 @@ use tds_token::{Columns, Token};
 
 /// What a packet without a fault makes of the client, found before anything changes.
 #[derive(Clone, Copy, Debug)]
-struct Judged {
+pub(super) struct Judged {
     answer: Taken,
     heard: Heard,
     columns: Columns,
@@ -86,9 +88,9 @@ impl Client {
     /// Judges all tokens of a packet. Nothing changes.
     fn judge(&self, ends: bool, data: &[u8]) -> Result<Judged, ClientFault>
         ensures exact { MatchResult result
-            (λ next. taken self.now ends data.now
-            ≡ Ok (took_by self.now (contents_of self.now.columns data.now) next))
-            (λ fault. taken self.now ends data.now ≡ Err fault) }
+            (λ next. taken self.now ends «data».now
+            ≡ Ok (took_by self.now (contents_of self.now.columns «data».now) next))
+            (λ fault. taken self.now ends «data».now ≡ Err fault) }
         ensures memory { IfOk result (λ next. next.answer ≡ takes.NoMemory → ⊥) }
     {
         match &self.stage {
@@ -104,9 +106,9 @@ impl Client {
     fn judge_reading(&self, ends: bool, data: &[u8]) -> Result<Judged, ClientFault>
         requires { self.now.stage ≡ Reading }
         ensures exact { MatchResult result
-            (λ next. taken_reading self.now ends data.now
-            ≡ Ok (took_by self.now (contents_of self.now.columns data.now) next))
-            (λ fault. taken_reading self.now ends data.now ≡ Err fault) }
+            (λ next. taken_reading self.now ends «data».now
+            ≡ Ok (took_by self.now (contents_of self.now.columns «data».now) next))
+            (λ fault. taken_reading self.now ends «data».now ≡ Err fault) }
         ensures memory { IfOk result (λ next. next.answer ≡ takes.NoMemory → ⊥) }
     {
         let (heard, columns) = hear_packet(false, self.heard, self.columns, ends, data)?;
@@ -124,9 +126,9 @@ impl Client {
     fn judge_cancelling(&self, ends: bool, data: &[u8]) -> Result<Judged, ClientFault>
         requires { self.now.stage ≡ Cancelling }
         ensures exact { MatchResult result
-            (λ next. taken_cancelling self.now ends data.now
-            ≡ Ok (took_by self.now (contents_of self.now.columns data.now) next))
-            (λ fault. taken_cancelling self.now ends data.now ≡ Err fault) }
+            (λ next. taken_cancelling self.now ends «data».now
+            ≡ Ok (took_by self.now (contents_of self.now.columns «data».now) next))
+            (λ fault. taken_cancelling self.now ends «data».now ≡ Err fault) }
         ensures memory { IfOk result (λ next. next.answer ≡ takes.NoMemory → ⊥) }
     {
         let (heard, columns) = hear_packet(true, self.heard, self.columns, ends, data)?;
@@ -137,21 +139,40 @@ impl Client {
                 columns,
             });
         }
-        let answer = match heard.done {
-            FinalDone::Awaited => Taken::More,
-            FinalDone::Answered => Taken::More,
-            FinalDone::Acknowledged => Taken::Acknowledged,
+        Ok(at_end(end_skipped(heard.done), heard))
+    }
+
+    /// Judges the end of a message. Nothing changes.
+    pub(super) fn judge_end(&self, rules: Rules) -> Result<Judged, ClientFault>
+        ensures exact { MatchResult result
+            (λ next. message_ended rules self.now
+            ≡ Ok (record { answer = next.answer; session = judged self.now next }))
+            (λ fault. message_ended rules self.now ≡ Err fault) }
+        ensures memory { IfOk result (λ next. next.answer ≡ takes.NoMemory → ⊥) }
+    {
+        let cancelling = match &self.stage {
+            Stage::Idle => return Err(ClientFault::AnswerInIdle),
+            Stage::Sending(_) => return Err(ClientFault::AnswerInSending),
+            Stage::Reading => false,
+            Stage::Cancelling => true,
+            Stage::Broken(fault) => return Err(fault.again()),
         };
-        Ok(at_end(answer, heard))
+        if !self.heard.may_end(rules, cancelling) {
+            return Err(ClientFault::NoFinalDone);
+        }
+        if cancelling {
+            return Ok(at_end(end_skipped(self.heard.done), self.heard));
+        }
+        Ok(at_end(Taken::Finished, self.heard))
     }
 
     /// Appends the tokens that are told, in reading alone. At want of memory nothing is appended.
     fn tell(&self, data: &[u8], out: &mut Vec<Token>) -> Result<(), NoMemory>
         ensures ok { OnOk result (out.new.items ≡ out.old.items
-            ++ told_in self.now.stage (contents_of self.now.columns data.now)) }
+            ++ told_in self.now.stage (contents_of self.now.columns «data».now)) }
         ensures reading { OnErr result (self.now.stage ≡ Reading) }
         ensures telling { OnErr result
-            (told_in self.now.stage (contents_of self.now.columns data.now) ≢ []) }
+            (told_in self.now.stage (contents_of self.now.columns «data».now) ≢ []) }
         ensures nothing { OnErr result (out.new.items ≡ out.old.items) }
     {
         match &self.stage {
@@ -171,7 +192,7 @@ impl Client {
     }
 
     /// What was judged is done.
-    fn apply(&mut self, next: Judged) -> Taken
+    pub(super) fn apply(&mut self, next: Judged) -> Taken
         ensures value { result ≡ next.answer }
         ensures done { self.new ≡ judged self.old next }
     {
@@ -187,13 +208,25 @@ impl Client {
     }
 
     /// The client is broken by this fault.
-    fn fail(&mut self, fault: ClientFault) -> ClientFault
+    pub(super) fn fail(&mut self, fault: ClientFault) -> ClientFault
         ensures value { result ≡ fault }
         ensures broken { self.new ≡ broken_by self.old fault }
     {
         let again = fault.again();
         self.stage = Stage::Broken(fault);
         again
+    }
+}
+
+/// What the end of a message answers in cancelling: it is acknowledged, or its acknowledgement is
+/// still to come.
+fn end_skipped(done: FinalDone) -> Taken
+    ensures { result ≡ answer_skipped done }
+{
+    match done {
+        FinalDone::Awaited => Taken::More,
+        FinalDone::Answered => Taken::More,
+        FinalDone::Acknowledged => Taken::Acknowledged,
     }
 }
 

@@ -1,0 +1,251 @@
+//! A connection's turn: it reads, does some steps, and sends.
+ghost use Rattle.std.specs.Prelude.{◌≡◌, ◌-◌, ◌<◌, ◌≤◌, ◌↔◌, length, vec_len, IsTrue};
+ghost use Rattle.serve_drivers.specs.declared.connection.TheConstants.{MOST_READ};
+ghost use Rattle.serve_drivers.specs.declared.peer.TheConstants.{MOST_WAITING};
+
+use crate::peer::{CROWDED, FULL, MOST_WAITING, Next, Note, Peer};
+use crate::script::Script;
+use mio::net::TcpStream;
+use std::alloc::{AllocError, Global};
+use std::io::{self, ErrorKind, Read, Write};
+use tds_session::OnAttention;
+
+/// How many seconds a peer may take nothing while something waits for it, and how many its login may
+/// take.
+const PATIENCE: u64 = 10;
+
+/// The steps of a turn.
+const TURN: u32 = 32;
+
+/// The most bytes that are read in a turn, and that are kept of a peer until they are taken.
+const MOST_READ: usize = 4096;
+
+/// A connection with what is to be sent on it.
+#[derive(Drop)]
+pub struct Connection {
+    stream: TcpStream,
+    peer: Peer,
+    /// Its number, from 1, for the log.
+    pub number: u64,
+    /// What came and isn't taken yet.
+    rest: Vec<u8>,
+    out: Vec<u8>,
+    /// How many of the bytes of `out` were sent.
+    sent: usize,
+    /// How many bytes are to go out before it is cut, where its script says so.
+    left: Option<usize>,
+    /// Whether more may be there to read.
+    pub readable: bool,
+    closing: bool,
+    /// Whether it is to have a turn.
+    pub listed: bool,
+    /// The second in which something of `out` was last taken, or in which nothing waited for it last
+    /// though it had something to do; in the login also the second in which it came.
+    since: u64,
+    ghost kept: { vec_len rest ≤ MOST_READ },
+    ghost waiting: { vec_len out ≤ MOST_WAITING },
+}
+
+/// What a connection is to do after its turn.
+#[derive(Clone, Copy)]
+pub enum Then {
+    /// Nothing until the system reports it.
+    Wait,
+    /// It is to have another turn.
+    Again,
+    Close,
+    /// The same: its script cuts it.
+    Cut,
+}
+
+/// Why a connection is cut that has kept the server waiting.
+#[derive(Clone, Copy, Debug, PartialEq, Eq)]
+pub enum Late {
+    /// Its login takes too long.
+    Login,
+    /// It takes nothing though something waits for it.
+    Taking,
+    /// Nothing came of it, and nothing waits for it.
+    Silent,
+}
+
+impl Connection {
+    /// A connection that has come in this second. It has room for all that may ever wait for its peer,
+    /// so that what is kept for a peer that reads nothing is this much memory and no more.
+    pub fn new(
+        alloc: Global,
+        stream: TcpStream,
+        number: u64,
+        on_attention: OnAttention,
+        now: u64,
+    ) -> Result<Connection, AllocError> {
+        Ok(Connection {
+            stream,
+            peer: Peer::new(alloc, on_attention),
+            number,
+            rest: Vec::with_capacity(alloc, MOST_READ)?,
+            out: Vec::with_capacity(alloc, MOST_WAITING)?,
+            sent: 0,
+            left: None,
+            readable: true,
+            closing: false,
+            listed: false,
+            since: now,
+        })
+    }
+
+    /// Why it is to be cut now, if it is. A logged-in peer may be silent for so many seconds; for as long
+    /// as it likes where they are 0.
+    pub fn lateness(&self, silence: u64, now: u64) -> Option<Late> {
+        if self.peer.is_in_login() {
+            return late_where(is_too_long(PATIENCE, self.since, now), Late::Login);
+        }
+        if self.sent < self.out.len() {
+            return late_where(is_too_long(PATIENCE, self.since, now), Late::Taking);
+        }
+        late_where(
+            silence > 0 && is_too_long(silence, self.since, now),
+            Late::Silent,
+        )
+    }
+
+    /// One turn: it reads once, does some steps and sends what the system takes. At a pace, it does one
+    /// step.
+    pub fn turn(
+        &mut self,
+        script: &Script,
+        paced: bool,
+        now: u64,
+        notes: &mut Vec<Note>,
+    ) -> io::Result<Then> {
+        if self.out.is_empty() && !self.peer.is_in_login() {
+            self.since = now;
+        }
+        if self.can_take() && !self.read(script, notes)? {
+            return Ok(Then::Close);
+        }
+        if self.peer.is_busy() {
+            let steps = if paced { 1 } else { TURN };
+            let next = self.peer.work(script, steps, &mut self.out, notes)?;
+            self.closing = self.closing || next == Next::Close;
+        }
+        let is_stuck = self.send(script, now)?;
+        if self.left == Some(0) {
+            return Ok(Then::Cut);
+        }
+        if self.closing && self.out.is_empty() {
+            return Ok(Then::Close);
+        }
+        let can_send = !self.out.is_empty() && !is_stuck;
+        let can_work = self.peer.is_busy() && self.out.len() < FULL;
+        if self.can_go_on() || can_work || can_send {
+            Ok(Then::Again)
+        } else {
+            Ok(Then::Wait)
+        }
+    }
+
+    /// Whether more of it can be taken now.
+    fn can_take(&self) -> bool {
+        !self.closing && !self.peer.is_crossing() && self.out.len() < CROWDED
+    }
+
+    /// Whether more of it can be taken, and may be there.
+    fn can_go_on(&self) -> bool {
+        self.can_take() && (self.readable || !self.rest.is_empty())
+    }
+
+    /// Takes what is kept; where nothing is, it reads once. False where the peer has gone.
+    fn read(&mut self, script: &Script, notes: &mut Vec<Note>) -> io::Result<bool> {
+        let mut buffer = [0u8; MOST_READ];
+        let count = if !self.rest.is_empty() {
+            let count = self.rest.len().min(MOST_READ);
+            buffer[..count].copy_from_slice(&self.rest[..count]);
+            self.rest.clear();
+            count
+        } else if self.readable {
+            match self.stream.read(&mut buffer) {
+                Ok(0) => return Ok(false),
+                Ok(count) => count,
+                Err(error) if error.kind() == ErrorKind::WouldBlock => {
+                    self.readable = false;
+                    return Ok(true);
+                }
+                Err(error) => return Err(error),
+            }
+        } else {
+            return Ok(true);
+        };
+        self.take(script, &buffer[..count], notes)?;
+        Ok(true)
+    }
+
+    /// Takes what came, and keeps what can't be taken yet.
+    fn take(
+        &mut self,
+        script: &Script,
+        piece: &[u8],
+        notes: &mut Vec<Note>,
+    ) -> Result<(), AllocError>
+        requires { length piece.now ≤ MOST_READ }
+    {
+        let before = self.peer.request();
+        let (count, next) = self.peer.take(script, piece, &mut self.out, notes)?;
+        self.closing = next == Next::Close;
+        self.rest.clear();
+        self.rest.extend_from_slice(&piece[count..])?;
+        let request = self.peer.request();
+        if request != before {
+            let waiting = self.out.len().saturating_sub(self.sent);
+            self.left = script
+                .cut_of(request)
+                .map(|bytes| waiting.saturating_add(bytes as usize));
+        }
+        Ok(())
+    }
+
+    /// Sends what the system takes, or one piece where the script splits. True where the system takes no more.
+    fn send(&mut self, script: &Script, now: u64) -> io::Result<bool> {
+        let piece = script.piece();
+        for _ in 0..1024 {
+            let Some(rest) = self.out.as_slice().get(self.sent..) else {
+                break;
+            };
+            let most = rest.len().min(self.left.unwrap_or(usize::MAX));
+            let most = most.min(piece.unwrap_or(u32::MAX) as usize);
+            if most == 0 {
+                break;
+            }
+            match self.stream.write(&rest[..most]) {
+                Ok(0) => return Ok(true),
+                Ok(count) => {
+                    self.sent = self.sent.saturating_add(count);
+                    self.left = self.left.map(|left| left.saturating_sub(count));
+                    self.since = now;
+                }
+                Err(error) if error.kind() == ErrorKind::WouldBlock => return Ok(true),
+                Err(error) => return Err(error),
+            }
+            if piece.is_some() {
+                break;
+            }
+        }
+        if self.sent >= self.out.len() {
+            self.out.clear();
+            self.sent = 0;
+        }
+        Ok(false)
+    }
+}
+
+/// Whether more seconds than these lie between two.
+fn is_too_long(most: u64, since: u64, now: u64) -> bool
+    ensures { IsTrue result ↔ (most < now - since) }
+{
+    now.saturating_sub(since) > most
+}
+
+/// This, where it is so.
+fn late_where(is_late: bool, late: Late) -> Option<Late> {
+    if is_late { Some(late) } else { None }
+}

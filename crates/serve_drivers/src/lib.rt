@@ -1,0 +1,18 @@
+//! A server of the batch language for TDS drivers, over TCP: one thread, many connections.
+//!
+//! A [`House`] serves whoever comes, until it is to end or a round at a time. A [`Script`] says what is done
+//! with answers, to put a driver where it hurts.
+#![tactic(auto)]
+
+mod connection;
+mod front;
+mod keeping;
+mod log;
+mod peer;
+mod script;
+mod serving;
+
+pub use log::Log;
+pub use peer::{Next, Note, Peer};
+pub use script::{Event, Script, ScriptFault, read_script};
+pub use serving::{House, Manner};

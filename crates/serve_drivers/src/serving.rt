@@ -1,0 +1,295 @@
+//! The loop over all connections.
+
+use crate::connection::{Connection, Late, Then};
+use crate::keeping::keep_alive;
+use crate::log::Log;
+use crate::script::Script;
+use mio::net::{TcpListener, TcpStream};
+use mio::unix::SourceFd;
+use mio::{Events, Interest, Poll, Token};
+use slab::Slab;
+use std::alloc::Global;
+use std::io::{self, Write};
+use std::mem;
+use std::net::{Net, SocketAddr};
+use std::rt::Clock;
+use std::time::{Duration, Instant};
+use tds_session::OnAttention;
+
+/// The token of the listener.
+const LISTENER: Token = Token(usize::MAX);
+
+/// The token of standard input, where the server ends with it.
+const INPUT: Token = Token(usize::MAX - 1);
+
+/// The most connections at a time.
+const MOST: usize = 1024;
+
+/// The most reports of the system that are taken in a round.
+pub const ROUND: usize = 256;
+
+/// How a server serves.
+#[derive(Clone, Copy, Debug)]
+pub struct Manner {
+    pub address: SocketAddr,
+    pub on_attention: OnAttention,
+    /// The milliseconds between two steps of an answer.
+    pub pace: u64,
+    /// How many seconds a logged-in peer may be silent before it is cut; 0 for as long as it likes.
+    pub silence: u64,
+}
+
+/// A server with all its connections.
+#[derive(Drop)]
+pub struct House<W: Write + Drop> {
+    alloc: Global,
+    manner: Manner,
+    script: Script,
+    start: Instant,
+    poll: Poll,
+    listener: TcpListener,
+    connections: Slab<Connection>,
+    /// The keys of those that are to have a turn.
+    waiting: Vec<usize>,
+    /// How many connections have come.
+    opened: u64,
+    /// The second in which it was last looked who is late.
+    swept: u64,
+    /// Whether standard input has ended, with which it ends.
+    is_ending: bool,
+    log: Log<W>,
+}
+
+impl<W: Write + Drop> House<W> {
+    /// A server that listens and has no connection yet.
+    pub fn new<R: Net + Clock>(
+        rt: &R,
+        alloc: Global,
+        manner: Manner,
+        script: Script,
+        log: Log<W>,
+    ) -> io::Result<House<W>> {
+        let start = Instant::now(rt)?;
+        let (poll, listener) = listen(rt, manner.address)?;
+        Ok(House {
+            alloc,
+            manner,
+            script,
+            start,
+            poll,
+            listener,
+            connections: Slab::new(alloc),
+            waiting: Vec::new(alloc),
+            opened: 0,
+            swept: 0,
+            is_ending: false,
+            log,
+        })
+    }
+
+    /// From now on it ends in order where standard input ends, which is to be a pipe or a socket: the
+    /// system refuses a file. Nothing is read of it.
+    pub fn end_with_input(&mut self) -> io::Result<()> {
+        let mut input = SourceFd(&0);
+        self.poll
+            .registry()
+            .register(&mut input, INPUT, Interest::READABLE)
+    }
+
+    /// Serves until standard input ends, if it is to end with it, or until the system refuses to go on.
+    /// Then it has no connection left; it answers how many it had until then.
+    pub fn serve<R: Clock>(&mut self, rt: &R) -> io::Result<usize> {
+        let mut events = Events::with_capacity(self.alloc, ROUND)?;
+        for _ in 0..u64::MAX {
+            self.round(rt, &mut events, 1000)?;
+            if self.is_ending {
+                break;
+            }
+        }
+        let count = self.connections.len();
+        for key in 0..MOST {
+            self.close(key, "the server ends");
+        }
+        Ok(count)
+    }
+
+    /// Where it listens.
+    pub fn local_addr(&self) -> io::Result<SocketAddr> {
+        self.listener.local_addr()
+    }
+
+    /// How many connections it has.
+    pub fn count(&self) -> usize {
+        self.connections.len()
+    }
+
+    /// How many connections have come.
+    pub fn opened(&self) -> u64 {
+        self.opened
+    }
+
+    /// One round: it waits for the system so many milliseconds at most, and not at all where a connection
+    /// has more to do; then each connection that has something to do has a turn.
+    pub fn round<R: Clock>(
+        &mut self,
+        rt: &R,
+        events: &mut Events<Global>,
+        longest: u64,
+    ) -> io::Result<()> {
+        let timeout = Duration::from_millis(self.timeout(longest));
+        self.poll.poll(events, Some(timeout))?;
+        let now = self.start.elapsed(rt)?.as_secs();
+        self.hear(events, now)?;
+        self.give_turns(now)?;
+        if now > self.swept {
+            self.swept = now;
+            self.accept(now);
+            self.cut_late(now);
+        }
+        Ok(())
+    }
+
+    /// Does what the system reported asks for.
+    fn hear(&mut self, events: &Events<Global>, now: u64) -> io::Result<()> {
+        for event in events.iter() {
+            let token = event.token();
+            if token == LISTENER {
+                self.accept(now);
+            } else if token == INPUT {
+                self.is_ending = self.is_ending || event.is_read_closed();
+            } else {
+                let readable = event.is_readable() || event.is_read_closed() || event.is_error();
+                self.reported(token.0, readable)?;
+            }
+        }
+        Ok(())
+    }
+
+    /// How many milliseconds to wait for the system: none at all where a connection has more to do.
+    fn timeout(&self, longest: u64) -> u64 {
+        if self.waiting.is_empty() {
+            longest
+        } else {
+            self.manner.pace
+        }
+    }
+
+    /// The system reported a connection, or it has more to do: it is to have a turn.
+    fn reported(&mut self, key: usize, readable: bool) -> io::Result<()> {
+        if let Some(connection) = self.connections.get_mut(key) {
+            if readable {
+                connection.readable = true;
+            }
+            if !connection.listed {
+                connection.listed = true;
+                self.waiting.push(key)?;
+            }
+        }
+        Ok(())
+    }
+
+    /// Gives a turn to each connection that is to have one.
+    fn give_turns(&mut self, now: u64) -> io::Result<()> {
+        let turns = mem::replace(&mut self.waiting, Vec::new(self.alloc));
+        for key in turns.iter() {
+            self.give_turn(*key, now)?;
+        }
+        Ok(())
+    }
+
+    fn give_turn(&mut self, key: usize, now: u64) -> io::Result<()> {
+        match self.turn_of(key, now) {
+            Ok(Then::Wait) => {}
+            Ok(Then::Again) => return self.reported(key, false),
+            Ok(Then::Close) => self.close(key, "its end"),
+            Ok(Then::Cut) => self.close(key, "its script cuts it"),
+            Err(_) => self.close(key, "its link failed"),
+        }
+        Ok(())
+    }
+
+    /// A connection's turn, whose notes are logged.
+    fn turn_of(&mut self, key: usize, now: u64) -> io::Result<Then> {
+        let Some(connection) = self.connections.get_mut(key) else {
+            return Ok(Then::Wait);
+        };
+        connection.listed = false;
+        let number = connection.number;
+        let mut notes = Vec::new(self.alloc);
+        let paced = self.manner.pace > 0;
+        let then = connection.turn(&self.script, paced, now, &mut notes);
+        for note in notes.iter() {
+            self.log.noted(number, *note);
+        }
+        then
+    }
+
+    fn close(&mut self, key: usize, why: &str) {
+        if let Some(connection) = self.connections.try_remove(key) {
+            self.log.closed(connection.number, why);
+        }
+    }
+
+    /// Cuts those that are late.
+    fn cut_late(&mut self, now: u64) {
+        for key in 0..MOST {
+            let late = match self.connections.get(key) {
+                Some(connection) => connection.lateness(self.manner.silence, now),
+                None => None,
+            };
+            match late {
+                Some(Late::Login) => self.close(key, "its login took too long"),
+                Some(Late::Taking) => self.close(key, "it took nothing for too long"),
+                Some(Late::Silent) => self.close(key, "it was silent for too long"),
+                None => {}
+            }
+        }
+    }
+
+    /// Accepts all that wait.
+    fn accept(&mut self, now: u64) {
+        for _ in 0..MOST {
+            let Ok((stream, from)) = self.listener.accept() else {
+                return;
+            };
+            if !self.take_in(stream, from, now) {
+                return;
+            }
+        }
+    }
+
+    /// Takes a connection in. One over the most connections is closed at once, and one that the system
+    /// doesn't report. False where there is no memory for it.
+    fn take_in(&mut self, mut stream: TcpStream, from: SocketAddr, now: u64) -> bool {
+        if self.connections.len() >= MOST || stream.set_nodelay(true).is_err() {
+            return true;
+        }
+        let key = self.connections.vacant_key();
+        let both = Interest::READABLE | Interest::WRITABLE;
+        let registry = self.poll.registry();
+        if registry.register(&mut stream, Token(key), both).is_err() {
+            return true;
+        }
+        self.opened = self.opened.saturating_add(1);
+        let number = self.opened;
+        let on_attention = self.manner.on_attention;
+        let Ok(connection) = Connection::new(self.alloc, stream, number, on_attention, now) else {
+            return false;
+        };
+        let is_in = self.connections.insert(connection).is_ok();
+        if is_in {
+            self.log.opened(number, from);
+        }
+        is_in
+    }
+}
+
+/// A listener there, and what the system reports it to.
+fn listen<R: Net>(rt: &R, address: SocketAddr) -> io::Result<(Poll, TcpListener)> {
+    let poll = Poll::new(rt)?;
+    let mut listener = TcpListener::bind(rt, address)?;
+    keep_alive(&listener)?;
+    poll.registry()
+        .register(&mut listener, LISTENER, Interest::READABLE)?;
+    Ok((poll, listener))
+}

@@ -1,8 +1,0 @@
-mod batches;
-mod cores;
-mod faults;
-mod files;
-mod runs;
-mod showing;
-mod tcp;
-mod texts;

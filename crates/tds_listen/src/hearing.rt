@@ -1,0 +1,169 @@
+//! What a client hears of an answer's bytes.
+
+ghost use Rattle.std.specs.Prelude.{◌≡◌, ◌≤◌, ◌<◌, Ok, Err, None, IfOk, IfErr, MatchResult, drop, length};
+ghost use Rattle.std.specs.Prelude.{if◌then◌else◌};
+ghost use Rattle.tds_listen.specs.Faults.{IsBroken, broken_at};
+ghost use Rattle.tds_listen.specs.Hearing.{Both, heard_data, heard_end, heard_packet, next_heard};
+ghost use Rattle.tds_packet.specs.Layout.{bits_of, has_bit};
+ghost use Rattle.tds_wire.specs.Reading.{IsReady, restarted};
+
+use crate::fault::ListenFault;
+use crate::sign::sign_of;
+use tds_client::{Client, Rules, Taken};
+use tds_packet::PacketRef;
+use tds_wire::{Token, Walker};
+
+/// What came of a piece.
+#[derive(Clone, Copy, Debug, PartialEq, Eq)]
+pub struct Heard {
+    /// How many bytes of the piece are done with: up to the end of one token, or all of them.
+    pub count: usize,
+    /// The token that has ended, where one did and the caller may be told of it.
+    pub token: Option<Token>,
+}
+
+/// Hears bytes of an answer's data (packets of type `04`) up to the end of one token, by the rules of
+/// any server: at least one byte, where the piece isn't empty. Call it with the bytes behind `count`
+/// until there are none. It takes no memory.
+///
+/// The token is told where the client is reading, so none is told from a cancel until its
+/// acknowledgement. It stands where `Token` says, counted from the message's first byte.
+///
+/// # Errors
+///
+/// `Client` where the client refuses the token, and `Wire` where the bytes are none. The client is
+/// broken then, and nothing is told.
+pub fn next(client: &mut Client, walker: &mut Walker, piece: &[u8]) -> Result<Heard, ListenFault>
+    ensures within { IfOk result (λ heard. heard.count ≤ length piece.now) }
+    ensures moves { IfOk result (λ heard. 0 < length piece.now → 0 < heard.count) }
+    ensures ready { IfOk result (λ heard.
+        heard.count < length piece.now → IsReady walker.new) }
+    ensures exact { MatchResult result
+        (λ heard. next_heard client.old walker.old piece.now ≡ Ok (record {
+          told = heard.token;
+          session = client.new;
+          reading = walker.new;
+          rest = drop heard.count piece.now;
+        }))
+        (λ fault. next_heard client.old walker.old piece.now ≡ Err fault) }
+    ensures broken { IfErr result (λ fault. IsBroken fault client.new.stage) }
+    ensures leaves { IfErr result (λ fault. client.new ≡ broken_at client.old fault) }
+{
+    let fed = match walker.feed(piece) {
+        Ok(fed) => fed,
+        Err(refusal) => {
+            client.lost();
+            return Err(ListenFault::Wire(refusal));
+        }
+    };
+    let Some(token) = fed.token else {
+        return Ok(Heard {
+            count: fed.count,
+            token: None,
+        });
+    };
+    let told = if client.may_tell() { Some(token) } else { None };
+    match client.hear_sign(Rules::Any, sign_of(&token)) {
+        Ok(()) => Ok(Heard {
+            count: fed.count,
+            token: told,
+        }),
+        Err(fault) => Err(ListenFault::Client(fault)),
+    }
+}
+
+/// Hears all these bytes of an answer's data, and tells of no token: `next` up to their end. It takes
+/// no memory.
+///
+/// # Errors
+///
+/// As `next`, of the first token that is at fault. The client is broken then.
+pub fn hear_data(client: &mut Client, walker: &mut Walker, bytes: &[u8]) -> Result<(), ListenFault>
+    ensures exact { MatchResult result
+        (λ _. heard_data client.old walker.old bytes.now
+        ≡ Ok (record { session = client.new; reading = walker.new }))
+        (λ fault. heard_data client.old walker.old bytes.now ≡ Err fault) }
+    ensures broken { IfErr result (λ fault. IsBroken fault client.new.stage) }
+{
+    let mut done = 0;
+    'tokens: while done < bytes.len() {
+        match next(client, walker, &bytes[done..]) {
+            Ok(heard) => done += heard.count,
+            Err(fault) => return Err(fault),
+        }
+    }
+    Ok(())
+}
+
+/// Hears the end of a message, behind the data of the packet with end of message (MS-TDS 2.2.3.1.2).
+/// It takes no memory, and the walker begins anew.
+///
+/// `Finished` where the request has its whole answer, `Acknowledged` where its cancel is acknowledged,
+/// `More` where the acknowledgement is still to come. After a cancel a message may end inside a token,
+/// which the attention cut.
+///
+/// # Errors
+///
+/// `Cut` where a message that is read ends inside a token; `Client` where it ends without a final
+/// DONE; `ResetUnanswered` where the request asked for a reset and was told of none. The client is
+/// broken then.
+pub fn hear_end(client: &mut Client, walker: &mut Walker) -> Result<Taken, ListenFault>
+    ensures exact { MatchResult result
+        (λ answer. heard_end client.old walker.old
+        ≡ Ok (record { answer = answer; session = client.new }))
+        (λ fault. heard_end client.old walker.old ≡ Err fault) }
+    ensures anew { walker.new ≡ restarted walker.old }
+    ensures broken { IfErr result (λ fault. IsBroken fault client.new.stage) }
+{
+    let cut = client.may_tell() && !walker.is_between();
+    walker.restart();
+    if cut {
+        client.lost();
+        return Err(ListenFault::Cut);
+    }
+    let taken = match client.end_message(Rules::Any) {
+        Ok(taken) => taken,
+        Err(fault) => return Err(ListenFault::Client(fault)),
+    };
+    match (taken, client.reset_mark()) {
+        (Taken::Finished, Some(_)) => {
+            client.lost();
+            Err(ListenFault::ResetUnanswered)
+        }
+        _ => Ok(taken),
+    }
+}
+
+/// Takes a packet of an answer (type `04`): its data, and its message's end where it has one. It tells
+/// of no token, and takes no memory.
+///
+/// # Errors
+///
+/// As `hear_data` and `hear_end`.
+pub fn hear_packet(
+    client: &mut Client,
+    walker: &mut Walker,
+    packet: PacketRef<'_>,
+) -> Result<Taken, ListenFault>
+    ensures exact { MatchResult result
+        (λ answer. heard_packet client.old walker.old
+        (has_bit (bits_of packet.entry.header.status) 1) packet.entry.«data».now
+        ≡ Ok (record { answer = answer; session = client.new }))
+        (λ fault. heard_packet client.old walker.old
+        (has_bit (bits_of packet.entry.header.status) 1) packet.entry.«data».now ≡ Err fault) }
+    ensures walker { IfOk result (λ _. (both : Both)
+        × (heard_data client.old walker.old packet.entry.«data».now ≡ Ok both)
+        × (walker.new ≡ (if has_bit (bits_of packet.entry.header.status) 1
+        then restarted both.reading else both.reading))) }
+    ensures broken { IfErr result (λ fault. IsBroken fault client.new.stage) }
+{
+    match hear_data(client, walker, packet.data) {
+        Ok(()) => {}
+        Err(fault) => return Err(fault),
+    }
+    if packet.header.status.ends() {
+        hear_end(client, walker)
+    } else {
+        Ok(Taken::More)
+    }
+}

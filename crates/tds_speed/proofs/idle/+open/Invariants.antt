@@ -1,4 +1,0 @@
-use Rattle.tds_speed.proofs.idle.+open.Given as goal
-
-abbrev pub decreases-open : goal.decreases-open
-decreases-open a = a.left

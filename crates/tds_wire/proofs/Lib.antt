@@ -1,0 +1,12 @@
+mod Cutting
+mod Feeding
+mod Kept
+mod Walks
+mod WhatIsDue
+mod FieldsPassed
+mod ValuesPassed
+mod TypesPassed
+mod ColumnsPassed
+mod RowsPassed
+mod LabelsPassed
+mod TokensPassed

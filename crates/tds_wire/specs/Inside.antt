@@ -1,0 +1,41 @@
+-- The fields of a cursor.
+use Rattle.std.specs.Prelude.{◌≡◌, ◌<◌, ◌≤◌, ℕ, length, vec_capacity}
+use Rattle.tds_wire.specs.declared.cursor.Cursor.TheInside.{Inside}
+use Rattle.tds_wire.specs.Walking.{Walk}
+use Rattle.tds_wire.specs.declared.cursor.Step.{Step}
+use Rattle.tds_wire.specs.declared.due.Due.TheVariants.{Token}
+use Rattle.tds_wire.specs.declared.cursor.Step.TheVariants as steps
+
+abbrev pub walk_of : Inside → Walk
+walk_of a = record { at = a.at; columns = a.columns.items; nulls = a.nulls; most = a.most; features = a.features }
+
+pub record IsCursor (a : Inside) : Type 0 where
+  -- every column has room that was reserved
+  pub room : a.most ≤ vec_capacity a.columns
+  pub most : a.most ≤ 4096
+  pub few : length a.columns.items ≤ a.most
+  pub nulls : length a.nulls ≡ 512
+
+-- between two tokens, within its bounds
+pub record IsBetween (w : Walk) : Type 0 where
+  pub due : w.at.due ≡ Token
+  pub columns : length w.columns ≤ 4096
+  pub nulls : length w.nulls ≡ 512
+
+-- a call takes no more bytes than it was given
+abbrev pub IsWithin : Step → ℕ → Type 0
+IsWithin (steps.Over count) n = count ≤ n
+IsWithin steps.Within n = Unit {0}
+IsWithin (steps.Failed fault count) n = count ≤ n
+
+-- and at least one, where it passes the end of a token
+abbrev pub Moves : Step → ℕ → Type 0
+Moves (steps.Over count) n = 0 < count
+Moves steps.Within n = Unit {0}
+Moves (steps.Failed fault count) n = Unit {0}
+
+-- the end of a token is between two
+abbrev pub EndsBetween : Step → Walk → Type 0
+EndsBetween (steps.Over count) w = IsBetween w
+EndsBetween steps.Within w = Unit {0}
+EndsBetween (steps.Failed fault count) w = Unit {0}

@@ -1,0 +1,9 @@
+pub mod Faults
+pub mod Numbers
+pub mod Types
+pub mod Layout
+pub mod Walking
+pub mod Bytes
+pub mod Inside
+pub mod Told
+pub mod Reading

@@ -1,0 +1,23 @@
+//! Where each token of an answer ends (MS-TDS 2.2.7), for every type of column of TDS 7.4, as bytes come
+//! in pieces of any size. No value is kept: what is remembered is the shape of each column, a null bitmap,
+//! and which number or run of bytes is due.
+#![tactic(auto)]
+
+mod cursor;
+mod due;
+mod fault;
+mod features;
+mod laws;
+mod shape;
+mod told;
+mod types;
+mod walker;
+
+pub use fault::{Refusal, WireFault};
+pub use features::Features;
+pub use laws::{cuts_do_not_matter, tokens_are_passed};
+pub use told::{Change, ChangeValue, Done, Message, Place, SessionState, Token, Told};
+pub use walker::{Fed, Walker};
+
+/// The answer of a growth that was refused.
+pub type NoMemory = std::alloc::AllocError;

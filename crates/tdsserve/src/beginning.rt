@@ -1,0 +1,60 @@
+//! The server as the words ask for it, before it serves.
+
+use crate::address::find_address;
+use crate::fault::ServeFault;
+use crate::words::Asked;
+use serve_drivers::{House, Log, Manner, Script, ScriptFault, read_script};
+use std::fs;
+use std::io::{ErrorKind, Read, Stderr};
+
+/// The most bytes of a script file, as of a schedule's.
+const FILE_LIMIT: usize = 33_554_432;
+
+/// A server that listens as the words ask for.
+pub fn begin(rt: &HostRuntime, asked: &Asked) -> Result<House<Stderr>, ServeFault> {
+    let manner = Manner {
+        address: find_address(rt, asked.address.as_str(), asked.lets_others_in)?,
+        on_attention: asked.on_attention,
+        pace: asked.pace,
+        silence: asked.silence,
+    };
+    let script = match &asked.script {
+        Some(path) => given_script(rt, path.as_str())?,
+        None => Script::none(rt.alloc()),
+    };
+    let mut house = listen(rt, manner, script, asked.is_logged)?;
+    if asked.ends_with_input {
+        house.end_with_input().map_err(ServeFault::Input)?;
+    }
+    Ok(house)
+}
+
+/// A server that listens so.
+fn listen(
+    rt: &HostRuntime,
+    manner: Manner,
+    script: Script,
+    is_logged: bool,
+) -> Result<House<Stderr>, ServeFault> {
+    let log = Log::new(rt.stderr(), is_logged);
+    match House::new(rt, rt.alloc(), manner, script, log) {
+        Ok(house) => Ok(house),
+        Err(error) => Err(ServeFault::Listen(manner.address, error)),
+    }
+}
+
+/// The script in the file of this name.
+fn given_script(rt: &HostRuntime, path: &str) -> Result<Script, ScriptFault> {
+    let alloc = rt.alloc();
+    let mut bytes = Vec::new(alloc);
+    let read = match fs::open(rt, path) {
+        Ok(file) => file.take(FILE_LIMIT as u64 + 1).read_to_end(&mut bytes),
+        Err(error) => Err(error),
+    };
+    match read {
+        Ok(_) if bytes.len() <= FILE_LIMIT => read_script(alloc, path, bytes.as_slice()),
+        Ok(_) => Err(ScriptFault::Wrong(format!(in alloc; "{path}: it has more than 32 MiB")?)),
+        Err(error) if error.kind() == ErrorKind::OutOfMemory => Err(ScriptFault::Memory),
+        Err(error) => Err(ScriptFault::Wrong(format!(in alloc; "{path}: {error}")?)),
+    }
+}

@@ -1,0 +1,90 @@
+//! What keeps the program from serving.
+
+use clap::Error;
+use clap::error::ErrorKind as UsageKind;
+use serve_drivers::ScriptFault;
+use std::alloc::AllocError;
+use std::io::{self, ErrorKind};
+use std::net::SocketAddr;
+
+/// What keeps it from serving.
+#[derive(Debug, Drop, thiserror::Error)]
+pub enum ServeFault {
+    /// The words are no lawful words, or ask for help or the version.
+    #[error("{0}")]
+    Usage(Error),
+    #[error("error: a word isn't UTF-8")]
+    NoText,
+    /// The word that stands for the address, and what is wrong with it.
+    #[error("error: ADDRESS {0:?} {1}")]
+    Address(String, String),
+    #[error("error: ADDRESS {0:?} isn't this machine's own; --let-others-in listens there, and lets \
+         everybody in who can reach it, whatever name and password they give")]
+    NotOwn(String),
+    #[error("error: --pace takes 0 to 60000 milliseconds")]
+    Pace,
+    #[error("error: --silence takes 0 to 86400 seconds")]
+    Silence,
+    #[error("error: --until-input-ends wants a pipe as standard input: {0}")]
+    Input(io::Error),
+    #[error("{0}")]
+    Script(ScriptFault),
+    /// The system doesn't let it listen there.
+    #[error("error: {0}: {1}")]
+    Listen(SocketAddr, io::Error),
+    /// The system refuses to go on.
+    #[error("error: {0}")]
+    Refused(io::Error),
+    #[error("error: memory")]
+    Memory,
+}
+
+impl ServeFault {
+    /// The fault where words can't be had from the system.
+    pub fn of_words(error: io::Error) -> ServeFault {
+        match error.kind() {
+            ErrorKind::OutOfMemory => ServeFault::Memory,
+            _ => ServeFault::NoText,
+        }
+    }
+
+    /// Whether it is told on standard error; help and the version aren't.
+    pub fn is_told(&self) -> bool {
+        match self {
+            ServeFault::Usage(error) => error.use_stderr(),
+            _ => true,
+        }
+    }
+
+    /// The exit status: 2 where a word or the script is wrong, 1 where the system refuses.
+    pub fn status(&self) -> u8 {
+        match self {
+            ServeFault::Listen(..) | ServeFault::Refused(_) | ServeFault::Memory => 1,
+            _ => 2,
+        }
+    }
+}
+
+impl From<AllocError> for ServeFault {
+    fn from(_error: AllocError) -> ServeFault {
+        ServeFault::Memory
+    }
+}
+
+impl From<Error> for ServeFault {
+    fn from(error: Error) -> ServeFault {
+        match error.kind() {
+            UsageKind::OutOfMemory => ServeFault::Memory,
+            _ => ServeFault::Usage(error),
+        }
+    }
+}
+
+impl From<ScriptFault> for ServeFault {
+    fn from(fault: ScriptFault) -> ServeFault {
+        match fault {
+            ScriptFault::Memory => ServeFault::Memory,
+            fault => ServeFault::Script(fault),
+        }
+    }
+}

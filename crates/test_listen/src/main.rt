@@ -1,0 +1,67 @@
+//! Plays scenes before any server: what comes of its bytes, in pieces of several sizes, is compared
+//! with what a table says that was written by hand.
+#![tactic(auto)]
+
+mod fault;
+mod player;
+mod words;
+
+use fault::SceneFault;
+use player::Player;
+use std::process::ExitCode;
+use std::{env, fs, io};
+
+/// How many bytes a piece has.
+const SIZES: [usize; 4] = [1, 3, 7, 4096];
+
+fn main(rt: HostRuntime) -> ExitCode {
+    match run(&rt) {
+        Ok(true) => ExitCode::SUCCESS,
+        Ok(false) => ExitCode::FAILURE,
+        Err(error) => {
+            let _ = eprintln!(rt; "error: {error}");
+            ExitCode::FAILURE
+        }
+    }
+}
+
+/// Plays the scenes of the file that the first word names, with each size. Whether all came out as
+/// they are written.
+fn run(rt: &HostRuntime) -> io::Result<bool> {
+    let Some(file) = env::args(rt)?.nth(1) else {
+        return Err(io::Error::from(io::ErrorKind::InvalidInput));
+    };
+    let text = fs::read_to_string(rt, file.as_str())?;
+    let mut is_well = true;
+    for size in SIZES.iter() {
+        is_well &= play(rt, text.as_str(), *size)?;
+    }
+    Ok(is_well)
+}
+
+/// Plays all scenes in pieces of this size, and prints how many there are and of how many steps. Whether
+/// each step came out as it is written.
+fn play(rt: &HostRuntime, text: &str, size: usize) -> io::Result<bool> {
+    let mut scenes = 0u32;
+    let mut steps = 0u32;
+    let mut is_well = true;
+    let mut player = Player::new(rt.alloc())?;
+    for line in text.lines() {
+        if line.starts_with("scene ") {
+            player = Player::new(rt.alloc())?;
+            scenes = scenes.saturating_add(1);
+            continue;
+        }
+        let Some((step, wanted)) = line.split_once(" = ") else {
+            continue;
+        };
+        let found = player.step(rt.alloc(), step, size)?;
+        if found.as_str() != wanted {
+            eprintln!(rt; "{step} in pieces of {size}: {found}, and the table has {wanted}")?;
+            is_well = false;
+        }
+        steps = steps.saturating_add(1);
+    }
+    println!(rt; "in pieces of {size}: {scenes} scenes, {steps} steps")?;
+    Ok(is_well)
+}

@@ -1,0 +1,111 @@
+//! Walks answers that were written by hand from MS-TDS: whole, in pieces of one byte, cut in two at each
+//! byte, without their end from each byte on, and with each of their lengths altered. It prints how many
+//! came out as they are to. Or it walks answers that others made, a line of digits each, or measures how
+//! long a walk takes.
+#![tactic(auto)]
+
+mod altering;
+mod judging;
+mod lines;
+mod parsing;
+mod timing;
+mod vector;
+mod walk;
+
+use judging::{Counts, Judge};
+use lines::walk_lines;
+use parsing::read_vectors;
+use std::process::ExitCode;
+use std::{env, fs, io};
+use tds_wire::Walker;
+use timing::time_walks;
+use vector::Vector;
+
+/// The most columns of a result.
+const MOST_COLUMNS: u16 = 4096;
+
+fn main(rt: HostRuntime) -> ExitCode {
+    match run(&rt) {
+        Ok(true) => ExitCode::SUCCESS,
+        Ok(false) => ExitCode::FAILURE,
+        Err(error) => {
+            let _ = eprintln!(rt; "error: {error}");
+            ExitCode::FAILURE
+        }
+    }
+}
+
+/// Runs a command line: `vectors FILE`, `lines` over standard input, or `time FILE PIECE TIMES`.
+fn run(rt: &HostRuntime) -> io::Result<bool> {
+    let mut words = env::args(rt)?.skip(1);
+    let Some(command) = words.next() else {
+        return Err(io::Error::from(io::ErrorKind::InvalidInput));
+    };
+    let Some(file) = words.next() else {
+        walk_lines(rt)?;
+        return Ok(true);
+    };
+    if command.as_str() != "time" {
+        return run_vectors(rt, file.as_str());
+    }
+    let piece = number_of(words.next());
+    let times = number_of(words.next());
+    time_walks(rt, file.as_str(), piece, times as u64)?;
+    Ok(true)
+}
+
+/// A number of the command line, 1 where there is none.
+fn number_of(word: Option<String>) -> usize {
+    match word {
+        Some(word) => word.as_str().parse::<usize>().unwrap_or(1),
+        None => 1,
+    }
+}
+
+/// Judges the answers of a file, and prints the counts. Whether all came out as they are to.
+fn run_vectors(rt: &HostRuntime, file: &str) -> io::Result<bool> {
+    let text = fs::read_to_string(rt, file)?;
+    let vectors = read_vectors(rt.alloc(), text.as_str())?;
+    let mut counts = Counts {
+        answers: 0,
+        wholes: 0,
+        cuts: 0,
+        beginnings: 0,
+        altered: 0,
+    };
+    let mut is_well = true;
+    for vector in vectors.iter() {
+        is_well &= judge(rt, vector, &mut counts)?;
+    }
+    print_counts(rt, counts)?;
+    Ok(is_well)
+}
+
+/// Judges an answer. Whether it came out as it is to in each form.
+fn judge(rt: &HostRuntime, vector: &Vector, counts: &mut Counts) -> io::Result<bool> {
+    let walker = Walker::new(rt.alloc(), MOST_COLUMNS, vector.features)?;
+    let mut judge = Judge::new(rt.alloc(), walker, *counts);
+    let wrong = judge.first_wrong(vector)?;
+    *counts = judge.counts;
+    let Some(text) = wrong else {
+        return Ok(true);
+    };
+    let name = vector.name.as_str();
+    eprintln!(rt; "= {name}\n{text}")?;
+    Ok(false)
+}
+
+fn print_counts(rt: &HostRuntime, counts: Counts) -> io::Result<()> {
+    let Counts {
+        answers,
+        wholes,
+        cuts,
+        beginnings,
+        altered,
+    } = counts;
+    println!(rt; "{answers} answers")?;
+    println!(rt; "{wholes} whole and in pieces of one byte")?;
+    println!(rt; "{cuts} cut in two")?;
+    println!(rt; "{beginnings} without their end")?;
+    println!(rt; "{altered} with a length altered")
+}
