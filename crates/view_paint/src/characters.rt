@@ -314,7 +314,7 @@ fn set_byte(lines: &mut [[u8; WIDTH]], line: usize, column: usize, byte: u8) {
     }
 }
 
-fn place_byte(mark: PlaceMark) -> u8 {
+pub(crate) fn place_byte(mark: PlaceMark) -> u8 {
     match mark {
         PlaceMark::Nothing => b' ',
         PlaceMark::LeaseBegins(_) | PlaceMark::Lease => b'|',

@@ -1,11 +1,23 @@
 //! What the marks of a picture in characters mean: each that occurs, at its foot.
 
-use crate::characters::bar_byte;
+use crate::characters::{bar_byte, place_byte};
 use crate::scene::{FlightEnd, Look, Panel, Scene, Sort};
 use std::alloc::AllocError;
 
 /// What a mark of the picture means, where it occurs.
-const LEGEND: [(u8, &str); 11] = [
+const LEGEND: [(u8, &str); 14] = [
+    (
+        b'|',
+        "| at the left: a caller has the connection, by its lease\n",
+    ),
+    (
+        b':',
+        ": at the left: kept with its transaction, for whoever has the ticket\n",
+    ),
+    (
+        b'-',
+        "~ at the left: given back; nobody is lent it before the client is idle\n",
+    ),
     (b'+', "+ sends or takes a request\n"),
     (b'#', "# reads or works\n"),
     (b'!', "! cancelling: waits for DONE attn\n"),
@@ -90,11 +102,13 @@ fn has_state(panel: &Panel) -> bool {
     false
 }
 
-/// Whether a line shows the mark of a bar; `_` stands for a restart.
+/// Whether a line shows the mark of a bar; `_` stands for a restart, `-` for the caller's mark of what drains.
 fn has_line(panel: &Panel, mark: u8) -> bool {
     for line in panel.lines.iter() {
         let has = match mark {
             b'_' => line.is_rule,
+            b'|' | b':' => place_byte(line.place) == mark,
+            b'-' => place_byte(line.place) == b'~',
             _ => bar_byte(line.client) == mark || bar_byte(line.server) == mark,
         };
         if has {

@@ -1,6 +1,6 @@
 //! What the marks of an SVG picture mean: each that occurs, at its foot.
 
-use crate::scene::{BarMark, FlightEnd, Look, Panel, Scene, Sort};
+use crate::scene::{BarMark, FlightEnd, Look, Panel, PlaceMark, Scene, Sort};
 use crate::svg::marks::{Area, put_cross, put_cut, put_line, put_rect, put_round, put_text};
 use std::alloc::AllocError;
 
@@ -10,6 +10,9 @@ const LINE: usize = 17;
 /// A mark that is explained.
 #[derive(Clone, Copy)]
 enum Told {
+    Leased,
+    Kept,
+    Draining,
     Passing,
     Busy,
     Cancelling,
@@ -23,7 +26,16 @@ enum Told {
     Restart,
 }
 
-const LEGEND: [(Told, &str); 11] = [
+const LEGEND: [(Told, &str); 14] = [
+    (Told::Leased, "a caller has the connection, by its lease"),
+    (
+        Told::Kept,
+        "kept with its transaction, for whoever has the ticket",
+    ),
+    (
+        Told::Draining,
+        "given back; nobody is lent it before the client is idle",
+    ),
     (Told::Passing, "sends a request, or takes one"),
     (Told::Busy, "reads an answer, or works on one"),
     (Told::Cancelling, "cancelling: waits for DONE attn"),
@@ -80,6 +92,7 @@ fn occurs(scene: &Scene, told: Told) -> bool {
 
 fn occurs_in(panel: &Panel, told: Told) -> bool {
     match told {
+        Told::Leased | Told::Kept | Told::Draining => has_place(panel, told),
         Told::Passing => has_bar(panel, BarMark::Passing),
         Told::Busy => has_bar(panel, BarMark::Busy),
         Told::Cancelling => has_bar(panel, BarMark::Cancelling),
@@ -90,6 +103,22 @@ fn occurs_in(panel: &Panel, told: Told) -> bool {
         Told::State => has_state(panel),
         Told::Restart => has_rule(panel),
     }
+}
+
+/// Whether the caller's column shows this in a line.
+fn has_place(panel: &Panel, told: Told) -> bool {
+    for line in panel.lines.iter() {
+        let has = match line.place {
+            PlaceMark::Nothing => false,
+            PlaceMark::LeaseBegins(_) | PlaceMark::Lease => matches!(told, Told::Leased),
+            PlaceMark::TicketBegins(_) | PlaceMark::Ticket => matches!(told, Told::Kept),
+            PlaceMark::DrainingBegins | PlaceMark::Draining => matches!(told, Told::Draining),
+        };
+        if has {
+            return true;
+        }
+    }
+    false
 }
 
 /// Whether a bar of either end has this mark in a line.
@@ -142,9 +171,12 @@ fn put_example(body: &mut String, y: usize, told: Told) -> Result<(), AllocError
     let middle = y.saturating_sub(4);
     let (from, to) = ((12, middle), (42, middle));
     match told {
-        Told::Passing => put_bar(body, y, &["sending sk"]),
-        Told::Busy => put_bar(body, y, &["reading fk sk"]),
-        Told::Cancelling => put_bar(body, y, &["cancelling sk"]),
+        Told::Leased => put_bar(body, (17, y), 20, &["leased"]),
+        Told::Kept => put_bar(body, (17, y), 20, &["kept"]),
+        Told::Draining => put_bar(body, (17, y), 20, &["draining"]),
+        Told::Passing => put_bar(body, (23, y), 8, &["sending sk"]),
+        Told::Busy => put_bar(body, (23, y), 8, &["reading fk sk"]),
+        Told::Cancelling => put_bar(body, (23, y), 8, &["cancelling sk"]),
         Told::Urgent => put_line(body, from, to, ("urgent", "h", "k")),
         Told::Ignored => put_line(body, from, to, ("dropped", "h", "k")),
         Told::Thrown => put_line(body, from, to, ("plain", "x", "k")),
@@ -156,12 +188,18 @@ fn put_example(body: &mut String, y: usize, told: Told) -> Result<(), AllocError
     }
 }
 
-/// Appends a bar of an end.
-fn put_bar(body: &mut String, y: usize, class: &[&str]) -> Result<(), AllocError> {
+/// Appends a bar of a caller or of an end: its left end at its foot, and its width.
+fn put_bar(
+    body: &mut String,
+    foot: (usize, usize),
+    width: usize,
+    class: &[&str],
+) -> Result<(), AllocError> {
+    let (x, y) = foot;
     let area = Area {
-        x: 23,
+        x,
         y: y.saturating_sub(11),
-        width: 8,
+        width,
         height: 15,
     };
     put_rect(body, area, class)
