@@ -1,16 +1,20 @@
 -- The two walks over a packet's data, a token at a time.
-use Rattle.std.proofs.Common.{◌≡◌, ℕ, Bool, true, false, List, [], ◌∷◌, ◌++◌, length, take, Option, Result, Ok, Err, refl, sym, ap, ◌∙◌, rules, append_assoc}
+use Rattle.std.proofs.Common.{◌≡◌, ℕ, ℤ, Bool, true, false, List, [], ◌∷◌, ◌++◌, length, take, Option, Result, Ok, Err, refl, sym, ap, subst, ◌∙◌, rules, append_assoc}
 use Rattle.std.proofs.Math.Seq.{take-append_seam}
 use Rattle.tds_token.specs.declared.fault.TokenFault.{TokenFault}
 use Rattle.tds_token.specs.declared.token.Token.{Token}
 use Rattle.tds_token.specs.declared.token.Token.TheVariants as tokens
-use Rattle.tds_token.specs.Layout.{is_env}
+use Rattle.tds_token.specs.Layout.{is_env, is_row}
+use Rattle.tds_token.specs.Runs.{row_tokens, with_tokens}
 use Rattle.tds_token.specs.Told.{told}
 use Rattle.tds_token.specs.Contents.{Contents, no_more, with_token, at_fault}
 use Rattle.tds_client.specs.declared.fault.ClientFault.{ClientFault}
 use Rattle.tds_client.specs.declared.fault.ClientFault.TheVariants as faults
+use Rattle.tds_client.specs.declared.heard.FinalDone.{FinalDone}
+use Rattle.tds_client.specs.declared.heard.FinalDone.TheVariants.{Awaited, Answered, Acknowledged}
 use Rattle.tds_client.specs.declared.heard.Heard.{Heard}
-use Rattle.tds_client.specs.Hearing.{◌>>=◌, hear, hear_all, at_end_of_data, hear_contents}
+use Rattle.tds_client.specs.declared.sign.Sign.TheVariants as signs
+use Rattle.tds_client.specs.Hearing.{◌>>=◌, hear, hear_all, at_end_of_data, hear_contents, strict_before}
 
 -- ---- The first walk
 
@@ -40,6 +44,42 @@ module _ (cancelling : Bool) (heard first : Heard) (left whole : Contents) (h : 
 
   pub hears_end : (columns : Option ℕ) → left ≡ no_more columns → (hear_contents cancelling first whole ≡ Ok heard) × (columns ≡ whole.columns)
   hears_end columns e = (sym h.heard_is ∙ ap (hear_contents cancelling heard) e, sym (ap (λ (x : Contents). x.columns) e) ∙ h.columns_is)
+
+-- ---- Rows in a run
+
+abbrev heard_in : Heard → Result Heard ClientFault → Heard
+heard_in heard (Ok next) = next
+heard_in heard (Err fault) = heard
+
+nothing_heard : (cancelling : Bool) (heard next : Heard) (done : FinalDone) → heard.done ≡ done → strict_before done cancelling heard signs.Nothing ≡ Ok next
+    → (next ≡ heard) × (heard.done ≡ Awaited)
+nothing_heard cancelling heard next Awaited is said = (sym (ap (heard_in heard) said), is)
+nothing_heard cancelling heard next Answered is said = absurd cc
+nothing_heard cancelling heard next Acknowledged is said = absurd cc
+
+-- A row that is heard leaves what was heard as it is, and stands before the final DONE.
+pub row_leaves : (cancelling : Bool) (heard next : Heard) (t : Token) → is_row t ≡ true → hear cancelling heard t ≡ Ok next → (next ≡ heard) × (heard.done ≡ Awaited)
+unfolding hear
+row_leaves cancelling heard next (tokens.Info m) is said = absurd cc
+row_leaves cancelling heard next (tokens.Error m) is said = absurd cc
+row_leaves cancelling heard next (tokens.ReturnStatus v) is said = absurd cc
+row_leaves cancelling heard next (tokens.Columns cs) is said = absurd cc
+row_leaves cancelling heard next (tokens.Row vs) is said = nothing_heard cancelling heard next heard.done refl said
+row_leaves cancelling heard next (tokens.Env c) is said = absurd cc
+row_leaves cancelling heard next (tokens.Done status cur_cmd rows) is said = absurd cc
+
+row_is_heard : (cancelling : Bool) (heard : Heard) (vs : List ℤ) → heard.done ≡ Awaited → hear cancelling heard (tokens.Row vs) ≡ Ok heard
+unfolding hear
+row_is_heard cancelling heard vs e = ap (λ (d : FinalDone). strict_before d cancelling heard signs.Nothing) e
+
+-- So rows one behind the other are heard as nothing.
+pub hears_rows : (cancelling : Bool) (heard first : Heard) (left rest whole : Contents) (rows : List (List ℤ)) → Hears cancelling heard left first whole
+    → heard.done ≡ Awaited → left ≡ with_tokens (row_tokens rows) rest → Hears cancelling heard rest first whole
+hears_rows cancelling heard first left rest whole [] h awaited e = subst (λ (left : Contents). Hears cancelling heard left first whole) e h
+hears_rows cancelling heard first left rest whole (vs ∷ others) h awaited e =
+    let behind = with_tokens (row_tokens others) rest in
+    hears_rows cancelling heard first behind rest whole others
+    (hears_on cancelling heard first left whole h (tokens.Row vs) behind heard e (row_is_heard cancelling heard vs awaited)) awaited refl
 
 -- ---- The second walk
 

@@ -30,7 +30,13 @@ fn hear_data(
     let mut heard = heard;
     'tokens: while let Some(next) = tokens.next() {
         match next {
-            Ok(token) => heard = heard.hear(cancelling, &token)?,
+            Ok(token) => {
+                heard = heard.hear(cancelling, &token)?;
+                // Behind a row that was heard more rows change nothing: they are passed as one run.
+                if token.is_row() {
+                    let _ = tokens.rows();
+                }
+            }
             Err(fault) => return Err(ClientFault::Token(fault)),
         }
     }

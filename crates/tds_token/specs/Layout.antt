@@ -193,3 +193,13 @@ is_env (tokens.Columns cs) = false
 is_env (tokens.Row vs) = false
 is_env (tokens.Env e) = true
 is_env (tokens.Done status cur_cmd rows) = false
+
+-- Whether it is a row.
+abbrev pub is_row : Token → Bool
+is_row (tokens.Info m) = false
+is_row (tokens.Error m) = false
+is_row (tokens.ReturnStatus v) = false
+is_row (tokens.Columns cs) = false
+is_row (tokens.Row vs) = true
+is_row (tokens.Env e) = false
+is_row (tokens.Done status cur_cmd rows) = false

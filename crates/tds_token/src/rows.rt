@@ -1,6 +1,6 @@
 //! Rows that lie one behind the other, all under the same columns (MS-TDS 2.2.7.20).
 
-ghost use Rattle.std.specs.Prelude.{◌≡◌, ◌<◌, ◌∷◌, [], IfNone, IfSome, length, ℕ};
+ghost use Rattle.std.specs.Prelude.{◌≡◌, ◌<◌, ◌≤◌, ◌∷◌, [], IfNone, IfSome, length, ℕ};
 ghost use Rattle.std.specs.Iterator.{YieldsFirst, item_count};
 ghost use Rattle.tds_token.specs.Runs.{AreRowsTo, IsRowAt, IsRun, behind_row, row_of};
 
@@ -46,6 +46,7 @@ impl<'a> Rows<'a> {
     pub(crate) fn at_front(columns: u8, bytes: &'a [u8]) -> (Rows<'a>, &'a [u8])
         ensures run { IsRun columns bytes.now result.0 result.1.now }
         ensures all { IsRowAt columns result.1.now → ⊥ }
+        ensures shorter { length result.1.now ≤ length bytes.now }
     {
         let (count, rest) = skip_rows(columns, bytes);
         let (front, _) = bytes.split_at(bytes.len() - rest.len());
@@ -134,6 +135,7 @@ fn skip_row(columns: u8, bytes: &[u8]) -> Option<&[u8]>
 fn skip_rows(columns: u8, bytes: &[u8]) -> (usize, &[u8])
     ensures rows { AreRowsTo result.0 columns bytes.now result.1.now }
     ensures all { IsRowAt columns result.1.now → ⊥ }
+    ensures shorter { length result.1.now ≤ length bytes.now }
 {
     let mut count = 0;
     let mut rest = bytes;

@@ -1,5 +1,5 @@
 ghost use Rattle.std.specs.Prelude.{◌≡◌, IfOk};
-ghost use Rattle.tds_token.specs.Layout.{is_env, token_of};
+ghost use Rattle.tds_token.specs.Layout.{is_env, is_row, token_of};
 
 use crate::columns::{ColumnList, ColumnsRef};
 use crate::env_change::EnvChange;
@@ -56,6 +56,13 @@ impl<'a> TokenRef<'a> {
         ensures { result ≡ is_env (token_of self.now) }
     {
         matches!(self, TokenRef::Env(_))
+    }
+
+    /// Whether it is a row.
+    pub fn is_row(&self) -> bool
+        ensures { result ≡ is_row (token_of self.now) }
+    {
+        matches!(self, TokenRef::Row(_))
     }
 
     /// The same token, in memory of its own.

@@ -1,4 +1,4 @@
-ghost use Rattle.std.specs.Prelude.{◌≡◌, ◌<◌, ◌++◌, [], List, ℕ, Option, Some, None, Result, Ok, Err, length};
+ghost use Rattle.std.specs.Prelude.{◌≡◌, ◌<◌, ◌≤◌, ◌++◌, [], List, ℕ, Option, Some, None, Result, Ok, Err, length};
 ghost use Rattle.tds_token.specs.declared.fault.TokenFault.{TokenFault};
 ghost use Rattle.tds_token.specs.declared.token.Token.{Token};
 ghost use Rattle.tds_token.specs.declared.token.TokenRef.{TokenRef};
@@ -101,6 +101,7 @@ impl<'a> Tokens<'a> {
         // They are all: what is left doesn't begin with a row.
         ensures all { NoRow self.new.columns self.new.bytes }
         ensures columns { self.new.columns ≡ self.old.columns }
+        ensures shorter { length self.new.bytes ≤ length self.old.bytes }
     {
         let Some(count) = self.columns.count() else {
             return Rows::none();
