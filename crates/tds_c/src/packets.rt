@@ -209,6 +209,7 @@ fn take(alloc: Global, client: &mut TdsClient, bytes: &[u8]) -> Result<Taken, St
     let heard = match packet.header.kind {
         Kind::Answer => held.hear(packet),
         Kind::Batch | Kind::Attention | Kind::Transaction => return Err(Stop::NoPacket),
+        Kind::Procedure | Kind::BulkLoad => return Err(Stop::NoPacket),
     };
     *client = TdsClient::new(&held, 0);
     match heard {

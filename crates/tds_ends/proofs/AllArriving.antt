@@ -4,7 +4,7 @@ use Rattle.std.specs.List.{AllByRecursion}
 use Rattle.tds_packet.specs.declared.kind.Direction.TheVariants.{ToServer}
 use Rattle.tds_packet.specs.declared.status.Reset.{Reset}
 use Rattle.tds_packet.specs.declared.status.Reset.TheVariants.{Full, KeepTransaction}
-use Rattle.tds_packet.specs.Layout.{IsPacket, bits_of, direction_of, has_bit, is_status}
+use Rattle.tds_packet.specs.Layout.{IsPacket, bits_of, direction_of, has_bit, is_read, is_status}
 use Rattle.tds_packet.specs.Reading.{Reading}
 use Rattle.tds_request.specs.declared.request.RequestKind.{RequestKind}
 use Rattle.tds_request.specs.declared.request.RequestKind.TheVariants as requests
@@ -34,19 +34,26 @@ record HasBits (p : Packet) (bits : ℕ) : Type 0 where
   lawful : is_status ToServer bits ≡ true
   ends : p.body ≡ [] → has_bit bits 1 ≡ true
 
-is_packet : (r : Reading) (p : Packet) (bits : ℕ) → r.direction ≡ ToServer → IsSized r.size p → direction_of p.header.kind ≡ ToServer → HasBits p bits → IsPacket r.direction r.size (packet_bytes p) p.header p.body
-is_packet r p bits to sized directed h = record {
-  spelled = refl;
-  counted = sized.counted;
-  fits = sized.fits;
-  directed = directed ∙ sym to;
-  status = subst (λ d. is_status d (bits_of p.header.status) ≡ true) (sym to) (ap (λ (b : ℕ). is_status ToServer b) h.status ∙ h.lawful);
-  ends = λ none. ap (λ (b : ℕ). has_bit b 1) h.status ∙ h.ends none;
+is_packet : (r : Reading) (p : Packet) (bits : ℕ) → r.direction ≡ ToServer → IsSized r.size p → direction_of p.header.kind ≡ ToServer → is_read p.header.kind ≡ true → HasBits p bits → IsPacket r.direction r.size (packet_bytes p) p.header p.body
+is_packet r p bits to sized directed known h = record {
+  laid_out = record {
+    spelled = refl;
+    counted = sized.counted;
+    fits = sized.fits;
+    directed = directed ∙ sym to;
+    status = subst (λ d. is_status d (bits_of p.header.status) ≡ true) (sym to) (ap (λ (b : ℕ). is_status ToServer b) h.status ∙ h.lawful);
+    ends = λ none. ap (λ (b : ℕ). has_bit b 1) h.status ∙ h.ends none;
+  };
+  is_read = known;
 }
 
 request_directed : (k : RequestKind) → direction_of (packet_kind k) ≡ ToServer
 request_directed requests.Batch = refl
 request_directed requests.Transaction = refl
+
+request_read : (k : RequestKind) → is_read (packet_kind k) ≡ true
+request_read requests.Batch = refl
+request_read requests.Transaction = refl
 
 part_lawful : (before : List ℕ) (mark : Option Reset) → is_status ToServer (0 + bits_behind before mark) ≡ true
 unfolding is_status
@@ -80,18 +87,18 @@ attention_lawful = refl
 is_coming : (r : Reading) (a : Asking) (before : List ℕ) (e : Up) → r.direction ≡ ToServer → IsSized r.size (up_packet e) → IsNext a before e → IsComing r (up_coming e)
 is_coming r a before (Part n p) to sized next =
     is_packet r p (0 + bits_behind before a.mark) to sized
-    (ap direction_of next.0.kind ∙ request_directed (kind_of_request a.request))
+    (ap direction_of next.0.kind ∙ request_directed (kind_of_request a.request)) (ap is_read next.0.kind ∙ request_read (kind_of_request a.request))
     (record { status = next.0.status; lawful = part_lawful before a.mark; ends = λ none. absurd (next.1 none) })
 is_coming r a before (End n b p) to sized next =
     is_packet r p (1 + bits_behind before a.mark) to sized
-    (ap direction_of next.0.kind ∙ request_directed (kind_of_request a.request))
+    (ap direction_of next.0.kind ∙ request_directed (kind_of_request a.request)) (ap is_read next.0.kind ∙ request_read (kind_of_request a.request))
     (record { status = next.0.status; lawful = end_lawful before a.mark; ends = λ none. end_ends before a.mark })
 is_coming r a before (Drop n p) to sized next =
     is_packet r p 3 to sized
-    (ap direction_of next.kind ∙ request_directed (kind_of_request a.request))
+    (ap direction_of next.kind ∙ request_directed (kind_of_request a.request)) (ap is_read next.kind ∙ request_read (kind_of_request a.request))
     (record { status = next.status; lawful = drop_lawful; ends = λ none. refl })
 is_coming r a before (Attention n) to sized next =
-    is_packet r (up_packet (Attention n)) 1 to sized refl
+    is_packet r (up_packet (Attention n)) 1 to sized refl refl
     (record { status = refl; lawful = attention_lawful; ends = λ none. refl })
 
 -- ---- One behind the other

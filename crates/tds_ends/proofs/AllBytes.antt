@@ -30,7 +30,7 @@ nothing_read direction size = record {
 -- ---- No fault
 
 has_header : (r : Reading) (p : Coming) → IsComing r p → 8 ≤ length p.bytes
-has_header r p is = let long = ap length is.spelled in omega (arith, long)
+has_header r p is = let long = ap length is.laid_out.spelled in omega (arith, long)
 
 -- A header that begins a packet has no fault.
 packet_lawful : Fronts → (r : Reading) (p : Coming) (more : List ℕ) → IsComing r p → fault_of r (p.bytes ++ more) ≡ None

@@ -97,12 +97,15 @@ last_status false = refl
 is_packet : (r : Reading) (b : Bool) (place : ℕ) (body : List ℕ) → r.direction ≡ ToClient → 512 ≤ r.size → 1 ≤ length body → length body ≤ 504
     → IsPacket r.direction r.size (packet_bytes (packet kind.Answer (cond b 1 0) place body)) (packet kind.Answer (cond b 1 0) place body).header body
 is_packet r b place body d size some most = record {
-  spelled = refl;
-  counted = refl;
-  fits = omega (arith, size, most);
-  directed = sym d;
-  status = subst (λ x. is_status x (cond b 1 0) ≡ true) (sym d) (last_status b);
-  ends = λ none. absurd (let no : length body ≡ 0 = ap length none in omega (arith, no, some));
+  laid_out = record {
+    spelled = refl;
+    counted = refl;
+    fits = omega (arith, size, most);
+    directed = sym d;
+    status = subst (λ x. is_status x (cond b 1 0) ≡ true) (sym d) (last_status b);
+    ends = λ none. absurd (let no : length body ≡ 0 = ap length none in omega (arith, no, some));
+  };
+  is_read = refl;
 }
 
 coming : (r : Reading) (e : Down) → r.direction ≡ ToClient → 512 ≤ r.size → FirstOf FitsStep e → FirstTold e → IsComing r (down_coming e)

@@ -64,4 +64,4 @@ pub fed_length : (n : ℕ) (old slice new : List ℕ) → new ≡ old ++ take n 
 fed_length n old slice new is within = omega (arith, ap length is, length-append old (take n slice), length-take-le n slice within)
 
 pub whole_length : (r : Reading) (header : Header) (content : List ℕ) → IsPacket r.direction r.size r.taken header content → 8 ≤ length r.taken
-whole_length r header content is = omega (arith, ap length is.spelled)
+whole_length r header content is = omega (arith, ap length is.laid_out.spelled)

@@ -1,16 +1,18 @@
 -- Packets that begin other bytes.
-use Rattle.std.proofs.Common.{◌≡◌, ℕ, ◌/◌, ◌%◌, inl, inr, Some, None, List, [], ◌++◌, length, sym, ap, ◌∙◌, arith, append-nil}
+use Rattle.std.proofs.Common.{◌≡◌, ℕ, ◌/◌, ◌%◌, inl, inr, ◌==◌, Option, Some, None, List, [], ◌∷◌, ◌++◌, length, refl, sym, ap, ◌∙◌, arith, append-nil}
 use Rattle.std.proofs.lemmas.Bool.{cases_lt}
 use Rattle.std.proofs.lemmas.List.{append_cancel_left}
 use Rattle.std.proofs.Math.Nat.{div-add-mod}
+use Rattle.std.specs.Prelude.{find}
 use Rattle.tds_packet.specs.declared.kind.Kind.{Kind}
+use Rattle.tds_packet.specs.declared.kind.Kind.TheVariants.{Batch, Procedure, Answer, Attention, BulkLoad, Transaction}
 use Rattle.tds_packet.specs.declared.kind.Direction.{Direction}
 use Rattle.tds_packet.specs.declared.status.Status.{Status}
 use Rattle.tds_packet.specs.declared.header.Header.{Header}
 use Rattle.tds_packet.specs.Layout.{kind_byte, bits_of, header_bytes, IsPacket}
 use Rattle.tds_packet.specs.Reading.{Reading, fault_of, up_to_end, after_pieces, joined}
 use Rattle.tds_packet.specs.Stream.{IsOnePacket}
-use Rattle.tds_packet.proofs.Faulty.{kind_of-byte, header_fault-append, spelled_packet}
+use Rattle.tds_packet.proofs.Faulty.{header_fault-append, spelled_packet}
 use Rattle.tds_packet.proofs.Readings.{fault_of-short, fault_of-long}
 use Rattle.tds_packet.proofs.Cutting.{any_cutting, ends_at_packet}
 
@@ -18,10 +20,21 @@ pub whatever_follows : (r : Reading) (packet rest content : List ℕ) (h : Heade
 whatever_follows r packet rest content h pieces p e = any_cutting r pieces ∙ ap (up_to_end r) e ∙ ends_at_packet r packet rest content h p
 
 -- of one kind, if of one byte
+abbrev of_byte : ℕ → Option Kind
+of_byte byte = find (λ kind. kind_byte kind == byte) (Batch ∷ Procedure ∷ Answer ∷ Attention ∷ BulkLoad ∷ Transaction ∷ [])
+
+of_byte-kind : (k : Kind) → of_byte (kind_byte k) ≡ Some k
+of_byte-kind Batch = refl
+of_byte-kind Procedure = refl
+of_byte-kind Answer = refl
+of_byte-kind Attention = refl
+of_byte-kind BulkLoad = refl
+of_byte-kind Transaction = refl
+
 one_kind : (k l : Kind) → kind_byte k ≡ kind_byte l → k ≡ l
 one_kind k l e =
-    let this = kind_of-byte k in
-    let that = kind_of-byte l in
+    let this = of_byte-kind k in
+    let that = of_byte-kind l in
     let same : Some k ≡ Some l = cc in
     cc
 
@@ -60,7 +73,7 @@ pub one_packet : (d : Direction) (s : ℕ) (a b x y first second : List ℕ) (g 
 one_packet d s a b x y first second g h p q e =
     let r : Reading = record { direction = d; size = s; taken = [] } in
     let same : a ≡ b = sym (ends_at_packet r a x first g p) ∙ ap (up_to_end r) e ∙ ends_at_packet r b y second h q in
-    let bytes = one_spelling g h first second (sym p.spelled ∙ same ∙ q.spelled) in
+    let bytes = one_spelling g h first second (sym p.laid_out.spelled ∙ same ∙ q.laid_out.spelled) in
     let rest : a ++ x ≡ a ++ y = e ∙ ap (λ (xs : List ℕ). xs ++ y) (sym same) in
     (same, bytes.headers, bytes.contents, append_cancel_left a x y rest)
 

@@ -1,8 +1,8 @@
 -- The layout of a packet: eight bytes of header, and then the data (MS-TDS 2.2.3.1 and 2.2.3.2).
-use Rattle.std.specs.Prelude.{◌≡◌, ℕ, ◌+◌, ◌/◌, ◌%◌, ◌≤◌, ◌==◌, ◌||◌, ◌&&◌, Bool, true, List, [], ◌∷◌, ◌++◌, length, find, Option, Some, None, if◌then◌else◌}
+use Rattle.std.specs.Prelude.{◌≡◌, ℕ, ◌+◌, ◌/◌, ◌%◌, ◌≤◌, ◌==◌, ◌||◌, ◌&&◌, Bool, true, false, List, [], ◌∷◌, ◌++◌, length, find, Option, Some, None, if◌then◌else◌}
 use Rattle.std.specs.Int.RustNames.{bit_and}
 use Rattle.tds_packet.specs.declared.kind.Kind.{Kind}
-use Rattle.tds_packet.specs.declared.kind.Kind.TheVariants.{Batch, Answer, Attention, Transaction}
+use Rattle.tds_packet.specs.declared.kind.Kind.TheVariants.{Batch, Procedure, Answer, Attention, BulkLoad, Transaction}
 use Rattle.tds_packet.specs.declared.kind.Direction.{Direction}
 use Rattle.tds_packet.specs.declared.kind.Direction.TheVariants.{ToServer, ToClient}
 use Rattle.tds_packet.specs.declared.status.Reset.{Reset}
@@ -21,22 +21,36 @@ status_of bits = record { 0 = bits }
 -- the byte of each type (MS-TDS 2.2.3.1.1)
 abbrev pub kind_byte : Kind → ℕ
 kind_byte Batch = 1
+kind_byte Procedure = 3
 kind_byte Answer = 4
 kind_byte Attention = 6
+kind_byte BulkLoad = 7
 kind_byte Transaction = 14
 
+-- the types that are read
 abbrev pub kinds : List Kind
 kinds = Batch ∷ Answer ∷ Attention ∷ Transaction ∷ []
 
--- the type that has this byte
+-- the type that is read where this byte stands
 unfoldable pub kind_of : ℕ → Option Kind
 kind_of byte = find (λ kind. kind_byte kind == byte) kinds
+
+-- calls of procedures and bulk loads are written, and not read
+abbrev pub is_read : Kind → Bool
+is_read Batch = true
+is_read Procedure = false
+is_read Answer = true
+is_read Attention = true
+is_read BulkLoad = false
+is_read Transaction = true
 
 -- the way that each type goes: answers to the client, all else to the server
 abbrev pub direction_of : Kind → Direction
 direction_of Batch = ToServer
+direction_of Procedure = ToServer
 direction_of Answer = ToClient
 direction_of Attention = ToServer
+direction_of BulkLoad = ToServer
 direction_of Transaction = ToServer
 
 -- a number of two bytes, the higher byte first
@@ -70,8 +84,8 @@ reset_of status =
 abbrev pub has_both_resets : ℕ → Bool
 has_both_resets status = has_bit status 8 && has_bit status 16
 
--- The bytes are a packet of this direction and packet size, with this header and these data.
-pub record IsPacket (direction : Direction) (size : ℕ) (bytes : List ℕ) (header : Header) (content : List ℕ) : Type 0 where
+-- The bytes are laid out as a packet of this direction and packet size, of any type, with this header and these data.
+pub record IsLaidOut (direction : Direction) (size : ℕ) (bytes : List ℕ) (header : Header) (content : List ℕ) : Type 0 where
   pub spelled : bytes ≡ header_bytes header ++ content
   pub counted : header.length ≡ 8 + length content
   pub fits : header.length ≤ size
@@ -79,3 +93,8 @@ pub record IsPacket (direction : Direction) (size : ℕ) (bytes : List ℕ) (hea
   pub status : is_status direction (bits_of header.status) ≡ true
   -- only the end of a message has no data
   pub ends : content ≡ [] → has_bit (bits_of header.status) 1 ≡ true
+
+-- They are such a packet, of a type that is read.
+pub record IsPacket (direction : Direction) (size : ℕ) (bytes : List ℕ) (header : Header) (content : List ℕ) : Type 0 where
+  pub laid_out : IsLaidOut direction size bytes header content
+  pub is_read : is_read header.kind ≡ true

@@ -140,11 +140,14 @@ attended on_attention session phase status content =
     then Ok (acknowledges phase (stopped on_attention (is_midway phase) session))
     else Err WrongAttention
 
--- a packet, while there is no fault; an answer is no packet to a server, and means nothing
+-- a packet, while there is no fault; a call of a procedure and a bulk load are of a type that no message here has, and an answer
+-- is no packet to a server, and means nothing
 abbrev pub moved_by :
     Kind → Answers → OnAttention → SessionState → Phase → ℕ → List ℕ → Result Move ServerFault
 moved_by kind.Batch answers on_attention session phase status content =
     part_taken answers session phase message.Batch status content
+moved_by kind.Procedure answers on_attention session phase status content = Err TypeChanged
+moved_by kind.BulkLoad answers on_attention session phase status content = Err TypeChanged
 moved_by kind.Transaction answers on_attention session phase status content =
     part_taken answers session phase message.Transaction status content
 moved_by kind.Attention answers on_attention session phase status content =

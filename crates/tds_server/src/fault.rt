@@ -10,7 +10,8 @@ use tds_request::RequestFault;
 pub enum ServerFault {
     /// 1: a packet of a request came while a request was being answered.
     RequestWhileAnswering,
-    /// 2: the packet's type is not that of the message that it goes on with (MS-TDS 2.2.3.1.1).
+    /// 2: the packet's type is not that of the message that it goes on with, or is that of no
+    /// request which is taken here, as `03` and `07` are (MS-TDS 2.2.3.1.1).
     TypeChanged,
     /// 3: a message's first packet asks for both resets (MS-TDS 2.2.3.1.2).
     BothResets,

@@ -190,6 +190,8 @@ impl<E: Engine + Drop> Server<E> {
             Kind::Batch => self.take_part(RequestKind::Batch, status, packet.data),
             Kind::Transaction => self.take_part(RequestKind::Transaction, status, packet.data),
             Kind::Attention => self.take_attention(status, packet.data, reply),
+            // A reader lends neither.
+            Kind::Procedure | Kind::BulkLoad => Err(ServerFault::TypeChanged),
             Kind::Answer => unreachable!(),
         }
     }

@@ -146,8 +146,10 @@ fn say_header(header: Header, said: &mut Said) -> Result<(), Stop> {
 fn kind_word(kind: Kind) -> &'static str {
     match kind {
         Kind::Batch => "batch",
+        Kind::Procedure => "procedure",
         Kind::Answer => "answer",
         Kind::Attention => "attention",
+        Kind::BulkLoad => "bulk_load",
         Kind::Transaction => "transaction",
     }
 }

@@ -43,6 +43,8 @@ pub(crate) fn put_packet(
         }
         Kind::Batch => put_part(alloc, text, shown, RequestKind::Batch, packet),
         Kind::Transaction => put_part(alloc, text, shown, RequestKind::Transaction, packet),
+        // Of these types the data are not read, and no reader lends them.
+        Kind::Procedure | Kind::BulkLoad => put_length(text, packet.data),
     }
 }
 
@@ -94,6 +96,11 @@ fn put_part(
     if is_whole {
         return put_request(alloc, text, kind, packet.data);
     }
-    writeln!(text, "  part {}", packet.data.len())?;
+    put_length(text, packet.data)
+}
+
+/// Appends the line of data that are not read.
+fn put_length(text: &mut String, data: &[u8]) -> Result<(), ShowFault> {
+    writeln!(text, "  part {}", data.len())?;
     Ok(())
 }

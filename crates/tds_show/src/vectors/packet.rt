@@ -47,6 +47,8 @@ fn data_again(alloc: Global, packet: PacketRef<'_>) -> Result<Option<Vec<u8>>, A
         Kind::Attention => Ok(Some(Vec::new(alloc))),
         Kind::Batch => request_again(alloc, RequestKind::Batch, packet.data),
         Kind::Transaction => request_again(alloc, RequestKind::Transaction, packet.data),
+        // Of these types the data are not read, and no reader lends them.
+        Kind::Procedure | Kind::BulkLoad => Ok(None),
     }
 }
 

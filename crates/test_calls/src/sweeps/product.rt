@@ -52,6 +52,7 @@ impl End {
             (End::Server(server), Kind::Batch) => came_to_server(server.take(packet, out)),
             (End::Server(server), Kind::Attention) => came_to_server(server.take(packet, out)),
             (End::Server(server), Kind::Transaction) => came_to_server(server.take(packet, out)),
+            (End::Server(_), Kind::Procedure | Kind::BulkLoad) => Err(SweepFault::Setting),
         }
     }
 
