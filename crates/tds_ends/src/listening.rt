@@ -73,13 +73,11 @@ pub fn listen(
     'packets: loop {
         match reader.feed(&piece[count..]) {
             Ok(taken) => count += taken,
-            Err(fault) => {
-                return ClientFed {
-                    count: piece.len(),
-                    settled,
-                    stop: Some(ClientStop::Packet(fault)),
-                };
-            }
+            Err(fault) => return ClientFed {
+                count: piece.len(),
+                settled,
+                stop: Some(ClientStop::Packet(fault)),
+            },
         }
         let Some(packet) = reader.packet() else {
             return ClientFed {
@@ -99,13 +97,11 @@ pub fn listen(
                 }
                 settled = settled_by(took, settled);
             }
-            Err(fault) => {
-                return ClientFed {
-                    count,
-                    settled,
-                    stop: Some(ClientStop::Client(fault)),
-                };
-            }
+            Err(fault) => return ClientFed {
+                count,
+                settled,
+                stop: Some(ClientStop::Client(fault)),
+            },
         }
         reader.done();
     }
