@@ -8,7 +8,7 @@ use Rattle.tds_packet.specs.declared.kind.Kind.{Kind}
 use Rattle.tds_packet.specs.declared.kind.Kind.TheVariants as kinds
 use Rattle.tds_packet.specs.declared.kind.Direction.TheVariants.{ToServer}
 use Rattle.tds_packet.specs.declared.status.Reset.{Reset}
-use Rattle.tds_packet.specs.Layout.{direction_of, is_status, IsPacket}
+use Rattle.tds_packet.specs.Layout.{direction_of, is_status, IsLaidOut}
 use Rattle.tds_packet.specs.Size.{IsPacketSize}
 use Rattle.tds_request.specs.declared.request.Request.{Request}
 use Rattle.tds_request.specs.declared.request.RequestKind.{RequestKind}
@@ -97,7 +97,7 @@ starts size s request (Broken fault) h e = quiet size 1 s h.size_is h.kind (omeg
 
 -- ---- Bytes that are packets
 
-one_packet : (size : ℕ) (bytes : List ℕ) (packet : Packet) → IsPacket ToServer size bytes packet.header packet.content → ArePackets size bytes (packet ∷ [])
+one_packet : (size : ℕ) (bytes : List ℕ) (packet : Packet) → IsLaidOut ToServer size bytes packet.header packet.content → ArePackets size bytes (packet ∷ [])
 one_packet size bytes packet is = (bytes, [], sym (append-nil bytes), is, refl)
 
 pub joined : (size : ℕ) (a b : List ℕ) (first others : List Packet) → ArePackets size a first → ArePackets size b others → ArePackets size (a ++ b) (first ++ others)
@@ -155,14 +155,14 @@ sends size s (Broken fault) h e = subst (λ (r : Result (Effect Sent) ClientRefu
 abbrev attention_packet : Packet
 attention_packet = record { header = sent_header kinds.Attention 1 1 []; content = [] }
 
-attention_is : (size : ℕ) → IsPacketSize size → IsPacket ToServer size attention attention_packet.header []
+attention_is : (size : ℕ) → IsPacketSize size → IsLaidOut ToServer size attention attention_packet.header []
 unfolding is_status
 attention_is size lawful = record { spelled = refl; counted = refl; fits = omega arith; directed = refl; status = refl; ends = λ e. refl }
 
 abbrev ignore_packet : Kind → ℕ → Packet
 ignore_packet kind before = record { header = sent_header kind 3 ((before + 1) % 256) []; content = [] }
 
-ignore_is : (size : ℕ) (kind : Kind) (before : ℕ) → IsPacketSize size → direction_of kind ≡ ToServer → IsPacket ToServer size (ignore kind before) (ignore_packet kind before).header []
+ignore_is : (size : ℕ) (kind : Kind) (before : ℕ) → IsPacketSize size → direction_of kind ≡ ToServer → IsLaidOut ToServer size (ignore kind before) (ignore_packet kind before).header []
 unfolding is_status
 ignore_is size kind before lawful directed = record { spelled = refl; counted = refl; fits = omega arith; directed = directed; status = refl; ends = λ e. refl }
 

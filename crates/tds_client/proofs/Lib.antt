@@ -2,6 +2,7 @@ pub mod Reading
 pub mod Walking
 pub mod Changes
 pub mod Parts
+pub mod Filled
 pub mod Attentions
 pub mod HeardAttentions
 pub mod Acknowledged

@@ -3,6 +3,7 @@ pub mod Session
 pub mod Packets
 pub mod Signs
 pub mod Sending
+pub mod Streams
 pub mod Hearing
 pub mod Taking
 pub mod Judging

@@ -6,7 +6,7 @@ use Rattle.tds_packet.specs.declared.kind.Direction.TheVariants.{ToServer}
 use Rattle.tds_packet.specs.declared.header.Header.{Header}
 use Rattle.tds_packet.specs.declared.reader.PacketRef.{PacketRef}
 use Rattle.tds_packet.specs.declared.status.Reset.{Reset}
-use Rattle.tds_packet.specs.Layout.{bits_of, has_bit, reset_of, IsPacket}
+use Rattle.tds_packet.specs.Layout.{bits_of, has_bit, reset_of, IsLaidOut}
 use Rattle.tds_token.specs.declared.token.Token.{Token}
 use Rattle.tds_token.specs.declared.token.Token.TheVariants as tokens
 use Rattle.tds_token.specs.Contents.{contents_of}
@@ -91,7 +91,7 @@ pub record Packet : Type 0 where
 abbrev pub ArePackets : ℕ → List ℕ → List Packet → Type 0
 ArePackets size bytes [] = bytes ≡ []
 ArePackets size bytes (packet ∷ packets) =
-    (front : List ℕ) × (rest : List ℕ) × (bytes ≡ front ++ rest) × IsPacket ToServer size front packet.header packet.content × ArePackets size rest packets
+    (front : List ℕ) × (rest : List ℕ) × (bytes ≡ front ++ rest) × IsLaidOut ToServer size front packet.header packet.content × ArePackets size rest packets
 
 abbrev pub one_if : Bool → ℕ
 one_if true = 1
@@ -99,8 +99,10 @@ one_if false = 0
 
 abbrev pub is_attention : Kind → Bool
 is_attention kinds.Batch = false
+is_attention kinds.Procedure = false
 is_attention kinds.Answer = false
 is_attention kinds.Attention = true
+is_attention kinds.BulkLoad = false
 is_attention kinds.Transaction = false
 
 -- How many of them are attentions.
@@ -155,7 +157,7 @@ Sends s (bytes ∷ next ∷ others) behind =
 -- first packet has the bit of the reset that is asked for; each is full but the last, which alone has end of message.
 pub record IsPart (size : ℕ) (kind : Kind) (mark : Option Reset) (before : ℕ) (last : Bool) (bytes content : List ℕ) : Type 0 where
   pub header : Header
-  pub packet : IsPacket ToServer size bytes header content
+  pub packet : IsLaidOut ToServer size bytes header content
   pub kind_is : header.kind ≡ kind
   pub id : header.packet_id ≡ (before + 1) % 256
   pub ends : has_bit (bits_of header.status) 1 ≡ last

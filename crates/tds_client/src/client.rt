@@ -1,12 +1,14 @@
-ghost use Rattle.std.specs.Prelude.{◌≡◌, None, Err, IfOk, IfErr, OnOk, OnErr};
+ghost use Rattle.std.specs.Prelude.{◌≡◌, ◌≤◌, None, Err, IfOk, IfErr, OnOk, OnErr};
 ghost use Rattle.tds_client.specs.declared.fault.ClientRefusal.{ClientRefusal};
 ghost use Rattle.tds_client.specs.declared.state.Cancelled.{Cancelled};
 ghost use Rattle.tds_client.specs.Session.{new_session, state_of, lost, marked, unless_idle};
-ghost use Rattle.tds_client.specs.Sending.{Does, IsRefusal, started, sent, cancelled, refusal_of};
+ghost use Rattle.tds_packet.specs.Resets.{header_descriptor};
+ghost use Rattle.tds_client.specs.Sending.{Does, IsRefusal, room, started, sent, cancelled, refusal_of};
 
 mod hearing;
 mod parts;
 mod sending;
+mod streaming;
 mod taking;
 
 use crate::fault::{ClientFault, ClientRefusal};
@@ -162,6 +164,26 @@ impl Client {
         Ok(())
     }
 
+    /// The descriptor in the next request's headers: that of the open transaction, or 0 under a full
+    /// mark (MS-TDS 2.2.5.3.2).
+    fn header_descriptor(&self) -> u64
+        ensures { result ≡ header_descriptor self.now.heard.mark self.now.heard.descriptor }
+    {
+        match self.heard.mark {
+            None => self.heard.descriptor,
+            Some(Reset::Full) => 0,
+            Some(Reset::KeepTransaction) => self.heard.descriptor,
+        }
+    }
+
+    /// The most data that a packet has.
+    fn room(&self) -> usize
+        ensures value { result ≡ room self.now }
+        ensures range { (504 ≤ result) × (result ≤ 32759) }
+    {
+        usize::from(self.size.get()) - 8
+    }
+
     /// Takes a request, from idle to sending. Nothing goes out yet.
     ///
     /// Its header holds the descriptor of the open transaction, or 0 under a full mark (MS-TDS
@@ -173,13 +195,8 @@ impl Client {
         ensures err { OnErr result (self.new ≡ self.old) }
     {
         self.check_idle()?;
-        let descriptor = match self.heard.mark {
-            None => self.heard.descriptor,
-            Some(Reset::Full) => 0,
-            Some(Reset::KeepTransaction) => self.heard.descriptor,
-        };
         self.message.clear();
-        encode(request, descriptor, &mut self.message)?;
+        encode(request, self.header_descriptor(), &mut self.message)?;
         self.stage = Stage::Sending(Outgoing {
             kind: request.kind().packet_kind(),
             sent: 0,
@@ -207,7 +224,7 @@ impl Client {
             Stage::Cancelling => return Err(ClientRefusal::NotSending),
             Stage::Broken(_) => return Err(ClientRefusal::Broken),
         };
-        let room = usize::from(self.size.get()) - 8;
+        let room = self.room();
         let left = &self.message[outgoing.sent..];
         if left.len() <= room {
             let status = Status::of_request(true, outgoing.packets, self.heard.mark);

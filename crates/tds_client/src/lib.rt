@@ -8,6 +8,7 @@ mod fault;
 mod heard;
 pub mod heard_laws;
 pub mod laws;
+mod message;
 mod packets;
 mod sign;
 mod state;
@@ -16,6 +17,7 @@ mod walks;
 pub use client::{Client, ClientParts, NextPacket, StageParts};
 pub use fault::{ClientFault, ClientRefusal};
 pub use heard::{FinalDone, Heard};
+pub use message::MessageKind;
 pub use sign::{DoneKind, Rules, Sign, sign_of};
 pub use state::{Cancelled, ClientState, Sent, Taken};
 

@@ -1,9 +1,10 @@
-ghost use Rattle.std.specs.Prelude.{◌≡◌, ◌+◌, ◌≤◌, ◌<◌, ◌^◌, ◌++◌, OnOk, OnErr, length};
+ghost use Rattle.std.specs.Prelude.{◌≡◌, ◌+◌, ◌*◌, ◌≤◌, ◌<◌, ◌^◌, ◌++◌, OnOk, OnErr, length, take};
 ghost use Rattle.tds_packet.specs.Layout.{bits_of};
 ghost use Rattle.tds_client.specs.Packets.{packet_bytes, attention, ignore};
+ghost use Rattle.tds_client.specs.Streams.{ended_by, full_packets, packets_of};
 
 use crate::NoMemory;
-use tds_packet::{Kind, Status, put_sent, sent_header};
+use tds_packet::{Kind, Reset, Status, put_sent, sent_header};
 
 /// Appends a packet that stands behind `before` others of its message. At want of memory nothing is
 /// appended.
@@ -59,4 +60,127 @@ pub(crate) fn put_ignore_and_attention(
         out.truncate(length);
     }
     attention
+}
+
+/// How packets of a message are cut and marked.
+#[derive(Clone, Copy, Debug)]
+pub(crate) struct Filling {
+    pub(crate) kind: Kind,
+    /// The reset that the message asks for.
+    pub(crate) mark: Option<Reset>,
+    /// The data of a full packet.
+    pub(crate) room: usize,
+}
+
+/// Appends so many packets of these bytes, each full, behind `before` others of their message. At
+/// want of memory nothing is appended.
+pub(crate) fn put_full(
+    out: &mut Vec<u8>,
+    filling: Filling,
+    before: usize,
+    count: usize,
+    bytes: &[u8],
+) -> Result<(), NoMemory>
+    requires room { filling.room ≤ 32759 }
+    requires whole { count * filling.room ≤ length bytes.now }
+    requires before { before + count < 2 ^ 63 }
+    ensures ok { OnOk result (out.new.items ≡ out.old.items
+        ++ packets_of filling.room filling.kind filling.mark before count bytes.now) }
+    ensures err { OnErr result (out.new.items ≡ out.old.items) }
+{
+    let length = out.len();
+    let mut left = bytes;
+    let mut before = before;
+    let mut count = count;
+    'packets: while count > 0 {
+        let (data, rest) = left.split_at(filling.room);
+        let status = Status::of_request(false, before, filling.mark);
+        let full = put(out, filling.kind, status, before, data);
+        if full.is_err() {
+            out.truncate(length);
+            return full;
+        }
+        left = rest;
+        before += 1;
+        count -= 1;
+    }
+    Ok(())
+}
+
+/// Appends the packets of these bytes, the last of their message, behind `before` others. Each is
+/// full but the last. At want of memory nothing is appended.
+pub(crate) fn put_to_end(
+    out: &mut Vec<u8>,
+    filling: Filling,
+    before: usize,
+    bytes: &[u8],
+) -> Result<(), NoMemory>
+    requires room { (1 ≤ filling.room) × (filling.room ≤ 32759) }
+    requires before { before + length bytes.now < 2 ^ 63 }
+    ensures ok { OnOk result (out.new.items ≡ out.old.items
+        ++ ended_by filling.room filling.kind filling.mark before bytes.now) }
+    ensures err { OnErr result (out.new.items ≡ out.old.items) }
+{
+    let length = out.len();
+    let count = full_packets(filling.room, bytes.len());
+    put_full(out, filling, before, count, bytes)?;
+    let status = Status::of_request(true, before + count, filling.mark);
+    let last = &bytes[count * filling.room..];
+    let ended = put(out, filling.kind, status, before + count, last);
+    if ended.is_err() {
+        out.truncate(length);
+    }
+    ended
+}
+
+/// Appends full packets of two runs of bytes, so many of each, one behind the other. At want of
+/// memory nothing is appended.
+pub(crate) fn put_both(
+    out: &mut Vec<u8>,
+    filling: Filling,
+    before: usize,
+    first: usize,
+    begun: &[u8],
+    count: usize,
+    rest: &[u8],
+) -> Result<(), NoMemory>
+    requires room { filling.room ≤ 32759 }
+    requires begun { first * filling.room ≤ length begun.now }
+    requires rest { count * filling.room ≤ length rest.now }
+    requires before { before + first + count < 2 ^ 63 }
+    ensures ok { OnOk result (out.new.items ≡ out.old.items
+        ++ (packets_of filling.room filling.kind filling.mark before first begun.now
+        ++ packets_of filling.room filling.kind filling.mark (before + first) count rest.now)) }
+    ensures err { OnErr result (out.new.items ≡ out.old.items) }
+{
+    let length = out.len();
+    put_full(out, filling, before, first, begun)?;
+    let behind = put_full(out, filling, before + first, count, rest);
+    if behind.is_err() {
+        out.truncate(length);
+    }
+    behind
+}
+
+/// How many packets so many bytes fill, where a byte stands behind each.
+pub(crate) fn full_packets(room: usize, bytes: usize) -> usize
+    requires { 1 ≤ room }
+    ensures value { result ≡ full_packets room bytes }
+    ensures whole { result * room ≤ bytes }
+    ensures rest { bytes ≤ result * room + room }
+    ensures few { result ≤ bytes }
+    ensures least { result ≤ result * room }
+{
+    bytes.saturating_sub(1) / room
+}
+
+/// How many packets so many bytes fill or begin.
+pub(crate) fn begun_packets(room: usize, bytes: usize) -> usize
+    requires room { (1 ≤ room) × (room ≤ 32759) }
+    requires bytes { bytes < 2 ^ 63 }
+    ensures end { bytes ≤ result * room }
+    ensures front { result * room < bytes + room }
+    ensures least { result ≤ result * room }
+{
+    (bytes + (room - 1)) / room
 }

@@ -100,4 +100,4 @@ impl Client {
 }
 
 /// No vector is longer, and each packet has a byte of its message at least.
-const MOST: usize = 0x7FFF_FFFF_FFFF_FFFF;
+pub(super) const MOST: usize = 0x7FFF_FFFF_FFFF_FFFF;
