@@ -62,7 +62,7 @@ spelled_once law r bytes one other ps qs s t =
 pub no_packet : (r : Reading) (packet more : List ℕ) → [] ≡ packet ++ more → ¬ IsOnePacket r packet
 no_packet r [] more e one =
     let header : Header = one.0 in
-    let s : [] ≡ header_bytes header ++ one.1 = one.2.spelled in
+    let s : [] ≡ header_bytes header ++ one.1 = one.2.laid_out.spelled in
     absurd (cc)
 no_packet r (x ∷ xs) more e one = absurd (cc)
 

@@ -7,6 +7,10 @@
 //! send              `more` or `last`, and the bytes that go out; or the refusal's number
 //! send_head, send_tail   the same with their count, and the first eight of them or the last four
 //! ask REQUEST       starts it and sends one packet: `more` or `last`
+//! start_message KIND   a batch, procedure, bulk_load or transaction; nothing, or the refusal's number
+//! put BYTES         the bytes that go out, or the refusal's number
+//! put_head BYTES    the same with their count, and the first eight of them
+//! finish            the bytes that go out, or the refusal's number
 //! cancel            what it comes to, and the bytes that go out
 //! take BYTES        takes the packet that these bytes spell: `more`, `finished`, `acknowledged`, or the
 //!                   fault's number, and that of its token
@@ -23,7 +27,9 @@ use crate::said::Said;
 use crate::spelling::{reader, say_tokens, size_of};
 use crate::words::Words;
 use std::alloc::Global;
-use tds_client::{Cancelled, Client, ClientFault, ClientRefusal, ClientState, Sent, Taken};
+use tds_client::{
+    Cancelled, Client, ClientFault, ClientRefusal, ClientState, MessageKind, Sent, Taken,
+};
 use tds_packet::{Direction, Kind, PacketReader, Reset};
 use tds_token::Token;
 
@@ -60,6 +66,10 @@ impl Layer for ClientCalls {
             "send" => self.send("", said),
             "send_head" => self.send("head", said),
             "send_tail" => self.send("tail", said),
+            "start_message" => self.start_message(words.next(), said),
+            "put" => self.put("", words, said),
+            "put_head" => self.put("head", words, said),
+            "finish" => self.finish(said),
             "cancel" => self.cancel(said),
             "take" => self.take(words, said),
             "told" => say_tokens(self.alloc, self.told.as_slice(), said),
@@ -104,6 +114,38 @@ impl ClientCalls {
             Err(refusal) => say_refusal(&refusal, said)?,
         }
         say_part(self.bytes.as_slice(), part, said)
+    }
+
+    fn start_message(&mut self, word: &str, said: &mut Said) -> Result<(), Stop> {
+        let kind = match word {
+            "batch" => MessageKind::Batch,
+            "procedure" => MessageKind::Procedure,
+            "bulk_load" => MessageKind::BulkLoad,
+            "transaction" => MessageKind::Transaction,
+            _ => return Err(Stop::Unread),
+        };
+        match self.client.start_message(kind) {
+            Ok(()) => Ok(()),
+            Err(refusal) => say_refusal(&refusal, said),
+        }
+    }
+
+    fn put(&mut self, part: &str, words: &mut Words<'_>, said: &mut Said) -> Result<(), Stop> {
+        let mut out = Vec::new(self.alloc);
+        words.bytes(&mut self.bytes)?;
+        if let Err(refusal) = self.client.put(self.bytes.as_slice(), &mut out) {
+            say_refusal(&refusal, said)?;
+        }
+        say_part(out.as_slice(), part, said)
+    }
+
+    fn finish(&mut self, said: &mut Said) -> Result<(), Stop> {
+        self.bytes.clear();
+        if let Err(refusal) = self.client.finish(&mut self.bytes) {
+            say_refusal(&refusal, said)?;
+        }
+        said.bytes(self.bytes.as_slice())?;
+        Ok(())
     }
 
     fn cancel(&mut self, said: &mut Said) -> Result<(), Stop> {
