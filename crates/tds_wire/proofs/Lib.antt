@@ -1,6 +1,7 @@
 mod Cutting
 mod Feeding
 mod Kept
+mod Agreed
 mod Walks
 mod WhatIsDue
 mod FieldsPassed

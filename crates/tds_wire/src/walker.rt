@@ -1,6 +1,7 @@
 //! The walk over an answer's tokens.
 
 ghost use Rattle.std.specs.Prelude.{◌≡◌, ◌≤◌, ◌<◌, ◌+◌, ◌-◌, ◌++◌, IfOk, IfErr, IfSome, None, Some, [], true, get_or, length, vec_capacity};
+ghost use Rattle.tds_wire.specs.Told.{added};
 ghost use Rattle.tds_wire.specs.Reading.{IsReady, behind, found_of, is_between, kept, next_token, refusal_at, restarted, token_with};
 
 use crate::NoMemory;
@@ -123,6 +124,12 @@ impl Walker {
         ensures moves { IfOk result (λ fed. 0 < length piece.now → 0 < fed.count) }
         ensures exact { found_of result self.new piece.now ≡ next_token self.old piece.now }
         ensures ready { IfOk result (λ fed. IfSome fed.token (λ _. IsReady self.new)) }
+        // Behind a token the next one starts.
+        ensures start { IfOk result (λ fed. IfSome fed.token
+            (λ token. self.new.start ≡ added token.start token.length)) }
+        // It has room for as many columns as before, and knows what the login acknowledged.
+        ensures most { IfOk result (λ _. self.new.walk.most ≡ self.old.walk.most) }
+        ensures features { IfOk result (λ _. self.new.walk.features ≡ self.old.walk.features) }
         ensures refused { IfErr result (λ refusal. self.new.refused ≡ Some refusal) }
     {
         if let Some(refusal) = self.refused {
