@@ -1,10 +1,10 @@
 -- What `hex` reads is what a word spells.
-use Rattle.std.proofs.Common.{◌≡◌, ℕ, ◌+◌, ◌*◌, List, [], ◌∷◌, Option, Some, None, option_map, Result, Ok, Err, refl, sym, ap, ◌∙◌}
+use Rattle.std.proofs.Common.{◌≡◌, ℕ, ◌+◌, ◌*◌, ◌%◌, arith, length, List, [], ◌∷◌, Option, Some, None, option_map, Result, Ok, Err, refl, sym, ap, ◌∙◌}
 use Rattle.hex.specs.Hex.{decode_of, decode_pairs, digit_or_error, hex_digit_value, ◌>>=◌}
 use Rattle.hex.specs.declared.error.FromHexError.{FromHexError}
 use Rattle.hex.proofs.HexLemmas.{decode_of-digits, decode_of-even, decode_of-ok}
 use Rattle.tds_text.specs.Fields.{both}
-use Rattle.tds_text.specs.Words.{IsHexWord, bytes_spelled}
+use Rattle.tds_text.specs.Words.{IsHexWord, byte_spelled, bytes_spelled}
 
 -- what was read, if it was
 abbrev ok_of : {A : Type 0} → Result A FromHexError → Option A
@@ -51,3 +51,29 @@ decoded_is_hex word bytes h = let ok = decode_of-ok word bytes h in (ok.0, ok.1)
 -- and one that isn't read is none
 pub refused_is_none : (word : List ℕ) (e : FromHexError) → decode_of word ≡ Err e → ¬ IsHexWord word
 refused_is_none word e h is = cc (sym h ∙ (decode_of-digits word is.0 is.1).1)
+
+-- bytes are spelled two digits a byte
+rest_spelled : (x : Option ℕ) (o : Option (List ℕ)) (bytes : List ℕ) → option_map (λ p. p.0 ∷ p.1) (both x o) ≡ Some bytes
+    → (more : List ℕ) × (o ≡ Some more)
+rest_spelled None o bytes h = cc
+rest_spelled (Some b) None bytes h = cc
+rest_spelled (Some b) (Some more) bytes h = (more, refl)
+
+spelled_is_even : (word bytes : List ℕ) → bytes_spelled word ≡ Some bytes → length word % 2 ≡ 0
+spelled_is_even [] bytes h = refl
+spelled_is_even (digit ∷ []) bytes h = cc
+spelled_is_even (a ∷ b ∷ rest) bytes h =
+    let more = rest_spelled (byte_spelled a b) (bytes_spelled rest) bytes h in
+    let e = spelled_is_even rest more.0 more.1 in
+    omega (arith, e)
+
+spells_none : (word : List ℕ) (e : FromHexError) (o : Option (List ℕ)) → bytes_spelled word ≡ o → decode_of word ≡ Err e → o ≡ None
+spells_none word e None h d = refl
+spells_none word e (Some bytes) h d =
+    let even = spelled_is_even word bytes h in
+    let x : None ≡ Some bytes = ap (λ (r : Result (List ℕ) FromHexError). ok_of r) (sym d ∙ decode_of-even word even) ∙ (pairs_spelled 0 word ∙ h) in
+    cc
+
+-- and a word that isn't read spells none
+pub refused_spells_none : (word : List ℕ) (e : FromHexError) → decode_of word ≡ Err e → bytes_spelled word ≡ None
+refused_spells_none word e d = spells_none word e (bytes_spelled word) refl d

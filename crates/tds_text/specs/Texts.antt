@@ -14,6 +14,10 @@ hex_digit n = if nat_lt n 10 then 48 + n else 87 + n
 unfoldable pub hex4 : ℕ → List ℕ
 hex4 n = hex_digit (n / 4096 % 16) ∷ hex_digit (n / 256 % 16) ∷ hex_digit (n / 16 % 16) ∷ hex_digit (n % 16) ∷ []
 
+-- A byte, in two hexadecimal digits.
+unfoldable pub hex2 : ℕ → List ℕ
+hex2 n = hex_digit (n / 16 % 16) ∷ hex_digit (n % 16) ∷ []
+
 -- Whether a UTF-16 unit stands as itself: a character from space to tilde, but the backslash.
 abbrev pub is_plain : ℕ → Bool
 is_plain unit = nat_le 32 unit && nat_le unit 126 && not (unit == 92)

@@ -1,5 +1,5 @@
 //! Bytes as a word of hexadecimal digits.
-ghost use Rattle.std.specs.Prelude.{◌≡◌, ◌≢◌, Some, IfOk, IsErrOf};
+ghost use Rattle.std.specs.Prelude.{◌≡◌, ◌≢◌, None, Some, IfOk, IsErrOf};
 ghost use Rattle.hex.specs.declared.error.FromHexError.{FromHexError};
 ghost use Rattle.tds_text.specs.declared.hexadecimal.WordFault.{WordFault};
 ghost use Rattle.tds_text.specs.Faults.{word_fault_number};
@@ -34,6 +34,7 @@ pub fn word_bytes(alloc: Global, word: &str) -> Result<Vec<u8>, WordFault>
     ensures bytes { IfOk result (λ bytes. bytes_spelled word.now ≡ Some bytes.items) }
     ensures digits { IfOk result (λ _. IsHexWord word.now) }
     ensures wrong { IsErrOf result WordFault.NotHexadecimal → ¬ IsHexWord word.now }
+    ensures none { IsErrOf result WordFault.NotHexadecimal → bytes_spelled word.now ≡ None }
 {
     match hex::decode(alloc, word) {
         Ok(bytes) => Ok(bytes),

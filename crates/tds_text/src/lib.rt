@@ -8,7 +8,9 @@ mod schedule;
 mod words;
 
 pub use hexadecimal::{WordFault, word_bytes};
-pub use rendering::{RenderFault, put_token_line, put_units, render, write_whole};
+pub use rendering::{
+    RenderFault, put_hex2, put_hex4, put_token_line, put_units, render, write_whole,
+};
 pub use schedule::{ScheduleFault, read_schedule, right_or_wrong_somewhere};
 pub use words::{Command, LineFault, read_words};
 

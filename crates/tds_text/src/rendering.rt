@@ -18,7 +18,7 @@ use line::{put_connection, put_event, put_request};
 use std::alloc::Global;
 use std::io::Write;
 use tds_world::{EventReport, Report, RequestReport, Snapshot};
-pub use text::put_units;
+pub use text::{put_hex2, put_hex4, put_units};
 pub use token::put_token_line;
 pub use written::write_whole;
 

@@ -15,6 +15,8 @@ pub enum Command {
     Loopback(String),
     /// To show the packets that this word spells.
     Show(String),
+    /// To show the tokens of the answers' packets that this word spells.
+    Tokens(String),
     /// To check the vectors.
     Vectors,
 }
@@ -71,6 +73,7 @@ fn command_of(alloc: Global, matches: &ArgMatches<'_>) -> Result<Command, LineFa
         Some(("play", used)) => Ok(Command::Play(word_of(alloc, used)?)),
         Some(("loopback", used)) => Ok(Command::Loopback(word_of(alloc, used)?)),
         Some(("show", used)) => Ok(Command::Show(word_of(alloc, used)?)),
+        Some(("tokens", used)) => Ok(Command::Tokens(word_of(alloc, used)?)),
         Some(("vectors", _)) => Ok(Command::Vectors),
         _ => Err(LineFault::Usage),
     }
@@ -88,10 +91,14 @@ fn word_of(alloc: Global, used: &ArgMatches<'_>) -> Result<String, LineFault> {
 fn commands<'a>(alloc: Global) -> Result<clap::Command<'a>, AllocError> {
     let commands = with_word(alloc, no_commands(alloc), "play", one_word(alloc))?;
     let commands = with_word(alloc, commands, "loopback", one_word(alloc))?;
-    // Whether the word is one of digits is for `show` to say, also where it begins with a dash.
-    let digits = one_word(alloc).allow_hyphen_values(true);
-    let commands = with_word(alloc, commands, "show", digits)?;
+    let commands = with_word(alloc, commands, "show", digits(alloc))?;
+    let commands = with_word(alloc, commands, "tokens", digits(alloc))?;
     commands.subcommand(clap::Command::new(alloc, "vectors"))
+}
+
+/// Whether the word is one of digits is for its command to say, also where it begins with a dash.
+fn digits<'a>(alloc: Global) -> Arg<'a> {
+    one_word(alloc).allow_hyphen_values(true)
 }
 
 fn no_commands<'a>(alloc: Global) -> clap::Command<'a> {

@@ -1,5 +1,5 @@
 ghost use Rattle.std.specs.Prelude.{◌≡◌, ◌<◌, ◌++◌, OnOk, string_bytes};
-ghost use Rattle.tds_text.specs.Texts.{hex_digit, hex4, is_plain, unit_text, shown, comma_behind};
+ghost use Rattle.tds_text.specs.Texts.{hex_digit, hex2, hex4, is_plain, unit_text, shown, comma_behind};
 
 use std::alloc::AllocError;
 
@@ -23,9 +23,18 @@ fn put_unit(text: &mut String, unit: u16) -> Result<(), AllocError>
     put_hex4(text, unit)
 }
 
-/// Appends a number in four hexadecimal digits.
+/// Appends a byte in two hexadecimal digits, in lower case.
+#[tactic(auto, unfolding(crate::specs::Texts::hex2))]
+pub fn put_hex2(text: &mut String, byte: u8) -> Result<(), AllocError>
+    ensures { OnOk result (string_bytes text.new ≡ string_bytes text.old ++ hex2 byte) }
+{
+    text.push(hex_digit_of(u16::from(byte) / 16 % 16))?;
+    text.push(hex_digit_of(u16::from(byte) % 16))
+}
+
+/// Appends a number in four hexadecimal digits, in lower case.
 #[tactic(auto, unfolding(crate::specs::Texts::hex4))]
-pub(crate) fn put_hex4(text: &mut String, number: u16) -> Result<(), AllocError>
+pub fn put_hex4(text: &mut String, number: u16) -> Result<(), AllocError>
     ensures { OnOk result (string_bytes text.new ≡ string_bytes text.old ++ hex4 number) }
 {
     text.push(hex_digit_of(number / 4096 % 16))?;
