@@ -1,0 +1,5 @@
+pub mod Packets
+pub mod Lines
+pub mod Messages
+pub mod Answers
+pub mod Runs
