@@ -47,9 +47,12 @@ wire_words ManyColumns = codes "many columns"
 abbrev pub refused_line : WireFault → ℕ → List ℕ
 refused_line fault at = codes "fault " ++ wire_words fault ++ codes " at " ++ decimal at ++ line_feed
 
--- a fault of a packet's header
+-- a fault of a packet's header, by its number
+abbrev pub number_line : ℕ → List ℕ
+number_line number = codes "fault packet " ++ decimal number ++ line_feed
+
 abbrev pub packet_line : PacketFault → List ℕ
-packet_line fault = codes "fault packet " ++ decimal (fault_number fault) ++ line_feed
+packet_line fault = number_line (fault_number fault)
 
 abbrev pub cut_line : List ℕ
 cut_line = codes "cut\n"

@@ -1,5 +1,5 @@
 -- The packet at the front of bytes (MS-TDS 2.2.3), as a client reads it.
-use Rattle.std.specs.Prelude.{ℕ, ◌≤◌, nat_lt, List, [], ◌∷◌, length, take, drop, slice_index, Option, Some, None, if◌then◌else◌}
+use Rattle.std.specs.Prelude.{ℕ, ◌≤◌, ◌==◌, nat_lt, List, length, take, slice_index, slice_range, Option, Some, None, if◌then◌else◌}
 use Rattle.tds_packet.specs.declared.kind.Direction.TheVariants.{ToClient}
 use Rattle.tds_packet.specs.declared.fault.PacketFault.{PacketFault}
 use Rattle.tds_packet.specs.Layout.{has_bit}
@@ -20,8 +20,7 @@ abbrev pub by_header : List ℕ → ℕ → Front
 by_header head count = by_fault (header_fault ToClient 32767 head) head count
 
 unfoldable pub front : List ℕ → Front
-front [] = Nothing
-front (byte ∷ bytes) = if nat_lt (length bytes) 7 then Cut else by_header (take 8 (byte ∷ bytes)) (length (byte ∷ bytes))
+front bytes = if length bytes == 0 then Nothing else if nat_lt (length bytes) 8 then Cut else by_header (take 8 bytes) (length bytes)
 
 -- a packet has a header, and no more bytes than there are
 abbrev pub IsFront : Front → ℕ → Type 0
@@ -30,6 +29,6 @@ IsFront Cut count = Unit {0}
 IsFront (Refused fault) count = Unit {0}
 IsFront (Packet n ends) count = (8 ≤ n) × (n ≤ count)
 
--- its data, and what stands behind it
+-- its data
 abbrev pub content : ℕ → List ℕ → List ℕ
-content n bytes = drop 8 (take n bytes)
+content n bytes = slice_range bytes 8 n

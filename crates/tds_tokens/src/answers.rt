@@ -1,5 +1,5 @@
 //! The packets of answers.
-ghost use Rattle.std.specs.Prelude.{◌≡◌, [], IfOk, string_bytes};
+ghost use Rattle.std.specs.Prelude.{◌≡◌, [], true, IfOk, string_bytes};
 ghost use Rattle.tds_tokens.specs.Answers.{behind, closed, shown, shown_message};
 ghost use Rattle.tds_tokens.specs.Messages.{IsPlain};
 
@@ -75,7 +75,7 @@ fn put_message(
     requires plain { IsPlain walker.old }
     ensures shown { IfOk result (λ is_well. record { text = string_bytes text.new; is_well = is_well }
         ≡ behind (string_bytes text.old) (shown_message «data».now stop.now)) }
-    ensures plain { IsPlain walker.new }
+    ensures plain { IfOk result (λ is_well. is_well ≡ true → IsPlain walker.new) }
 {
     let ending = put_tokens(text, walker, data)?;
     put_closing(text, ending, stop)
@@ -83,8 +83,9 @@ fn put_message(
 
 /// Appends what is said behind the tokens of a message. Whether that is no fault.
 fn put_closing(text: &mut String, ending: Ending, stop: &Front) -> Result<bool, AllocError>
-    ensures { IfOk result (λ is_well. record { text = string_bytes text.new; is_well = is_well }
+    ensures closed { IfOk result (λ is_well. record { text = string_bytes text.new; is_well = is_well }
         ≡ behind (string_bytes text.old) (closed ending stop.now)) }
+    ensures between { IfOk result (λ is_well. is_well ≡ true → ending ≡ Ending.Between) }
 {
     match (ending, stop) {
         (Ending::Refused(fault, at), _) => put_refused(text, fault, at)?,

@@ -1,6 +1,7 @@
 //! The packet at the front of bytes.
 ghost use Rattle.std.specs.Prelude.{◌≡◌, length};
-ghost use Rattle.tds_tokens.specs.Packets.{IsFront, front};
+ghost use Rattle.tds_packet.specs.Layout.{header_bytes};
+ghost use Rattle.tds_tokens.specs.Packets.{IsFront, by_header, by_length, front};
 
 use tds_packet::{Direction, Header, PacketFault, PacketSize};
 
@@ -21,6 +22,7 @@ pub(crate) enum Front {
 }
 
 /// What stands at the front of these bytes, as a client reads it.
+#[tactic(auto, unfolding(crate::specs::Packets::front))]
 pub(crate) fn front_of(bytes: &[u8]) -> Front
     ensures front { result ≡ front bytes.now }
     ensures within { IsFront result (length bytes.now) }
@@ -28,17 +30,31 @@ pub(crate) fn front_of(bytes: &[u8]) -> Front
     if bytes.is_empty() {
         return Front::Nothing;
     }
-    let (Some(head), Some(size)) = (bytes.first_chunk(), PacketSize::new(MOST)) else {
+    match bytes.first_chunk() {
+        None => Front::Cut,
+        Some(head) => headed(head, bytes.len()),
+    }
+}
+
+/// What so many bytes are that begin with this header.
+#[tactic(auto, using(crate::proofs::Fronts::whole_front))]
+fn headed(head: &[u8; 8], count: usize) -> Front
+    ensures front { result ≡ by_header head.now count }
+    ensures within { IsFront result count }
+{
+    let Some(size) = PacketSize::new(MOST) else {
         return Front::Cut;
     };
     match Header::read(head, size, Direction::ToClient) {
         Err(fault) => Front::Refused(fault),
-        Ok(header) => packet_of(header, bytes.len()),
+        Ok(header) => packet_of(header, count),
     }
 }
 
 /// The packet of this header, if so many bytes have it whole.
-fn packet_of(header: Header, count: usize) -> Front {
+fn packet_of(header: Header, count: usize) -> Front
+    ensures { result ≡ by_length (header_bytes header) count }
+{
     let length = usize::from(header.length);
     if count < length {
         return Front::Cut;

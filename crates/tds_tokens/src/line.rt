@@ -1,6 +1,6 @@
 //! The lines of tokens and faults.
 ghost use Rattle.std.specs.Prelude.{◌≡◌, ◌++◌, OnOk, string_bytes};
-ghost use Rattle.tds_tokens.specs.Lines.{change_text, done_text, packet_line, place_text, refused_line, token_line, told_text};
+ghost use Rattle.tds_tokens.specs.Lines.{change_text, done_text, number_line, packet_line, place_text, refused_line, token_line, told_text, wire_words};
 
 use std::alloc::AllocError;
 use std::fmt::Write;
@@ -61,11 +61,19 @@ fn put_change(text: &mut String, kind: u8) -> Result<(), AllocError>
 pub(crate) fn put_refused(text: &mut String, fault: WireFault, at: u64) -> Result<(), AllocError>
     ensures { OnOk result (string_bytes text.new ≡ string_bytes text.old ++ refused_line fault at) }
 {
+    text.push_str("fault ")?;
+    text.push_str(words_of(fault))?;
+    writeln!(text, " at {at}")
+}
+
+fn words_of(fault: WireFault) -> &'static str
+    ensures { result.now ≡ wire_words fault }
+{
     match fault {
-        WireFault::UnknownToken => writeln!(text, "fault unknown token at {at}"),
-        WireFault::NoColumns => writeln!(text, "fault no columns at {at}"),
-        WireFault::UnknownType => writeln!(text, "fault unknown type at {at}"),
-        WireFault::ManyColumns => writeln!(text, "fault many columns at {at}"),
+        WireFault::UnknownToken => "unknown token",
+        WireFault::NoColumns => "no columns",
+        WireFault::UnknownType => "unknown type",
+        WireFault::ManyColumns => "many columns",
     }
 }
 
@@ -74,6 +82,12 @@ pub(crate) fn put_packet_fault(text: &mut String, fault: &PacketFault) -> Result
     ensures { OnOk result
         (string_bytes text.new ≡ string_bytes text.old ++ packet_line fault.now) }
 {
-    let number = fault.number();
+    put_packet_number(text, fault.number())
+}
+
+fn put_packet_number(text: &mut String, number: u8) -> Result<(), AllocError>
+    ensures { OnOk result
+        (string_bytes text.new ≡ string_bytes text.old ++ number_line number) }
+{
     writeln!(text, "fault packet {number}")
 }

@@ -1,4 +1,9 @@
 //! The command `tokens`.
+ghost use Rattle.std.specs.Prelude.{◌≡◌, ◌⊎◌, true, IfErr, IfOk, string_bytes};
+ghost use Rattle.tds_text.specs.Written.{WritesBeginning};
+ghost use Rattle.tds_tokens.specs.Answers.{behind};
+ghost use Rattle.tds_tokens.specs.Runs.{EndsFaulty, Prints, StopsBy, fault_line, shown_word};
+
 use crate::answers::put_answers;
 use std::alloc::{AllocError, Global};
 use std::io::Write;
@@ -12,7 +17,15 @@ pub fn run_tokens<W: Write, F: Write>(
     word: &str,
     output: &mut W,
     errors: &mut F,
-) -> u8 {
+) -> u8
+    ensures status { (result ≡ 0) ⊎ (result ≡ 1) }
+    ensures whole { result ≡ 0
+        → Prints word.now true (W.contents output.old) (W.contents output.new) }
+    ensures silent { result ≡ 0 → F.contents errors.new ≡ F.contents errors.old }
+    ensures faulty { result ≡ 1
+        → EndsFaulty word.now (W.contents output.old) (W.contents output.new)
+        (F.contents errors.old) (F.contents errors.new) }
+{
     match print(alloc, word, output) {
         Ok(true) => 0,
         Ok(false) => 1,
@@ -24,7 +37,12 @@ pub fn run_tokens<W: Write, F: Write>(
 }
 
 /// Prints the text of a word. Whether it has no fault.
-fn print<W: Write>(alloc: Global, word: &str, output: &mut W) -> Result<bool, RenderFault> {
+fn print<W: Write>(alloc: Global, word: &str, output: &mut W) -> Result<bool, RenderFault>
+    ensures whole { IfOk result
+        (λ is_well. Prints word.now is_well (W.contents output.old) (W.contents output.new)) }
+    ensures stops { IfErr result
+        (λ fault. StopsBy fault word.now (W.contents output.old) (W.contents output.new)) }
+{
     let mut text = String::new(alloc);
     let is_well = put_word(alloc, &mut text, word)?;
     write_whole(output, text.as_str())?;
@@ -32,7 +50,10 @@ fn print<W: Write>(alloc: Global, word: &str, output: &mut W) -> Result<bool, Re
 }
 
 /// Appends the text of a word. Whether it has no fault.
-fn put_word(alloc: Global, text: &mut String, word: &str) -> Result<bool, AllocError> {
+fn put_word(alloc: Global, text: &mut String, word: &str) -> Result<bool, AllocError>
+    ensures { IfOk result (λ is_well. record { text = string_bytes text.new; is_well = is_well }
+        ≡ behind (string_bytes text.old) (shown_word word.now)) }
+{
     match word_bytes(alloc, word) {
         Ok(bytes) => put_answers(alloc, text, bytes.as_slice()),
         Err(WordFault::NotHexadecimal) => {
@@ -44,7 +65,10 @@ fn put_word(alloc: Global, text: &mut String, word: &str) -> Result<bool, AllocE
 }
 
 /// Writes the line about what kept the text from going out whole.
-fn tell<F: Write>(fault: &RenderFault, errors: &mut F) {
+fn tell<F: Write>(fault: &RenderFault, errors: &mut F)
+    ensures { WritesBeginning (F.contents errors.old) (F.contents errors.new)
+        (fault_line fault.now) }
+{
     let line = match fault {
         RenderFault::Write => "error: output\n",
         RenderFault::Memory => "error: memory\n",
