@@ -19,7 +19,8 @@ const MOST_COLUMNS: u16 = 4096;
 ///
 /// Where a growth was refused.
 pub fn put_answers(alloc: Global, text: &mut String, bytes: &[u8]) -> Result<bool, AllocError>
-    ensures { IfOk result (λ is_well. record { text = string_bytes text.new; is_well = is_well }
+    ensures { IfOk result (λ is_well.
+        record { text = string_bytes text.new; is_well = is_well }
         ≡ behind (string_bytes text.old) (shown bytes.now)) }
 {
     let features = Features {
@@ -40,7 +41,8 @@ fn put_packets(
 ) -> Result<bool, AllocError>
     requires plain { IsPlain walker.old }
     requires empty { message.old.items ≡ [] }
-    ensures { IfOk result (λ is_well. record { text = string_bytes text.new; is_well = is_well }
+    ensures { IfOk result (λ is_well.
+        record { text = string_bytes text.new; is_well = is_well }
         ≡ behind (string_bytes text.old) (shown bytes.now)) }
 {
     let mut rest = bytes;
@@ -73,7 +75,8 @@ fn put_message(
     stop: &Front,
 ) -> Result<bool, AllocError>
     requires plain { IsPlain walker.old }
-    ensures shown { IfOk result (λ is_well. record { text = string_bytes text.new; is_well = is_well }
+    ensures shown { IfOk result (λ is_well.
+        record { text = string_bytes text.new; is_well = is_well }
         ≡ behind (string_bytes text.old) (shown_message «data».now stop.now)) }
     ensures plain { IfOk result (λ is_well. is_well ≡ true → IsPlain walker.new) }
 {
@@ -83,7 +86,8 @@ fn put_message(
 
 /// Appends what is said behind the tokens of a message. Whether that is no fault.
 fn put_closing(text: &mut String, ending: Ending, stop: &Front) -> Result<bool, AllocError>
-    ensures closed { IfOk result (λ is_well. record { text = string_bytes text.new; is_well = is_well }
+    ensures closed { IfOk result (λ is_well.
+        record { text = string_bytes text.new; is_well = is_well }
         ≡ behind (string_bytes text.old) (closed ending stop.now)) }
     ensures between { IfOk result (λ is_well. is_well ≡ true → ending ≡ Ending.Between) }
 {

@@ -1,5 +1,5 @@
-//! The tokens of answers' packets as text: where each stands in its message, what it is, and how long
-//! it is, for any answer of TDS 7.2 to 7.4.
+//! The tokens of answers' packets as text: where each stands in its message, what it is, and how
+//! long it is, for any answer of TDS 7.2 to 7.4.
 #![tactic(auto)]
 
 mod answers;

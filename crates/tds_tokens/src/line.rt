@@ -21,7 +21,12 @@ pub(crate) fn put_token(text: &mut String, token: &Token) -> Result<(), AllocErr
 fn put_place(text: &mut String, token: &Token) -> Result<(), AllocError>
     ensures { OnOk result (string_bytes text.new ≡ string_bytes text.old ++ place_text token.now) }
 {
-    let Token { kind, start, length, .. } = *token;
+    let Token {
+        kind,
+        start,
+        length,
+        ..
+    } = *token;
     write!(text, "{start} ")?;
     put_hex2(text, kind)?;
     write!(text, " {length}")
@@ -45,7 +50,11 @@ fn put_told(text: &mut String, told: &Told) -> Result<(), AllocError>
 fn put_done(text: &mut String, done: &Done) -> Result<(), AllocError>
     ensures { OnOk result (string_bytes text.new ≡ string_bytes text.old ++ done_text done.now) }
 {
-    let Done { status, command, count } = *done;
+    let Done {
+        status,
+        command,
+        count,
+    } = *done;
     text.push_str(" ")?;
     put_hex4(text, status)?;
     write!(text, " {command} {count}")

@@ -9,9 +9,9 @@ use std::alloc::{AllocError, Global};
 use std::io::Write;
 use tds_text::{RenderFault, WordFault, word_bytes, write_whole};
 
-/// Prints the tokens of the answers' packets that a word of hexadecimal digits spells. The first fault
-/// ends the text. It answers the exit status: 0 if all was shown without a fault, else 1. A line goes
-/// to `errors` where the text doesn't go out whole.
+/// Prints the tokens of the answers' packets that a word of hexadecimal digits spells. The first
+/// fault ends the text. It answers the exit status: 0 if all was shown without a fault, else 1. A
+/// line goes to `errors` where the text doesn't go out whole.
 pub fn run_tokens<W: Write, F: Write>(
     alloc: Global,
     word: &str,

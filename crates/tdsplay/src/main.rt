@@ -1,5 +1,6 @@
 //! Plays schedules of pooled sessions of the Tabular Data Stream, over memory or over sockets, and
-//! prints what each caller is told; shows the bytes of packets; and checks the vectors.
+//! prints what each caller is told; shows the bytes of packets, and the tokens of answers; and checks
+//! the vectors.
 #![tactic(auto)]
 
 mod fault;
@@ -10,6 +11,7 @@ use std::process::ExitCode;
 use std::{env, fs};
 use tds_play::{Command, MemoryCarrier, read_words, run_play, run_show, run_vectors};
 use tds_tcp::run_loopback;
+use tds_tokens::run_tokens;
 
 fn main(rt: HostRuntime) -> ExitCode {
     match run(&rt) {
@@ -39,6 +41,7 @@ fn run(rt: &HostRuntime) -> Result<u8, ProgramFault> {
             Ok(run_loopback(alloc, rt, &mut file, &mut output, &mut errors))
         }
         Command::Show(word) => Ok(run_show(alloc, word.as_str(), &mut output, &mut errors)),
+        Command::Tokens(word) => Ok(run_tokens(alloc, word.as_str(), &mut output, &mut errors)),
         Command::Vectors => Ok(run_vectors(alloc, &mut output, &mut errors)),
     }
 }

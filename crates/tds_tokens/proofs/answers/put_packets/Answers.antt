@@ -23,8 +23,8 @@ packets-preserved-then-ends c =
     let m : 0 < c.packets.most = search rules in
     let d : c.as_slice-then-ends.result.now ≡ c.packets.message.items ++ content c.in-Packet.length c.packets.rest.now = search rules in
     let t =
-        next_message _ _ _ c.packets.most c.packets.message.items c.packets.rest.now c.as_slice-then-ends.result.now c.clear.new.self.items c.in-Packet.length c.in-Packet.ends m
-        c.in-Packet.ensures.front (search rules) d c.clear.ensures.items c.packets.invariant.does c.in_ok-put_message.ensures.shown (search rules) in
+    next_message _ _ _ c.packets.most c.packets.message.items c.packets.rest.now c.as_slice-then-ends.result.now c.clear.new.self.items c.in-Packet.length c.in-Packet.ends m
+    c.in-Packet.ensures.front (search rules) d c.clear.ensures.items c.packets.invariant.does c.in_ok-put_message.ensures.shown (search rules) in
     rw take_rest (record { does = t; plain = c.in_ok-put_message.ensures.plain (search rules) })
 
 pub packets-preserved : goal.packets-preserved

@@ -39,10 +39,10 @@ tokens-preserved c =
     let fits : c.tokens.walker.start + length c.tokens.rest.now ≤ 18446744073709551615 = search rules in
     let shorter : length (drop c.in-Ok.fed.count c.tokens.rest.now) ≤ length c.tokens.rest.now = rw (length-drop c.in-Ok.fed.count c.tokens.rest.now) (omega arith) in
     let t =
-        one_more _ _ c.tokens.most c.tokens.walker c.feed.new.self c.tokens.rest.now (drop c.in-Ok.fed.count c.tokens.rest.now) c.in-Some.token m n
-        c.tokens.invariant.plain c.tokens.invariant.ready fits shorter (c.tokens_are_passed.ensures _ _ c.tokens.invariant.ready)
-        (ap (λ (u : Option Token). found_to u c.feed.new.self (drop c.in-Ok.fed.count c.tokens.rest.now)) (sym c.in-Some.is) ∙ c.in-Ok.ensures.exact)
-        (at_some _ c.in-Some.is c.in-Ok.ensures.start) c.tokens.invariant.does in
+    one_more _ _ c.tokens.most c.tokens.walker c.feed.new.self c.tokens.rest.now (drop c.in-Ok.fed.count c.tokens.rest.now) c.in-Some.token m n
+    c.tokens.invariant.plain c.tokens.invariant.ready fits shorter (c.tokens_are_passed.ensures _ _ c.tokens.invariant.ready)
+    (ap (λ (u : Option Token). found_to u c.feed.new.self (drop c.in-Ok.fed.count c.tokens.rest.now)) (sym c.in-Some.is) ∙ c.in-Ok.ensures.exact)
+    (at_some _ c.in-Some.is c.in-Ok.ensures.start) c.tokens.invariant.does in
     rw take_rest (record {
       does = rw c.in_ok-put_token.ensures t.does;
       ready = at_some _ c.in-Some.is c.in-Ok.ensures.ready;
