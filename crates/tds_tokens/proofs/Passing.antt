@@ -1,5 +1,5 @@
 -- What a walker finds is what the layout says.
-use Rattle.std.proofs.Common.{◌≡◌, refl, sym, ◌∙◌, ap, rules, arith, ℕ, zero, suc, ◌+◌, ◌-◌, ◌<◌, ◌≤◌, ◌==◌, min, false, List, [], ◌∷◌, ◌++◌, length, take, Option, None, Some, IfSome, subst, append_assoc, append-nil}
+use Rattle.std.proofs.Common.{◌≡◌, refl, sym, ◌∙◌, ap, rules, arith, ℕ, zero, suc, ◌+◌, ◌-◌, ◌<◌, ◌≤◌, ◌==◌, false, List, [], ◌∷◌, ◌++◌, length, Option, Some, IfSome, subst, append_assoc, append-nil}
 use Rattle.std.proofs.lemmas.List.{length-take}
 use Rattle.tds_wire.specs.declared.features.Features.{Features}
 use Rattle.tds_wire.specs.declared.fault.Refusal.{Refusal}

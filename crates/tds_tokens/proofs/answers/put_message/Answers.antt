@@ -1,4 +1,3 @@
-use Rattle.std.proofs.Common.{◌≡◌, string_bytes}
 use Rattle.std.proofs.lemmas.Result.{IfOk-weaker}
 use Rattle.tds_tokens.proofs.Showing.{message_shown}
 use Rattle.tds_tokens.proofs.answers.put_message.Goals as goal

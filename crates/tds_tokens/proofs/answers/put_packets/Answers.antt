@@ -1,4 +1,4 @@
-use Rattle.std.proofs.Common.{rules, ◌≡◌, sym, ◌∙◌, ◌<◌, ◌++◌, true, false, []}
+use Rattle.std.proofs.Common.{rules, ◌≡◌, ◌<◌, ◌++◌}
 use Rattle.std.proofs.lemmas.List.{take_rest}
 use Rattle.std.proofs.lemmas.Result.{IfOk-weaker}
 use Rattle.tds_tokens.specs.Packets.{content}

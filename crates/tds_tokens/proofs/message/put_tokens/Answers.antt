@@ -1,4 +1,4 @@
-use Rattle.std.proofs.Common.{rules, arith, ◌≡◌, sym, ap, ◌∙◌, ◌+◌, ◌≤◌, ◌<◌, length, drop, Option, None, Some}
+use Rattle.std.proofs.Common.{rules, arith, ◌≡◌, sym, ap, ◌∙◌, ◌+◌, ◌≤◌, ◌<◌, length, drop, Option}
 use Rattle.std.proofs.lemmas.List.{length-drop, take_rest}
 use Rattle.tds_wire.specs.declared.told.Token.{Token}
 use Rattle.tds_wire.specs.Reading.{found_to}
