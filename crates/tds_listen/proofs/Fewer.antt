@@ -1,5 +1,5 @@
 -- A token takes a byte at least.
-use Rattle.std.proofs.Common.{◌≤◌, ◌<◌, ℕ, zero, suc, List, [], ◌∷◌, length, Option, Some, None, arith}
+use Rattle.std.proofs.Common.{◌≤◌, ◌<◌, ℕ, suc, List, [], ◌∷◌, length, Option, Some, None, arith}
 use Rattle.tds_wire.specs.declared.fault.Refusal.{Refusal}
 use Rattle.tds_wire.specs.declared.due.Standing.{Standing}
 use Rattle.tds_wire.specs.declared.due.Standing.TheVariants.{Between, Going, Failing}

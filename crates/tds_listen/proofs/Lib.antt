@@ -6,3 +6,4 @@ pub mod Quiet
 pub mod Same
 pub mod Lost
 pub mod Laid
+pub mod Agree

@@ -1,10 +1,9 @@
 -- Nothing is told behind a cancel.
-use Rattle.std.proofs.Common.{◌≡◌, ◌∙◌, ◌≢◌, ℕ, List, Option, Some, None, refl, sym, ap}
+use Rattle.std.proofs.Common.{◌≡◌, ◌∙◌, ◌≢◌, ℕ, List, Option, None, refl, sym, ap}
 use Rattle.std.specs.Prelude.{Result, Ok, Err, true, ◌&&◌, not, if◌then◌else◌}
 use Rattle.tds_client.specs.declared.fault.ClientFault.{ClientFault}
 use Rattle.tds_client.specs.declared.heard.Heard.{Heard}
 use Rattle.tds_client.specs.declared.sign.Rules.TheVariants.{Any}
-use Rattle.tds_client.specs.declared.sign.Sign.{Sign}
 use Rattle.tds_client.specs.declared.fault.ClientFault.TheVariants.{NoFinalDone}
 use Rattle.tds_client.specs.declared.heard.FinalDone.{FinalDone}
 use Rattle.tds_client.specs.declared.heard.FinalDone.TheVariants as done
@@ -12,7 +11,7 @@ use Rattle.tds_client.specs.declared.state.Taken.{Taken}
 use Rattle.tds_client.specs.declared.state.Taken.TheVariants as takes
 use Rattle.tds_client.specs.Hearing.{◌>>=◌, hear_sign, may_end}
 use Rattle.tds_client.specs.Machine.{ItemMove, end_skipped, ended_in, signed, signed_in, tells, with_heard}
-use Rattle.tds_client.specs.Session.{ClientSession, Stage, Idle, Cancelling}
+use Rattle.tds_client.specs.Session.{ClientSession, Stage, Cancelling}
 use Rattle.tds_wire.specs.declared.told.Token.{Token}
 use Rattle.tds_wire.specs.Reading.{Reading, Found, Sees, Inside, Refuses, is_between, next_token}
 use Rattle.tds_listen.specs.declared.fault.ListenFault.{ListenFault}

@@ -1,5 +1,5 @@
 -- There are no more tokens than bytes.
-use Rattle.std.proofs.Common.{◌≡◌, ◌∙◌, ◌≤◌, ◌<◌, ℕ, zero, suc, List, [], ◌∷◌, length, refl, sym, ap, arith}
+use Rattle.std.proofs.Common.{◌≡◌, ◌∙◌, ◌≤◌, ℕ, zero, suc, List, [], ◌∷◌, length, refl, sym, ap, arith}
 use Rattle.tds_wire.specs.Reading.{Reading, Found, Sees, Inside, Refuses, next_token}
 use Rattle.tds_listen.specs.Hearing.{Tokens, Stands, led_by, no_tokens, tokens_by, tokens_in, tokens_within}
 use Rattle.tds_listen.proofs.Fewer.{TakesSome, takes_some}

@@ -1,18 +1,20 @@
 //! What follows from the definitions alone. Each function does nothing when it runs: its contract is
 //! the law.
 
-ghost use Rattle.std.specs.Prelude.{◌≡◌, ◌≢◌, ◌++◌, ℕ, List, None, Ok, length, take};
+ghost use Rattle.std.specs.Prelude.{◌≡◌, ◌≢◌, ◌≤◌, ◌++◌, ℕ, List, Option, None, Ok, false, length, take};
 ghost use Rattle.tds_client.specs.Session.{Cancelling, ClientSession};
 ghost use Rattle.tds_client.specs.Signs as strict;
 ghost use Rattle.tds_client.specs.Machine.{ItemMove};
 ghost use Rattle.tds_client.specs.declared.state.Taken.TheVariants.{Acknowledged};
+ghost use Rattle.tds_listen.specs.Agreeing.{IsPassed, Knows};
 ghost use Rattle.tds_listen.specs.Hearing.{Move, heard_data, heard_end, laid_move, next_heard};
 ghost use Rattle.tds_listen.specs.Hearing.{then_data, without_walker};
 ghost use Rattle.tds_listen.specs.Signs.{sign_by};
-ghost use Rattle.tds_token.specs.Layout.{RangedEnv, spelling};
+ghost use Rattle.tds_token.specs.Layout.{IsToken, RangedEnv, spelling};
 ghost use Rattle.tds_token.specs.declared.env_change.EnvChange.{EnvChange};
+ghost use Rattle.tds_token.specs.declared.token.Token.{Token};
 ghost use Rattle.tds_token.specs.declared.token.Token.TheVariants as tokens;
-ghost use Rattle.tds_wire.specs.Reading.{IsReady, Reading, laid_out};
+ghost use Rattle.tds_wire.specs.Reading.{IsReady, Reading, laid_out, next_token, outcome_of};
 ghost use Rattle.tds_wire.specs.Told.{told_of};
 
 /// How an answer's bytes are cut into pieces doesn't matter: two pieces do what both do as one.
@@ -53,3 +55,15 @@ pub fn changes_are_the_same()
         → sign_by 0xE3 (told_of 0xE3 start (length (spelling (tokens.Env change)))
         (take 24 (spelling (tokens.Env change)))) ≡ strict.sign_of (tokens.Env change) }
 {}
+
+/// Both readers agree where both read: what `tds_token` reads as one token is passed as one token, of
+/// the same bytes, kind and sign, and behind it as many columns are known. So it is where the walker
+/// has room for the 16 columns of the strict profile, and no column encryption was acknowledged.
+pub fn readers_agree()
+    ensures { (r : Reading) (columns after : Option ℕ) (token : Token) (bytes rest : List ℕ)
+        → IsReady r → r.walk.features.encryption ≡ false → 16 ≤ r.walk.most
+        → Knows columns r.walk.columns → IsToken columns token bytes after
+        → IsPassed r token bytes rest after (outcome_of (next_token r (bytes ++ rest))) }
+{
+    tds_wire::tokens_are_passed();
+}

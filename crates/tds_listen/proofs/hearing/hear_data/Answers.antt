@@ -1,4 +1,4 @@
-use Rattle.std.proofs.Common.{◌≡◌, ◌∙◌, ap, sym, rules}
+use Rattle.std.proofs.Common.{◌∙◌, rules}
 use Rattle.tds_listen.proofs.Data.{goes_on, heard_all, stops}
 use Rattle.tds_listen.proofs.hearing.hear_data.Goals as goal
 
