@@ -8,9 +8,6 @@ use Rattle.tds_wire.specs.declared.due.Field.TheVariants as field
 use Rattle.tds_wire.specs.declared.due.TokenField.TheVariants as in_token
 use Rattle.tds_wire.specs.declared.due.KeyField.TheVariants as in_key
 use Rattle.tds_wire.specs.declared.due.ColumnField.TheVariants as in_column
-use Rattle.tds_wire.specs.declared.due.TypeField.TheVariants as in_type
-use Rattle.tds_wire.specs.declared.due.ValueField.TheVariants as in_value
-use Rattle.tds_wire.specs.declared.due.LabelField.TheVariants as in_label
 use Rattle.tds_wire.specs.declared.due.Next.TheVariants.{Then, Parted, Named, KeyValued}
 use Rattle.tds_wire.specs.declared.due.Inside.TheVariants as inside
 use Rattle.tds_wire.specs.Walking.{Walk, with_due, with_number, with_run, with_inside, with_shape, with_left, with_parts, ended, value_due, has_no_bytes, behind_type, behind_table, based, broken, column_begun, columns_begun, columns_counted, columns_listed, in_columns, column_described, parameter_described, parameter_typed, parted, named, key_begun, key_passed, key_valued}

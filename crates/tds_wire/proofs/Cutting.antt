@@ -1,18 +1,16 @@
 -- How a message's bytes are cut doesn't matter to a walker, and it sees what the layout says.
-use Rattle.std.proofs.Common.{◌≡◌, ◌∙◌, ◌≤◌, ◌<◌, ℕ, zero, suc, ◌+◌, ◌-◌, List, [], ◌∷◌, ◌++◌, length, take, drop, get_or, Option, Some, None, refl, sym, ap, arith}
-use Rattle.std.specs.Prelude.{min}
+use Rattle.std.proofs.Common.{◌≡◌, ◌∙◌, ◌≤◌, ◌<◌, ℕ, suc, ◌+◌, ◌-◌, List, [], ◌∷◌, ◌++◌, length, take, get_or, Option, Some, None, refl, sym, ap, arith}
 use Rattle.std.proofs.lemmas.List.{length-append, take-append-le, get_or-append-add}
 use Rattle.std.proofs.Math.Seq.{take-append-add}
 use Rattle.tds_wire.specs.declared.fault.Refusal.{Refusal}
 use Rattle.tds_wire.specs.declared.fault.WireFault.{WireFault}
-use Rattle.tds_wire.specs.declared.due.Due.{Due}
 use Rattle.tds_wire.specs.declared.due.Standing.{Standing}
 use Rattle.tds_wire.specs.declared.due.Standing.TheVariants.{Between, Going, Failing}
 use Rattle.tds_wire.specs.declared.told.Token.{Token}
 use Rattle.tds_wire.specs.Walking.{Walk}
 use Rattle.tds_wire.specs.Bytes.{Went, Over, Within, Failed, onward, seen, standing, step, then_piece, to_end, went_by, went_on}
 use Rattle.tds_wire.specs.Told.{added, told_of}
-use Rattle.tds_wire.specs.Reading.{IsReady, Reading, Found, Sees, Inside, Refuses, behind, found_by, found_on, front_of, inside, kept, laid_by, laid_out, next_token, outcome_of, refusal_at, then_found, token_with}
+use Rattle.tds_wire.specs.Reading.{IsReady, Reading, Sees, Inside, Refuses, behind, found_by, found_on, front_of, inside, kept, laid_by, laid_out, next_token, outcome_of, refusal_at, then_found, token_with}
 use Rattle.tds_wire.proofs.Kept.{kept_kept}
 use Rattle.tds_wire.proofs.TokensPassed.{token_seen}
 use Rattle.tds_wire.proofs.Walks.{cut}

@@ -1,5 +1,5 @@
 -- A call of `feed`, by what its cursor answers.
-use Rattle.std.proofs.Common.{◌≡◌, ◌∙◌, ◌≤◌, ℕ, ◌-◌, List, [], ◌++◌, length, take, drop, Option, Some, None, refl, sym, ap, arith}
+use Rattle.std.proofs.Common.{◌≡◌, ◌∙◌, ◌≤◌, ℕ, ◌-◌, List, length, take, drop, Option, Some, None, refl, sym, ap, arith}
 use Rattle.std.proofs.lemmas.List.{length-drop}
 use Rattle.tds_wire.specs.declared.fault.Refusal.{Refusal}
 use Rattle.tds_wire.specs.declared.fault.WireFault.{WireFault}
@@ -8,8 +8,8 @@ use Rattle.tds_wire.specs.declared.due.Due.{Due}
 use Rattle.tds_wire.specs.declared.due.Due.TheVariants as due
 use Rattle.tds_wire.specs.declared.due.Standing.TheVariants.{Between}
 use Rattle.tds_wire.specs.Walking.{Walk}
-use Rattle.tds_wire.specs.Bytes.{Went, Over, Within, Failed, onward, standing}
-use Rattle.tds_wire.specs.Reading.{Reading, Found, Sees, Inside, Refuses, behind, found_by, found_on, front_of, inside, next_token, refusal_at, token_with}
+use Rattle.tds_wire.specs.Bytes.{Over, Within, Failed, onward, standing}
+use Rattle.tds_wire.specs.Reading.{Reading, Sees, Inside, Refuses, behind, found_by, found_on, front_of, inside, next_token, refusal_at, token_with}
 
 pub between_is : (d : Due) → standing d ≡ Between → d ≡ due.Token
 between_is due.Token e = refl

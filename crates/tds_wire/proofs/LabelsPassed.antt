@@ -2,11 +2,6 @@
 use Rattle.std.proofs.Common.{◌≡◌, refl, ◌∙◌, rules, arith, ℕ, zero, suc, ◌-◌, ◌*◌, ◌%◌, ◌==◌, nat_lt, Bool, true, false, List, if◌then◌else◌}
 use Rattle.std.proofs.lemmas.Bool.{lt-ltb}
 use Rattle.tds_wire.specs.declared.due.Field.TheVariants as field
-use Rattle.tds_wire.specs.declared.due.TokenField.TheVariants as in_token
-use Rattle.tds_wire.specs.declared.due.KeyField.TheVariants as in_key
-use Rattle.tds_wire.specs.declared.due.ColumnField.TheVariants as in_column
-use Rattle.tds_wire.specs.declared.due.TypeField.TheVariants as in_type
-use Rattle.tds_wire.specs.declared.due.ValueField.TheVariants as in_value
 use Rattle.tds_wire.specs.declared.due.LabelField.TheVariants as in_label
 use Rattle.tds_wire.specs.declared.due.Next.TheVariants.{Then, Labelled, Classified}
 use Rattle.tds_wire.specs.Walking.{Walk, with_number, with_run, with_left, ended, behind_labels, labelled, classified}

@@ -6,12 +6,7 @@ use Rattle.tds_wire.specs.declared.fault.WireFault.TheVariants.{NoColumns}
 use Rattle.tds_wire.specs.declared.shape.Shape.{Shape}
 use Rattle.tds_wire.specs.declared.shape.Shape.TheVariants as shape
 use Rattle.tds_wire.specs.declared.due.Field.TheVariants as field
-use Rattle.tds_wire.specs.declared.due.TokenField.TheVariants as in_token
-use Rattle.tds_wire.specs.declared.due.KeyField.TheVariants as in_key
 use Rattle.tds_wire.specs.declared.due.ColumnField.TheVariants as in_column
-use Rattle.tds_wire.specs.declared.due.TypeField.TheVariants as in_type
-use Rattle.tds_wire.specs.declared.due.ValueField.TheVariants as in_value
-use Rattle.tds_wire.specs.declared.due.LabelField.TheVariants as in_label
 use Rattle.tds_wire.specs.declared.due.Inside.TheVariants as inside
 use Rattle.tds_wire.specs.Walking.{Walk, with_due, with_number, with_inside, ended, value_due, has_no_bytes, broken, at_column, row_from, valued, next_value, is_skipped, inside_row, shape_at, row_begun, null_row_begun, keeping_nulls, nulls_taken}
 use Rattle.tds_wire.specs.Bytes.{to_end, seen, seen_of}

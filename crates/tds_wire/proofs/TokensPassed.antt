@@ -3,11 +3,6 @@ use Rattle.std.proofs.Common.{◌≡◌, refl, sym, ◌∙◌, ap, rules, arith,
 use Rattle.tds_wire.specs.declared.fault.WireFault.TheVariants.{UnknownToken}
 use Rattle.tds_wire.specs.declared.due.Field.TheVariants as field
 use Rattle.tds_wire.specs.declared.due.TokenField.TheVariants as in_token
-use Rattle.tds_wire.specs.declared.due.KeyField.TheVariants as in_key
-use Rattle.tds_wire.specs.declared.due.ColumnField.TheVariants as in_column
-use Rattle.tds_wire.specs.declared.due.TypeField.TheVariants as in_type
-use Rattle.tds_wire.specs.declared.due.ValueField.TheVariants as in_value
-use Rattle.tds_wire.specs.declared.due.LabelField.TheVariants as in_label
 use Rattle.tds_wire.specs.declared.due.Next.TheVariants.{Ended, Then}
 use Rattle.tds_wire.specs.declared.due.Due.TheVariants.{Token}
 use Rattle.tds_wire.specs.Walking.{Walk, with_due, with_number, with_run, ended, pass, with_kind, begun}

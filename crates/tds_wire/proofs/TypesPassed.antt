@@ -5,12 +5,8 @@ use Rattle.tds_wire.specs.declared.shape.Shape.TheVariants as shape
 use Rattle.tds_wire.specs.declared.types.TypeInfo.{TypeInfo}
 use Rattle.tds_wire.specs.declared.types.TypeInfo.TheVariants as info
 use Rattle.tds_wire.specs.declared.due.Field.TheVariants as field
-use Rattle.tds_wire.specs.declared.due.TokenField.TheVariants as in_token
-use Rattle.tds_wire.specs.declared.due.KeyField.TheVariants as in_key
 use Rattle.tds_wire.specs.declared.due.ColumnField.TheVariants as in_column
 use Rattle.tds_wire.specs.declared.due.TypeField.TheVariants as in_type
-use Rattle.tds_wire.specs.declared.due.ValueField.TheVariants as in_value
-use Rattle.tds_wire.specs.declared.due.LabelField.TheVariants as in_label
 use Rattle.tds_wire.specs.declared.due.Next.TheVariants.{Then, Described, Ciphered}
 use Rattle.tds_wire.specs.declared.due.Inside.{Inside}
 use Rattle.tds_wire.specs.Types.{type_of}

@@ -3,12 +3,7 @@ use Rattle.std.proofs.Common.{◌≡◌, refl, sym, ◌∙◌, rules, arith, ℕ
 use Rattle.tds_wire.specs.declared.shape.Shape.{Shape}
 use Rattle.tds_wire.specs.declared.shape.Shape.TheVariants as shape
 use Rattle.tds_wire.specs.declared.due.Field.TheVariants as field
-use Rattle.tds_wire.specs.declared.due.TokenField.TheVariants as in_token
-use Rattle.tds_wire.specs.declared.due.KeyField.TheVariants as in_key
-use Rattle.tds_wire.specs.declared.due.ColumnField.TheVariants as in_column
-use Rattle.tds_wire.specs.declared.due.TypeField.TheVariants as in_type
 use Rattle.tds_wire.specs.declared.due.ValueField.TheVariants as in_value
-use Rattle.tds_wire.specs.declared.due.LabelField.TheVariants as in_label
 use Rattle.tds_wire.specs.declared.due.Next.TheVariants.{Then, Valued}
 use Rattle.tds_wire.specs.Walking.{Walk, with_due, with_number, with_run, value_due, has_no_bytes, go, pass}
 use Rattle.tds_wire.specs.Bytes.{to_end, seen}

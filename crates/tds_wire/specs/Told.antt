@@ -1,6 +1,6 @@
 -- What a token says, by its first bytes and its length (MS-TDS 2.2.7.6 to 2.2.7.10, 2.2.7.13, 2.2.7.18, 2.2.7.21). Numbers have their low
 -- byte first. Places are counted from the message's first byte, of which the token's own is `start`.
-use Rattle.std.specs.Prelude.{ℕ, zero, suc, ◌+◌, ◌-◌, ◌*◌, ◌%◌, ◌==◌, ◌&&◌, ◌||◌, not, min, nat_lt, Bool, true, false, List, Option, Some, None, length, take, drop, get_or, if◌then◌else◌}
+use Rattle.std.specs.Prelude.{ℕ, zero, suc, ◌+◌, ◌-◌, ◌*◌, ◌%◌, ◌==◌, ◌&&◌, ◌||◌, not, min, nat_lt, Bool, List, Option, Some, None, length, take, drop, get_or, if◌then◌else◌}
 use Rattle.std.specs.Int.{w16, w32, w64, from_le_bytes, cast_signed}
 use Rattle.tds_wire.specs.declared.told.Place.{Place}
 use Rattle.tds_wire.specs.declared.told.ChangeValue.{ChangeValue}

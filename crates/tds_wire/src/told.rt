@@ -1,7 +1,7 @@
 //! What a token says.
 mod reading;
 
-pub(crate) use reading::{added, told_of};
+pub(crate) use reading::{added, tells, told_of};
 
 /// Bytes of a message.
 #[derive(Clone, Copy, Debug, PartialEq, Eq)]

@@ -1,7 +1,7 @@
 //! The walk over an answer's tokens.
 
 ghost use Rattle.std.specs.Prelude.{◌≡◌, ◌≤◌, ◌<◌, ◌+◌, ◌-◌, ◌++◌, IfOk, IfErr, IfSome, None, Some, [], true, get_or, length, vec_capacity};
-ghost use Rattle.tds_wire.specs.Told.{added};
+ghost use Rattle.tds_wire.specs.Told.{added, told_of};
 ghost use Rattle.tds_wire.specs.Reading.{IsReady, behind, found_of, is_between, kept, next_token, refusal_at, restarted, token_with};
 
 use crate::NoMemory;
@@ -9,7 +9,7 @@ use crate::cursor::{Cursor, Step};
 use crate::due::Standing;
 use crate::fault::{Refusal, WireFault};
 use crate::features::Features;
-use crate::told::{Token, added, told_of};
+use crate::told::{Token, Told, added, tells, told_of};
 use std::alloc::Global;
 use std::marker::Model;
 
@@ -159,18 +159,30 @@ impl Walker {
     {
         let length = added(self.passed, bytes.len() as u64);
         let kind = self.cursor.kind();
-        keep_first(&mut self.head, bytes);
         let token = Token {
             kind,
             start: self.start,
             length,
-            told: told_of(kind, self.start, length, &self.head),
+            told: self.tell(kind, length, bytes),
         };
         self.head.clear();
         self.start = added(self.start, length);
         self.passed = 0;
         self.refused = None;
         token
+    }
+
+    /// What a token of this kind and length says, of which these are the last bytes. Rows and all others
+    /// that say nothing are most of an answer, so their first bytes aren't put together for it.
+    fn tell(&mut self, kind: u8, length: u64, bytes: &[u8]) -> Told
+        ensures told { result ≡ told_of kind self.old.start length (kept self.old.head bytes.now) }
+        ensures state { (record self.new { head = [] }) ≡ record self.old { head = [] } }
+    {
+        if !tells(kind) {
+            return Told::Other;
+        }
+        keep_first(&mut self.head, bytes);
+        told_of(kind, self.start, length, &self.head)
     }
 
     /// Refuses the last of these bytes.

@@ -1,7 +1,8 @@
 //! Reads what a token says out of its first bytes.
 
-ghost use Rattle.std.specs.Prelude.{◌≡◌, ◌<◌, ◌≤◌};
+ghost use Rattle.std.specs.Prelude.{◌≡◌, ◌<◌, ◌≤◌, ℕ, List, false};
 ghost use Rattle.tds_wire.specs.Told.{added, both_values, byte_at, change_of, change_value, changed, descriptor_at, digits, done_of, is_descriptor, is_digit, long_at, message_of, next_digit, packet_size, part, part_behind, session_state_of, short_at, sized, told_of, transaction, wide_at};
+ghost use Rattle.tds_wire.specs.declared.told.Told.TheVariants as told;
 
 use crate::told::{Change, ChangeValue, Done, Message, Place, SessionState, Told};
 use byteorder::{ByteOrder, LittleEndian};
@@ -244,6 +245,18 @@ fn session_state_of(start: u64, size: u64, head: &[u8]) -> Told
         is_recoverable: byte_at(head, 9) % 2 == 1,
         states: part_behind(start, size, 10),
     })
+}
+
+/// Whether anything is told of a token of this kind.
+#[tactic(auto, unfolding(crate::specs::Told::told_of))]
+pub(crate) fn tells(kind: u8) -> bool
+    ensures { result ≡ false → (start size : ℕ) (head : List ℕ)
+        → told_of kind start size head ≡ told.Other }
+{
+    match kind {
+        0xFD | 0xFE | 0xFF | 0xE3 | 0xAA | 0xAB | 0x79 | 0xE4 => true,
+        _ => false,
+    }
 }
 
 /// What a token of this kind says that starts here and has so many bytes, of which these are the

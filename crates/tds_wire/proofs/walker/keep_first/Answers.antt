@@ -1,4 +1,4 @@
-use Rattle.std.proofs.Common.{ℕ, ◌≡◌, ◌∙◌, ◌-◌, ◌++◌, ap, length, take, rules}
+use Rattle.std.proofs.Common.{ℕ, ◌∙◌, ◌-◌, ◌++◌, ap, take, rules}
 use Rattle.tds_wire.proofs.Kept.{kept_some}
 use Rattle.tds_wire.proofs.walker.keep_first.Goals as goal
 

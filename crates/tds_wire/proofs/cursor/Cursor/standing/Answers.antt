@@ -1,4 +1,4 @@
-use Rattle.std.proofs.Common.{◌≡◌, ◌≤◌, ◌∙◌, ℕ, length, sym, ap, arith}
+use Rattle.std.proofs.Common.{◌≡◌, ◌∙◌, length, sym, ap, arith}
 use Rattle.tds_wire.specs.Walking.{Walk}
 use Rattle.tds_wire.proofs.Feeding.{between_is}
 use Rattle.tds_wire.proofs.cursor.Cursor.standing.Goals as goal

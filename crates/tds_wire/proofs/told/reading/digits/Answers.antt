@@ -1,5 +1,5 @@
-use Rattle.std.proofs.Common.{rules, arith, refl, sym, ◌∙◌, ap, ◌≡◌, ◌<◌, ◌≤◌, ℕ, zero, suc, ◌+◌, ◌-◌, ◌*◌, Bool, true, false, List, if◌then◌else◌}
-use Rattle.std.specs.Prelude.{Option, Some, None}
+use Rattle.std.proofs.Common.{rules, arith, refl, sym, ◌∙◌, ap, ◌≡◌, ◌<◌, ℕ, zero, suc, ◌+◌, ◌-◌, ◌*◌, true, false, List, if◌then◌else◌}
+use Rattle.std.specs.Prelude.{Some, None}
 use Rattle.tds_wire.specs.Told.{byte_at, digits, is_digit, next_digit}
 use Rattle.tds_wire.proofs.told.reading.digits.Goals as goal
 

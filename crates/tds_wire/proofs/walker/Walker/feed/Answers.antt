@@ -1,4 +1,4 @@
-use Rattle.std.proofs.Common.{rules, ◌≡◌, ◌∙◌, ap, take, drop}
+use Rattle.std.proofs.Common.{rules, ◌≡◌, ◌∙◌, ap, drop}
 use Rattle.std.specs.Prelude.{None}
 use Rattle.tds_wire.specs.Reading.{Reading, Refuses, next_token, reading_of}
 use Rattle.tds_wire.proofs.Agreed.{keeps_over, keeps_within}
