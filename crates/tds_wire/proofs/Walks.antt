@@ -1,16 +1,17 @@
 -- What bytes do, one after another.
-use Rattle.std.proofs.Common.{◌≡◌, refl, sym, ◌∙◌, ap, arith, ℕ, zero, suc, ◌+◌, ◌-◌, ◌<◌, ◌≤◌, nat_lt, true, List, [], ◌∷◌, ◌++◌, length, drop, get_or, min}
+use Rattle.std.proofs.Common.{◌≡◌, refl, sym, ◌∙◌, ap, arith, ℕ, zero, suc, ◌+◌, ◌-◌, ◌<◌, ◌≤◌, nat_lt, true, List, [], ◌∷◌, ◌++◌, length, drop, take, get_or}
+use Rattle.std.specs.Prelude.{max}
+use Rattle.tds_wire.proofs.WhatIsDue.{go_due}
 use Rattle.std.proofs.lemmas.List.{drop_more}
 use Rattle.tds_wire.specs.declared.fault.WireFault.{WireFault}
 use Rattle.tds_wire.specs.declared.due.Next.{Next}
-use Rattle.tds_wire.specs.declared.due.Due.{Due}
-use Rattle.tds_wire.specs.declared.due.Due.TheVariants.{Token, Number, Run, Broken}
+use Rattle.tds_wire.specs.declared.due.Due.TheVariants.{Run}
 use Rattle.std.proofs.lemmas.Bool.{lt-ltb}
-use Rattle.std.proofs.lemmas.List.{drop-drop, drop_all, length-drop}
+use Rattle.std.proofs.lemmas.List.{drop-drop, drop_all, length-drop, take_all}
 use Rattle.tds_wire.specs.declared.due.Standing.{Standing}
 use Rattle.tds_wire.specs.declared.due.Standing.TheVariants.{Between, Going, Failing}
-use Rattle.tds_wire.specs.Walking.{Walk, with_due}
-use Rattle.tds_wire.specs.Bytes.{step, standing, Went, Over, Within, Failed, went_by, went_on, to_end, onward, then_piece, room_in, passed_in}
+use Rattle.tds_wire.specs.Walking.{Walk, go, with_due}
+use Rattle.tds_wire.specs.Bytes.{step, standing, Went, Over, Within, Failed, went_by, went_on, to_end, onward, then_piece}
 
 pub end_between : (w : Walk) (bytes : List ℕ) → standing w.at.due ≡ Between → to_end w bytes ≡ Over w bytes
 unfolding to_end
@@ -87,23 +88,6 @@ run_on w left (suc n) next (b ∷ (c ∷ bytes)) h g =
     let e : left - suc n ≡ left - 1 - n = omega arith in
     rw t (rw e (run_on w (left - 1) n next (c ∷ bytes) (omega (arith, h)) (omega (arith, g))))
 
-none_on : (w : Walk) (n : ℕ) (bytes : List ℕ) → n ≤ 0 → onward w bytes ≡ onward w (drop n bytes)
-none_on w n bytes h = let z : n ≡ 0 = omega (arith, h) in rw z refl
-
-pub passed_on : (d : Due) (w : Walk) (n : ℕ) (bytes : List ℕ) → w.at.due ≡ d → n ≤ room_in d → n ≤ length bytes
-    → onward w bytes ≡ onward (passed_in d w n) (drop n bytes)
-passed_on Token w n bytes e h g = none_on w n bytes h
-passed_on (Number f left value) w n bytes e h g = none_on w n bytes h
-passed_on (Run left next) w n bytes e h g =
-    ap (λ (v : Walk). onward v bytes) (sym (due_again w left next e)) ∙ run_on w left n next bytes h g
-passed_on (Broken fault) w n bytes e h g = none_on w n bytes h
-
-stands : (d : Due) (w : Walk) (n : ℕ) → w.at.due ≡ d → standing (passed_in d w n).at.due ≡ standing w.at.due
-stands Token w n e = refl
-stands (Number f left value) w n e = refl
-stands (Run left next) w n e = ap standing (sym e)
-stands (Broken fault) w n e = refl
-
 on_by : (s : Standing) (bytes : List ℕ) (x : Went) → ((fault : WireFault) → s ≡ Failing fault → ⊥) → went_on s bytes x ≡ x
 on_by Between bytes x h = refl
 on_by Going bytes x h = refl
@@ -114,26 +98,52 @@ pub stepped : (w : Walk) (piece : List ℕ) (i : ℕ) → i < length piece → (
 unfolding onward
 stepped w piece i h on = rw (drop_more piece i 0 h) (on_by (standing w.at.due) _ _ on)
 
--- what a turn of the loop does, up to the byte
-pub skipped : (w v : Walk) (piece : List ℕ) (done n : ℕ) → n ≡ min (length piece - done) (room_in w.at.due) → v ≡ passed_in w.at.due w n
-    → onward w (drop done piece) ≡ onward v (drop (done + n) piece)
-skipped w v piece done n e p =
-    let g : n ≤ length (drop done piece) = rw (length-drop done piece) (omega (arith, e)) in
-    let h : n ≤ room_in w.at.due = omega (arith, e) in
-    passed_on w.at.due w n (drop done piece) refl h g
-    ∙ (ap (λ (u : Walk). onward u (drop n (drop done piece))) (sym p) ∙ ap (onward v) (drop-drop n done piece))
+-- a byte
+pub taken : (w v : Walk) (bytes : List ℕ) (b : ℕ) → 0 < length bytes → b ≡ get_or bytes 0 0 → v ≡ step w b → ((fault : WireFault) → standing w.at.due ≡ Failing fault → ⊥)
+    → onward w bytes ≡ to_end v (drop 1 bytes)
+taken w v bytes b some c s on = stepped w bytes 0 some on ∙ ap (λ (x : Walk). to_end x (drop 1 bytes)) (ap (step w) (sym c) ∙ sym s)
 
-pub keeps_on : (w v : Walk) (n : ℕ) → v ≡ passed_in w.at.due w n → ((fault : WireFault) → standing w.at.due ≡ Failing fault → ⊥)
-    → (fault : WireFault) → standing v.at.due ≡ Failing fault → ⊥
-keeps_on w v n p on fault e = on fault (sym (stands w.at.due w n refl) ∙ (ap (λ (u : Walk). standing u.at.due) (sym p) ∙ e))
+-- a run, of which all the bytes are there
+run_whole : (w : Walk) (left count : ℕ) (next : Next) (bytes : List ℕ) → left ≤ length bytes → 0 < length bytes → count ≡ max left 1
+    → onward (with_due w (Run left next)) bytes ≡ to_end (go w next) (drop count bytes)
+unfolding onward step
+run_whole w left count next [] h g e = absurd (omega (arith, g))
+run_whole w zero count next (b ∷ bytes) h g e =
+    let z : count ≡ 1 = omega (arith, e) in
+    rw z (ap (λ (x : Walk). to_end x bytes) (go_due w (Run 0 next) next))
+run_whole w (suc zero) count next (b ∷ bytes) h g e =
+    let z : count ≡ 1 = omega (arith, e) in
+    rw z (ap (λ (x : Walk). to_end x bytes) (go_due w (Run 1 next) next))
+run_whole w (suc (suc n)) count next (b ∷ bytes) h g e =
+    let t : nat_lt 1 (suc (suc n)) ≡ true = lt-ltb 1 (suc (suc n)) (omega arith) in
+    let z : count ≡ suc (suc n) = omega (arith, e) in
+    let m : suc (suc n) - 1 ≡ suc n = omega arith in
+    rw t (rw m (rw z (end_going (with_due w (Run (suc n) next)) bytes refl ∙ run_whole w (suc n) (suc n) next bytes (omega (arith, h)) (omega (arith, h)) (omega arith))))
 
-pub turned : (w v u : Walk) (piece : List ℕ) (done n b : ℕ) → n ≡ min (length piece - done) (room_in w.at.due) → v ≡ passed_in w.at.due w n
-    → done + n < length piece → b ≡ get_or piece (done + n) 0 → u ≡ step v b → ((fault : WireFault) → standing w.at.due ≡ Failing fault → ⊥)
-    → onward w (drop done piece) ≡ to_end u (drop (done + n + 1) piece)
-turned w v u piece done n b e p h c s on =
-    skipped w v piece done n e p
-    ∙ (stepped v piece (done + n) h (keeps_on w v n p on)
-    ∙ ap (λ (x : Walk). to_end x (drop (done + n + 1) piece)) (ap (step v) (sym c) ∙ sym s))
+pub ran : (w v : Walk) (left count : ℕ) (next : Next) (bytes : List ℕ) → w.at.due ≡ Run left next → left ≤ length bytes → 0 < length bytes → count ≡ max left 1 → v ≡ go w next
+    → onward w bytes ≡ to_end v (drop count bytes)
+ran w v left count next bytes d h g e s =
+    ap (λ (x : Walk). onward x bytes) (sym (due_again w left next d)) ∙ (run_whole w left count next bytes h g e ∙ ap (λ (x : Walk). to_end x (drop count bytes)) (sym s))
+
+-- a run of which only so many bytes are there
+pub ran_on : (w v : Walk) (left : ℕ) (next : Next) (bytes : List ℕ) → w.at.due ≡ Run left next → length bytes < left → v ≡ with_due w (Run (left - length bytes) next)
+    → onward w bytes ≡ to_end v (drop (length bytes) bytes)
+ran_on w v left next bytes d h s =
+    let u : Walk = with_due w (Run (left - length bytes) next) in
+    ap (λ (x : Walk). onward x bytes) (sym (due_again w left next d)) ∙ (run_on w left (length bytes) next bytes (omega (arith, h)) (omega arith)
+    ∙ (sym (end_going u (drop (length bytes) bytes) refl) ∙ ap (λ (x : Walk). to_end x (drop (length bytes) bytes)) (sym s)))
+
+-- what a turn of the loop does
+all_left : (piece : List ℕ) (done : ℕ) → take (length piece - done) (drop done piece) ≡ drop done piece
+all_left piece done =
+    let l = length-drop done piece in
+    take_all (length piece - done) (drop done piece) (omega (arith, l))
+
+pub turned : (w v : Walk) (piece : List ℕ) (done n : ℕ)
+    → onward w (take (length piece - done) (drop done piece)) ≡ to_end v (drop n (take (length piece - done) (drop done piece)))
+    → onward w (drop done piece) ≡ to_end v (drop (done + n) piece)
+turned w v piece done n e =
+    ap (onward w) (sym (all_left piece done)) ∙ (e ∙ (ap (λ (rest : List ℕ). to_end v (drop n rest)) (all_left piece done) ∙ ap (to_end v) (drop-drop n done piece)))
 
 pub nothing_left : (w : Walk) (piece : List ℕ) (i : ℕ) → i ≡ length piece → ((fault : WireFault) → standing w.at.due ≡ Failing fault → ⊥)
     → onward w (drop i piece) ≡ Within w

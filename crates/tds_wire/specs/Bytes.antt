@@ -69,19 +69,6 @@ went_of (steps.Over count) w piece = Over w (drop count piece)
 went_of steps.Within w piece = Within w
 went_of (steps.Failed fault count) w piece = Failed fault (drop count piece)
 
--- inside a run, so many bytes are passed at once
-abbrev pub passed_in : Due → Walk → ℕ → Walk
-passed_in Token w n = w
-passed_in (Number f left value) w n = w
-passed_in (Run left next) w n = with_run w (left - n) next
-passed_in (Broken fault) w n = w
-
-abbrev pub room_in : Due → ℕ
-room_in Token = 0
-room_in (Number f left value) = 0
-room_in (Run left next) = left - 1
-room_in (Broken fault) = 0
-
 -- before the first token of a message
 abbrev pub restarted : Walk → Walk
 restarted w = ended (record w { columns = [] })

@@ -3,6 +3,9 @@ use Rattle.std.specs.Prelude.{◌≡◌, ◌<◌, ◌≤◌, ℕ, length, vec_ca
 use Rattle.tds_wire.specs.declared.cursor.Cursor.TheInside.{Inside}
 use Rattle.tds_wire.specs.Walking.{Walk}
 use Rattle.tds_wire.specs.declared.cursor.Step.{Step}
+use Rattle.tds_wire.specs.declared.fault.WireFault.{WireFault}
+use Rattle.tds_wire.specs.declared.due.Standing.TheVariants.{Failing}
+use Rattle.tds_wire.specs.Bytes.{standing}
 use Rattle.tds_wire.specs.declared.due.Due.TheVariants.{Token}
 use Rattle.tds_wire.specs.declared.cursor.Step.TheVariants as steps
 
@@ -21,6 +24,10 @@ pub record IsBetween (w : Walk) : Type 0 where
   pub due : w.at.due ≡ Token
   pub columns : length w.columns ≤ 4096
   pub nulls : length w.nulls ≡ 512
+
+-- it isn't broken
+abbrev pub IsOn : Walk → Type 0
+IsOn w = (fault : WireFault) → standing w.at.due ≡ Failing fault → ⊥
 
 -- a call takes no more bytes than it was given
 abbrev pub IsWithin : Step → ℕ → Type 0

@@ -1,11 +1,12 @@
 //! Bytes.
-ghost use Rattle.std.specs.Prelude.{min, ◌≡◌, ◌<◌, ◌≤◌, length};
-ghost use Rattle.tds_wire.specs.Bytes.{onward, passed_in, room_in, standing, step, went_of};
-ghost use Rattle.tds_wire.specs.Inside.{EndsBetween, IsBetween, IsWithin, Moves};
+ghost use Rattle.std.specs.Prelude.{◌≡◌, ◌<◌, ◌≤◌, drop, length};
+ghost use Rattle.tds_wire.specs.Bytes.{onward, standing, step, to_end, went_of};
+ghost use Rattle.tds_wire.specs.Inside.{EndsBetween, IsBetween, IsOn, IsWithin, Moves};
+ghost use Rattle.tds_wire.specs.declared.due.Due.TheVariants.{Run};
 ghost use Rattle.tds_wire.specs.declared.due.Standing.TheVariants.{Between};
 
 use crate::cursor::{Cursor, Step};
-use crate::due::{Due, Standing};
+use crate::due::{Due, Next, Standing};
 
 impl Cursor {
     /// Takes a byte.
@@ -45,21 +46,36 @@ impl Cursor {
         self.at.due.standing()
     }
 
-    /// Passes bytes at once inside a run, all but its last one. Answers how many.
-    fn pass_inside(&mut self, most: usize) -> usize
-        ensures count { result ≡ min most (room_in self.old.at.due) }
-        ensures state { self.new ≡ passed_in self.old.at.due self.old result }
+    /// Passes a run of bytes at once, or as much of it as there is. Answers how many.
+    fn pass_run(&mut self, left: u64, next: Next, bytes: &[u8]) -> usize
+        requires some { 0 < length bytes.now }
+        requires due { self.old.at.due ≡ Run left next }
+        ensures within { result ≤ length bytes.now }
+        ensures moves { 0 < result }
+        ensures exact { onward self.old bytes.now ≡ to_end self.new (drop result bytes.now) }
     {
-        match self.at.due {
-            Due::Token => 0,
-            Due::Number { .. } => 0,
-            Due::Run { left, next } => {
-                let count = left.saturating_sub(1).min(most as u64);
-                self.expect_run(left - count, next);
-                count as usize
-            }
-            Due::Broken(_) => 0,
+        if left > bytes.len() as u64 {
+            self.expect_run(left - bytes.len() as u64, next);
+            bytes.len()
+        } else {
+            self.go(next);
+            left.max(1) as usize
         }
+    }
+
+    /// Passes a run of bytes, or takes one byte. Answers how many.
+    fn advance(&mut self, bytes: &[u8]) -> usize
+        requires some { 0 < length bytes.now }
+        requires on { IsOn self.old }
+        ensures within { result ≤ length bytes.now }
+        ensures moves { 0 < result }
+        ensures exact { onward self.old bytes.now ≡ to_end self.new (drop result bytes.now) }
+    {
+        if let Due::Run { left, next } = self.at.due {
+            return self.pass_run(left, next, bytes);
+        }
+        self.take(bytes[0]);
+        1
     }
 
     /// Takes bytes up to the end of one token. After a fault it takes no more.
@@ -74,12 +90,7 @@ impl Cursor {
         }
         let mut done = 0;
         'bytes: while done < piece.len() {
-            done += self.pass_inside(piece.len() - done);
-            if done == piece.len() {
-                break;
-            }
-            self.take(piece[done]);
-            done += 1;
+            done += self.advance(&piece[done..]);
             match self.standing() {
                 Standing::Between => return Step::Over(done),
                 Standing::Going => {}
