@@ -25,16 +25,19 @@ pub(crate) struct Counts {
 pub(crate) struct Judge {
     alloc: Global,
     walker: Walker,
+    /// What is compared of an answer as it stands.
+    detail: Detail,
     found: String,
     wanted: String,
     pub(crate) counts: Counts,
 }
 
 impl Judge {
-    pub(crate) fn new(alloc: Global, walker: Walker, counts: Counts) -> Judge {
+    pub(crate) fn new(alloc: Global, walker: Walker, detail: Detail, counts: Counts) -> Judge {
         Judge {
             alloc,
             walker,
+            detail,
             found: String::new(alloc),
             wanted: String::new(alloc),
             counts,
@@ -81,9 +84,9 @@ impl Judge {
 
     fn wrong_whole(&mut self, vector: &Vector) -> Result<Option<String>, AllocError> {
         self.counts.answers = self.counts.answers.saturating_add(1);
-        self.want(vector, Change::NONE, Detail::All)?;
+        self.want(vector, Change::NONE, self.detail)?;
         for size in [usize::MAX, 1] {
-            self.walk(vector.bytes.as_slice(), Pieces::Each(size), Detail::All)?;
+            self.walk(vector.bytes.as_slice(), Pieces::Each(size), self.detail)?;
             if !self.is_well() {
                 return self.wrong("in pieces of", size);
             }
@@ -93,11 +96,11 @@ impl Judge {
     }
 
     fn wrong_cut(&mut self, vector: &Vector) -> Result<Option<String>, AllocError> {
-        self.want(vector, Change::NONE, Detail::All)?;
+        self.want(vector, Change::NONE, self.detail)?;
         let all = vector.bytes.len();
         let mut count = 0;
         for _ in 0..=all {
-            self.walk(vector.bytes.as_slice(), Pieces::Two(count), Detail::All)?;
+            self.walk(vector.bytes.as_slice(), Pieces::Two(count), self.detail)?;
             if !self.is_well() {
                 return self.wrong("cut at", count);
             }
@@ -118,9 +121,9 @@ impl Judge {
                 break;
             }
             let (beginning, _) = vector.bytes.as_slice().split_at(count.min(all));
-            self.walk(beginning, Pieces::Each(usize::MAX), Detail::All)?;
+            self.walk(beginning, Pieces::Each(usize::MAX), self.detail)?;
             self.wanted.clear();
-            vector.put_beginning(count, &mut self.wanted)?;
+            vector.put_beginning(count, self.detail, &mut self.wanted)?;
             if !self.is_well() {
                 return self.wrong("ended at", count);
             }

@@ -9,6 +9,7 @@ mod judging;
 mod lines;
 mod parsing;
 mod timing;
+mod values;
 mod vector;
 mod walk;
 
@@ -19,7 +20,7 @@ use std::process::ExitCode;
 use std::{env, fs, io};
 use tds_wire::Walker;
 use timing::time_walks;
-use vector::Vector;
+use vector::{Detail, Vector};
 
 /// The most columns of a result.
 const MOST_COLUMNS: u16 = 4096;
@@ -35,7 +36,8 @@ fn main(rt: HostRuntime) -> ExitCode {
     }
 }
 
-/// Runs a command line: `vectors FILE`, `lines` over standard input, or `time FILE PIECE TIMES`.
+/// Runs a command line: `vectors FILE [FILE]`, where the second file's answers have all that is told, `lines` over standard
+/// input, or `time FILE PIECE TIMES`.
 fn run(rt: &HostRuntime) -> io::Result<bool> {
     let mut words = env::args(rt)?.skip(1);
     let Some(command) = words.next() else {
@@ -46,7 +48,7 @@ fn run(rt: &HostRuntime) -> io::Result<bool> {
         return Ok(true);
     };
     if command.as_str() != "time" {
-        return run_vectors(rt, file.as_str());
+        return run_files(rt, file.as_str(), words.next());
     }
     let piece = number_of(words.next());
     let times = number_of(words.next());
@@ -62,10 +64,8 @@ fn number_of(word: Option<String>) -> usize {
     }
 }
 
-/// Judges the answers of a file, and prints the counts. Whether all came out as they are to.
-fn run_vectors(rt: &HostRuntime, file: &str) -> io::Result<bool> {
-    let text = fs::read_to_string(rt, file)?;
-    let vectors = read_vectors(rt.alloc(), text.as_str())?;
+/// Judges the answers of the files, and prints the counts. Whether all came out as they are to.
+fn run_files(rt: &HostRuntime, file: &str, values: Option<String>) -> io::Result<bool> {
     let mut counts = Counts {
         answers: 0,
         wholes: 0,
@@ -73,18 +73,34 @@ fn run_vectors(rt: &HostRuntime, file: &str) -> io::Result<bool> {
         beginnings: 0,
         altered: 0,
     };
-    let mut is_well = true;
-    for vector in vectors.iter() {
-        is_well &= judge(rt, vector, &mut counts)?;
+    let mut is_well = run_file(rt, file, Detail::All, &mut counts)?;
+    if let Some(values) = values {
+        is_well &= run_file(rt, values.as_str(), Detail::Values, &mut counts)?;
     }
     print_counts(rt, counts)?;
     Ok(is_well)
 }
 
+/// Judges the answers of a file. Whether all came out as they are to.
+fn run_file(rt: &HostRuntime, file: &str, detail: Detail, counts: &mut Counts) -> io::Result<bool> {
+    let text = fs::read_to_string(rt, file)?;
+    let vectors = read_vectors(rt.alloc(), text.as_str())?;
+    let mut is_well = true;
+    for vector in vectors.iter() {
+        is_well &= judge(rt, vector, detail, counts)?;
+    }
+    Ok(is_well)
+}
+
 /// Judges an answer. Whether it came out as it is to in each form.
-fn judge(rt: &HostRuntime, vector: &Vector, counts: &mut Counts) -> io::Result<bool> {
+fn judge(
+    rt: &HostRuntime,
+    vector: &Vector,
+    detail: Detail,
+    counts: &mut Counts,
+) -> io::Result<bool> {
     let walker = Walker::new(rt.alloc(), MOST_COLUMNS, vector.features)?;
-    let mut judge = Judge::new(rt.alloc(), walker, *counts);
+    let mut judge = Judge::new(rt.alloc(), walker, detail, *counts);
     let wrong = judge.first_wrong(vector)?;
     *counts = judge.counts;
     let Some(text) = wrong else {

@@ -78,8 +78,10 @@ pub(crate) enum Last {
 pub(crate) enum Detail {
     /// Where tokens end.
     Ends,
-    /// And what is told of them.
+    /// And what is told of DONEs, and the types of ENVCHANGEs.
     All,
+    /// And all that is told.
+    Values,
 }
 
 /// Bytes that were put in, or taken out, at a place.
@@ -133,11 +135,16 @@ impl Vector {
     }
 
     /// Puts the lines that are wanted of the first bytes alone.
-    pub(crate) fn put_beginning(&self, count: usize, text: &mut String) -> Result<(), AllocError> {
+    pub(crate) fn put_beginning(
+        &self,
+        count: usize,
+        detail: Detail,
+        text: &mut String,
+    ) -> Result<(), AllocError> {
         let mut end = 0;
         for line in self.lines.iter() {
             if line.end() <= count {
-                put_line(line, Change::NONE, Detail::All, text)?;
+                put_line(line, Change::NONE, detail, text)?;
                 end = line.end();
             }
         }
@@ -185,7 +192,7 @@ fn put_line(
     };
     let kind = line.kind.as_str();
     write!(text, "{start} {kind} {length}")?;
-    if detail == Detail::All {
+    if detail != Detail::Ends {
         text.push_str(line.more.as_str())?;
     }
     text.push_str("\n")

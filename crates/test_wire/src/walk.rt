@@ -1,5 +1,6 @@
 //! An answer through the walker, and the lines that it tells.
 
+use crate::values::put_values;
 use crate::vector::Detail;
 use std::alloc::AllocError;
 use tds_wire::{Change, Done, Refusal, Token, Told, Walker, WireFault};
@@ -104,12 +105,12 @@ fn put_token(token: Token, detail: Detail, text: &mut String) -> Result<(), Allo
         told,
     } = token;
     write!(text, "{start} {kind:02X} {length}")?;
-    if detail == Detail::All {
-        match told {
-            Told::Done(done) => put_done(done, text)?,
-            Told::Change(change) => put_change(change, text)?,
-            _ => {}
-        }
+    match (detail, told) {
+        (Detail::Ends, _) => {}
+        (_, Told::Done(done)) => put_done(done, text)?,
+        (Detail::All, Told::Change(change)) => put_change(change, text)?,
+        (Detail::All, _) => {}
+        (Detail::Values, told) => put_values(told, text)?,
     }
     text.push_str("\n")
 }
