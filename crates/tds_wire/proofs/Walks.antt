@@ -125,6 +125,16 @@ pub ran : (w v : Walk) (left count : ℕ) (next : Next) (bytes : List ℕ) → w
 ran w v left count next bytes d h g e s =
     ap (λ (x : Walk). onward x bytes) (sym (due_again w left next d)) ∙ (run_whole w left count next bytes h g e ∙ ap (λ (x : Walk). to_end x (drop count bytes)) (sym s))
 
+-- a run that goes on behind these bytes
+pub ran_within : (w v : Walk) (left : ℕ) (next : Next) (bytes : List ℕ) → w.at.due ≡ Run left next → length bytes < left → v ≡ with_due w (Run (left - length bytes) next)
+    → onward w bytes ≡ Within v
+unfolding onward
+ran_within w v left next bytes d h s =
+    let u : Walk = with_due w (Run (left - length bytes) next) in
+    let none : drop (length bytes) bytes ≡ [] = drop_all (length bytes) bytes (omega arith) in
+    ap (λ (x : Walk). onward x bytes) (sym (due_again w left next d)) ∙ (run_on w left (length bytes) next bytes (omega (arith, h)) (omega arith)
+    ∙ (ap (onward u) none ∙ ap Within (sym s)))
+
 -- a run of which only so many bytes are there
 pub ran_on : (w v : Walk) (left : ℕ) (next : Next) (bytes : List ℕ) → w.at.due ≡ Run left next → length bytes < left → v ≡ with_due w (Run (left - length bytes) next)
     → onward w bytes ≡ to_end v (drop (length bytes) bytes)

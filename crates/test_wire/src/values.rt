@@ -1,11 +1,13 @@
 //! All that a token tells, as words.
 
+use crate::walk::put_done;
 use std::alloc::AllocError;
 use tds_wire::{Change, ChangeValue, Message, Place, SessionState, Told};
 
-/// Puts what a token tells that no DONE is.
+/// Puts all that a token tells.
 pub(crate) fn put_values(told: Told, text: &mut String) -> Result<(), AllocError> {
     match told {
+        Told::Done(done) => put_done(done, text),
         Told::Change(change) => put_change(change, text),
         Told::Message(message) => put_message(message, text),
         Told::ReturnStatus(value) => write!(text, " value {value}"),

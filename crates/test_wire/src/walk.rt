@@ -105,18 +105,25 @@ fn put_token(token: Token, detail: Detail, text: &mut String) -> Result<(), Allo
         told,
     } = token;
     write!(text, "{start} {kind:02X} {length}")?;
-    match (detail, told) {
-        (Detail::Ends, _) => {}
-        (_, Told::Done(done)) => put_done(done, text)?,
-        (Detail::All, Told::Change(change)) => put_change(change, text)?,
-        (Detail::All, _) => {}
-        (Detail::Values, told) => put_values(told, text)?,
+    match detail {
+        Detail::Ends => {}
+        Detail::All => put_some(told, text)?,
+        Detail::Values => put_values(told, text)?,
     }
     text.push_str("\n")
 }
 
+/// Puts what a DONE tells, and the type of an ENVCHANGE.
+fn put_some(told: Told, text: &mut String) -> Result<(), AllocError> {
+    match told {
+        Told::Done(done) => put_done(done, text),
+        Told::Change(change) => put_change(change, text),
+        _ => Ok(()),
+    }
+}
+
 /// Puts what a DONE tells.
-fn put_done(done: Done, text: &mut String) -> Result<(), AllocError> {
+pub(crate) fn put_done(done: Done, text: &mut String) -> Result<(), AllocError> {
     let Done {
         status,
         command,

@@ -1,6 +1,6 @@
 //! Bytes.
-ghost use Rattle.std.specs.Prelude.{◌≡◌, ◌<◌, ◌≤◌, drop, length};
-ghost use Rattle.tds_wire.specs.Bytes.{onward, standing, step, to_end, went_of};
+ghost use Rattle.std.specs.Prelude.{◌≡◌, ◌<◌, ◌≤◌, true, false, drop, length};
+ghost use Rattle.tds_wire.specs.Bytes.{Within, onward, standing, step, to_end, went_of};
 ghost use Rattle.tds_wire.specs.Inside.{EndsBetween, IsBetween, IsOn, IsWithin, Moves};
 ghost use Rattle.tds_wire.specs.declared.due.Due.TheVariants.{Run};
 ghost use Rattle.tds_wire.specs.declared.due.Standing.TheVariants.{Between};
@@ -78,8 +78,36 @@ impl Cursor {
         1
     }
 
+    /// Passes a piece that ends inside a run of bytes. Whether it does.
+    fn pass_middle(&mut self, piece: &[u8]) -> bool
+        ensures inside { result ≡ true → onward self.old piece.now ≡ Within self.new }
+        ensures other { result ≡ false → self.new ≡ self.old }
+    {
+        if let Due::Run { left, next } = self.at.due {
+            if left > piece.len() as u64 {
+                self.expect_run(left - piece.len() as u64, next);
+                return true;
+            }
+        }
+        false
+    }
+
     /// Takes bytes up to the end of one token. After a fault it takes no more.
     pub fn feed(&mut self, piece: &[u8]) -> Step
+        ensures within { IsWithin result (length piece.now) }
+        ensures moves { Moves result (length piece.now) }
+        ensures ends { EndsBetween result self.new }
+        ensures exact { went_of result self.new piece.now ≡ onward self.old piece.now }
+    {
+        if self.pass_middle(piece) {
+            Step::Within
+        } else {
+            self.feed_on(piece)
+        }
+    }
+
+    /// The same of any piece, a run of bytes or a byte at a time.
+    fn feed_on(&mut self, piece: &[u8]) -> Step
         ensures within { IsWithin result (length piece.now) }
         ensures moves { Moves result (length piece.now) }
         ensures ends { EndsBetween result self.new }

@@ -1,6 +1,6 @@
 use Rattle.std.proofs.Common.{rules, sym, ◌∙◌, ◌≡◌, length}
 use Rattle.tds_wire.proofs.Walks.{onward_failing, end_between, end_going, end_failing, turned, nothing_left}
-use Rattle.tds_wire.proofs.cursor.Cursor.feed.Goals as goal
+use Rattle.tds_wire.proofs.cursor.Cursor.feed_on.Goals as goal
 
 pub returns-in-Failing-clause-exact : goal.returns-in-Failing-clause-exact
 returns-in-Failing-clause-exact c = sym (onward_failing c.args.self.now c.args.piece.now c.in-Failing.fault (sym c.standing.ensures.due ∙ c.in-Failing.is))

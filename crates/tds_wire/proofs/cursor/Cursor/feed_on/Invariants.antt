@@ -2,7 +2,7 @@ use Rattle.std.proofs.Common.{◌≡◌, ◌-◌, ◌≤◌, length, drop}
 use Rattle.tds_wire.specs.Bytes.{onward, standing}
 use Rattle.tds_wire.specs.declared.fault.WireFault.{WireFault}
 use Rattle.tds_wire.specs.declared.due.Standing.TheVariants.{Failing}
-use Rattle.tds_wire.proofs.cursor.Cursor.feed.Given as goal
+use Rattle.tds_wire.proofs.cursor.Cursor.feed_on.Given as goal
 
 -- what is left of the piece does what all of it is to do
 abbrev pub invariant-bytes : goal.invariant-bytes
