@@ -1,6 +1,5 @@
 -- The columns that there is room for, and what a login acknowledged, stay.
-use Rattle.std.proofs.Common.{◌≡◌, refl, sym, ◌∙◌, ap, subst, ℕ, zero, suc, ◌+◌, ◌-◌, ◌*◌, ◌%◌, ◌==◌, ◌&&◌, nat_lt, Bool, true, false, List, [], ◌∷◌, ◌++◌, length, if◌then◌else◌}
-use Rattle.tds_wire.specs.declared.fault.WireFault.{WireFault}
+use Rattle.std.proofs.Common.{◌≡◌, refl, sym, ◌∙◌, subst, ℕ, ◌*◌, ◌%◌, ◌==◌, nat_lt, Bool, true, false, List, [], ◌∷◌, ◌++◌, length, if◌then◌else◌}
 use Rattle.tds_wire.specs.declared.shape.Shape.{Shape}
 use Rattle.tds_wire.specs.declared.shape.Shape.TheVariants as shape
 use Rattle.tds_wire.specs.declared.types.TypeInfo.{TypeInfo}
@@ -21,10 +20,9 @@ use Rattle.tds_wire.specs.declared.due.Due.{Due}
 use Rattle.tds_wire.specs.declared.due.Due.TheVariants.{Token, Number, Run, Broken}
 use Rattle.tds_wire.specs.declared.due.Standing.{Standing}
 use Rattle.tds_wire.specs.declared.due.Standing.TheVariants.{Between, Going, Failing}
-use Rattle.tds_wire.specs.Numbers.{width_of, shifted}
 use Rattle.tds_wire.specs.Types.{type_of}
 use Rattle.tds_wire.specs.Layout.{has_length, has_long_length, is_done}
-use Rattle.tds_wire.specs.Walking.{Walk, with_due, with_kind, with_inside, row_from, at_column, valued, columns_begun, parameter_typed, based, behind_table, behind_type, column_described, parameter_described, described, ciphered, parted, named, key_passed, key_valued, behind_labels, labelled, classified, go, pass, typed, row_begun, null_row_begun, begun, columns_listed, columns_counted, nulls_taken, keeping_nulls, null_byte, arrive, ended}
+use Rattle.tds_wire.specs.Walking.{Walk, with_kind, with_inside, at_column, valued, columns_begun, parameter_typed, based, behind_table, behind_type, column_described, parameter_described, described, ciphered, parted, named, key_passed, key_valued, behind_labels, labelled, classified, go, pass, typed, row_begun, null_row_begun, begun, columns_listed, columns_counted, nulls_taken, keeping_nulls, null_byte, arrive}
 use Rattle.tds_wire.specs.Bytes.{step_by, step, standing, Went, Over, Within, Failed, went_by, went_on, to_end, onward}
 
 -- both stay
