@@ -5,6 +5,7 @@ use Rattle.tds_packet.specs.Layout.{has_bit}
 use Rattle.tds_request.specs.declared.request.Request.{Request}
 use Rattle.tds_token.specs.declared.env_change.EnvChange.{EnvChange}
 use Rattle.tds_client.specs.declared.fault.ClientFault.{ClientFault}
+use Rattle.tds_client.specs.declared.message.MessageKind.{MessageKind}
 use Rattle.tds_client.specs.declared.fault.ClientFault.TheVariants as faults
 use Rattle.tds_client.specs.declared.fault.ClientRefusal.{ClientRefusal}
 use Rattle.tds_client.specs.declared.heard.Heard.{Heard}
@@ -17,10 +18,11 @@ use Rattle.tds_client.specs.declared.sign.Sign.{Sign}
 use Rattle.tds_client.specs.declared.sign.Sign.TheVariants as signs
 use Rattle.tds_client.specs.declared.state.Taken.{Taken}
 use Rattle.tds_client.specs.declared.state.Taken.TheVariants as takes
-use Rattle.tds_client.specs.Acts.{Act, MarkReset, Start, Send, Cancel, Lose, Hear, heard_turn, act, behind, message_behind, message_of, is_acknowledgement, has_acknowledgement}
-use Rattle.tds_client.specs.Calls.{unless_refused, effect_of}
+use Rattle.tds_client.specs.Acts.{Act, MarkReset, Start, Send, Cancel, Lose, Stream, Hear, heard_turn, act, behind, message_behind, message_of, is_acknowledgement, has_acknowledgement}
+use Rattle.tds_client.specs.Calls.{unless_refused, effect_of, streamed}
 use Rattle.tds_client.specs.Hearing.{◌>>=◌, hear_sign, strict_sign, strict_before, any_sign, hear_change, hear_done, place_change, place_done, changed, with_done, done_behind, may_end}
 use Rattle.tds_client.specs.Machine.{ItemMove, Token, MessageEnd, signed_in, ended_in, message_ended, with_heard, going_on, end_read, end_skipped}
+use Rattle.tds_client.specs.Streams.{Step, Open, Put, Finish, opened, put_in, finished_in}
 use Rattle.tds_client.specs.Sending.{Effect, started, sent_in, sent_of, cancelled_in, cancelled_sending}
 use Rattle.tds_client.specs.Session.{ClientSession, Stage, Idle, Sending, Reading, Cancelling, Broken, new_session, with_stage, lost_stage, marked, unless_idle}
 
@@ -180,6 +182,32 @@ send_leaves s Reading e = leaves_all s
 send_leaves s Cancelling e = leaves_all s
 send_leaves s (Broken fault) e = leaves_all s
 
+opens_leaves : (s : ClientSession) (kind : MessageKind) (stage : Stage) → s.stage ≡ stage → Leaves s (unless_refused (unless_idle stage) s (opened s kind))
+opens_leaves s kind Idle e = moves s Idle _ e refl
+opens_leaves s kind (Sending of left packets) e = leaves_all s
+opens_leaves s kind Reading e = leaves_all s
+opens_leaves s kind Cancelling e = leaves_all s
+opens_leaves s kind (Broken fault) e = leaves_all s
+
+put_leaves : (s : ClientSession) (part : List ℕ) (stage : Stage) → s.stage ≡ stage → Leaves s (effect_of s (put_in s part stage)).session
+put_leaves s part Idle e = leaves_all s
+put_leaves s part (Sending kind left packets) e = moves s (Sending kind left packets) _ e refl
+put_leaves s part Reading e = leaves_all s
+put_leaves s part Cancelling e = leaves_all s
+put_leaves s part (Broken fault) e = leaves_all s
+
+finish_leaves : (s : ClientSession) (stage : Stage) → s.stage ≡ stage → Leaves s (effect_of s (finished_in s stage)).session
+finish_leaves s Idle e = leaves_all s
+finish_leaves s (Sending kind left packets) e = moves s (Sending kind left packets) _ e refl
+finish_leaves s Reading e = leaves_all s
+finish_leaves s Cancelling e = leaves_all s
+finish_leaves s (Broken fault) e = leaves_all s
+
+stream_leaves : (s : ClientSession) (step : Step) → Leaves s (streamed s step).session
+stream_leaves s (Open kind) = opens_leaves s kind s.stage refl
+stream_leaves s (Put part) = put_leaves s part s.stage refl
+stream_leaves s Finish = finish_leaves s s.stage refl
+
 cancel_leaves : (s : ClientSession) (stage : Stage) → s.stage ≡ stage → Leaves s (effect_of s (cancelled_in s stage)).session
 unfolding cancelled_sending
 cancel_leaves s Idle e = leaves_all s
@@ -238,6 +266,7 @@ act_knows s m (Start request) k = left s _ m (start_leaves s request s.stage ref
 act_knows s m Send k = left s _ m (send_leaves s s.stage refl) k
 act_knows s m Cancel k = left s _ m (cancel_leaves s s.stage refl) k
 act_knows s m Lose k = lose_knows s m s.stage
+act_knows s m (Stream step) k = left s _ m (stream_leaves s step) k
 act_knows s m (Hear rules (Token sign)) k = signs_know s m rules sign s.stage refl k
 act_knows s m (Hear rules MessageEnd) k = ends_know s rules s.stage
 

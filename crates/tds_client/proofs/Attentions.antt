@@ -1,8 +1,8 @@
 -- An attention is out once, until it is acknowledged.
-use Rattle.std.proofs.Common.{◌≡◌, ◌∙◌, ◌≤◌, ℕ, ◌+◌, ◌%◌, ◌==◌, Bool, true, false, cond, nat_le, List, [], ◌∷◌, ◌++◌, length, take, Option, Some, None, refl, sym, ap, subst, arith, append_assoc}
+use Rattle.std.proofs.Common.{◌≡◌, ◌∙◌, ◌≤◌, ℕ, ◌+◌, ◌%◌, ◌==◌, Bool, true, false, cond, nat_le, List, [], ◌∷◌, ◌++◌, length, take, Option, Some, None, refl, sym, ap, subst, arith}
 use Rattle.std.proofs.lemmas.Bool.Decides.{nat_tests}
 use Rattle.std.proofs.lemmas.Bool.{leb-true}
-use Rattle.std.proofs.lemmas.List.{append-nil, length-take-le}
+use Rattle.std.proofs.lemmas.List.{length-take-le}
 use Rattle.std.specs.Prelude.{Result, Ok, Err}
 use Rattle.tds_packet.specs.declared.kind.Kind.{Kind}
 use Rattle.tds_packet.specs.declared.kind.Kind.TheVariants as kinds
@@ -18,12 +18,13 @@ use Rattle.tds_token.specs.Contents.{Contents, contents_of}
 use Rattle.tds_client.specs.declared.fault.ClientFault.{ClientFault}
 use Rattle.tds_client.specs.declared.fault.ClientRefusal.{ClientRefusal}
 use Rattle.tds_client.specs.declared.heard.Heard.{Heard}
+use Rattle.tds_client.specs.declared.message.MessageKind.{MessageKind}
 use Rattle.tds_client.specs.declared.heard.FinalDone.{FinalDone}
 use Rattle.tds_client.specs.declared.heard.FinalDone.TheVariants.{Awaited, Answered, Acknowledged}
 use Rattle.tds_client.specs.declared.state.Sent.{Sent}
 use Rattle.tds_client.specs.declared.state.Cancelled.{Cancelled}
 use Rattle.tds_client.specs.declared.state.Cancelled.TheVariants as cancels
-use Rattle.tds_client.specs.Calls.{Call, MarkReset, Start, Send, Cancel, Take, Lose, Turn, silent, unless_refused, effect_of, took_of, turn, after, appended, turns}
+use Rattle.tds_client.specs.Calls.{Call, MarkReset, Start, Send, Cancel, Take, Lose, Stream, Turn, streamed, silent, unless_refused, effect_of, took_of, turn, after, appended, turns}
 use Rattle.tds_client.specs.Hearing.{◌>>=◌, hear_packet}
 use Rattle.tds_packet.specs.Sent.{sent_header}
 use Rattle.tds_client.specs.Packets.{attention, ignore}
@@ -31,17 +32,12 @@ use Rattle.tds_client.specs.Promises.{Packet, IsPart, ArePackets, one_if, is_att
 use Rattle.tds_client.specs.Sending.{Effect, room, started, sent, sent_in, cancelled, cancelled_in, cancelled_sending}
 use Rattle.tds_client.specs.Session.{ClientSession, Stage, Idle, Sending, Reading, Cancelling, Broken, new_session, with_stage, lost_stage, marked, unless_idle}
 use Rattle.tds_client.specs.Taking.{ClientMove, taken, taken_in, taken_reading, taken_cancelling, read, skipped, skipped_to_end, goes_on, ended, broken_by}
+use Rattle.tds_client.specs.Streams.{Step, Open, Put, Finish, full_packets, left_behind, opened, put_in, finished_in}
+use Rattle.tds_client.proofs.Spelled.{KindIn, Many, one_packet, joined, counted_both, one_of, both, many, stream_none}
+use Rattle.tds_client.proofs.Streaming.{left_at_most, out_at_most, stream_directed}
 use Rattle.tds_client.proofs.Parts.{fills_last, part, room_is, to_server, last_one, more_one, by_test}
 
 -- ---- A client that is called
-
--- A request's packets are no attentions.
-abbrev pub KindIn : Stage → Type 0
-KindIn Idle = Unit {0}
-KindIn (Sending kind left packets) = (direction_of kind ≡ ToServer) × (is_attention kind ≡ false)
-KindIn Reading = Unit {0}
-KindIn Cancelling = Unit {0}
-KindIn (Broken fault) = Unit {0}
 
 pub record IsCalled (size : ℕ) (s : ClientSession) : Type 0 where
   pub lawful : IsPacketSize size
@@ -95,20 +91,6 @@ starts size s request Reading h e = quiet size 0 s h.size_is h.kind (omega arith
 starts size s request Cancelling h e = quiet size 1 s h.size_is h.kind (omega (arith, ap out e))
 starts size s request (Broken fault) h e = quiet size 1 s h.size_is h.kind (omega (arith, ap out e))
 
--- ---- Bytes that are packets
-
-one_packet : (size : ℕ) (bytes : List ℕ) (packet : Packet) → IsLaidOut ToServer size bytes packet.header packet.content → ArePackets size bytes (packet ∷ [])
-one_packet size bytes packet is = (bytes, [], sym (append-nil bytes), is, refl)
-
-pub joined : (size : ℕ) (a b : List ℕ) (first others : List Packet) → ArePackets size a first → ArePackets size b others → ArePackets size (a ++ b) (first ++ others)
-joined size a b [] others x y = subst (λ (a : List ℕ). ArePackets size (a ++ b) others) (sym x) y
-joined size a b (packet ∷ first) others (front, rest, split, is, more) y =
-    (front, rest ++ b, ap (λ (a : List ℕ). a ++ b) split ∙ append_assoc front rest b, is, joined size rest b first others more y)
-
-pub counted_both : (first others : List Packet) → attentions (first ++ others) ≡ attentions first + attentions others
-counted_both [] others = omega arith
-counted_both (packet ∷ first) others = omega (arith, counted_both first others)
-
 -- ---- Sending
 
 part_keeps : (size : ℕ) (kind : Kind) (mark : Option Reset) (before : ℕ) (ends : Bool) (bytes content : List ℕ) (next : ClientSession) → IsPart size kind mark before ends bytes content
@@ -149,6 +131,46 @@ sends size s Cancelling h e = subst (λ (r : Result (Effect Sent) ClientRefusal)
     (quiet size 1 s h.size_is h.kind (omega (arith, ap out e)))
 sends size s (Broken fault) h e = subst (λ (r : Result (Effect Sent) ClientRefusal). Keeps size 1 (effect_of s r)) (sym (ap (λ (stage : Stage). sent_in s stage) e))
     (quiet size 1 s h.size_is h.kind (omega (arith, ap out e)))
+
+-- ---- Streaming
+
+streams_so : (size : ℕ) (next : ClientSession) (bytes : List ℕ) → Many size bytes → next.size ≡ size → KindIn next.stage → Keeps size 0 (record { session = next; bytes = bytes; acknowledged = false })
+streams_so size next bytes x size_is kind_is = record { size_is = size_is; kind = kind_is; packets = x.packets; spelled = x.spelled; counted = omega (arith, x.none) }
+
+opens : (size : ℕ) (s : ClientSession) (kind : MessageKind) (stage : Stage) → IsCalled size s → s.stage ≡ stage → Keeps size (out stage) (silent (unless_refused (unless_idle stage) s (opened s kind)))
+opens size s kind Idle h e = quiet size 0 (opened s kind) h.size_is (stream_directed kind, stream_none kind) (omega arith)
+opens size s kind (Sending of left packets) h e = quiet size 0 s h.size_is h.kind (omega arith)
+opens size s kind Reading h e = quiet size 0 s h.size_is h.kind (omega arith)
+opens size s kind Cancelling h e = quiet size 1 s h.size_is h.kind (omega (arith, ap out e))
+opens size s kind (Broken fault) h e = quiet size 1 s h.size_is h.kind (omega (arith, ap out e))
+
+puts_in : (size : ℕ) (s : ClientSession) (more : List ℕ) (stage : Stage) → IsCalled size s → s.stage ≡ stage → Keeps size (out stage) (effect_of s (put_in s more stage))
+puts_in size s more Idle h e = quiet size 0 s h.size_is h.kind (omega arith)
+puts_in size s more (Sending kind left before) h e =
+    streams_so size _ _ (many size (room s) kind s.heard.mark before (full_packets (room s) (length (left ++ more))) (left ++ more) h.lawful (subst KindIn e h.kind) (room_is s size h.lawful h.size_is) (out_at_most (room s) (left ++ more)))
+    h.size_is (subst KindIn e h.kind)
+puts_in size s more Reading h e = quiet size 0 s h.size_is h.kind (omega arith)
+puts_in size s more Cancelling h e = quiet size 1 s h.size_is h.kind (omega (arith, ap out e))
+puts_in size s more (Broken fault) h e = quiet size 1 s h.size_is h.kind (omega (arith, ap out e))
+
+finishes_in : (size : ℕ) (s : ClientSession) (stage : Stage) → IsCalled size s → s.stage ≡ stage → Keeps size (out stage) (effect_of s (finished_in s stage))
+finishes_in size s Idle h e = quiet size 0 s h.size_is h.kind (omega arith)
+finishes_in size s (Sending kind left before) h e =
+    let whole = room_is s size h.lawful h.size_is in
+    let full = full_packets (room s) (length left) in
+    let rest = left_at_most (room s) left (omega (arith, h.lawful, whole)) in
+    streams_so size _ _ (both size _ _
+    (many size (room s) kind s.heard.mark before full left h.lawful (subst KindIn e h.kind) whole (out_at_most (room s) left))
+    (one_of size kind s.heard.mark (before + full) true (left_behind (room s) left) h.lawful (subst KindIn e h.kind) (fills_last size (left_behind (room s) left) (omega (arith, rest, whole)))))
+    h.size_is tt
+finishes_in size s Reading h e = quiet size 0 s h.size_is h.kind (omega arith)
+finishes_in size s Cancelling h e = quiet size 1 s h.size_is h.kind (omega (arith, ap out e))
+finishes_in size s (Broken fault) h e = quiet size 1 s h.size_is h.kind (omega (arith, ap out e))
+
+streams : (size : ℕ) (s : ClientSession) (step : Step) → IsCalled size s → Keeps size (out s.stage) (streamed s step)
+streams size s (Open kind) h = opens size s kind s.stage h refl
+streams size s (Put part) h = puts_in size s part s.stage h refl
+streams size s Finish h = finishes_in size s s.stage h refl
 
 -- ---- Cancelling
 
@@ -281,6 +303,7 @@ keeps size s Send h = sends size s s.stage h refl
 keeps size s Cancel h = cancels_keep size s (out s.stage) (cancelled s) (cancels_so size s s.stage h refl)
 keeps size s (Take packet) h = takes size s _ packet.«data».now s.stage h refl
 keeps size s Lose h = loses size s s.stage h
+keeps size s (Stream step) h = streams size s step h
 
 called : (size : ℕ) (s : ClientSession) (call : Call) → IsCalled size s → IsCalled size (turn s call).session
 called size s call h = let k = keeps size s call h in record { lawful = h.lawful; size_is = k.size_is; kind = k.kind }
@@ -349,4 +372,7 @@ way_out s (Start request) e = subst (λ (x : Stage). Leaves (silent (unless_refu
 way_out s Send e = subst (λ (x : Stage). Leaves (effect_of s (sent_in s x))) (sym e) (stays_cancelling s e)
 way_out s Cancel e = subst (λ (x : Stage). Leaves (effect_of s (cancelled_in s x))) (sym e) (stays_cancelling s e)
 way_out s (Take packet) e = subst (λ (x : Stage). Leaves (took_of s (taken_in x s (ends_message packet) packet.«data».now))) (sym e) (takes_out s (ends_message packet) packet.«data».now e)
+way_out s (Stream (Open kind)) e = subst (λ (x : Stage). Leaves (silent (unless_refused (unless_idle x) s (opened s kind)))) (sym e) (stays_cancelling s e)
+way_out s (Stream (Put part)) e = subst (λ (x : Stage). Leaves (effect_of s (put_in s part x))) (sym e) (stays_cancelling s e)
+way_out s (Stream Finish) e = subst (λ (x : Stage). Leaves (effect_of s (finished_in s x))) (sym e) (stays_cancelling s e)
 way_out s Lose e = subst (λ (x : Stage). LeavesBy false (lost_stage x)) (sym e) refl

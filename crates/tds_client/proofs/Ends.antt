@@ -5,15 +5,17 @@ use Rattle.tds_packet.specs.declared.reader.PacketRef.{PacketRef}
 use Rattle.tds_request.specs.declared.request.Request.{Request}
 use Rattle.tds_token.specs.Contents.{Contents, contents_of}
 use Rattle.tds_client.specs.declared.fault.ClientFault.{ClientFault}
+use Rattle.tds_client.specs.declared.message.MessageKind.{MessageKind}
 use Rattle.tds_client.specs.declared.fault.ClientRefusal.{ClientRefusal}
 use Rattle.tds_client.specs.declared.heard.Heard.{Heard}
 use Rattle.tds_client.specs.declared.heard.FinalDone.{FinalDone}
 use Rattle.tds_client.specs.declared.heard.FinalDone.TheVariants.{Awaited, Answered, Acknowledged}
 use Rattle.tds_client.specs.declared.state.Taken.{Taken}
 use Rattle.tds_client.specs.declared.state.Taken.TheVariants as takes
-use Rattle.tds_client.specs.Calls.{Call, MarkReset, Start, Send, Cancel, Take, Lose, unless_refused, effect_of, took_of, turn, after}
+use Rattle.tds_client.specs.Calls.{Call, MarkReset, Start, Send, Cancel, Take, Lose, Stream, unless_refused, effect_of, took_of, streamed, turn, after}
 use Rattle.tds_client.specs.Hearing.{◌>>=◌, hear_packet}
 use Rattle.tds_client.specs.Promises.{final_done, Coming, nothing_yet, with_packet, coming_behind, coming, ends_message, message_with, ends_acknowledged}
+use Rattle.tds_client.specs.Streams.{Step, Open, Put, Finish, opened, put_in, finished_in}
 use Rattle.tds_client.specs.Sending.{Effect, started, sent_in, sent_of, cancelled_in, cancelled_sending}
 use Rattle.tds_client.specs.Session.{ClientSession, Stage, Idle, Sending, Reading, Cancelling, Broken, new_session, with_stage, lost_stage, marked, unless_idle}
 use Rattle.tds_client.specs.Taking.{ClientMove, taken_in, taken_of, taken_reading, taken_cancelling, read, skipped, skipped_to_end}
@@ -152,6 +154,32 @@ send_leaves s Reading e = leaves_all s
 send_leaves s Cancelling e = leaves_all s
 send_leaves s (Broken fault) e = leaves_all s
 
+opens_leaves : (s : ClientSession) (kind : MessageKind) (stage : Stage) → s.stage ≡ stage → Leaves s (unless_refused (unless_idle stage) s (opened s kind))
+opens_leaves s kind Idle e = moves s Idle _ e refl
+opens_leaves s kind (Sending of left packets) e = leaves_all s
+opens_leaves s kind Reading e = leaves_all s
+opens_leaves s kind Cancelling e = leaves_all s
+opens_leaves s kind (Broken fault) e = leaves_all s
+
+put_leaves : (s : ClientSession) (part : List ℕ) (stage : Stage) → s.stage ≡ stage → Leaves s (effect_of s (put_in s part stage)).session
+put_leaves s part Idle e = leaves_all s
+put_leaves s part (Sending kind left packets) e = moves s (Sending kind left packets) _ e refl
+put_leaves s part Reading e = leaves_all s
+put_leaves s part Cancelling e = leaves_all s
+put_leaves s part (Broken fault) e = leaves_all s
+
+finish_leaves : (s : ClientSession) (stage : Stage) → s.stage ≡ stage → Leaves s (effect_of s (finished_in s stage)).session
+finish_leaves s Idle e = leaves_all s
+finish_leaves s (Sending kind left packets) e = moves s (Sending kind left packets) _ e refl
+finish_leaves s Reading e = leaves_all s
+finish_leaves s Cancelling e = leaves_all s
+finish_leaves s (Broken fault) e = leaves_all s
+
+stream_leaves : (s : ClientSession) (step : Step) → Leaves s (streamed s step).session
+stream_leaves s (Open kind) = opens_leaves s kind s.stage refl
+stream_leaves s (Put part) = put_leaves s part s.stage refl
+stream_leaves s Finish = finish_leaves s s.stage refl
+
 cancel_leaves : (s : ClientSession) (stage : Stage) → s.stage ≡ stage → Leaves s (effect_of s (cancelled_in s stage)).session
 unfolding cancelled_sending
 cancel_leaves s Idle e = leaves_all s
@@ -176,6 +204,7 @@ follows s m Send f = left s _ m (send_leaves s s.stage refl) f
 follows s m Cancel f = left s _ m (cancel_leaves s s.stage refl) f
 follows s m (Take packet) f = take_follows s m packet (taken_of s packet) f refl
 follows s m Lose f = lose_follows s m s.stage
+follows s m (Stream step) f = left s _ m (stream_leaves s step) f
 
 follows_all : (s : ClientSession) (m : Coming) (calls : List Call) → Follows s m → Follows (after s calls) (coming m calls)
 follows_all s m [] f = f

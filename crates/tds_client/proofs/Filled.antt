@@ -1,5 +1,5 @@
 -- Packets of a message that are full.
-use Rattle.std.proofs.Common.{◌≡◌, ◌∙◌, ◌≤◌, ◌<◌, ℕ, ◌+◌, ◌*◌, ◌-◌, ◌/◌, zero, suc, true, false, List, ◌++◌, [], ◌∷◌, length, length-append, length-drop, take, drop, Option, refl, sym, ap, arith, append_assoc}
+use Rattle.std.proofs.Common.{◌≡◌, ◌∙◌, ◌≤◌, ◌<◌, ℕ, ◌+◌, ◌*◌, ◌-◌, ◌/◌, zero, suc, false, List, ◌++◌, [], ◌∷◌, length, length-append, length-drop, take, drop, Option, sym, ap, arith, append_assoc}
 use Rattle.std.proofs.lemmas.List.{take-append-drop, take-append-le, drop-append-le, length-take-le}
 use Rattle.std.proofs.Math.Seq.{drop-append-add, take-length}
 use Rattle.std.proofs.Math.Nat.{mul-add-div_right, suc-mul, zero-mul, add-mul}

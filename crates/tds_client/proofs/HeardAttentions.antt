@@ -8,7 +8,7 @@ use Rattle.tds_client.specs.declared.heard.FinalDone.{FinalDone}
 use Rattle.tds_client.specs.declared.heard.FinalDone.TheVariants.{Awaited, Answered, Acknowledged}
 use Rattle.tds_client.specs.declared.sign.Rules.{Rules}
 use Rattle.tds_client.specs.declared.sign.Sign.{Sign}
-use Rattle.tds_client.specs.Acts.{Act, MarkReset, Start, Send, Cancel, Lose, Hear, heard_turn, act, behind, put_out, acted, told_at, told_by}
+use Rattle.tds_client.specs.Acts.{Act, MarkReset, Start, Send, Cancel, Lose, Stream, Hear, heard_turn, act, behind, put_out, acted, told_at, told_by}
 use Rattle.tds_client.specs.Calls as calls
 use Rattle.tds_client.specs.Calls.{Turn, turn, silent}
 use Rattle.tds_client.specs.Hearing.{◌>>=◌, hear_sign, may_end}
@@ -16,8 +16,10 @@ use Rattle.tds_client.specs.Machine.{ItemMove, Token, MessageEnd, signed_in, end
 use Rattle.tds_client.specs.Promises.{Packet, ArePackets, one_if, attentions, acknowledgements, AtMostAttentions, LeavesBy}
 use Rattle.tds_client.specs.Session.{ClientSession, Stage, Idle, Sending, Reading, Cancelling, Broken, marked, unless_idle, lost_stage}
 use Rattle.tds_client.specs.Sending.{started, sent_in, cancelled_in}
+use Rattle.tds_client.specs.Streams.{Open, Put, Finish, opened, put_in, finished_in}
 use Rattle.tds_client.specs.Taking.{ended}
-use Rattle.tds_client.proofs.Attentions.{IsCalled, Keeps, Leaves, keeps, quiet, breaks, out, at_most_one, joined, counted_both, way_out}
+use Rattle.tds_client.proofs.Attentions.{IsCalled, Keeps, Leaves, keeps, quiet, breaks, out, at_most_one, way_out}
+use Rattle.tds_client.proofs.Spelled.{joined, counted_both}
 
 abbrev Answer : Type 0
 Answer = Result ItemMove ClientFault
@@ -62,6 +64,7 @@ act_keeps size s (Start request) h = keeps size s (calls.Start request) h
 act_keeps size s Send h = keeps size s calls.Send h
 act_keeps size s Cancel h = keeps size s calls.Cancel h
 act_keeps size s Lose h = keeps size s calls.Lose h
+act_keeps size s (Stream step) h = keeps size s (calls.Stream step) h
 act_keeps size s (Hear rules (Token sign)) h = signs_keep size s rules sign s.stage h refl
 act_keeps size s (Hear rules MessageEnd) h = ends_keep size s rules s.stage h refl
 
@@ -115,6 +118,7 @@ act_out s (Start request) e = way_out s (calls.Start request) e
 act_out s Send e = way_out s calls.Send e
 act_out s Cancel e = way_out s calls.Cancel e
 act_out s Lose e = way_out s calls.Lose e
+act_out s (Stream step) e = way_out s (calls.Stream step) e
 act_out s (Hear rules (Token sign)) e =
     subst (λ (x : Stage). Leaves (heard_turn s (signed_in rules x s sign >>= λ next. Ok (going_on next)))) (sym e) (sign_out s (hear_sign rules true s.heard sign) e)
 act_out s (Hear rules MessageEnd) e =
@@ -148,6 +152,10 @@ broken_stays s (Start request) fault e =
     subst (λ (x : Stage). StaysBroken (silent (calls.unless_refused (unless_idle x) s (started s request)))) (sym e) (subst IsQuiet (sym e) tt)
 broken_stays s Send fault e = subst (λ (x : Stage). StaysBroken (calls.effect_of s (sent_in s x))) (sym e) (subst IsQuiet (sym e) tt)
 broken_stays s Cancel fault e = subst (λ (x : Stage). StaysBroken (calls.effect_of s (cancelled_in s x))) (sym e) (subst IsQuiet (sym e) tt)
+broken_stays s (Stream (Open kind)) fault e =
+    subst (λ (x : Stage). StaysBroken (silent (calls.unless_refused (unless_idle x) s (opened s kind)))) (sym e) (subst IsQuiet (sym e) tt)
+broken_stays s (Stream (Put part)) fault e = subst (λ (x : Stage). StaysBroken (calls.effect_of s (put_in s part x))) (sym e) (subst IsQuiet (sym e) tt)
+broken_stays s (Stream Finish) fault e = subst (λ (x : Stage). StaysBroken (calls.effect_of s (finished_in s x))) (sym e) (subst IsQuiet (sym e) tt)
 broken_stays s Lose fault e = subst (λ (x : Stage). IsQuiet (lost_stage x)) (sym e) tt
 broken_stays s (Hear rules (Token sign)) fault e =
     subst (λ (x : Stage). StaysBroken (heard_turn s (signed_in rules x s sign >>= λ next. Ok (going_on next)))) (sym e) tt
@@ -173,6 +181,7 @@ tells_nothing s (Start request) q = refl
 tells_nothing s Send q = refl
 tells_nothing s Cancel q = refl
 tells_nothing s Lose q = refl
+tells_nothing s (Stream step) q = refl
 tells_nothing s (Hear rules (Token sign)) q = none_told s.stage sign q
 tells_nothing s (Hear rules MessageEnd) q = refl
 

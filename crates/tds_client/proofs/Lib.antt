@@ -3,6 +3,8 @@ pub mod Walking
 pub mod Changes
 pub mod Parts
 pub mod Filled
+pub mod Streaming
+pub mod Spelled
 pub mod Attentions
 pub mod HeardAttentions
 pub mod Acknowledged

@@ -16,6 +16,7 @@ use Rattle.tds_client.specs.Calls as calls
 use Rattle.tds_client.specs.Calls.{Turn, silent, turn, is_acknowledged}
 use Rattle.tds_client.specs.Machine.{Item, ItemMove, Token, MessageEnd, heard_after, tells}
 use Rattle.tds_client.specs.Session.{ClientSession}
+use Rattle.tds_client.specs.Streams.{Step}
 use Rattle.tds_client.specs.Taking.{broken_by}
 
 pub data Act : Type 0 where
@@ -24,6 +25,7 @@ pub data Act : Type 0 where
   Send : Act
   Cancel : Act
   Lose : Act
+  Stream : (step : Step) → Act
   -- a thing that is heard, by these rules
   Hear : (rules : Rules) (item : Item) → Act
 
@@ -37,6 +39,7 @@ act s (Start request) = turn s (calls.Start request)
 act s Send = turn s calls.Send
 act s Cancel = turn s calls.Cancel
 act s Lose = turn s calls.Lose
+act s (Stream step) = turn s (calls.Stream step)
 act s (Hear rules item) = heard_turn s (heard_after rules s item)
 
 -- The client behind these acts, all that they append, and what each of them did.
@@ -60,6 +63,7 @@ told_at s (Start request) = []
 told_at s Send = []
 told_at s Cancel = []
 told_at s Lose = []
+told_at s (Stream step) = []
 told_at s (Hear rules (Token sign)) = if tells s.stage then sign ∷ [] else []
 told_at s (Hear rules MessageEnd) = []
 
@@ -76,6 +80,7 @@ message_behind m (Start request) = m
 message_behind m Send = m
 message_behind m Cancel = m
 message_behind m Lose = m
+message_behind m (Stream step) = m
 message_behind m (Hear rules (Token sign)) = m ++ sign ∷ []
 message_behind m (Hear rules MessageEnd) = []
 

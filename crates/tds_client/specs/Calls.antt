@@ -10,6 +10,7 @@ use Rattle.tds_client.specs.declared.state.Taken.{Taken}
 use Rattle.tds_client.specs.declared.state.Taken.TheVariants as takes
 use Rattle.tds_client.specs.Session.{ClientSession, lost, marked, unless_idle}
 use Rattle.tds_client.specs.Sending.{Effect, started, sent, cancelled}
+use Rattle.tds_client.specs.Streams.{Step, Open, Put, Finish, opened, put, finished}
 use Rattle.tds_client.specs.Taking.{ClientMove, taken_of, broken_by}
 
 pub data Call : Type 0 where
@@ -19,6 +20,7 @@ pub data Call : Type 0 where
   Cancel : Call
   Take : (packet : PacketRef) → Call
   Lose : Call
+  Stream : (step : Step) → Call
 
 -- What a call did: the client behind it, the bytes that it appended, and whether it took an acknowledgement.
 pub record Turn : Type 0 where
@@ -48,6 +50,11 @@ abbrev pub took_of : ClientSession → Result ClientMove ClientFault → Turn
 took_of s (Ok took) = record { session = took.session; bytes = []; acknowledged = is_acknowledged took.answer }
 took_of s (Err fault) = silent (broken_by s fault)
 
+abbrev pub streamed : ClientSession → Step → Turn
+streamed s (Open kind) = silent (unless_refused (unless_idle s.stage) s (opened s kind))
+streamed s (Put part) = effect_of s (put s part)
+streamed s Finish = effect_of s (finished s)
+
 abbrev pub turn : ClientSession → Call → Turn
 turn s (MarkReset reset) = silent (unless_refused (unless_idle s.stage) s (marked s reset))
 turn s (Start request) = silent (unless_refused (unless_idle s.stage) s (started s request))
@@ -55,6 +62,7 @@ turn s Send = effect_of s (sent s)
 turn s Cancel = effect_of s (cancelled s)
 turn s (Take packet) = took_of s (taken_of s packet)
 turn s Lose = silent (lost s)
+turn s (Stream step) = streamed s step
 
 -- The client behind these calls.
 abbrev pub after : ClientSession → List Call → ClientSession

@@ -14,3 +14,4 @@ pub mod Fields
 pub mod Parts
 pub mod Calls
 pub mod Promises
+pub mod Streamed

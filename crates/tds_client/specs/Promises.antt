@@ -16,7 +16,7 @@ use Rattle.tds_client.specs.declared.state.Cancelled.{Cancelled}
 use Rattle.tds_client.specs.declared.state.Cancelled.TheVariants as cancels
 use Rattle.tds_client.specs.Session.{ClientSession, Stage, Idle, Sending, Reading, Cancelling, Broken}
 use Rattle.tds_client.specs.Sending.{Effect, sent}
-use Rattle.tds_client.specs.Calls.{Call, MarkReset, Start, Send, Cancel, Take, Lose, Turn}
+use Rattle.tds_client.specs.Calls.{Call, MarkReset, Start, Send, Cancel, Take, Lose, Stream, Turn}
 
 -- ---- The message that comes
 
@@ -47,6 +47,7 @@ coming_behind m Send = m
 coming_behind m Cancel = m
 coming_behind m (Take packet) = if ends_message packet then nothing_yet else with_packet m packet
 coming_behind m Lose = m
+coming_behind m (Stream step) = m
 
 -- What came so far of the message that comes, behind these calls.
 abbrev pub coming : Coming → List Call → Coming

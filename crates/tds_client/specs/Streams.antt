@@ -94,3 +94,10 @@ finished_in s (Broken fault) = Err refusals.Broken
 -- Finishing the message, want of memory aside.
 abbrev pub finished : ClientSession → Result (Effect (Unit {0})) ClientRefusal
 finished s = finished_in s s.stage
+
+-- ---- One of these calls
+
+pub data Step : Type 0 where
+  Open : (kind : MessageKind) → Step
+  Put : (part : List ℕ) → Step
+  Finish : Step

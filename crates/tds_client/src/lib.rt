@@ -12,6 +12,7 @@ mod message;
 mod packets;
 mod sign;
 mod state;
+pub mod stream_laws;
 mod walks;
 
 pub use client::{Client, ClientParts, NextPacket, StageParts};

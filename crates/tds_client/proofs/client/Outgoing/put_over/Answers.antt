@@ -1,4 +1,4 @@
-use Rattle.std.proofs.Common.{◌≡◌, ◌∙◌, ◌≤◌, ◌<◌, ◌+◌, ◌-◌, ◌*◌, ◌++◌, List, ℕ, take, drop, length, length-drop, ap, sym, rules, arith}
+use Rattle.std.proofs.Common.{◌≡◌, ◌∙◌, ◌+◌, ◌-◌, ◌*◌, ◌++◌, List, ℕ, take, drop, length, length-drop, ap, sym, rules, arith}
 use Rattle.std.proofs.lemmas.List.{drop-append-le}
 use Rattle.tds_client.specs.Streams.{full_packets, left_behind, packets_of}
 use Rattle.tds_client.proofs.Filled.{Over, over_at, regrouped, sum_of, to_end}
