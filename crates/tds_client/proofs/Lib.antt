@@ -4,6 +4,7 @@ pub mod Changes
 pub mod Parts
 pub mod Filled
 pub mod Streaming
+pub mod StreamedRequests
 pub mod Spelled
 pub mod Attentions
 pub mod HeardAttentions
