@@ -1,18 +1,20 @@
 -- What no call undoes, and that each call is made of moves.
-use Rattle.std.proofs.Common.{◌≡◌, ℕ, suc, List, [], ◌∷◌, Option, Some, None, refl, sym, ap, ◌∙◌}
+use Rattle.std.proofs.Common.{◌≡◌, ℕ, suc, ◌+◌, List, [], ◌∷◌, Option, Some, None, refl, sym, ap, ◌∙◌}
 use Rattle.std.proofs.Math.Nat.{le_trans, le-suc, not-suc-le_self}
 use Rattle.std.proofs.lemmas.Bool.{eqb-false}
 use Rattle.std.specs.Prelude.{◌≤◌, ◌≢◌, ◌==◌, ◌&&◌, option_map}
 use Rattle.tds_client.specs.Session.{ClientSession, marked}
 use Rattle.tds_packet.specs.declared.status.Reset.{Reset}
+use Rattle.tds_request.specs.declared.request.Request.{Request}
+use Rattle.tds_pool.specs.declared.answers.PoolRefusal.{PoolRefusal}
 use Rattle.tds_pool.specs.declared.lease.Lease.{Lease}
 use Rattle.tds_pool.specs.declared.lease.Ticket.{Ticket}
 use Rattle.tds_pool.specs.declared.seat.Place.{Place}
 use Rattle.tds_pool.specs.declared.seat.Place.TheVariants as places
-use Rattle.tds_pool.specs.Connections.{Connection, numbered, changed, at_place, with_client, taken_out}
-use Rattle.tds_pool.specs.Calls.{only, lent_to, kept_for, is_leased, is_kept, is_draining, lent_again, put_back, rested, rests_at, abandoned, drained, given_back, cancelled_and_settled, session_behind, new_connection, free_one, closed, closed_for}
+use Rattle.tds_pool.specs.Connections.{Connection, numbered, changed, at_place, ended_at, with_client, taken_out, next_turn}
+use Rattle.tds_pool.specs.Calls.{only, lent_to, kept_for, is_lent_for, is_kept_for, is_draining, lent_again, put_back, rested, rests_at, abandoned, drained, given_back, cancelled_and_settled, session_behind, new_connection, free_one, closed, closed_for, taken_back, held_one, cleaning, not_cleaned, asks_reset, behind_refusal, cleaned_to, looked_at_clean, rests_clean, is_cleaning, cleaned}
 use Rattle.tds_client.specs.Sending.{cancelled}
-use Rattle.tds_pool.specs.History.{Seen, Move, Changes, TakesOut, Opens, moved, behind, AreBehind}
+use Rattle.tds_pool.specs.History.{Seen, Move, Changes, Ends, TakesOut, Opens, moved, behind, AreBehind}
 use Rattle.tds_pool.proofs.Others.{by_number, changed_here, changed_other, taken_other, added_other}
 use Rattle.tds_pool.proofs.Taken.{gone}
 
@@ -40,10 +42,12 @@ used_before n last h e = not-suc-le_self last (rw e at h)
 stays_out_once : (number : ℕ) (move : Move) (p : Seen) → IsOut number p → IsOut number (moved move p)
 stays_out_once number (Changes n place client) p o =
     record { used = o.used; out = out_where_changed n number (λ (c : Connection). record c { place = place c; client = client c }) p.connections (λ c. refl) o.out }
+stays_out_once number (Ends n place) p o =
+    record { used = o.used; out = out_where_changed n number (λ (c : Connection). record c { place = place c; turn = next_turn c.turn }) p.connections (λ c. refl) o.out }
 stays_out_once number (TakesOut n) p o = record { used = o.used; out = out_where_taken n number p.connections o.out }
 stays_out_once number (Opens key size) p o = record {
   used = le_trans o.used (le-suc p.last);
-  out = added_other (new_connection (suc p.last) key size) number p.connections (used_before number p.last o.used) ∙ o.out;
+  out = added_other (new_connection p.name (suc p.last) key size) number p.connections (used_before number p.last o.used) ∙ o.out;
 }
 
 stays_out : (number : ℕ) (moves : List Move) (p : Seen) → IsOut number p → IsOut number (behind moves p)
@@ -56,11 +60,11 @@ never_again number p moves used out = (stays_out number moves p (record { used =
 
 pub lease_unknown : (lease : Lease) (p : Seen) (moves : List Move) → lease.number ≤ p.last → numbered lease.number p.connections ≡ None
     → lent_to lease (behind moves p).connections ≡ None
-lease_unknown lease p moves used out = ap (only (λ (c : Connection). (c.key == lease.key) && is_leased c.place)) (never_again lease.number p moves used out)
+lease_unknown lease p moves used out = ap (only (λ (c : Connection). (c.key == lease.key) && is_lent_for lease.turn c.turn c.place)) (never_again lease.number p moves used out)
 
 pub ticket_unknown : (ticket : Ticket) (p : Seen) (moves : List Move) → ticket.number ≤ p.last → numbered ticket.number p.connections ≡ None
     → kept_for ticket (behind moves p).connections ≡ None
-ticket_unknown ticket p moves used out = ap (only (λ (c : Connection). (c.key == ticket.key) && is_kept c.place)) (never_again ticket.number p moves used out)
+ticket_unknown ticket p moves used out = ap (only (λ (c : Connection). (c.key == ticket.key) && is_kept_for ticket.turn c.turn c.place)) (never_again ticket.number p moves used out)
 
 -- ---- Each call is made of moves
 
@@ -69,6 +73,9 @@ none p = record { moves = []; so = refl }
 
 places_one : (number : ℕ) (place : Place) (p : Seen) → AreBehind p (at_place number place p.connections)
 places_one number place p = record { moves = Changes number (λ c. place) (λ c. c.client) ∷ []; so = refl }
+
+ends_one : (number : ℕ) (place : Place) (p : Seen) → AreBehind p (ended_at number place p.connections)
+ends_one number place p = record { moves = Ends number (λ c. place) ∷ []; so = refl }
 
 pub changes_client : (number : ℕ) (client : ClientSession) (p : Seen) → AreBehind p (with_client number client p.connections)
 changes_client number client p = record { moves = Changes number (λ c. c.place) (λ c. client) ∷ []; so = refl }
@@ -81,23 +88,49 @@ takes_out number p = record { moves = TakesOut number ∷ []; so = refl }
 
 rests : (number : ℕ) (place : Option Place) (p : Seen) → AreBehind p (rested number place p.connections).connections
 rests number None p = takes_out number p
-rests number (Some places.Draining) p = places_one number places.Draining p
-rests number (Some places.Leased) p = places_one number places.Leased p
-rests number (Some places.Kept) p = places_one number places.Kept p
-rests number (Some places.Free) p = places_one number places.Free p
+rests number (Some places.Draining) p = ends_one number places.Draining p
+rests number (Some places.Leased) p = ends_one number places.Leased p
+rests number (Some places.Kept) p = ends_one number places.Kept p
+rests number (Some places.Free) p = ends_one number places.Free p
+rests number (Some places.Cleaning) p = ends_one number places.Cleaning p
 
 puts_back : (c : Option Connection) (p : Seen) → AreBehind p (put_back c p.connections).connections
 puts_back None p = none p
 puts_back (Some c) p = rests c.number (rests_at c.client.stage) p
 
+cancels_and_settles : (c : Option Connection) (p : Seen) → AreBehind p (cancelled_and_settled c p.connections).connections
+cancels_and_settles None p = none p
+cancels_and_settles (Some c) p =
+    let cancels : Move = Changes c.number (λ (d : Connection). d.place) (λ (d : Connection). session_behind (cancelled c.client) c.client) in
+    let rest = puts_back (numbered c.number (moved cancels p).connections) (moved cancels p) in
+    record { moves = cancels ∷ rest.moves; so = rest.so }
+
 pub gives_back : (lease : Lease) (p : Seen) → AreBehind p (given_back lease p.connections).connections
-gives_back lease p = by (lent_to lease p.connections) where
-  by : (c : Option Connection) → AreBehind p (cancelled_and_settled c p.connections).connections
-  by None = none p
-  by (Some c) =
-      let cancels : Move = Changes c.number (λ (d : Connection). d.place) (λ (d : Connection). session_behind (cancelled c.client) c.client) in
-      let rest = puts_back (numbered c.number (moved cancels p).connections) (moved cancels p) in
-      record { moves = cancels ∷ rest.moves; so = rest.so }
+gives_back lease p = cancels_and_settles (lent_to lease p.connections) p
+
+pub takes_back : (number : ℕ) (p : Seen) → AreBehind p (taken_back number p.connections).connections
+takes_back number p = cancels_and_settles (held_one number p.connections) p
+
+pub cleans : (number : ℕ) (request : Request) (p : Seen) → AreBehind p (cleaning number request p.connections)
+cleans number request p = record { moves = Changes number (λ c. places.Cleaning) (λ c. asks_reset c.client request) ∷ []; so = refl }
+
+pub cleans_not : (refusal : PoolRefusal) (number : ℕ) (p : Seen) → AreBehind p (not_cleaned refusal number p.connections)
+cleans_not refusal number p = record { moves = Changes number (λ c. c.place) (λ c. behind_refusal refusal c.client) ∷ []; so = refl }
+
+rests_cleaned : (number : ℕ) (place : Option Place) (p : Seen) → AreBehind p (cleaned_to number place p.connections).connections
+rests_cleaned number None p = takes_out number p
+rests_cleaned number (Some places.Free) p = places_one number places.Free p
+rests_cleaned number (Some places.Draining) p = none p
+rests_cleaned number (Some places.Leased) p = none p
+rests_cleaned number (Some places.Kept) p = none p
+rests_cleaned number (Some places.Cleaning) p = none p
+
+looks_at_clean : (c : Option Connection) (p : Seen) → AreBehind p (looked_at_clean c p.connections).connections
+looks_at_clean None p = none p
+looks_at_clean (Some c) p = rests_cleaned c.number (rests_clean c.client c.client.stage) p
+
+pub cleans_up : (number : ℕ) (p : Seen) → AreBehind p (cleaned number p.connections).connections
+cleans_up number p = looks_at_clean (only (λ (c : Connection). is_cleaning c.place) (numbered number p.connections)) p
 
 pub abandons : (ticket : Ticket) (p : Seen) → AreBehind p (abandoned ticket p.connections).connections
 abandons ticket p = puts_back (kept_for ticket p.connections) p

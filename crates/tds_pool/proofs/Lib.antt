@@ -6,3 +6,7 @@ pub mod Results
 pub mod Promises
 pub mod Others
 pub mod History
+pub mod Over
+pub mod Turns
+pub mod Apart
+pub mod Known

@@ -8,6 +8,7 @@ use Rattle.std.specs.Prelude.{slice_index_or, ◌≢◌, option_map, ◌==◌, �
 use Rattle.slab.specs.Slab.{Slab, get, with_value, Updates}
 use Rattle.tds_pool.specs.declared.numbers.Entry.{Entry}
 use Rattle.tds_pool.specs.declared.seat.Seat.{Seat}
+use Rattle.tds_pool.specs.declared.lease.Turn.{Turn}
 use Rattle.tds_pool.specs.declared.seat.Place.{Place}
 use Rattle.tds_pool.specs.Calls.{only, standing}
 use Rattle.tds_pool.specs.Connections.{PoolState, Connection, shown, connections, numbered, changed, taken_out, with_client, number_under, connection_of, seat_or_none, reseated, Agree, IsPool}
@@ -100,20 +101,20 @@ module _ (p : PoolState) (pool : IsPool p) where
       ∙ ap (option_map (λ k. shown p.seats (entry_of seat.number k))) (pool.back key seat.number under)
       ∙ ap (λ o. Some (connection_of seat.number key (seat_or_none o))) h
 
-  pub held_found : (key : ℕ) (seat : Seat) → get p.seats key ≡ Some seat → (test : Place → Bool)
-      → standing test key seat.number (connections p) ≡ cond (test seat.place) (Some (connection_of seat.number key seat)) None
+  pub held_found : (key : ℕ) (seat : Seat) → get p.seats key ≡ Some seat → (test : Turn → Place → Bool)
+      → standing test key seat.number (connections p) ≡ cond (test seat.turn seat.place) (Some (connection_of seat.number key seat)) None
   held_found key seat h test =
-      ap (only (λ (c : Connection). (c.key == key) && test c.place)) (numbered_here key seat h)
-      ∙ ap (λ b. cond (b && test seat.place) (Some (connection_of seat.number key seat)) None) (eq-eqb key key refl)
+      ap (only (λ (c : Connection). (c.key == key) && test c.turn c.place)) (numbered_here key seat h)
+      ∙ ap (λ b. cond (b && test seat.turn seat.place) (Some (connection_of seat.number key seat)) None) (eq-eqb key key refl)
 
-  pub held_unknown : (key number : ℕ) → (number_under p.seats key ≡ Some number → ⊥) → (test : Place → Bool)
+  pub held_unknown : (key number : ℕ) → (number_under p.seats key ≡ Some number → ⊥) → (test : Turn → Place → Bool)
       → standing test key number (connections p) ≡ None
-  held_unknown key number wrong test = ap (only (λ (c : Connection). (c.key == key) && test c.place)) (numbered_is p.seats number p.entries) ∙ nobody (key_of p.entries number) refl where
-    nobody : (o : Option ℕ) → key_of p.entries number ≡ o → only (λ (c : Connection). (c.key == key) && test c.place) (option_map (λ k. shown p.seats (entry_of number k)) o) ≡ None
+  held_unknown key number wrong test = ap (only (λ (c : Connection). (c.key == key) && test c.turn c.place)) (numbered_is p.seats number p.entries) ∙ nobody (key_of p.entries number) refl where
+    nobody : (o : Option ℕ) → key_of p.entries number ≡ o → only (λ (c : Connection). (c.key == key) && test c.turn c.place) (option_map (λ k. shown p.seats (entry_of number k)) o) ≡ None
     nobody None is = refl
     nobody (Some k) is = ⊎_elim
         (λ t. let same : k ≡ key = t.1 in let under : number_under p.seats k ≡ Some number = agree_of p.seats number k p.entries pool.agree is in absurd (wrong (rw same at under)))
-        (λ t. ap (λ b. cond (b && test (shown p.seats (entry_of number k)).place) (Some (shown p.seats (entry_of number k))) None) t.0)
+        (λ t. ap (λ b. cond (b && test (shown p.seats (entry_of number k)).turn (shown p.seats (entry_of number k)).place) (Some (shown p.seats (entry_of number k))) None) t.0)
         (eqb_tells k key)
 
 -- ---- The connections behind a write
@@ -177,15 +178,15 @@ pub other_under : (s : Slab Seat) (key number : ℕ) (seat : Seat) → get s key
 other_under s key number seat h other is = other (some_same seat.number number (sym (ap (option_map (λ (x : Seat). x.number)) h) ∙ is))
 
 module _ (p : PoolState) (pool : IsPool p) where
-  pub standing_found : (key number : ℕ) (seat : Seat) → get p.seats key ≡ Some seat → seat.number ≡ number → (test : Place → Bool) → test seat.place ≡ true → standing test key number (connections p) ≡ Some (connection_of number key seat)
+  pub standing_found : (key number : ℕ) (seat : Seat) → get p.seats key ≡ Some seat → seat.number ≡ number → (test : Turn → Place → Bool) → test seat.turn seat.place ≡ true → standing test key number (connections p) ≡ Some (connection_of number key seat)
   standing_found key number seat h is test good =
       subst (λ n. standing test key n (connections p) ≡ Some (connection_of n key seat)) is
-      (held_found p pool key seat h test ∙ taken (test seat.place) (Some (connection_of seat.number key seat)) None good)
+      (held_found p pool key seat h test ∙ taken (test seat.turn seat.place) (Some (connection_of seat.number key seat)) None good)
 
-  pub standing_elsewhere : (key number : ℕ) (seat : Seat) → get p.seats key ≡ Some seat → seat.number ≡ number → (test : Place → Bool) → test seat.place ≡ false → standing test key number (connections p) ≡ None
+  pub standing_elsewhere : (key number : ℕ) (seat : Seat) → get p.seats key ≡ Some seat → seat.number ≡ number → (test : Turn → Place → Bool) → test seat.turn seat.place ≡ false → standing test key number (connections p) ≡ None
   standing_elsewhere key number seat h is test bad =
       subst (λ n. standing test key n (connections p) ≡ None) is
-      (held_found p pool key seat h test ∙ passed (test seat.place) (Some (connection_of seat.number key seat)) None bad)
+      (held_found p pool key seat h test ∙ passed (test seat.turn seat.place) (Some (connection_of seat.number key seat)) None bad)
 
   -- at a place of the table
   pub none_at : (i : ℕ) → i < length p.entries → get p.seats (key_at p.entries i) ≡ None → ⊥

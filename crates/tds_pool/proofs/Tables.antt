@@ -34,7 +34,7 @@ length_push : (es : List Entry) (e : Entry) → length (es ++ e ∷ []) ≡ suc 
 length_push [] e = refl
 length_push (x ∷ es) e = ap suc (length_push es e)
 
-pub table_push : (es : List Entry) (e : Entry) → IsTable es → length es < 64 → AreBelow e.number es → IsTable (es ++ e ∷ [])
+pub table_push : (es : List Entry) (e : Entry) → IsTable es → length es < 1024 → AreBelow e.number es → IsTable (es ++ e ∷ [])
 table_push es e table few below = record { few = rw (length_push es e) few; rising = rising_push es e table.rising below }
 
 -- ---- One less

@@ -67,7 +67,7 @@ module _ (p : PoolState) (pool : IsPool p) (t : Slab Seat) (key n : ℕ) (u : Up
     by : (b : Bool) → eqb e.number n ≡ b → map (shown t) (without n es) ≡ taken_out n (map (shown p.seats) es) → map (shown t) (cond (not b) (e ∷ without n es) (without n es)) ≡ cond (not b) (shown p.seats e ∷ taken_out n (map (shown p.seats) es)) (taken_out n (map (shown p.seats) es))
     by true h rest = rest
     by false h rest =
-        ap (λ o. record { number = e.number; key = e.key; place = (seat_or_none o).place; client = (seat_or_none o).client } ∷ map (shown t) (without n es)) (get_other e is.0 h)
+        ap (λ o. record { number = e.number; key = e.key; turn = (seat_or_none o).turn; place = (seat_or_none o).place; client = (seat_or_none o).client } ∷ map (shown t) (without n es)) (get_other e is.0 h)
         ∙ ap (λ cs. shown p.seats e ∷ cs) rest
 
   back_without : (k m : ℕ) → number_under t k ≡ Some m → key_of (without n p.entries) m ≡ Some k
@@ -136,9 +136,9 @@ module _ (p : PoolState) (pool : IsPool p) (t : Slab Seat) (key : ℕ) (new : Se
   agree_more (e ∷ es) is = (ap (option_map (λ (s : Seat). s.number)) (kept_key e is.0) ∙ is.0, agree_more es is.1)
 
   shown_more : (es : List Entry) → Agree p.seats es → map (shown t) (es ++ added ∷ []) ≡ map (shown p.seats) es ++ connection_of new.number key new ∷ []
-  shown_more [] is = ap (λ o. record { number = new.number; key = key; place = (seat_or_none o).place; client = (seat_or_none o).client } ∷ []) u.changed
+  shown_more [] is = ap (λ o. record { number = new.number; key = key; turn = (seat_or_none o).turn; place = (seat_or_none o).place; client = (seat_or_none o).client } ∷ []) u.changed
   shown_more (e ∷ es) is =
-      ap (λ o. record { number = e.number; key = e.key; place = (seat_or_none o).place; client = (seat_or_none o).client } ∷ map (shown t) (es ++ added ∷ [])) (kept_key e is.0)
+      ap (λ o. record { number = e.number; key = e.key; turn = (seat_or_none o).turn; place = (seat_or_none o).place; client = (seat_or_none o).client } ∷ map (shown t) (es ++ added ∷ [])) (kept_key e is.0)
       ∙ ap (λ cs. shown p.seats e ∷ cs) (shown_more es is.1)
 
   pub below_next : AreBelow new.number p.entries

@@ -1,11 +1,12 @@
 -- What the calls of a pool do.
-use Rattle.std.specs.Prelude.{◌≡◌, ℕ, ◌==◌, ◌&&◌, nat_lt, Bool, true, false, List, [], map, filter, count_by, Option, Some, None, Result, Ok, Err, if◌then◌else◌}
+use Rattle.std.specs.Prelude.{◌≡◌, ℕ, ◌==◌, ◌&&◌, ◌||◌, is_some, is_none, length, nat_lt, Bool, true, false, List, [], map, filter, count_by, Option, Some, None, Result, Ok, Err, if◌then◌else◌}
 use Rattle.std.specs.List.{find}
 use Rattle.tds_packet.specs.declared.status.Reset.{Reset}
 use Rattle.tds_packet.specs.declared.status.Reset.TheVariants.{Full, KeepTransaction}
 use Rattle.tds_client.specs.declared.fault.ClientRefusal.{ClientRefusal}
 use Rattle.tds_client.specs.declared.state.Cancelled.{Cancelled}
 use Rattle.tds_client.specs.declared.state.Cancelled.TheVariants as asked
+use Rattle.tds_request.specs.declared.request.Request.{Request}
 use Rattle.tds_client.specs.Session.{ClientSession, Stage, Idle, Sending, Reading, Cancelling, Broken, new_session, marked}
 use Rattle.tds_client.specs.Sending as sending
 use Rattle.tds_pool.specs.declared.answers.PoolRefusal.{PoolRefusal}
@@ -14,9 +15,10 @@ use Rattle.tds_pool.specs.declared.answers.GivenBack.{GivenBack}
 use Rattle.tds_pool.specs.declared.answers.GivenBack.TheVariants as given
 use Rattle.tds_pool.specs.declared.lease.Lease.{Lease}
 use Rattle.tds_pool.specs.declared.lease.Ticket.{Ticket}
+use Rattle.tds_pool.specs.declared.lease.Turn.{Turn}
 use Rattle.tds_pool.specs.declared.seat.Place.{Place}
 use Rattle.tds_pool.specs.declared.seat.Place.TheVariants as places
-use Rattle.tds_pool.specs.Connections.{Connection, numbered, changed, at_place, with_client, taken_out}
+use Rattle.tds_pool.specs.Connections.{Connection, numbered, changed, at_place, ended_at, with_client, taken_out, first_turn, same_turn}
 
 abbrev pub refusal_number : PoolRefusal → ℕ
 refusal_number refusals.AllInUse = 1
@@ -34,40 +36,59 @@ is_leased places.Leased = true
 is_leased places.Kept = false
 is_leased places.Free = false
 is_leased places.Draining = false
+is_leased places.Cleaning = false
 
 abbrev pub is_kept : Place → Bool
 is_kept places.Leased = false
 is_kept places.Kept = true
 is_kept places.Free = false
 is_kept places.Draining = false
+is_kept places.Cleaning = false
 
 abbrev pub is_free : Place → Bool
 is_free places.Leased = false
 is_free places.Kept = false
 is_free places.Free = true
 is_free places.Draining = false
+is_free places.Cleaning = false
 
 abbrev pub is_draining : Place → Bool
 is_draining places.Leased = false
 is_draining places.Kept = false
 is_draining places.Free = false
 is_draining places.Draining = true
+is_draining places.Cleaning = false
+
+abbrev pub is_cleaning : Place → Bool
+is_cleaning places.Leased = false
+is_cleaning places.Kept = false
+is_cleaning places.Free = false
+is_cleaning places.Draining = false
+is_cleaning places.Cleaning = true
 
 -- where it meets the test
 abbrev pub only : (Connection → Bool) → Option Connection → Option Connection
 only test None = None
 only test (Some c) = if test c then Some c else None
 
--- the connection of this number, where it has this key and its place meets the test
-abbrev pub standing : (Place → Bool) → ℕ → ℕ → List Connection → Option Connection
-standing test key number cs = only (λ (c : Connection). (c.key == key) && test c.place) (numbered number cs)
+-- the connection of this number, where it has this key and its turn and its place meet the test
+abbrev pub standing : (Turn → Place → Bool) → ℕ → ℕ → List Connection → Option Connection
+standing test key number cs = only (λ (c : Connection). (c.key == key) && test c.turn c.place) (numbered number cs)
 
--- the connection that a lease, or a ticket, stands for: of its number, under its key, and lent, or kept
+-- whether a connection whose turn is now that one, at that place, is lent for this turn, or kept for it
+abbrev pub is_lent_for : Turn → Turn → Place → Bool
+is_lent_for turn now place = same_turn now turn && is_leased place
+
+abbrev pub is_kept_for : Turn → Turn → Place → Bool
+is_kept_for turn now place = same_turn now turn && is_kept place
+
+-- the connection that a lease, or a ticket, stands for: of its number, under its key, and lent,
+-- or kept, for its turn, which names its pool too
 abbrev pub lent_to : Lease → List Connection → Option Connection
-lent_to lease cs = standing is_leased lease.key lease.number cs
+lent_to lease cs = standing (is_lent_for lease.turn) lease.key lease.number cs
 
 abbrev pub kept_for : Ticket → List Connection → Option Connection
-kept_for ticket cs = standing is_kept ticket.key ticket.number cs
+kept_for ticket cs = standing (is_kept_for ticket.turn) ticket.key ticket.number cs
 
 -- ---- A client's stage
 
@@ -103,10 +124,11 @@ pub record Returned : Type 0 where
 
 abbrev pub rested : ℕ → Option Place → List Connection → Returned
 rested number None cs = record { answer = given.Closed number; connections = taken_out number cs }
-rested number (Some places.Draining) cs = record { answer = given.Draining number; connections = at_place number places.Draining cs }
-rested number (Some places.Leased) cs = record { answer = given.Free number; connections = at_place number places.Leased cs }
-rested number (Some places.Kept) cs = record { answer = given.Free number; connections = at_place number places.Kept cs }
-rested number (Some places.Free) cs = record { answer = given.Free number; connections = at_place number places.Free cs }
+rested number (Some places.Draining) cs = record { answer = given.Draining number; connections = ended_at number places.Draining cs }
+rested number (Some places.Leased) cs = record { answer = given.Free number; connections = ended_at number places.Leased cs }
+rested number (Some places.Kept) cs = record { answer = given.Free number; connections = ended_at number places.Kept cs }
+rested number (Some places.Free) cs = record { answer = given.Free number; connections = ended_at number places.Free cs }
+rested number (Some places.Cleaning) cs = record { answer = given.Free number; connections = ended_at number places.Cleaning cs }
 
 -- nobody holds this connection any more; where there is none, nothing changes
 abbrev pub put_back : Option Connection → List Connection → Returned
@@ -214,14 +236,24 @@ abbrev pub refuses_new : ℕ → ℕ → ℕ → Option PoolRefusal
 refuses_new count max last =
     if nat_lt count max then (if nat_lt last 4294967295 then None else Some refusals.NumbersUsedUp) else Some refusals.AllInUse
 
+-- whether a lease is given, want of memory aside: a connection is free, or a new one may be opened
+abbrev pub can_lend : ℕ → ℕ → List Connection → Bool
+can_lend max last cs = is_some (lent_next cs) || is_none (refuses_new (length cs) max last)
+
 -- the first refusal, and where there is none, want of memory
 abbrev pub IsRefusal : Option PoolRefusal → PoolRefusal → Type 0
 IsRefusal None refusal = refusal ≡ refusals.Memory
 IsRefusal (Some first) refusal = refusal ≡ first
 
--- a new connection
-abbrev pub new_connection : ℕ → ℕ → ℕ → Connection
-new_connection number key size = record { number = number; key = key; place = places.Leased; client = new_session size }
+-- a new connection of the pool of this name
+abbrev pub new_connection : ℕ → ℕ → ℕ → ℕ → Connection
+new_connection pool number key size = record {
+  number = number;
+  key = key;
+  turn = first_turn pool;
+  place = places.Leased;
+  client = new_session size;
+}
 
 -- ---- What a service asks
 
@@ -234,6 +266,7 @@ stands_at places.Leased place = is_leased place
 stands_at places.Kept place = is_kept place
 stands_at places.Free place = is_free place
 stands_at places.Draining place = is_draining place
+stands_at places.Cleaning place = is_cleaning place
 
 abbrev pub count_at : Place → List Connection → ℕ
 count_at place cs = count_by (λ (c : Connection). stands_at place c.place) cs
@@ -252,3 +285,80 @@ closed_for (Some c) cs = taken_out c.number cs
 
 abbrev pub closed : ℕ → List Connection → List Connection
 closed number cs = closed_for (free_one number cs) cs
+
+-- ---- Taking back what is lent or kept, without its lease or ticket
+
+abbrev pub is_held : Place → Bool
+is_held places.Leased = true
+is_held places.Kept = true
+is_held places.Free = false
+is_held places.Draining = false
+is_held places.Cleaning = false
+
+abbrev pub held_one : ℕ → List Connection → Option Connection
+held_one number cs = only (λ (c : Connection). is_held c.place) (numbered number cs)
+
+abbrev pub taken_back : ℕ → List Connection → Returned
+taken_back number cs = cancelled_and_settled (held_one number cs) cs
+
+abbrev pub taken_back_bytes : ℕ → List Connection → List ℕ
+taken_back_bytes number cs = cancel_bytes (held_one number cs)
+
+-- ---- Cleaning
+
+-- why a connection can't be cleaned, if it can't, want of memory aside: it isn't free, or its client isn't idle
+abbrev pub refuses_clean : Option Connection → Option PoolRefusal
+refuses_clean None = Some refusals.Unknown
+refuses_clean (Some c) = unless_idle c.client.stage
+
+-- the client that asks for a full reset by this request
+abbrev pub asks_reset : ClientSession → Request → ClientSession
+asks_reset s request = sending.started (marked s Full) request
+
+-- a connection is being cleaned
+abbrev pub cleaning : ℕ → Request → List Connection → List Connection
+cleaning number request cs =
+    changed number (λ (c : Connection). record c { place = places.Cleaning; client = asks_reset c.client request }) cs
+
+-- behind a refusal the client is as it was, but where memory was wanting it is marked for a full reset, as the next lease
+-- marks it too
+abbrev pub behind_refusal : PoolRefusal → ClientSession → ClientSession
+behind_refusal refusals.AllInUse s = s
+behind_refusal refusals.Unknown s = s
+behind_refusal refusals.NotIdle s = s
+behind_refusal refusals.NoTransaction s = s
+behind_refusal refusals.Broken s = s
+behind_refusal refusals.Memory s = marked s Full
+behind_refusal refusals.NumbersUsedUp s = s
+
+abbrev pub not_cleaned : PoolRefusal → ℕ → List Connection → List Connection
+not_cleaned refusal number cs = changed number (λ (c : Connection). record c { client = behind_refusal refusal c.client }) cs
+
+-- whether a client has heard that its reset was done, and is in no transaction
+abbrev pub is_clean : ClientSession → Bool
+is_clean s = is_none s.heard.mark && (s.heard.descriptor == 0)
+
+-- where a connection stands that is being cleaned: it is free once its client is idle, its reset was done, and it is in no
+-- transaction; where one of these fails, or it is broken, it is taken out
+abbrev pub rests_clean : ClientSession → Stage → Option Place
+rests_clean s Idle = if is_clean s then Some places.Free else None
+rests_clean s (Sending kind left packets) = Some places.Cleaning
+rests_clean s Reading = Some places.Cleaning
+rests_clean s Cancelling = Some places.Cleaning
+rests_clean s (Broken fault) = None
+
+-- what a look at a connection that is being cleaned finds
+abbrev pub cleaned_to : ℕ → Option Place → List Connection → Returned
+cleaned_to number None cs = record { answer = given.Closed number; connections = taken_out number cs }
+cleaned_to number (Some places.Free) cs = record { answer = given.Free number; connections = at_place number places.Free cs }
+cleaned_to number (Some places.Draining) cs = record { answer = given.Draining number; connections = cs }
+cleaned_to number (Some places.Leased) cs = record { answer = given.Draining number; connections = cs }
+cleaned_to number (Some places.Kept) cs = record { answer = given.Draining number; connections = cs }
+cleaned_to number (Some places.Cleaning) cs = record { answer = given.Draining number; connections = cs }
+
+abbrev pub looked_at_clean : Option Connection → List Connection → Returned
+looked_at_clean None cs = record { answer = given.Unknown; connections = cs }
+looked_at_clean (Some c) cs = cleaned_to c.number (rests_clean c.client c.client.stage) cs
+
+abbrev pub cleaned : ℕ → List Connection → Returned
+cleaned number cs = looked_at_clean (only (λ (c : Connection). is_cleaning c.place) (numbered number cs)) cs

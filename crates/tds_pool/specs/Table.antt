@@ -38,5 +38,5 @@ AreRising (e ∷ es) = AreAbove e.number es × AreRising es
 
 -- what holds of every table
 pub record IsTable (entries : List Entry) : Type 0 where
-  pub few : length entries ≤ 64
+  pub few : length entries ≤ 1024
   pub rising : AreRising entries

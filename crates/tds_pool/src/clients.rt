@@ -2,12 +2,13 @@
 ghost use Rattle.std.specs.Prelude.{◌≡◌, None, Some, ◌++◌, OnOk, OnErr, IfErr};
 ghost use Rattle.tds_client.specs.Session.{marked};
 ghost use Rattle.tds_client.specs.Sending.{cancelled};
-ghost use Rattle.tds_pool.specs.Calls.{session_behind, bytes_behind, IsAsked, is_idle, is_broken, rests_at, unless_idle, unless_open, has_no_transaction};
+ghost use Rattle.tds_pool.specs.Calls.{session_behind, bytes_behind, IsAsked, is_idle, is_broken, rests_at, unless_idle, unless_open, has_no_transaction, is_clean, rests_clean, asks_reset, behind_refusal, IsRefusal};
 
 use crate::answers::PoolRefusal;
 use crate::seat::Place;
 use tds_client::{Client, ClientRefusal, ClientState};
 use tds_packet::Reset;
+use tds_request::Request;
 
 /// Whether no request is underway.
 pub(crate) fn idle(client: &Client) -> bool
@@ -112,5 +113,52 @@ pub(crate) fn cancel(client: &mut Client, out: &mut Vec<u8>) -> Result<(), PoolR
         Err(ClientRefusal::Broken) => Ok(()),
         Err(ClientRefusal::NotIdle) => Ok(()),
         Err(ClientRefusal::NotSending) => Ok(()),
+    }
+}
+
+/// Whether a client has heard that its reset was done, and is in no transaction.
+fn is_clean(client: &Client) -> bool
+    ensures { result ≡ is_clean client.now }
+{
+    match client.reset_mark() {
+        None => client.descriptor() == 0,
+        Some(_) => false,
+    }
+}
+
+/// Where a connection stands that is being cleaned; none where its client is broken, its reset was
+/// not done, or it is still in a transaction.
+pub(crate) fn clean_place(client: &Client) -> Option<Place>
+    ensures { result ≡ rests_clean client.now client.now.stage }
+{
+    match client.state() {
+        ClientState::Idle => {
+            if is_clean(client) {
+                Some(Place::Free)
+            } else {
+                None
+            }
+        }
+        ClientState::Sending => Some(Place::Cleaning),
+        ClientState::Reading => Some(Place::Cleaning),
+        ClientState::Cancelling => Some(Place::Cleaning),
+        ClientState::Broken(_) => None,
+    }
+}
+
+/// Starts a request that asks for a full reset, unless the client is broken or not idle.
+pub(crate) fn start_reset(client: &mut Client, request: &Request) -> Result<(), PoolRefusal>
+    ensures ok { OnOk result (unless_idle client.old.stage ≡ None) }
+    ensures asked { OnOk result (client.new ≡ asks_reset client.old request.now) }
+    ensures refused { IfErr result (IsRefusal (unless_idle client.old.stage)) }
+    ensures err { IfErr result (λ refusal. client.new ≡ behind_refusal refusal client.old) }
+{
+    mark(client, Reset::Full)?;
+    match client.start(request) {
+        Ok(()) => Ok(()),
+        Err(ClientRefusal::Memory) => Err(PoolRefusal::Memory),
+        Err(ClientRefusal::Broken) => unreachable!(),
+        Err(ClientRefusal::NotIdle) => unreachable!(),
+        Err(ClientRefusal::NotSending) => unreachable!(),
     }
 }

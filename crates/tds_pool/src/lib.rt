@@ -14,7 +14,7 @@ mod steps;
 
 pub use answers::{GivenBack, Opened, PoolRefusal};
 pub use finding::place_of;
-pub use lease::{Lease, Ticket};
+pub use lease::{Lease, StoredLease, StoredTicket, Ticket, Turn};
 pub use numbers::{Entry, Numbers};
 pub use pool::Pool;
 pub use seat::Place;

@@ -10,7 +10,7 @@ use std::marker::Model;
 use std::sync::ledger::Ledger;
 
 /// The most connections that a pool has.
-pub(crate) const MOST: u8 = 64;
+pub(crate) const MOST: u16 = 1024;
 
 /// A connection's number, and the key of the slab under which it is kept.
 #[derive(Clone, Copy, Debug)]
@@ -19,7 +19,7 @@ pub struct Entry {
     pub key: usize,
 }
 
-/// The numbers of the connections of a pool, at most 64, each above the one before it.
+/// The numbers of the connections of a pool, at most 1,024, each above the one before it.
 #[derive(Drop)]
 pub struct Numbers {
     entries: Vec<Entry>,
@@ -76,7 +76,7 @@ impl Numbers {
 
     /// Puts a number behind the others, which are below it.
     pub(crate) fn push(&mut self, number: u32, key: usize) -> Result<(), AllocError>
-        requires few { length self.old < 64 }
+        requires few { length self.old < 1024 }
         requires below { AreBelow number self.old }
         ensures ok { OnOk result
             (self.new ≡ self.old ++ (record { number = number; key = key }) ∷ []) }

@@ -8,9 +8,11 @@ ghost use Rattle.tds_pool.specs.Connections.{connections};
 ghost use Rattle.tds_pool.specs.Lends.{LendsClient};
 
 mod calls;
+mod cleaning;
 mod lending;
 mod seats;
 mod service;
+mod storing;
 
 use crate::numbers::{MOST, Numbers};
 use crate::seat::Seat;
@@ -24,7 +26,8 @@ use tds_packet::PacketSize;
 /// never used again.
 #[derive(Drop)]
 pub struct Pool {
-    max: u8,
+    name: u32,
+    max: u16,
     size: PacketSize,
     /// The last number that was used, 0 for none.
     last: u32,
@@ -44,17 +47,31 @@ impl Model for Pool {
 }
 
 impl Pool {
-    /// A pool for at most `max` connections, from 1 to 64. It takes no memory.
-    pub fn new(alloc: Global, max: u8, size: PacketSize) -> Option<Pool>
-        ensures given { 1 ≤ max → max ≤ 64 → IsSome result }
-        ensures lawful { IsSome result → (1 ≤ max) × (max ≤ 64) }
+    /// A pool for at most `max` connections, from 1 to 1,024. It takes no memory. Its name is 0.
+    pub fn new(alloc: Global, max: u16, size: PacketSize) -> Option<Pool>
+        ensures given { 1 ≤ max → max ≤ 1024 → IsSome result }
+        ensures lawful { IsSome result → (1 ≤ max) × (max ≤ 1024) }
         ensures value { IfSome result (λ pool. (connections pool ≡ []) × (pool.max ≡ max)
             × (pool.size ≡ size) × (pool.last ≡ 0)) }
+        ensures name { IfSome result (λ pool. pool.name ≡ 0) }
+    {
+        Pool::named(alloc, 0, max, size)
+    }
+
+    /// A pool as `new` makes it, with a name. A lease of a pool of another name is unknown to it, so
+    /// a program with several pools gives each one a name of its own.
+    pub fn named(alloc: Global, name: u32, max: u16, size: PacketSize) -> Option<Pool>
+        ensures given { 1 ≤ max → max ≤ 1024 → IsSome result }
+        ensures lawful { IsSome result → (1 ≤ max) × (max ≤ 1024) }
+        ensures value { IfSome result (λ pool. (connections pool ≡ []) × (pool.max ≡ max)
+            × (pool.size ≡ size) × (pool.last ≡ 0)) }
+        ensures name { IfSome result (λ pool. pool.name ≡ name) }
     {
         if max < 1 || max > MOST {
             return None;
         }
         Some(Pool {
+            name,
             max,
             size,
             last: 0,

@@ -105,7 +105,7 @@ impl Pool {
         ensures ok { OnOk result
             (refuses_keep (lent_to lease (connections self.old)) ≡ None) }
         ensures ticket { IfOk result (λ ticket. (ticket.key ≡ lease.key)
-            × (ticket.number ≡ lease.number)) }
+            × (ticket.number ≡ lease.number) × (ticket.turn ≡ lease.turn)) }
         ensures shown { OnOk result (connections self.new
             ≡ at_place lease.number Kept (connections self.old)) }
         ensures refused { IfErr result (λ refused. (refused.0 ≡ lease)
@@ -116,9 +116,9 @@ impl Pool {
         if let Err(refusal) = self.check_kept(&lease) {
             return Err((lease, refusal));
         }
-        let Lease { key, number } = lease;
+        let Lease { key, number, turn } = lease;
         self.stand(key, Place::Kept);
-        Ok(Ticket { key, number })
+        Ok(Ticket { key, number, turn })
     }
 
     /// Why this lease can't be kept.
@@ -145,7 +145,7 @@ impl Pool {
         ensures ok { OnOk result
             (refuses_resume (kept_for ticket (connections self.old)) ≡ None) }
         ensures lease { IfOk result (λ lease. (lease.key ≡ ticket.key)
-            × (lease.number ≡ ticket.number)) }
+            × (lease.number ≡ ticket.number) × (lease.turn ≡ ticket.turn)) }
         ensures shown { OnOk result (connections self.new
             ≡ lent_again ticket.number KeepTransaction (connections self.old)) }
         ensures refused { IfErr result (λ refused. (refused.0 ≡ ticket)
@@ -159,8 +159,8 @@ impl Pool {
         if let Err(refusal) = self.lend_again(ticket.key, Reset::KeepTransaction) {
             return Err((ticket, refusal));
         }
-        let Ticket { key, number } = ticket;
-        Ok(Lease { key, number })
+        let Ticket { key, number, turn } = ticket;
+        Ok(Lease { key, number, turn })
     }
 
     /// Gives a kept connection up. It is free if its client is idle then, and closed if that is
@@ -171,12 +171,23 @@ impl Pool {
             ≡ (abandoned ticket (connections self.old)).connections }
         ensures rest { SameRest self.old self.new }
     {
-        let known = self.kept(&ticket).is_some();
-        let Ticket { key: _, number } = ticket;
-        if known {
-            self.settle(number)
-        } else {
-            GivenBack::Unknown
+        match self.kept(&ticket) {
+            Some(_) => {
+                let Ticket {
+                    key: _,
+                    number,
+                    turn: _,
+                } = ticket;
+                self.settle(number)
+            }
+            None => {
+                let Ticket {
+                    key: _,
+                    number: _,
+                    turn: _,
+                } = ticket;
+                GivenBack::Unknown
+            }
         }
     }
 
@@ -196,6 +207,7 @@ impl Pool {
             Place::Kept => GivenBack::Unknown,
             Place::Free => GivenBack::Unknown,
             Place::Draining => self.settle_at(place),
+            Place::Cleaning => GivenBack::Unknown,
         }
     }
 
@@ -238,13 +250,21 @@ impl Pool {
         ensures rest { SameRest self.old self.new }
     {
         if self.leased(&lease).is_none() {
-            let Lease { key: _, number: _ } = lease;
+            let Lease {
+                key: _,
+                number: _,
+                turn: _,
+            } = lease;
             return Ok(GivenBack::Unknown);
         }
         if let Err(refusal) = self.cancel(lease.key, out) {
             return Err((lease, refusal));
         }
-        let Lease { key: _, number } = lease;
+        let Lease {
+            key: _,
+            number,
+            turn: _,
+        } = lease;
         Ok(self.settle(number))
     }
 }

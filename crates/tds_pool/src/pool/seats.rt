@@ -1,24 +1,39 @@
 //! The connections of a pool, one by one: each function keeps table and slab at one.
-ghost use Rattle.std.specs.Prelude.{◌≢◌, ◌∷◌, suc, drop, is_some, ◌≡◌, ◌<◌, length, Bool, Some, None, IfSome, IfNone, ◌++◌, IfErr, OnOk, OnErr};
+ghost use Rattle.std.specs.Prelude.{◌≢◌, ◌∷◌, suc, drop, is_some, ◌≡◌, ◌<◌, length, Bool, Some, None, IfSome, IfNone, ◌++◌, IfErr, OnOk, OnErr, ℕ};
 ghost use Rattle.slab.specs.Slab.{get};
 ghost use Rattle.tds_client.specs.Session.{ClientSession};
 ghost use Rattle.tds_client.specs.Sending.{cancelled};
 ghost use Rattle.tds_pool.specs.declared.lease.Lease.{Lease};
 ghost use Rattle.tds_pool.specs.declared.lease.Ticket.{Ticket};
+ghost use Rattle.tds_pool.specs.declared.lease.Turn.{Turn};
 ghost use Rattle.tds_pool.specs.declared.seat.Place.{Place};
 ghost use Rattle.tds_pool.specs.Table.{key_of, key_at, number_at};
-ghost use Rattle.tds_pool.specs.Connections.{connections, connection_of, numbered, at_place, with_client, taken_out, SameRest};
+ghost use Rattle.tds_pool.specs.Connections.{connections, connection_of, numbered, at_place, ended_at, with_client, taken_out, SameRest};
 ghost use Rattle.tds_pool.specs.declared.answers.PoolRefusal.{PoolRefusal};
 ghost use Rattle.tds_pool.specs.Lends.{with_client_under};
-ghost use Rattle.tds_pool.specs.Calls.{standing, lent_to, kept_for, lent_again, unless_idle, cancels, bytes_behind, IsAsked, settled};
+ghost use Rattle.tds_pool.specs.Calls.{standing, lent_to, kept_for, lent_again, unless_idle, cancels, bytes_behind, IsAsked, settled, is_lent_for, is_kept_for};
 
 use crate::answers::{GivenBack, PoolRefusal};
 use crate::clients::{self, mark, resting_place};
 use crate::finding::place_of;
-use crate::lease::{Lease, Ticket};
+use crate::lease::{Lease, Ticket, Turn};
 use crate::pool::Pool;
 use crate::seat::{Place, Seat};
 use tds_packet::Reset;
+
+/// Whether a connection is lent for this turn.
+fn is_lent(seat: &Seat, turn: Turn) -> bool
+    ensures { result ≡ is_lent_for turn seat.now.turn seat.now.place }
+{
+    seat.turn.is(turn) && matches!(seat.place, Place::Leased)
+}
+
+/// Whether a connection is kept for this turn.
+fn is_kept(seat: &Seat, turn: Turn) -> bool
+    ensures { result ≡ is_kept_for turn seat.now.turn seat.now.place }
+{
+    seat.turn.is(turn) && matches!(seat.place, Place::Kept)
+}
 
 /// Whether a connection has this number. A key alone says nothing: the slab gives it out again.
 fn has_number(seat: &Seat, number: u32) -> bool
@@ -33,22 +48,43 @@ impl Pool {
     fn held(&self, key: usize, number: u32) -> Option<&Seat>
         ensures there { IfSome result (λ seat. (get self.now.seats key ≡ Some seat.now)
             × (seat.now.number ≡ number)) }
-        ensures found { IfSome result (λ seat. (test : Place → Bool)
-            → test seat.now.place ≡ Bool.true
+        ensures found { IfSome result (λ seat. (test : Turn → Place → Bool)
+            → test seat.now.turn seat.now.place ≡ Bool.true
             → standing test key number (connections self.now)
             ≡ Some (connection_of number key seat.now)) }
-        ensures elsewhere { IfSome result (λ seat. (test : Place → Bool)
-            → test seat.now.place ≡ Bool.false
+        ensures elsewhere { IfSome result (λ seat. (test : Turn → Place → Bool)
+            → test seat.now.turn seat.now.place ≡ Bool.false
             → standing test key number (connections self.now) ≡ None) }
         ensures writes { IfSome result (λ seat. (client : ClientSession)
             → connections (with_client_under self.now key client)
             ≡ with_client number client (connections self.now)) }
-        ensures unknown { IfNone result ((test : Place → Bool)
+        ensures unknown { IfNone result ((test : Turn → Place → Bool)
             → standing test key number (connections self.now) ≡ None) }
     {
         let seat = self.seats.get(key)?;
         let same = has_number(seat, number);
         if same {
+            return Some(seat);
+        }
+        None
+    }
+
+    /// What is lent under this key and number, for this turn.
+    pub(crate) fn lent(&self, key: usize, number: u32, turn: Turn) -> Option<&Seat>
+        ensures there { IfSome result (λ seat. (get self.now.seats key ≡ Some seat.now)
+            × (seat.now.number ≡ number)) }
+        ensures found { IfSome result (λ seat.
+            lent_to (record { key = key; number = number; turn = turn }) (connections self.now)
+            ≡ Some (connection_of number key seat.now)) }
+        ensures writes { IfSome result (λ seat. (client : ClientSession)
+            → connections (with_client_under self.now key client)
+            ≡ with_client number client (connections self.now)) }
+        ensures unknown { IfNone result
+            (lent_to (record { key = key; number = number; turn = turn }) (connections self.now)
+            ≡ None) }
+    {
+        let seat = self.held(key, number)?;
+        if is_lent(seat, turn) {
             return Some(seat);
         }
         None
@@ -65,13 +101,25 @@ impl Pool {
             ≡ with_client lease.now.number client (connections self.now)) }
         ensures unknown { IfNone result (lent_to lease.now (connections self.now) ≡ None) }
     {
-        let seat = self.held(lease.key, lease.number)?;
-        match seat.place {
-            Place::Leased => Some(seat),
-            Place::Kept => None,
-            Place::Free => None,
-            Place::Draining => None,
+        self.lent(lease.key, lease.number, lease.turn)
+    }
+
+    /// What is kept under this key and number, for this turn.
+    pub(crate) fn kept_under(&self, key: usize, number: u32, turn: Turn) -> Option<&Seat>
+        ensures there { IfSome result (λ seat. (get self.now.seats key ≡ Some seat.now)
+            × (seat.now.number ≡ number)) }
+        ensures found { IfSome result (λ seat.
+            kept_for (record { key = key; number = number; turn = turn }) (connections self.now)
+            ≡ Some (connection_of number key seat.now)) }
+        ensures unknown { IfNone result
+            (kept_for (record { key = key; number = number; turn = turn }) (connections self.now)
+            ≡ None) }
+    {
+        let seat = self.held(key, number)?;
+        if is_kept(seat, turn) {
+            return Some(seat);
         }
+        None
     }
 
     /// What a ticket stands for.
@@ -82,13 +130,7 @@ impl Pool {
             ≡ Some (connection_of ticket.now.number ticket.now.key seat.now)) }
         ensures unknown { IfNone result (kept_for ticket.now (connections self.now) ≡ None) }
     {
-        let seat = self.held(ticket.key, ticket.number)?;
-        match seat.place {
-            Place::Leased => None,
-            Place::Kept => Some(seat),
-            Place::Free => None,
-            Place::Draining => None,
-        }
+        self.kept_under(ticket.key, ticket.number, ticket.turn)
     }
 
     /// The connection at this place of the table.
@@ -118,6 +160,20 @@ impl Pool {
         let Some(seat) = self.seats.get_mut(key) else {
             return;
         };
+        seat.place = place;
+    }
+
+    /// Ends a lending of what is under this key, and puts it at another place of the pool.
+    pub(crate) fn end_at(&mut self, key: usize, place: Place)
+        ensures shown { IfSome (get self.old.seats key) (λ seat.
+            connections self.new ≡ ended_at seat.number place (connections self.old)) }
+        ensures table { self.new.entries ≡ self.old.entries }
+        ensures rest { SameRest self.old self.new }
+    {
+        let Some(seat) = self.seats.get_mut(key) else {
+            return;
+        };
+        seat.turn = seat.turn.next();
         seat.place = place;
     }
 
@@ -188,11 +244,11 @@ impl Pool {
                 GivenBack::Closed(number)
             }
             Some(Place::Draining) => {
-                self.stand(key, Place::Draining);
+                self.end_at(key, Place::Draining);
                 GivenBack::Draining(number)
             }
             Some(rest) => {
-                self.stand(key, rest);
+                self.end_at(key, rest);
                 GivenBack::Free(number)
             }
         }

@@ -18,6 +18,7 @@ fn stands_at(wanted: Place, place: Place) -> bool
         Place::Kept => matches!(place, Place::Kept),
         Place::Free => matches!(place, Place::Free),
         Place::Draining => matches!(place, Place::Draining),
+        Place::Cleaning => matches!(place, Place::Cleaning),
     }
 }
 
@@ -58,7 +59,8 @@ impl Pool {
         Some(self.seat_at(place).place)
     }
 
-    /// How many connections stand at this place: how many are lent, kept, free, or drain.
+    /// How many connections stand at this place: how many are lent, kept, free, drain,
+    /// or are cleaned.
     pub fn count(&self, place: Place) -> usize
         ensures { result ≡ count_at place (connections self.now) }
     {
@@ -103,6 +105,7 @@ impl Pool {
                 true
             }
             Place::Draining => false,
+            Place::Cleaning => false,
         }
     }
 }

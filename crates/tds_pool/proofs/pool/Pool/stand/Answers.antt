@@ -10,4 +10,4 @@ invariant_of-self-2 c = pool_reseated (state_of c.self.inside) c.args.key c.in-S
 pub returns-clause-shown : goal.returns-clause-shown
 returns-clause-shown c =
     let there : get c.self.inside.seats c.args.key ≡ Some c.in-Some.seat.now = sym c.in-Some.ensures.value in
-    rw (← c.self.view_is, there) (connections_reseated (state_of c.self.inside) c.self.invariant c.args.key c.in-Some.seat.now (record { number = c.in-Some.seat.now.number; place = c.args.place; client = c.in-Some.seat.now.client }) there (λ d. record d { place = c.args.place }) refl)
+    rw (← c.self.view_is, there) (connections_reseated (state_of c.self.inside) c.self.invariant c.args.key c.in-Some.seat.now (record { number = c.in-Some.seat.now.number; turn = c.in-Some.seat.now.turn; place = c.args.place; client = c.in-Some.seat.now.client }) there (λ d. record d { place = c.args.place }) refl)

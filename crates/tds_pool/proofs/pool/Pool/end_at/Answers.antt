@@ -1,0 +1,14 @@
+use Rattle.std.proofs.Common.{◌≡◌, Some, refl, sym}
+use Rattle.slab.specs.Slab.{get}
+use Rattle.tds_pool.specs.Connections.{next_turn}
+use Rattle.tds_pool.specs.Fields.{state_of}
+use Rattle.tds_pool.proofs.Seats.{pool_reseated, connections_reseated}
+use Rattle.tds_pool.proofs.pool.Pool.end_at.Goals as goal
+
+pub invariant_of-self-2 : goal.invariant_of-self-2
+invariant_of-self-2 c = pool_reseated (state_of c.self.inside) c.args.key c.in-Some.seat.now _ c.self.invariant (sym c.in-Some.ensures.value) refl
+
+pub returns-clause-shown : goal.returns-clause-shown
+returns-clause-shown c =
+    let there : get c.self.inside.seats c.args.key ≡ Some c.in-Some.seat.now = sym c.in-Some.ensures.value in
+    rw (← c.self.view_is, there, c.next-seat.ensures) (connections_reseated (state_of c.self.inside) c.self.invariant c.args.key c.in-Some.seat.now (record { number = c.in-Some.seat.now.number; turn = next_turn c.in-Some.seat.now.turn; place = c.args.place; client = c.in-Some.seat.now.client }) there (λ d. record d { place = c.args.place; turn = next_turn d.turn }) refl)
