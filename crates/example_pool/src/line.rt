@@ -1,13 +1,11 @@
-//! A connection's sockets, with the reader of what its client hears and the server behind it.
+//! A connection in memory: the reader of what its client hears, and the server behind it.
 ghost use Rattle.std.specs.Prelude.{◌≡◌};
 ghost use Rattle.tds_packet.specs.declared.kind.Direction.TheVariants.{ToClient};
 
 use anyhow::bail;
 use std::alloc::Global;
-use std::io::{Read, Write};
-use std::net::{Net, TcpListener, TcpStream};
-use tds_client::Client;
-use tds_ends::{ClientFed, RequestStatus, ServerEnd, listen};
+use tds_client::{Client, Sent};
+use tds_ends::{ServerEnd, listen};
 use tds_packet::{Direction, PacketReader, PacketSize};
 use tds_server::Worked;
 use tds_session::ScriptEngine;
@@ -15,90 +13,43 @@ use tds_token::Token;
 
 #[derive(Drop)]
 pub struct Line {
-    near: TcpStream,
-    far: TcpStream,
     reader: PacketReader,
     server: ServerEnd<ScriptEngine>,
     ghost reads: { reader.direction ≡ ToClient },
 }
 
 impl Line {
-    pub fn open(
-        rt: &HostRuntime,
-        listener: &TcpListener,
-        size: PacketSize,
-    ) -> anyhow::Result<Line> {
-        let alloc = rt.alloc();
-        let near = TcpStream::connect(rt, listener.local_addr()?)?;
-        let (far, _) = listener.accept()?;
+    pub fn new(alloc: Global, size: PacketSize) -> anyhow::Result<Line> {
         let server = ServerEnd::new(alloc, ScriptEngine, size)?;
         let reader = PacketReader::new(alloc, size, Direction::ToClient)?;
-        Ok(Line {
-            near,
-            far,
-            reader,
-            server,
-        })
+        Ok(Line { reader, server })
     }
 
-    /// Sends what a client has to send, and lets the server answer it.
-    pub fn carry(&mut self, alloc: Global, out: &[u8]) -> anyhow::Result<()> {
-        let mut near = &self.near;
-        near.write_all(out)?;
-        let mut far = &self.far;
-        let mut piece = [0u8; 64];
+    /// Takes what the client has to send to the server, and its answer back.
+    pub fn carry(&mut self, alloc: Global, client: &mut Client) -> anyhow::Result<Vec<Token>> {
+        let mut out = Vec::new(alloc);
+        for _ in 0..u64::MAX {
+            match client.send(&mut out) {
+                Ok(Sent::More) => {}
+                Ok(Sent::Last) => break,
+                Err(refusal) => bail!("not sent: {refusal:?}"),
+            }
+        }
         let mut reply = Vec::new(alloc);
+        if let Some(stop) = self.server.serve(&out, &mut reply).stop {
+            bail!("{stop:?}");
+        }
         for _ in 0..u64::MAX {
-            let count = far.read(&mut piece)?;
-            if count == 0 {
-                bail!("the client has gone");
-            }
-            match self.server.serve(&piece[..count], &mut reply).stop {
-                None => {}
-                Some(stop) => bail!("{stop:?}"),
-            }
-            for _ in 0..u64::MAX {
-                match self.server.work(&mut reply)? {
-                    Worked::Step => {}
-                    Worked::Finished => {}
-                    Worked::Idle => break,
-                }
-            }
-            if !reply.is_empty() {
-                far.write_all(&reply)?;
-                return Ok(());
+            match self.server.work(&mut reply)? {
+                Worked::Step => {}
+                Worked::Finished => {}
+                Worked::Idle => break,
             }
         }
-        bail!("no end")
-    }
-
-    /// Takes what comes until the client's request is settled.
-    pub fn hear(
-        &mut self,
-        client: &mut Client,
-        told: &mut Vec<Token>,
-    ) -> anyhow::Result<RequestStatus> {
-        let mut piece = [0u8; 64];
-        for _ in 0..u64::MAX {
-            let mut near = &self.near;
-            let count = near.read(&mut piece)?;
-            if count == 0 {
-                bail!("the server has gone");
-            }
-            let fed = self.listen(client, &piece[..count], told);
-            match fed.stop {
-                None => {}
-                Some(stop) => bail!("{stop:?}"),
-            }
-            if let Some(status) = fed.settled {
-                return Ok(status);
-            }
+        let mut told = Vec::new(alloc);
+        if let Some(stop) = listen(client, &mut self.reader, &reply, &mut told).stop {
+            bail!("{stop:?}");
         }
-        bail!("no end")
-    }
-
-    /// Hands the client what its packets spell.
-    fn listen(&mut self, client: &mut Client, piece: &[u8], told: &mut Vec<Token>) -> ClientFed {
-        listen(client, &mut self.reader, piece, told)
+        Ok(told)
     }
 }

@@ -1,18 +1,21 @@
-//! A pool of clients over TCP sockets of this machine, with a server behind each: what becomes of
-//! a connection from its lease to its end, as its socket sees it.
+//! A service that keeps its callers in a slab, with their leases: more callers than connections, and
+//! one that vanishes inside a transaction. Clients and servers are in memory.
 #![tactic(auto)]
 
 mod line;
 mod service;
 
-use service::{Ask, Service, Then};
+use service::Service;
 
 fn main(rt: HostRuntime) -> anyhow::Result<()> {
     let mut service = Service::new(&rt, 2)?;
-    service.turn(&rt, Ask::Begin, Then::Cancel)?;
-    service.turn(&rt, Ask::Commit, Then::Hear)?;
-    service.turn(&rt, Ask::Batch("rows 1 3"), Then::Leave)?;
-    service.keeping_turn(&rt)?;
-    service.turn(&rt, Ask::Begin, Then::Cut)?;
-    service.turn(&rt, Ask::Batch("say hello"), Then::Hear)
+    let first = service.arrive(&rt, "first")?;
+    let second = service.arrive(&rt, "second")?;
+    let third = service.arrive(&rt, "third")?;
+    let fourth = service.arrive(&rt, "fourth")?;
+    service.begin(&rt, first)?;
+    service.vanish(&rt, first)?;
+    service.commit(&rt, third)?;
+    service.leave(&rt, second)?;
+    service.leave(&rt, fourth)
 }

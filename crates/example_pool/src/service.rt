@@ -1,243 +1,174 @@
-//! A service that shares connections: its pool, and the lines of the connections by their numbers.
+//! The service: its pool, and its callers with their leases.
 
 use crate::line::Line;
 use anyhow::{Context, bail};
+use slab::Slab;
 use std::alloc::Global;
-use std::net::{Net, TcpListener};
-use tds_client::Sent;
-use tds_ends::RequestStatus;
 use tds_packet::PacketSize;
-use tds_pool::{GivenBack, Lease, Opened, Pool};
+use tds_pool::{GivenBack, Opened, Pool, StoredLease};
 use tds_request::{BatchText, Isolation, Request};
 use tds_token::Token;
 
-/// What a caller asks for.
-#[derive(Clone, Copy, Debug)]
-pub enum Ask {
-    Begin,
-    Commit,
-    Batch(&'static str),
-}
-
-/// What it does once the request is sent and its answer underway.
-#[derive(Clone, Copy, Debug)]
-pub enum Then {
-    /// Waits for the answer.
-    Hear,
-    /// Cancels, and waits for the acknowledgement.
-    Cancel,
-    /// Gives the lease back at once.
-    Leave,
-    /// Its socket fails.
-    Cut,
-}
-
-/// What a caller got.
+/// A caller: its name, and its lease; none while it waits.
 #[derive(Debug, Drop)]
-struct Got {
-    status: Option<RequestStatus>,
-    told: Vec<Token>,
+struct Caller {
+    name: &'static str,
+    lease: Option<StoredLease>,
 }
 
 #[derive(Drop)]
 pub struct Service {
     alloc: Global,
     size: PacketSize,
-    listener: TcpListener,
     pool: Pool,
-    /// The line of connection 1, then that of connection 2, and so on; none where it was cut.
-    lines: Vec<Option<Line>>,
+    callers: Slab<Caller>,
+    /// The line of connection 1, then that of connection 2, and so on.
+    lines: Vec<Line>,
 }
 
 impl Service {
-    pub fn new(rt: &HostRuntime, max: u8) -> anyhow::Result<Service> {
+    pub fn new(rt: &HostRuntime, max: u16) -> anyhow::Result<Service> {
         let alloc = rt.alloc();
         let size = PacketSize::new(512).context("no packet size")?;
         Ok(Service {
             alloc,
             size,
-            listener: TcpListener::bind(rt, "127.0.0.1:0")?,
-            pool: Pool::new(alloc, max, size).context("1 to 64 connections")?,
+            pool: Pool::new(alloc, max, size).context("1 to 1,024 connections")?,
+            callers: Slab::new(alloc),
             lines: Vec::new(alloc),
         })
     }
 
-    /// A caller's turn: a lease, a request, and the lease given back, whatever came of it.
-    pub fn turn(&mut self, rt: &HostRuntime, ask: Ask, then: Then) -> anyhow::Result<()> {
-        let (lease, opened) = self.lease(rt)?;
-        let got = self.ask(&lease, ask, then);
-        let shown = show(rt, ask, opened, got);
-        let back = self.give_back(rt, lease);
-        shown?;
-        println!(rt; "  given back: {:?}", back?)?;
-        Ok(())
+    /// A caller comes, and waits until a connection is free.
+    pub fn arrive(&mut self, rt: &HostRuntime, name: &'static str) -> anyhow::Result<usize> {
+        let Ok(key) = self.callers.insert(Caller { name, lease: None }) else {
+            bail!("no memory");
+        };
+        self.serve(rt)?;
+        Ok(key)
     }
 
-    /// A turn that keeps its transaction while another caller has a turn.
-    pub fn keeping_turn(&mut self, rt: &HostRuntime) -> anyhow::Result<()> {
-        let (lease, opened) = self.lease(rt)?;
-        let begun = self.ask(&lease, Ask::Begin, Then::Hear);
-        let first = show(rt, Ask::Begin, opened, begun);
-        let ticket = match self.pool.keep(lease) {
-            Ok(ticket) => ticket,
-            Err((lease, refusal)) => {
-                let _ = self.give_back(rt, lease);
-                bail!("not kept: {refusal:?}");
-            }
-        };
-        let second = self.turn(rt, Ask::Commit, Then::Hear);
-        let lease = match self.pool.resume(ticket) {
-            Ok(lease) => lease,
-            Err((ticket, refusal)) => {
-                let _ = self.pool.abandon(ticket);
-                bail!("not resumed: {refusal:?}");
-            }
-        };
-        let committed = self.ask(&lease, Ask::Commit, Then::Hear);
-        let third = show(rt, Ask::Commit, Opened::Reused(lease.number()), committed);
-        let back = self.give_back(rt, lease);
-        first?;
-        second?;
-        third?;
-        println!(rt; "  given back: {:?}", back?)?;
-        Ok(())
-    }
-
-    /// Lends a connection; a new one gets its line.
-    fn lease(&mut self, rt: &HostRuntime) -> anyhow::Result<(Lease, Opened)> {
-        let (lease, opened) = match self.pool.lease(self.alloc) {
-            Ok(given) => given,
-            Err(refusal) => bail!("no lease: {refusal:?}"),
-        };
-        if let Opened::New(_) = opened {
-            let opening = match Line::open(rt, &self.listener, self.size) {
-                Ok(line) => self.lines.push(Some(line)).context("no memory"),
-                Err(error) => Err(error),
+    /// Lends connections to those who wait, while the pool can lend one.
+    fn serve(&mut self, rt: &HostRuntime) -> anyhow::Result<()> {
+        for _ in 0..u64::MAX {
+            let Some(key) = self.next_waiting() else {
+                return Ok(());
             };
-            if let Err(error) = opening {
-                spend(self.alloc, &mut self.pool, lease);
-                return Err(error);
+            if !self.pool.can_lend() {
+                println!(rt; "  all connections are in use")?;
+                return Ok(());
+            }
+            let caller = self.callers.get_mut(key).context("no such caller")?;
+            let opened = match self.pool.lease(self.alloc) {
+                Ok((lease, opened)) => {
+                    caller.lease = Some(lease.store());
+                    opened
+                }
+                Err(refusal) => bail!("no lease: {refusal:?}"),
+            };
+            println!(rt; "{} has {opened:?}", caller.name)?;
+            if let Opened::New(_) = opened {
+                self.lines.push(Line::new(self.alloc, self.size)?)?;
             }
         }
-        Ok((lease, opened))
+        Ok(())
     }
 
-    /// Asks for something on a leased connection.
-    fn ask(&mut self, lease: &Lease, ask: Ask, then: Then) -> anyhow::Result<Got> {
-        let request = self.request(ask)?;
-        let line = line_of(&mut self.lines, lease.number())?;
-        let client = self.pool.client_mut(lease).context("an unknown lease")?;
-        let mut out = Vec::new(self.alloc);
+    /// The key of a caller that waits.
+    fn next_waiting(&self) -> Option<usize> {
+        for (key, caller) in self.callers.iter() {
+            if caller.lease.is_none() {
+                return Some(key);
+            }
+        }
+        None
+    }
+
+    pub fn begin(&mut self, rt: &HostRuntime, key: usize) -> anyhow::Result<()> {
+        let level = Isolation::new(0).context("no isolation level")?;
+        self.ask(rt, key, Request::Begin(level))
+    }
+
+    pub fn commit(&mut self, rt: &HostRuntime, key: usize) -> anyhow::Result<()> {
+        self.ask(rt, key, Request::Commit(None))
+    }
+
+    /// A caller asks on its connection.
+    fn ask(&mut self, rt: &HostRuntime, key: usize, request: Request) -> anyhow::Result<()> {
+        let caller = self.callers.get(key).context("no such caller")?;
+        let lease = caller.lease.as_ref().context("it waits")?;
+        let client = self
+            .pool
+            .stored_client_mut(lease)
+            .context("an unknown lease")?;
         if client.start(&request).is_err() {
             bail!("a request is underway");
         }
-        for _ in 0..u64::MAX {
-            match client.send(&mut out) {
-                Ok(Sent::More) => {}
-                Ok(Sent::Last) => break,
-                Err(refusal) => bail!("not sent: {refusal:?}"),
-            }
-        }
-        line.carry(self.alloc, &out)?;
-        let mut told = Vec::new(self.alloc);
-        let status = match then {
-            Then::Hear => Some(line.hear(client, &mut told)?),
-            Then::Cancel => {
-                out.clear();
-                if client.cancel(&mut out).is_err() {
-                    bail!("not cancelled");
-                }
-                line.carry(self.alloc, &out)?;
-                Some(line.hear(client, &mut told)?)
-            }
-            Then::Leave => None,
-            Then::Cut => {
-                self.cut(lease.number());
-                None
-            }
-        };
-        Ok(Got { status, told })
+        println!(rt; "{} asks {request:?}", caller.name)?;
+        let number = lease.number();
+        self.carry(rt, number)
     }
 
-    /// Closes a connection whose socket has failed.
-    fn cut(&mut self, number: u32) {
-        let _ = self.pool.lost(number);
-        for (line, at) in self.lines.iter_mut().zip(1u32..) {
-            if at == number {
-                *line = None;
-            }
-        }
-    }
-
-    fn request(&self, ask: Ask) -> anyhow::Result<Request> {
-        let level = Isolation::new(0).context("no isolation level")?;
-        match ask {
-            Ask::Begin => Ok(Request::Begin(level)),
-            Ask::Commit => Ok(Request::Commit(None)),
-            Ask::Batch(text) => {
-                let mut units = Vec::new(self.alloc);
-                for unit in text.encode_utf16() {
-                    units.push(unit)?;
-                }
-                let text = BatchText::new(units).context("a batch has at most 2,000 units")?;
-                Ok(Request::Batch(text))
-            }
-        }
-    }
-
-    /// Gives a lease back. Where the connection drains, this waits for the acknowledgement; a
-    /// service would go on, and look again when bytes have come.
-    fn give_back(&mut self, rt: &HostRuntime, lease: Lease) -> anyhow::Result<GivenBack> {
-        let mut out = Vec::new(self.alloc);
-        let back = match self.pool.give_back(lease, &mut out) {
-            Ok(back) => back,
-            Err((lease, refusal)) => {
-                spend(self.alloc, &mut self.pool, lease);
-                bail!("not given back: {refusal:?}");
-            }
-        };
-        let GivenBack::Draining(number) = back else {
-            return Ok(back);
-        };
-        println!(rt; "  given back: {back:?}")?;
-        let line = line_of(&mut self.lines, number)?;
-        line.carry(self.alloc, &out)?;
+    /// Takes what a connection has to send to its server, and the answer back.
+    fn carry(&mut self, rt: &HostRuntime, number: u32) -> anyhow::Result<()> {
+        let place = usize::try_from(number)?.wrapping_sub(1);
+        let line = self.lines.get_mut(place).context("no such line")?;
         let client = self.pool.at(number).context("no such connection")?;
-        let _ = line.hear(client, &mut Vec::new(self.alloc))?;
-        Ok(self.pool.drained(number))
+        let told = line.carry(self.alloc, client)?;
+        for token in &told {
+            if let Token::Error(message) = token {
+                println!(rt; "  error {}", message.number)?;
+            }
+        }
+        let transaction = client.descriptor();
+        println!(rt; "  {} tokens, transaction {transaction}", told.len())?;
+        Ok(())
     }
-}
 
-/// The line of this connection.
-fn line_of(lines: &mut [Option<Line>], number: u32) -> anyhow::Result<&mut Line> {
-    let place = usize::try_from(number)?.wrapping_sub(1);
-    let line = lines.get_mut(place).context("no such line")?;
-    line.as_mut().context("a line that was cut")
-}
-
-/// Spends a lease whose connection is given up. A lease that is unknown is given back without
-/// memory.
-fn spend(alloc: Global, pool: &mut Pool, lease: Lease) {
-    let _ = pool.lost(lease.number());
-    match pool.give_back(lease, &mut Vec::new(alloc)) {
-        Ok(_) => {}
-        Err(_) => unreachable!(),
-    }
-}
-
-/// Prints what a caller asked for and got.
-fn show(
-    rt: &HostRuntime,
-    ask: Ask,
-    opened: Opened,
-    got: anyhow::Result<Got>,
-) -> anyhow::Result<()> {
-    let Got { status, told } = got?;
-    println!(rt; "{ask:?} on {opened:?}: {status:?}, {} tokens", told.len())?;
-    for token in &told {
-        if let Token::Error(message) = token {
-            println!(rt; "  error {}", message.number)?;
+    /// A caller goes: its lease is claimed and given back.
+    pub fn leave(&mut self, rt: &HostRuntime, key: usize) -> anyhow::Result<()> {
+        let caller = self.callers.try_remove(key).context("no such caller")?;
+        println!(rt; "{} goes", caller.name)?;
+        let stored = caller.lease.context("it waited")?;
+        let lease = match self.pool.claim(stored) {
+            Ok(lease) => lease,
+            Err((_, refusal)) => bail!("not claimed: {refusal:?}"),
+        };
+        match self.pool.give_back(lease, &mut Vec::new(self.alloc)) {
+            Ok(GivenBack::Free(number)) => self.clean(rt, number),
+            Ok(back) => bail!("{back:?}"),
+            Err((lease, refusal)) => {
+                lease.store();
+                bail!("not given back: {refusal:?}")
+            }
         }
     }
-    Ok(())
+
+    /// A caller vanishes: it is dropped with its lease, and its connection is taken back.
+    pub fn vanish(&mut self, rt: &HostRuntime, key: usize) -> anyhow::Result<()> {
+        let caller = self.callers.try_remove(key).context("no such caller")?;
+        let number = caller.lease.context("it waited")?.number();
+        match self.pool.take_back(number, &mut Vec::new(self.alloc)) {
+            Ok(back) => println!(rt; "{} vanishes: {back:?}", caller.name)?,
+            Err(refusal) => bail!("not taken back: {refusal:?}"),
+        }
+        self.clean(rt, number)
+    }
+
+    /// Cleans a free connection. Nobody is lent it meanwhile.
+    fn clean(&mut self, rt: &HostRuntime, number: u32) -> anyhow::Result<()> {
+        let mut units = Vec::new(self.alloc);
+        for unit in "say clean".encode_utf16() {
+            units.push(unit)?;
+        }
+        let text = BatchText::new(units).context("a batch has at most 2,000 units")?;
+        if let Err(refusal) = self.pool.clean(number, &Request::Batch(text)) {
+            bail!("not cleaned: {refusal:?}");
+        }
+        println!(rt; "  cleaning {number}: {:?}", self.pool.cleaned(number))?;
+        self.serve(rt)?;
+        self.carry(rt, number)?;
+        println!(rt; "  cleaned {number}: {:?}", self.pool.cleaned(number))?;
+        self.serve(rt)
+    }
 }

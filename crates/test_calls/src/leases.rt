@@ -51,7 +51,7 @@ enum Case {
 }
 
 /// What a case comes to on a pool of so many connections; 104 where there is none.
-fn with_pool(alloc: Global, max: u8, case: Case) -> u8 {
+fn with_pool(alloc: Global, max: u16, case: Case) -> u8 {
     let Some(mut pool) = pool(alloc, max) else {
         return 104;
     };
@@ -63,16 +63,16 @@ fn with_pool(alloc: Global, max: u8, case: Case) -> u8 {
     }
 }
 
-/// A pool has 1 to 64 connections.
+/// A pool has 1 to 1,024 connections.
 fn put_sizes(alloc: Global, text: &mut String) -> Result<(), AllocError> {
-    for max in [0, 1, 64, 65] {
+    for max in [0, 1, 1024, 1025] {
         let is_made = pool(alloc, max).is_some();
         writeln!(text, "a pool of {max} connections: {is_made}")?;
     }
     Ok(())
 }
 
-fn pool(alloc: Global, max: u8) -> Option<Pool> {
+fn pool(alloc: Global, max: u16) -> Option<Pool> {
     Pool::new(alloc, max, PacketSize::new(512)?)
 }
 
