@@ -4,6 +4,7 @@ use Rattle.std.specs.Prelude.{ℕ, suc, ◌≡◌, ◌≢◌, ◌⊎◌, IsSome,
 use Rattle.tds_client.specs.Session.{new_session}
 use Rattle.tds_pool.specs.declared.lease.Lease.{Lease}
 use Rattle.tds_pool.specs.declared.lease.Ticket.{Ticket}
+use Rattle.tds_pool.specs.declared.lease.Turn.{Turn}
 use Rattle.tds_pool.specs.declared.seat.Place.{Place as PoolPlace}
 use Rattle.tds_pool.specs.declared.seat.Place.TheVariants as pooled
 use Rattle.tds_pool.specs.Calls.{all_numbers}
@@ -26,12 +27,13 @@ use Rattle.tds_play.specs.declared.seat.Held.{Held}
 -- ---- Each connection in its seat
 
 -- Where a connection of the pool stands, in the words of a play: who holds it is the lease or the ticket
--- of this number.
+-- of this number. A play cleans none.
 abbrev pub place_by : ℕ → PoolPlace → Place
 place_by holder pooled.Leased = Leased holder
 place_by holder pooled.Kept = Kept holder
 place_by holder pooled.Free = Free
 place_by holder pooled.Draining = Draining
+place_by holder pooled.Cleaning = Leased holder
 
 -- The seat of a connection, as the pool has it. One that is cut is in the pool no longer, and its seat
 -- means nothing.
@@ -76,31 +78,45 @@ pub record ArePooled {E S : Type 0} (max size : ℕ) (hs : List (Held E S)) (poo
 abbrev pub holder_at : {E S : Type 0} → List (Held E S) → ℕ → Option ℕ
 holder_at hs number = option_map (λ h. h.holder) (world.numbered hs number)
 
--- A connection of the pool has this key, and stands here.
-pub record StandsAs (key : ℕ) (place : PoolPlace) (c : pool.Connection) : Type 0 where
-  pub key_is : c.key ≡ key
+-- What a lease or ticket has of its connection besides the number: the key, and the turn.
+pub record Stamp : Type 0 where
+  pub key : ℕ
+  pub turn : Turn
+
+abbrev pub stamp_of : pool.Connection → Stamp
+stamp_of c = record { key = c.key; turn = c.turn }
+
+abbrev pub lease_stamp : Lease → Stamp
+lease_stamp lease = record { key = lease.key; turn = lease.turn }
+
+abbrev pub ticket_stamp : Ticket → Stamp
+ticket_stamp ticket = record { key = ticket.key; turn = ticket.turn }
+
+-- A connection of the pool has this key and this turn, and stands here.
+pub record StandsAs (stamp : Stamp) (place : PoolPlace) (c : pool.Connection) : Type 0 where
+  pub stamp_is : stamp_of c ≡ stamp
   pub place_is : c.place ≡ place
 
 -- The lease or ticket of this number is for the connection of the number `conn`: one of the play, and while it
--- is in the pool it has the key of the lease or ticket, stands at its place, and is held by it. One that was
+-- is in the pool it has the key and the turn of the lease or ticket, stands at its place, and is held by it. One that was
 -- cut is in the pool no longer.
-pub record IsKnown {E S : Type 0} (place : PoolPlace) (holder key conn : ℕ) (hs : List (Held E S))
-    (pcs : List pool.Connection) : Type 0 where
+pub record IsKnown {E S : Type 0} (place : PoolPlace) (holder : ℕ) (stamp : Stamp) (conn : ℕ)
+    (hs : List (Held E S)) (pcs : List pool.Connection) : Type 0 where
   pub first : 0 < conn
   pub last : conn ≤ length hs
-  pub stands : (c : pool.Connection) → numbered conn pcs ≡ Some c → StandsAs key place c
+  pub stands : (c : pool.Connection) → numbered conn pcs ≡ Some c → StandsAs stamp place c
   pub holds : (c : pool.Connection) → numbered conn pcs ≡ Some c → holder_at hs conn ≡ Some holder
 
 -- All leases, or all tickets, that haven't ended: the one at place k has the number k + 1.
 abbrev pub AreLeases : {E S : Type 0} → List (Option Lease) → List (Held E S) → List pool.Connection → Type 0
 AreLeases leases hs pcs =
     (k : ℕ) (lease : Lease) → slice_get leases k ≡ Some (Some lease)
-    → IsKnown pooled.Leased (suc k) lease.key lease.number hs pcs
+    → IsKnown pooled.Leased (suc k) (lease_stamp lease) lease.number hs pcs
 
 abbrev pub AreTickets : {E S : Type 0} → List (Option Ticket) → List (Held E S) → List pool.Connection → Type 0
 AreTickets tickets hs pcs =
     (k : ℕ) (ticket : Ticket) → slice_get tickets k ≡ Some (Some ticket)
-    → IsKnown pooled.Kept (suc k) ticket.key ticket.number hs pcs
+    → IsKnown pooled.Kept (suc k) (ticket_stamp ticket) ticket.number hs pcs
 
 pub record AreKnown {E S : Type 0} (leases : List (Option Lease)) (tickets : List (Option Ticket))
     (hs : List (Held E S)) (pcs : List pool.Connection) : Type 0 where
@@ -130,9 +146,9 @@ pub record IsGone (number : ℕ) (old new : PoolState) : Type 0 where
   pub connections : pool.connections new ≡ taken_out number (pool.connections old)
   pub rest : SameRest old new
 
--- A connection of the pool stands where it stood, with its key, or no longer drains.
+-- A connection of the pool stands where it stood, with its key and its turn, or it was draining.
 abbrev pub StaysAs : pool.Connection → pool.Connection → Type 0
-StaysAs c d = (d.key ≡ c.key) × ((d.place ≡ c.place) ⊎ (c.place ≡ pooled.Draining))
+StaysAs c d = ((stamp_of d ≡ stamp_of c) × (d.place ≡ c.place)) ⊎ (c.place ≡ pooled.Draining)
 
 -- The pool's connection of this number alone may have changed, and it is still there unless it was cut.
 pub record ChangesOne (number : ℕ) (is_cut : Bool) (old new : PoolState) : Type 0 where

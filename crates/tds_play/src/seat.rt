@@ -43,6 +43,8 @@ fn place_by(holder: u32, place: tds_pool::Place) -> Place
         tds_pool::Place::Kept => Place::Kept(holder),
         tds_pool::Place::Free => Place::Free,
         tds_pool::Place::Draining => Place::Draining,
+        // A play cleans none.
+        tds_pool::Place::Cleaning => Place::Leased(holder),
     }
 }
 

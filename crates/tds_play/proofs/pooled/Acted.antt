@@ -8,7 +8,7 @@ use Rattle.tds_pool.specs.Connections.{Connection, PoolState, SameRest, connecti
 use Rattle.tds_pool.specs.declared.lease.Lease.{Lease}
 use Rattle.tds_pool.specs.declared.lease.Ticket.{Ticket}
 use Rattle.tds_pool.specs.declared.seat.Place.TheVariants.{Draining, Kept, Leased}
-use Rattle.tds_play.specs.Pooled.{AreKnown, ArePooled, ChangesOne, IsThere, StaysAs, holder_at, seat_in, seated_from, seated_in}
+use Rattle.tds_play.specs.Pooled.{AreKnown, ArePooled, ChangesOne, IsThere, StaysAs, holder_at, lease_stamp, seat_in, seated_from, seated_in, ticket_stamp}
 use Rattle.tds_play.specs.declared.seat.Held.{Held}
 use Rattle.tds_play.proofs.pooled.Kept.{known_lost, known_unheld, pooled_cut, pooled_link, pooled_lost_by, pooled_pool, pooled_there}
 use Rattle.tds_play.proofs.pooled.Known.{of_same}
@@ -66,11 +66,11 @@ acted_known {E} {S} max size place leases tickets hs old new p q pooled known at
     same_holder = holder_set hs place old new at ∙ ap Some holder ∙ sym (holder_is hs place old at)
 
     by_place : (c d : Connection) → numbered (suc place) (connections p) ≡ Some c → numbered (suc place) (connections q) ≡ Some d → StaysAs c d → AreKnown leases tickets (slice_set hs place new) (connections q)
-    by_place c d before now (key, inl same) = record {
-      leases_are = of_same Leased (λ (l : Lease). l.key) (λ (l : Lease). l.number) leases (suc place) hs (slice_set hs place new) (connections p) (connections q) c d known.leases_are changes.others held before now key same same_holder;
-      tickets_are = of_same Kept (λ (t : Ticket). t.key) (λ (t : Ticket). t.number) tickets (suc place) hs (slice_set hs place new) (connections p) (connections q) c d known.tickets_are changes.others held before now key same same_holder;
+    by_place c d before now (inl (stamp, same)) = record {
+      leases_are = of_same Leased lease_stamp (λ (l : Lease). l.number) leases (suc place) hs (slice_set hs place new) (connections p) (connections q) c d known.leases_are changes.others held before now stamp same same_holder;
+      tickets_are = of_same Kept ticket_stamp (λ (t : Ticket). t.number) tickets (suc place) hs (slice_set hs place new) (connections p) (connections q) c d known.tickets_are changes.others held before now stamp same same_holder;
     }
-    by_place c d before now (key, inr drains) =
+    by_place c d before now (inr drains) =
         known_unheld leases tickets (suc place) hs (slice_set hs place new) (connections p) (connections q) c known changes.others held before
         (λ lent. let bad : Draining ≡ Leased = sym drains ∙ lent in cc)
         (λ kept. let bad : Draining ≡ Kept = sym drains ∙ kept in cc)

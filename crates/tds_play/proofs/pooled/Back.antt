@@ -9,13 +9,14 @@ use Rattle.tds_client.specs.Packets.{attention, ignore}
 use Rattle.tds_client.specs.Sending.{Effect, cancelled, cancelled_in, cancelled_sending}
 use Rattle.tds_client.specs.Session.{ClientSession, Stage, Idle, Sending, Reading, Cancelling, Broken, unless_idle, with_stage}
 use Rattle.tds_packet.specs.declared.kind.Kind.{Kind}
-use Rattle.tds_pool.specs.Calls.{Returned, abandoned, all_numbers, given_back, is_broken, is_idle, is_kept, is_leased, kept_for, lent_to, only, rested, rests_at, session_behind, standing}
+use Rattle.tds_pool.specs.Calls.{Returned, abandoned, all_numbers, given_back, is_broken, is_idle, is_kept_for, is_lent_for, kept_for, lent_to, only, rested, rests_at, session_behind, standing}
 use Rattle.tds_pool.specs.Calls as calls
-use Rattle.tds_pool.specs.Connections.{Connection, PoolState, SameRest, at_place, connections, numbered, taken_out, with_client}
+use Rattle.tds_pool.specs.Connections.{Connection, PoolState, SameRest, connections, ended_at, numbered, taken_out, with_client}
 use Rattle.tds_pool.specs.declared.answers.GivenBack.{GivenBack}
 use Rattle.tds_pool.specs.declared.answers.GivenBack.TheVariants as given
 use Rattle.tds_pool.specs.declared.lease.Lease.{Lease}
 use Rattle.tds_pool.specs.declared.lease.Ticket.{Ticket}
+use Rattle.tds_pool.specs.declared.lease.Turn.{Turn}
 use Rattle.tds_pool.specs.declared.seat.Place.{Place}
 use Rattle.tds_pool.specs.declared.seat.Place.TheVariants as places
 use Rattle.tds_world.specs.Pool.{place_back, returned_as}
@@ -33,7 +34,7 @@ use Rattle.tds_play.specs.declared.seat.Held.{Held}
 use Rattle.tds_play.proofs.pooled.Cancels.{HasNoMore, no_more}
 use Rattle.tds_play.proofs.pooled.Changes.{changed_here, taken_gone, taken_none, taken_others}
 use Rattle.tds_play.proofs.pooled.Leaves.{Leaves, found_still, standing_found}
-use Rattle.tds_play.proofs.pooled.Returned.{abandoned_is, given_back_here, given_back_is, idle_alike, number_found, rest_answer, rest_place, rest_returned}
+use Rattle.tds_play.proofs.pooled.Returned.{abandoned_is, ends, given_back_here, given_back_is, idle_alike, number_found, rest_answer, rest_place, rest_returned}
 use Rattle.tds_play.proofs.pooled.Settled.{client_found}
 
 -- ---- What the pool keeps
@@ -66,6 +67,7 @@ back_spares n m cut rests old q new is leaves same rest closed stays gone = by_b
           live = λ no. let bad : true ≡ false = sym e ∙ no in absurd (cc);
           gone = λ z. ap all_numbers out ∙ leaves.out;
           rest = record {
+            name = left.rest.name ∙ rest.name;
             max = left.rest.max ∙ rest.max;
             size = left.rest.size ∙ rest.size;
             last = left.rest.last ∙ rest.last;
@@ -102,10 +104,10 @@ pub back_rests : (n : ℕ) (idle : Bool) → rests_in (rest_answer idle n) ≡ t
 back_rests n true = refl
 back_rests n false = refl
 
-moved : (n : ℕ) (cs : List Connection) (c : Connection) (p : Place) → numbered n cs ≡ Some c → numbered n (at_place n p cs) ≡ Some (record c { place = p })
-moved n cs c p found = changed_here n (λ (d : Connection). record d { place = p }) cs (λ d. refl) ∙ ap (option_map (λ (d : Connection). record d { place = p })) found
+moved : (n : ℕ) (cs : List Connection) (c : Connection) (p : Place) → numbered n cs ≡ Some c → numbered n (ended_at n p cs) ≡ Some (ends p c)
+moved n cs c p found = changed_here n (ends p) cs (λ d. refl) ∙ ap (option_map (ends p)) found
 
-rested_here : (n : ℕ) (cs : List Connection) (c : Connection) (s : Stage) → numbered n cs ≡ Some c → rests_in (rested n (rests_at s) cs).answer ≡ true → (p : Place) × (numbered n (rested n (rests_at s) cs).connections ≡ Some (record c { place = p }))
+rested_here : (n : ℕ) (cs : List Connection) (c : Connection) (s : Stage) → numbered n cs ≡ Some c → rests_in (rested n (rests_at s) cs).answer ≡ true → (p : Place) × (numbered n (rested n (rests_at s) cs).connections ≡ Some (ends p c))
 rested_here n cs c Idle found e = (places.Free, moved n cs c places.Free found)
 rested_here n cs c (Sending kind left packets) found e = (places.Draining, moved n cs c places.Draining found)
 rested_here n cs c Reading found e = (places.Draining, moved n cs c places.Draining found)
@@ -153,21 +155,21 @@ by_test test c e = by_one (test c) e
     by_one true e = refl
     by_one false e = absurd (cc)
 
-pub standing_client : (test : Place → Bool) (key n : ℕ) (s : ClientSession) (cs : List Connection) (c : Connection) → standing test key n cs ≡ Some c → standing test key n (with_client n s cs) ≡ Some (record c { client = s })
+pub standing_client : (test : Turn → Place → Bool) (key n : ℕ) (s : ClientSession) (cs : List Connection) (c : Connection) → standing test key n cs ≡ Some c → standing test key n (with_client n s cs) ≡ Some (record c { client = s })
 standing_client test key n s cs c known =
     let found : numbered n cs ≡ Some c = standing_found test key n cs c known in
-    let at : only (λ (d : Connection). (d.key == key) && test d.place) (Some c) ≡ Some c = sym (ap (only (λ (d : Connection). (d.key == key) && test d.place)) found) ∙ known in
-    let passes : (c.key == key) && test c.place ≡ true = by_test (λ (d : Connection). (d.key == key) && test d.place) c at in
-    ap (only (λ (d : Connection). (d.key == key) && test d.place)) (client_found n s cs c found)
+    let at : only (λ (d : Connection). (d.key == key) && test d.turn d.place) (Some c) ≡ Some c = sym (ap (only (λ (d : Connection). (d.key == key) && test d.turn d.place)) found) ∙ known in
+    let passes : (c.key == key) && test c.turn c.place ≡ true = by_test (λ (d : Connection). (d.key == key) && test d.turn d.place) c at in
+    ap (only (λ (d : Connection). (d.key == key) && test d.turn d.place)) (client_found n s cs c found)
     ∙ ap (λ (b : Bool). cond b (Some (record c { client = s })) None) passes
 
 -- ---- What is found under its number then
 
-pub given_here : (lease : Lease) (n : ℕ) (cs : List Connection) (c : Connection) → lease.number ≡ n → lent_to lease cs ≡ Some c → rests_in (given_back lease cs).answer ≡ true → (p : Place) × (numbered n (given_back lease cs).connections ≡ Some (record c { place = p; client = session_behind (cancelled c.client) c.client }))
+pub given_here : (lease : Lease) (n : ℕ) (cs : List Connection) (c : Connection) → lease.number ≡ n → lent_to lease cs ≡ Some c → rests_in (given_back lease cs).answer ≡ true → (p : Place) × (numbered n (given_back lease cs).connections ≡ Some (ends p (record c { client = session_behind (cancelled c.client) c.client })))
 given_here lease n cs c is known rests =
     let s : ClientSession = session_behind (cancelled c.client) c.client in
-    let number : c.number ≡ n = number_found lease.number cs c (standing_found is_leased lease.key lease.number cs c known) ∙ is in
-    let found : numbered n cs ≡ Some c = ap (λ (k : ℕ). numbered k cs) (sym is) ∙ standing_found is_leased lease.key lease.number cs c known in
+    let number : c.number ≡ n = number_found lease.number cs c (standing_found (is_lent_for lease.turn) lease.key lease.number cs c known) ∙ is in
+    let found : numbered n cs ≡ Some c = ap (λ (k : ℕ). numbered k cs) (sym is) ∙ standing_found (is_lent_for lease.turn) lease.key lease.number cs c known in
     let there : numbered n (with_client n s cs) ≡ Some (record c { client = s }) = client_found n s cs c found in
     let whole : given_back lease cs ≡ rested n (rests_at s.stage) (with_client n s cs) =
     ap (λ o. calls.cancelled_and_settled o cs) known
@@ -177,10 +179,10 @@ given_here lease n cs c is known rests =
     let here = rested_here n (with_client n s cs) (record c { client = s }) s.stage there (sym (ap (λ (r : Returned). rests_in r.answer) whole) ∙ rests) in
     (here.0, ap (λ (r : Returned). numbered n r.connections) whole ∙ here.1)
 
-pub abandoned_here : (ticket : Ticket) (n : ℕ) (cs : List Connection) (c : Connection) → ticket.number ≡ n → kept_for ticket cs ≡ Some c → rests_in (abandoned ticket cs).answer ≡ true → (p : Place) × (numbered n (abandoned ticket cs).connections ≡ Some (record c { place = p }))
+pub abandoned_here : (ticket : Ticket) (n : ℕ) (cs : List Connection) (c : Connection) → ticket.number ≡ n → kept_for ticket cs ≡ Some c → rests_in (abandoned ticket cs).answer ≡ true → (p : Place) × (numbered n (abandoned ticket cs).connections ≡ Some (ends p c))
 abandoned_here ticket n cs c is known rests =
-    let number : c.number ≡ n = number_found ticket.number cs c (standing_found is_kept ticket.key ticket.number cs c known) ∙ is in
-    let found : numbered n cs ≡ Some c = ap (λ (k : ℕ). numbered k cs) (sym is) ∙ standing_found is_kept ticket.key ticket.number cs c known in
+    let number : c.number ≡ n = number_found ticket.number cs c (standing_found (is_kept_for ticket.turn) ticket.key ticket.number cs c known) ∙ is in
+    let found : numbered n cs ≡ Some c = ap (λ (k : ℕ). numbered k cs) (sym is) ∙ standing_found (is_kept_for ticket.turn) ticket.key ticket.number cs c known in
     let whole : abandoned ticket cs ≡ rested n (rests_at c.client.stage) cs =
     ap (λ o. calls.put_back o cs) known ∙ ap (λ (k : ℕ). rested k (rests_at c.client.stage) cs) number in
     let here = rested_here n cs c c.client.stage found (sym (ap (λ (r : Returned). rests_in r.answer) whole) ∙ rests) in
@@ -200,7 +202,7 @@ out_either a (inr e) = ap rests_in e
 -- The seat of what it kept.
 pub kept_seat : (ticket : Ticket) (n holder : ℕ) (cs : List Connection) (c : Connection) → ticket.number ≡ n → kept_for ticket cs ≡ Some c → seat_by holder (numbered n cs) ≡ seat_by holder (Some c)
 kept_seat ticket n holder cs c is known =
-    ap (seat_by holder) (ap (λ (k : ℕ). numbered k cs) (sym is) ∙ standing_found is_kept ticket.key ticket.number cs c known)
+    ap (seat_by holder) (ap (λ (k : ℕ). numbered k cs) (sym is) ∙ standing_found (is_kept_for ticket.turn) ticket.key ticket.number cs c known)
 
 -- Its client is idle, so it is free once it is abandoned.
 unbroken_idle : (s : Stage) → is_idle s ≡ true → is_broken s ≡ false
@@ -210,8 +212,8 @@ unbroken_idle s e = refl
 pub kept_rests : (ticket : Ticket) (n holder : ℕ) (cs : List Connection) (c : Connection) → ticket.number ≡ n → kept_for ticket cs ≡ Some c → is_idle c.client.stage ≡ true
     → (seat_by holder (numbered n (abandoned ticket cs).connections) ≡ placed_at PlayFree (seat_by holder (Some c))) × (rests_in (abandoned ticket cs).answer ≡ true)
 kept_rests ticket n holder cs c is known idle =
-    let number : c.number ≡ ticket.number = number_found ticket.number cs c (standing_found is_kept ticket.key ticket.number cs c known) in
-    let found : numbered n cs ≡ Some c = ap (λ (k : ℕ). numbered k cs) (sym is) ∙ standing_found is_kept ticket.key ticket.number cs c known in
+    let number : c.number ≡ ticket.number = number_found ticket.number cs c (standing_found (is_kept_for ticket.turn) ticket.key ticket.number cs c known) in
+    let found : numbered n cs ≡ Some c = ap (λ (k : ℕ). numbered k cs) (sym is) ∙ standing_found (is_kept_for ticket.turn) ticket.key ticket.number cs c known in
     let whole : abandoned ticket cs ≡ rest_returned n true cs =
     abandoned_is ticket cs c known number (unbroken_idle c.client.stage idle)
     ∙ ap (λ (b : Bool). rest_returned ticket.number b cs) idle
@@ -243,7 +245,7 @@ back_ended {E} {S} n m size engine mid new seat then before after lost c at ends
 pub given_rests : (lease : Lease) (n holder : ℕ) (cs : List Connection) (c : Connection) → lease.number ≡ n → lent_to lease cs ≡ Some c → session_behind (cancelled c.client) c.client ≡ c.client → is_broken c.client.stage ≡ false
     → ((given_back lease cs).answer ≡ rest_answer (is_idle c.client.stage) n) × (seat_by holder (numbered n (given_back lease cs).connections) ≡ seated (place_back (is_none (unless_idle c.client.stage))) c.client)
 given_rests lease n holder cs c is known more sound =
-    let found : numbered lease.number cs ≡ Some c = standing_found is_leased lease.key lease.number cs c known in
+    let found : numbered lease.number cs ≡ Some c = standing_found (is_lent_for lease.turn) lease.key lease.number cs c known in
     let idle : Bool = is_idle c.client.stage in
     let whole : given_back lease cs ≡ rest_returned lease.number idle (with_client lease.number c.client cs) = given_back_is lease cs c known found more sound in (
       ap (λ (r : Returned). r.answer) whole ∙ ap (rest_answer idle) is,

@@ -163,6 +163,7 @@ lent_free (p ∷ ps) c lent = by_first (is_lendable p) refl (lent_free ps c) len
     free_is pooled.Kept b e = absurd (cc)
     free_is pooled.Free b e = refl
     free_is pooled.Draining b e = absurd (cc)
+    free_is pooled.Cleaning b e = absurd (cc)
 
     by_first : (b : Bool) → is_lendable p ≡ b → (lent_next ps ≡ Some c → c.place ≡ pooled.Free) → cond b (Some p) (lent_next ps) ≡ Some c → c.place ≡ pooled.Free
     by_first true lends later is = let same : p ≡ c = cc in ap (λ (x : pool.Connection). x.place) (sym same) ∙ free_is p.place (calls.is_idle p.client.stage) lends

@@ -61,6 +61,7 @@ loses_as old new now loses is = subst (LosesNone old) (sym is) loses
 pub loses_lease : (n : ℕ) (first old new : PoolState) → LosesNone first old → IsGone n old new → LosesNone first new
 loses_lease n first old new so_far gone = record {
   rest = record {
+    name = gone.rest.name ∙ so_far.rest.name;
     max = gone.rest.max ∙ so_far.rest.max;
     size = gone.rest.size ∙ so_far.rest.size;
     last = gone.rest.last ∙ so_far.rest.last;
@@ -71,6 +72,7 @@ loses_lease n first old new so_far gone = record {
 pub loses_ticket : (ticket : Ticket) (first old new : PoolState) → LosesNone first old → connections new ≡ (abandoned ticket (connections old)).connections → SameRest old new → LosesNone first new
 loses_ticket ticket first old new so_far shown rest = record {
   rest = record {
+    name = rest.name ∙ so_far.rest.name;
     max = rest.max ∙ so_far.rest.max;
     size = rest.size ∙ so_far.rest.size;
     last = rest.last ∙ so_far.rest.last;

@@ -28,7 +28,7 @@ use Rattle.tds_play.specs.Holdings.{ended_of}
 use Rattle.tds_play.specs.Pipe.{Pipe}
 use Rattle.tds_play.specs.Player.{AreHeld, ModelGivesEach, RepresentsWorld, all_of}
 use Rattle.tds_play.specs.Plays.{IsReady, RepresentsConnection, acts_on}
-use Rattle.tds_play.specs.Pooled.{AreKnown, keeps_not, numbers_kept, numbers_leased, seat_by, seat_in}
+use Rattle.tds_play.specs.Pooled.{AreKnown, keeps_not, lease_stamp, numbers_kept, numbers_leased, seat_by, seat_in, ticket_stamp}
 use Rattle.tds_play.specs.Seats.{Seat, placed_at, unless_kept}
 use Rattle.tds_play.specs.Seen.{done_as}
 use Rattle.tds_play.specs.Steps.{AreFew, GrowsByOne, IsNoted, SameSetup, StepsAt}
@@ -47,7 +47,7 @@ use Rattle.tds_play.proofs.pooled.Unkept.{unkept_alike}
 
 -- What the pool answers of it.
 pub record KeepsAs {E S : Type 0} (next : ℕ) (lease : Lease) (ticket : Ticket) (h k : Held E S) (old new : PoolState) : Type 0 where
-  pub key : ticket.key ≡ lease.key
+  pub stamp : ticket_stamp ticket ≡ lease_stamp lease
   pub number : ticket.number ≡ lease.number
   pub holder : k.holder ≡ next
   pub live : h.link.is_cut ≡ false
@@ -110,7 +110,7 @@ keeps_steps {E} {S} answers unseen waits place number next old new h k lease tic
     begun : AreKnown (slice_set old.leases slot.slot None) (old.tickets ++ Some ticket ∷ []) (slice_set old.links.items place k) (connections new.pool)
     begun =
         ticket_begun place (slice_set old.leases slot.slot None) old.tickets ticket (slice_set old.links.items place k) k (connections new.pool) (keeps lent.connection) ended
-        (set_here old.links.items place h k at) holder_is (gives.number ∙ slot.conn_is) changes.there (lent.key_is ∙ sym gives.key) refl
+        (set_here old.links.items place h k at) holder_is (gives.number ∙ slot.conn_is) changes.there (lent.stamp_is ∙ sym gives.stamp) refl
 
     still_known : AreKnown new.leases new.tickets (slice_set old.links.items place k) (connections new.pool)
     still_known =

@@ -80,7 +80,7 @@ again_steps {E} {S} answers unseen waits marks next conn lease old mid new p pip
     (sym l.conn_is ∙ r.conn_is) is_next l.conn_is
     (record {
       lent = l.lent;
-      key = l.key;
+      stamp = l.stamp;
       number = l.number;
       shown = ap connections same_pool ∙ l.shown;
       rest = subst (λ (q : PoolState). SameRest old.pool q) (sym same_pool) l.rest;

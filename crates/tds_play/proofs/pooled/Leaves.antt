@@ -4,18 +4,19 @@ use Rattle.std.proofs.Common.{◌≡◌, ◌∙◌, ◌⊎◌, inl, inr, ℕ, Bo
 use Rattle.std.specs.Prelude.{IsSome, option_map}
 use Rattle.tds_client.specs.Sending.{cancelled}
 use Rattle.tds_client.specs.Session.{ClientSession, Stage, Idle, Sending, Reading, Cancelling, Broken}
-use Rattle.tds_pool.specs.Calls.{Returned, abandoned, all_numbers, given_back, is_broken, is_draining, is_kept, is_leased, kept_for, lent_to, only, put_back, rested, rests_at, session_behind, standing}
+use Rattle.tds_pool.specs.Calls.{Returned, abandoned, all_numbers, given_back, is_broken, is_draining, is_kept_for, is_lent_for, kept_for, lent_to, only, put_back, rested, rests_at, session_behind, standing}
 use Rattle.tds_pool.specs.Calls as calls
-use Rattle.tds_pool.specs.Connections.{Connection, at_place, changed, numbered, taken_out, with_client}
+use Rattle.tds_pool.specs.Connections.{Connection, changed, ended_at, next_turn, numbered, taken_out, with_client}
 use Rattle.tds_pool.specs.declared.answers.GivenBack.{GivenBack}
 use Rattle.tds_pool.specs.declared.answers.GivenBack.TheVariants as given
 use Rattle.tds_pool.specs.declared.lease.Lease.{Lease}
 use Rattle.tds_pool.specs.declared.lease.Ticket.{Ticket}
+use Rattle.tds_pool.specs.declared.lease.Turn.{Turn}
 use Rattle.tds_pool.specs.declared.seat.Place.{Place}
 use Rattle.tds_pool.specs.declared.seat.Place.TheVariants as places
 use Rattle.tds_play.specs.Pooled.{rests_in}
 use Rattle.tds_play.proofs.pooled.Changes.{KeepsNumber, SameBut, by_number, changed_here, changed_numbers, changed_others, first_is, first_not, taken_first, taken_gone, taken_later, taken_none, taken_others}
-use Rattle.tds_play.proofs.pooled.Returned.{number_found}
+use Rattle.tds_play.proofs.pooled.Returned.{ends, number_found}
 
 -- ---- What is found goes by the numbers
 
@@ -106,17 +107,19 @@ leaves_numbered n m old new is l = subst (λ (k : ℕ). Leaves k old new) is l
 
 rested_leaves : (n : ℕ) (o : Option Place) (cs : List Connection) → Leaves n cs (rested n o cs).connections
 rested_leaves n None cs = leaves_taken n cs
-rested_leaves n (Some places.Leased) cs = leaves_changed n (λ (c : Connection). record c { place = places.Leased }) cs (λ c. refl)
-rested_leaves n (Some places.Kept) cs = leaves_changed n (λ (c : Connection). record c { place = places.Kept }) cs (λ c. refl)
-rested_leaves n (Some places.Free) cs = leaves_changed n (λ (c : Connection). record c { place = places.Free }) cs (λ c. refl)
-rested_leaves n (Some places.Draining) cs = leaves_changed n (λ (c : Connection). record c { place = places.Draining }) cs (λ c. refl)
+rested_leaves n (Some places.Leased) cs = leaves_changed n (ends places.Leased) cs (λ c. refl)
+rested_leaves n (Some places.Kept) cs = leaves_changed n (ends places.Kept) cs (λ c. refl)
+rested_leaves n (Some places.Free) cs = leaves_changed n (ends places.Free) cs (λ c. refl)
+rested_leaves n (Some places.Draining) cs = leaves_changed n (ends places.Draining) cs (λ c. refl)
+rested_leaves n (Some places.Cleaning) cs = leaves_changed n (ends places.Cleaning) cs (λ c. refl)
 
 rested_in : (n : ℕ) (o : Option Place) (cs : List Connection) → rests_in (rested n o cs).answer ≡ true → all_numbers (rested n o cs).connections ≡ all_numbers cs
 rested_in n None cs e = absurd (cc)
-rested_in n (Some places.Leased) cs e = changed_numbers n (λ (c : Connection). record c { place = places.Leased }) cs (λ c. refl)
-rested_in n (Some places.Kept) cs e = changed_numbers n (λ (c : Connection). record c { place = places.Kept }) cs (λ c. refl)
-rested_in n (Some places.Free) cs e = changed_numbers n (λ (c : Connection). record c { place = places.Free }) cs (λ c. refl)
-rested_in n (Some places.Draining) cs e = changed_numbers n (λ (c : Connection). record c { place = places.Draining }) cs (λ c. refl)
+rested_in n (Some places.Leased) cs e = changed_numbers n (ends places.Leased) cs (λ c. refl)
+rested_in n (Some places.Kept) cs e = changed_numbers n (ends places.Kept) cs (λ c. refl)
+rested_in n (Some places.Free) cs e = changed_numbers n (ends places.Free) cs (λ c. refl)
+rested_in n (Some places.Draining) cs e = changed_numbers n (ends places.Draining) cs (λ c. refl)
+rested_in n (Some places.Cleaning) cs e = changed_numbers n (ends places.Cleaning) cs (λ c. refl)
 
 back_leaves : (n : ℕ) (o : Option Connection) (cs : List Connection) → ((c : Connection) → o ≡ Some c → c.number ≡ n) → Leaves n cs (put_back o cs).connections
 back_leaves n None cs is = leaves_none n cs
@@ -135,16 +138,16 @@ only_found test (Some d) c e = by_test (test d) e
     by_test true e = e
     by_test false e = absurd (cc)
 
-pub standing_found : (test : Place → Bool) (key n : ℕ) (cs : List Connection) (c : Connection) → standing test key n cs ≡ Some c → numbered n cs ≡ Some c
+pub standing_found : (test : Turn → Place → Bool) (key n : ℕ) (cs : List Connection) (c : Connection) → standing test key n cs ≡ Some c → numbered n cs ≡ Some c
 standing_found test key n cs c e = only_found _ (numbered n cs) c e
 
-standing_number : (test : Place → Bool) (key n : ℕ) (cs : List Connection) (c : Connection) → standing test key n cs ≡ Some c → c.number ≡ n
+standing_number : (test : Turn → Place → Bool) (key n : ℕ) (cs : List Connection) (c : Connection) → standing test key n cs ≡ Some c → c.number ≡ n
 standing_number test key n cs c e = number_found n cs c (standing_found test key n cs c e)
 
 -- ---- A ticket that is abandoned
 
 pub abandoned_leaves : (ticket : Ticket) (cs : List Connection) → Leaves ticket.number cs (abandoned ticket cs).connections
-abandoned_leaves ticket cs = back_leaves ticket.number (kept_for ticket cs) cs (standing_number is_kept ticket.key ticket.number cs)
+abandoned_leaves ticket cs = back_leaves ticket.number (kept_for ticket cs) cs (standing_number (is_kept_for ticket.turn) ticket.key ticket.number cs)
 
 pub abandoned_in : (ticket : Ticket) (cs : List Connection) → rests_in (abandoned ticket cs).answer ≡ true → all_numbers (abandoned ticket cs).connections ≡ all_numbers cs
 abandoned_in ticket cs e = back_in (kept_for ticket cs) cs e
@@ -173,7 +176,7 @@ cancelled_in None cs e = absurd (cc)
 cancelled_in (Some c) cs e = settled_in c.number (session_behind (cancelled c.client) c.client) cs e
 
 pub given_leaves : (lease : Lease) (cs : List Connection) → Leaves lease.number cs (given_back lease cs).connections
-given_leaves lease cs = cancelled_leaves lease.number (lent_to lease cs) cs (standing_number is_leased lease.key lease.number cs)
+given_leaves lease cs = cancelled_leaves lease.number (lent_to lease cs) cs (standing_number (is_lent_for lease.turn) lease.key lease.number cs)
 
 pub given_in : (lease : Lease) (cs : List Connection) → rests_in (given_back lease cs).answer ≡ true → all_numbers (given_back lease cs).connections ≡ all_numbers cs
 given_in lease cs e = cancelled_in (lent_to lease cs) cs e
@@ -190,22 +193,25 @@ pub record IsMoved (n : ℕ) (cs : List Connection) (c : Connection) (r : Return
   pub others : SameBut n cs r.connections
   pub numbers : all_numbers r.connections ≡ all_numbers cs
   pub place : Place
-  pub here : numbered n r.connections ≡ Some (record c { place = place })
-  pub from : (place ≡ c.place) ⊎ (c.place ≡ places.Draining)
+  pub turn : Turn
+  pub here : numbered n r.connections ≡ Some (record c { place = place; turn = turn })
+  pub from : ((turn ≡ c.turn) × (place ≡ c.place)) ⊎ (c.place ≡ places.Draining)
 
 draining_is : (p : Place) → is_draining p ≡ true → p ≡ places.Draining
 draining_is places.Leased e = absurd (cc)
 draining_is places.Kept e = absurd (cc)
 draining_is places.Free e = absurd (cc)
 draining_is places.Draining e = refl
+draining_is places.Cleaning e = absurd (cc)
 
-moved_to : (n : ℕ) (cs : List Connection) (c : Connection) (p : Place) (a : GivenBack) → numbered n cs ≡ Some c → (p ≡ c.place) ⊎ (c.place ≡ places.Draining) → IsMoved n cs c (record { answer = a; connections = at_place n p cs })
-moved_to n cs c p a found from = record {
-  others = changed_others n (λ (d : Connection). record d { place = p }) cs (λ d. refl);
-  numbers = changed_numbers n (λ (d : Connection). record d { place = p }) cs (λ d. refl);
+moved_to : (n : ℕ) (cs : List Connection) (c : Connection) (p : Place) (a : GivenBack) → numbered n cs ≡ Some c → c.place ≡ places.Draining → IsMoved n cs c (record { answer = a; connections = ended_at n p cs })
+moved_to n cs c p a found drains = record {
+  others = changed_others n (ends p) cs (λ d. refl);
+  numbers = changed_numbers n (ends p) cs (λ d. refl);
   place = p;
-  here = changed_here n (λ (d : Connection). record d { place = p }) cs (λ d. refl) ∙ ap (option_map (λ (d : Connection). record d { place = p })) found;
-  from = from;
+  turn = next_turn c.turn;
+  here = changed_here n (ends p) cs (λ d. refl) ∙ ap (option_map (ends p)) found;
+  from = inr drains;
 }
 
 stays_there : (n : ℕ) (cs : List Connection) (c : Connection) (a : GivenBack) → numbered n cs ≡ Some c → IsMoved n cs c (record { answer = a; connections = cs })
@@ -213,8 +219,9 @@ stays_there n cs c a found = record {
   others = λ m other. refl;
   numbers = refl;
   place = c.place;
+  turn = c.turn;
   here = found;
-  from = inl refl;
+  from = inl (refl, refl);
 }
 
 -- Whether the answer is that it was closed.
@@ -228,10 +235,10 @@ abbrev Turns : ℕ → List Connection → Connection → Returned → Type 0
 Turns n cs c r = (is_closed r.answer ≡ true → IsClosed n cs c r) × (is_closed r.answer ≡ false → IsMoved n cs c r)
 
 rested_turns : (n : ℕ) (cs : List Connection) (c : Connection) (s : Stage) → c.client.stage ≡ s → numbered n cs ≡ Some c → c.place ≡ places.Draining → Turns n cs c (rested n (rests_at s) cs)
-rested_turns n cs c Idle is found drains = (λ e. absurd (cc), λ e. moved_to n cs c places.Free (given.Free n) found (inr drains))
-rested_turns n cs c (Sending kind left packets) is found drains = (λ e. absurd (cc), λ e. moved_to n cs c places.Draining (given.Draining n) found (inr drains))
-rested_turns n cs c Reading is found drains = (λ e. absurd (cc), λ e. moved_to n cs c places.Draining (given.Draining n) found (inr drains))
-rested_turns n cs c Cancelling is found drains = (λ e. absurd (cc), λ e. moved_to n cs c places.Draining (given.Draining n) found (inr drains))
+rested_turns n cs c Idle is found drains = (λ e. absurd (cc), λ e. moved_to n cs c places.Free (given.Free n) found drains)
+rested_turns n cs c (Sending kind left packets) is found drains = (λ e. absurd (cc), λ e. moved_to n cs c places.Draining (given.Draining n) found drains)
+rested_turns n cs c Reading is found drains = (λ e. absurd (cc), λ e. moved_to n cs c places.Draining (given.Draining n) found drains)
+rested_turns n cs c Cancelling is found drains = (λ e. absurd (cc), λ e. moved_to n cs c places.Draining (given.Draining n) found drains)
 rested_turns n cs c (Broken fault) is found drains = (λ e. record { broken = ap is_broken is; connections = refl }, λ e. absurd (cc))
 
 drained_turns : (n : ℕ) (cs : List Connection) (c : Connection) → numbered n cs ≡ Some c → Turns n cs c (calls.drained n cs)

@@ -18,15 +18,16 @@ use Rattle.tds_play.specs.Plays.{RepresentsConnection, cut_where}
 use Rattle.tds_play.specs.Reads.{IsReading}
 use Rattle.tds_play.specs.Ties.{KeepsTies}
 use Rattle.tds_pool.specs.Connections as pool
-use Rattle.tds_pool.specs.Connections.{PoolState, SameRest, connections, numbered, taken_out}
+use Rattle.tds_pool.specs.Connections.{PoolState, SameRest, connections, first_turn, numbered, taken_out}
 use Rattle.tds_pool.specs.declared.lease.Lease.{Lease}
 use Rattle.tds_pool.specs.declared.lease.Ticket.{Ticket}
+use Rattle.tds_pool.specs.declared.lease.Turn.{Turn}
 use Rattle.tds_world.specs.declared.report.Place.TheVariants.{Leased}
 use Rattle.tds_play.specs.declared.link.Link.{Link}
 use Rattle.tds_play.specs.declared.player.Player.{Player}
 use Rattle.tds_play.specs.declared.seat.Held.{Held}
 use Rattle.tds_play.specs.Player.{AreHeld, all_of}
-use Rattle.tds_play.specs.Pooled.{AreKnown, IsGone, numbers_kept, numbers_leased, seated_from, seated_in}
+use Rattle.tds_play.specs.Pooled.{AreKnown, IsGone, Stamp, lease_stamp, numbers_kept, numbers_leased, seated_from, seated_in, stamp_of}
 use Rattle.tds_play.specs.Seats.{Seat, seated}
 use Rattle.tds_play.specs.Steps.{AreFew, GrowsByOne, HoldsBy, OpensAs, SameSetup}
 use Rattle.tds_play.proofs.pooled.Begun.{lease_begun, lease_begun_lost}
@@ -41,9 +42,10 @@ pub record OpenedBy {E S : Type 0} (next conn key : ℕ) (lease : Lease) (link :
     : Type 0 where
   pub conn_is : conn ≡ suc old.pool.last
   pub key_is : lease.key ≡ key
+  pub turn_is : lease.turn ≡ first_turn old.pool.name
   pub number_is : lease.number ≡ conn
   pub mid : PoolState
-  pub came : connections mid ≡ connections old.pool ++ new_connection conn key old.pool.size ∷ []
+  pub came : connections mid ≡ connections old.pool ++ new_connection old.pool.name conn key old.pool.size ∷ []
   pub last : mid.last ≡ suc old.pool.last
   pub max : mid.max ≡ old.pool.max
   pub size : mid.size ≡ old.pool.size
@@ -57,6 +59,14 @@ pub record OpenedBy {E S : Type 0} (next conn key : ℕ) (lease : Lease) (link :
   pub tickets : new.tickets ≡ old.tickets
   pub asked : new.asked_on.items ≡ old.asked_on.items
   pub setup : SameSetup old new
+
+-- What a lease has, by its parts.
+abbrev stamp : ℕ → Turn → Stamp
+stamp key turn = record { key = key; turn = turn }
+
+stamped : (lease : Lease) (key : ℕ) (turn : Turn) → lease.key ≡ key → lease.turn ≡ turn → lease_stamp lease ≡ stamp key turn
+stamped lease key turn key_is turn_is =
+    ap (λ (k : ℕ). stamp k lease.turn) key_is ∙ ap (stamp key) turn_is
 
 last_is : {A : Type 0} (xs : List A) (x : A) → slice_get (xs ++ x ∷ []) (length xs) ≡ Some x
 last_is [] x = refl
@@ -86,7 +96,7 @@ is_opened {E} {S} next conn key lease link lost old new held few o = by_lost los
     n = suc (length hs)
 
     c : pool.Connection
-    c = new_connection conn key old.pool.size
+    c = new_connection old.pool.name conn key old.pool.size
 
     is_n : conn ≡ n
     is_n = o.conn_is ∙ ap suc held.pooled.last
@@ -152,7 +162,7 @@ is_opened {E} {S} next conn key lease link lost old new held few o = by_lost los
         more = known_more old.leases old.tickets n hs (hs ++ h ∷ []) (connections old.pool) (connections new.pool) held.known others (held_more n hs h) (omega arith)
 
         begun : AreKnown (old.leases ++ Some lease ∷ []) old.tickets (hs ++ h ∷ []) (connections new.pool)
-        begun = lease_begun (length hs) old.leases old.tickets lease (hs ++ h ∷ []) h (connections new.pool) c more (last_is hs h) holder_is (o.number_is ∙ is_n) there (sym o.key_is) refl
+        begun = lease_begun (length hs) old.leases old.tickets lease (hs ++ h ∷ []) h (connections new.pool) c more (last_is hs h) holder_is (o.number_is ∙ is_n) there (sym (stamped lease key (first_turn old.pool.name) o.key_is o.turn_is)) refl
     by_lost true gone = record {
       conn_is = is_n;
       seat = (seated_in h None).seat;
@@ -236,7 +246,7 @@ opens_as {E} {S} conn lease old mid new link lost pipes pipes' told still done s
 pub record LentAgain (conn : ℕ) (lease : Lease) (old new : PoolState) : Type 0 where
   pub connection : pool.Connection
   pub lent : lent_next (connections old) ≡ Some connection
-  pub key : lease.key ≡ connection.key
+  pub stamp : lease_stamp lease ≡ stamp_of connection
   pub number : lease.number ≡ connection.number
   pub conn_is : conn ≡ connection.number
   pub shown : connections new ≡ lent_again connection.number Full (connections old)
@@ -250,15 +260,16 @@ same_new n m e = cc
 
 pub lent_again_of : (conn : ℕ) (lease : Lease) (said : Opened) (old new : PoolState) (P : Type 0) (Q : Type 0) (o : Option pool.Connection) → lent_next (connections old) ≡ o
     → IfSome o (λ c. (lease.key ≡ c.key) × (lease.number ≡ c.number) × (said ≡ how.Reused c.number))
+    → IfSome o (λ c. lease.turn ≡ c.turn)
     → IfSome o (λ c. (connections new ≡ lent_again c.number Full (connections old)) × SameRest old new)
     → IfNone o (P × (said ≡ how.New (suc old.last)) × Q)
     → said ≡ how.Reused conn → LentAgain conn lease old new
-lent_again_of conn lease said old new P Q None at reused reset fresh is =
+lent_again_of conn lease said old new P Q None at reused turn reset fresh is =
     let bad : how.Reused conn ≡ how.New (suc old.last) = sym is ∙ fresh.1 in absurd (cc)
-lent_again_of conn lease said old new P Q (Some c) at reused reset fresh is = record {
+lent_again_of conn lease said old new P Q (Some c) at reused turn reset fresh is = record {
   connection = c;
   lent = at;
-  key = reused.0;
+  stamp = stamped lease c.key c.turn reused.0 turn;
   number = reused.1;
   conn_is = same_reused conn c.number (sym is ∙ reused.2);
   shown = reset.0;
@@ -270,7 +281,8 @@ pub record LentNew (conn : ℕ) (lease : Lease) (old new : PoolState) : Type 0 w
   pub none : lent_next (connections old) ≡ None
   pub conn_is : conn ≡ suc old.last
   pub number_is : lease.number ≡ conn
-  pub came : connections new ≡ connections old ++ new_connection conn lease.key old.size ∷ []
+  pub turn_is : lease.turn ≡ first_turn old.name
+  pub came : connections new ≡ connections old ++ new_connection old.name conn lease.key old.size ∷ []
   pub last : new.last ≡ suc old.last
   pub max : new.max ≡ old.max
   pub size : new.size ≡ old.size
@@ -278,19 +290,21 @@ pub record LentNew (conn : ℕ) (lease : Lease) (old new : PoolState) : Type 0 w
 
 pub lent_new_of : (conn : ℕ) (lease : Lease) (said : Opened) (old new : PoolState) (o : Option pool.Connection) → lent_next (connections old) ≡ o
     → IfSome o (λ c. (lease.key ≡ c.key) × (lease.number ≡ c.number) × (said ≡ how.Reused c.number))
-    → IfNone o ((lease.number ≡ suc old.last) × (said ≡ how.New (suc old.last)) × (connections new ≡ connections old ++ new_connection (suc old.last) lease.key old.size ∷ []))
+    → IfNone o ((lease.number ≡ suc old.last) × (said ≡ how.New (suc old.last)) × (connections new ≡ connections old ++ new_connection old.name (suc old.last) lease.key old.size ∷ []))
+    → IfNone o (lease.turn ≡ first_turn old.name)
     → IfNone o ((new.last ≡ suc old.last) × (new.max ≡ old.max) × (new.size ≡ old.size))
     → IfNone o (refuses_new (length (connections old)) old.max old.last ≡ None)
     → said ≡ how.New conn → LentNew conn lease old new
-lent_new_of conn lease said old new (Some c) at reused fresh used allowed is =
+lent_new_of conn lease said old new (Some c) at reused fresh first used allowed is =
     let bad : how.New conn ≡ how.Reused c.number = sym is ∙ reused.2 in absurd (cc)
-lent_new_of conn lease said old new None at reused fresh used allowed is =
+lent_new_of conn lease said old new None at reused fresh first used allowed is =
     let same : conn ≡ suc old.last = same_new conn (suc old.last) (sym is ∙ fresh.1) in
     record {
       none = at;
       conn_is = same;
       number_is = fresh.0 ∙ sym same;
-      came = fresh.2 ∙ ap (λ (n : ℕ). connections old ++ new_connection n lease.key old.size ∷ []) (sym same);
+      turn_is = first;
+      came = fresh.2 ∙ ap (λ (n : ℕ). connections old ++ new_connection old.name n lease.key old.size ∷ []) (sym same);
       last = used.0;
       max = used.1;
       size = used.2;
@@ -305,6 +319,7 @@ opened_by {E} {S} next conn lease old mid new p pipes pipes' told still done len
     record {
       conn_is = lent.conn_is;
       key_is = refl;
+      turn_is = lent.turn_is;
       number_is = lent.number_is;
       mid = p;
       came = lent.came;

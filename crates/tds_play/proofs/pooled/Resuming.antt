@@ -29,7 +29,7 @@ use Rattle.tds_play.specs.Holdings.{ended_of}
 use Rattle.tds_play.specs.Pipe.{Pipe}
 use Rattle.tds_play.specs.Player.{AreHeld, ModelGivesEach, RepresentsWorld, all_of}
 use Rattle.tds_play.specs.Plays.{IsReady, RepresentsConnection, acts_on}
-use Rattle.tds_play.specs.Pooled.{AreKnown, numbers_kept, numbers_leased, seat_by, seat_in}
+use Rattle.tds_play.specs.Pooled.{AreKnown, lease_stamp, numbers_kept, numbers_leased, seat_by, seat_in, ticket_stamp}
 use Rattle.tds_play.specs.Seats.{Seat, lent_as}
 use Rattle.tds_play.specs.Seen.{done_as}
 use Rattle.tds_play.specs.Steps.{AreFew, GrowsByOne, IsNoted, SameSetup, StepsAt}
@@ -47,7 +47,7 @@ use Rattle.tds_play.proofs.pooled.Slots.{numbers_pushed, set_here}
 
 -- What the pool answers of it.
 pub record ResumesAs {E S : Type 0} (next : ℕ) (ticket : Ticket) (lease : Lease) (h k : Held E S) (old new : PoolState) : Type 0 where
-  pub key : lease.key ≡ ticket.key
+  pub stamp : lease_stamp lease ≡ ticket_stamp ticket
   pub number : lease.number ≡ ticket.number
   pub holder : k.holder ≡ next
   pub live : h.link.is_cut ≡ false
@@ -109,7 +109,7 @@ resumes_steps {E} {S} answers unseen waits marks place number next conn old new 
     begun : AreKnown (old.leases ++ Some lease ∷ []) (slice_set old.tickets slot.slot None) (slice_set old.links.items place k) (connections new.pool)
     begun =
         lease_begun place old.leases (slice_set old.tickets slot.slot None) lease (slice_set old.links.items place k) k (connections new.pool) (lends kept.connection) ended
-        (set_here old.links.items place h k at) holder_is (gives.number ∙ slot.conn_is) changes.there (kept.key_is ∙ sym gives.key) refl
+        (set_here old.links.items place h k at) holder_is (gives.number ∙ slot.conn_is) changes.there (kept.stamp_is ∙ sym gives.stamp) refl
 
     still_known : AreKnown new.leases new.tickets (slice_set old.links.items place k) (connections new.pool)
     still_known =

@@ -9,11 +9,11 @@ use Rattle.tds_pool.specs.Calls.{Returned, abandoned, all_numbers, given_back, i
 use Rattle.tds_pool.specs.Calls as calls
 use Rattle.tds_pool.specs.declared.answers.GivenBack.{GivenBack}
 use Rattle.tds_pool.specs.declared.answers.GivenBack.TheVariants as given
-use Rattle.tds_pool.specs.Connections.{Connection, at_place, numbered, with_client}
+use Rattle.tds_pool.specs.Connections.{Connection, ended_at, next_turn, numbered, with_client}
 use Rattle.tds_pool.specs.declared.lease.Lease.{Lease}
 use Rattle.tds_pool.specs.declared.lease.Ticket.{Ticket}
 use Rattle.tds_pool.specs.declared.seat.Place.{Place}
-use Rattle.tds_pool.specs.declared.seat.Place.TheVariants.{Draining, Free, Kept, Leased}
+use Rattle.tds_pool.specs.declared.seat.Place.TheVariants.{Cleaning, Draining, Free, Kept, Leased}
 use Rattle.tds_world.specs.Connection as model
 use Rattle.tds_world.specs.Phase.{Phase, Settled, phase_of}
 use Rattle.tds_world.specs.Record.{Record}
@@ -50,8 +50,12 @@ abbrev pub rest_answer : Bool → ℕ → GivenBack
 rest_answer true n = given.Free n
 rest_answer false n = given.Draining n
 
+-- A lending of it ends, and it stands there.
+abbrev pub ends : Place → Connection → Connection
+ends p c = record c { place = p; turn = next_turn c.turn }
+
 abbrev pub rest_returned : ℕ → Bool → List Connection → Returned
-rest_returned n idle pcs = record { answer = rest_answer idle n; connections = at_place n (rest_place idle) pcs }
+rest_returned n idle pcs = record { answer = rest_answer idle n; connections = ended_at n (rest_place idle) pcs }
 
 pub rested_is : (n : ℕ) (s : Stage) (pcs : List Connection) → is_broken s ≡ false → rested n (rests_at s) pcs ≡ rest_returned n (is_idle s) pcs
 rested_is n (Broken fault) pcs e = absurd (cc)
@@ -125,9 +129,14 @@ seat_drained n holder pcs c found sound = by_place c.place refl
         free : (b : Bool) → seat_by holder (Some (record c { place = Free })) ≡ seats.placed_at (seats.drained_at b (seat_by holder (Some (record c { place = Free }))).place) (seat_by holder (Some (record c { place = Free })))
         free true = refl
         free false = refl
+    by_place Cleaning is = as_it_is Cleaning is refl (cleaning (is_none (unless_idle c.client.stage)))
+      where
+        cleaning : (b : Bool) → seat_by holder (Some (record c { place = Cleaning })) ≡ seats.placed_at (seats.drained_at b (seat_by holder (Some (record c { place = Cleaning }))).place) (seat_by holder (Some (record c { place = Cleaning })))
+        cleaning true = refl
+        cleaning false = refl
     by_place Draining is =
         ap (λ (r : Returned). seat_by holder (numbered n r.connections)) (drained_is n pcs c found is sound)
-        ∙ ap (seat_by holder) (changed_here n (λ (d : Connection). record d { place = rest_place (is_idle c.client.stage) }) pcs (λ d. refl) ∙ ap (option_map (λ (d : Connection). record d { place = rest_place (is_idle c.client.stage) })) found)
+        ∙ ap (seat_by holder) (changed_here n (ends (rest_place (is_idle c.client.stage))) pcs (λ d. refl) ∙ ap (option_map (ends (rest_place (is_idle c.client.stage)))) found)
         ∙ ap (λ (b : Bool). seat_by holder (Some (record c { place = rest_place b }))) (idle_alike c.client.stage)
         ∙ by_idle (is_none (unless_idle c.client.stage))
         ∙ sym (ap (λ (q : Place). seats.drained (seat_by holder (Some (record c { place = q })))) is)
@@ -141,12 +150,13 @@ drained_others n pcs c found sound m other = by_draining (is_draining c.place) r
     draining Kept e = absurd (cc)
     draining Free e = absurd (cc)
     draining Draining e = refl
+    draining Cleaning e = absurd (cc)
 
     by_draining : (b : Bool) → is_draining c.place ≡ b → numbered m (calls.drained n pcs).connections ≡ numbered m pcs
     by_draining false e = ap (λ (r : Returned). numbered m r.connections) (drained_not n pcs c found e)
     by_draining true e =
         ap (λ (r : Returned). numbered m r.connections) (drained_is n pcs c found (draining c.place e) sound)
-        ∙ changed_others n (λ (d : Connection). record d { place = rest_place (is_idle c.client.stage) }) pcs (λ d. refl) m other
+        ∙ changed_others n (ends (rest_place (is_idle c.client.stage))) pcs (λ d. refl) m other
 
 pub drained_numbers : (n : ℕ) (pcs : List Connection) (c : Connection) → numbered n pcs ≡ Some c → is_broken c.client.stage ≡ false → all_numbers (calls.drained n pcs).connections ≡ all_numbers pcs
 drained_numbers n pcs c found sound = by_draining (is_draining c.place) refl
@@ -156,12 +166,13 @@ drained_numbers n pcs c found sound = by_draining (is_draining c.place) refl
     draining Kept e = absurd (cc)
     draining Free e = absurd (cc)
     draining Draining e = refl
+    draining Cleaning e = absurd (cc)
 
     by_draining : (b : Bool) → is_draining c.place ≡ b → all_numbers (calls.drained n pcs).connections ≡ all_numbers pcs
     by_draining false e = ap (λ (r : Returned). all_numbers r.connections) (drained_not n pcs c found e)
     by_draining true e =
         ap (λ (r : Returned). all_numbers r.connections) (drained_is n pcs c found (draining c.place e) sound)
-        ∙ changed_numbers n (λ (d : Connection). record d { place = rest_place (is_idle c.client.stage) }) pcs (λ d. refl)
+        ∙ changed_numbers n (ends (rest_place (is_idle c.client.stage))) pcs (λ d. refl)
 
 -- ---- A lease that is given back
 
@@ -178,19 +189,19 @@ given_back_is lease pcs c known found same sound =
     ∙ put_back_is lease.number (with_client lease.number c.client pcs) (record c { client = c.client }) is sound
 
 -- Of its number the pool has the same, elsewhere placed, and the others are as they were.
-pub given_back_here : (lease : Lease) (pcs : List Connection) (c : Connection) (idle : Bool) → numbered lease.number pcs ≡ Some c → numbered lease.number (at_place lease.number (rest_place idle) (with_client lease.number c.client pcs)) ≡ Some (record c { place = rest_place idle })
+pub given_back_here : (lease : Lease) (pcs : List Connection) (c : Connection) (idle : Bool) → numbered lease.number pcs ≡ Some c → numbered lease.number (ended_at lease.number (rest_place idle) (with_client lease.number c.client pcs)) ≡ Some (ends (rest_place idle) c)
 given_back_here lease pcs c idle found =
-    changed_here lease.number (λ (d : Connection). record d { place = rest_place idle }) (with_client lease.number c.client pcs) (λ d. refl)
-    ∙ ap (option_map (λ (d : Connection). record d { place = rest_place idle })) (changed_here lease.number (λ (d : Connection). record d { client = c.client }) pcs (λ d. refl) ∙ ap (option_map (λ (d : Connection). record d { client = c.client })) found)
+    changed_here lease.number (ends (rest_place idle)) (with_client lease.number c.client pcs) (λ d. refl)
+    ∙ ap (option_map (ends (rest_place idle))) (changed_here lease.number (λ (d : Connection). record d { client = c.client }) pcs (λ d. refl) ∙ ap (option_map (λ (d : Connection). record d { client = c.client })) found)
 
-pub given_back_others : (lease : Lease) (pcs : List Connection) (s : ClientSession) (p : Place) → SameBut lease.number pcs (at_place lease.number p (with_client lease.number s pcs))
+pub given_back_others : (lease : Lease) (pcs : List Connection) (s : ClientSession) (p : Place) → SameBut lease.number pcs (ended_at lease.number p (with_client lease.number s pcs))
 given_back_others lease pcs s p m other =
-    changed_others lease.number (λ (d : Connection). record d { place = p }) (with_client lease.number s pcs) (λ d. refl) m other
+    changed_others lease.number (ends p) (with_client lease.number s pcs) (λ d. refl) m other
     ∙ changed_others lease.number (λ (d : Connection). record d { client = s }) pcs (λ d. refl) m other
 
-pub given_back_numbers : (n : ℕ) (pcs : List Connection) (s : ClientSession) (p : Place) → all_numbers (at_place n p (with_client n s pcs)) ≡ all_numbers pcs
+pub given_back_numbers : (n : ℕ) (pcs : List Connection) (s : ClientSession) (p : Place) → all_numbers (ended_at n p (with_client n s pcs)) ≡ all_numbers pcs
 given_back_numbers n pcs s p =
-    changed_numbers n (λ (d : Connection). record d { place = p }) (with_client n s pcs) (λ d. refl)
+    changed_numbers n (ends p) (with_client n s pcs) (λ d. refl)
     ∙ changed_numbers n (λ (d : Connection). record d { client = s }) pcs (λ d. refl)
 
 pub given_back_unknown : (lease : Lease) (pcs : List Connection) → lent_to lease pcs ≡ None → given_back lease pcs ≡ record { answer = given.Unknown; connections = pcs }

@@ -26,7 +26,7 @@ use Rattle.tds_play.specs.declared.seat.Held.{Held}
 use Rattle.tds_play.specs.Pipe.{Pipe}
 use Rattle.tds_play.specs.Player.{AreHeld, ModelGivesEach, RepresentsWorld, all_of}
 use Rattle.tds_play.specs.Plays.{IsReady, RepresentsConnection, acts_on}
-use Rattle.tds_play.specs.Pooled.{AreKnown, numbers_kept, numbers_leased, seat_by, seat_in}
+use Rattle.tds_play.specs.Pooled.{AreKnown, lease_stamp, numbers_kept, numbers_leased, seat_by, seat_in, stamp_of}
 use Rattle.tds_play.specs.Seats.{lent_as}
 use Rattle.tds_play.specs.Seen.{done_as}
 use Rattle.tds_play.specs.Steps.{AreFew, GrowsByOne, IsNoted, SameSetup, StepsAt}
@@ -48,7 +48,7 @@ use Rattle.tds_play.proofs.pooled.Slots.{held_set, numbers_pushed, set_here}
 pub record ReusedBy {E S : Type 0} (next : ℕ) (c : pool.Connection) (lease : Lease) (h k : Held E S) (old new : PoolState)
     : Type 0 where
   pub lent : calls.lent_next (connections old) ≡ Some c
-  pub key : lease.key ≡ c.key
+  pub stamp : lease_stamp lease ≡ stamp_of c
   pub number : lease.number ≡ c.number
   pub shown : connections new ≡ lent_again c.number Full (connections old)
   pub rest : SameRest old new
@@ -113,7 +113,7 @@ reused_steps {E} {S} answers unseen waits marks place next conn old new h k c le
     begun : AreKnown (old.leases ++ Some lease ∷ []) old.tickets (slice_set old.links.items place k) (connections new.pool)
     begun =
         lease_begun place old.leases old.tickets lease (slice_set old.links.items place k) k (connections new.pool) (lends c) unheld
-        (set_here old.links.items place h k at) holder_is (gives.number ∙ is_place) changes.there (sym gives.key) refl
+        (set_here old.links.items place h k at) holder_is (gives.number ∙ is_place) changes.there (sym gives.stamp) refl
 
     still_known : AreKnown new.leases new.tickets (slice_set old.links.items place k) (connections new.pool)
     still_known =

@@ -1,11 +1,13 @@
 -- One connection of a play that the pool was asked about: what the play keeps of it, and its seat.
-use Rattle.std.proofs.Common.{◌≡◌, ◌≢◌, ◌∙◌, inl, ℕ, Bool, true, false, List, Option, Some, None, refl, sym, ap, subst}
+use Rattle.std.proofs.Common.{◌≡◌, ◌≢◌, ◌∙◌, ◌⊎◌, inl, inr, ℕ, Bool, true, false, List, Option, Some, None, refl, sym, ap, subst}
 use Rattle.std.specs.Prelude.{IsSome, option_map}
 use Rattle.tds_client.specs.Session.{ClientSession}
 use Rattle.tds_pool.specs.Calls.{Returned, all_numbers, is_broken}
 use Rattle.tds_pool.specs.Connections.{Connection, PoolState, SameRest, connections, numbered, taken_out, with_client}
 use Rattle.tds_pool.specs.declared.answers.GivenBack.{GivenBack}
 use Rattle.tds_pool.specs.declared.answers.GivenBack.TheVariants as given
+use Rattle.tds_pool.specs.declared.lease.Turn.{Turn}
+use Rattle.tds_pool.specs.declared.seat.Place.TheVariants.{Draining}
 use Rattle.tds_play.specs.Plays.{RepresentsConnection}
 use Rattle.tds_play.specs.Pipe.{Pipe, traffic}
 use Rattle.tds_play.specs.Reads.{BringsBy, IsReading, ReadsNoMore, ReadsOn, delivers, given_by}
@@ -15,7 +17,7 @@ use Rattle.tds_world.specs.declared.event.Event.{Event}
 use Rattle.tds_world.specs.declared.outcome.Outcome.{Outcome}
 use Rattle.tds_play.proofs.any_bytes.Stays.{reading_stays}
 use Rattle.tds_play.proofs.pooled.Returned.{unbroken}
-use Rattle.tds_play.specs.Pooled.{ChangesOne, IsThere, StaysAs, seat_in}
+use Rattle.tds_play.specs.Pooled.{ChangesOne, IsThere, StaysAs, seat_in, stamp_of}
 use Rattle.tds_play.specs.Seats.{Seat}
 use Rattle.tds_play.specs.Lending.{standing_by}
 use Rattle.tds_play.specs.declared.link.Link.{Link}
@@ -69,28 +71,35 @@ moved_changes n cut old new c r lives found moved shown rest = record {
   rest = rest;
 }
   where
-    as_it : (a b : Connection) → c ≡ a → record c { place = moved.place } ≡ b → StaysAs a b
-    as_it a b first then =
-        subst (λ (x : Connection). StaysAs a x) then
-        (subst (λ (x : Connection). StaysAs x (record c { place = moved.place })) first (refl, moved.from))
+    then : Connection
+    then = record c { place = moved.place; turn = moved.turn }
+
+    stayed : ((moved.turn ≡ c.turn) × (moved.place ≡ c.place)) ⊎ (c.place ≡ Draining) → StaysAs c then
+    stayed (inl (turn, place)) = inl (ap (λ (t : Turn). stamp_of (record c { turn = t })) turn, place)
+    stayed (inr drains) = inr drains
+
+    as_it : (a b : Connection) → c ≡ a → then ≡ b → StaysAs a b
+    as_it a b first last =
+        subst (λ (x : Connection). StaysAs a x) last
+        (subst (λ (x : Connection). StaysAs x then) first (stayed moved.from))
 
     stays : (a b : Connection) → numbered n (connections old) ≡ Some a → numbered n (connections new) ≡ Some b → StaysAs a b
     stays a b was now =
         let one : Some c ≡ Some a = sym found ∙ was in
-        let two : Some (record c { place = moved.place }) ≡ Some b = sym (ap (numbered n) shown ∙ moved.here) ∙ now in
+        let two : Some then ≡ Some b = sym (ap (numbered n) shown ∙ moved.here) ∙ now in
         as_it a b (cc) (cc)
 
 pub same_changes : (n : ℕ) (cut : Bool) (p : PoolState) → cut ≡ false → ChangesOne n cut p p
 same_changes n cut p lives = record {
   others = λ m other. refl;
   live = λ e. refl;
-  stays = λ a b was now. let one : Some a ≡ Some b = sym was ∙ now in let same : a ≡ b = cc in subst (λ (x : Connection). StaysAs a x) same (refl, inl refl);
+  stays = λ a b was now. let one : Some a ≡ Some b = sym was ∙ now in let same : a ≡ b = cc in subst (λ (x : Connection). StaysAs a x) same (inl (refl, refl));
   gone = λ e. let bad : true ≡ false = sym e ∙ lives in absurd (cc);
-  rest = record { max = refl; size = refl; last = refl };
+  rest = record { name = refl; max = refl; size = refl; last = refl };
 }
 
 pub none_changes : (n : ℕ) (cut : Bool) (p : PoolState) → cut ≡ true → numbered n (connections p) ≡ None → ChangesOne n cut p p
-none_changes n cut p is none = closed_changes n cut p p is (sym (taken_none n (connections p) none)) (record { max = refl; size = refl; last = refl })
+none_changes n cut p is none = closed_changes n cut p p is (sym (taken_none n (connections p) none)) (record { name = refl; max = refl; size = refl; last = refl })
 
 pub stays_there : {E S : Type 0} (old new : Held E S) (p q : PoolState) → new.link.number ≡ old.link.number → new.link.is_cut ≡ false → IsSome (numbered old.link.number (connections p)) → all_numbers (connections q) ≡ all_numbers (connections p) → IsThere new q
 stays_there old new p q number lives there same = record {
@@ -117,6 +126,7 @@ client_changes n cut s old mid new c found shown rest changes = record {
       changes.gone e ∙ ap (taken_out n) shown
       ∙ taken_changed n (λ (d : Connection). record d { client = s }) (connections old) (λ d. refl);
   rest = record {
+    name = changes.rest.name ∙ rest.name;
     max = changes.rest.max ∙ rest.max;
     size = changes.rest.size ∙ rest.size;
     last = changes.rest.last ∙ rest.last;

@@ -5,7 +5,7 @@ ghost use Rattle.tds_packet.specs.declared.status.Reset.TheVariants.{KeepTransac
 ghost use Rattle.tds_play.specs.Failures.{FailsAs, FailsNoMore, HasNoFailure, calls_of};
 ghost use Rattle.tds_play.specs.Links.{cut_of};
 ghost use Rattle.tds_play.specs.Plays.{MayLose, RefinesAct, RepresentsConnection, acts_on, after, cut_where};
-ghost use Rattle.tds_play.specs.Pooled.{IsGone, IsThere, Spares, came_back, keeps_not, rests_in, seat_in};
+ghost use Rattle.tds_play.specs.Pooled.{IsGone, IsThere, Spares, came_back, keeps_not, lease_stamp, rests_in, seat_in, ticket_stamp};
 ghost use Rattle.tds_play.specs.Reads.{IsReading, ReadsNoMore, ReadsOn};
 ghost use Rattle.tds_play.specs.Seats.{Seat};
 ghost use Rattle.tds_play.specs.Ties.{IsTied, KeepsTies};
@@ -253,7 +253,7 @@ impl<E: Engine + Drop> Held<E> {
             → back.1 ≡ keeps_not why) }
         ensures live { self.old.link.is_cut ≡ false
             → refuses_keep (lent_to lease (connections pool.old)) ≡ None → IsOk result }
-        ensures kept { IfOk result (λ given. (given.key ≡ lease.key)
+        ensures kept { IfOk result (λ given. (ticket_stamp given ≡ lease_stamp lease)
             × (given.number ≡ lease.number) × (self.new.holder ≡ ticket)
             × (self.old.link.is_cut ≡ false)
             × (refuses_keep (lent_to lease (connections pool.old)) ≡ None)
@@ -288,7 +288,7 @@ impl<E: Engine + Drop> Held<E> {
             back.1 ≡ ConnectionCut) }
         ensures live { self.old.link.is_cut ≡ false
             → refuses_resume (kept_for ticket (connections pool.old)) ≡ None → IsOk result }
-        ensures lent { IfOk result (λ given. (given.key ≡ ticket.key)
+        ensures lent { IfOk result (λ given. (lease_stamp given ≡ ticket_stamp ticket)
             × (given.number ≡ ticket.number) × (self.new.holder ≡ lease)
             × (self.old.link.is_cut ≡ false)
             × (connections pool.new

@@ -7,7 +7,7 @@ pub leases-init : goal.leases-init
 leases-init g c = record {
   leases = refl;
   rest = refl;
-  pool = record { rest = record { max = refl; size = refl; last = refl }; none = λ none. none };
+  pool = record { rest = record { name = refl; max = refl; size = refl; last = refl }; none = λ none. none };
 }
 
 pub leases-preserved : goal.leases-preserved

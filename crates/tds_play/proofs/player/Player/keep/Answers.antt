@@ -15,7 +15,7 @@ returns-in-Ok-give g c = λ pipes tied.
     c.requires.held c.requires.few (read_at old.links.items c.args.place c.index_mut.result.now c.requires.there c.index_mut.ensures.value)
     (slot_of _ old.leases c.args.number _ c.in-Some.lease c.requires.lent c.in-Some.ensures.taken)
     c.next-next.ensures
-    (record { key = said.kept.0; number = said.kept.1; holder = said.kept.2; live = said.kept.3; allowed = said.kept.4; shown = said.kept.5; rest = said.rest; link = said.link })
+    (record { stamp = said.kept.0; number = said.kept.1; holder = said.kept.2; live = said.kept.3; allowed = said.kept.4; shown = said.kept.5; rest = said.rest; link = said.link })
     refl c.in-Some.ensures.left c.in-Ok-give.ensures.ok refl
     (record { engine_is = refl; max_is = refl; size_is = refl; told_is = refl })
     c.done.ensures tied

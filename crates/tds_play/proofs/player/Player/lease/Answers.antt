@@ -19,7 +19,7 @@ pub reuse-requires : goal.reuse-requires
 reuse-requires g c =
     let old = c.args.self.now in
     let l : LentAgain c.in-Reused.conn c.in-Ok.given old.pool c.lease.new.self =
-    lent_again_of c.in-Reused.conn c.in-Ok.given c.in-Ok.opened old.pool c.lease.new.self _ _ (lent_next (connections old.pool)) refl c.in-Ok.ensures.reused c.in-Ok.ensures.reset c.in-Ok.ensures.new c.in-Reused.is in
+    lent_again_of c.in-Reused.conn c.in-Ok.given c.in-Ok.opened old.pool c.lease.new.self _ _ (lent_next (connections old.pool)) refl c.in-Ok.ensures.reused c.in-Ok.ensures.turn c.in-Ok.ensures.reset c.in-Ok.ensures.new c.in-Reused.is in
     let told = c.in_ok-begin_lease-in-Ok.ensures in
     let there = again_there c.in-Reused.conn c.in-Ok.given old c.lease.new.self c.requires.held l in
     record { there = (there.0, subst (λ (p : Player g.row.E.Denot g.row.E-Stmt.Denot). c.in-Reused.conn ≤ length p.links.items) (sym told.rest) there.1) }
@@ -29,7 +29,7 @@ returns-in-Reused g c =
     let old = c.args.self.now in
     let pipes = g.C.Carrier.pipes c.args.carrier.now in
     let l : LentAgain c.in-Reused.conn c.in-Ok.given old.pool c.lease.new.self =
-    lent_again_of c.in-Reused.conn c.in-Ok.given c.in-Ok.opened old.pool c.lease.new.self _ _ (lent_next (connections old.pool)) refl c.in-Ok.ensures.reused c.in-Ok.ensures.reset c.in-Ok.ensures.new c.in-Reused.is in
+    lent_again_of c.in-Reused.conn c.in-Ok.given c.in-Ok.opened old.pool c.lease.new.self _ _ (lent_next (connections old.pool)) refl c.in-Ok.ensures.reused c.in-Ok.ensures.turn c.in-Ok.ensures.reset c.in-Ok.ensures.new c.in-Reused.is in
     let told = c.in_ok-begin_lease-in-Ok.ensures in
     let reuses = c.reuse.ensures.reuses in
     steps_happen (λ x. answer_of (g.E.Engine.statements_of x) (g.E.Engine.step_of x)) event.Lease reuses.place old c.reuse.new.self pipes pipes _ _ c.reuse.result c.requires.tied tt tt
@@ -46,7 +46,7 @@ returns-in_ok-done-in-New g c =
     let told = c.in_ok-begin_lease-in-Ok.ensures in
     opens_happen (λ x. answer_of (g.E.Engine.statements_of x) (g.E.Engine.step_of x)) c.next-lease.result c.in-New.conn c.in-Ok.given old c.begin_lease.new.self c.open.new.self c.lease.new.self (g.C.Carrier.pipes c.args.carrier.now) (g.C.Carrier.pipes c.open.new.carrier) _ _ c.in_ok-done-in-New.done
     c.requires.tied c.requires.held c.requires.few
-    (lent_new_of c.in-New.conn c.in-Ok.given c.in-Ok.opened old.pool c.lease.new.self (lent_next (connections old.pool)) refl c.in-Ok.ensures.reused c.in-Ok.ensures.new c.in-Ok.ensures.used c.in-Ok.ensures.allowed c.in-New.is)
+    (lent_new_of c.in-New.conn c.in-Ok.given c.in-Ok.opened old.pool c.lease.new.self (lent_next (connections old.pool)) refl c.in-Ok.ensures.reused c.in-Ok.ensures.new c.in-Ok.ensures.first c.in-Ok.ensures.used c.in-Ok.ensures.allowed c.in-New.is)
     c.next-lease.ensures told.rest told.leases c.in_ok-done-in-New.ensures
 
 -- ---- None

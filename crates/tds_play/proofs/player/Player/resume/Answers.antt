@@ -19,7 +19,7 @@ returns-in_ok-begin_lease-in-Ok g c = λ pipes tied.
     (slot_of _ old.tickets c.args.number _ c.in-Some.ticket c.requires.kept c.in-Some.ensures.taken)
     c.next-next.ensures c.number-conn.ensures
     (record {
-      key = said.lent.0;
+      stamp = said.lent.0;
       number = said.lent.1;
       holder = said.lent.2;
       live = said.lent.3;

@@ -1,5 +1,5 @@
 use Rattle.std.proofs.Common.{◌≡◌, ◌∙◌, ℕ, true, false, List, Option, Some, refl, sym, ap, subst}
-use Rattle.tds_pool.specs.Calls.{Returned, abandoned, all_numbers, is_idle, is_kept, kept_for}
+use Rattle.tds_pool.specs.Calls.{Returned, abandoned, all_numbers, is_idle, is_kept_for, kept_for}
 use Rattle.tds_pool.specs.Connections.{Connection, PoolState, SameRest, connections, numbered, taken_out}
 use Rattle.tds_session.specs.Answer.{Answers, answer_of}
 use Rattle.tds_world.specs.Pool.{abandons}
@@ -31,7 +31,7 @@ returns-then-self-clause-pool g c =
     (λ lives. let bad : true ≡ false = sym c.if-self.true ∙ lives in absurd (cc))
     (λ cut.
     ap (numbered n) c.abandon-answer.ensures.shown
-    ∙ ap (λ (r : Returned). numbered n r.connections) (abandoned_unknown c.args.ticket pcs (unknown is_kept c.args.ticket.key c.args.ticket.number pcs (ap (λ (m : ℕ). numbered m pcs) c.requires.named ∙ c.requires.there.is_out cut)))
+    ∙ ap (λ (r : Returned). numbered n r.connections) (abandoned_unknown c.args.ticket pcs (unknown (is_kept_for c.args.ticket.turn) c.args.ticket.key c.args.ticket.number pcs (ap (λ (m : ℕ). numbered m pcs) c.requires.named ∙ c.requires.there.is_out cut)))
     ∙ c.requires.there.is_out cut)
     c.abandon-answer.ensures.rest
 
@@ -103,7 +103,7 @@ returns-in-Closed-clause-pool g c =
     spares_of n c.leave.new.self.link.is_cut c.args.pool.now c.leave.new.pool out
     (λ lives. let bad : true ≡ false = sym cut ∙ lives in absurd (cc))
     (λ e. ap (numbered n) c.leave.ensures.gone.connections ∙ taken_gone n (connections q))
-    (record { max = then.max ∙ first.max; size = then.size ∙ first.size; last = then.last ∙ first.last })
+    (record { name = then.name ∙ first.name; max = then.max ∙ first.max; size = then.size ∙ first.size; last = then.last ∙ first.last })
 
 pub returns-in-Closed-clause-there : goal.returns-in-Closed-clause-there
 returns-in-Closed-clause-there g c =

@@ -53,7 +53,7 @@ returns-clause-pool g c =
     let it : IsIn n (connections c.args.pool.now) = in_of n (connections c.args.pool.now) there in
     let mid : PoolState = with_client_numbered c.args.pool.now n s in
     client_changes n c.settle.new.self.link.is_cut s c.args.pool.now mid c.settle.new.pool it.connection it.there (c.at.ensures.writes s there)
-    (record { max = refl; size = refl; last = refl })
+    (record { name = refl; max = refl; size = refl; last = refl })
     (subst (λ (k : ℕ). ChangesOne k c.settle.new.self.link.is_cut mid c.settle.new.pool) c.in_ok-done.ensures.number c.settle.ensures.pool)
 
 pub returns-clause-reads : goal.returns-clause-reads

@@ -1,7 +1,7 @@
 use Rattle.std.proofs.Common.{◌≡◌, ◌∙◌, ℕ, Bool, true, false, List, [], ◌∷◌, Option, Some, None, Result, refl, sym, ap, subst}
 use Rattle.std.specs.Prelude.{IsSome, OnOk, is_none}
 use Rattle.tds_client.specs.Session.{ClientSession, unless_idle}
-use Rattle.tds_pool.specs.Calls.{Returned, all_numbers, given_back, is_broken, is_idle, is_leased, lent_to}
+use Rattle.tds_pool.specs.Calls.{Returned, all_numbers, given_back, is_broken, is_idle, is_lent_for, lent_to}
 use Rattle.tds_pool.specs.Connections.{Connection, PoolState, SameRest, connections, numbered, with_client}
 use Rattle.tds_pool.specs.declared.lease.Lease.{Lease}
 use Rattle.tds_pool.specs.Lends.{with_client_numbered}
@@ -42,7 +42,7 @@ returns-then-self-clause-pool g c =
     let pcs : List Connection = connections c.args.pool.now in
     let none : numbered n pcs ≡ None = c.requires.there.is_out c.if-self.true in
     let same : (given_back c.args.lease pcs).connections ≡ pcs =
-    ap (λ (r : Returned). r.connections) (given_back_unknown c.args.lease pcs (unknown is_leased c.args.lease.key c.args.lease.number pcs (ap (λ (m : ℕ). numbered m pcs) c.requires.named ∙ none))) in
+    ap (λ (r : Returned). r.connections) (given_back_unknown c.args.lease pcs (unknown (is_lent_for c.args.lease.turn) c.args.lease.key c.args.lease.number pcs (ap (λ (m : ℕ). numbered m pcs) c.requires.named ∙ none))) in
     elim c.match-give_back.branch [
       | in-Ok w ↦ subst (λ (r : Result EventDone Lease). OnOk r (Spares n c.args.self.now.link.is_cut c.args.pool.now c.give_back.new.self)) (sym w.result-is)
           (spares_of n c.args.self.now.link.is_cut c.args.pool.now c.give_back.new.self
@@ -70,7 +70,7 @@ returns-in-Ok-give_back-clause-pool g c =
     let r : SameRest (with_client_numbered c.args.pool.now n s) q = c.in-Ok-give_back.ensures.rest in
     back_spares n c.give_up.new.self.number c.come_back.new.self.link.is_cut (rests_in c.in-Ok-give_back.answer) c.args.pool.now q c.come_back.new.pool c.in-Ok-give_up.ensures.number left
     (λ rests. ap all_numbers shown ∙ given_in c.args.lease then (sym (ap rests_in answer) ∙ rests) ∙ changed_numbers n (λ (d : Connection). record d { client = s }) pcs (λ d. refl))
-    (record { max = r.max; size = r.size; last = r.last })
+    (record { name = r.name; max = r.max; size = r.size; last = r.last })
     c.come_back.ensures.closed c.come_back.ensures.live c.come_back.ensures.gone
 
 pub returns-in-Ok-give_back-clause-there : goal.returns-in-Ok-give_back-clause-there
@@ -103,7 +103,7 @@ returns-in-Ok-give_back-clause-reads g c = λ size k reads.
     let answer : c.in-Ok-give_back.answer ≡ (given_back c.args.lease then).answer = c.in-Ok-give_back.ensures.answer ∙ ap (λ (cs : List Connection). (given_back c.args.lease cs).answer) writes in
     let lent = one_of (lent_to c.args.lease pcs) (c.requires.lent c.if-self.false) in
     let known : lent_to c.args.lease then ≡ Some (record lent.0 { client = s }) =
-    subst (λ (m : ℕ). lent_to c.args.lease (with_client m s pcs) ≡ Some (record lent.0 { client = s })) c.requires.named (standing_client is_leased c.args.lease.key c.args.lease.number s pcs lent.0 lent.1) in
+    subst (λ (m : ℕ). lent_to c.args.lease (with_client m s pcs) ≡ Some (record lent.0 { client = s })) c.requires.named (standing_client (is_lent_for c.args.lease.turn) c.args.lease.key c.args.lease.number s pcs lent.0 lent.1) in
     let client : c.in-Some.client.now ≡ it.connection.client = lent_client n pcs it.connection c.in-Some.client.now it.there c.in-Some.ensures.value in
     let before : s.columns ≡ (seat_in c.args.self.now c.args.pool.now).client.columns =
     c.in-Ok-give_up.ensures.columns ∙ ap (λ (x : ClientSession). x.columns) client ∙ sym (ap (λ o. (seat_by h o).client.columns) it.there) in
@@ -140,7 +140,7 @@ returns-in-Ok-give_back-clause-refines g c = λ setup w k m engine played few.
     let answer : c.in-Ok-give_back.answer ≡ (given_back c.args.lease then).answer = c.in-Ok-give_back.ensures.answer ∙ ap (λ (cs : List Connection). (given_back c.args.lease cs).answer) writes in
     let lent = one_of (lent_to c.args.lease pcs) (c.requires.lent live) in
     let known : lent_to c.args.lease then ≡ Some (record lent.0 { client = s }) =
-    subst (λ (m : ℕ). lent_to c.args.lease (with_client m s pcs) ≡ Some (record lent.0 { client = s })) c.requires.named (standing_client is_leased c.args.lease.key c.args.lease.number s pcs lent.0 lent.1) in
+    subst (λ (m : ℕ). lent_to c.args.lease (with_client m s pcs) ≡ Some (record lent.0 { client = s })) c.requires.named (standing_client (is_lent_for c.args.lease.turn) c.args.lease.key c.args.lease.number s pcs lent.0 lent.1) in
     let client : c.in-Some.client.now ≡ it.connection.client = lent_client n pcs it.connection c.in-Some.client.now it.there c.in-Some.ensures.value in
     let p : Place = place_by h it.connection.place in
     let seat : seat_in c.args.self.now c.args.pool.now ≡ seated p c.in-Some.client.now = ap (seat_by h) it.there ∙ sym (ap (seated p) client) in
