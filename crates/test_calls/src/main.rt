@@ -3,6 +3,7 @@
 //!
 //! - `all`, `names`, or a call's name: calls that may want memory (`refusals`);
 //! - `sweeps`: each known packet, cut and altered everywhere;
+//! - `streams`: a request of 10 MB that goes out in parts, and comes in whole;
 //! - `leases`: the pool, whose leases must be spent;
 //! - `links`: plays over links that fail, or that change a byte;
 //! - `schedules`: each schedule byte by byte, and with each call of its links failing in turn;
@@ -19,6 +20,7 @@ mod links;
 mod refusals;
 mod schedules;
 mod sockets;
+mod streams;
 mod sweeps;
 mod texts;
 
@@ -79,6 +81,7 @@ fn heed_all(rt: &HostRuntime, text: &mut String) -> Result<bool, Fault> {
 fn heed(rt: &HostRuntime, word: &str, text: &mut String) -> Result<bool, Fault> {
     match word {
         "sweeps" => sweeps::put(rt.alloc(), text)?,
+        "streams" => streams::put(rt.alloc(), text)?,
         "leases" => leases::put(rt.alloc(), text)?,
         "links" => return Ok(links::play_all(rt, "links.txt", text)?),
         "schedules" => return Ok(schedules::play_all(rt, "schedules", text)?),

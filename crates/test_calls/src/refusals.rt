@@ -7,6 +7,7 @@ mod ends;
 mod layers;
 mod plays;
 mod pools;
+pub mod streams;
 pub mod tried;
 
 use self::cores::{ClientCall, ServerCall};
@@ -14,6 +15,7 @@ use self::ends::EndCall;
 use self::layers::{Appended, LayerCall};
 use self::plays::PlayCall;
 use self::pools::PoolCall;
+use self::streams::StreamCall;
 use self::tried::{Fault, Tried};
 use std::alloc::Global;
 
@@ -22,6 +24,7 @@ use std::alloc::Global;
 enum Call {
     Layer(LayerCall),
     Client(ClientCall),
+    Stream(StreamCall),
     Server(ServerCall),
     Pool(PoolCall),
     End(EndCall),
@@ -29,7 +32,7 @@ enum Call {
 }
 
 /// The calls, by the names that the program takes.
-const CALLS: [(&str, Call); 37] = [
+const CALLS: [(&str, Call); 40] = [
     ("PacketReader::new", Call::Layer(LayerCall::NewReader)),
     ("put_packet", Call::Layer(LayerCall::Put(Appended::Packet))),
     (
@@ -54,6 +57,9 @@ const CALLS: [(&str, Call); 37] = [
     ("Client::send", Call::Client(ClientCall::Send)),
     ("Client::cancel", Call::Client(ClientCall::Cancel)),
     ("Client::take", Call::Client(ClientCall::Take)),
+    ("Client::start_message", Call::Stream(StreamCall::Start)),
+    ("Client::put", Call::Stream(StreamCall::Put)),
+    ("Client::finish", Call::Stream(StreamCall::Finish)),
     ("Server::take", Call::Server(ServerCall::TakeBatch)),
     (
         "Server::take:attention",
@@ -116,6 +122,7 @@ fn make_once(alloc: Global, call: Call, tried: &mut Tried) -> Result<(), Fault> 
     match call {
         Call::Layer(call) => layers::call(alloc, call, tried),
         Call::Client(call) => cores::call_client(alloc, call, tried),
+        Call::Stream(call) => streams::call(alloc, call, tried),
         Call::Server(call) => cores::call_server(alloc, call, tried),
         Call::Pool(call) => pools::call(alloc, call, tried),
         Call::End(call) => ends::call(alloc, call, tried),
