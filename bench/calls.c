@@ -118,28 +118,6 @@ static struct counted tokens(const uint8_t *bytes, size_t length, uint16_t size)
     return counted;
 }
 
-static void sum_row(const uint8_t *data, const struct tds_token *row, struct counted *counted) {
-    counted->rows += 1;
-    for (size_t i = 0; i < row->value; i++) {
-        uint32_t value;
-        memcpy(&value, data + row->start + 1 + 4 * i, 4);
-        counted->sum += value;
-    }
-}
-
-static void sum_values(const uint8_t *data, size_t length, uint8_t columns, struct counted *counted) {
-    struct tds_cursor cursor = {0, columns};
-    size_t count;
-    uint8_t answer;
-    do {
-        answer = tds_tokens_next(data, length, &cursor, read_tokens, ROOM, &count);
-        counted->tokens += count;
-        for (const struct tds_token *token = read_tokens; token < read_tokens + count; token++)
-            if (token->kind == TDS_ROW) sum_row(data, token, counted);
-    } while (answer == TDS_OK);
-    if (answer != TDS_END) stop("token", answer);
-}
-
 static void sum_run(const uint8_t *data, const struct tds_rows *rows, struct counted *counted) {
     const uint8_t *at = data + rows->start;
     counted->tokens += rows->count, counted->rows += rows->count;
@@ -185,7 +163,7 @@ static struct counted values(const uint8_t *bytes, size_t length, uint16_t size)
         size_t whole = front(bytes, length, size);
         uint8_t columns = client.columns, answer = tds_client_take(&client, bytes, whole);
         if (answer >= TDS_NO_CLIENT) stop("take", answer);
-        sum_values(bytes + 8, whole - 8, columns, &counted);
+        sum_runs(bytes + 8, whole - 8, columns, &counted);
         bytes += whole, length -= whole;
         counted.packets += 1;
         if (answer == TDS_FINISHED) ask();

@@ -4,12 +4,12 @@ ghost use Rattle.tds_packet.specs.declared.kind.Kind.TheVariants.{Answer};
 
 use crate::counted::Counted;
 use crate::fault::SpeedFault;
-use crate::walks::Walk;
+use crate::walks::{Walk, sum_rows};
 use std::alloc::Global;
 use tds_client::{Client, Sent, Taken};
 use tds_packet::{PacketRef, PacketSize};
 use tds_request::{BatchText, Request};
-use tds_token::{Columns, Token, TokenRef, Tokens};
+use tds_token::{Columns, Token};
 
 /// A client that takes what comes, and asks again where it is idle.
 #[derive(Drop)]
@@ -77,7 +77,7 @@ impl Walk for Hear {
     }
 }
 
-/// A client hears each packet, and the values of its rows are summed.
+/// A client hears each packet, and the values of its rows, which are read in runs, are summed.
 #[derive(Drop)]
 pub struct Values {
     asker: Asker,
@@ -97,28 +97,13 @@ impl Walk for Values {
     fn packet(&mut self, packet: PacketRef<'_>, counted: &mut Counted) -> Result<(), SpeedFault> {
         let data = packet.data;
         let taken = self.asker.client.hear(packet)?;
-        self.columns = sum_values(data, self.columns, counted)?;
+        self.columns = sum_rows(data, self.columns, counted)?;
         if matches!(&taken, Taken::Finished) {
             self.columns = Columns::none();
             self.asker.ask()?;
         }
         Ok(())
     }
-}
-
-/// Sums the values of a packet's rows. Answers the columns that are known behind them.
-fn sum_values(data: &[u8], columns: Columns, counted: &mut Counted) -> Result<Columns, SpeedFault> {
-    let mut tokens = Tokens::new(data, columns);
-    'tokens: while let Some(next) = tokens.next() {
-        counted.add_token();
-        if let TokenRef::Row(row) = next? {
-            counted.add_row();
-            for value in row.bytes().as_chunks::<4>().0 {
-                counted.add(u64::from(u32::from_le_bytes(*value)));
-            }
-        }
-    }
-    Ok(tokens.columns())
 }
 
 /// A client takes each packet and tells its tokens, in memory of their own; the values of the rows

@@ -87,18 +87,28 @@ impl RowRuns {
 
 impl Walk for RowRuns {
     fn packet(&mut self, packet: PacketRef<'_>, counted: &mut Counted) -> Result<(), SpeedFault> {
-        let mut tokens = Tokens::new(packet.data, self.columns);
-        for _ in 0..u64::MAX {
-            sum_run(&mut tokens, counted);
-            let Some(next) = tokens.next() else {
-                break;
-            };
-            counted.add_token();
-            next?;
-        }
-        self.columns = tokens.columns();
+        self.columns = sum_rows(packet.data, self.columns, counted)?;
         Ok(())
     }
+}
+
+/// Sums the values of a packet's rows, which are read in runs. Answers the columns that are known behind
+/// them.
+pub fn sum_rows(
+    data: &[u8],
+    columns: Columns,
+    counted: &mut Counted,
+) -> Result<Columns, SpeedFault> {
+    let mut tokens = Tokens::new(data, columns);
+    for _ in 0..u64::MAX {
+        sum_run(&mut tokens, counted);
+        let Some(next) = tokens.next() else {
+            break;
+        };
+        counted.add_token();
+        next?;
+    }
+    Ok(tokens.columns())
 }
 
 /// Sums the values of a run of rows.
