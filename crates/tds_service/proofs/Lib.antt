@@ -1,0 +1,6 @@
+pub mod Tests
+pub mod Pairing
+pub mod Walks
+pub mod Knowing
+pub mod Owing
+pub mod Acknowledging

@@ -1,0 +1,5 @@
+pub mod Parts
+pub mod Line
+pub mod History
+pub mod Promises
+pub mod Acknowledging

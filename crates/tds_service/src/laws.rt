@@ -1,0 +1,53 @@
+//! What holds of one connection, whatever its peer sends and whatever is called, in whatever order.
+//! Each function does nothing when it runs: its contract is the law.
+
+ghost use Rattle.std.specs.Prelude.{◌≡◌, ◌≤◌, ◌+◌, ℕ, List, Bool, false};
+ghost use Rattle.tds_service.specs.Line.{Act, new_line};
+ghost use Rattle.tds_service.specs.History.{history, line_after};
+ghost use Rattle.tds_service.specs.Acknowledging.{SettlesRight};
+ghost use Rattle.tds_service.specs.Promises.{Paired, FaultsUnawaited, NothingBehindCancel};
+ghost use Rattle.tds_service.specs.Promises.{attentions, acknowledgements};
+ghost use Rattle.tds_service.specs.Promises.{AsksAsOwed, LeavesNoneOwed, NamesAsHeard};
+ghost use Rattle.tds_service.specs.Promises.{nothing_known};
+
+/// What a request is given are the tokens of its own message, in order, and nothing else.
+pub fn paired<T>()
+    ensures { (acts : List (Act T)) → Paired (history new_line acts) }
+{}
+
+/// What comes where no answer is awaited is a fault.
+pub fn unawaited<T>()
+    ensures { (acts : List (Act T)) → FaultsUnawaited Bool.false (history new_line acts) }
+{}
+
+/// Behind its cancel a request is given nothing.
+pub fn after_cancel<T>()
+    ensures { (acts : List (Act T)) → NothingBehindCancel (history new_line acts) }
+{}
+
+/// In any stretch of calls at most one attention more goes out than are acknowledged.
+pub fn one_attention<T>()
+    ensures { (before acts : List (Act T))
+        → attentions (history (line_after new_line before) acts)
+        ≤ acknowledgements (history (line_after new_line before) acts) + 1 }
+{}
+
+/// The first packet of a request asks for the reset that is owed, and no other packet for any.
+/// One that was marked is owed until its end is heard. A request whose whole answer came leaves none
+/// owed: where its end wasn't told, that is a fault of the server (MS-TDS 2.2.7.9, type 18).
+pub fn asks_for_reset<T>()
+    ensures owed { (acts : List (Act T)) → AsksAsOwed nothing_known (history new_line acts) }
+    ensures answered { (acts : List (Act T))
+        → LeavesNoneOwed nothing_known (history new_line acts) }
+{}
+
+/// A request's header names the transaction that was heard last, or none under a full reset.
+pub fn names_descriptor<T>()
+    ensures { (acts : List (Act T)) → NamesAsHeard nothing_known (history new_line acts) }
+{}
+
+/// A cancelled request is settled exactly at the end of a message with an acknowledgement.
+pub fn idle_by_acknowledgement<T>()
+    ensures { (acts : List (Act T))
+        → SettlesRight Bool.false Bool.false (history new_line acts) }
+{}
