@@ -2,8 +2,8 @@
 use Rattle.std.specs.Prelude.{ℕ, ◌≡◌}
 use Rattle.tds_client.specs.declared.fault.ClientFault.{ClientFault}
 use Rattle.tds_client.specs.declared.fault.ClientFault.TheVariants.{Lost}
-use Rattle.tds_client.specs.Session.{ClientSession, Stage, Broken, lost}
-use Rattle.tds_client.specs.Taking.{broken_by}
+use Rattle.tds_client.specs.Session.{ClientSession, Stage, Idle, Broken, lost}
+use Rattle.tds_client.specs.Taking.{broken_by, ended}
 use Rattle.tds_listen.specs.declared.fault.ListenFault.{ListenFault}
 use Rattle.tds_listen.specs.declared.fault.ListenFault.TheVariants as faults
 
@@ -19,6 +19,13 @@ broken_at s (faults.Client fault) = broken_by s fault
 broken_at s (faults.Wire refusal) = lost s
 broken_at s faults.Cut = lost s
 broken_at s faults.ResetUnanswered = lost s
+
+-- At a message's end it is the same, but that the message is over where only the reset's end is wanting.
+abbrev pub broken_at_end : ClientSession → ListenFault → ClientSession
+broken_at_end s (faults.Client fault) = broken_by s fault
+broken_at_end s (faults.Wire refusal) = lost s
+broken_at_end s faults.Cut = lost s
+broken_at_end s faults.ResetUnanswered = lost (ended s Idle s.heard)
 
 -- so it is broken, by what it was broken before if it was
 abbrev pub IsBroken : ListenFault → Stage → Type 0

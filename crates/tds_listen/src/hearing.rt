@@ -2,7 +2,7 @@
 
 ghost use Rattle.std.specs.Prelude.{◌≡◌, ◌≤◌, ◌<◌, Ok, Err, None, IfOk, IfErr, MatchResult, drop, length};
 ghost use Rattle.std.specs.Prelude.{if◌then◌else◌};
-ghost use Rattle.tds_listen.specs.Faults.{IsBroken, broken_at};
+ghost use Rattle.tds_listen.specs.Faults.{IsBroken, broken_at, broken_at_end};
 ghost use Rattle.tds_listen.specs.Hearing.{Both, heard_data, heard_end, heard_packet, next_heard};
 ghost use Rattle.tds_packet.specs.Layout.{bits_of, has_bit};
 ghost use Rattle.tds_wire.specs.Reading.{IsReady, restarted};
@@ -114,6 +114,7 @@ pub fn hear_end(client: &mut Client, walker: &mut Walker) -> Result<Taken, Liste
         (λ fault. heard_end client.old walker.old ≡ Err fault) }
     ensures anew { walker.new ≡ restarted walker.old }
     ensures broken { IfErr result (λ fault. IsBroken fault client.new.stage) }
+    ensures leaves { IfErr result (λ fault. client.new ≡ broken_at_end client.old fault) }
 {
     let cut = client.may_tell() && !walker.is_between();
     walker.restart();

@@ -3,3 +3,4 @@ pub mod Line
 pub mod History
 pub mod Promises
 pub mod Acknowledging
+pub mod Ties

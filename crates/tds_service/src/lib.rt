@@ -1,4 +1,7 @@
-//! The connections of a service, in front of any server: what each of them promises.
+//! The connections of a service, in front of any server: one connection, and what each promises.
 #![tactic(auto)]
 
+mod connection;
 pub mod laws;
+
+pub use connection::Connection;
