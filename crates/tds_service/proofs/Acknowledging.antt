@@ -1,6 +1,6 @@
 -- A cancel is over by its acknowledgement alone.
-use Rattle.std.proofs.Common.{◌≡◌, ◌∙◌, ◌||◌, ◌&&◌, ℕ, suc, Bool, true, false, List, [], ◌∷◌, ◌++◌, refl, sym, ap, subst}
-use Rattle.std.specs.Prelude.{Option, Some, None, Result, Ok, Err, ◌==◌, if◌then◌else◌}
+use Rattle.std.proofs.Common.{◌≡◌, ◌∙◌, ◌||◌, ℕ, suc, Bool, true, false, List, [], ◌∷◌, refl, sym, ap}
+use Rattle.std.specs.Prelude.{Result, Ok, Err, if◌then◌else◌}
 use Rattle.tds_client.specs.declared.fault.ClientFault.{ClientFault}
 use Rattle.tds_client.specs.declared.fault.ClientFault.TheVariants as faults
 use Rattle.tds_client.specs.declared.heard.Heard.{Heard}
@@ -12,8 +12,8 @@ use Rattle.tds_client.specs.Acts.{is_acknowledgement}
 use Rattle.tds_client.specs.Hearing.{with_done, hear_sign}
 use Rattle.tds_client.proofs.Acknowledged.{is_acknowledging, by_sign}
 use Rattle.tds_service.specs.Parts.{Item, Part, is_end, hear_part, hear_items}
-use Rattle.tds_service.specs.Line.{Line, new_line, Act, Mark, Ask, Send, Cancel, Come, Lose, Stage, Idle, Sending, Reading, Cancelling, Broken, turn, reads, skips, skips_to_end, cause, left_by}
-use Rattle.tds_service.specs.History.{Done, done_by, history}
+use Rattle.tds_service.specs.Line.{Act, Mark, Ask, Send, Cancel, Come, Lose, Stage, Idle, Sending, Reading, Cancelling, Broken, reads, skips, skips_to_end, cause, left_by}
+use Rattle.tds_service.specs.History.{history}
 use Rattle.tds_service.specs.Acknowledging.{has_ack, Settles, SettlesRight, out_by}
 use Rattle.tds_service.proofs.Pairing.{line, with_mark}
 use Rattle.tds_service.proofs.Knowing.{ok_is, between, part_heard}

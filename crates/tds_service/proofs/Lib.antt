@@ -4,3 +4,5 @@ pub mod Walks
 pub mod Knowing
 pub mod Owing
 pub mod Acknowledging
+pub mod Alike
+pub mod Coming

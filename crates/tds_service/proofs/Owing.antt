@@ -1,7 +1,6 @@
 -- Which reset is asked for, and which transaction is named.
 use Rattle.std.proofs.Common.{◌≡◌, ◌∙◌, ℕ, suc, Bool, true, false, List, [], ◌∷◌, refl, sym, ap, subst}
-use Rattle.std.specs.Prelude.{Option, Some, None, Result, Ok, Err}
-use Rattle.tds_packet.specs.declared.status.Reset.{Reset}
+use Rattle.std.specs.Prelude.{None, Result, Ok, Err}
 use Rattle.tds_client.specs.declared.fault.ClientFault.{ClientFault}
 use Rattle.tds_client.specs.declared.fault.ClientFault.TheVariants as faults
 use Rattle.tds_client.specs.declared.heard.Heard.{Heard}
@@ -10,8 +9,8 @@ use Rattle.tds_client.specs.declared.heard.FinalDone.{FinalDone}
 use Rattle.tds_client.specs.declared.heard.FinalDone.TheVariants.{Awaited, Answered, Acknowledged}
 use Rattle.tds_client.specs.Hearing.{with_done}
 use Rattle.tds_service.specs.Parts.{Part, is_end, hear_part}
-use Rattle.tds_service.specs.Line.{Line, new_line, Act, Mark, Ask, Send, Cancel, Come, Lose, Stage, Idle, Sending, Reading, Cancelling, Broken, Turn, turn, reads, skips, skips_to_end, cause, left_by}
-use Rattle.tds_service.specs.History.{Done, done_by, history}
+use Rattle.tds_service.specs.Line.{Act, Mark, Ask, Send, Cancel, Come, Lose, Stage, Idle, Sending, Reading, Cancelling, Broken, reads, skips, skips_to_end, cause, left_by}
+use Rattle.tds_service.specs.History.{done_by, history}
 use Rattle.tds_service.specs.Promises.{Known, known_by_items, AsksAsOwed, LeavesNoneOwed, NamesAsHeard}
 use Rattle.tds_service.proofs.Pairing.{line, with_mark}
 use Rattle.tds_service.proofs.Knowing.{known_of, by_part, part_heard}

@@ -1,17 +1,15 @@
 -- Laws that walk along a history.
-use Rattle.std.proofs.Common.{◌≡◌, ◌∙◌, ◌+◌, ◌<◌, ◌≤◌, ℕ, suc, Bool, true, false, List, [], ◌∷◌, ◌++◌, refl, sym, ap, subst, arith}
-use Rattle.std.specs.Prelude.{Option, Some, None, Result, Ok, Err, if◌then◌else◌}
-use Rattle.tds_packet.specs.declared.status.Reset.{Reset}
-use Rattle.tds_client.specs.declared.fault.ClientFault.{ClientFault}
+use Rattle.std.proofs.Common.{◌+◌, ◌≤◌, ℕ, suc, Bool, true, false, List, [], ◌∷◌, arith}
+use Rattle.std.specs.Prelude.{Result, Ok, Err}
 use Rattle.tds_client.specs.declared.fault.ClientFault.TheVariants as faults
 use Rattle.tds_client.specs.declared.heard.Heard.{Heard}
 use Rattle.tds_listen.specs.declared.fault.ListenFault.{ListenFault}
 use Rattle.tds_client.specs.declared.heard.FinalDone.{FinalDone}
 use Rattle.tds_client.specs.declared.heard.FinalDone.TheVariants.{Awaited, Answered, Acknowledged}
 use Rattle.tds_client.specs.Hearing.{with_done}
-use Rattle.tds_service.specs.Parts.{Part, is_end, told, hear_part}
-use Rattle.tds_service.specs.Line.{Line, new_line, Act, Mark, Ask, Send, Cancel, Come, Lose, Stage, Idle, Sending, Reading, Cancelling, Broken, Turn, turn, reads, skips, skips_to_end, cause, left_by}
-use Rattle.tds_service.specs.History.{Done, done_by, history, given, line_after}
+use Rattle.tds_service.specs.Parts.{Part, is_end, hear_part}
+use Rattle.tds_service.specs.Line.{new_line, Act, Mark, Ask, Send, Cancel, Come, Lose, Stage, Idle, Sending, Reading, Cancelling, Broken, reads, skips, skips_to_end, cause, left_by}
+use Rattle.tds_service.specs.History.{done_by, history, line_after}
 use Rattle.tds_service.specs.Promises.{FaultsUnawaited, NothingBehindCancel, attentions, acknowledgements}
 use Rattle.tds_service.proofs.Pairing.{line, with_mark, past}
 

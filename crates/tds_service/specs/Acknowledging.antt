@@ -1,6 +1,6 @@
 -- When a request is settled.
-use Rattle.std.specs.Prelude.{◌≡◌, ℕ, ◌||◌, ◌&&◌, Bool, true, false, List, [], ◌∷◌, if◌then◌else◌}
-use Rattle.tds_service.specs.Parts.{Item, Part, is_end}
+use Rattle.std.specs.Prelude.{◌≡◌, ◌||◌, ◌&&◌, Bool, true, false, List, [], ◌∷◌, if◌then◌else◌}
+use Rattle.tds_service.specs.Parts.{Item, is_end}
 use Rattle.tds_client.specs.Acts.{is_acknowledgement}
 use Rattle.tds_service.specs.Line.{Act, Mark, Ask, Send, Cancel, Come, Lose}
 use Rattle.tds_service.specs.Line.{Answer, Refused, Marked, Asked, Sent, Nothing, Already, Unsent, Stopped, More, Finished, Acked, Fault, Lost}

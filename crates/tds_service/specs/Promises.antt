@@ -1,12 +1,12 @@
 -- What a service promises of each of its connections, whatever its peer sends. Nothing here looks into the machine: all is said of
 -- what was done, answered, sent and told.
-use Rattle.std.specs.Prelude.{◌≡◌, ℕ, ◌+◌, ◌≤◌, ◌==◌, ◌||◌, Bool, true, false, List, [], ◌∷◌, ◌++◌, Option, Some, None, if◌then◌else◌}
+use Rattle.std.specs.Prelude.{◌≡◌, ℕ, ◌+◌, ◌==◌, ◌||◌, Bool, true, false, List, [], ◌∷◌, ◌++◌, Option, Some, None, if◌then◌else◌}
 use Rattle.tds_packet.specs.declared.status.Reset.{Reset}
 use Rattle.tds_packet.specs.declared.status.Reset.TheVariants.{Full, KeepTransaction}
 use Rattle.tds_packet.specs.Resets.{strongest, header_descriptor}
 use Rattle.tds_token.specs.declared.env_change.EnvChange.{EnvChange}
 use Rattle.tds_token.specs.declared.env_change.EnvChange.TheVariants as changes
-use Rattle.tds_service.specs.Parts.{Item, Part, is_end, told}
+use Rattle.tds_service.specs.Parts.{Item, is_end, told}
 use Rattle.tds_client.specs.declared.sign.Sign.{Sign}
 use Rattle.tds_client.specs.declared.sign.Sign.TheVariants as signs
 use Rattle.tds_service.specs.Line.{Act, Mark, Ask, Send, Cancel, Come, Lose}

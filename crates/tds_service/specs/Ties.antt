@@ -12,6 +12,7 @@ use Rattle.tds_client.specs.declared.state.Cancelled.TheVariants as how
 use Rattle.tds_client.specs.declared.state.Taken.{Taken}
 use Rattle.tds_client.specs.declared.state.Taken.TheVariants as takes
 use Rattle.tds_client.specs.Packets as wire
+use Rattle.tds_client.specs.Parts.{left_of}
 use Rattle.tds_client.specs.Packets.{packet_bytes}
 use Rattle.tds_client.specs.Sending.{room}
 use Rattle.tds_client.specs.Session as session
@@ -19,7 +20,7 @@ use Rattle.tds_client.specs.Session.{ClientSession}
 use Rattle.tds_client.specs.Streams.{full_packets}
 use Rattle.tds_listen.specs.Signs.{sign_of}
 use Rattle.tds_service.specs.declared.connection.Connection.{Connection}
-use Rattle.tds_service.specs.Parts.{Item, Part, Close, Goes, Ends, Cut, Fails}
+use Rattle.tds_service.specs.Parts.{Item, Part, Goes, Ends, Cut, Fails}
 use Rattle.tds_service.specs.Line as line
 use Rattle.tds_service.specs.Line.{Line, Stage, Packet, OfRequest, Ignore, Attention, Act, Answer, Told, Nobody, To, turn, not_begun}
 use Rattle.tds_service.specs.History.{Done, history, line_after}
@@ -113,19 +114,15 @@ pub record DoesAll (acts : List (Act Token)) (old new : Line) (before after : Li
   pub line_is : new ≡ line_after old acts
   pub bytes : Appends (sent_in (history old acts)) before after
 
--- How many full packets go out of what is kept and these bytes, where at least one byte stands behind them.
-abbrev pub full_in : ClientSession → session.Stage → List ℕ → ℕ
-full_in s session.Idle bytes = 0
-full_in s (session.Sending kind left packets) bytes = full_packets (room s) (length (left ++ bytes))
-full_in s session.Reading bytes = 0
-full_in s session.Cancelling bytes = 0
-full_in s (session.Broken fault) bytes = 0
+-- As many full packets go out of what is kept and these bytes as have at least one byte behind them.
+abbrev pub full_in : ClientSession → List ℕ → ℕ
+full_in s bytes = full_packets (room s) (length bytes)
 
 abbrev pub putting : Connection → List ℕ → List (Act Token)
-putting c bytes = sends (full_in c.client c.client.stage bytes)
+putting c bytes = sends (full_in c.client (left_of c.client.stage ++ bytes))
 
 abbrev pub finishing : Connection → List (Act Token)
-finishing c = sends (full_in c.client c.client.stage []) ++ line.Send true ∷ []
+finishing c = sends (full_in c.client (left_of c.client.stage)) ++ line.Send true ∷ []
 
 -- ---- What comes
 

@@ -180,11 +180,13 @@ impl Connection {
         if let Err(fault) = self.client.hear_sign(Rules::Any, Sign::Nothing) {
             return Err(ListenFault::Client(fault));
         }
-        let heard = next(&mut self.client, &mut self.walker, piece)?;
-        Ok(Heard {
-            count: heard.count,
-            token: unless_change(heard.token),
-        })
+        match next(&mut self.client, &mut self.walker, piece) {
+            Ok(heard) => Ok(Heard {
+                count: heard.count,
+                token: unless_change(heard.token),
+            }),
+            Err(fault) => Err(fault),
+        }
     }
 
     /// The message that came has ended: its packet with end of message is read to its end (MS-TDS
@@ -217,7 +219,7 @@ impl Connection {
 
 /// The token, where it is no change of a transaction and no end of a reset.
 fn unless_change(token: Option<Token>) -> Option<Token>
-    ensures { listed result ≡ told (items_of token.now) }
+    ensures { listed result ≡ told (items_of token) }
 {
     let told = token?;
     match sign_of(&told) {
