@@ -6,3 +6,8 @@ pub mod Owing
 pub mod Acknowledging
 pub mod Alike
 pub mod Coming
+pub mod Alone
+pub mod Lifted
+pub mod Lends
+pub mod Idle
+pub mod Leases

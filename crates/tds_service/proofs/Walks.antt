@@ -1,5 +1,5 @@
 -- Laws that walk along a history.
-use Rattle.std.proofs.Common.{◌+◌, ◌≤◌, ℕ, suc, Bool, true, false, List, [], ◌∷◌, arith}
+use Rattle.std.proofs.Common.{refl, ◌+◌, ◌≤◌, ℕ, suc, Bool, true, false, List, [], ◌∷◌, arith}
 use Rattle.std.specs.Prelude.{Result, Ok, Err}
 use Rattle.tds_client.specs.declared.fault.ClientFault.TheVariants as faults
 use Rattle.tds_client.specs.declared.heard.Heard.{Heard}
@@ -10,7 +10,7 @@ use Rattle.tds_client.specs.Hearing.{with_done}
 use Rattle.tds_service.specs.Parts.{Part, is_end, hear_part}
 use Rattle.tds_service.specs.Line.{new_line, Act, Mark, Ask, Send, Cancel, Come, Lose, Stage, Idle, Sending, Reading, Cancelling, Broken, reads, skips, skips_to_end, cause, left_by}
 use Rattle.tds_service.specs.History.{done_by, history, line_after}
-use Rattle.tds_service.specs.Promises.{FaultsUnawaited, NothingBehindCancel, attentions, acknowledgements}
+use Rattle.tds_service.specs.Promises.{AsksUnawaited, FaultsUnawaited, NothingBehindCancel, attentions, acknowledgements}
 use Rattle.tds_service.proofs.Pairing.{line, with_mark, past}
 
 -- ---- What comes unawaited
@@ -77,6 +77,64 @@ unawaited n (Broken fault) h (Send last ∷ acts) = (tt, (unawaited n (Broken fa
 unawaited n (Broken fault) h (Cancel ∷ acts) = (tt, (unawaited n (Broken fault) h acts))
 unawaited n (Broken fault) h (Come part ∷ acts) = (tt, (unawaited n (Broken fault) h acts))
 unawaited n (Broken fault) h (Lose ∷ acts) = (tt, (unawaited n (Broken fault) h acts))
+
+-- ---- What is asked
+
+free_reads : {T : Type 0} (n : ℕ) (h : Heard) (part : Part T) (ends : Bool) (result : Result Heard ListenFault) (acts : List (Act T))
+    → ((s : Stage) (h : Heard) → AsksUnawaited (awaits s) (history (line n s h) acts))
+    → AsksUnawaited (awaits Reading) (done_by (Come part) (reads (line n Reading h) part ends result) ∷ history (reads (line n Reading h) part ends result).line acts)
+free_reads n h part ends (Err fault) acts ih = (tt, (ih (Broken (cause fault)) (left_by fault h)))
+free_reads n h part false (Ok heard) acts ih = (tt, (ih Reading heard))
+free_reads n h part true (Ok heard) acts ih = (tt, (ih Idle (with_done heard Awaited)))
+
+free_skips_to_end : {T : Type 0} (n : ℕ) (h heard : Heard) (part : Part T) (done : FinalDone) (acts : List (Act T))
+    → ((s : Stage) (h : Heard) → AsksUnawaited (awaits s) (history (line n s h) acts))
+    → AsksUnawaited (awaits Cancelling) (done_by (Come part) (skips_to_end {T = T} (line n Cancelling h) heard done) ∷ history (skips_to_end {T = T} (line n Cancelling h) heard done).line acts)
+free_skips_to_end n h heard part Awaited acts ih = (tt, (ih Cancelling (with_done heard Awaited)))
+free_skips_to_end n h heard part Answered acts ih = (tt, (ih Cancelling (with_done heard Awaited)))
+free_skips_to_end n h heard part Acknowledged acts ih = (tt, (ih Idle (with_done heard Awaited)))
+
+free_skips : {T : Type 0} (n : ℕ) (h : Heard) (part : Part T) (ends : Bool) (result : Result Heard ListenFault) (acts : List (Act T))
+    → ((s : Stage) (h : Heard) → AsksUnawaited (awaits s) (history (line n s h) acts))
+    → AsksUnawaited (awaits Cancelling) (done_by (Come part) (skips {T = T} (line n Cancelling h) ends result) ∷ history (skips {T = T} (line n Cancelling h) ends result).line acts)
+free_skips n h part ends (Err fault) acts ih = (tt, (ih (Broken (cause fault)) (left_by fault h)))
+free_skips n h part false (Ok heard) acts ih = (tt, (ih Cancelling heard))
+free_skips n h part true (Ok heard) acts ih = free_skips_to_end n h heard part heard.done acts ih
+
+pub free : {T : Type 0} (n : ℕ) (s : Stage) (h : Heard) (acts : List (Act T)) → AsksUnawaited (awaits s) (history (line n s h) acts)
+free n s h [] = tt
+free n Idle h (Mark reset ∷ acts) = (refl, (free n Idle (with_mark h reset) acts))
+free n Idle h (Ask ∷ acts) = (refl, (free (suc n) (Sending false) h acts))
+free n Idle h (Send last ∷ acts) = (tt, (free n Idle h acts))
+free n Idle h (Cancel ∷ acts) = (tt, (free n Idle h acts))
+free n Idle h (Come part ∷ acts) = (tt, (free n (Broken faults.AnswerInIdle) h acts))
+free n Idle h (Lose ∷ acts) = (tt, (free n (Broken faults.Lost) h acts))
+free n (Sending begun) h (Mark reset ∷ acts) = (tt, (free n (Sending begun) h acts))
+free n (Sending begun) h (Ask ∷ acts) = (tt, (free n (Sending begun) h acts))
+free n (Sending begun) h (Send false ∷ acts) = (tt, (free n (Sending true) h acts))
+free n (Sending begun) h (Send true ∷ acts) = (tt, (free n Reading h acts))
+free n (Sending false) h (Cancel ∷ acts) = (tt, (free n Idle h acts))
+free n (Sending true) h (Cancel ∷ acts) = (tt, (free n Cancelling h acts))
+free n (Sending begun) h (Come part ∷ acts) = (tt, (free n (Broken faults.AnswerInSending) h acts))
+free n (Sending begun) h (Lose ∷ acts) = (tt, (free n (Broken faults.Lost) h acts))
+free n Reading h (Mark reset ∷ acts) = (tt, (free n Reading h acts))
+free n Reading h (Ask ∷ acts) = (tt, (free n Reading h acts))
+free n Reading h (Send last ∷ acts) = (tt, (free n Reading h acts))
+free n Reading h (Cancel ∷ acts) = (tt, (free n Cancelling h acts))
+free n Reading h (Come part ∷ acts) = free_reads n h part (is_end part.close) (hear_part false h part) acts (λ s h. free n s h acts)
+free n Reading h (Lose ∷ acts) = (tt, (free n (Broken faults.Lost) h acts))
+free n Cancelling h (Mark reset ∷ acts) = (tt, (free n Cancelling h acts))
+free n Cancelling h (Ask ∷ acts) = (tt, (free n Cancelling h acts))
+free n Cancelling h (Send last ∷ acts) = (tt, (free n Cancelling h acts))
+free n Cancelling h (Cancel ∷ acts) = (tt, (free n Cancelling h acts))
+free n Cancelling h (Come part ∷ acts) = free_skips n h part (is_end part.close) (hear_part true h part) acts (λ s h. free n s h acts)
+free n Cancelling h (Lose ∷ acts) = (tt, (free n (Broken faults.Lost) h acts))
+free n (Broken fault) h (Mark reset ∷ acts) = (tt, (free n (Broken fault) h acts))
+free n (Broken fault) h (Ask ∷ acts) = (tt, (free n (Broken fault) h acts))
+free n (Broken fault) h (Send last ∷ acts) = (tt, (free n (Broken fault) h acts))
+free n (Broken fault) h (Cancel ∷ acts) = (tt, (free n (Broken fault) h acts))
+free n (Broken fault) h (Come part ∷ acts) = (tt, (free n (Broken fault) h acts))
+free n (Broken fault) h (Lose ∷ acts) = (tt, (free n (Broken fault) h acts))
 
 -- ---- Behind a cancel
 

@@ -4,3 +4,5 @@ pub mod History
 pub mod Promises
 pub mod Acknowledging
 pub mod Ties
+pub mod Service
+pub mod Lending

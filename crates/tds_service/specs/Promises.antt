@@ -127,6 +127,26 @@ FaultsUnawaited awaited [] = Unit {0}
 FaultsUnawaited awaited (d ∷ ds) =
     FaultsUnless awaited d.act d.answer × FaultsUnawaited (awaited_by_answer (awaited_by_packets awaited d.sent) d.answer) ds
 
+-- A request is asked, and a reset marked, only where nothing is awaited.
+abbrev pub FreeFor : Bool → Answer → Type 0
+FreeFor awaited (Refused why) = Unit {0}
+FreeFor awaited Marked = awaited ≡ false
+FreeFor awaited (Asked request descriptor) = awaited ≡ false
+FreeFor awaited Sent = Unit {0}
+FreeFor awaited Nothing = Unit {0}
+FreeFor awaited Already = Unit {0}
+FreeFor awaited (Unsent request) = Unit {0}
+FreeFor awaited (Stopped request) = Unit {0}
+FreeFor awaited More = Unit {0}
+FreeFor awaited (Finished request) = Unit {0}
+FreeFor awaited (Acked request) = Unit {0}
+FreeFor awaited (Fault fault) = Unit {0}
+FreeFor awaited Lost = Unit {0}
+
+abbrev pub AsksUnawaited : {T : Type 0} → Bool → List (Done T) → Type 0
+AsksUnawaited awaited [] = Unit {0}
+AsksUnawaited awaited (d ∷ ds) = FreeFor awaited d.answer × AsksUnawaited (awaited_by_answer (awaited_by_packets awaited d.sent) d.answer) ds
+
 -- ---- after_cancel
 
 abbrev pub IsSilent : {T : Type 0} → Answer → List (Done T) → Type 0

@@ -5,7 +5,7 @@ ghost use Rattle.std.specs.Prelude.{◌≡◌, ◌≤◌, ◌+◌, ℕ, List, Bo
 ghost use Rattle.tds_service.specs.Line.{Act, new_line};
 ghost use Rattle.tds_service.specs.History.{history, line_after};
 ghost use Rattle.tds_service.specs.Acknowledging.{SettlesRight};
-ghost use Rattle.tds_service.specs.Promises.{Paired, FaultsUnawaited, NothingBehindCancel};
+ghost use Rattle.tds_service.specs.Promises.{AsksUnawaited, FaultsUnawaited, NothingBehindCancel, Paired};
 ghost use Rattle.tds_service.specs.Promises.{attentions, acknowledgements};
 ghost use Rattle.tds_service.specs.Promises.{AsksAsOwed, LeavesNoneOwed, NamesAsHeard};
 ghost use Rattle.tds_service.specs.Promises.{nothing_known};
@@ -15,9 +15,11 @@ pub fn paired<T>()
     ensures { (acts : List (Act T)) → Paired (history new_line acts) }
 {}
 
-/// What comes where no answer is awaited is a fault.
+/// What comes where neither an answer nor an acknowledgement is awaited is a fault, and a request is
+/// asked only there: behind a cancel, once it is acknowledged.
 pub fn unawaited<T>()
-    ensures { (acts : List (Act T)) → FaultsUnawaited Bool.false (history new_line acts) }
+    ensures faults { (acts : List (Act T)) → FaultsUnawaited Bool.false (history new_line acts) }
+    ensures asks { (acts : List (Act T)) → AsksUnawaited Bool.false (history new_line acts) }
 {}
 
 /// Behind its cancel a request is given nothing.

@@ -3,5 +3,6 @@
 
 mod connection;
 pub mod laws;
+pub mod table_laws;
 
 pub use connection::Connection;

@@ -1,0 +1,377 @@
+-- What is done on a connection comes out as on a connection alone.
+use Rattle.std.proofs.Common.{◌≡◌, ◌∙◌, ◌<◌, ◌≤◌, ◌⊎◌, ◌==◌, ◌&&◌, ℕ, suc, Bool, true, false, List, [], ◌∷◌, ◌++◌, length, refl, sym, ap, subst, arith, inl, inr}
+use Rattle.std.proofs.lemmas.Bool.Decides.{nat_tests}
+use Rattle.std.specs.Prelude.{Option, Some, None, nat_lt, if◌then◌else◌}
+use Rattle.tds_packet.specs.declared.status.Reset.TheVariants.{Full, KeepTransaction}
+use Rattle.tds_service.specs.Parts.{Part}
+use Rattle.tds_service.specs.Line.{Line, new_line, Act, Stage}
+use Rattle.tds_service.specs.Line as line
+use Rattle.tds_service.specs.History.{Done, done_by, history, line_after, acts_of}
+use Rattle.tds_service.specs.Service.{Place, Leased, Kept, Seat, Service, new_service, Call, Lease, Resume, Ask, Send, Cancel, GiveBack, Keep, Abandon, Came, Lost, Reply, Unknown, NotNow, AllInUse, Lent, Ticket, Did, Back, Step, nothing, seat_numbered, find_by, change_by, has_lease, has_ticket, has_number, is_lendable, placed, does, rests, drained, is_idle, is_open, acts, opens, lends, resumes, gives_back, keeps_it, abandons, hears, loses, step, steps, on_one, on}
+
+-- ---- Histories joined
+
+pub acts_of_history : {T : Type 0} (l : Line) (xs : List (Act T)) → acts_of (history l xs) ≡ xs
+acts_of_history l [] = refl
+acts_of_history l (x ∷ xs) = ap (λ ys. x ∷ ys) (acts_of_history (line.turn l x).line xs)
+
+pub acts_of_both : {T : Type 0} (a b : List (Done T)) → acts_of (a ++ b) ≡ acts_of a ++ acts_of b
+acts_of_both [] b = refl
+acts_of_both (d ∷ ds) b = ap (λ ys. d.act ∷ ys) (acts_of_both ds b)
+
+pub history_both : {T : Type 0} (l : Line) (xs ys : List (Act T)) → history l (xs ++ ys) ≡ history l xs ++ history (line_after l xs) ys
+history_both l [] ys = refl
+history_both l (x ∷ xs) ys = ap (λ ds. done_by x (line.turn l x) ∷ ds) (history_both (line.turn l x).line xs ys)
+
+joins : {T : Type 0} (l : Line) (xs : List (Act T)) (rest : List (Done T)) → rest ≡ history (line_after l xs) (acts_of rest)
+    → history l xs ++ rest ≡ history l (acts_of (history l xs ++ rest))
+joins l xs rest h =
+    ap (λ (ds : List (Done _)). history l xs ++ ds) h ∙ sym (history_both l xs (acts_of rest))
+    ∙ ap (λ (ys : List (Act _)). history l (ys ++ acts_of rest)) (sym (acts_of_history l xs)) ∙ ap (history l) (sym (acts_of_both (history l xs) rest))
+
+-- ---- Finding
+
+test_cases : (b : Bool) → (b ≡ true) ⊎ (b ≡ false)
+test_cases true = inl refl
+test_cases false = inr refl
+
+pub same_number : (m n : ℕ) → (m == n) ≡ true → m ≡ n
+same_number m n e = grind (arith, nat_tests)
+
+pub not_both : (k m n : ℕ) → (m == n) ≡ false → (k == n) ≡ true → (k == m) ≡ false
+not_both k m n e f = grind (arith, nat_tests)
+
+-- each number is of one connection
+abbrev pub Unique : List Seat → Type 0
+Unique [] = Unit {0}
+Unique (c ∷ cs) = (seat_numbered c.number cs ≡ None) × Unique cs
+
+not_none : {A : Type 0} (x : Option Seat) (c : Seat) → x ≡ Some c → x ≡ None → A
+not_none x c e f = let u : Some c ≡ None = sym e ∙ f in absurd (let v : ⊥ = cc in v)
+
+-- of two connections of which one is found behind the other, the numbers differ
+differ_by : (a b : ℕ) (t : Bool) (cs : List Seat) (d : Seat) → (a == b) ≡ t → seat_numbered a cs ≡ None → seat_numbered b cs ≡ Some d → (a == b) ≡ false
+differ_by a b true cs d e none some =
+    let same : a ≡ b = same_number a b e in
+    not_none (seat_numbered b cs) d some (subst (λ (k : ℕ). seat_numbered k cs ≡ None) same none)
+differ_by a b false cs d e none some = e
+
+differ : (a b : ℕ) (cs : List Seat) (d : Seat) → seat_numbered a cs ≡ None → seat_numbered b cs ≡ Some d → (a == b) ≡ false
+differ a b cs d none some = differ_by a b (a == b) cs d refl none some
+
+-- what a test finds is the one of its number
+is_found_by : (test : Seat → Bool) (d c : Seat) (cs : List Seat) (b : Bool) → seat_numbered c.number cs ≡ None
+    → (if b then Some c else find_by test cs) ≡ Some d → (find_by test cs ≡ Some d → seat_numbered d.number cs ≡ Some d)
+    → (if c.number == d.number then Some c else seat_numbered d.number cs) ≡ Some d
+is_found_by test d c cs true none e ih =
+    let same : c ≡ d = cc in
+    subst (λ (x : Seat). (if c.number == x.number then Some c else seat_numbered x.number cs) ≡ Some x) same
+    (let t : (c.number == c.number) ≡ true = grind (arith, nat_tests) in rw t refl)
+is_found_by test d c cs false none e ih =
+    let found : seat_numbered d.number cs ≡ Some d = ih e in
+    let ne : (c.number == d.number) ≡ false = differ c.number d.number cs d none found in
+    rw ne found
+
+pub is_found : (test : Seat → Bool) (d : Seat) (cs : List Seat) → Unique cs → find_by test cs ≡ Some d → seat_numbered d.number cs ≡ Some d
+is_found test d [] u e = cc
+is_found test d (c ∷ cs) u e = is_found_by test d c cs (test c) u.0 e (is_found test d cs u.1)
+
+-- ---- A connection that is changed
+
+same_seat : (test : Seat → Bool) (c d : Seat) (cs : List Seat) (b : Bool) → b ≡ true → (if b then Some c else find_by test cs) ≡ Some d → c ≡ d
+same_seat test c d cs true e f = cc
+same_seat test c d cs false e f = cc
+
+-- at another number nothing changes
+placed_other : (m n : ℕ) (place : Option Place) (l : Line) (cs : List Seat) → (n == m) ≡ false → seat_numbered m (placed n place l cs) ≡ seat_numbered m cs
+placed_other m n None l cs e = refl
+placed_other m n (Some place) l cs e = rw e
+
+change_other_by : (test : Seat → Bool) (m : ℕ) (d c : Seat) (place : Option Place) (l : Line) (cs : List Seat) (b : Bool) → (d.number == m) ≡ false
+    → (if b then Some c else find_by test cs) ≡ Some d → (find_by test cs ≡ Some d → seat_numbered m (change_by test place l cs) ≡ seat_numbered m cs)
+    → seat_numbered m (if b then placed c.number place l cs else c ∷ change_by test place l cs) ≡ (if c.number == m then Some c else seat_numbered m cs)
+change_other_by test m d c place l cs true ne e ih =
+    let same : c ≡ d = cc in
+    let other : (c.number == m) ≡ false = ap (λ (x : Seat). x.number == m) same ∙ ne in
+    rw other (placed_other m c.number place l cs other)
+change_other_by test m d c place l cs false ne e ih = ap (λ (x : Option Seat). if c.number == m then Some c else x) (ih e)
+
+pub change_other : (test : Seat → Bool) (m : ℕ) (d : Seat) (place : Option Place) (l : Line) (cs : List Seat) → (d.number == m) ≡ false → find_by test cs ≡ Some d
+    → seat_numbered m (change_by test place l cs) ≡ seat_numbered m cs
+change_other test m d place l [] ne e = refl
+change_other test m d place l (c ∷ cs) ne e = change_other_by test m d c place l cs (test c) ne e (change_other test m d place l cs ne)
+
+-- taken out it is gone
+change_out_by : (test : Seat → Bool) (d c : Seat) (l : Line) (cs : List Seat) (b : Bool) → Unique (c ∷ cs) → (if b then Some c else find_by test cs) ≡ Some d
+    → (find_by test cs ≡ Some d → seat_numbered d.number (change_by test None l cs) ≡ None)
+    → seat_numbered d.number (if b then cs else c ∷ change_by test None l cs) ≡ None
+change_out_by test d c l cs true u e ih = let same : c ≡ d = cc in subst (λ (x : Seat). seat_numbered x.number cs ≡ None) same u.0
+change_out_by test d c l cs false u e ih =
+    let ne : (c.number == d.number) ≡ false = differ c.number d.number cs d u.0 (is_found test d cs u.1 e) in
+    rw ne (ih e)
+
+pub change_out : (test : Seat → Bool) (d : Seat) (l : Line) (cs : List Seat) → Unique cs → find_by test cs ≡ Some d → seat_numbered d.number (change_by test None l cs) ≡ None
+change_out test d l [] u e = refl
+change_out test d l (c ∷ cs) u e = change_out_by test d c l cs (test c) u e (change_out test d l cs u.1)
+
+-- else it is what was put
+change_here_by : (test : Seat → Bool) (d c : Seat) (place : Place) (l : Line) (cs : List Seat) (b : Bool) → Unique (c ∷ cs) → (if b then Some c else find_by test cs) ≡ Some d
+    → (find_by test cs ≡ Some d → seat_numbered d.number (change_by test (Some place) l cs) ≡ Some (record { number = d.number; place = place; line = l }))
+    → seat_numbered d.number (if b then (record { number = c.number; place = place; line = l }) ∷ cs else c ∷ change_by test (Some place) l cs)
+    ≡ Some (record { number = d.number; place = place; line = l })
+change_here_by test d c place l cs true u e ih =
+    let same : c ≡ d = cc in
+    subst (λ (x : Seat). seat_numbered x.number ((record { number = c.number; place = place; line = l }) ∷ cs) ≡ Some (record { number = x.number; place = place; line = l })) same
+    (let t : (c.number == c.number) ≡ true = grind (arith, nat_tests) in rw t refl)
+change_here_by test d c place l cs false u e ih =
+    let ne : (c.number == d.number) ≡ false = differ c.number d.number cs d u.0 (is_found test d cs u.1 e) in
+    rw ne (ih e)
+
+pub change_here : (test : Seat → Bool) (d : Seat) (place : Place) (l : Line) (cs : List Seat) → Unique cs → find_by test cs ≡ Some d
+    → seat_numbered d.number (change_by test (Some place) l cs) ≡ Some (record { number = d.number; place = place; line = l })
+change_here test d place l [] u e = cc
+change_here test d place l (c ∷ cs) u e = change_here_by test d c place l cs (test c) u e (change_here test d place l cs u.1)
+
+-- and the numbers stay of one each
+placed_unique : (c : Seat) (place : Option Place) (l : Line) (cs : List Seat) → Unique (c ∷ cs) → Unique (placed c.number place l cs)
+placed_unique c None l cs u = u.1
+placed_unique c (Some place) l cs u = u
+
+change_unique_by : (test : Seat → Bool) (d c : Seat) (place : Option Place) (l : Line) (cs : List Seat) (b : Bool) → Unique (c ∷ cs) → (if b then Some c else find_by test cs) ≡ Some d
+    → (find_by test cs ≡ Some d → Unique (change_by test place l cs))
+    → Unique (if b then placed c.number place l cs else c ∷ change_by test place l cs)
+change_unique_by test d c place l cs true u e ih = placed_unique c place l cs u
+change_unique_by test d c place l cs false u e ih =
+    let ne : (c.number == d.number) ≡ false = differ c.number d.number cs d u.0 (is_found test d cs u.1 e) in
+    let ne' : (d.number == c.number) ≡ false = grind (arith, nat_tests) in
+    (change_other test c.number d place l cs ne' e ∙ u.0, ih e)
+
+pub change_unique : (test : Seat → Bool) (d : Seat) (place : Option Place) (l : Line) (cs : List Seat) → Unique cs → find_by test cs ≡ Some d → Unique (change_by test place l cs)
+change_unique test d place l [] u e = tt
+change_unique test d place l (c ∷ cs) u e = change_unique_by test d c place l cs (test c) u e (change_unique test d place l cs u.1)
+
+-- a new one
+added_by : (m : ℕ) (c d : Seat) (cs : List Seat) (b : Bool) → seat_numbered m (cs ++ d ∷ []) ≡ seat_numbered m cs
+    → (if b then Some c else seat_numbered m (cs ++ d ∷ [])) ≡ (if b then Some c else seat_numbered m cs)
+added_by m c d cs true ih = refl
+added_by m c d cs false ih = ih
+
+pub added_other : (m : ℕ) (d : Seat) (cs : List Seat) → (d.number == m) ≡ false → seat_numbered m (cs ++ d ∷ []) ≡ seat_numbered m cs
+added_other m d [] e = rw e
+added_other m d (c ∷ cs) e = added_by m c d cs (c.number == m) (added_other m d cs e)
+
+added_here_by : (d c : Seat) (cs : List Seat) (b : Bool) → (if b then Some c else seat_numbered d.number cs) ≡ None
+    → (seat_numbered d.number cs ≡ None → seat_numbered d.number (cs ++ d ∷ []) ≡ Some d)
+    → (if b then Some c else seat_numbered d.number (cs ++ d ∷ [])) ≡ Some d
+added_here_by d c cs true h ih = cc
+added_here_by d c cs false h ih = ih h
+
+pub added_here : (d : Seat) (cs : List Seat) → seat_numbered d.number cs ≡ None → seat_numbered d.number (cs ++ d ∷ []) ≡ Some d
+added_here d [] h = let e : (d.number == d.number) ≡ true = grind (arith, nat_tests) in rw e
+added_here d (c ∷ cs) h = added_here_by d c cs (c.number == d.number) h (added_here d cs)
+
+none_behind : (m : ℕ) (c : Seat) (cs : List Seat) (b : Bool) → (c.number == m) ≡ b → (if b then Some c else seat_numbered m cs) ≡ None
+    → ((c.number == m) ≡ false) × (seat_numbered m cs ≡ None)
+none_behind m c cs true e h = cc
+none_behind m c cs false e h = (e, h)
+
+pub added_unique : (d : Seat) (cs : List Seat) → Unique cs → seat_numbered d.number cs ≡ None → Unique (cs ++ d ∷ [])
+added_unique d [] u h = (refl, tt)
+added_unique d (c ∷ cs) u h =
+    let k = none_behind d.number c cs (c.number == d.number) refl h in
+    let ne : (c.number == d.number) ≡ false = k.0 in
+    let ne' : (d.number == c.number) ≡ false = grind (arith, nat_tests) in
+    (added_other c.number d cs ne' ∙ u.0, added_unique d cs u.1 k.1)
+
+-- ---- One call
+
+-- no connection has a number that was not used
+pub record Tidy (s : Service) : Type 0 where
+  pub fresh : (m : ℕ) → s.last < m → seat_numbered m s.seats ≡ None
+  pub unique : Unique s.seats
+
+-- the connection of this number is so; or it is gone; or it is still to come
+abbrev pub Fits : Option Seat → ℕ → ℕ → Line → Type 0
+Fits (Some c) n last l = c.line ≡ l
+Fits None n last l = (n ≤ last) ⊎ (l ≡ new_line)
+
+abbrev pub FitsIn : Service → ℕ → Line → Type 0
+FitsIn s n l = Fits (seat_numbered n s.seats) n s.last l
+
+pub record IsAlone {T : Type 0} (n : ℕ) (l : Line) (t : Step T) : Type 0 where
+  pub tidy : Tidy t.service
+  pub here : (t.number == n) ≡ true → (xs : List (Act T)) × (t.dones ≡ history l xs) × FitsIn t.service n (line_after l xs)
+  pub other : (t.number == n) ≡ false → FitsIn t.service n l
+
+nothing_alone : {T : Type 0} (n : ℕ) (l : Line) (s : Service) (reply : Reply) → Tidy s → FitsIn s n l → IsAlone {T = T} n l (nothing s reply)
+nothing_alone n l s reply tidy fits = record { tidy = tidy; here = λ e. ([], refl, fits); other = λ e. fits }
+
+-- a number that is found was used
+used : (s : Service) (n : ℕ) (c : Seat) → Tidy s → seat_numbered n s.seats ≡ Some c → (b : Bool) → nat_lt s.last n ≡ b → n ≤ s.last
+used s n c tidy e true f =
+    let lt : s.last < n = grind (arith, nat_tests) in
+    let none : seat_numbered n s.seats ≡ None = tidy.fresh n lt in
+    let u : Some c ≡ None = sym e ∙ none in cc
+used s n c tidy e false f = grind (arith, nat_tests)
+
+pub fits_here : (s : Service) (n : ℕ) (c : Seat) (l : Line) (found : Option Seat) → found ≡ Some c → Fits found n s.last l → c.line ≡ l
+fits_here s n c l (Some d) e fits = let same : d ≡ c = cc in ap (λ (x : Seat). x.line) (sym same) ∙ fits
+fits_here s n c l None e fits = cc
+
+does_here : {T : Type 0} (n : ℕ) (l : Line) (s : Service) (given : ℕ) (test : Seat → Bool) (c : Seat) (place : Option Place) (xs : List (Act T)) (reply : Reply)
+    → Tidy s → find_by test s.seats ≡ Some c → c.number ≡ n → c.line ≡ l
+    → FitsIn (does s given test c place xs reply).service n (line_after l xs)
+does_here n l s given test c None xs reply tidy e is same =
+    let gone : seat_numbered n (change_by test None (line_after c.line xs) s.seats) ≡ None =
+    subst (λ (k : ℕ). seat_numbered k (change_by test None (line_after c.line xs) s.seats) ≡ None) is (change_out test c (line_after c.line xs) s.seats tidy.unique e) in
+    let under : n ≤ s.last = subst (λ (k : ℕ). k ≤ s.last) is (used s c.number c tidy (is_found test c s.seats tidy.unique e) (nat_lt s.last c.number) refl) in
+    subst (λ (x : Option Seat). Fits x n s.last (line_after l xs)) (sym gone) (inl under)
+does_here {T} n l s given test c (Some place) xs reply tidy e is same =
+    let new : Seat = record { number = c.number; place = place; line = line_after c.line xs } in
+    let here : seat_numbered n (change_by test (Some place) (line_after c.line xs) s.seats) ≡ Some new =
+    subst (λ (k : ℕ). seat_numbered k (change_by test (Some place) (line_after c.line xs) s.seats) ≡ Some new) is
+    (change_here test c place (line_after c.line xs) s.seats tidy.unique e) in
+    subst (λ (x : Option Seat). Fits x n s.last (line_after l xs)) (sym here) (ap (λ (k : Line). line_after {T = T} k xs) same)
+
+does_alone : {T : Type 0} (n : ℕ) (l : Line) (s : Service) (given : ℕ) (test : Seat → Bool) (c : Seat) (place : Option Place) (xs : List (Act T)) (reply : Reply)
+    → Tidy s → FitsIn s n l → find_by test s.seats ≡ Some c → IsAlone n l (does s given test c place xs reply)
+does_alone n l s given test c place xs reply tidy fits e =
+    let numbered : seat_numbered c.number s.seats ≡ Some c = is_found test c s.seats tidy.unique e in
+    let under : c.number ≤ s.last = used s c.number c tidy numbered (nat_lt s.last c.number) refl in
+    record {
+      tidy = record {
+        fresh = λ m lt. let ne : (c.number == m) ≡ false = grind (arith, nat_tests) in change_other test m c place (line_after c.line xs) s.seats ne e ∙ tidy.fresh m lt;
+        unique = change_unique test c place (line_after c.line xs) s.seats tidy.unique e;
+      };
+      here = λ f.
+          let is : c.number ≡ n = same_number c.number n f in
+          let at_n : seat_numbered n s.seats ≡ Some c = subst (λ (k : ℕ). seat_numbered k s.seats ≡ Some c) is numbered in
+          let same : c.line ≡ l = fits_here s n c l (seat_numbered n s.seats) at_n fits in
+          (xs, ap (λ (k : Line). history k xs) same, does_here n l s given test c place xs reply tidy e is same);
+      other = λ f. subst (λ (x : Option Seat). Fits x n s.last l) (sym (change_other test n c place (line_after c.line xs) s.seats f e)) fits;
+    }
+
+-- ---- Each call
+
+acts_alone : {T : Type 0} (n : ℕ) (l : Line) (s : Service) (test : Seat → Bool) (act : Act T) (seat : Option Seat) → Tidy s → FitsIn s n l → find_by test s.seats ≡ seat
+    → IsAlone n l (acts s test act seat)
+acts_alone n l s test act None tidy fits e = nothing_alone n l s Unknown tidy fits
+acts_alone n l s test act (Some c) tidy fits e = does_alone n l s s.given test c (Some c.place) (act ∷ []) Did tidy fits e
+
+opens_fits : (n : ℕ) (l : Line) (s : Service) (d : Seat) (b : Bool) → d.number ≡ suc s.last → d.line ≡ new_line → Tidy s → FitsIn s n l → (suc s.last == n) ≡ b
+    → (found : Option Seat) → seat_numbered n s.seats ≡ found → Fits (seat_numbered n (s.seats ++ d ∷ [])) n (suc s.last) l
+opens_fits n l s d false is new tidy fits e (Some c) f =
+    let ne : (d.number == n) ≡ false = ap (λ (k : ℕ). k == n) is ∙ e in
+    let fits_c : Fits (Some c) n s.last l = subst (λ (x : Option Seat). Fits x n s.last l) f fits in
+    subst (λ (x : Option Seat). Fits x n (suc s.last) l) (sym (added_other n d s.seats ne ∙ f)) fits_c
+opens_fits n l s d false is new tidy fits e None f =
+    let ne : (d.number == n) ≡ false = ap (λ (k : ℕ). k == n) is ∙ e in
+    let fits_n : Fits None n s.last l = subst (λ (x : Option Seat). Fits x n s.last l) f fits in
+    subst (λ (x : Option Seat). Fits x n (suc s.last) l) (sym (added_other n d s.seats ne ∙ f))
+    (elim fits_n [ inl h ↦ inl (omega arith) | inr h ↦ inr h ])
+opens_fits n l s d true is new tidy fits e found f =
+    let at_n : suc s.last ≡ n = same_number (suc s.last) n e in
+    let none : seat_numbered n s.seats ≡ None = tidy.fresh n (omega (arith, at_n)) in
+    let fits_n : Fits None n s.last l = subst (λ (x : Option Seat). Fits x n s.last l) none fits in
+    let none_d : seat_numbered d.number s.seats ≡ None = subst (λ (k : ℕ). seat_numbered k s.seats ≡ None) (sym (is ∙ at_n)) none in
+    let here : seat_numbered n (s.seats ++ d ∷ []) ≡ Some d = subst (λ (k : ℕ). seat_numbered k (s.seats ++ d ∷ []) ≡ Some d) (is ∙ at_n) (added_here d s.seats none_d) in
+    subst (λ (x : Option Seat). Fits x n (suc s.last) l) (sym here)
+    (elim fits_n [ inl h ↦ absurd (omega (arith, at_n)) | inr h ↦ new ∙ sym h ])
+
+opens_alone : {T : Type 0} (n : ℕ) (l : Line) (s : Service) (room : Bool) → Tidy s → FitsIn s n l → IsAlone {T = T} n l (opens s room)
+opens_alone n l s false tidy fits = nothing_alone n l s AllInUse tidy fits
+opens_alone n l s true tidy fits =
+    let d : Seat = record { number = suc s.last; place = Leased (suc s.given); line = new_line } in
+    let after = opens_fits n l s d (suc s.last == n) refl refl tidy fits refl (seat_numbered n s.seats) refl in
+    record {
+      tidy = record {
+        fresh = λ m lt. let ne : (suc s.last == m) ≡ false = grind (arith, nat_tests) in added_other m d s.seats ne ∙ tidy.fresh m (omega arith);
+        unique = added_unique d s.seats tidy.unique (tidy.fresh (suc s.last) (omega arith));
+      };
+      here = λ e. ([], refl, after);
+      other = λ e. after;
+    }
+
+lends_alone : {T : Type 0} (n : ℕ) (l : Line) (s : Service) (seat : Option Seat) → Tidy s → FitsIn s n l → find_by is_lendable s.seats ≡ seat → IsAlone {T = T} n l (lends s seat)
+lends_alone n l s None tidy fits e = opens_alone n l s (nat_lt (length s.seats) s.max) tidy fits
+lends_alone n l s (Some c) tidy fits e =
+    does_alone n l s (suc s.given) is_lendable c (Some (Leased (suc s.given))) (line.Mark Full ∷ []) (Lent (suc s.given) c.number true) tidy fits e
+
+resumes_by : {T : Type 0} (n : ℕ) (l : Line) (s : Service) (test : Seat → Bool) (c : Seat) (b : Bool) → Tidy s → FitsIn s n l → find_by test s.seats ≡ Some c
+    → IsAlone {T = T} n l (if b then does s (suc s.given) test c (Some (Leased (suc s.given))) (line.Mark KeepTransaction ∷ []) (Lent (suc s.given) c.number true) else nothing s NotNow)
+resumes_by n l s test c true tidy fits e =
+    does_alone n l s (suc s.given) test c (Some (Leased (suc s.given))) (line.Mark KeepTransaction ∷ []) (Lent (suc s.given) c.number true) tidy fits e
+resumes_by n l s test c false tidy fits e = nothing_alone n l s NotNow tidy fits
+
+resumes_alone : {T : Type 0} (n : ℕ) (l : Line) (s : Service) (test : Seat → Bool) (seat : Option Seat) → Tidy s → FitsIn s n l → find_by test s.seats ≡ seat
+    → IsAlone {T = T} n l (resumes s test seat)
+resumes_alone n l s test None tidy fits e = nothing_alone n l s Unknown tidy fits
+resumes_alone n l s test (Some c) tidy fits e = resumes_by n l s test c (is_idle c.line.stage) tidy fits e
+
+gives_back_alone : {T : Type 0} (n : ℕ) (l : Line) (s : Service) (test : Seat → Bool) (seat : Option Seat) → Tidy s → FitsIn s n l → find_by test s.seats ≡ seat
+    → IsAlone {T = T} n l (gives_back s test seat)
+gives_back_alone n l s test None tidy fits e = nothing_alone n l s Unknown tidy fits
+gives_back_alone {T} n l s test (Some c) tidy fits e =
+    let place = rests (line_after {T = T} c.line (line.Cancel ∷ [])).stage in
+    does_alone n l s s.given test c place (line.Cancel ∷ []) (Back place) tidy fits e
+
+keeps_by : {T : Type 0} (n : ℕ) (l : Line) (s : Service) (test : Seat → Bool) (c : Seat) (b : Bool) → Tidy s → FitsIn s n l → find_by test s.seats ≡ Some c
+    → IsAlone {T = T} n l (if b then does s (suc s.given) test c (Some (Kept (suc s.given))) [] (Ticket (suc s.given)) else nothing s NotNow)
+keeps_by n l s test c true tidy fits e = does_alone n l s (suc s.given) test c (Some (Kept (suc s.given))) [] (Ticket (suc s.given)) tidy fits e
+keeps_by n l s test c false tidy fits e = nothing_alone n l s NotNow tidy fits
+
+keeps_alone : {T : Type 0} (n : ℕ) (l : Line) (s : Service) (test : Seat → Bool) (seat : Option Seat) → Tidy s → FitsIn s n l → find_by test s.seats ≡ seat
+    → IsAlone {T = T} n l (keeps_it s test seat)
+keeps_alone n l s test None tidy fits e = nothing_alone n l s Unknown tidy fits
+keeps_alone n l s test (Some c) tidy fits e =
+    keeps_by n l s test c (is_idle c.line.stage && is_open c.line.heard.mark c.line.heard.descriptor) tidy fits e
+
+abandons_alone : {T : Type 0} (n : ℕ) (l : Line) (s : Service) (test : Seat → Bool) (seat : Option Seat) → Tidy s → FitsIn s n l → find_by test s.seats ≡ seat
+    → IsAlone {T = T} n l (abandons s test seat)
+abandons_alone n l s test None tidy fits e = nothing_alone n l s Unknown tidy fits
+abandons_alone n l s test (Some c) tidy fits e = does_alone n l s s.given test c (rests c.line.stage) [] (Back (rests c.line.stage)) tidy fits e
+
+hears_alone : {T : Type 0} (n : ℕ) (l : Line) (s : Service) (test : Seat → Bool) (part : Part T) (seat : Option Seat) → Tidy s → FitsIn s n l → find_by test s.seats ≡ seat
+    → IsAlone n l (hears s test part seat)
+hears_alone n l s test part None tidy fits e = nothing_alone n l s Unknown tidy fits
+hears_alone n l s test part (Some c) tidy fits e =
+    does_alone n l s s.given test c (Some (drained c.place (line_after c.line (line.Come part ∷ [])).stage)) (line.Come part ∷ []) Did tidy fits e
+
+loses_alone : {T : Type 0} (n : ℕ) (l : Line) (s : Service) (test : Seat → Bool) (seat : Option Seat) → Tidy s → FitsIn s n l → find_by test s.seats ≡ seat
+    → IsAlone {T = T} n l (loses s test seat)
+loses_alone n l s test None tidy fits e = nothing_alone n l s Unknown tidy fits
+loses_alone n l s test (Some c) tidy fits e = does_alone n l s s.given test c None (line.Lose ∷ []) (Back None) tidy fits e
+
+pub step_alone : {T : Type 0} (n : ℕ) (l : Line) (s : Service) (call : Call T) → Tidy s → FitsIn s n l → IsAlone n l (step s call)
+step_alone n l s Lease tidy fits = lends_alone n l s (find_by is_lendable s.seats) tidy fits refl
+step_alone n l s (Resume ticket) tidy fits = resumes_alone n l s (has_ticket ticket) (find_by (has_ticket ticket) s.seats) tidy fits refl
+step_alone n l s (Ask lease) tidy fits = acts_alone n l s (has_lease lease) line.Ask (find_by (has_lease lease) s.seats) tidy fits refl
+step_alone n l s (Send lease last) tidy fits = acts_alone n l s (has_lease lease) (line.Send last) (find_by (has_lease lease) s.seats) tidy fits refl
+step_alone n l s (Cancel lease) tidy fits = acts_alone n l s (has_lease lease) line.Cancel (find_by (has_lease lease) s.seats) tidy fits refl
+step_alone n l s (GiveBack lease) tidy fits = gives_back_alone n l s (has_lease lease) (find_by (has_lease lease) s.seats) tidy fits refl
+step_alone n l s (Keep lease) tidy fits = keeps_alone n l s (has_lease lease) (find_by (has_lease lease) s.seats) tidy fits refl
+step_alone n l s (Abandon ticket) tidy fits = abandons_alone n l s (has_ticket ticket) (find_by (has_ticket ticket) s.seats) tidy fits refl
+step_alone n l s (Came number part) tidy fits = hears_alone n l s (has_number number) part (find_by (has_number number) s.seats) tidy fits refl
+step_alone n l s (Lost number) tidy fits = loses_alone n l s (has_number number) (find_by (has_number number) s.seats) tidy fits refl
+
+-- ---- All calls
+
+alone_by : {T : Type 0} (n : ℕ) (l : Line) (t : Step T) (b : Bool) (rest : List (Done T)) → (t.number == n) ≡ b → IsAlone n l t
+    → ((k : Line) → FitsIn t.service n k → rest ≡ history k (acts_of rest))
+    → on_one b t.dones rest ≡ history l (acts_of (on_one b t.dones rest))
+alone_by n l t false rest e k ih = ih l (k.other e)
+alone_by n l t true rest e k ih =
+    let h = k.here e in
+    subst (λ (ds : List (Done _)). ds ++ rest ≡ history l (acts_of (ds ++ rest))) (sym h.1) (joins l h.0 rest (ih (line_after l h.0) h.2))
+
+pub alone : {T : Type 0} (n : ℕ) (l : Line) (s : Service) (calls : List (Call T)) → Tidy s → FitsIn s n l
+    → on n (steps s calls) ≡ history l (acts_of (on n (steps s calls)))
+alone n l s [] tidy fits = refl
+alone n l s (call ∷ calls) tidy fits =
+    let k = step_alone n l s call tidy fits in
+    alone_by n l (step s call) ((step s call).number == n) (on n (steps (step s call).service calls)) refl k
+    (λ l f. alone n l (step s call).service calls k.tidy f)
+
+pub each_alone : {T : Type 0} (max n : ℕ) (calls : List (Call T))
+    → on n (steps (new_service max) calls) ≡ history new_line (acts_of (on n (steps (new_service max) calls)))
+each_alone max n calls = alone n new_line (new_service max) calls (record { fresh = λ m lt. refl; unique = tt }) (inr refl)

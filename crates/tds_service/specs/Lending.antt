@@ -1,0 +1,57 @@
+-- Which connections are lent, and how.
+use Rattle.std.specs.Prelude.{◌≡◌, Bool, true, false, List, [], ◌∷◌}
+use Rattle.tds_packet.specs.declared.status.Reset.{Reset}
+use Rattle.tds_packet.specs.declared.status.Reset.TheVariants.{Full, KeepTransaction}
+use Rattle.tds_service.specs.Line.{Act}
+use Rattle.tds_service.specs.Line as line
+use Rattle.tds_service.specs.History.{Done}
+use Rattle.tds_service.specs.Promises.{awaited_by_answer, awaited_by_packets}
+use Rattle.tds_service.specs.Service.{Call, Lease, Resume, Ask, Send, Cancel, GiveBack, Keep, Abandon, Came, Lost, Reply, Unknown, AllInUse, NotNow, Lent, Ticket, Did, Back, Step, on}
+
+-- Whether an answer or an acknowledgement is awaited behind what was done.
+abbrev pub awaited : {T : Type 0} → Bool → List (Done T) → Bool
+awaited b [] = b
+awaited b (d ∷ ds) = awaited (awaited_by_answer (awaited_by_packets b d.sent) d.answer) ds
+
+-- A connection that somebody had before is lent only where nothing is awaited on it.
+abbrev pub LendsIdle : {T : Type 0} → List (Step T) → Reply → Type 0
+LendsIdle before Unknown = Unit {0}
+LendsIdle before AllInUse = Unit {0}
+LendsIdle before NotNow = Unit {0}
+LendsIdle before (Lent lease number true) = awaited false (on number before) ≡ false
+LendsIdle before (Lent lease number false) = Unit {0}
+LendsIdle before (Ticket ticket) = Unit {0}
+LendsIdle before Did = Unit {0}
+LendsIdle before (Back place) = Unit {0}
+
+-- What is marked as it is lent again: a full reset, and for a ticket the one that keeps the transaction.
+abbrev pub reset_of : {T : Type 0} → Call T → Reset
+reset_of (Resume ticket) = KeepTransaction
+reset_of Lease = Full
+reset_of (Ask lease) = Full
+reset_of (Send lease last) = Full
+reset_of (Cancel lease) = Full
+reset_of (GiveBack lease) = Full
+reset_of (Keep lease) = Full
+reset_of (Abandon ticket) = Full
+reset_of (Came number part) = Full
+reset_of (Lost number) = Full
+
+abbrev pub marking : {T : Type 0} → Reset → Done T
+marking reset = record { act = line.Mark reset; answer = line.Marked; sent = []; told = line.Nobody }
+
+abbrev pub MarksBy : {T : Type 0} → Call T → Reply → List (Done T) → Type 0
+MarksBy call Unknown ds = Unit {0}
+MarksBy call AllInUse ds = Unit {0}
+MarksBy call NotNow ds = Unit {0}
+MarksBy call (Lent lease number true) ds = ds ≡ marking (reset_of call) ∷ []
+MarksBy call (Lent lease number false) ds = ds ≡ []
+MarksBy call (Ticket ticket) ds = Unit {0}
+MarksBy call Did ds = Unit {0}
+MarksBy call (Back place) ds = Unit {0}
+
+abbrev pub MarksReused : {T : Type 0} → List (Call T) → List (Step T) → Type 0
+MarksReused [] [] = Unit {0}
+MarksReused [] (t ∷ ts) = ⊥
+MarksReused (call ∷ calls) [] = ⊥
+MarksReused (call ∷ calls) (t ∷ ts) = MarksBy call t.reply t.dones × MarksReused calls ts

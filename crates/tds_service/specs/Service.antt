@@ -1,0 +1,240 @@
+-- A service: its connections, who holds each, and what each call does. One total function.
+use Rattle.std.specs.Prelude.{ℕ, suc, ◌==◌, ◌&&◌, nat_lt, Bool, true, false, List, [], ◌∷◌, ◌++◌, length, Option, Some, None, if◌then◌else◌}
+use Rattle.tds_packet.specs.declared.status.Reset.{Reset}
+use Rattle.tds_packet.specs.declared.status.Reset.TheVariants.{Full, KeepTransaction}
+use Rattle.tds_service.specs.Parts.{Part}
+use Rattle.tds_service.specs.Line.{Line, new_line, Stage, Idle, Sending, Reading, Cancelling, Broken}
+use Rattle.tds_service.specs.Line as line
+use Rattle.tds_service.specs.Line.{Act}
+use Rattle.tds_service.specs.History.{Done, history, line_after}
+
+-- Who holds a connection.
+pub data Place : Type 0 where
+  Leased : (lease : ℕ) → Place
+  Kept : (ticket : ℕ) → Place
+  Free : Place
+  Draining : Place
+
+pub record Seat : Type 0 where
+  pub number : ℕ
+  pub place : Place
+  pub line : Line
+
+-- The most connections, how many there were, which are their numbers; how many leases and tickets were given, which are theirs.
+pub record Service : Type 0 where
+  pub max : ℕ
+  pub last : ℕ
+  pub given : ℕ
+  pub seats : List Seat
+
+abbrev pub new_service : ℕ → Service
+new_service max = record { max = max; last = 0; given = 0; seats = [] }
+
+pub data Call (T : Type 0) : Type 0 where
+  Lease : Call T
+  Resume : (ticket : ℕ) → Call T
+  Ask : (lease : ℕ) → Call T
+  Send : (lease : ℕ) (last : Bool) → Call T
+  Cancel : (lease : ℕ) → Call T
+  GiveBack : (lease : ℕ) → Call T
+  Keep : (lease : ℕ) → Call T
+  Abandon : (ticket : ℕ) → Call T
+  Came : (number : ℕ) (part : Part T) → Call T
+  Lost : (number : ℕ) → Call T
+
+pub data Reply : Type 0 where
+  Unknown : Reply
+  AllInUse : Reply
+  NotNow : Reply
+  -- a lease of this connection, which somebody had before or not
+  Lent : (lease number : ℕ) (had : Bool) → Reply
+  Ticket : (ticket : ℕ) → Reply
+  -- what the connection answered
+  Did : Reply
+  -- where a connection is that nobody holds now: none where it was closed
+  Back : (place : Option Place) → Reply
+
+-- What a call did: the service behind it, the reply, which connection it reached (0 for none), and what came of it there.
+pub record Step (T : Type 0) : Type 0 where
+  pub service : Service
+  pub reply : Reply
+  pub number : ℕ
+  pub dones : List (Done T)
+
+abbrev pub nothing : {T : Type 0} → Service → Reply → Step T
+nothing s reply = record { service = s; reply = reply; number = 0; dones = [] }
+
+-- ---- Finding
+
+abbrev pub holds : ℕ → Place → Bool
+holds lease (Leased other) = other == lease
+holds lease (Kept ticket) = false
+holds lease Free = false
+holds lease Draining = false
+
+abbrev pub keeps : ℕ → Place → Bool
+keeps ticket (Leased lease) = false
+keeps ticket (Kept other) = other == ticket
+keeps ticket Free = false
+keeps ticket Draining = false
+
+abbrev pub is_free : Place → Bool
+is_free (Leased lease) = false
+is_free (Kept ticket) = false
+is_free Free = true
+is_free Draining = false
+
+abbrev pub is_idle : Stage → Bool
+is_idle Idle = true
+is_idle (Sending begun) = false
+is_idle Reading = false
+is_idle Cancelling = false
+is_idle (Broken fault) = false
+
+abbrev pub has_lease : ℕ → Seat → Bool
+has_lease lease c = holds lease c.place
+
+abbrev pub has_ticket : ℕ → Seat → Bool
+has_ticket ticket c = keeps ticket c.place
+
+abbrev pub has_number : ℕ → Seat → Bool
+has_number n c = c.number == n
+
+-- a free connection that is idle
+abbrev pub is_lendable : Seat → Bool
+is_lendable c = is_free c.place && is_idle c.line.stage
+
+-- the first connection that meets a test
+abbrev pub find_by : (Seat → Bool) → List Seat → Option Seat
+find_by test [] = None
+find_by test (c ∷ cs) = if test c then Some c else find_by test cs
+
+abbrev pub seat_numbered : ℕ → List Seat → Option Seat
+seat_numbered n cs = find_by (has_number n) cs
+
+-- ---- What a call does on one connection
+
+-- the first connection that meets the test is another, or is taken out
+abbrev pub placed : ℕ → Option Place → Line → List Seat → List Seat
+placed n None l cs = cs
+placed n (Some place) l cs = (record { number = n; place = place; line = l }) ∷ cs
+
+abbrev pub change_by : (Seat → Bool) → Option Place → Line → List Seat → List Seat
+change_by test place l [] = []
+change_by test place l (c ∷ cs) = if test c then placed c.number place l cs else c ∷ change_by test place l cs
+
+abbrev pub does : {T : Type 0} → Service → ℕ → (Seat → Bool) → Seat → Option Place → List (Act T) → Reply → Step T
+does s given test c place acts reply = record {
+  service = record { max = s.max; last = s.last; given = given; seats = change_by test place (line_after c.line acts) s.seats };
+  reply = reply;
+  number = c.number;
+  dones = history c.line acts;
+}
+
+-- where a connection is that nobody holds
+abbrev pub rests : Stage → Option Place
+rests Idle = Some Free
+rests (Sending begun) = Some Draining
+rests Reading = Some Draining
+rests Cancelling = Some Draining
+rests (Broken fault) = None
+
+-- where one is behind what came: a draining one is free once it is idle
+abbrev pub drained : Place → Stage → Place
+drained (Leased lease) stage = Leased lease
+drained (Kept ticket) stage = Kept ticket
+drained Free stage = Free
+drained Draining stage = if is_idle stage then Free else Draining
+
+-- ---- The calls
+
+abbrev pub acts : {T : Type 0} → Service → (Seat → Bool) → Act T → Option Seat → Step T
+acts s test act None = nothing s Unknown
+acts s test act (Some c) = does s s.given test c (Some c.place) (act ∷ []) Did
+
+abbrev pub opens : {T : Type 0} → Service → Bool → Step T
+opens s false = nothing s AllInUse
+opens s true = record {
+  service = record {
+    max = s.max;
+    last = suc s.last;
+    given = suc s.given;
+    seats = s.seats ++ (record { number = suc s.last; place = Leased (suc s.given); line = new_line }) ∷ [];
+  };
+  reply = Lent (suc s.given) (suc s.last) false;
+  number = 0;
+  dones = [];
+}
+
+abbrev pub lends : {T : Type 0} → Service → Option Seat → Step T
+lends s None = opens s (nat_lt (length s.seats) s.max)
+lends s (Some c) = does s (suc s.given) is_lendable c (Some (Leased (suc s.given))) (line.Mark Full ∷ []) (Lent (suc s.given) c.number true)
+
+abbrev pub resumes : {T : Type 0} → Service → (Seat → Bool) → Option Seat → Step T
+resumes s test None = nothing s Unknown
+resumes s test (Some c) =
+    if is_idle c.line.stage
+    then does s (suc s.given) test c (Some (Leased (suc s.given))) (line.Mark KeepTransaction ∷ []) (Lent (suc s.given) c.number true)
+    else nothing s NotNow
+
+abbrev pub gives_back : {T : Type 0} → Service → (Seat → Bool) → Option Seat → Step T
+gives_back s test None = nothing s Unknown
+gives_back {T} s test (Some c) =
+    let place = rests (line_after {T = T} c.line (line.Cancel ∷ [])).stage in
+    does s s.given test c place (line.Cancel ∷ []) (Back place)
+
+-- a transaction is open, and no full reset is about to end it
+abbrev pub is_open : Option Reset → ℕ → Bool
+is_open (Some Full) descriptor = false
+is_open (Some KeepTransaction) descriptor = nat_lt 0 descriptor
+is_open None descriptor = nat_lt 0 descriptor
+
+abbrev pub keeps_it : {T : Type 0} → Service → (Seat → Bool) → Option Seat → Step T
+keeps_it s test None = nothing s Unknown
+keeps_it s test (Some c) =
+    if is_idle c.line.stage && is_open c.line.heard.mark c.line.heard.descriptor
+    then does s (suc s.given) test c (Some (Kept (suc s.given))) [] (Ticket (suc s.given))
+    else nothing s NotNow
+
+abbrev pub abandons : {T : Type 0} → Service → (Seat → Bool) → Option Seat → Step T
+abandons s test None = nothing s Unknown
+abandons s test (Some c) = does s s.given test c (rests c.line.stage) [] (Back (rests c.line.stage))
+
+abbrev pub hears : {T : Type 0} → Service → (Seat → Bool) → Part T → Option Seat → Step T
+hears s test part None = nothing s Unknown
+hears s test part (Some c) =
+    does s s.given test c (Some (drained c.place (line_after c.line (line.Come part ∷ [])).stage)) (line.Come part ∷ []) Did
+
+abbrev pub loses : {T : Type 0} → Service → (Seat → Bool) → Option Seat → Step T
+loses s test None = nothing s Unknown
+loses s test (Some c) = does s s.given test c None (line.Lose ∷ []) (Back None)
+
+abbrev pub step : {T : Type 0} → Service → Call T → Step T
+step s Lease = lends s (find_by is_lendable s.seats)
+step s (Resume ticket) = resumes s (has_ticket ticket) (find_by (has_ticket ticket) s.seats)
+step s (Ask lease) = acts s (has_lease lease) line.Ask (find_by (has_lease lease) s.seats)
+step s (Send lease last) = acts s (has_lease lease) (line.Send last) (find_by (has_lease lease) s.seats)
+step s (Cancel lease) = acts s (has_lease lease) line.Cancel (find_by (has_lease lease) s.seats)
+step s (GiveBack lease) = gives_back s (has_lease lease) (find_by (has_lease lease) s.seats)
+step s (Keep lease) = keeps_it s (has_lease lease) (find_by (has_lease lease) s.seats)
+step s (Abandon ticket) = abandons s (has_ticket ticket) (find_by (has_ticket ticket) s.seats)
+step s (Came number part) = hears s (has_number number) part (find_by (has_number number) s.seats)
+step s (Lost number) = loses s (has_number number) (find_by (has_number number) s.seats)
+
+abbrev pub service_after : {T : Type 0} → Service → List (Call T) → Service
+service_after s [] = s
+service_after s (call ∷ calls) = service_after (step s call).service calls
+
+abbrev pub steps : {T : Type 0} → Service → List (Call T) → List (Step T)
+steps s [] = []
+steps s (call ∷ calls) = step s call ∷ steps (step s call).service calls
+
+-- ---- What was done on one connection
+
+abbrev pub on_one : {T : Type 0} → Bool → List (Done T) → List (Done T) → List (Done T)
+on_one false ds others = others
+on_one true ds others = ds ++ others
+
+abbrev pub on : {T : Type 0} → ℕ → List (Step T) → List (Done T)
+on n [] = []
+on n (t ∷ ts) = on_one (t.number == n) t.dones (on n ts)

@@ -1,0 +1,97 @@
+//! What a table of connections promises as a machine, whatever its peers send, over any list of calls:
+//! of each connection in the words of `Promises`. Each function does nothing when it runs: its contract
+//! is the law.
+
+ghost use Rattle.std.specs.Prelude.{◌≡◌, ◌≤◌, ◌+◌, ℕ, List, Bool, Some, false};
+ghost use Rattle.tds_service.specs.Line.{new_line};
+ghost use Rattle.tds_service.specs.History.{history, acts_of};
+ghost use Rattle.tds_service.specs.Service.{Call, new_service, on, service_after, step, steps};
+ghost use Rattle.tds_service.specs.Service.{Seat, find_by, has_lease};
+ghost use Rattle.tds_service.specs.Acknowledging.{SettlesRight};
+ghost use Rattle.tds_service.specs.Promises.{AsksUnawaited, FaultsUnawaited, NothingBehindCancel, Paired};
+ghost use Rattle.tds_service.specs.Promises.{attentions, acknowledgements};
+ghost use Rattle.tds_service.specs.Promises.{AsksAsOwed, LeavesNoneOwed, NamesAsHeard};
+ghost use Rattle.tds_service.specs.Promises.{nothing_known};
+ghost use Rattle.tds_service.specs.Lending.{LendsIdle, MarksReused};
+
+/// On each connection all comes out as it would if it were the only one.
+pub fn each_alone<T>()
+    ensures { (max n : ℕ) (calls : List (Call T))
+        → on n (steps (new_service max) calls)
+        ≡ history new_line (acts_of (on n (steps (new_service max) calls))) }
+{}
+
+/// A fault stays on its connection: whatever came on the others, and was done there, a connection
+/// where the same was done answers, sends and tells the same.
+pub fn a_fault_stays<T>()
+    ensures { (max most n : ℕ) (calls others : List (Call T))
+        → acts_of (on n (steps (new_service max) calls))
+        ≡ acts_of (on n (steps (new_service most) others))
+        → on n (steps (new_service max) calls) ≡ on n (steps (new_service most) others) }
+{}
+
+/// What a request is given are the tokens of its own message, in order, and nothing else.
+pub fn paired<T>()
+    ensures { (max n : ℕ) (calls : List (Call T)) → Paired (on n (steps (new_service max) calls)) }
+{}
+
+/// What comes where neither an answer nor an acknowledgement is awaited is a fault, and a request is
+/// asked only there: behind a cancel, once it is acknowledged.
+pub fn unawaited<T>()
+    ensures faults { (max n : ℕ) (calls : List (Call T))
+        → FaultsUnawaited Bool.false (on n (steps (new_service max) calls)) }
+    ensures asks { (max n : ℕ) (calls : List (Call T))
+        → AsksUnawaited Bool.false (on n (steps (new_service max) calls)) }
+{}
+
+/// Behind its cancel a request is given nothing.
+pub fn after_cancel<T>()
+    ensures { (max n : ℕ) (calls : List (Call T))
+        → NothingBehindCancel (on n (steps (new_service max) calls)) }
+{}
+
+/// At most one attention more goes out on a connection than are acknowledged.
+pub fn one_attention<T>()
+    ensures { (max n : ℕ) (calls : List (Call T))
+        → attentions (on n (steps (new_service max) calls))
+        ≤ acknowledgements (on n (steps (new_service max) calls)) + 1 }
+{}
+
+/// The first packet of a request asks for the reset that is owed, and no other packet for any.
+pub fn asks_for_reset<T>()
+    ensures owed { (max n : ℕ) (calls : List (Call T))
+        → AsksAsOwed nothing_known (on n (steps (new_service max) calls)) }
+    ensures answered { (max n : ℕ) (calls : List (Call T))
+        → LeavesNoneOwed nothing_known (on n (steps (new_service max) calls)) }
+    // From the lending of a connection that somebody had before, one is owed.
+    ensures lent { (max : ℕ) (calls : List (Call T))
+        → MarksReused calls (steps (new_service max) calls) }
+{}
+
+/// A request's header names the transaction that was heard last, or none under a full reset.
+pub fn names_descriptor<T>()
+    ensures { (max n : ℕ) (calls : List (Call T))
+        → NamesAsHeard nothing_known (on n (steps (new_service max) calls)) }
+{}
+
+/// A connection is lent again only where nothing is awaited on it.
+pub fn lends_idle<T>()
+    ensures { (max : ℕ) (before : List (Call T)) (call : Call T)
+        → LendsIdle (steps (new_service max) before)
+        (step (service_after (new_service max) before) call).reply }
+{}
+
+/// A connection is lent by one lease at a time.
+pub fn one_lease_each<T>()
+    ensures { (max a b : ℕ) (calls : List (Call T)) (c d : Seat)
+        → find_by (has_lease a) (service_after (new_service max) calls).seats ≡ Some c
+        → find_by (has_lease b) (service_after (new_service max) calls).seats ≡ Some d
+        → c.number ≡ d.number → a ≡ b }
+{}
+
+/// On each connection a cancelled request is settled exactly at the end of a message with an
+/// acknowledgement.
+pub fn idle_by_acknowledgement<T>()
+    ensures { (max n : ℕ) (calls : List (Call T))
+        → SettlesRight Bool.false Bool.false (on n (steps (new_service max) calls)) }
+{}
