@@ -11,3 +11,4 @@ pub mod Lifted
 pub mod Lends
 pub mod Idle
 pub mod Leases
+pub mod Spent

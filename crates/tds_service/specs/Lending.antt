@@ -6,7 +6,7 @@ use Rattle.tds_service.specs.Line.{Act}
 use Rattle.tds_service.specs.Line as line
 use Rattle.tds_service.specs.History.{Done}
 use Rattle.tds_service.specs.Promises.{awaited_by_answer, awaited_by_packets}
-use Rattle.tds_service.specs.Service.{Call, Lease, Resume, Ask, Send, Cancel, GiveBack, Keep, Abandon, Came, Lost, Reply, Unknown, AllInUse, NotNow, Lent, Ticket, Did, Back, Step, on}
+use Rattle.tds_service.specs.Service.{Call, Lease, Resume, Ask, Send, Cancel, GiveBack, Keep, Abandon, Came, Lost, Reply, Unknown, AllInUse, NotNow, Lent, Ticket, Did, Back, Service, Step, step, on}
 
 -- Whether an answer or an acknowledgement is awaited behind what was done.
 abbrev pub awaited : {T : Type 0} → Bool → List (Done T) → Bool
@@ -55,3 +55,7 @@ MarksReused [] [] = Unit {0}
 MarksReused [] (t ∷ ts) = ⊥
 MarksReused (call ∷ calls) [] = ⊥
 MarksReused (call ∷ calls) (t ∷ ts) = MarksBy call t.reply t.dones × MarksReused calls ts
+
+-- What whoever wants a lease is answered by a table.
+abbrev pub leased : (T : Type 0) → Service → Reply
+leased T s = (step {T = T} s Lease).reply

@@ -2,17 +2,19 @@
 //! of each connection in the words of `Promises`. Each function does nothing when it runs: its contract
 //! is the law.
 
-ghost use Rattle.std.specs.Prelude.{◌≡◌, ◌≤◌, ◌+◌, ℕ, List, Bool, Some, false};
+ghost use Rattle.std.specs.Prelude.{◌≡◌, ◌≤◌, ◌<◌, ◌+◌, ℕ, List, Bool, None, Some, false};
+ghost use Rattle.std.specs.Prelude.{length};
 ghost use Rattle.tds_service.specs.Line.{new_line};
 ghost use Rattle.tds_service.specs.History.{history, acts_of};
 ghost use Rattle.tds_service.specs.Service.{Call, new_service, on, service_after, step, steps};
-ghost use Rattle.tds_service.specs.Service.{Seat, find_by, has_lease};
+ghost use Rattle.tds_service.specs.Service.{AllInUse, Lent, Seat, Service, find_by, has_lease};
+ghost use Rattle.tds_service.specs.Service.{is_lendable};
 ghost use Rattle.tds_service.specs.Acknowledging.{SettlesRight};
 ghost use Rattle.tds_service.specs.Promises.{AsksUnawaited, FaultsUnawaited, NothingBehindCancel, Paired};
 ghost use Rattle.tds_service.specs.Promises.{attentions, acknowledgements};
 ghost use Rattle.tds_service.specs.Promises.{AsksAsOwed, LeavesNoneOwed, NamesAsHeard};
 ghost use Rattle.tds_service.specs.Promises.{nothing_known};
-ghost use Rattle.tds_service.specs.Lending.{LendsIdle, MarksReused};
+ghost use Rattle.tds_service.specs.Lending.{LendsIdle, MarksReused, leased};
 
 /// On each connection all comes out as it would if it were the only one.
 pub fn each_alone<T>()
@@ -94,4 +96,25 @@ pub fn one_lease_each<T>()
 pub fn idle_by_acknowledgement<T>()
     ensures { (max n : ℕ) (calls : List (Call T))
         → SettlesRight Bool.false Bool.false (on n (steps (new_service max) calls)) }
+{}
+
+/// A lease is refused exactly where as many connections are there as may be, and none can be lent.
+pub fn all_in_use<T>()
+    ensures refused { (s : Service) → leased T s ≡ AllInUse
+        → (find_by is_lendable s.seats ≡ None) × (s.max ≤ length s.seats) }
+    ensures only { (s : Service) → find_by is_lendable s.seats ≡ None → s.max ≤ length s.seats
+        → leased T s ≡ AllInUse }
+{}
+
+/// The number of a lease is larger than any that was given before; and a number that was given and
+/// that a table doesn't know is unknown for ever.
+pub fn never_again<T>()
+    ensures fresh { (s : Service) (call : Call T) (lease number : ℕ) (had : Bool)
+        → (step s call).reply ≡ Lent lease number had
+        → (s.given < lease) × (lease ≤ (step s call).service.given) }
+    ensures rises { (s : Service) (calls : List (Call T))
+        → s.given ≤ (service_after s calls).given }
+    ensures spent { (s : Service) (calls : List (Call T)) (lease : ℕ) → lease ≤ s.given
+        → find_by (has_lease lease) s.seats ≡ None
+        → find_by (has_lease lease) (service_after s calls).seats ≡ None }
 {}

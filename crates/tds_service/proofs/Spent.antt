@@ -1,0 +1,233 @@
+-- The numbers of leases rise, and one that is unknown stays so.
+use Rattle.std.proofs.Common.{◌≡◌, ◌∙◌, ◌<◌, ◌≤◌, ◌==◌, ◌&&◌, ℕ, suc, Bool, true, false, List, [], ◌∷◌, ◌++◌, length, refl, sym, ap, subst, arith}
+use Rattle.std.proofs.lemmas.Bool.Decides.{nat_tests}
+use Rattle.std.specs.Prelude.{Option, Some, None, nat_lt, if◌then◌else◌}
+use Rattle.tds_packet.specs.declared.status.Reset.TheVariants.{Full, KeepTransaction}
+use Rattle.tds_service.specs.Parts.{Part}
+use Rattle.tds_service.specs.Line.{Line, Act, Stage, new_line}
+use Rattle.tds_service.specs.Line as line
+use Rattle.tds_service.specs.History.{line_after}
+use Rattle.tds_service.specs.Lending.{leased}
+use Rattle.tds_service.specs.Service.{Place, Leased, Kept, Free, Draining, Seat, Service, Call, Lease, Resume, Ask, Send, Cancel, GiveBack, Keep, Abandon, Came, Lost, Reply, Unknown, NotNow, AllInUse, Lent, Ticket, Did, Back, Step, nothing, find_by, change_by, has_lease, has_ticket, has_number, is_lendable, holds, placed, does, rests, drained, is_idle, is_open, acts, opens, lends, resumes, gives_back, keeps_it, abandons, hears, loses, step, service_after}
+use Rattle.tds_service.proofs.Tests.{below}
+
+-- ---- What isn't found
+
+abbrev IsOther : ℕ → Option Place → Type 0
+IsOther a None = Unit {0}
+IsOther a (Some place) = holds a place ≡ false
+
+none_of : (a : ℕ) (d : Seat) (ds : List Seat) (b : Bool) → holds a d.place ≡ b → (if b then Some d else find_by (has_lease a) ds) ≡ None
+    → (holds a d.place ≡ false) × (find_by (has_lease a) ds ≡ None)
+none_of a d ds true e h = absurd (let u : ⊥ = cc in u)
+none_of a d ds false e h = (e, h)
+
+found_other_by : (a : ℕ) (test : Seat → Bool) (c d : Seat) (ds : List Seat) (t : Bool) → (if t then Some d else find_by test ds) ≡ Some c → holds a d.place ≡ false
+    → (find_by test ds ≡ Some c → holds a c.place ≡ false) → holds a c.place ≡ false
+found_other_by a test c d ds true e h ih = let same : d ≡ c = cc in ap (λ (x : Seat). holds a x.place) (sym same) ∙ h
+found_other_by a test c d ds false e h ih = ih e
+
+-- a connection that is found isn't this lease's, where none is
+found_other : (a : ℕ) (test : Seat → Bool) (c : Seat) (cs : List Seat) → find_by test cs ≡ Some c → find_by (has_lease a) cs ≡ None → holds a c.place ≡ false
+found_other a test c [] e h = absurd (let u : ⊥ = cc in u)
+found_other a test c (d ∷ ds) e h =
+    let n = none_of a d ds (holds a d.place) refl h in
+    found_other_by a test c d ds (test d) e n.0 (λ f. found_other a test c ds f n.1)
+
+placed_gone : (a n : ℕ) (place : Option Place) (l : Line) (cs : List Seat) → find_by (has_lease a) cs ≡ None → IsOther a place → find_by (has_lease a) (placed n place l cs) ≡ None
+placed_gone a n None l cs h other = h
+placed_gone a n (Some place) l cs h other = rw other h
+
+changed_gone_by : (a : ℕ) (test : Seat → Bool) (place : Option Place) (l : Line) (c : Seat) (cs : List Seat) (t : Bool) → holds a c.place ≡ false → find_by (has_lease a) cs ≡ None
+    → IsOther a place → find_by (has_lease a) (change_by test place l cs) ≡ None
+    → find_by (has_lease a) (if t then placed c.number place l cs else c ∷ change_by test place l cs) ≡ None
+changed_gone_by a test place l c cs true e h other ih = placed_gone a c.number place l cs h other
+changed_gone_by a test place l c cs false e h other ih = rw e ih
+
+changed_gone : (a : ℕ) (test : Seat → Bool) (place : Option Place) (l : Line) (cs : List Seat) → find_by (has_lease a) cs ≡ None → IsOther a place
+    → find_by (has_lease a) (change_by test place l cs) ≡ None
+changed_gone a test place l [] h other = refl
+changed_gone a test place l (c ∷ cs) h other =
+    let n = none_of a c cs (holds a c.place) refl h in
+    changed_gone_by a test place l c cs (test c) n.0 n.1 other (changed_gone a test place l cs n.1 other)
+
+added_gone : (a : ℕ) (d : Seat) (cs : List Seat) → find_by (has_lease a) cs ≡ None → holds a d.place ≡ false → find_by (has_lease a) (cs ++ d ∷ []) ≡ None
+added_gone a d [] h e = rw e refl
+added_gone a d (c ∷ cs) h e =
+    let n = none_of a c cs (holds a c.place) refl h in
+    rw n.0 (added_gone a d cs n.1 e)
+
+-- ---- A call
+
+pub record Keeps {T : Type 0} (a : ℕ) (s : Service) (t : Step T) : Type 0 where
+  pub rises : s.given ≤ t.service.given
+  pub spent : a ≤ s.given → find_by (has_lease a) s.seats ≡ None → find_by (has_lease a) t.service.seats ≡ None
+  pub fresh : (lease number : ℕ) (had : Bool) → t.reply ≡ Lent lease number had → (s.given < lease) × (lease ≤ t.service.given)
+
+abbrev IsFresh : ℕ → ℕ → Reply → Type 0
+IsFresh before given reply = (lease number : ℕ) (had : Bool) → reply ≡ Lent lease number had → (before < lease) × (lease ≤ given)
+
+nothing_keeps : {T : Type 0} (a : ℕ) (s : Service) (reply : Reply) → IsFresh s.given s.given reply → Keeps {T = T} a s (nothing s reply)
+nothing_keeps a s reply fresh = record { rises = omega arith; spent = λ lt h. h; fresh = fresh }
+
+does_keeps : {T : Type 0} (a : ℕ) (s : Service) (given : ℕ) (test : Seat → Bool) (c : Seat) (place : Option Place) (done : List (Act T)) (reply : Reply) → s.given ≤ given
+    → (a ≤ s.given → find_by (has_lease a) s.seats ≡ None → IsOther a place) → IsFresh s.given given reply → Keeps a s (does s given test c place done reply)
+does_keeps a s given test c place done reply up other fresh =
+    record { rises = up; spent = λ lt h. changed_gone a test place (line_after c.line done) s.seats h (other lt h); fresh = fresh }
+
+next_fresh : (given number : ℕ) (had : Bool) → IsFresh given (suc given) (Lent (suc given) number had)
+next_fresh given number had lease other also e = let is : suc given ≡ lease = cc in (omega (arith, is), omega (arith, is))
+
+no_lease : (before given : ℕ) (reply : Reply) → ((lease number : ℕ) (had : Bool) → reply ≡ Lent lease number had → ⊥) → IsFresh before given reply
+no_lease before given reply h lease number had e = absurd (h lease number had e)
+
+not_next : (a given : ℕ) → a ≤ given → (suc given == a) ≡ false
+not_next a given lt = below (suc given) a (omega (arith, lt))
+
+rests_other : (a : ℕ) (stage : Stage) → IsOther a (rests stage)
+rests_other a line.Idle = refl
+rests_other a (line.Sending begun) = refl
+rests_other a line.Reading = refl
+rests_other a line.Cancelling = refl
+rests_other a (line.Broken fault) = tt
+
+drains_other : (a : ℕ) (b : Bool) → holds a (if b then Free else Draining) ≡ false
+drains_other a true = refl
+drains_other a false = refl
+
+drained_other : (a : ℕ) (place : Place) (stage : Stage) → holds a place ≡ false → holds a (drained place stage) ≡ false
+drained_other a (Leased lease) stage e = e
+drained_other a (Kept ticket) stage e = refl
+drained_other a Free stage e = refl
+drained_other a Draining stage e = drains_other a (is_idle stage)
+
+unknown : {T : Type 0} (a : ℕ) (s : Service) → Keeps {T = T} a s (nothing s Unknown)
+unknown a s = nothing_keeps a s Unknown (no_lease s.given s.given Unknown (λ lease number had e. cc))
+
+not_now : {T : Type 0} (a : ℕ) (s : Service) → Keeps {T = T} a s (nothing s NotNow)
+not_now a s = nothing_keeps a s NotNow (no_lease s.given s.given NotNow (λ lease number had e. cc))
+
+-- ---- Each call
+
+acts_keep : {T : Type 0} (a : ℕ) (s : Service) (test : Seat → Bool) (act : Act T) (seat : Option Seat) → find_by test s.seats ≡ seat → Keeps a s (acts s test act seat)
+acts_keep a s test act None e = unknown a s
+acts_keep a s test act (Some c) e =
+    does_keeps a s s.given test c (Some c.place) (act ∷ []) Did (omega arith) (λ lt h. found_other a test c s.seats e h) (no_lease s.given s.given Did (λ lease number had e. cc))
+
+opens_keep : {T : Type 0} (a : ℕ) (s : Service) (room : Bool) → Keeps {T = T} a s (opens s room)
+opens_keep a s false = nothing_keeps a s AllInUse (no_lease s.given s.given AllInUse (λ lease number had e. cc))
+opens_keep a s true = record {
+  rises = omega arith;
+  spent = λ lt h. added_gone a (record { number = suc s.last; place = Leased (suc s.given); line = new_line }) s.seats h (not_next a s.given lt);
+  fresh = next_fresh s.given (suc s.last) false;
+}
+
+lends_keep : {T : Type 0} (a : ℕ) (s : Service) (seat : Option Seat) → Keeps {T = T} a s (lends s seat)
+lends_keep a s None = opens_keep a s (nat_lt (length s.seats) s.max)
+lends_keep a s (Some c) =
+    does_keeps a s (suc s.given) is_lendable c (Some (Leased (suc s.given))) (line.Mark Full ∷ []) (Lent (suc s.given) c.number true) (omega arith) (λ lt h. not_next a s.given lt)
+    (next_fresh s.given c.number true)
+
+resumes_by : {T : Type 0} (a : ℕ) (s : Service) (test : Seat → Bool) (c : Seat) (idle : Bool)
+    → Keeps {T = T} a s (if idle
+    then does s (suc s.given) test c (Some (Leased (suc s.given))) (line.Mark KeepTransaction ∷ []) (Lent (suc s.given) c.number true)
+    else nothing s NotNow)
+resumes_by a s test c true =
+    does_keeps a s (suc s.given) test c (Some (Leased (suc s.given))) (line.Mark KeepTransaction ∷ []) (Lent (suc s.given) c.number true) (omega arith) (λ lt h. not_next a s.given lt)
+    (next_fresh s.given c.number true)
+resumes_by a s test c false = not_now a s
+
+resumes_keep : {T : Type 0} (a : ℕ) (s : Service) (test : Seat → Bool) (seat : Option Seat) → Keeps {T = T} a s (resumes s test seat)
+resumes_keep a s test None = unknown a s
+resumes_keep a s test (Some c) = resumes_by a s test c (is_idle c.line.stage)
+
+gives_keep : (T : Type 0) (a : ℕ) (s : Service) (test : Seat → Bool) (seat : Option Seat) → Keeps {T = T} a s (gives_back s test seat)
+gives_keep T a s test None = unknown a s
+gives_keep T a s test (Some c) =
+    let place = rests (line_after {T = T} c.line (line.Cancel ∷ [])).stage in
+    does_keeps a s s.given test c place (line.Cancel ∷ []) (Back place) (omega arith) (λ lt h. rests_other a (line_after {T = T} c.line (line.Cancel ∷ [])).stage)
+    (no_lease s.given s.given (Back place) (λ lease number had e. cc))
+
+keeps_by : {T : Type 0} (a : ℕ) (s : Service) (test : Seat → Bool) (c : Seat) (may : Bool)
+    → Keeps {T = T} a s (if may then does s (suc s.given) test c (Some (Kept (suc s.given))) [] (Ticket (suc s.given)) else nothing s NotNow)
+keeps_by a s test c true =
+    does_keeps a s (suc s.given) test c (Some (Kept (suc s.given))) [] (Ticket (suc s.given)) (omega arith) (λ lt h. refl)
+    (no_lease s.given (suc s.given) (Ticket (suc s.given)) (λ lease number had e. cc))
+keeps_by a s test c false = not_now a s
+
+keeps_keep : {T : Type 0} (a : ℕ) (s : Service) (test : Seat → Bool) (seat : Option Seat) → Keeps {T = T} a s (keeps_it s test seat)
+keeps_keep a s test None = unknown a s
+keeps_keep a s test (Some c) = keeps_by a s test c (is_idle c.line.stage && is_open c.line.heard.mark c.line.heard.descriptor)
+
+abandons_keep : {T : Type 0} (a : ℕ) (s : Service) (test : Seat → Bool) (seat : Option Seat) → Keeps {T = T} a s (abandons s test seat)
+abandons_keep a s test None = unknown a s
+abandons_keep a s test (Some c) =
+    does_keeps a s s.given test c (rests c.line.stage) [] (Back (rests c.line.stage)) (omega arith) (λ lt h. rests_other a c.line.stage)
+    (no_lease s.given s.given (Back (rests c.line.stage)) (λ lease number had e. cc))
+
+hears_keep : {T : Type 0} (a : ℕ) (s : Service) (test : Seat → Bool) (part : Part T) (seat : Option Seat) → find_by test s.seats ≡ seat → Keeps a s (hears s test part seat)
+hears_keep a s test part None e = unknown a s
+hears_keep a s test part (Some c) e =
+    let stage = (line_after c.line (line.Come part ∷ [])).stage in
+    does_keeps a s s.given test c (Some (drained c.place stage)) (line.Come part ∷ []) Did (omega arith) (λ lt h. drained_other a c.place stage (found_other a test c s.seats e h))
+    (no_lease s.given s.given Did (λ lease number had e. cc))
+
+loses_keep : {T : Type 0} (a : ℕ) (s : Service) (test : Seat → Bool) (seat : Option Seat) → Keeps {T = T} a s (loses s test seat)
+loses_keep a s test None = unknown a s
+loses_keep a s test (Some c) = does_keeps a s s.given test c None (line.Lose ∷ []) (Back None) (omega arith) (λ lt h. tt) (no_lease s.given s.given (Back None) (λ lease number had e. cc))
+
+pub step_keeps : {T : Type 0} (a : ℕ) (s : Service) (call : Call T) → Keeps a s (step s call)
+step_keeps a s Lease = lends_keep a s (find_by is_lendable s.seats)
+step_keeps a s (Resume ticket) = resumes_keep a s (has_ticket ticket) (find_by (has_ticket ticket) s.seats)
+step_keeps a s (Ask lease) = acts_keep a s (has_lease lease) line.Ask (find_by (has_lease lease) s.seats) refl
+step_keeps a s (Send lease last) = acts_keep a s (has_lease lease) (line.Send last) (find_by (has_lease lease) s.seats) refl
+step_keeps a s (Cancel lease) = acts_keep a s (has_lease lease) line.Cancel (find_by (has_lease lease) s.seats) refl
+step_keeps {T} a s (GiveBack lease) = gives_keep T a s (has_lease lease) (find_by (has_lease lease) s.seats)
+step_keeps a s (Keep lease) = keeps_keep a s (has_lease lease) (find_by (has_lease lease) s.seats)
+step_keeps a s (Abandon ticket) = abandons_keep a s (has_ticket ticket) (find_by (has_ticket ticket) s.seats)
+step_keeps a s (Came number part) = hears_keep a s (has_number number) part (find_by (has_number number) s.seats) refl
+step_keeps a s (Lost number) = loses_keep a s (has_number number) (find_by (has_number number) s.seats)
+
+-- ---- All calls
+
+pub fresh : {T : Type 0} (s : Service) (call : Call T) (lease number : ℕ) (had : Bool) → (step s call).reply ≡ Lent lease number had
+    → (s.given < lease) × (lease ≤ (step s call).service.given)
+fresh s call lease number had e = (step_keeps 0 s call).fresh lease number had e
+
+pub rises : {T : Type 0} (s : Service) (calls : List (Call T)) → s.given ≤ (service_after s calls).given
+rises s [] = omega arith
+rises s (call ∷ calls) =
+    let one = (step_keeps 0 s call).rises in
+    let more = rises (step s call).service calls in
+    omega (arith, one, more)
+
+pub spent : {T : Type 0} (s : Service) (calls : List (Call T)) (a : ℕ) → a ≤ s.given → find_by (has_lease a) s.seats ≡ None
+    → find_by (has_lease a) (service_after s calls).seats ≡ None
+spent s [] a lt h = h
+spent s (call ∷ calls) a lt h =
+    let k = step_keeps a s call in
+    let up = k.rises in
+    spent (step s call).service calls a (omega (arith, lt, up)) (k.spent lt h)
+
+-- ---- Whether a lease is refused
+
+refused_by : (T : Type 0) (s : Service) (b : Bool) → nat_lt (length s.seats) s.max ≡ b → (opens {T = T} s b).reply ≡ AllInUse → s.max ≤ length s.seats
+refused_by T s true e h = absurd (let u : ⊥ = cc in u)
+refused_by T s false e h = grind (arith, nat_tests)
+
+refused_at : (T : Type 0) (s : Service) (seat : Option Seat) → (lends {T = T} s seat).reply ≡ AllInUse → (seat ≡ None) × (s.max ≤ length s.seats)
+refused_at T s (Some c) h = absurd (let u : ⊥ = cc in u)
+refused_at T s None h = (refl, refused_by T s (nat_lt (length s.seats) s.max) refl h)
+
+pub refused : (T : Type 0) (s : Service) → leased T s ≡ AllInUse → (find_by is_lendable s.seats ≡ None) × (s.max ≤ length s.seats)
+refused T s h = refused_at T s (find_by is_lendable s.seats) h
+
+full : (s : Service) → s.max ≤ length s.seats → nat_lt (length s.seats) s.max ≡ false
+full s h = grind (arith, nat_tests)
+
+only_at : (T : Type 0) (s : Service) (seat : Option Seat) → seat ≡ None → s.max ≤ length s.seats → (lends {T = T} s seat).reply ≡ AllInUse
+only_at T s (Some c) e h = absurd (let u : ⊥ = cc in u)
+only_at T s None e h = ap (λ (b : Bool). (opens {T = T} s b).reply) (full s h)
+
+pub only : (T : Type 0) (s : Service) → find_by is_lendable s.seats ≡ None → s.max ≤ length s.seats → leased T s ≡ AllInUse
+only T s e h = only_at T s (find_by is_lendable s.seats) e h
