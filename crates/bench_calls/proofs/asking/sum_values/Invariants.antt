@@ -1,5 +1,0 @@
-use Rattle.std.proofs.Common.{length}
-use Rattle.bench_calls.proofs.asking.sum_values.Given as goal
-
-abbrev pub decreases-tokens : goal.decreases-tokens
-decreases-tokens l = length l.tokens.bytes
