@@ -1,5 +1,5 @@
 -- The numbers of leases rise, and one that is unknown stays so.
-use Rattle.std.proofs.Common.{◌≡◌, ◌∙◌, ◌<◌, ◌≤◌, ◌==◌, ◌&&◌, ℕ, suc, Bool, true, false, List, [], ◌∷◌, ◌++◌, length, refl, sym, ap, arith}
+use Rattle.std.proofs.Common.{subst, ◌≡◌, ◌∙◌, ◌<◌, ◌≤◌, ◌==◌, ◌&&◌, ℕ, suc, Bool, true, false, List, [], ◌∷◌, ◌++◌, length, refl, sym, ap, arith}
 use Rattle.std.proofs.lemmas.Bool.Decides.{nat_tests}
 use Rattle.std.specs.Prelude.{Option, Some, None, nat_lt, if◌then◌else◌}
 use Rattle.tds_packet.specs.declared.status.Reset.TheVariants.{Full, KeepTransaction}
@@ -7,7 +7,7 @@ use Rattle.tds_service.specs.Parts.{Part}
 use Rattle.tds_service.specs.Line.{Line, Act, Stage, new_line}
 use Rattle.tds_service.specs.Line as line
 use Rattle.tds_service.specs.History.{line_after}
-use Rattle.tds_service.specs.Lending.{leased}
+use Rattle.tds_service.specs.Lending.{IsWith, leased, nothing_known_of}
 use Rattle.tds_service.specs.Service.{Place, Leased, Kept, Free, Draining, Seat, Service, Call, Lease, Resume, Ask, Send, Cancel, GiveBack, Keep, Abandon, Came, Lost, Reply, Unknown, NotNow, AllInUse, Lent, Ticket, Did, Back, Step, nothing, find_by, change_by, has_lease, has_ticket, has_number, is_lendable, holds, placed, does, rests, drained, is_idle, is_open, acts, opens, lends, resumes, gives_back, keeps_it, abandons, hears, loses, step, service_after}
 use Rattle.tds_service.proofs.Tests.{below}
 
@@ -208,6 +208,23 @@ spent s (call ∷ calls) a lt h =
     let k = step_keeps a s call in
     let up = k.rises in
     spent (step s call).service calls a (omega (arith, lt, up)) (k.spent lt h)
+
+-- ---- A call with a lease that isn't known
+
+none_as : (s : Service) (a b : ℕ) → b ≡ a → find_by (has_lease a) s.seats ≡ None → find_by (has_lease b) s.seats ≡ None
+none_as s a b is h = subst (λ (k : ℕ). find_by (has_lease k) s.seats ≡ None) (sym is) h
+
+pub with_unknown : (T : Type 0) (s : Service) (call : Call T) (lease : ℕ) → IsWith lease call → find_by (has_lease lease) s.seats ≡ None → step s call ≡ nothing_known_of T s
+with_unknown T s Lease lease is h = absurd is
+with_unknown T s (Resume ticket) lease is h = absurd is
+with_unknown T s (Ask other) lease is h = ap (acts {T = T} s (has_lease other) line.Ask) (none_as s lease other is h)
+with_unknown T s (Send other last) lease is h = ap (acts {T = T} s (has_lease other) (line.Send last)) (none_as s lease other is h)
+with_unknown T s (Cancel other) lease is h = ap (acts {T = T} s (has_lease other) line.Cancel) (none_as s lease other is h)
+with_unknown T s (GiveBack other) lease is h = ap (gives_back {T = T} s (has_lease other)) (none_as s lease other is h)
+with_unknown T s (Keep other) lease is h = ap (keeps_it {T = T} s (has_lease other)) (none_as s lease other is h)
+with_unknown T s (Abandon ticket) lease is h = absurd is
+with_unknown T s (Came number part) lease is h = absurd is
+with_unknown T s (Lost number) lease is h = absurd is
 
 -- ---- Whether a lease is refused
 

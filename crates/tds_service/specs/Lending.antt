@@ -1,12 +1,12 @@
 -- Which connections are lent, and how.
-use Rattle.std.specs.Prelude.{◌≡◌, Bool, true, false, List, [], ◌∷◌}
+use Rattle.std.specs.Prelude.{◌≡◌, ℕ, Bool, true, false, List, [], ◌∷◌}
 use Rattle.tds_packet.specs.declared.status.Reset.{Reset}
 use Rattle.tds_packet.specs.declared.status.Reset.TheVariants.{Full, KeepTransaction}
 use Rattle.tds_service.specs.Line.{Act}
 use Rattle.tds_service.specs.Line as line
 use Rattle.tds_service.specs.History.{Done}
 use Rattle.tds_service.specs.Promises.{awaited_by_answer, awaited_by_packets}
-use Rattle.tds_service.specs.Service.{Call, Lease, Resume, Ask, Send, Cancel, GiveBack, Keep, Abandon, Came, Lost, Reply, Unknown, AllInUse, NotNow, Lent, Ticket, Did, Back, Service, Step, step, on}
+use Rattle.tds_service.specs.Service.{Call, Lease, Resume, Ask, Send, Cancel, GiveBack, Keep, Abandon, Came, Lost, Reply, Unknown, AllInUse, NotNow, Lent, Ticket, Did, Back, Service, Step, nothing, step, on}
 
 -- Whether an answer or an acknowledgement is awaited behind what was done.
 abbrev pub awaited : {T : Type 0} → Bool → List (Done T) → Bool
@@ -59,3 +59,20 @@ MarksReused (call ∷ calls) (t ∷ ts) = MarksBy call t.reply t.dones × MarksR
 -- What whoever wants a lease is answered by a table.
 abbrev pub leased : (T : Type 0) → Service → Reply
 leased T s = (step {T = T} s Lease).reply
+
+-- Whether a call is made with this lease.
+abbrev pub IsWith : {T : Type 0} → ℕ → Call T → Type 0
+IsWith lease Lease = ⊥
+IsWith lease (Resume ticket) = ⊥
+IsWith lease (Ask other) = other ≡ lease
+IsWith lease (Send other last) = other ≡ lease
+IsWith lease (Cancel other) = other ≡ lease
+IsWith lease (GiveBack other) = other ≡ lease
+IsWith lease (Keep other) = other ≡ lease
+IsWith lease (Abandon ticket) = ⊥
+IsWith lease (Came number part) = ⊥
+IsWith lease (Lost number) = ⊥
+
+-- It reaches no connection, and the table stays.
+abbrev pub nothing_known_of : (T : Type 0) → Service → Step T
+nothing_known_of T s = nothing s Unknown

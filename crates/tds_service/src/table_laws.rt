@@ -14,7 +14,8 @@ ghost use Rattle.tds_service.specs.Promises.{AsksUnawaited, FaultsUnawaited, Not
 ghost use Rattle.tds_service.specs.Promises.{attentions, acknowledgements};
 ghost use Rattle.tds_service.specs.Promises.{AsksAsOwed, LeavesNoneOwed, NamesAsHeard};
 ghost use Rattle.tds_service.specs.Promises.{nothing_known};
-ghost use Rattle.tds_service.specs.Lending.{LendsIdle, MarksReused, leased};
+ghost use Rattle.tds_service.specs.Lending.{IsWith, LendsIdle, MarksReused, leased};
+ghost use Rattle.tds_service.specs.Lending.{nothing_known_of};
 
 /// On each connection all comes out as it would if it were the only one.
 pub fn each_alone<T>()
@@ -107,7 +108,7 @@ pub fn all_in_use<T>()
 {}
 
 /// The number of a lease is larger than any that was given before; and a number that was given and
-/// that a table doesn't know is unknown for ever.
+/// that a table doesn't know is unknown for ever. A call with an unknown one changes nothing.
 pub fn never_again<T>()
     ensures fresh { (s : Service) (call : Call T) (lease number : ℕ) (had : Bool)
         → (step s call).reply ≡ Lent lease number had
@@ -117,4 +118,6 @@ pub fn never_again<T>()
     ensures spent { (s : Service) (calls : List (Call T)) (lease : ℕ) → lease ≤ s.given
         → find_by (has_lease lease) s.seats ≡ None
         → find_by (has_lease lease) (service_after s calls).seats ≡ None }
+    ensures unknown { (s : Service) (call : Call T) (lease : ℕ) → IsWith lease call
+        → find_by (has_lease lease) s.seats ≡ None → step s call ≡ nothing_known_of T s }
 {}
