@@ -4,6 +4,7 @@
 
 mod fault;
 mod player;
+mod service;
 mod words;
 
 use fault::SceneFault;
@@ -36,6 +37,7 @@ fn run(rt: &HostRuntime) -> io::Result<bool> {
     for size in SIZES.iter() {
         is_well &= play(rt, text.as_str(), *size)?;
     }
+    print!(rt; "{}", service::play(rt.alloc())?)?;
     Ok(is_well)
 }
 
