@@ -140,7 +140,8 @@ def help_text(name):
 
 def print_help(name, words):
     if "--version" in words or "-V" in words:
-        print(f"{name} unreleased")
+        with open(f"{HERE}/../VERSION") as it:
+            print(name, it.read().strip())
     else:
         print(help_text(name), end="")
 

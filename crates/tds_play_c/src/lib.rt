@@ -1,6 +1,8 @@
 //! The player for C: a schedule's text in, its report's text out. `include/tds_play.h` declares it.
 #![tactic(auto)]
 
+mod version;
+
 ghost use Rattle.std.specs.Prelude.{◌≡◌, ◌<◌, ◌≤◌, ◌⊎◌, length, IfOk, IfErr};
 ghost use Rattle.tds_play_c.specs.Plays.{IsReportText, IsFaultText, WritesReport, WritesFault};
 

@@ -123,7 +123,7 @@ rested_over n turn (Some places.Free) cs more h = ends_over n turn places.Free c
 rested_over n turn (Some places.Cleaning) cs more h = ends_over n turn places.Cleaning cs more h
 
 -- what is found by a number has it
-numbered_has : (n : ℕ) (cs : List Connection) (d : Connection) → numbered n cs ≡ Some d → d.number ≡ n
+pub numbered_has : (n : ℕ) (cs : List Connection) (d : Connection) → numbered n cs ≡ Some d → d.number ≡ n
 numbered_has n [] d h = absurd (cc)
 numbered_has n (c ∷ cs) d h = by (eqb c.number n) refl h (numbered_has n cs d) where
   seen : (o : Option Connection) → ℕ

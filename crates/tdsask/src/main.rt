@@ -35,7 +35,7 @@ Usage: tdsask ADDRESS WORD..
   --help, --version alone
 ";
 
-const VERSION: &str = "tdsask unreleased\n";
+const VERSION: &str = "tdsask 0.1.0\n";
 
 fn main(rt: HostRuntime) -> ExitCode {
     match run(&rt) {

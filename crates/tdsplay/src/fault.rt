@@ -12,6 +12,8 @@ pub enum ProgramFault {
     File,
     #[error("error: memory")]
     Memory,
+    #[error("error: output")]
+    Output,
 }
 
 impl ProgramFault {
@@ -19,7 +21,7 @@ impl ProgramFault {
     pub fn status(&self) -> u8 {
         match self {
             ProgramFault::Usage => 2,
-            ProgramFault::File | ProgramFault::Memory => 1,
+            ProgramFault::File | ProgramFault::Memory | ProgramFault::Output => 1,
         }
     }
 

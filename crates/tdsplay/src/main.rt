@@ -13,6 +13,9 @@ use tds_play::{Command, MemoryCarrier, read_words, run_play, run_show, run_vecto
 use tds_tcp::run_loopback;
 use tds_tokens::run_tokens;
 
+/// What `--version` alone prints.
+const VERSION: &str = "tdsplay 0.1.0\n";
+
 fn main(rt: HostRuntime) -> ExitCode {
     match run(&rt) {
         Ok(status) => ExitCode::from(status),
@@ -23,10 +26,25 @@ fn main(rt: HostRuntime) -> ExitCode {
     }
 }
 
-/// Finds the faults of the words and of opening the file; all else is the run's.
+/// Does what the words ask for.
 fn run(rt: &HostRuntime) -> Result<u8, ProgramFault> {
+    let words = given_words(rt)?;
+    match words.as_slice() {
+        [word] if word.as_str() == "--version" => print_version(rt),
+        words => run_command(rt, read_words(rt.alloc(), words)?),
+    }
+}
+
+fn print_version(rt: &HostRuntime) -> Result<u8, ProgramFault> {
+    match print!(rt; "{VERSION}") {
+        Ok(()) => Ok(0),
+        Err(_) => Err(ProgramFault::Output),
+    }
+}
+
+/// Runs a command. It finds the faults of opening its file; all else is the run's.
+fn run_command(rt: &HostRuntime, command: Command) -> Result<u8, ProgramFault> {
     let alloc = rt.alloc();
-    let command = command(rt)?;
     let mut output = rt.stdout();
     let mut errors = rt.stderr();
     match command {
@@ -46,13 +64,13 @@ fn run(rt: &HostRuntime) -> Result<u8, ProgramFault> {
     }
 }
 
-/// The command that the words behind the program's name ask for.
-fn command(rt: &HostRuntime) -> Result<Command, ProgramFault> {
+/// The words behind the program's name.
+fn given_words(rt: &HostRuntime) -> Result<Vec<String>, ProgramFault> {
     let mut words = Vec::new(rt.alloc());
     for word in env::args(rt).map_err(ProgramFault::of_words)?.skip(1) {
         words.push(word)?;
     }
-    Ok(read_words(rt.alloc(), words.as_slice())?)
+    Ok(words)
 }
 
 fn open(rt: &HostRuntime, name: &str) -> Result<File, ProgramFault> {

@@ -105,7 +105,7 @@ fn parser<'a>(alloc: Global) -> Result<Command<'a>, AllocError> {
 
 fn no_words<'a>(alloc: Global) -> Command<'a> {
     Command::new(alloc, "tdsserve")
-        .version("unreleased")
+        .version("0.1.0")
         .about("Serves the batch language (docs/PROTOCOL.md) to TDS drivers, on this machine")
         .after_help("Login is not part of what is proved: every name and password is let in.")
 }

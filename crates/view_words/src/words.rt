@@ -115,7 +115,7 @@ fn with<'a>(
 
 fn no_commands<'a>(alloc: Global) -> Parser<'a> {
     Parser::new(alloc, "tdsview")
-        .version("unreleased")
+        .version("0.1.0")
         .about("Plays a schedule over memory, and shows more of it than tdsplay prints")
         .after_help(
             "FILE is a schedule (docs/SCHEDULES.md), or a pipe as /dev/stdin.\n\
