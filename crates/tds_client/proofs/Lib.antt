@@ -16,3 +16,4 @@ pub mod Alike
 pub mod Lawful
 pub mod Finals
 pub mod Ends
+pub mod Waiting
