@@ -36,8 +36,8 @@ pub(crate) fn header(kind: Kind, status: Status, before: usize, data: &[u8]) -> 
     sent_header(kind, status, ((before + 1) % 256) as u8, data)
 }
 
-/// The header of a packet that isn't the last one of its message, and stands behind `before` others.
-/// Its data are two runs of bytes, one behind the other.
+/// The header of a packet that isn't the last one of its message, behind `before` others. Its data
+/// are two runs of bytes, one behind the other.
 #[inline(always)]
 pub(crate) fn full_header(
     kind: Kind,

@@ -5,7 +5,7 @@ ghost use Rattle.std.specs.Prelude.{IfOk, IfErr, OnErr, OnOk, length, take};
 ghost use Rattle.tds_packet.specs.Resets.{header_descriptor};
 ghost use Rattle.tds_client.specs.declared.client.filling.Fill.TheVariants.{Kept};
 ghost use Rattle.tds_client.specs.declared.client.parts.StageParts.TheVariants.{Sending};
-ghost use Rattle.tds_client.specs.Filling.{kept_by, out_by, room_of, taken_by};
+ghost use Rattle.tds_client.specs.Filling.{IsFull, kept_by, out_by, room_of, taken_by};
 ghost use Rattle.tds_client.specs.Parts.{AreParts, session_from, stage_from};
 ghost use Rattle.tds_client.specs.Sending.{IsRefusal, refusal_of};
 ghost use Rattle.tds_client.specs.Session.{unless_idle};
@@ -62,6 +62,7 @@ impl ClientParts {
               session = session_from self.new (kept_by filled kept.now bytes.now);
               bytes = out_by filled kept.now bytes.now;
             })) }
+        ensures full { IfOk result (λ filled. IsFull (room_of self.old) filled kept.now) }
         ensures within { IfOk result (λ filled. taken_by filled bytes.now ≤ length bytes.now) }
         // So what waits can be handed over again.
         ensures room { IfOk result (λ filled.
@@ -106,7 +107,7 @@ impl ClientParts {
         Fill::Kept
     }
 
-    /// Fills a packet of this type behind these others: these bytes end it, and one stands behind it.
+    /// Fills a packet of this type behind these others: these bytes end it, and one more waits.
     #[inline(always)]
     fn fill(&mut self, kind: Kind, packets: usize, kept: &[u8], bytes: &[u8]) -> Fill
         requires stage { self.old.stage ≡ Sending kind packets }
@@ -120,6 +121,7 @@ impl ClientParts {
               session = session_from self.new (kept_by result kept.now bytes.now);
               bytes = out_by result kept.now bytes.now;
             }) }
+        ensures full { IsFull (room_of self.old) result kept.now }
         ensures within { taken_by result bytes.now ≤ length bytes.now }
         ensures room { length (kept_by result kept.now bytes.now) ≤ room_of self.new }
         ensures whole { AreParts self.new.stage (kept_by result kept.now bytes.now) }
@@ -134,7 +136,8 @@ impl ClientParts {
     }
 
     /// Ends the message: `Client::finish` where the caller writes the last packet, which is the
-    /// header that is answered and what waits. The client reads the answer then. It takes no memory.
+    /// header that is answered and what waits. Then the client reads the answer. It takes no
+    /// memory.
     #[inline(always)]
     pub fn finish(&mut self, kept: &[u8]) -> Result<[u8; 8], ClientRefusal>
         requires room { length kept.now ≤ room_of self.old }

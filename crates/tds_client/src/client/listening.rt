@@ -108,7 +108,8 @@ impl ClientParts {
         }
     }
 
-    /// Hears that a message has ended (MS-TDS 2.2.3.1.2): `Client::end_message`. It takes no memory.
+    /// Hears that a message has ended (MS-TDS 2.2.3.1.2): `Client::end_message`. It takes no
+    /// memory.
     #[inline(always)]
     pub fn end_message(&mut self, rules: Rules) -> Result<Taken, ClientFault>
         ensures ended { (left : List ℕ) → IfOk result (λ answer.

@@ -1,4 +1,4 @@
-use Rattle.std.proofs.Common.{◌≡◌, ◌∙◌, ℕ, Bool, List, ap, sym, rules}
+use Rattle.std.proofs.Common.{◌≡◌, ◌∙◌, Bool, List, ap, sym, rules}
 use Rattle.std.specs.Prelude.{Result, Ok}
 use Rattle.tds_packet.specs.Layout.{bits_of, has_bit}
 use Rattle.tds_token.specs.declared.token.Token.{Token}

@@ -1,4 +1,4 @@
-use Rattle.std.proofs.Common.{◌≡◌, ◌≤◌, ◌+◌, ◌-◌, ℕ, length, ap, rules, arith}
+use Rattle.std.proofs.Common.{◌≤◌, rules, arith}
 use Rattle.tds_client.proofs.Waiting.{keep_is}
 use Rattle.tds_client.proofs.client.parts.ClientParts.keep.Goals as goal
 
