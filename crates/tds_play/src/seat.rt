@@ -22,7 +22,7 @@ use crate::NoMemory;
 use crate::carrier::Carrier;
 use crate::link::acts::on_cut;
 use crate::link::{EventDone, Link};
-use std::alloc::Global;
+use std::alloc::{AllocError, Global};
 use tds_pool::{GivenBack, Pool};
 use tds_session::Engine;
 use tds_world::{Event, Place, Snapshot};
@@ -107,7 +107,7 @@ impl<E: Engine + Drop> Held<E> {
         }
         // A play cleans no connection, so its client is there.
         let Some(client) = pool.at(self.link.number) else {
-            return Err(NoMemory);
+            return Err(AllocError);
         };
         let done = self.link.act(alloc, carrier, client, number, event)?;
         self.settle(carrier, pool, event);
