@@ -1,6 +1,6 @@
 -- The first bytes of a token, kept in a row of 24.
-use Rattle.std.proofs.Common.{◌≡◌, ◌∙◌, ◌≤◌, ◌<◌, ℕ, zero, suc, ◌+◌, ◌-◌, List, [], ◌∷◌, ◌++◌, length, take, drop, set, refl, sym, ap, arith, get_or}
-use Rattle.std.proofs.lemmas.List.{take_more, take_more_set, length-take, length-append, take_all, take_min, take-append-le, append-nil, take-append-drop}
+use Rattle.std.proofs.Common.{◌≡◌, ◌∙◌, ◌≤◌, ◌<◌, ℕ, ◌+◌, List, [], ◌∷◌, ◌++◌, length, take, drop, set, sym, ap, arith, get_or}
+use Rattle.std.proofs.lemmas.List.{take_more, take_more_set, length-take, take_all, take_min, take-append-le, append-nil, take-append-drop}
 use Rattle.tds_wire.specs.declared.head.Head.{Head}
 use Rattle.tds_wire.specs.Lent.{head_of}
 use Rattle.tds_wire.specs.Reading.{kept}

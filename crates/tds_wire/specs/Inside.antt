@@ -1,5 +1,5 @@
 -- The fields of a cursor.
-use Rattle.std.specs.Prelude.{◌≡◌, ◌<◌, ◌≤◌, ℕ, length, vec_capacity}
+use Rattle.std.specs.Prelude.{◌≡◌, ◌<◌, ◌≤◌, ℕ, length}
 use Rattle.tds_wire.specs.Walking.{Walk}
 use Rattle.tds_wire.specs.declared.cursor.Step.{Step}
 use Rattle.tds_wire.specs.declared.fault.WireFault.{WireFault}

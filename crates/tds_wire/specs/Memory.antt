@@ -1,5 +1,5 @@
 -- What a walk's memory stands for.
-use Rattle.std.specs.Prelude.{ℕ, ◌==◌, List, map, take, min, if◌then◌else◌}
+use Rattle.std.specs.Prelude.{◌==◌, List, map, take, min, if◌then◌else◌}
 use Rattle.tds_wire.specs.declared.shape.Shape.{Shape}
 use Rattle.tds_wire.specs.declared.shape.Shape.TheVariants as shape
 use Rattle.tds_wire.specs.declared.due.Due.{Due}

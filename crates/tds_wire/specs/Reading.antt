@@ -1,5 +1,5 @@
 -- A walker over an answer's bytes: where its cursor is, where in the message, and the first bytes of the token that it is in.
-use Rattle.std.specs.Prelude.{◌≡◌, ◌≤◌, ℕ, ◌-◌, ◌==◌, ◌&&◌, Bool, true, false, List, [], ◌++◌, length, take, drop, get_or, Option, Some, None, Result, Ok, Err}
+use Rattle.std.specs.Prelude.{◌≡◌, ℕ, ◌-◌, ◌==◌, ◌&&◌, Bool, true, false, List, [], ◌++◌, length, take, drop, get_or, Option, Some, None, Result, Ok, Err}
 use Rattle.tds_wire.specs.declared.due.Standing.{Standing}
 use Rattle.tds_wire.specs.declared.due.Standing.TheVariants.{Between, Going, Failing}
 use Rattle.tds_wire.specs.declared.fault.Refusal.{Refusal}
