@@ -1,6 +1,8 @@
 mod Cutting
 mod Feeding
 mod Kept
+mod Memories
+mod Heads
 mod Agreed
 mod Walks
 mod WhatIsDue

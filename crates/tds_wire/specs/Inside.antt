@@ -1,6 +1,5 @@
 -- The fields of a cursor.
-use Rattle.std.specs.Prelude.{◌≡◌, ◌<◌, ◌≤◌, ℕ, length, vec_capacity}
-use Rattle.tds_wire.specs.declared.cursor.Cursor.TheInside.{Inside}
+use Rattle.std.specs.Prelude.{◌≡◌, ◌<◌, ◌≤◌, ℕ, length}
 use Rattle.tds_wire.specs.Walking.{Walk}
 use Rattle.tds_wire.specs.declared.cursor.Step.{Step}
 use Rattle.tds_wire.specs.declared.fault.WireFault.{WireFault}
@@ -8,16 +7,6 @@ use Rattle.tds_wire.specs.declared.due.Standing.TheVariants.{Failing}
 use Rattle.tds_wire.specs.Bytes.{standing}
 use Rattle.tds_wire.specs.declared.due.Due.TheVariants.{Token}
 use Rattle.tds_wire.specs.declared.cursor.Step.TheVariants as steps
-
-abbrev pub walk_of : Inside → Walk
-walk_of a = record { at = a.at; columns = a.columns.items; nulls = a.nulls; most = a.most; features = a.features }
-
-pub record IsCursor (a : Inside) : Type 0 where
-  -- every column has room that was reserved
-  pub room : a.most ≤ vec_capacity a.columns
-  pub most : a.most ≤ 4096
-  pub few : length a.columns.items ≤ a.most
-  pub nulls : length a.nulls ≡ 512
 
 -- between two tokens, within its bounds
 pub record IsBetween (w : Walk) : Type 0 where

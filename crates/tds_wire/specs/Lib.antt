@@ -3,7 +3,10 @@ pub mod Numbers
 pub mod Types
 pub mod Layout
 pub mod Walking
+pub mod Memory
 pub mod Bytes
 pub mod Inside
 pub mod Told
 pub mod Reading
+pub mod Lent
+pub mod Owned

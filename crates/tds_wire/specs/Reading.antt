@@ -1,12 +1,11 @@
 -- A walker over an answer's bytes: where its cursor is, where in the message, and the first bytes of the token that it is in.
-use Rattle.std.specs.Prelude.{◌≡◌, ◌≤◌, ℕ, ◌-◌, ◌==◌, ◌&&◌, Bool, true, false, List, [], ◌++◌, length, take, drop, get_or, Option, Some, None, Result, Ok, Err, vec_capacity}
+use Rattle.std.specs.Prelude.{◌≡◌, ℕ, ◌-◌, ◌==◌, ◌&&◌, Bool, true, false, List, [], ◌++◌, length, take, drop, get_or, Option, Some, None, Result, Ok, Err}
 use Rattle.tds_wire.specs.declared.due.Standing.{Standing}
 use Rattle.tds_wire.specs.declared.due.Standing.TheVariants.{Between, Going, Failing}
 use Rattle.tds_wire.specs.declared.fault.Refusal.{Refusal}
 use Rattle.tds_wire.specs.declared.fault.WireFault.{WireFault}
 use Rattle.tds_wire.specs.declared.told.Token.{Token}
-use Rattle.tds_wire.specs.declared.walker.Fed.{Fed}
-use Rattle.tds_wire.specs.declared.walker.Walker.TheInside as fields
+use Rattle.tds_wire.specs.declared.lent.Fed.{Fed}
 use Rattle.tds_wire.specs.declared.shape.Shape.{Shape}
 use Rattle.tds_wire.specs.Bytes as bytes
 use Rattle.tds_wire.specs.Bytes.{Went, Over, Within, Failed, onward, seen_of, standing}
@@ -21,9 +20,6 @@ pub record Reading : Type 0 where
   pub start : ℕ
   pub passed : ℕ
   pub refused : Option Refusal
-
-abbrev pub reading_of : fields.Inside → Reading
-reading_of a = record { walk = a.cursor; head = a.head.items; start = a.start; passed = a.passed; refused = a.refused }
 
 -- the first bytes of a token, with more of it
 abbrev pub kept : List ℕ → List ℕ → List ℕ
@@ -109,11 +105,6 @@ pub record IsReady (r : Reading) : Type 0 where
   pub head : r.head ≡ []
   pub passed : r.passed ≡ 0
   pub whole : r.refused ≡ None
-
-pub record IsWalker (a : fields.Inside) : Type 0 where
-  -- the first bytes have room that was reserved
-  pub room : 24 ≤ vec_capacity a.head
-  pub few : length a.head.items ≤ 24
 
 -- before the first token of a message
 abbrev pub restarted : Reading → Reading

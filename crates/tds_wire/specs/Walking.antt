@@ -295,8 +295,11 @@ columns_counted w n =
     else columns_listed w n
 
 -- eight bits of the null bitmap, of which so many bytes came before
+abbrev pub keeping : List ℕ → ℕ → ℕ → List ℕ
+keeping nulls place byte = if nat_lt place 512 then slice_set nulls place byte else nulls
+
 abbrev pub keeping_nulls : Walk → ℕ → ℕ → Walk
-keeping_nulls w place byte = record w { nulls = (if nat_lt place 512 then slice_set w.nulls place byte else w.nulls) }
+keeping_nulls w place byte = record w { nulls = keeping w.nulls place byte }
 
 unfoldable pub nulls_taken : Walk → ℕ → ℕ → Walk
 nulls_taken w place byte =

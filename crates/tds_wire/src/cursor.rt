@@ -1,8 +1,10 @@
 //! Where in the tokens of an answer its bytes have led.
-ghost use Rattle.std.specs.Prelude.{◌≡◌, ◌≤◌, IfOk, []};
+ghost use Rattle.std.specs.Prelude.{◌≡◌, min};
 ghost use Rattle.tds_wire.specs.Bytes.{restarted};
-ghost use Rattle.tds_wire.specs.Walking.{broken, ended, with_due, with_inside, with_number, with_run};
 ghost use Rattle.tds_wire.specs.Inside.{IsBetween};
+ghost use Rattle.tds_wire.specs.Memory.{due_in, walk_of};
+ghost use Rattle.tds_wire.specs.Walking.{number_due};
+ghost use Rattle.tds_wire.specs.declared.due.Due.TheVariants.{Broken, Run, Token};
 
 mod columns;
 mod feeding;
@@ -11,13 +13,11 @@ mod numbers;
 mod rows;
 mod tokens;
 
-use crate::NoMemory;
 use crate::due::{At, Due, Field, Inside, Next};
 use crate::fault::WireFault;
 use crate::features::Features;
+use crate::memory::Memory;
 use crate::shape::Shape;
-use std::alloc::Global;
-use std::marker::Model;
 
 /// Where bytes led.
 pub enum Step {
@@ -29,39 +29,23 @@ pub enum Step {
     Failed(WireFault, usize),
 }
 
-/// Where bytes have led. No value is kept: what is remembered is the shape of each column, a null
-/// bitmap, and which number or run of bytes is due.
-#[derive(Drop)]
+/// Where bytes have led, beside the columns and the null bitmap, which are in a memory. No value is kept.
+#[derive(Clone, Copy)]
 pub struct Cursor {
-    at: At,
-    columns: Vec<Shape>,
-    nulls: [u8; 512],
-    most: u16,
-    features: Features,
-}
-
-impl Model for Cursor {
-    ghost use Rattle.tds_wire.specs.Walking.{Walk};
-    ghost use Rattle.tds_wire.specs.Inside.{IsCursor, walk_of};
-
-    ghost Value = { Walk };
-
-    ghost view = { walk_of };
-
-    ghost invariant = { IsCursor };
+    pub at: At,
+    /// For how many columns there is room, at most 4,096.
+    pub most: u16,
+    pub features: Features,
 }
 
 impl Cursor {
-    /// Before the first token of an answer, with no columns, and room for so many.
-    pub fn new(alloc: Global, most: u16, features: Features) -> Result<Cursor, NoMemory>
-        requires { most ≤ 4096 }
-        ensures between { IfOk result (λ cursor. IsBetween cursor) }
-        ensures columns { IfOk result (λ cursor. cursor.columns ≡ []) }
-        ensures most { IfOk result (λ cursor. cursor.most ≡ most) }
-        ensures features { IfOk result (λ cursor. cursor.features ≡ features) }
+    /// Before the first token of an answer, with room for so many columns.
+    pub fn new(most: u16, features: Features) -> Cursor
+        ensures due { result.at.due ≡ Token }
+        ensures most { result.most ≡ most }
+        ensures features { result.features ≡ features }
     {
-        let columns = Vec::with_capacity(alloc, usize::from(most))?;
-        Ok(Cursor {
+        Cursor {
             at: At {
                 due: Due::Token,
                 kind: 0,
@@ -71,52 +55,51 @@ impl Cursor {
                 left: 0,
                 parts: 0,
             },
-            columns,
-            nulls: [0; 512],
             most,
             features,
-        })
+        }
     }
 
-    /// The first byte of the token that it is in, or behind.
-    pub fn kind(&self) -> u8
-        ensures { result ≡ self.now.at.kind }
+    /// For how many columns there is room.
+    fn room(&self) -> u16
+        ensures { result ≡ min 4096 self.now.most }
     {
-        self.at.kind
+        if self.most < 4096 { self.most } else { 4096 }
     }
 
     /// Begins anew, before the first token of a message, with no columns.
-    pub fn restart(&mut self)
-        ensures state { self.new ≡ restarted self.old }
-        ensures between { IsBetween self.new }
+    pub fn restart(&mut self, memory: &mut Memory)
+        ensures state { walk_of self.new memory.new ≡ restarted (walk_of self.old memory.old) }
+        ensures between { IsBetween (walk_of self.new memory.new) }
     {
-        self.columns.clear();
+        memory.clear();
+        memory.bounds();
         self.end();
     }
 
     /// A token has ended.
     fn end(&mut self)
-        ensures { self.new ≡ ended self.old }
+        ensures { self.new ≡ due_in self.old Token }
     {
         self.at.due = Due::Token;
     }
 
     /// A number is due.
     fn expect(&mut self, field: Field)
-        ensures { self.new ≡ with_number self.old field }
+        ensures { self.new ≡ due_in self.old (number_due field) }
     {
         self.at.due = Due::number(field);
     }
 
     /// A run of bytes is due, at least one.
     fn expect_run(&mut self, left: u64, next: Next)
-        ensures { self.new ≡ with_run self.old left next }
+        ensures { self.new ≡ due_in self.old (Run left next) }
     {
         self.at.due = Due::Run { left, next };
     }
 
     fn break_by(&mut self, fault: WireFault)
-        ensures { self.new ≡ broken self.old fault }
+        ensures { self.new ≡ due_in self.old (Broken fault) }
     {
         self.at.due = Due::Broken(fault);
     }

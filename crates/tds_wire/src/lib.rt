@@ -7,17 +7,29 @@ mod cursor;
 mod due;
 mod fault;
 mod features;
+mod head;
 mod laws;
+mod lent;
+mod memory;
 mod shape;
 mod told;
 mod types;
 mod walker;
 
+pub use cursor::Cursor;
+pub use due::{
+    At, ColumnField, Due, Field, Inside, KeyField, LabelField, Next, TokenField, TypeField,
+    ValueField,
+};
 pub use fault::{Refusal, WireFault};
 pub use features::Features;
+pub use head::Head;
 pub use laws::{cuts_do_not_matter, tokens_are_passed};
+pub use lent::{Fed, LentWalk};
+pub use memory::{Column, Memory};
+pub use shape::Shape;
 pub use told::{Change, ChangeValue, Done, Message, Place, SessionState, Token, Told};
-pub use walker::{Fed, Walker};
+pub use walker::Walker;
 
 /// The answer of a growth that was refused.
 pub type NoMemory = std::alloc::AllocError;

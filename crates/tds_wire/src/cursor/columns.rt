@@ -1,29 +1,31 @@
 //! Columns, parameters and keys.
+ghost use Rattle.tds_wire.specs.Memory.{walk_of};
 ghost use Rattle.std.specs.Prelude.{◌≡◌};
 ghost use Rattle.tds_wire.specs.Walking.{based, behind_table, behind_type, ciphered, column_begun, column_described, columns_begun, columns_counted, columns_listed, described, key_begun, key_passed, key_valued, named, parameter_described, parameter_typed, parted};
 
 use crate::cursor::Cursor;
 use crate::due::{ColumnField, Due, Field, Inside, KeyField, Next, TypeField};
 use crate::fault::WireFault;
+use crate::memory::Memory;
 use crate::shape::Shape;
 
 impl Cursor {
-    fn begin_column(&mut self)
-        ensures { self.new ≡ column_begun self.old }
+    fn begin_column(&mut self, memory: &mut Memory)
+        ensures { walk_of self.new memory.new ≡ column_begun (walk_of self.old memory.old) }
     {
         self.expect_run(4, Next::Then(Field::Column(ColumnField::Flags)));
     }
 
     /// Begins the columns, behind their keys.
-    pub fn begin_columns(&mut self)
-        ensures { self.new ≡ columns_begun self.old.at.inside self.old }
+    pub fn begin_columns(&mut self, memory: &mut Memory)
+        ensures { walk_of self.new memory.new ≡ columns_begun self.old.at.inside (walk_of self.old memory.old) }
     {
         match self.at.inside {
             Inside::Columns(left) => {
                 if left == 0 {
                     self.end();
                 } else {
-                    self.begin_column();
+                    self.begin_column(memory);
                 }
             }
             Inside::Parameter => self.end(),
@@ -35,34 +37,34 @@ impl Cursor {
     }
 
     /// Begins a list of so many columns.
-    fn list_columns(&mut self, count: u16)
-        ensures { self.new ≡ columns_listed self.old count }
+    fn list_columns(&mut self, memory: &mut Memory, count: u16)
+        ensures { walk_of self.new memory.new ≡ columns_listed (walk_of self.old memory.old) count }
     {
-        self.columns.clear();
+        memory.clear();
         self.at.inside = Inside::Columns(count);
         if self.features.encryption {
             self.expect(Field::Key(KeyField::Keys));
         } else {
-            self.begin_columns();
+            self.begin_columns(memory);
         }
     }
 
     #[tactic(auto, unfolding(crate::specs::Walking::columns_counted))]
-    pub fn count_columns(&mut self, count: u16)
-        ensures { self.new ≡ columns_counted self.old count }
+    pub fn count_columns(&mut self, memory: &mut Memory, count: u16)
+        ensures { walk_of self.new memory.new ≡ columns_counted (walk_of self.old memory.old) count }
     {
         if count == 65_535 {
             self.end();
-        } else if count > self.most {
+        } else if count > self.room() {
             self.break_by(WireFault::ManyColumns);
         } else {
-            self.list_columns(count);
+            self.list_columns(memory, count);
         }
     }
 
     #[tactic(auto, unfolding(crate::specs::Walking::parameter_typed))]
-    fn begin_parameter_value(&mut self)
-        ensures { self.new ≡ parameter_typed self.old }
+    fn begin_parameter_value(&mut self, memory: &mut Memory)
+        ensures { walk_of self.new memory.new ≡ parameter_typed (walk_of self.old memory.old) }
     {
         let shape = self.at.shape;
         if shape.has_no_bytes() {
@@ -73,8 +75,8 @@ impl Cursor {
     }
 
     /// Begins crypto metadata.
-    fn begin_base(&mut self)
-        ensures { self.new ≡ based self.old.at.inside self.old }
+    fn begin_base(&mut self, memory: &mut Memory)
+        ensures { walk_of self.new memory.new ≡ based self.old.at.inside (walk_of self.old memory.old) }
     {
         match self.at.inside {
             Inside::Columns(left) => {
@@ -94,60 +96,60 @@ impl Cursor {
 
     /// Goes on behind a column's type, and the name of its table where it has one.
     #[tactic(auto, unfolding(crate::specs::Walking::behind_table))]
-    pub fn end_table(&mut self)
-        ensures { self.new ≡ behind_table self.old }
+    pub fn end_table(&mut self, memory: &mut Memory)
+        ensures { walk_of self.new memory.new ≡ behind_table (walk_of self.old memory.old) }
     {
         if self.at.ciphered {
-            self.begin_base();
+            self.begin_base(memory);
         } else {
             self.expect(Field::Column(ColumnField::ColumnName));
         }
     }
 
-    fn begin_table(&mut self, shape: Shape)
-        ensures { self.new ≡ behind_type shape self.old }
+    fn begin_table(&mut self, memory: &mut Memory, shape: Shape)
+        ensures { walk_of self.new memory.new ≡ behind_type shape (walk_of self.old memory.old) }
     {
         match shape {
             Shape::Pointer => self.expect(Field::Column(ColumnField::TableParts)),
-            Shape::Fixed(_) => self.end_table(),
-            Shape::Byte => self.end_table(),
-            Shape::Short => self.end_table(),
-            Shape::Long => self.end_table(),
-            Shape::Parts => self.end_table(),
+            Shape::Fixed(_) => self.end_table(memory),
+            Shape::Byte => self.end_table(memory),
+            Shape::Short => self.end_table(memory),
+            Shape::Long => self.end_table(memory),
+            Shape::Parts => self.end_table(memory),
         }
     }
 
     #[tactic(auto, unfolding(crate::specs::Walking::column_described))]
-    fn end_column_type(&mut self)
-        ensures { self.new ≡ column_described self.old }
+    fn end_column_type(&mut self, memory: &mut Memory)
+        ensures { walk_of self.new memory.new ≡ column_described (walk_of self.old memory.old) }
     {
         let shape = self.at.shape;
-        if self.columns.len() < usize::from(self.most) {
-            self.columns.push_reserved(shape);
-            self.begin_table(shape);
+        if memory.count() < self.room() {
+            memory.push(shape);
+            self.begin_table(memory, shape);
         } else {
             self.break_by(WireFault::ManyColumns);
         }
     }
 
     #[tactic(auto, unfolding(crate::specs::Walking::parameter_described))]
-    fn end_parameter_type(&mut self)
-        ensures { self.new ≡ parameter_described self.old }
+    fn end_parameter_type(&mut self, memory: &mut Memory)
+        ensures { walk_of self.new memory.new ≡ parameter_described (walk_of self.old memory.old) }
     {
         if self.at.ciphered {
-            self.begin_base();
+            self.begin_base(memory);
         } else {
-            self.begin_parameter_value();
+            self.begin_parameter_value(memory);
         }
     }
 
     /// A type has been passed.
-    pub fn describe(&mut self)
-        ensures { self.new ≡ described self.old.at.inside self.old }
+    pub fn describe(&mut self, memory: &mut Memory)
+        ensures { walk_of self.new memory.new ≡ described self.old.at.inside (walk_of self.old memory.old) }
     {
         match self.at.inside {
-            Inside::Columns(_) => self.end_column_type(),
-            Inside::Parameter => self.end_parameter_type(),
+            Inside::Columns(_) => self.end_column_type(memory),
+            Inside::Parameter => self.end_parameter_type(memory),
             Inside::Row(_) => self.end(),
             Inside::NullRow(_) => self.end(),
             Inside::ColumnBase(_) => self.expect(Field::Column(ColumnField::Cipher)),
@@ -156,8 +158,8 @@ impl Cursor {
     }
 
     /// Crypto metadata have been passed.
-    pub fn end_base(&mut self)
-        ensures { self.new ≡ ciphered self.old.at.inside self.old }
+    pub fn end_base(&mut self, memory: &mut Memory)
+        ensures { walk_of self.new memory.new ≡ ciphered self.old.at.inside (walk_of self.old memory.old) }
     {
         match self.at.inside {
             Inside::Columns(_) => self.end(),
@@ -171,33 +173,33 @@ impl Cursor {
             Inside::ParameterBase(shape) => {
                 self.at.inside = Inside::Parameter;
                 self.at.shape = shape;
-                self.begin_parameter_value();
+                self.begin_parameter_value(memory);
             }
         }
     }
 
     /// A part of a table's name has been passed.
     #[tactic(auto, unfolding(crate::specs::Walking::parted))]
-    pub fn end_part(&mut self)
-        ensures { self.new ≡ parted self.old }
+    pub fn end_part(&mut self, memory: &mut Memory)
+        ensures { walk_of self.new memory.new ≡ parted (walk_of self.old memory.old) }
     {
         if self.at.parts > 1 {
             self.at.parts -= 1;
             self.expect(Field::Column(ColumnField::TablePart));
         } else {
-            self.end_table();
+            self.end_table(memory);
         }
     }
 
     /// A column's name has been passed.
-    pub fn end_name(&mut self)
-        ensures { self.new ≡ named self.old.at.inside self.old }
+    pub fn end_name(&mut self, memory: &mut Memory)
+        ensures { walk_of self.new memory.new ≡ named self.old.at.inside (walk_of self.old memory.old) }
     {
         match self.at.inside {
             Inside::Columns(left) => {
                 if left > 1 {
                     self.at.inside = Inside::Columns(left - 1);
-                    self.begin_column();
+                    self.begin_column(memory);
                 } else {
                     self.end();
                 }
@@ -210,33 +212,33 @@ impl Cursor {
         }
     }
 
-    pub fn begin_key(&mut self)
-        ensures { self.new ≡ key_begun self.old }
+    pub fn begin_key(&mut self, memory: &mut Memory)
+        ensures { walk_of self.new memory.new ≡ key_begun (walk_of self.old memory.old) }
     {
         self.expect_run(20, Next::Then(Field::Key(KeyField::KeyValues)));
     }
 
     #[tactic(auto, unfolding(crate::specs::Walking::key_passed))]
-    pub fn end_key(&mut self)
-        ensures { self.new ≡ key_passed self.old }
+    pub fn end_key(&mut self, memory: &mut Memory)
+        ensures { walk_of self.new memory.new ≡ key_passed (walk_of self.old memory.old) }
     {
         if self.at.left > 1 {
             self.at.left -= 1;
-            self.begin_key();
+            self.begin_key(memory);
         } else {
-            self.begin_columns();
+            self.begin_columns(memory);
         }
     }
 
     #[tactic(auto, unfolding(crate::specs::Walking::key_valued))]
-    pub fn end_key_value(&mut self)
-        ensures { self.new ≡ key_valued self.old }
+    pub fn end_key_value(&mut self, memory: &mut Memory)
+        ensures { walk_of self.new memory.new ≡ key_valued (walk_of self.old memory.old) }
     {
         if self.at.parts > 1 {
             self.at.parts -= 1;
             self.expect(Field::Key(KeyField::KeyValue));
         } else {
-            self.end_key();
+            self.end_key(memory);
         }
     }
 }

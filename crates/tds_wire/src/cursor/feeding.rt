@@ -1,4 +1,5 @@
 //! Bytes.
+ghost use Rattle.tds_wire.specs.Memory.{walk_of};
 ghost use Rattle.std.specs.Prelude.{◌≡◌, ◌<◌, ◌≤◌, true, false, drop, length};
 ghost use Rattle.tds_wire.specs.Bytes.{Within, onward, standing, step, to_end, went_of};
 ghost use Rattle.tds_wire.specs.Inside.{EndsBetween, IsBetween, IsOn, IsWithin, Moves};
@@ -7,15 +8,16 @@ ghost use Rattle.tds_wire.specs.declared.due.Standing.TheVariants.{Between};
 
 use crate::cursor::{Cursor, Step};
 use crate::due::{Due, Next, Standing};
+use crate::memory::Memory;
 
 impl Cursor {
     /// Takes a byte.
     #[tactic(auto, unfolding(crate::specs::Bytes::step))]
-    fn take(&mut self, byte: u8)
-        ensures { self.new ≡ step self.old byte }
+    fn take(&mut self, memory: &mut Memory, byte: u8)
+        ensures { walk_of self.new memory.new ≡ step (walk_of self.old memory.old) byte }
     {
         match self.at.due {
-            Due::Token => self.take_kind(byte),
+            Due::Token => self.take_kind(memory, byte),
             Due::Number { field, left, value } => {
                 let value = field.width().shifted(value, byte);
                 if left > 1 {
@@ -25,63 +27,64 @@ impl Cursor {
                         value,
                     };
                 } else {
-                    self.arrive(field, value);
+                    self.arrive(memory, field, value);
                 }
             }
             Due::Run { left, next } => {
                 if left > 1 {
                     self.expect_run(left - 1, next);
                 } else {
-                    self.go(next);
+                    self.go(memory, next);
                 }
             }
             Due::Broken(_) => {}
         }
     }
 
-    pub fn standing(&self) -> Standing
+    pub fn standing(&self, memory: &Memory) -> Standing
         ensures due { result ≡ standing self.now.at.due }
-        ensures between { result ≡ Between → IsBetween self.now }
+        ensures between { result ≡ Between → IsBetween (walk_of self.now memory.now) }
     {
+        memory.bounds();
         self.at.due.standing()
     }
 
     /// Passes a run of bytes at once, or as much of it as there is. Answers how many.
-    fn pass_run(&mut self, left: u64, next: Next, bytes: &[u8]) -> usize
+    fn pass_run(&mut self, memory: &mut Memory, left: u64, next: Next, bytes: &[u8]) -> usize
         requires some { 0 < length bytes.now }
         requires due { self.old.at.due ≡ Run left next }
         ensures within { result ≤ length bytes.now }
         ensures moves { 0 < result }
-        ensures exact { onward self.old bytes.now ≡ to_end self.new (drop result bytes.now) }
+        ensures exact { onward (walk_of self.old memory.old) bytes.now ≡ to_end (walk_of self.new memory.new) (drop result bytes.now) }
     {
         if left > bytes.len() as u64 {
             self.expect_run(left - bytes.len() as u64, next);
             bytes.len()
         } else {
-            self.go(next);
+            self.go(memory, next);
             left.max(1) as usize
         }
     }
 
     /// Passes a run of bytes, or takes one byte. Answers how many.
-    fn advance(&mut self, bytes: &[u8]) -> usize
+    fn advance(&mut self, memory: &mut Memory, bytes: &[u8]) -> usize
         requires some { 0 < length bytes.now }
-        requires on { IsOn self.old }
+        requires on { IsOn (walk_of self.old memory.old) }
         ensures within { result ≤ length bytes.now }
         ensures moves { 0 < result }
-        ensures exact { onward self.old bytes.now ≡ to_end self.new (drop result bytes.now) }
+        ensures exact { onward (walk_of self.old memory.old) bytes.now ≡ to_end (walk_of self.new memory.new) (drop result bytes.now) }
     {
         if let Due::Run { left, next } = self.at.due {
-            return self.pass_run(left, next, bytes);
+            return self.pass_run(memory, left, next, bytes);
         }
-        self.take(bytes[0]);
+        self.take(memory, bytes[0]);
         1
     }
 
     /// Passes a piece that ends inside a run of bytes. Whether it does.
-    fn pass_middle(&mut self, piece: &[u8]) -> bool
-        ensures inside { result ≡ true → onward self.old piece.now ≡ Within self.new }
-        ensures other { result ≡ false → self.new ≡ self.old }
+    fn pass_middle(&mut self, memory: &mut Memory, piece: &[u8]) -> bool
+        ensures inside { result ≡ true → onward (walk_of self.old memory.old) piece.now ≡ Within (walk_of self.new memory.new) }
+        ensures other { result ≡ false → walk_of self.new memory.new ≡ (walk_of self.old memory.old) }
     {
         if let Due::Run { left, next } = self.at.due {
             if left > piece.len() as u64 {
@@ -93,33 +96,33 @@ impl Cursor {
     }
 
     /// Takes bytes up to the end of one token. After a fault it takes no more.
-    pub fn feed(&mut self, piece: &[u8]) -> Step
+    pub fn feed(&mut self, memory: &mut Memory, piece: &[u8]) -> Step
         ensures within { IsWithin result (length piece.now) }
         ensures moves { Moves result (length piece.now) }
-        ensures ends { EndsBetween result self.new }
-        ensures exact { went_of result self.new piece.now ≡ onward self.old piece.now }
+        ensures ends { EndsBetween result (walk_of self.new memory.new) }
+        ensures exact { went_of result (walk_of self.new memory.new) piece.now ≡ onward (walk_of self.old memory.old) piece.now }
     {
-        if self.pass_middle(piece) {
+        if self.pass_middle(memory, piece) {
             Step::Within
         } else {
-            self.feed_on(piece)
+            self.feed_on(memory, piece)
         }
     }
 
     /// The same of any piece, a run of bytes or a byte at a time.
-    fn feed_on(&mut self, piece: &[u8]) -> Step
+    fn feed_on(&mut self, memory: &mut Memory, piece: &[u8]) -> Step
         ensures within { IsWithin result (length piece.now) }
         ensures moves { Moves result (length piece.now) }
-        ensures ends { EndsBetween result self.new }
-        ensures exact { went_of result self.new piece.now ≡ onward self.old piece.now }
+        ensures ends { EndsBetween result (walk_of self.new memory.new) }
+        ensures exact { went_of result (walk_of self.new memory.new) piece.now ≡ onward (walk_of self.old memory.old) piece.now }
     {
-        if let Standing::Failing(fault) = self.standing() {
+        if let Standing::Failing(fault) = self.standing(memory) {
             return Step::Failed(fault, 0);
         }
         let mut done = 0;
         'bytes: while done < piece.len() {
-            done += self.advance(&piece[done..]);
-            match self.standing() {
+            done += self.advance(memory, &piece[done..]);
+            match self.standing(memory) {
                 Standing::Between => return Step::Over(done),
                 Standing::Going => {}
                 Standing::Failing(fault) => return Step::Failed(fault, done),

@@ -1,3 +1,4 @@
+use Rattle.tds_wire.specs.Memory.{walk_of}
 use Rattle.std.proofs.Common.{◌≡◌, ◌-◌, ◌≤◌, length, drop}
 use Rattle.tds_wire.specs.Bytes.{onward, standing}
 use Rattle.tds_wire.specs.declared.fault.WireFault.{WireFault}
@@ -7,7 +8,7 @@ use Rattle.tds_wire.proofs.cursor.Cursor.feed_on.Given as goal
 -- what is left of the piece does what all of it is to do
 abbrev pub invariant-bytes : goal.invariant-bytes
 invariant-bytes l = record {
-  does : onward l.fn.self l.piece ≡ onward l.self (drop l.done l.piece);
+  does : onward (walk_of l.fn.self l.fn.memory) l.piece ≡ onward (walk_of l.self l.memory) (drop l.done l.piece);
   within : l.done ≤ length l.piece;
   on : (fault : WireFault) → standing l.self.at.due ≡ Failing fault → ⊥;
 }

@@ -1,7 +1,8 @@
+use Rattle.tds_wire.specs.Memory.{shapes_of}
 use Rattle.std.proofs.Common.{rules, refl, sym, ◌∙◌, arith, ◌≡◌, ◌<◌, ◌≤◌, ◌+◌, ◌-◌, ℕ, suc, Bool, true, false, length, List, if◌then◌else◌}
 use Rattle.tds_wire.specs.declared.shape.Shape.{Shape}
 use Rattle.tds_wire.specs.Walking.{is_skipped, next_value}
-use Rattle.tds_wire.proofs.cursor.Cursor.next_value.Goals as goal
+use Rattle.tds_wire.proofs.cursor.rows.next_value.Goals as goal
 
 -- what is found among the columns that are left, by the next one
 value_next : (b : Bool) (nulls : List ℕ) (columns : List Shape) (i n : ℕ) → i < n → next_value b nulls columns i (n - i)
@@ -25,15 +26,15 @@ value_ends b nulls columns i n h =
 
 pub returns-then-not-is_skipped : goal.returns-then-not-is_skipped
 returns-then-not-is_skipped c =
-    let e = value_found c.args.with_nulls c.args.self.now.nulls c.args.self.now.columns c.columns.column (length c.args.self.now.columns) (search rules) (search rules) in
+    let e = value_found c.args.with_nulls c.args.memory.now.nulls (shapes_of c.args.memory.now) c.columns.column (length (shapes_of c.args.memory.now)) (search rules) (search rules) in
     sym e ∙ sym c.columns.invariant
 
 pub columns-preserved : goal.columns-preserved
 columns-preserved c =
-    let e = value_skipped c.args.with_nulls c.args.self.now.nulls c.args.self.now.columns c.columns.column (length c.args.self.now.columns) (search rules) (search rules) in
+    let e = value_skipped c.args.with_nulls c.args.memory.now.nulls (shapes_of c.args.memory.now) c.columns.column (length (shapes_of c.args.memory.now)) (search rules) (search rules) in
     c.columns.invariant ∙ e
 
 pub returns : goal.returns
 returns c =
-    let e = value_ends c.args.with_nulls c.args.self.now.nulls c.args.self.now.columns c.columns.column (length c.args.self.now.columns) (search rules) in
+    let e = value_ends c.args.with_nulls c.args.memory.now.nulls (shapes_of c.args.memory.now) c.columns.column (length (shapes_of c.args.memory.now)) (search rules) in
     sym e ∙ sym c.columns.invariant

@@ -1,0 +1,54 @@
+use Rattle.std.proofs.Common.{rules, ◌≡◌, ◌∙◌, ap, sym, drop}
+use Rattle.std.specs.Prelude.{None}
+use Rattle.tds_wire.specs.declared.told.Token.{Token}
+use Rattle.tds_wire.specs.Told.{added}
+use Rattle.tds_wire.specs.Memory.{walk_of}
+use Rattle.tds_wire.specs.Lent.{reading_of}
+use Rattle.tds_wire.specs.Reading.{Reading, Refuses}
+use Rattle.tds_wire.proofs.Agreed.{keeps_over, keeps_within}
+use Rattle.tds_wire.proofs.Feeding.{feeds_refusal, feeds_over, feeds_inside, feeds_fault, inside_same, sees_same}
+use Rattle.tds_wire.proofs.lent.LentWalk.feed.Goals as goal
+
+pub returns-in-Some-clause-exact : goal.returns-in-Some-clause-exact
+returns-in-Some-clause-exact c = feeds_refusal (reading_of c.args.self.now c.args.memory.now) c.args.piece.now c.in-Some.refusal c.in-Some.is
+
+pub returns-in-Over-clause-exact : goal.returns-in-Over-clause-exact
+returns-in-Over-clause-exact c =
+    let e : c.args.self.now.refused ≡ None = search rules in
+    sees_same _ _ _ _ (drop c.in-Over.count c.args.piece.now) (c.end_token.ensures.token c.feed.new.memory) (c.end_token.ensures.state c.feed.new.memory)
+    ∙ feeds_over (reading_of c.args.self.now c.args.memory.now) c.args.piece.now (walk_of c.feed.new.self c.feed.new.memory) c.in-Over.count e c.in-Over.ensures.within c.in-Over.ensures.exact
+
+pub returns-in-Within-clause-exact : goal.returns-in-Within-clause-exact
+returns-in-Within-clause-exact c =
+    let e : c.args.self.now.refused ≡ None = search rules in
+    inside_same (walk_of c.feed.new.self c.feed.new.memory) _ _ c.args.self.now.start _ _ c.args.self.now.refused c.keep.ensures (search rules) e
+    ∙ feeds_inside (reading_of c.args.self.now c.args.memory.now) c.args.piece.now (walk_of c.feed.new.self c.feed.new.memory) e c.in-Within.ensures.exact
+
+pub returns-in-Failed-clause-exact : goal.returns-in-Failed-clause-exact
+returns-in-Failed-clause-exact c =
+    let e : c.args.self.now.refused ≡ None = search rules in
+    ap Refuses (c.refuse.ensures.refusal c.feed.new.memory)
+    ∙ feeds_fault (reading_of c.args.self.now c.args.memory.now) c.args.piece.now c.in-Failed.fault c.in-Failed.count e c.in-Failed.ensures.within c.in-Failed.ensures.exact
+
+pub returns-in-Over-clause-most : goal.returns-in-Over-clause-most
+returns-in-Over-clause-most c =
+    ap (λ (r : Reading). r.walk.most) (c.end_token.ensures.state c.feed.new.memory)
+    ∙ (keeps_over (walk_of c.args.self.now.cursor c.args.memory.now) (walk_of c.feed.new.self c.feed.new.memory) c.args.piece.now _ c.in-Over.ensures.exact).0
+
+pub returns-in-Within-clause-most : goal.returns-in-Within-clause-most
+returns-in-Within-clause-most c =
+    (keeps_within (walk_of c.args.self.now.cursor c.args.memory.now) (walk_of c.feed.new.self c.feed.new.memory) c.args.piece.now c.in-Within.ensures.exact).0
+
+pub returns-in-Over-clause-features : goal.returns-in-Over-clause-features
+returns-in-Over-clause-features c =
+    ap (λ (r : Reading). r.walk.features) (c.end_token.ensures.state c.feed.new.memory)
+    ∙ (keeps_over (walk_of c.args.self.now.cursor c.args.memory.now) (walk_of c.feed.new.self c.feed.new.memory) c.args.piece.now _ c.in-Over.ensures.exact).1
+
+pub returns-in-Within-clause-features : goal.returns-in-Within-clause-features
+returns-in-Within-clause-features c =
+    (keeps_within (walk_of c.args.self.now.cursor c.args.memory.now) (walk_of c.feed.new.self c.feed.new.memory) c.args.piece.now c.in-Within.ensures.exact).1
+
+pub returns-in-Over-clause-start : goal.returns-in-Over-clause-start
+returns-in-Over-clause-start c =
+    ap (λ (r : Reading). r.start) (c.end_token.ensures.state c.feed.new.memory)
+    ∙ sym (ap (λ (t : Token). added t.start t.length) (c.end_token.ensures.token c.feed.new.memory))
