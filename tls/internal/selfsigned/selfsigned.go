@@ -2,6 +2,7 @@
 package selfsigned
 
 import (
+	"crypto"
 	"crypto/ecdsa"
 	"crypto/elliptic"
 	"crypto/rand"
@@ -22,7 +23,7 @@ func Make(names []string) (tls.Certificate, []byte, error) {
 	if err != nil {
 		return tls.Certificate{}, nil, err
 	}
-	return sign(names, key, key.Public())
+	return Sign(names, key, time.Now().Add(-time.Hour), time.Now().AddDate(1, 0, 0))
 }
 
 // MakeSmall is Make with a key on an elliptic curve, which is made and used in less time.
@@ -31,20 +32,20 @@ func MakeSmall(names []string) (tls.Certificate, []byte, error) {
 	if err != nil {
 		return tls.Certificate{}, nil, err
 	}
-	return sign(names, key, key.Public())
+	return Sign(names, key, time.Now().Add(-time.Hour), time.Now().AddDate(1, 0, 0))
 }
 
-func sign(names []string, key, public any) (tls.Certificate, []byte, error) {
+// Sign makes a certificate with this key, which is valid from one time to another.
+func Sign(names []string, key crypto.Signer, from, until time.Time) (tls.Certificate, []byte, error) {
 	serial, err := rand.Int(rand.Reader, new(big.Int).Lsh(big.NewInt(1), 120))
 	if err != nil {
 		return tls.Certificate{}, nil, err
 	}
-	now := time.Now()
 	template := &x509.Certificate{
 		SerialNumber:          serial,
 		Subject:               pkix.Name{CommonName: names[0]},
-		NotBefore:             now.Add(-time.Hour),
-		NotAfter:              now.AddDate(1, 0, 0),
+		NotBefore:             from,
+		NotAfter:              until,
 		KeyUsage:              x509.KeyUsageDigitalSignature | x509.KeyUsageKeyEncipherment | x509.KeyUsageCertSign,
 		ExtKeyUsage:           []x509.ExtKeyUsage{x509.ExtKeyUsageServerAuth, x509.ExtKeyUsageClientAuth},
 		BasicConstraintsValid: true,
@@ -57,7 +58,7 @@ func sign(names []string, key, public any) (tls.Certificate, []byte, error) {
 			template.DNSNames = append(template.DNSNames, name)
 		}
 	}
-	der, err := x509.CreateCertificate(rand.Reader, template, template, public, key)
+	der, err := x509.CreateCertificate(rand.Reader, template, template, key.Public(), key)
 	if err != nil {
 		return tls.Certificate{}, nil, err
 	}
