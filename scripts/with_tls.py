@@ -24,7 +24,9 @@ import threading
 TOP = os.path.dirname(os.path.dirname(os.path.realpath(__file__)))
 SOURCES = f"{TOP}/tls"
 PACKAGE = "golang-go"
-NOT_HERE = (f"there is neither tls/out/tdstls nor Go here to build it; on Debian: apt-get install {PACKAGE}")
+NOT_HERE = f"there is neither tls/out/tdstls nor Go here to build it; on Debian: apt-get install {PACKAGE}"
+# Go alone is enough then, without a C compiler.
+WITHOUT_C = {"CGO_ENABLED": "0"}
 ON_PARENTS_DEATH = 1  # PR_SET_PDEATHSIG
 DRAIN = "2s"
 
@@ -45,8 +47,9 @@ def tdstls():
         raise NoTdstls(NOT_HERE)
     os.makedirs(f"{SOURCES}/out", exist_ok=True)
     made = f"{target}.{os.getpid()}"
-    done = subprocess.run(["go", "build", "-o", made, "."], cwd=SOURCES, stdin=subprocess.DEVNULL,
-                          stdout=subprocess.PIPE, stderr=subprocess.STDOUT, text=True, errors="replace", check=False)
+    done = subprocess.run(["go", "build", "-o", made, "."], cwd=SOURCES, env={**os.environ, **WITHOUT_C},
+                          stdin=subprocess.DEVNULL, stdout=subprocess.PIPE, stderr=subprocess.STDOUT, text=True,
+                          errors="replace", check=False)
     if done.returncode:
         raise NoTdstls(f"tdstls can't be built: {done.stdout.strip()}")
     os.utime(made)

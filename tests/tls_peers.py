@@ -162,10 +162,10 @@ def encryption(data):
     return None
 
 
-def drive(port, asked, context, size=ROOM, given=None):
+def drive(port, asked, context, size=ROOM, given=None, by=connect):
     """A driver of TDS 7 up to its login: what it reads and writes the login by, what the rest, and what
     ENCRYPTION it was answered."""
-    link = connect(port)
+    link = by(port)
     link.sendall(given or prelogin(asked))
     answered = encryption(message(link))
     if answered == NOT_SUP:
