@@ -82,18 +82,22 @@ func (a Address) listenUnix() (net.Listener, error) {
 	return net.Listen("unix", a.text)
 }
 
-// connect connects to the address with this dialer.
+// connect connects to the address with this dialer. Where isLocal is set nothing is sent to an address that
+// is no loopback one, whatever the host's name is looked up to.
 func (a Address) connect(dialer net.Dialer, isLocal bool) (tds.Socket, error) {
+	if isLocal && !a.IsUnix() {
+		dialer.Control = func(_, address string, _ syscall.RawConn) error {
+			if host, _, err := net.SplitHostPort(address); err != nil || !net.ParseIP(host).IsLoopback() {
+				return NotLocal{a}
+			}
+			return nil
+		}
+	}
 	made, err := dialer.Dial(a.network, a.text)
 	if err != nil {
 		return nil, err
 	}
-	socket := made.(tds.Socket)
-	if tcp, is := socket.RemoteAddr().(*net.TCPAddr); is && isLocal && !tcp.IP.IsLoopback() {
-		socket.Close()
-		return nil, NotLocal{a}
-	}
-	return socket, nil
+	return made.(tds.Socket), nil
 }
 
 // told is how the log names an end of a socket: one of the system's own has mostly no name.

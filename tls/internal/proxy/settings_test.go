@@ -366,3 +366,12 @@ func throw(t *testing.T, p *Proxy, address string, data []byte) {
 		t.Fatal(n, "sessions")
 	}
 }
+
+// TestForwardIsLocal has a clear server that isn't this machine's: nothing goes there.
+func TestForwardIsLocal(t *testing.T) {
+	_, secret, logged := start(t, newServer(DemandLogin), "192.0.2.1:1", Limits{}) // nobody's (RFC 5737)
+	if _, got := logInTo(t, secret, tds.EncryptOn); binary.LittleEndian.Uint32(got[3:]) != errorNoServer {
+		t.Fatalf("% x", got)
+	}
+	waitFor(t, "no line says why", func() bool { return strings.Contains(logged.String(), "is no loopback address") })
+}
