@@ -113,13 +113,13 @@ impl Service {
     fn carry(&mut self, rt: &HostRuntime, number: u32) -> anyhow::Result<()> {
         let place = usize::try_from(number)?.wrapping_sub(1);
         let line = self.lines.get_mut(place).context("no such line")?;
-        let client = self.pool.at(number).context("no such connection")?;
-        let told = line.carry(self.alloc, client)?;
+        let told = line.carry(self.alloc, &mut self.pool, number)?;
         for token in &told {
             if let Token::Error(message) = token {
                 println!(rt; "  error {}", message.number)?;
             }
         }
+        let client = self.pool.get(number).context("no such connection")?;
         let transaction = client.descriptor();
         println!(rt; "  {} tokens, transaction {transaction}", told.len())?;
         Ok(())

@@ -10,3 +10,5 @@ pub mod Over
 pub mod Turns
 pub mod Apart
 pub mod Known
+pub mod Cleanings
+pub mod Carrying

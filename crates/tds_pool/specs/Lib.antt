@@ -5,3 +5,4 @@ pub mod Calls
 pub mod History
 pub mod Fields
 pub mod Lends
+pub mod Cleaning

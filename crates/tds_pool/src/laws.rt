@@ -1,8 +1,10 @@
 //! What a pool promises to whoever uses it. Each law is a function without a body, whose contract is
 //! the theorem.
 ghost use Rattle.std.specs.Prelude.{◌≡◌, ◌≢◌, ◌≤◌, ◌++◌, ◌∷◌, [], ℕ, true, List, None, Some, option_map, IsSome, IsSomeAnd, IfSome, false, ◌<◌, ◌+◌};
-ghost use Rattle.tds_client.specs.Session.{ClientSession};
+ghost use Rattle.tds_client.specs.Sending.{message_of};
+ghost use Rattle.tds_client.specs.Session.{ClientSession, marked};
 ghost use Rattle.tds_packet.specs.declared.status.Reset.{Reset};
+ghost use Rattle.tds_packet.specs.declared.status.Reset.TheVariants.{Full};
 ghost use Rattle.tds_pool.specs.declared.lease.Lease.{Lease};
 ghost use Rattle.tds_pool.specs.declared.lease.Ticket.{Ticket};
 ghost use Rattle.tds_pool.specs.declared.lease.Turn.{Turn};
@@ -10,7 +12,8 @@ ghost use Rattle.tds_pool.specs.declared.seat.Place.TheVariants as places;
 ghost use Rattle.tds_pool.specs.declared.answers.GivenBack.TheVariants as given;
 ghost use Rattle.tds_request.specs.declared.request.Request.{Request};
 ghost use Rattle.tds_pool.specs.Connections.{Connection, changed, numbered, at_place, with_client, taken_out, first_turn};
-ghost use Rattle.tds_pool.specs.Calls.{lent_to, kept_for, lent_next, lent_again, is_free, is_idle, given_back, abandoned, drained, closed, new_connection, taken_back, is_cleaning, cleaned, cleaning, not_cleaned};
+ghost use Rattle.tds_pool.specs.Calls.{lent_to, kept_for, lent_next, lent_again, is_free, is_idle, given_back, abandoned, drained, closed, new_connection, taken_back, is_cleaning, cleaned, cleaning, not_cleaned, asks_reset, is_clean};
+ghost use Rattle.tds_pool.specs.Cleaning.{Call, Packet, IsBehind, behind_packets, is_cancelling, while_cleaned};
 ghost use Rattle.tds_pool.specs.declared.answers.PoolRefusal.{PoolRefusal};
 ghost use Rattle.tds_pool.specs.History.{Seen, Move, behind, AreBehind, IsOver, AreOf};
 
@@ -177,4 +180,24 @@ pub fn cleaned_is_clean()
         → (cleaned number cs).answer ≡ given.Free free
         → IsSomeAnd (numbered number cs) (λ c. (c.client.heard.descriptor ≡ 0)
         × (c.client.heard.mark ≡ None) × (is_idle c.client.stage ≡ true)) }
+{}
+
+/// A connection that is being cleaned is asked what the cleaning asks, and nothing else. Whatever is
+/// called meanwhile, by whoever carries its packets too: its client is as its own packets make it,
+/// those that go out and those that come; no attention goes out; and it comes out clean, or is taken
+/// out.
+pub fn asked_alike_until_clean()
+    ensures comes_out { (number : ℕ) (start : ClientSession) (p : Seen) (calls : List Call)
+        → number ≤ p.last → IsSomeAnd (numbered number p.connections) (λ c.
+        (is_cleaning c.place ≡ true) × (c.client ≡ start))
+        → IfSome (numbered number (while_cleaned number calls p).connections) (IsBehind start) }
+    ensures uncancelled { (s : ClientSession) (request : Request) (packets : List Packet)
+        → is_cancelling (behind_packets packets (asks_reset s request)).stage ≡ false }
+{}
+
+/// What is asked of a clean connection is the same message, whether its lease asks for a reset
+/// again, as `lease` does, or not.
+pub fn asked_alike_once_clean()
+    ensures { (s : ClientSession) (request : Request) → is_clean s ≡ true
+        → message_of (marked s Full).heard request ≡ message_of s.heard request }
 {}

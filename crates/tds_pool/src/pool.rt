@@ -8,6 +8,7 @@ ghost use Rattle.tds_pool.specs.Connections.{connections};
 ghost use Rattle.tds_pool.specs.Lends.{LendsClient};
 
 mod calls;
+mod carrying;
 mod cleaning;
 mod lending;
 mod seats;

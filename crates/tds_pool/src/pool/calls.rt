@@ -64,39 +64,6 @@ impl Pool {
         Some(lease.key)
     }
 
-    /// The client of a connection of this number, wherever it stands, for whoever carries its
-    /// packets; none if there is no such connection. A free one that breaks so is passed over by
-    /// `lease` until `lost` takes it out.
-    pub fn at(&mut self, number: u32) -> Option<&mut Client>
-        ensures* lends { sem 𝓛 (LendsNumbered self.entry number result) }
-        ensures value { option_copied_mut result
-            ≡ option_map (λ (c : Connection). c.client)
-            (numbered number (connections self.entry.now)) }
-        ensures writes { (client : ClientSession)
-            → IsSome (numbered number (connections self.entry.now))
-            → connections (with_client_numbered self.entry.now number client)
-            ≡ with_client number client (connections self.entry.now) }
-    {
-        let key = self.key_of(number)?;
-        self.lend(key)
-    }
-
-    /// The key of this number; none if there is no such connection.
-    fn key_of(&self, number: u32) -> Option<usize>
-        ensures key { result ≡ key_of self.now.entries number }
-        ensures found { IfSome result (λ key.
-            option_map (λ (seat : Seat). seat.client) (get self.now.seats key)
-            ≡ option_map (λ (c : Connection). c.client) (numbered number (connections self.now))) }
-        ensures unknown { IfNone result (numbered number (connections self.now) ≡ None) }
-        ensures writes { (client : ClientSession)
-            → IsSome (numbered number (connections self.now))
-            → connections (with_client_numbered self.now number client)
-            ≡ with_client number client (connections self.now) }
-    {
-        let place = place_of(&self.numbers, number)?;
-        Some(self.numbers.key(place))
-    }
-
     /// Keeps a connection with its transaction: the lease ends, and a ticket stands for it.
     ///
     /// The first of these refusals: the lease is unknown; the client is broken; it is not idle;
