@@ -9,6 +9,7 @@ import (
 	"os"
 	"strings"
 
+	"example/play"
 	"example/tds"
 )
 
@@ -126,7 +127,7 @@ func main() {
 		must(err)
 		wanted, err := os.ReadFile(strings.TrimSuffix(name, ".json") + ".txt")
 		must(err)
-		text, err := tds.Play(schedule)
+		text, err := play.Play(schedule)
 		if err != nil || !bytes.Equal(text, wanted) {
 			fmt.Fprintln(os.Stderr, name, "another text", err)
 			others++

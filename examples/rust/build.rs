@@ -5,7 +5,9 @@ fn main() {
     for folder in std::env::var("TDS_LIBRARIES").unwrap_or_default().split(':').filter(|it| !it.is_empty()) {
         println!("cargo:rustc-link-search=native={folder}");
     }
-    for name in ["tds_c", "tds_play_c", "libc_c"] {
-        println!("cargo:rustc-link-lib=static={name}");
+    println!("cargo:rustc-link-lib=static=tds_c");
+    if std::env::var_os("CARGO_FEATURE_PLAY").is_some() {
+        println!("cargo:rustc-link-lib=static=tds_play_c");
     }
+    println!("cargo:rustc-link-lib=static=libc_c");
 }

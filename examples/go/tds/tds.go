@@ -1,11 +1,10 @@
 // Package tds is the client's end of a connection that speaks the Tabular Data Stream, over the
-// libraries tds_c and tds_play_c. A Client has no lock: use it from one goroutine at a time.
+// library tds_c. A Client has no lock: use it from one goroutine at a time.
 package tds
 
 /*
 #cgo CFLAGS: -I${SRCDIR}/../../../include
 #include "tds.h"
-#include "tds_play.h"
 */
 import "C"
 
@@ -118,6 +117,24 @@ func (client *Client) StartBatch(text string) error {
 func (client *Client) StartBegin(isolation uint8) error {
 	return client.start(func(raw *C.struct_tds_client, message *C.uint8_t, room C.size_t, count *C.size_t) C.uint8_t {
 		return C.tds_client_start_begin(raw, C.uint8_t(isolation), message, room, count)
+	})
+}
+
+// NoNext says that no transaction is begun behind a commit or a rollback.
+const NoNext = uint8(C.TDS_NO_NEXT)
+
+// StartCommit takes the request to commit; next is the level of the transaction that is begun at once,
+// or NoNext.
+func (client *Client) StartCommit(next uint8) error {
+	return client.start(func(raw *C.struct_tds_client, message *C.uint8_t, room C.size_t, count *C.size_t) C.uint8_t {
+		return C.tds_client_start_commit(raw, C.uint8_t(next), message, room, count)
+	})
+}
+
+// StartRollback takes the request to roll back; next is as that of StartCommit.
+func (client *Client) StartRollback(next uint8) error {
+	return client.start(func(raw *C.struct_tds_client, message *C.uint8_t, room C.size_t, count *C.size_t) C.uint8_t {
+		return C.tds_client_start_rollback(raw, C.uint8_t(next), message, room, count)
 	})
 }
 
@@ -237,18 +254,4 @@ func token(raw *C.struct_tds_token, bytes []byte) *Token {
 		}
 	}
 	return it
-}
-
-// Play plays a schedule: its report's text, or an error that says why it is not played.
-func Play(schedule []byte) ([]byte, error) {
-	out, count := make([]byte, 1<<20), C.size_t(0)
-	status := C.tds_play(at(schedule), C.size_t(len(schedule)), at(out), C.size_t(len(out)), &count)
-	if status == C.TDS_PLAY_NO_ROOM {
-		out = make([]byte, count)
-		status = C.tds_play(at(schedule), C.size_t(len(schedule)), at(out), C.size_t(len(out)), &count)
-	}
-	if status != C.TDS_PLAYED {
-		return nil, fmt.Errorf("%s", out[:count])
-	}
-	return out[:count], nil
 }

@@ -188,6 +188,7 @@ fn done(number: u8) -> Result<(), Fault> {
 }
 
 /// Plays a schedule: its report's text, or the line that says why it is not played.
+#[cfg(feature = "play")]
 pub fn play(schedule: &[u8]) -> Result<Vec<u8>, Vec<u8>> {
     let mut out = vec![0; 1 << 16];
     loop {

@@ -1,0 +1,3 @@
+module mouktelf
+
+go 1.18

@@ -1,0 +1,23 @@
+"""The client's end of a connection that speaks the Tabular Data Stream (MS-TDS), and a player of schedules.
+
+Everything here works over the library that lies in this package, which is compiled from proved source. It does no input or
+output: bytes go in, bytes and tokens come out, and the socket is the caller's. A Client has no lock.
+
+    client = Client(4096)
+    client.start_batch("rows 7 2")
+    sock.sendall(client.send_all())
+    for packet in packets: for token in client.take(packet): ..
+"""
+
+from ._library import VERSION as __version__
+from .client import (
+    Acknowledged, Answer, Change, Client, Columns, Done, Fault, Message, Reset, ReturnStatus, Row, Stage, Taken, Token,
+    packets_of,
+)
+from .login import is_let_in, login
+from .play import NotPlayed, play
+
+__all__ = [
+    "Acknowledged", "Answer", "Change", "Client", "Columns", "Done", "Fault", "Message", "NotPlayed", "Reset",
+    "ReturnStatus", "Row", "Stage", "Taken", "Token", "is_let_in", "login", "packets_of", "play",
+]

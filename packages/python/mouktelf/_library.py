@@ -1,0 +1,67 @@
+"""The library, its structs and its calls as mouktelf.h declares them."""
+
+import ctypes
+import pathlib
+from ctypes import POINTER, Structure, c_char_p, c_int32, c_size_t, c_uint8, c_uint16, c_uint32, c_uint64
+
+VERSION = "@VERSION@"
+_FOLDER = pathlib.Path(__file__).parent
+
+
+class Packet(Structure):
+    _fields_ = [("length", c_size_t), ("kind", c_uint8), ("status", c_uint8)]
+
+
+class ClientValue(Structure):
+    _fields_ = [
+        ("descriptor", c_uint64), ("sent", c_size_t), ("packets", c_size_t), ("size", c_uint16), ("stage", c_uint8),
+        ("kind", c_uint8), ("fault", c_uint8), ("token_fault", c_uint8), ("mark", c_uint8), ("done", c_uint8),
+        ("columns", c_uint8),
+    ]
+
+
+class Cursor(Structure):
+    _fields_ = [("at", c_size_t), ("columns", c_uint8)]
+
+
+class TokenValue(Structure):
+    _fields_ = [
+        ("value", c_uint64), ("start", c_size_t), ("number", c_int32), ("line", c_int32), ("status", c_uint16),
+        ("cur_cmd", c_uint16), ("kind", c_uint8), ("state", c_uint8), ("severity", c_uint8), ("change", c_uint8),
+    ]
+
+
+_CLIENT, _COUNT, _BYTES = POINTER(ClientValue), POINTER(c_size_t), c_char_p
+_CALLS = {
+    "tds_packets_read": (_BYTES, c_size_t, c_uint16, c_uint8, POINTER(Packet), c_size_t, _COUNT),
+    "tds_client_new": (c_uint16, _CLIENT),
+    "tds_client_mark_reset": (_CLIENT, c_uint8),
+    "tds_client_start_batch": (_CLIENT, POINTER(c_uint16), c_size_t, POINTER(c_uint8), c_size_t, _COUNT),
+    "tds_client_start_begin": (_CLIENT, c_uint8, POINTER(c_uint8), c_size_t, _COUNT),
+    "tds_client_start_commit": (_CLIENT, c_uint8, POINTER(c_uint8), c_size_t, _COUNT),
+    "tds_client_start_rollback": (_CLIENT, c_uint8, POINTER(c_uint8), c_size_t, _COUNT),
+    "tds_client_send": (_CLIENT, _BYTES, c_size_t, POINTER(c_uint8), c_size_t, _COUNT),
+    "tds_client_cancel": (_CLIENT, POINTER(c_uint8), c_size_t, _COUNT),
+    "tds_client_take": (_CLIENT, _BYTES, c_size_t),
+    "tds_client_lost": (_CLIENT,),
+    "tds_tokens_next": (_BYTES, c_size_t, POINTER(Cursor), POINTER(TokenValue), c_size_t, _COUNT),
+    "tds_play": (_BYTES, c_size_t, POINTER(c_uint8), c_size_t, _COUNT),
+}
+
+
+def _load() -> ctypes.CDLL:
+    found = ctypes.CDLL(str(next(_FOLDER.glob("libmouktelf.so.*"))))
+    found.mouktelf_version.restype = c_uint32
+    found.mouktelf_version.argtypes = ()
+    major, minor, patch = map(int, VERSION.split("."))
+    if found.mouktelf_version() != 10_000 * major + 100 * minor + patch:
+        raise ImportError(f"the library beside this package is {found.mouktelf_version()}, and {VERSION} is wanted")
+    for name, arguments in _CALLS.items():
+        call = getattr(found, name)
+        # Without it ctypes reads the three bytes above, too.
+        call.restype = c_uint8
+        call.argtypes = arguments
+    return found
+
+
+LIBRARY = _load()

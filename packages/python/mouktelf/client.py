@@ -1,0 +1,251 @@
+"""The client's end of one connection."""
+
+import struct
+from ctypes import byref, c_size_t, c_uint8, c_uint16
+from dataclasses import dataclass
+from enum import IntEnum
+from typing import Iterator, List, Optional, Tuple, Union
+
+from ._library import LIBRARY, ClientValue, Cursor, Packet, TokenValue
+
+_MESSAGE_MOST = 4022
+_NO_NEXT = 255
+_TO_CLIENT = 1
+_OK, _END, _WANTS_BYTES, _FIRST_FAULT = 0, 9, 24, 20
+
+
+class Answer(IntEnum):
+    """What a call did, as mouktelf.h numbers it."""
+
+    MORE = 1
+    LAST = 2
+    FINISHED = 3
+    ACKNOWLEDGED = 4
+    NOTHING = 5
+    ALREADY = 6
+    UNSENT = 7
+    ASKED = 8
+
+
+Acknowledged = Answer.ACKNOWLEDGED
+
+
+class Stage(IntEnum):
+    """What a client is doing."""
+
+    IDLE = 0
+    SENDING = 1
+    READING = 2
+    CANCELLING = 3
+    BROKEN = 4
+
+
+class Reset(IntEnum):
+    """The reset that the next request asks for."""
+
+    FULL = 1
+    KEEP_TRANSACTION = 2
+
+
+class Fault(Exception):
+    """Why a call was not done, or what the peer did wrong: a number of mouktelf.h, from 20 on."""
+
+    def __init__(self, number: int) -> None:
+        super().__init__(f"fault {number}")
+        self.number = number
+
+    @property
+    def is_peer(self) -> bool:
+        """Whether the peer broke the protocol, and the client is broken: close the connection."""
+        return 61 <= self.number <= 69
+
+
+@dataclass(frozen=True)
+class Message:
+    """An INFO or an ERROR."""
+
+    is_error: bool
+    number: int
+    state: int
+    severity: int
+    line: int
+    text: str
+
+
+@dataclass(frozen=True)
+class ReturnStatus:
+    """A RETURNSTATUS."""
+
+    value: int
+
+
+@dataclass(frozen=True)
+class Columns:
+    """A COLMETADATA of so many INT4 columns."""
+
+    count: int
+
+
+@dataclass(frozen=True)
+class Row:
+    """A ROW."""
+
+    values: Tuple[int, ...]
+
+
+@dataclass(frozen=True)
+class Change:
+    """An ENVCHANGE: 8 begin, 9 commit, 10 rollback, 18 the end of a reset; and the transaction's descriptor."""
+
+    kind: int
+    descriptor: int
+
+
+@dataclass(frozen=True)
+class Done:
+    """A DONE."""
+
+    status: int
+    rows: int
+
+
+Token = Union[Message, ReturnStatus, Columns, Row, Change, Done]
+
+
+@dataclass(frozen=True)
+class Taken:
+    """What one packet of an answer did: MORE, FINISHED or ACKNOWLEDGED, and the tokens that are told."""
+
+    answer: Answer
+    tokens: List[Token]
+
+
+def _done(number: int) -> int:
+    if number >= _FIRST_FAULT:
+        raise Fault(number)
+    return number
+
+
+class Client:
+    """The client's end of one connection, for packets of 512 to 32,767 bytes."""
+
+    def __init__(self, size: int) -> None:
+        self._value, self._message = ClientValue(), b""
+        if not 0 <= size <= 0xFFFF:
+            raise Fault(23)
+        _done(LIBRARY.tds_client_new(size, byref(self._value)))
+
+    @property
+    def stage(self) -> Stage:
+        """What it is doing."""
+        return Stage(self._value.stage)
+
+    @property
+    def descriptor(self) -> int:
+        """The descriptor of the open transaction, 0 for none."""
+        return self._value.descriptor
+
+    def mark_reset(self, reset: Reset) -> None:
+        """In idle: lets the next request ask for a reset. Of two marks the stronger one stays."""
+        _done(LIBRARY.tds_client_mark_reset(byref(self._value), reset))
+
+    def start_batch(self, text: str) -> None:
+        """In idle: takes a batch of 1 to 2,000 units of UTF-16. Nothing goes out yet."""
+        data = text.encode("utf-16-le", "surrogatepass")
+        units = (c_uint16 * max(len(data) // 2, 1)).from_buffer_copy(data or b"\0\0")
+        self._start(LIBRARY.tds_client_start_batch, units, len(data) // 2)
+
+    def start_begin(self, isolation: int = 0) -> None:
+        """In idle: takes the request to begin a transaction, at a level of 0 to 5."""
+        self._start(LIBRARY.tds_client_start_begin, _level(isolation))
+
+    def start_commit(self, next: Optional[int] = None) -> None:
+        """In idle: takes the request to commit, and to begin the next transaction at once at that level."""
+        self._start(LIBRARY.tds_client_start_commit, _NO_NEXT if next is None else _level(next))
+
+    def start_rollback(self, next: Optional[int] = None) -> None:
+        """The same of a rollback."""
+        self._start(LIBRARY.tds_client_start_rollback, _NO_NEXT if next is None else _level(next))
+
+    def _start(self, call, *words) -> None:
+        message, count = (c_uint8 * _MESSAGE_MOST)(), c_size_t()
+        _done(call(byref(self._value), *words, message, _MESSAGE_MOST, byref(count)))
+        self._message = bytes(message[: count.value])
+
+    def send(self) -> Tuple[Answer, bytes]:
+        """In sending: the request's next packet, and whether it is the LAST or there are MORE."""
+        room, count = self._value.size, c_size_t()
+        out = (c_uint8 * max(room, 1))()
+        number = _done(LIBRARY.tds_client_send(byref(self._value), self._message, len(self._message), out, room, byref(count)))
+        return Answer(number), bytes(out[: count.value])
+
+    def send_all(self) -> bytes:
+        """The packets of the request that are still to go out."""
+        packets, answer = [], Answer.MORE
+        while answer == Answer.MORE:
+            answer, packet = self.send()
+            packets.append(packet)
+        return b"".join(packets)
+
+    def cancel(self) -> Tuple[Answer, bytes]:
+        """Cancels what is underway. Behind ASKED send the bytes, and take packets until ACKNOWLEDGED."""
+        out, count = (c_uint8 * 16)(), c_size_t()
+        number = _done(LIBRARY.tds_client_cancel(byref(self._value), out, 16, byref(count)))
+        return Answer(number), bytes(out[: count.value])
+
+    def take(self, packet: bytes) -> Taken:
+        """Takes one packet of an answer, from its first byte to its last. Behind a cancel nothing is told of it."""
+        is_told, columns = self._value.stage == Stage.READING, self._value.columns
+        answer = Answer(_done(LIBRARY.tds_client_take(byref(self._value), packet, len(packet))))
+        return Taken(answer, list(_tokens(packet[8:], columns)) if is_told else [])
+
+    def lost(self) -> None:
+        """The connection is lost: the client is broken, unless it is broken already."""
+        LIBRARY.tds_client_lost(byref(self._value))
+
+
+def _level(isolation: int) -> int:
+    if not 0 <= isolation < _NO_NEXT:
+        raise Fault(23)
+    return isolation
+
+
+def packets_of(data: bytes, size: int) -> Tuple[List[bytes], bytes]:
+    """The packets from a server at the front of these bytes, and the rest, behind which the next bytes go."""
+    if not 0 <= size <= 0xFFFF:
+        raise Fault(23)
+    found, packets, count = (Packet * 16)(), [], c_size_t()
+    while True:
+        number = LIBRARY.tds_packets_read(data, len(data), size, _TO_CLIENT, found, 16, byref(count))
+        for packet in found[: count.value]:
+            packets.append(data[: packet.length])
+            data = data[packet.length:]
+        if number == _WANTS_BYTES:
+            return packets, data
+        _done(number)
+
+
+def _tokens(data: bytes, columns: int) -> Iterator[Token]:
+    cursor, read, count, number = Cursor(0, columns), (TokenValue * 32)(), c_size_t(), _OK
+    while number == _OK:
+        number = LIBRARY.tds_tokens_next(data, len(data), byref(cursor), read, 32, byref(count))
+        for it in read[: count.value]:
+            yield _token(it, data[it.start:])
+    if number != _END:
+        raise Fault(number)
+
+
+def _token(it: TokenValue, data: bytes) -> Token:
+    if it.kind in (0xAB, 0xAA):
+        length = 2 * int.from_bytes(data[9:11], "little")
+        text = data[11: 11 + length].decode("utf-16-le", "surrogatepass")
+        return Message(it.kind == 0xAA, it.number, it.state, it.severity, it.line, text)
+    if it.kind == 0x79:
+        return ReturnStatus(it.number)
+    if it.kind == 0x81:
+        return Columns(it.value)
+    if it.kind == 0xD1:
+        return Row(struct.unpack_from(f"<{it.value}i", data, 1))
+    if it.kind == 0xE3:
+        return Change(it.change, it.value)
+    return Done(it.status, it.value)

@@ -1,0 +1,209 @@
+"""The layer of a printed file: the header's calls over the core's.
+
+The core sees memory as the proved build for x86-64 does: a pointer and a length have 8 bytes, a number its low byte
+first. Where a machine has that, the caller's structs are the core's, and each call hands its words on. Elsewhere each
+struct is written to an image of the core's form before the call, and read back behind it."""
+
+import re
+
+import headers
+
+SIZES = {"size_t": 8, "uint64_t": 8, "int64_t": 8, "uint32_t": 4, "int32_t": 4, "uint16_t": 2, "uint8_t": 1}
+
+# Where arrays of structs cross, or units of two bytes: one a call, so that no room is taken for images.
+BY_HAND = {
+    "tds_packets_read": """    unsigned char image[16] = {0}, counted[8] = {0};
+    uint8_t answer;
+    *count = 0;
+    do {
+        answer = core_tds_packets_read(ONE_BYTES(bytes), length, size, direction, ONE_BYTES(image), *count < room, ONE_BYTES(counted));
+        if (one_read64(ONE_BYTES(counted)) == 0) return answer;
+        one_from_tds_packet(&packets[*count], image);
+        bytes += packets[*count].length, length -= packets[*count].length;
+        ++*count;
+    } while (answer == TDS_OK);
+    return answer;
+""",
+    "tds_tokens_next": """    unsigned char place[16] = {0}, image[32] = {0}, counted[8] = {0};
+    uint8_t answer;
+    *count = 0;
+    one_to_tds_cursor(place, cursor);
+    do {
+        answer = core_tds_tokens_next(ONE_BYTES(data), length, ONE_BYTES(place), ONE_BYTES(image), *count < room, ONE_BYTES(counted));
+        if (one_read64(ONE_BYTES(counted)) == 0) break;
+        one_from_tds_token(&tokens[(*count)++], image);
+    } while (answer == TDS_OK);
+    one_from_tds_cursor(cursor, place);
+    return answer;
+""",
+    # A longer text is refused unread.
+    "tds_client_start_batch": """    unsigned char image[40] = {0}, counted[8] = {0}, low_first[4000];
+    uint8_t answer;
+    for (size_t k = 0; k < units && k < 2000; k++) one_write16(ONE_BYTES(low_first + 2 * k), text[k]);
+    one_to_tds_client(image, client);
+    answer = core_tds_client_start_batch(ONE_BYTES(image), ONE_BYTES(low_first), units, ONE_BYTES(message), room, ONE_BYTES(counted));
+    one_from_tds_client(client, image);
+    *count = (size_t)one_read64(ONE_BYTES(counted));
+    return answer;
+""",
+}
+
+OPENING = """/* ---- The layer: the header's calls over the core above.
+ *
+ * The core sees memory as the proved build for x86-64 does: a pointer and a length have 8 bytes, a number its low byte
+ * first. Where this machine has that, its structs are the core's, and each call hands its words on. Elsewhere each
+ * struct is written to an image of the core's form before the call, and read back behind it. */
+#if !defined(ONE_IMAGES) && (SIZE_MAX != UINT64_MAX || ONE_BIG_ENDIAN)
+#define ONE_IMAGES 1
+#endif
+#ifndef ONE_IMAGES
+#define ONE_IMAGES 0
+#endif
+
+#define ONE_BYTES(p) ONE_POINTER((uintptr_t)(p))
+"""
+
+
+class Struct:
+    """A struct of the headers: its fields with the place of each in the core's form."""
+
+    def __init__(self, name, body, known):
+        self.name, self.fields, at, self.align = name, [], 0, 1
+        for kind, field, count in declared(body):
+            size, align = (known[kind[7:]].size, known[kind[7:]].align) if kind.startswith("struct ") else (SIZES[kind],) * 2
+            many = count and constant(count)
+            at = (at + align - 1) // align * align
+            self.fields.append((kind, field, many, at, size))
+            at += size * (many or 1)
+            self.align = max(self.align, align)
+        self.size = (at + self.align - 1) // self.align * self.align
+
+    def asserts(self):
+        places = [f"sizeof(struct {self.name}) == {self.size}"]
+        places += [f"offsetof(struct {self.name}, {name}) == {at}" for _, name, _, at, _ in self.fields]
+        return f'_Static_assert({" && ".join(places)}, "{self.name}");'
+
+    def image(self, writes):
+        """What writes the image of the struct at `v`, or reads it back."""
+        lines = []
+        for kind, name, many, at, size in self.fields:
+            place, value, loop = f"i + {at}", f"v->{name}", ""
+            if many:
+                place, value, loop = f"i + {at} + {size} * k", f"v->{name}[k]", f"for (size_t k = 0; k < {many}; k++) "
+            if kind.startswith("struct"):
+                way = f"one_to_{kind[7:]}({place}, &{value});" if writes else f"one_from_{kind[7:]}(&{value}, {place});"
+            elif writes:
+                way = f"one_write{8 * size}(ONE_BYTES({place}), (uint{8 * size}_t){value});"
+            elif kind.startswith("int"):
+                way = f"{{ uint{8 * size}_t w = one_read{8 * size}(ONE_BYTES({place})); memcpy(&{value}, &w, {size}); }}"
+            else:
+                way = f"{value} = ({kind})one_read{8 * size}(ONE_BYTES({place}));"
+            lines.append(f"    {loop}{way}")
+        head = f"one_to_{self.name}(unsigned char *i, const struct {self.name} *v)" if writes else (
+            f"one_from_{self.name}(struct {self.name} *v, const unsigned char *i)")
+        return f"static inline void {head} {{\n" + "\n".join(lines) + "\n}\n"
+
+
+def declared(body):
+    """Each field of a struct's text: its type, its name, and the words in its brackets or None."""
+    for line in body.split(";"):
+        if not line.strip():
+            continue
+        kind, names = re.fullmatch(r"\s*((?:struct )?\w+)\s+(.*)", line, re.S).groups()
+        for name in names.split(","):
+            field, count = re.fullmatch(r"\s*(\w+)\s*(?:\[([\w /]+)\])?\s*", name).groups()
+            yield kind, field, count
+
+
+def constant(word):
+    """A number, a constant of the headers that is one, or a part of one."""
+    if "/" in word:
+        whole, part = word.split("/")
+        return constant(whole.strip()) // int(part)
+    if word.isdigit():
+        return int(word)
+    for name in headers.here():
+        if found := re.search(rf"(?m)^#define {word} (\d+)\b", headers.text_of(name)):
+            return int(found[1])
+    raise SystemExit(f"layer: what is {word}?")
+
+
+def structs():
+    found = {}
+    for name in headers.here():
+        for word, body in re.findall(r"struct (\w+) \{(.*?)\}", headers.without_comments(headers.text_of(name)), re.S):
+            found[word] = Struct(word, body, found)
+    return found
+
+
+def parts(argument):
+    """An argument's type and its name."""
+    kind, name = re.fullmatch(r"(.*?)(\w+)", argument).groups()
+    return kind.strip(), name
+
+
+def is_array(arguments, place):
+    """Whether a struct's pointer has a length behind it."""
+    return place + 1 < len(arguments) and parts(arguments[place + 1])[0] == "size_t"
+
+
+def direct(answer, name, arguments):
+    words = [f"ONE_BYTES({parts(it)[1]})" if "*" in it else parts(it)[1] for it in arguments]
+    return f"    return core_{name}({', '.join(words)});\n"
+
+
+def by_images(answer, name, arguments, known):
+    """The call with images, or None where an array of structs crosses, or one of wider units."""
+    if name in BY_HAND:
+        return BY_HAND[name]
+    before, words, behind = [], [], []
+    for place, argument in enumerate(arguments):
+        kind, word = parts(argument)
+        if "*" not in kind:
+            words.append(word)
+        elif "uint8_t" in kind:
+            words.append(f"ONE_BYTES({word})")
+        elif kind == "size_t *":
+            before.append(f"    unsigned char of_{word}[8] = {{0}};\n    one_write64(ONE_BYTES(of_{word}), *{word});\n")
+            behind.append(f"    *{word} = (size_t)one_read64(ONE_BYTES(of_{word}));\n")
+            words.append(f"ONE_BYTES(of_{word})")
+        elif "struct" in kind and not is_array(arguments, place):
+            struct = known[re.search(r"struct (\w+)", kind)[1]]
+            before.append(f"    unsigned char of_{word}[{struct.size}] = {{0}};\n    one_to_{struct.name}(of_{word}, {word});\n")
+            if "const" not in kind:
+                behind.append(f"    one_from_{struct.name}({word}, of_{word});\n")
+            words.append(f"ONE_BYTES(of_{word})")
+        else:
+            return None
+    call = f"core_{name}({', '.join(words)})"
+    if not before:
+        return f"    return {call};\n"
+    return "".join(before) + f"    {answer} answer = {call};\n" + "".join(behind) + "    return answer;\n"
+
+
+def layer(names):
+    """The C text of the layer for these calls, and those that there are not on machines with images."""
+    known, direct_ones, images, left_out = structs(), [], [], []
+    for _, answer, name, arguments in headers.prototypes():
+        if name not in names:
+            continue
+        head = f"{answer} {name}({', '.join(arguments) or 'void'}) {{\n"
+        direct_ones.append(head + direct(answer, name, arguments) + "}\n")
+        body = by_images(answer, name, arguments, known)
+        if body is None:
+            left_out.append(name)
+            images.append(f"/* {name}: arrays of structs don't cross on such a machine yet. */\n")
+        else:
+            images.append(head + body + "}\n")
+    used = " ".join(images)
+    kept, texts = True, {}
+    for struct in known.values():
+        texts[f"one_to_{struct.name}"], texts[f"one_from_{struct.name}"] = struct.image(True), struct.image(False)
+    while kept:
+        # One that nothing calls goes, and then what it alone called.
+        kept = [it for it in texts if len(re.findall(rf"\b{it}\(", used + " ".join(texts.values()))) < 2]
+        for it in kept:
+            del texts[it]
+    in_calls = [it for it in known.values() if re.search(rf"struct {it.name}\b", " ".join(direct_ones))]
+    text = OPENING + "\n#if !ONE_IMAGES\n\n" + "\n".join(it.asserts() for it in in_calls) + "\n\n" + "\n".join(direct_ones)
+    return text + "\n#else\n\n" + "\n".join(texts.values()) + "\n" + "\n".join(images) + "\n#endif\n", left_out
