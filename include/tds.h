@@ -19,7 +19,8 @@
  *  - Behind the player's library link liblibc_c.a of the toolchain; malloc, realloc and free are one
  *    allocator then, and align a block to each power of two up to 16 that divides its size. This
  *    library takes no memory, and needs of the C library memcpy and memmove alone.
- *  - `message` of tds_client_send is what the start of that request wrote, all of it.
+ *  - `message` of tds_client_send is what the start of that request wrote, all of it; what waits in
+ *    `kept` for tds_client_put and tds_client_finish is what the call before left there.
  *  - Numbers have this machine's byte order; the library is for 64-bit machines with the low byte
  *    first.
  *
@@ -30,7 +31,7 @@
  * tds_packets_read, which has read the packets before what it answers. No call takes memory.
  *
  *   0                 done
- *   1 to 9            done, and more is said: what is still to come, or that nothing is
+ *   1 to 11           done, and more is said: what is still to come, or that nothing is
  *   20 to 26          what was handed over is wrong, or not enough: a client, room, a range, bytes
  *   31 to 33          the client refuses the call as it stands now
  *   41 to 46          a packet's header is wrong; nothing behind it can be read
@@ -56,7 +57,7 @@ extern "C" {
 /* ---- What a call answers */
 
 #define TDS_OK 0           /* done */
-#define TDS_MORE 1         /* send: there are more packets. take: the answer goes on */
+#define TDS_MORE 1         /* send: there are more packets. put: one is full. take: the answer goes on */
 #define TDS_LAST 2         /* send: all of the request is out */
 #define TDS_FINISHED 3     /* take: the answer has ended, and the client is idle */
 #define TDS_ACKNOWLEDGED 4 /* take: the attention is acknowledged, and the client is idle */
@@ -65,11 +66,13 @@ extern "C" {
 #define TDS_UNSENT 7       /* cancel: no packet was out, and the client is idle */
 #define TDS_ASKED 8        /* cancel: an attention was written: send it */
 #define TDS_END 9          /* next token: there are no more in these data */
+#define TDS_TELL 10        /* heard: the caller that asked is told of this token */
+#define TDS_DROP 11        /* heard: nobody is told of it, since the request was cancelled */
 
 #define TDS_NO_CLIENT 20    /* the value is no client's */
 #define TDS_NO_ROOM 21      /* the buffer that is written to is too short: `count` is wanted */
-#define TDS_NO_MEMORY 22    /* memory is wanted: no call answers it today */
-#define TDS_OUT_OF_RANGE 23 /* a packet size, direction, reset, text or isolation level is none */
+#define TDS_NO_MEMORY 22    /* put: 2^63 packets and bytes of one message would be out and wait */
+#define TDS_OUT_OF_RANGE 23 /* a packet size, direction, reset, text, level, message or token is none */
 #define TDS_WANTS_BYTES 24  /* less than a packet is there */
 #define TDS_NO_PACKET 25    /* take: bytes stand behind the packet */
 #define TDS_NO_PLACE 26     /* the cursor is no place in these data */
@@ -201,6 +204,51 @@ uint8_t tds_client_cancel(struct tds_client *client, uint8_t *out, size_t room, 
  * nothing behind it can be read, so call tds_client_lost. In reading, its tokens but
  * the ENVCHANGEs are the caller's, and are read by tds_token_next; in cancelling none is. */
 uint8_t tds_client_take(struct tds_client *client, const uint8_t *packet, size_t length);
+
+/* Any request, sent in parts (MS-TDS 2.2.1). What waits for a packet lies in `kept`, which has room
+ * for a packet's data, its size less 8 bytes; `out` has room for a packet. The last packet of a
+ * message is known by nothing but its end, so up to a packet's data wait until tds_client_finish.
+ * After a cancel nothing that waits is sent. */
+#define TDS_MESSAGE_BATCH 1        /* a batch of statements */
+#define TDS_MESSAGE_RPC 3          /* a call of procedures */
+#define TDS_MESSAGE_BULK 7         /* the rows of a bulk load */
+#define TDS_MESSAGE_TRANSACTION 14 /* a request to the transaction manager */
+
+/* In idle: begins a message. ALL_HEADERS of it are the library's, where it has them: they are
+ * written to `kept`, and `count` says how many bytes wait (22, or 0 for a bulk load). */
+uint8_t tds_client_start_message(struct tds_client *client, uint8_t kind, uint8_t *kept, size_t room,
+                                 size_t *count);
+
+/* In sending: puts bytes of the message's body behind those that wait. TDS_OK: all of them wait.
+ * TDS_MORE: a packet is full and was written to `out`, `count` bytes; send it, and call again with
+ * the bytes behind the `taken` ones. `waiting` says how many bytes wait, before and after. */
+uint8_t tds_client_put(struct tds_client *client, uint8_t *kept, size_t kept_room, size_t *waiting,
+                       const uint8_t *bytes, size_t length, size_t *taken, uint8_t *out, size_t room,
+                       size_t *count);
+
+/* Ends the message: the `waiting` bytes of `kept` go out in its last packet, written to `out`. The
+ * client reads the answer then. */
+uint8_t tds_client_finish(struct tds_client *client, const uint8_t *kept, size_t waiting, uint8_t *out,
+                          size_t room, size_t *count);
+
+/* For a driver that reads the tokens of any server by itself: it tells the client of each one, in
+ * their order, and of the end of each message (behind the packet whose status has bit 1), in place
+ * of tds_client_take. TDS_TELL or TDS_DROP says whether the caller that asked is told of the token.
+ * 61 to 69: the client is broken. */
+
+/* An ENVCHANGE of a transaction or a reset (MS-TDS 2.2.7.9): 8, 9, 10 or 18; 11 counts as a begin,
+ * 12 and 17 as an end. `descriptor` is the new value of 8 and 11, and else the old one. */
+uint8_t tds_client_heard_change(struct tds_client *client, uint8_t change, uint64_t descriptor);
+
+/* A DONE (0xFD), DONEPROC (0xFE) or DONEINPROC (0xFF) with this status. */
+uint8_t tds_client_heard_done(struct tds_client *client, uint8_t kind, uint16_t status);
+
+/* Any other token. */
+uint8_t tds_client_heard_other(struct tds_client *client);
+
+/* The end of a message. TDS_FINISHED, TDS_ACKNOWLEDGED or, in cancelling, TDS_MORE: the
+ * acknowledgement is still to come. */
+uint8_t tds_client_message_ended(struct tds_client *client);
 
 /* The connection is lost: the client is broken, unless it is broken already. */
 uint8_t tds_client_lost(struct tds_client *client);

@@ -7,3 +7,4 @@ pub mod Writing
 pub mod Sending
 pub mod Starting
 pub mod Rows
+pub mod Keeping

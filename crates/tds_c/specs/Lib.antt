@@ -4,3 +4,5 @@ pub mod Calls
 pub mod Rooms
 pub mod Packets
 pub mod Tokens
+pub mod Heard
+pub mod Streams

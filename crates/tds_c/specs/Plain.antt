@@ -2,7 +2,9 @@
 use Rattle.std.specs.Prelude.{ℕ, ◌+◌, ◌^◌, nat_lt, nat_le, ◌==◌, ◌&&◌, Bool, true, List, length, Option, Some, None, if◌then◌else◌}
 use Rattle.tds_packet.specs.declared.status.Reset.{Reset}
 use Rattle.tds_packet.specs.declared.status.Reset.TheVariants.{Full, KeepTransaction}
-use Rattle.tds_packet.specs.Layout.{kind_byte, kind_of}
+use Rattle.tds_packet.specs.declared.kind.Kind.{Kind}
+use Rattle.tds_packet.specs.declared.kind.Kind.TheVariants as kinds
+use Rattle.tds_packet.specs.Layout.{kind_byte}
 use Rattle.tds_token.specs.declared.fault.TokenFault.{TokenFault}
 use Rattle.tds_token.specs.declared.fault.TokenFault.TheVariants as tokens
 use Rattle.tds_token.specs.Faults as token
@@ -134,11 +136,22 @@ fault_from n token =
     else if n == 9 then Some faults.Lost
     else None
 
+-- The type of a request's packets: of all six that are written (MS-TDS 2.2.3.1.1).
+unfoldable pub kind_from : ℕ → Option Kind
+kind_from n =
+    if n == 0x01 then Some kinds.Batch
+    else if n == 0x03 then Some kinds.Procedure
+    else if n == 0x04 then Some kinds.Answer
+    else if n == 0x06 then Some kinds.Attention
+    else if n == 0x07 then Some kinds.BulkLoad
+    else if n == 0x0E then Some kinds.Transaction
+    else None
+
 -- What a stage doesn't use isn't looked at.
 unfoldable pub stage_from_number : TdsClient → Option StageParts
 stage_from_number c =
     if c.stage == 0 then Some stages.Idle
-    else if c.stage == 1 then (kind_of c.kind >>= λ kind. Some (stages.Sending kind c.packets))
+    else if c.stage == 1 then (kind_from c.kind >>= λ kind. Some (stages.Sending kind c.packets))
     else if c.stage == 2 then Some stages.Reading
     else if c.stage == 3 then Some stages.Cancelling
     else if c.stage == 4 then (fault_from c.fault c.token_fault >>= λ fault. Some (stages.Broken fault))

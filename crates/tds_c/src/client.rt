@@ -1,15 +1,16 @@
 //! A client as a value of C.
 
-ghost use Rattle.std.specs.Prelude.{◌≡◌, Some, None, IfSome, IfNone, if◌then◌else◌, length, true};
+ghost use Rattle.std.specs.Prelude.{◌≡◌, ◌≤◌, Some, None, IfSome, IfNone, if◌then◌else◌, length, true};
 ghost use Rattle.tds_c.specs.Plain.{client_of, have_room, parts_from, plain_of, stage_from_number};
+ghost use Rattle.tds_c.specs.Streams.{waits};
+ghost use Rattle.tds_client.specs.Filling.{room_of};
 ghost use Rattle.tds_client.specs.Parts.{AreParts, parts_of, session_from};
 
 use crate::numbers::{
-    columns_from, columns_number, done_from, done_number, fault_from, mark_from, mark_number,
-    size_from, token_fault_number,
+    columns_from, columns_number, done_from, done_number, fault_from, kind_from, mark_from,
+    mark_number, size_from, token_fault_number,
 };
 use tds_client::{Client, ClientParts, Heard, StageParts};
-use tds_packet::Kind;
 
 /// A client, in the caller's memory: `struct tds_client`.
 #[repr(C)]
@@ -111,6 +112,23 @@ impl TdsClient {
         Some(parts)
     }
 
+    /// The same, where these bytes are no more than the data of one packet.
+    #[inline(always)]
+    #[tactic(auto, unfolding(crate::specs::Streams::waits))]
+    pub(crate) fn keeps(&self, kept: &[u8]) -> Option<ClientParts>
+        ensures none { IfNone result (waits self.now kept.now ≡ None) }
+        ensures some { IfSome result (λ parts.
+            waits self.now kept.now ≡ Some (session_from parts kept.now)) }
+        ensures whole { IfSome result (λ parts. AreParts parts.stage kept.now) }
+        ensures room { IfSome result (λ parts. length kept.now ≤ room_of parts) }
+    {
+        let parts = self.held(kept)?;
+        if kept.len() > usize::from(parts.size.get()) - 8 {
+            return None;
+        }
+        Some(parts)
+    }
+
     #[inline(always)]
     #[tactic(auto, unfolding(crate::specs::Plain::parts_from))]
     fn parts(&self) -> Option<ClientParts>
@@ -141,7 +159,7 @@ impl TdsClient {
         match self.stage {
             0 => Some(StageParts::Idle),
             1 => {
-                let kind = Kind::from_byte(self.kind)?;
+                let kind = kind_from(self.kind)?;
                 let packets = self.packets;
                 Some(StageParts::Sending { kind, packets })
             }

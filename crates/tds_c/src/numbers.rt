@@ -4,7 +4,7 @@ ghost use Rattle.std.specs.Prelude.{◌≡◌};
 ghost use Rattle.tds_c.specs.Plain as plain;
 
 use tds_client::{ClientFault, FinalDone};
-use tds_packet::{PacketSize, Reset};
+use tds_packet::{Kind, PacketSize, Reset};
 use tds_token::{Columns, TokenFault};
 
 #[inline(always)]
@@ -13,6 +13,24 @@ pub(crate) fn size_from(number: u16) -> Option<PacketSize>
     ensures { result ≡ plain.size_from number }
 {
     PacketSize::new(number)
+}
+
+/// The type of a request's packets, and of any other packet: `Kind::from_byte` knows those alone that
+/// are read.
+#[inline(always)]
+#[tactic(auto, unfolding(crate::specs::Plain::kind_from))]
+pub(crate) fn kind_from(number: u8) -> Option<Kind>
+    ensures { result ≡ plain.kind_from number }
+{
+    match number {
+        0x01 => Some(Kind::Batch),
+        0x03 => Some(Kind::Procedure),
+        0x04 => Some(Kind::Answer),
+        0x06 => Some(Kind::Attention),
+        0x07 => Some(Kind::BulkLoad),
+        0x0E => Some(Kind::Transaction),
+        _ => None,
+    }
 }
 
 #[inline(always)]

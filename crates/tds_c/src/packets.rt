@@ -11,7 +11,6 @@ use crate::answers::{Stop, done_code, taken_code};
 use crate::buffer::behind;
 use crate::client::TdsClient;
 use bitflags::Flags;
-use std::alloc::Global;
 use tds_client::Taken;
 use tds_packet::{Direction, Header, Kind, PacketRef, PacketSize, laws};
 
@@ -192,14 +191,13 @@ pub extern "C" fn tds_packet_read(
 }
 
 #[inline(always)]
-fn take(alloc: Global, client: &mut TdsClient, bytes: &[u8]) -> Result<Taken, Stop>
+fn take(client: &mut TdsClient, bytes: &[u8]) -> Result<Taken, Stop>
     ensures { Takes client.old client.new bytes.now result }
 {
-    let Some(mut held) = client.client(Vec::new(alloc)) else {
+    let Some(mut held) = client.held(&[]) else {
         return Err(Stop::NoClient);
     };
-    let size = held.parts().size;
-    let packet = match front(bytes, size, Direction::ToClient) {
+    let packet = match front(bytes, held.size, Direction::ToClient) {
         Ok(packet) => packet,
         Err(stop) => return Err(stop),
     };
@@ -211,7 +209,7 @@ fn take(alloc: Global, client: &mut TdsClient, bytes: &[u8]) -> Result<Taken, St
         Kind::Batch | Kind::Attention | Kind::Transaction => return Err(Stop::NoPacket),
         Kind::Procedure | Kind::BulkLoad => return Err(Stop::NoPacket),
     };
-    *client = TdsClient::new(&held, 0);
+    *client = TdsClient::of(&held, 0);
     match heard {
         Ok(taken) => Ok(taken),
         Err(fault) => Err(Stop::Client(fault)),
@@ -221,11 +219,11 @@ fn take(alloc: Global, client: &mut TdsClient, bytes: &[u8]) -> Result<Taken, St
 /// Takes one whole packet of an answer. 1 the answer goes on, 3 it has ended, 4 the attention is
 /// acknowledged. Its tokens are read from it by `tds_token_next`.
 #[unsafe(no_mangle)]
-pub extern "C" fn tds_client_take(alloc: Global, client: &mut TdsClient, packet: &[u8]) -> u8
+pub extern "C" fn tds_client_take(client: &mut TdsClient, packet: &[u8]) -> u8
     ensures { (answer : Result Taken Stop) × (result ≡ number_of taken_number answer)
         × Takes client.old client.new packet.now answer }
 {
-    match take(alloc, client, packet) {
+    match take(client, packet) {
         Ok(taken) => taken_code(taken),
         Err(stop) => stop.number(),
     }

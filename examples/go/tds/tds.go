@@ -72,6 +72,8 @@ func at(bytes []byte) *C.uint8_t {
 type Client struct {
 	raw     C.struct_tds_client
 	message []byte
+	kept    []byte // of a message that is put in parts, the room for what waits
+	waiting C.size_t
 }
 
 // New makes a client for packets of 512 to 32,767 bytes.

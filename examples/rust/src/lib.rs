@@ -4,9 +4,11 @@
 
 mod fault;
 mod raw;
+mod streams;
 mod tokens;
 
 pub use fault::Fault;
+pub use streams::{Heard, MessageKind};
 pub use tokens::{Change, Message, Packets, Rows, Token, Tokens};
 
 /// The reset that the next request asks for.
@@ -63,6 +65,9 @@ const NO_NEXT: u8 = 255;
 pub struct Client {
     raw: raw::Client,
     message: Vec<u8>,
+    /// Of a message that is put in parts, the room for what waits, and how much waits.
+    kept: Vec<u8>,
+    waiting: usize,
 }
 
 impl Client {
@@ -71,7 +76,7 @@ impl Client {
         let mut raw = raw::Client::default();
         // SAFETY: the client is written to alone.
         done(unsafe { raw::tds_client_new(size, &mut raw) })?;
-        Ok(Client { raw, message: Vec::new() })
+        Ok(Client { raw, message: Vec::new(), kept: Vec::new(), waiting: 0 })
     }
 
     pub fn state(&self) -> State {

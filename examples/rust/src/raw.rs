@@ -65,6 +65,14 @@ extern "C" {
     pub fn tds_client_send(client: &mut Client, message: *const u8, length: usize, out: *mut u8, room: usize, count: &mut usize) -> u8;
     pub fn tds_client_cancel(client: &mut Client, out: *mut u8, room: usize, count: &mut usize) -> u8;
     pub fn tds_client_take(client: &mut Client, packet: *const u8, length: usize) -> u8;
+    pub fn tds_client_start_message(client: &mut Client, kind: u8, kept: *mut u8, room: usize, count: &mut usize) -> u8;
+    #[allow(clippy::too_many_arguments)]
+    pub fn tds_client_put(client: &mut Client, kept: *mut u8, kept_room: usize, waiting: &mut usize, bytes: *const u8, length: usize, taken: &mut usize, out: *mut u8, room: usize, count: &mut usize) -> u8;
+    pub fn tds_client_finish(client: &mut Client, kept: *const u8, waiting: usize, out: *mut u8, room: usize, count: &mut usize) -> u8;
+    pub fn tds_client_heard_change(client: &mut Client, change: u8, descriptor: u64) -> u8;
+    pub fn tds_client_heard_done(client: &mut Client, kind: u8, status: u16) -> u8;
+    pub fn tds_client_heard_other(client: &mut Client) -> u8;
+    pub fn tds_client_message_ended(client: &mut Client) -> u8;
     pub fn tds_client_lost(client: &mut Client) -> u8;
     pub fn tds_tokens_next(data: *const u8, length: usize, cursor: &mut Cursor, tokens: *mut Token, room: usize, count: &mut usize) -> u8;
     pub fn tds_rows_next(data: *const u8, length: usize, cursor: &mut Cursor, rows: &mut Rows) -> u8;
