@@ -4,3 +4,7 @@ pub mod Calls
 pub mod Rooms
 pub mod Packets
 pub mod Tokens
+pub mod WireFields
+pub mod Wire
+pub mod WireTokens
+pub mod WireCalls

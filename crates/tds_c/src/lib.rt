@@ -15,3 +15,4 @@ mod numbers;
 mod packets;
 mod requests;
 mod tokens;
+mod wire;
