@@ -18,3 +18,4 @@ mod requests;
 mod streams;
 mod tokens;
 mod version;
+mod wire;

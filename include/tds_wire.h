@@ -1,0 +1,135 @@
+/* Where each token of an answer ends (MS-TDS 2.2.7), for every type of column of TDS 7.2 to 7.4, as
+ * its bytes come in pieces of any size. C99 and C++. It is a part of the client's library (tds.h).
+ *
+ * A walk is a plain value, beside memory that its caller lends to each call: 8,706 bytes, which no
+ * call copies. Both may be copied together; there is nothing to free. No call takes memory, and no
+ * value of a row is kept.
+ *
+ *     static struct tds_wire_memory memory;
+ *     struct tds_wire walk = {0};
+ *     tds_wire_new(TDS_WIRE_MOST_COLUMNS, 0, 0, &walk, &memory);
+ *     while (length > 0) {                   // the data of a packet of type 04, without its header
+ *         struct tds_wire_token token = {0};
+ *         size_t count;
+ *         uint8_t answer = tds_wire_next(&walk, &memory, bytes, length, &count, &token);
+ *         if (answer > TDS_WIRE_MORE) break; // refused, at walk.refused.at
+ *         if (answer == TDS_WIRE_ENDED) ..   // token.start, token.length, what is told of it
+ *         bytes += count, length -= count;   // at least one byte
+ *     }
+ *     tds_wire_is_between(&walk, &memory)    // behind the message's last packet: it ended well
+ *     tds_wire_restart(&walk, &memory)       // before the next message
+ *
+ * WHAT A CALLER OWES is what tds.h says: no pointer is null, and so on. A walk and its memory belong
+ * together. Any bytes in them are read within their bounds: a walk that no call made is answered by
+ * TDS_WIRE_NO_WALK, or is some other walk.
+ */
+#ifndef TDS_WIRE_H
+#define TDS_WIRE_H
+
+#include <stddef.h>
+#include <stdint.h>
+
+#ifdef __cplusplus
+extern "C" {
+#endif
+
+#define TDS_WIRE_MOST_COLUMNS 4096
+
+/* ---- What a call answers */
+
+#define TDS_WIRE_ENDED 0    /* next: a token has ended. The others: done, or not between two tokens */
+#define TDS_WIRE_MORE 1     /* next: all bytes are done with. is_between: it is */
+#define TDS_WIRE_NO_WALK 20 /* the value is no walk's: nothing was done */
+
+/* No answer has these bytes; `refused` of the walk says which byte, and where. Each later call
+ * answers it again, up to a restart. */
+#define TDS_WIRE_UNKNOWN_TOKEN 71
+#define TDS_WIRE_NO_COLUMNS 72   /* a row, and no columns are known */
+#define TDS_WIRE_UNKNOWN_TYPE 73
+#define TDS_WIRE_MANY_COLUMNS 74 /* more than there is room for */
+
+/* ---- The walk */
+
+struct tds_wire_column { uint8_t form, bytes; };
+
+/* Only the library reads and writes it. */
+struct tds_wire_memory {
+    struct tds_wire_column columns[TDS_WIRE_MOST_COLUMNS];
+    uint8_t nulls[TDS_WIRE_MOST_COLUMNS / 8];
+    uint16_t count;
+};
+
+struct tds_wire_due { uint64_t left; uint32_t value; uint16_t change; uint8_t due, bytes, field, next, fault; };
+struct tds_wire_inside { uint16_t column; uint8_t inside; struct tds_wire_column base; };
+
+/* A byte that was refused, and its place in the message, where fault isn't 0: 1 to 4 as above. */
+struct tds_wire_refusal { uint64_t at; uint8_t fault, byte; };
+
+/* Only the library writes it. `refused`, `start` and `passed` may be read: where the token starts
+ * that it is in, and how many bytes of that have come. */
+struct tds_wire {
+    struct tds_wire_due due;
+    struct tds_wire_refusal refused;
+    uint64_t start, passed;
+    uint16_t most, entries;
+    struct tds_wire_inside inside;
+    struct tds_wire_column shape;
+    uint8_t kind, parts, ciphered, encryption, ranks;
+    uint8_t head[24], head_count;
+};
+
+/* ---- A token that ended */
+
+#define TDS_WIRE_TELLS_NOTHING 0
+#define TDS_WIRE_TELLS_DONE 1          /* status, command, value: the count of rows */
+#define TDS_WIRE_TELLS_TRANSACTION 2   /* ENVCHANGE 8 to 12, 17: value and old_value, descriptors */
+#define TDS_WIRE_TELLS_RESET 3         /* ENVCHANGE 18 */
+#define TDS_WIRE_TELLS_PACKET_SIZE 4   /* ENVCHANGE 4: size */
+#define TDS_WIRE_TELLS_VALUES 5        /* ENVCHANGE 1, 2, 7, 15, 20: text the new one, others the old */
+#define TDS_WIRE_TELLS_OTHER_CHANGE 6  /* any other ENVCHANGE */
+#define TDS_WIRE_TELLS_MESSAGE 7       /* ERROR, INFO: number, state, severity, text; others: names, line */
+#define TDS_WIRE_TELLS_RETURN_STATUS 8 /* number */
+#define TDS_WIRE_TELLS_SESSION_STATE 9 /* size: its number, recoverable, text: the states */
+#define TDS_WIRE_TELLS_UNCLEAR 10      /* one of these whose fields don't fit its length or type */
+
+/* Bytes of the message, from its first byte on. They may have come in pieces that are gone. */
+struct tds_wire_place { uint64_t start, length; };
+
+/* A field that its kind doesn't have is 0. */
+struct tds_wire_token {
+    uint64_t start, length; /* of the token, its first byte counted */
+    uint64_t value, old_value;
+    struct tds_wire_place text, others;
+    int32_t number;
+    uint32_t size;
+    uint16_t status, command;
+    uint8_t kind;   /* its first byte */
+    uint8_t told;   /* one of the above */
+    uint8_t change; /* the type of an ENVCHANGE */
+    uint8_t state, severity, recoverable;
+};
+
+/* ---- The calls */
+
+/* A walk before the first token of an answer, with room for so many columns (any number beyond 4,096
+ * is as 4,096). The others are not 0 where the FEATUREEXTACK of the login acknowledged column
+ * encryption, and data classification of version 2. 0. */
+uint8_t tds_wire_new(uint16_t most, uint8_t encryption, uint8_t ranks, struct tds_wire *walk,
+                     struct tds_wire_memory *memory);
+
+/* Takes bytes of an answer's data up to the end of one token: at least one byte, where there is one.
+ * `count` is how many; where bytes are refused, 0. `token` is written where a token has ended. */
+uint8_t tds_wire_next(struct tds_wire *walk, struct tds_wire_memory *memory, const uint8_t *bytes,
+                      size_t length, size_t *count, struct tds_wire_token *token);
+
+/* Whether a message may end here: 1 between two tokens, 0 inside one or where bytes were refused. */
+uint8_t tds_wire_is_between(const struct tds_wire *walk, const struct tds_wire_memory *memory);
+
+/* Begins anew, before the first token of a message, with no columns, whatever was before. 0. */
+uint8_t tds_wire_restart(struct tds_wire *walk, struct tds_wire_memory *memory);
+
+#ifdef __cplusplus
+}
+#endif
+
+#endif
