@@ -76,5 +76,6 @@ extern "C" {
     pub fn tds_client_lost(client: &mut Client) -> u8;
     pub fn tds_tokens_next(data: *const u8, length: usize, cursor: &mut Cursor, tokens: *mut Token, room: usize, count: &mut usize) -> u8;
     pub fn tds_rows_next(data: *const u8, length: usize, cursor: &mut Cursor, rows: &mut Rows) -> u8;
+    #[cfg(feature = "play")]
     pub fn tds_play(schedule: *const u8, length: usize, out: *mut u8, room: usize, count: &mut usize) -> u8;
 }
