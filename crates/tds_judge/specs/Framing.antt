@@ -1,0 +1,327 @@
+-- What a byte of a connection does: where each direction is in its packets (MS-TDS 2.2.3), what is said there, and what is found.
+use Rattle.std.specs.Prelude.{◌≡◌, ℕ, ◌+◌, ◌-◌, ◌*◌, ◌/◌, ◌%◌, ◌==◌, ◌&&◌, ◌||◌, not, min, nat_lt, Bool, true, false, List, [], ◌∷◌, Option, Some, None, if◌then◌else◌}
+use Rattle.tds_judge.specs.declared.finding.Direction.{Direction}
+use Rattle.tds_judge.specs.declared.finding.Direction.TheVariants.{ToServer, ToClient}
+use Rattle.tds_judge.specs.declared.finding.Finding.{Finding}
+use Rattle.tds_judge.specs.declared.finding.Spot.{Spot}
+use Rattle.tds_judge.specs.declared.frame.Due.{Due}
+use Rattle.tds_judge.specs.declared.frame.Due.TheVariants as due
+use Rattle.tds_judge.specs.declared.frame.Frame.{Frame}
+use Rattle.tds_judge.specs.declared.frame.Head.{Head}
+use Rattle.tds_judge.specs.declared.frame.Inside.{Inside}
+use Rattle.tds_judge.specs.declared.frame.Inside.TheVariants as inside
+use Rattle.tds_judge.specs.declared.frame.Part.{Part}
+use Rattle.tds_judge.specs.declared.frame.Part.TheVariants as parts
+use Rattle.tds_judge.specs.declared.judge.Judge.{Judge}
+use Rattle.tds_judge.specs.declared.talk.Ending.TheVariants as endings
+use Rattle.tds_judge.specs.declared.talk.Event.{Event}
+use Rattle.tds_judge.specs.declared.talk.Event.TheVariants as events
+use Rattle.tds_judge.specs.declared.talk.Limits.{Limits}
+use Rattle.tds_judge.specs.Talking.{new_talk, talk_by, told_by}
+use Rattle.tds_wire.specs.Faults.{fault_number}
+use Rattle.tds_wire.specs.Reading.{IsReady, Reading, Found, Sees, Inside as Amid, Refuses, is_between, next_token, restarted}
+
+-- ---- Headers
+
+-- eight bytes, the highest first, with one more at their end
+abbrev pub shifted : ℕ → ℕ → ℕ
+shifted value byte = value % 72057594037927936 * 256 + byte
+
+-- Type, Status, Length, SPID, PacketID, Window
+abbrev pub head_of : ℕ → Head
+head_of value = record {
+  kind = value / 72057594037927936 % 256;
+  status = value / 281474976710656 % 256;
+  size = value / 4294967296 % 65536;
+  id = value / 256 % 256;
+}
+
+-- 01 batch, 03 RPC, 06 attention, 07 bulk load, 08 federated token, 0E transaction manager, 10 LOGIN7, 11 SSPI, 12 PRELOGIN; 04 answer
+abbrev pub is_kind : Direction → ℕ → Bool
+is_kind ToServer kind = (kind == 1) || (kind == 3) || (kind == 6) || (kind == 7) || (kind == 8) || (kind == 14) || (kind == 16) || (kind == 17) || (kind == 18)
+is_kind ToClient kind = (kind == 4) || (kind == 18)
+
+abbrev pub is_plausible : Direction → Head → Bool
+is_plausible direction head = is_kind direction head.kind && not (nat_lt head.size 8)
+
+-- a record of TLS: its type, and the first byte of its version
+abbrev pub is_tls : Head → Bool
+is_tls head = ((head.kind == 20) || (head.kind == 21) || (head.kind == 22) || (head.kind == 23)) && (head.status == 3)
+
+abbrev pub fault_of : Direction → Head → Event
+fault_of direction head =
+    if is_tls head then events.Stops endings.Encrypted 0
+    else if is_kind direction head.kind then events.Stops endings.WrongLength head.size
+    else events.Stops endings.NotTds head.kind
+
+abbrev pub event_of : Head → Event
+event_of head =
+    if head.kind == 6 then events.Attention head.size head.status
+    else if (head.kind == 1) || (head.kind == 3) || (head.kind == 7) || (head.kind == 14) then events.Request head.status
+    else events.Login
+
+-- ---- ALL_HEADERS (MS-TDS 2.2.5.3): a total length in 4 bytes, the header's own in 4, its type in 2, and the descriptor in 8
+
+abbrev pub inside_of : ℕ → Inside
+inside_of kind = if (kind == 1) || (kind == 3) || (kind == 14) then inside.Prefix 0 true 0 else inside.Skipped
+
+abbrev pub fits_prefix : ℕ → ℕ → Bool
+fits_prefix place byte =
+    if place == 4 then byte == 18
+    else if place == 8 then byte == 2
+    else if (place == 5) || (place == 6) || (place == 7) || (place == 9) then byte == 0
+    else true
+
+abbrev pub named_with : ℕ → ℕ → ℕ → ℕ
+named_with place value byte = if nat_lt place 10 then 0 else value / 256 + byte * 72057594037927936
+
+-- ---- Frames
+
+abbrev pub new_frame : Frame
+new_frame = record { due = due.Head 0 0; part = parts.Lost; inside = inside.Skipped; kind = 0; status = 0; offset = 0 }
+
+abbrev pub opened_frame : Frame → Part → Inside → Head → Frame
+opened_frame f part inside head = record { due = due.Data (head.size - 8); part = part; inside = inside; kind = head.kind; status = head.status; offset = f.offset }
+
+-- ---- A judge, and what it found
+
+pub record Run : Type 0 where
+  pub judge : Judge
+  pub told : List Finding
+
+abbrev pub run_of : Judge → List Finding → Run
+run_of judge told = record { judge = judge; told = told }
+
+abbrev pub frame_by : Direction → Judge → Frame
+frame_by ToServer j = j.client
+frame_by ToClient j = j.server
+
+abbrev pub with_frame : Direction → Frame → Judge → Judge
+with_frame ToServer f j = record j { client = f }
+with_frame ToClient f j = record j { server = f }
+
+abbrev pub frame_of : Direction → Run → Frame
+frame_of direction run = frame_by direction run.judge
+
+abbrev pub framed : Direction → Frame → Run → Run
+framed direction f run = record { judge = with_frame direction f run.judge; told = run.told }
+
+-- something is said
+abbrev pub said : Spot → Event → Run → Run
+said spot event run = record {
+  judge = record run.judge { talk = talk_by run.judge.talk spot.time event };
+  told = told_by run.told run.judge.limits run.judge.talk spot event;
+}
+
+-- the judging ends
+abbrev pub stops : Spot → Event → Run → Run
+stops spot event run = said spot event (record { judge = record run.judge { walker = None }; told = run.told })
+
+-- ---- The end of a packet
+
+abbrev pub is_whole : Inside → Option Reading → Bool
+is_whole inside.Skipped walker = true
+is_whole (inside.Prefix place fits value) walker = true
+is_whole inside.Walked None = true
+is_whole inside.Walked (Some r) = is_between r
+
+-- a message whose beginning was seen ends
+abbrev pub message_over : Direction → Spot → Frame → Run → Run
+message_over ToServer spot f run = if f.status / 2 % 2 == 1 then said spot events.Ignored run else run
+message_over ToClient spot f run = said spot (events.Answered (is_whole f.inside run.judge.walker)) run
+
+abbrev pub over_by : Part → Spot → Frame → Run → Run
+over_by parts.Lost spot f run = run
+over_by parts.Passing spot f run = said spot events.TakenUp run
+over_by parts.Between spot f run = run
+over_by parts.Within spot f run = message_over spot.direction spot f run
+
+-- behind a packet; a message ends with the packet whose status has bit 01
+unfoldable pub over : Spot → Run → Run
+over spot run =
+    let f = frame_of spot.direction run in
+    if f.status % 2 == 1
+    then over_by f.part spot f (framed spot.direction (record f { due = due.Head 0 0; part = parts.Between }) run)
+    else framed spot.direction (record f { due = due.Head 0 0 }) run
+
+-- ---- The end of a header
+
+unfoldable pub opened : Spot → Part → Inside → Head → Run → Run
+opened spot part inside head run =
+    let there = framed spot.direction (opened_frame (frame_of spot.direction run) part inside head) run in
+    if head.size == 8 then over spot there else there
+
+-- A header that can't be one is the beginning of another eight bytes: one byte is dropped.
+abbrev pub slid_frame : ℕ → Frame → Frame
+slid_frame value f = record f { part = parts.Lost; due = due.Head 7 value }
+
+abbrev pub slid : Spot → ℕ → Run → Run
+slid spot value run = framed spot.direction (slid_frame value (frame_of spot.direction run)) run
+
+-- What was never TDS is given up behind a mebibyte.
+unfoldable pub lost : Spot → ℕ → Run → Run
+lost spot value run =
+    if (spot.offset == 7) && is_tls (head_of value) then stops spot (events.Stops endings.Encrypted 0) run
+    else if nat_lt spot.offset 1048575 then slid spot value run
+    else stops spot (events.Stops endings.NotTds 0) run
+
+-- The answer to PRELOGIN has no tokens, and a server wraps TLS in packets of its type.
+abbrev pub is_walked : Head → Run → Bool
+is_walked head run = not (head.kind == 18) && not (run.judge.client.kind == 18)
+
+abbrev pub restarted_by : Option Reading → Option Reading
+restarted_by None = None
+restarted_by (Some r) = Some (restarted r)
+
+abbrev pub begun_by : Direction → Spot → Head → Run → Run
+begun_by ToServer spot head run = opened spot parts.Within (inside_of head.kind) head (said spot (event_of head) run)
+begun_by ToClient spot head run =
+    opened spot parts.Within (if is_walked head run then inside.Walked else inside.Skipped) head
+    (said spot events.Answer (record { judge = record run.judge { walker = restarted_by run.judge.walker }; told = run.told }))
+
+-- a message begins
+unfoldable pub begins : Spot → Head → Run → Run
+begins spot head run = begun_by spot.direction spot head (said spot (events.Packet head.size) run)
+
+abbrev pub later_by : Direction → Spot → Head → Run → Run
+later_by ToServer spot head run = said spot (events.Later head.status) run
+later_by ToClient spot head run = run
+
+-- A message goes on with a packet of its type. An attention may come at any time.
+unfoldable pub goes_on : Spot → Frame → Head → Run → Run
+goes_on spot f head run =
+    if (head.kind == f.kind) && not (head.kind == 6)
+    then opened spot parts.Within f.inside head (later_by spot.direction spot head (said spot (events.Packet head.size) run))
+    else if head.kind == 6 then begins spot head run
+    else begins spot head (said spot events.Unfinished run)
+
+-- The first message is taken up where its first eight bytes begin one; else behind the end of another.
+unfoldable pub taken_up : Spot → Head → Run → Run
+taken_up spot head run =
+    if (spot.offset == 7) && nat_lt head.id 2 then begins spot head run
+    else opened spot parts.Passing inside.Skipped head run
+
+abbrev pub headed_by : Part → Bool → Spot → ℕ → Run → Run
+headed_by parts.Lost true spot value run = taken_up spot (head_of value) run
+headed_by parts.Lost false spot value run = lost spot value run
+headed_by parts.Passing true spot value run = opened spot parts.Passing inside.Skipped (head_of value) run
+headed_by parts.Passing false spot value run = slid spot value run
+headed_by parts.Between true spot value run = begins spot (head_of value) run
+headed_by parts.Between false spot value run = stops spot (fault_of spot.direction (head_of value)) run
+headed_by parts.Within true spot value run = goes_on spot (frame_of spot.direction run) (head_of value) run
+headed_by parts.Within false spot value run = stops spot (fault_of spot.direction (head_of value)) run
+
+abbrev pub headed : Spot → ℕ → Run → Run
+headed spot value run = headed_by (frame_of spot.direction run).part (is_plausible spot.direction (head_of value)) spot value run
+
+abbrev pub head_taken : Spot → ℕ → ℕ → Run → Run
+head_taken spot got value run =
+    if nat_lt got 7
+    then framed spot.direction (record (frame_of spot.direction run) { due = due.Head (got + 1) value }) run
+    else headed spot value run
+
+-- ---- Data
+
+abbrev pub named_if : Bool → Spot → ℕ → Run → Run
+named_if fits spot value run = if fits then said spot (events.Names value) run else run
+
+abbrev pub prefixed : Spot → ℕ → Bool → ℕ → Run → Run
+prefixed spot place fits value run =
+    if nat_lt place 17
+    then framed spot.direction (record (frame_of spot.direction run) { inside = inside.Prefix (place + 1) fits value }) run
+    else named_if fits spot value (framed spot.direction (record (frame_of spot.direction run) { inside = inside.Skipped }) run)
+
+abbrev pub read_by : Reading → Run → Run
+read_by r run = record { judge = record run.judge { walker = Some r }; told = run.told }
+
+abbrev pub walked_by : Found → Spot → Run → Run
+walked_by (Sees token r rest) spot run = said spot (events.Says token) (read_by r run)
+walked_by (Amid r) spot run = read_by r run
+walked_by (Refuses refusal) spot run = stops spot (events.Stops endings.WrongToken (fault_number refusal.fault)) run
+
+abbrev pub walked : Option Reading → Spot → ℕ → Run → Run
+walked None spot byte run = run
+walked (Some r) spot byte run = walked_by (next_token r (byte ∷ [])) spot run
+
+unfoldable pub inside_by : Inside → Spot → ℕ → Run → Run
+inside_by inside.Skipped spot byte run = run
+inside_by (inside.Prefix place fits value) spot byte run = prefixed spot place (fits && fits_prefix place byte) (named_with place value byte) run
+inside_by inside.Walked spot byte run = walked run.judge.walker spot byte run
+
+abbrev pub counted_by : Option Reading → Spot → ℕ → Run → Run
+counted_by None spot left run = run
+counted_by (Some r) spot left run =
+    if nat_lt 1 left then framed spot.direction (record (frame_of spot.direction run) { due = due.Data (left - 1) }) run
+    else over spot run
+
+-- one byte less is to come
+abbrev pub counted : Spot → ℕ → Run → Run
+counted spot left run = counted_by run.judge.walker spot left run
+
+-- ---- A byte
+
+unfoldable pub due_by : Due → Spot → ℕ → Run → Run
+due_by (due.Head got value) spot byte run = head_taken spot got (shifted value byte) run
+due_by (due.Data left) spot byte run = counted spot left (inside_by (frame_of spot.direction run).inside spot byte run)
+
+abbrev pub moved : Direction → Run → Run
+moved direction run =
+    framed direction (record (frame_of direction run) { offset = min 18446744073709551615 ((frame_of direction run).offset + 1) }) run
+
+abbrev pub spot_of : Direction → ℕ → Run → Spot
+spot_of direction time run = record { direction = direction; offset = (frame_of direction run).offset; time = time }
+
+abbrev pub step_by : Option Reading → Direction → ℕ → ℕ → Run → Run
+step_by None direction time byte run = run
+step_by (Some r) direction time byte run = due_by (frame_of direction run).due (spot_of direction time run) byte (moved direction run)
+
+-- what a byte of a direction does, that came at a time; nothing where the judging has ended
+unfoldable pub step : Direction → ℕ → ℕ → Run → Run
+step direction time byte run = step_by run.judge.walker direction time byte run
+
+-- and bytes, one behind the other
+unfoldable pub steps : Direction → ℕ → List ℕ → Run → Run
+steps direction time [] run = run
+steps direction time (byte ∷ bytes) run = steps direction time bytes (step direction time byte run)
+
+abbrev pub stopped_by : Option Reading → Bool
+stopped_by None = true
+stopped_by (Some r) = false
+
+abbrev pub has_stopped : Judge → Bool
+has_stopped j = stopped_by j.walker
+
+-- nothing was seen of the connection
+pub record IsNew (given : Limits) (j : Judge) : Type 0 where
+  pub limits : j.limits ≡ given
+  pub client : j.client ≡ new_frame
+  pub server : j.server ≡ new_frame
+  pub talk : j.talk ≡ new_talk
+  pub walker : (r : Reading) × (j.walker ≡ Some r) × IsReady r
+
+-- ---- Other events
+
+-- What is said of the connection as a whole has the place of the client's next byte.
+abbrev pub event_by : Option Reading → Spot → Event → Run → Run
+event_by None spot event run = run
+event_by (Some r) spot event run = said spot event run
+
+unfoldable pub event_said : ℕ → Event → Run → Run
+event_said time event run = event_by run.judge.walker (spot_of ToServer time run) event run
+
+-- A connection of which no header was found is closed as none of TDS.
+abbrev pub is_lost : Part → Bool
+is_lost parts.Lost = true
+is_lost parts.Passing = false
+is_lost parts.Between = false
+is_lost parts.Within = false
+
+abbrev pub closing : Judge → Event
+closing j = if is_lost j.client.part && nat_lt 0 j.client.offset then events.Stops endings.NotTds 0 else events.Closed
+
+abbrev pub closed_by : Option Reading → Spot → Run → Run
+closed_by None spot run = run
+closed_by (Some r) spot run = stops spot (closing run.judge) run
+
+unfoldable pub closed : ℕ → Run → Run
+closed time run = closed_by run.judge.walker (spot_of ToServer time run) run

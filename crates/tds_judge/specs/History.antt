@@ -1,0 +1,266 @@
+-- Breaches, by what was said on a connection before. A history is the list of what was said, the newest first; an event is said next.
+use Rattle.std.specs.Prelude.{◌≡◌, ℕ, ◌==◌, ◌&&◌, ◌||◌, not, Bool, true, false, List, [], ◌∷◌, if◌then◌else◌}
+use Rattle.tds_judge.specs.declared.finding.Finding.{Finding}
+use Rattle.tds_judge.specs.declared.finding.Spot.{Spot}
+use Rattle.tds_judge.specs.declared.talk.Event.{Event}
+use Rattle.tds_judge.specs.declared.talk.Event.TheVariants as events
+use Rattle.tds_judge.specs.declared.talk.Limits.{Limits}
+use Rattle.tds_judge.specs.declared.talk.Reset.{Reset}
+use Rattle.tds_judge.specs.declared.talk.Reset.TheVariants as resets
+use Rattle.tds_judge.specs.declared.talk.Talk.{Talk}
+use Rattle.tds_judge.specs.declared.talk.Transaction.{Transaction}
+use Rattle.tds_judge.specs.declared.talk.Transaction.TheVariants as transactions
+use Rattle.tds_wire.specs.declared.told.ChangeValue.{ChangeValue}
+use Rattle.tds_wire.specs.declared.told.ChangeValue.TheVariants as changes
+use Rattle.tds_wire.specs.declared.told.Told.{Told}
+use Rattle.tds_wire.specs.declared.told.Told.TheVariants as told
+use Rattle.tds_judge.specs.Findings.{number_of}
+use Rattle.tds_judge.specs.Framing.{Run}
+use Rattle.tds_judge.specs.Talking.{acknowledges, descriptor_of, is_both, is_full, is_told, new_talk, reset_of, talk_by, told_by}
+
+-- where and when something was said, and what
+pub record Said : Type 0 where
+  pub spot : Spot
+  pub event : Event
+
+-- ---- What is found is found at what is said
+
+-- where a talk is when more was said, the newest first
+unfoldable pub further : List Said → Talk → Talk
+further [] t = t
+further (x ∷ later) t = talk_by (further later t) x.spot.time x.event
+
+-- and what is found then, behind what was found so far
+unfoldable pub found_in : Limits → List Said → Talk → List Finding → List Finding
+found_in limits [] t xs = xs
+found_in limits (x ∷ later) t xs = told_by (found_in limits later t xs) limits (further later t) x.spot x.event
+
+-- From one run to another these events were said, and nothing was found but at them.
+pub record Tells (before after : Run) : Type 0 where
+  pub events : List Said
+  pub talk : after.judge.talk ≡ further events before.judge.talk
+  pub limits : after.judge.limits ≡ before.judge.limits
+  pub told : after.told ≡ found_in before.judge.limits events before.judge.talk before.told
+
+-- where a judge is behind a history
+abbrev pub talk_behind : List Said → Talk
+talk_behind past = further past new_talk
+
+-- a finding of this number is among these
+abbrev pub is_found : ℕ → List Finding → Bool
+is_found number [] = false
+is_found number (finding ∷ others) = (number_of finding.name == number) || is_found number others
+
+-- ---- Attentions (MS-TDS 2.2.1.7)
+
+-- among the tokens of the answer that comes is a DONE that acknowledges an attention
+abbrev pub acknowledged_by : Event → Bool → Bool
+acknowledged_by events.Answer before = false
+acknowledged_by (events.Says token) before = before || acknowledges token
+acknowledged_by (events.Packet size) before = before
+acknowledged_by events.Unfinished before = before
+acknowledged_by (events.Request status) before = before
+acknowledged_by events.Login before = before
+acknowledged_by (events.Attention size status) before = before
+acknowledged_by (events.Later status) before = before
+acknowledged_by (events.Names descriptor) before = before
+acknowledged_by events.Ignored before = before
+acknowledged_by (events.Answered whole) before = before
+acknowledged_by events.TakenUp before = before
+acknowledged_by (events.Stops ending value) before = before
+acknowledged_by events.Borrowed before = before
+acknowledged_by events.Closed before = before
+
+unfoldable pub is_acknowledged : List Said → Bool
+is_acknowledged [] = false
+is_acknowledged (x ∷ past) = acknowledged_by x.event (is_acknowledged past)
+
+-- An attention is out until an answer with an acknowledgement ends.
+abbrev pub out_by : Event → Bool → Bool → Bool
+out_by (events.Attention size status) acknowledged before = true
+out_by (events.Answered whole) acknowledged before = before && not acknowledged
+out_by events.Answer acknowledged before = before
+out_by (events.Says token) acknowledged before = before
+out_by (events.Packet size) acknowledged before = before
+out_by events.Unfinished acknowledged before = before
+out_by (events.Request status) acknowledged before = before
+out_by events.Login acknowledged before = before
+out_by (events.Later status) acknowledged before = before
+out_by (events.Names descriptor) acknowledged before = before
+out_by events.Ignored acknowledged before = before
+out_by events.TakenUp acknowledged before = before
+out_by (events.Stops ending value) acknowledged before = before
+out_by events.Borrowed acknowledged before = before
+out_by events.Closed acknowledged before = before
+
+unfoldable pub is_out : List Said → Bool
+is_out [] = false
+is_out (x ∷ past) = out_by x.event (is_acknowledged past) (is_out past)
+
+-- ---- Requests
+
+-- A request is underway until an answer ends, or the request itself is to be ignored.
+abbrev pub underway_by : Event → Bool → Bool
+underway_by (events.Request status) before = true
+underway_by events.Login before = true
+underway_by (events.Answered whole) before = false
+underway_by events.Ignored before = false
+underway_by (events.Attention size status) before = before
+underway_by events.Answer before = before
+underway_by (events.Says token) before = before
+underway_by (events.Packet size) before = before
+underway_by events.Unfinished before = before
+underway_by (events.Later status) before = before
+underway_by (events.Names descriptor) before = before
+underway_by events.TakenUp before = before
+underway_by (events.Stops ending value) before = before
+underway_by events.Borrowed before = before
+underway_by events.Closed before = before
+
+unfoldable pub is_underway : List Said → Bool
+is_underway [] = false
+is_underway (x ∷ past) = underway_by x.event (is_underway past)
+
+-- what the newest request asks for
+abbrev pub asks_by : Event → Reset → Reset
+asks_by (events.Request status) before = reset_of status
+asks_by events.Login before = resets.None
+asks_by (events.Answered whole) before = before
+asks_by events.Ignored before = before
+asks_by (events.Attention size status) before = before
+asks_by events.Answer before = before
+asks_by (events.Says token) before = before
+asks_by (events.Packet size) before = before
+asks_by events.Unfinished before = before
+asks_by (events.Later status) before = before
+asks_by (events.Names descriptor) before = before
+asks_by events.TakenUp before = before
+asks_by (events.Stops ending value) before = before
+asks_by events.Borrowed before = before
+asks_by events.Closed before = before
+
+unfoldable pub asks_of : List Said → Reset
+asks_of [] = resets.None
+asks_of (x ∷ past) = asks_by x.event (asks_of past)
+
+-- ---- The transaction that was told last (MS-TDS 2.2.7.9)
+
+-- 8 has begun, 11 is enlisted; all others end it
+abbrev pub last_by_type : ℕ → ℕ → Transaction
+last_by_type type new = if (type == 8) || (type == 11) then transactions.Told new else transactions.Told 0
+
+abbrev pub last_by_change : ℕ → ChangeValue → Reset → Transaction → Transaction
+last_by_change type (changes.Transaction new old) asks before = last_by_type type new
+last_by_change type changes.ResetDone asks before = if is_full asks then transactions.Told 0 else before
+last_by_change type (changes.PacketSize size) asks before = before
+last_by_change type (changes.Values new old) asks before = before
+last_by_change type changes.Other asks before = before
+
+abbrev pub last_by_token : ℕ → Told → Reset → Transaction → Transaction
+last_by_token kind (told.Change change) asks before = last_by_change change.kind change.value asks before
+last_by_token kind told.Unclear asks before = if kind == 0xE3 then transactions.Unknown else before
+last_by_token kind (told.Done done) asks before = before
+last_by_token kind (told.Message message) asks before = before
+last_by_token kind (told.ReturnStatus value) asks before = before
+last_by_token kind (told.SessionState state) asks before = before
+last_by_token kind told.Other asks before = before
+
+abbrev pub last_by : Event → Reset → Transaction → Transaction
+last_by (events.Says token) asks before = last_by_token token.kind token.told asks before
+last_by events.Login asks before = transactions.Told 0
+last_by (events.Request status) asks before = before
+last_by (events.Answered whole) asks before = before
+last_by events.Ignored asks before = before
+last_by (events.Attention size status) asks before = before
+last_by events.Answer asks before = before
+last_by (events.Packet size) asks before = before
+last_by events.Unfinished asks before = before
+last_by (events.Later status) asks before = before
+last_by (events.Names descriptor) asks before = before
+last_by events.TakenUp asks before = before
+last_by (events.Stops ending value) asks before = before
+last_by events.Borrowed asks before = before
+last_by events.Closed asks before = before
+
+unfoldable pub last_told : List Said → Transaction
+last_told [] = transactions.Unknown
+last_told (x ∷ past) = last_by x.event (asks_of past) (last_told past)
+
+-- ---- Breaches
+
+-- what is so where an attention is sent, and nowhere else
+abbrev pub of_attention : Event → Bool → Bool
+of_attention (events.Attention size status) is = is
+of_attention (events.Packet size) is = false
+of_attention events.Unfinished is = false
+of_attention (events.Request status) is = false
+of_attention events.Login is = false
+of_attention (events.Later status) is = false
+of_attention (events.Names descriptor) is = false
+of_attention events.Ignored is = false
+of_attention events.Answer is = false
+of_attention (events.Says token) is = false
+of_attention (events.Answered whole) is = false
+of_attention events.TakenUp is = false
+of_attention (events.Stops ending value) is = false
+of_attention events.Borrowed is = false
+of_attention events.Closed is = false
+
+-- what is so of a request's beginning, by its status, and of nothing else
+abbrev pub of_request : Event → (ℕ → Bool) → Bool
+of_request (events.Request status) is = is status
+of_request (events.Packet size) is = false
+of_request events.Unfinished is = false
+of_request events.Login is = false
+of_request (events.Attention size status) is = false
+of_request (events.Later status) is = false
+of_request (events.Names descriptor) is = false
+of_request events.Ignored is = false
+of_request events.Answer is = false
+of_request (events.Says token) is = false
+of_request (events.Answered whole) is = false
+of_request events.TakenUp is = false
+of_request (events.Stops ending value) is = false
+of_request events.Borrowed is = false
+of_request events.Closed is = false
+
+-- what is so of the descriptor that a request names, and of nothing else
+abbrev pub of_names : Event → (ℕ → Bool) → Bool
+of_names (events.Names descriptor) is = is descriptor
+of_names (events.Packet size) is = false
+of_names events.Unfinished is = false
+of_names (events.Request status) is = false
+of_names events.Login is = false
+of_names (events.Attention size status) is = false
+of_names (events.Later status) is = false
+of_names events.Ignored is = false
+of_names events.Answer is = false
+of_names (events.Says token) is = false
+of_names (events.Answered whole) is = false
+of_names events.TakenUp is = false
+of_names (events.Stops ending value) is = false
+of_names events.Borrowed is = false
+of_names events.Closed is = false
+
+-- an attention, while another one is out
+abbrev pub is_second_attention : List Said → Event → Bool
+is_second_attention past event = of_attention event (is_out past)
+
+-- a request, while an attention is out
+abbrev pub is_attention_unanswered : List Said → Event → Bool
+is_attention_unanswered past event = of_request event (λ status. is_out past)
+
+-- a request, while another one is underway that wasn't cancelled
+abbrev pub is_request_while_answering : List Said → Event → Bool
+is_request_while_answering past event = of_request event (λ status. is_underway past && not (is_out past))
+
+-- a request with both reset bits
+abbrev pub is_both_resets : List Said → Event → Bool
+is_both_resets past event = of_request event (λ status. is_both (reset_of status))
+
+-- a descriptor that isn't the one that was told last; but none may be named where a full reset is asked for
+abbrev pub is_another : Transaction → Reset → ℕ → Bool
+is_another last asks descriptor = is_told last && (not (descriptor_of last == descriptor) && not (is_full asks && (descriptor == 0)))
+
+abbrev pub is_wrong_descriptor : List Said → Event → Bool
+is_wrong_descriptor past event = of_names event (is_another (last_told past) (asks_of past))

@@ -1,0 +1,4 @@
+pub mod Findings
+pub mod Talking
+pub mod Framing
+pub mod History

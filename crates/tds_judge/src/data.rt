@@ -1,0 +1,142 @@
+//! The data of packets, and bytes.
+
+ghost use Rattle.std.specs.Prelude.{◌≡◌, ◌≤◌, ◌<◌, ◌+◌, vec_len, vec_capacity};
+ghost use Rattle.tds_judge.specs.Framing as framing;
+ghost use Rattle.tds_judge.specs.Framing.{run_of};
+
+use crate::finding::{Direction, Finding, Spot};
+use crate::frame::{Due, Inside, fits_prefix, named_with, shifted};
+use crate::judge::Judge;
+use crate::talk::{Ending, Event};
+
+impl Judge {
+    /// A byte of ALL_HEADERS has come: whether all that came fits, and the descriptor so far.
+    fn read_prefix(&mut self, out: &mut Vec<Finding>, spot: Spot, place: u8, fits: bool, value: u64)
+        requires { vec_len out.old + 8 ≤ vec_capacity out.old }
+        ensures run { (run_of self.new out.new.items)
+            ≡ framing.prefixed spot place fits value (run_of self.old out.old.items) }
+        ensures few { vec_len out.new ≤ vec_len out.old + 8 }
+        ensures capacity { vec_capacity out.new ≡ vec_capacity out.old }
+    {
+        let mut frame = self.frame(spot.direction);
+        if place < 17 {
+            frame.inside = Inside::Prefix {
+                place: place + 1,
+                fits,
+                value,
+            };
+            self.put_frame(spot.direction, frame);
+        } else {
+            frame.inside = Inside::Skipped;
+            self.put_frame(spot.direction, frame);
+            if fits {
+                self.say(out, spot, Event::Names(value));
+            }
+        }
+    }
+
+    /// The walker reads a byte.
+    fn walk(&mut self, out: &mut Vec<Finding>, spot: Spot, byte: u8)
+        requires { vec_len out.old + 8 ≤ vec_capacity out.old }
+        ensures run { (run_of self.new out.new.items)
+            ≡ framing.walked self.old.walker spot byte (run_of self.old out.old.items) }
+        ensures few { vec_len out.new ≤ vec_len out.old + 8 }
+        ensures capacity { vec_capacity out.new ≡ vec_capacity out.old }
+    {
+        let Some(walker) = &mut self.walker else {
+            return;
+        };
+        match walker.feed(&[byte]) {
+            Ok(fed) => {
+                if let Some(token) = fed.token {
+                    self.say(out, spot, Event::Says(token));
+                }
+            }
+            Err(refusal) => {
+                let number = u64::from(refusal.fault.number());
+                self.stop(out, spot, Event::Stops(Ending::WrongToken, number));
+            }
+        }
+    }
+
+    /// A byte of data is read.
+    #[tactic(auto, unfolding(crate::specs::Framing::inside_by))]
+    fn read(&mut self, out: &mut Vec<Finding>, spot: Spot, inside: Inside, byte: u8)
+        requires { vec_len out.old + 8 ≤ vec_capacity out.old }
+        ensures run { (run_of self.new out.new.items)
+            ≡ framing.inside_by inside spot byte (run_of self.old out.old.items) }
+        ensures few { vec_len out.new ≤ vec_len out.old + 8 }
+        ensures capacity { vec_capacity out.new ≡ vec_capacity out.old }
+    {
+        match inside {
+            Inside::Skipped => {}
+            Inside::Prefix { place, fits, value } => {
+                let fits = fits && fits_prefix(place, byte);
+                self.read_prefix(out, spot, place, fits, named_with(place, value, byte));
+            }
+            Inside::Walked => self.walk(out, spot, byte),
+        }
+    }
+
+    /// One byte of data less is to come.
+    fn count(&mut self, out: &mut Vec<Finding>, spot: Spot, left: u16)
+        requires { vec_len out.old + 8 ≤ vec_capacity out.old }
+        ensures run { (run_of self.new out.new.items)
+            ≡ framing.counted spot left (run_of self.old out.old.items) }
+        ensures few { vec_len out.new ≤ vec_len out.old + 8 }
+        ensures capacity { vec_capacity out.new ≡ vec_capacity out.old }
+    {
+        if self.has_stopped() {
+            return;
+        }
+        if left > 1 {
+            let mut frame = self.frame(spot.direction);
+            frame.due = Due::Data { left: left - 1 };
+            self.put_frame(spot.direction, frame);
+        } else {
+            self.end_packet(out, spot);
+        }
+    }
+
+    /// A byte has come.
+    #[tactic(auto, unfolding(crate::specs::Framing::due_by))]
+    fn take_byte(&mut self, out: &mut Vec<Finding>, spot: Spot, due: Due, byte: u8)
+        requires { vec_len out.old + 32 ≤ vec_capacity out.old }
+        ensures run { (run_of self.new out.new.items)
+            ≡ framing.due_by due spot byte (run_of self.old out.old.items) }
+        ensures few { vec_len out.new ≤ vec_len out.old + 32 }
+        ensures capacity { vec_capacity out.new ≡ vec_capacity out.old }
+    {
+        match due {
+            Due::Head { got, value } => self.take_head(out, spot, got, shifted(value, byte)),
+            Due::Data { left } => {
+                let inside = self.frame(spot.direction).inside;
+                self.read(out, spot, inside, byte);
+                self.count(out, spot, left);
+            }
+        }
+    }
+
+    /// Takes a byte of a direction. Nothing is done once the judging has ended.
+    #[tactic(auto, unfolding(crate::specs::Framing::step))]
+    pub fn step(&mut self, out: &mut Vec<Finding>, direction: Direction, time: u64, byte: u8)
+        requires { vec_len out.old + 32 ≤ vec_capacity out.old }
+        ensures run { (run_of self.new out.new.items)
+            ≡ framing.step direction time byte (run_of self.old out.old.items) }
+        ensures few { vec_len out.new ≤ vec_len out.old + 32 }
+        ensures capacity { vec_capacity out.new ≡ vec_capacity out.old }
+    {
+        if self.has_stopped() {
+            return;
+        }
+        let mut frame = self.frame(direction);
+        let spot = Spot {
+            direction,
+            offset: frame.offset,
+            time,
+        };
+        frame.offset = frame.offset.saturating_add(1);
+        self.put_frame(direction, frame);
+        self.take_byte(out, spot, frame.due, byte);
+    }
+}

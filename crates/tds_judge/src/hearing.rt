@@ -1,0 +1,185 @@
+//! What has been said, when more is said.
+
+ghost use Rattle.std.specs.Prelude.{◌≡◌, ◌≤◌, ◌<◌, ◌+◌, vec_len, vec_capacity};
+ghost use Rattle.tds_judge.specs.Talking as talking;
+
+use crate::finding::{Finding, Spot};
+use crate::talk::{Asked, Event, Limits, Reset, Talk, Transaction};
+use tds_wire::{ChangeValue, Token, Told};
+
+impl Talk {
+    /// Before anything was seen.
+    pub fn new() -> Talk
+        ensures { result ≡ talking.new_talk }
+    {
+        Talk {
+            asked: Asked::Unknown,
+            underway: false,
+            attention: false,
+            doubled: false,
+            late: false,
+            ended_since: false,
+            reset: Reset::None,
+            reset_done: false,
+            transaction: Transaction::Unknown,
+            begun: false,
+            begun_unheard: false,
+            ended: 0,
+            is_final: false,
+            acknowledges: false,
+            borrowed: false,
+            since: 0,
+            most: 0,
+        }
+    }
+
+    fn begin_request(&mut self, status: u8)
+        ensures { self.new ≡ talking.begins_request self.old status }
+    {
+        self.asked = Asked::Request;
+        self.underway = true;
+        self.late = self.attention;
+        self.reset = Reset::of(status);
+        self.reset_done = false;
+        self.begun = false;
+        self.borrowed = false;
+    }
+
+    fn begin_login(&mut self)
+        ensures { self.new ≡ talking.begins_login self.old }
+    {
+        self.asked = Asked::Login;
+        self.underway = true;
+        self.reset = Reset::None;
+        self.reset_done = false;
+        self.begun = false;
+        self.transaction = Transaction::Told(0);
+    }
+
+    fn cancel(&mut self)
+        ensures { self.new ≡ talking.cancels self.old }
+    {
+        self.doubled = self.doubled || self.attention;
+        self.attention = true;
+        self.late = false;
+        self.ended_since = !self.underway;
+        self.begun_unheard = self.begun_unheard || (self.begun && self.underway);
+    }
+
+    fn change_transaction(&mut self, time: u64, kind: u8, new: u64)
+        ensures { self.new ≡ talking.transaction_changed self.old time kind new }
+    {
+        if kind == 8 || kind == 11 {
+            self.transaction = Transaction::Told(new);
+            self.begun = true;
+            self.begun_unheard = self.attention;
+            self.ended = 0;
+        } else {
+            self.ended = self.transaction.descriptor();
+            self.transaction = Transaction::Told(0);
+            self.begun = false;
+            self.begun_unheard = false;
+        }
+        self.since = time;
+    }
+
+    fn end_reset(&mut self)
+        ensures { self.new ≡ talking.is_reset self.old }
+    {
+        self.reset_done = true;
+        if self.reset.is_full() {
+            self.transaction = Transaction::Told(0);
+            self.begun_unheard = false;
+        }
+    }
+
+    fn hear_change(&mut self, time: u64, kind: u8, value: ChangeValue)
+        ensures { self.new ≡ talking.change_heard self.old time kind value }
+    {
+        match value {
+            ChangeValue::Transaction { new, old: _ } => self.change_transaction(time, kind, new),
+            ChangeValue::ResetDone => self.end_reset(),
+            ChangeValue::PacketSize(size) => self.most = size,
+            ChangeValue::Values { .. } | ChangeValue::Other => {}
+        }
+    }
+
+    fn hear_done(&mut self, status: u16)
+        ensures { self.new ≡ talking.is_done self.old status }
+    {
+        self.is_final = status % 2 != 1;
+        self.acknowledges = self.acknowledges || status / 32 % 2 == 1;
+    }
+
+    fn hear_token(&mut self, time: u64, token: &Token)
+        ensures { self.new ≡ talking.token_heard self.old time token.now }
+    {
+        match token.told {
+            Told::Done(done) => self.hear_done(done.status),
+            Told::Change(change) => self.hear_change(time, change.kind, change.value),
+            Told::Unclear => {
+                if token.kind == 0xE3 {
+                    self.transaction = Transaction::Unknown;
+                }
+            }
+            Told::Message(_) => {}
+            Told::ReturnStatus(_) => {}
+            Told::SessionState(_) => {}
+            Told::Other => {}
+        }
+    }
+
+    fn end_answer(&mut self, time: u64)
+        ensures { self.new ≡ talking.ends_answer self.old time }
+    {
+        self.underway = false;
+        self.since = time;
+        if self.acknowledges {
+            self.doubled = self.doubled && self.attention;
+            self.attention = false;
+            self.late = false;
+            self.ended_since = false;
+        } else {
+            self.late = self.late && !self.ended_since;
+            self.ended_since = true;
+        }
+    }
+
+    #[tactic(auto, unfolding(crate::specs::Talking::talk_by))]
+    fn change(&mut self, time: u64, event: Event)
+        ensures { self.new ≡ talking.talk_by self.old time event }
+    {
+        match event {
+            Event::Request(status) => self.begin_request(status),
+            Event::Login => self.begin_login(),
+            Event::Attention(_, _) => self.cancel(),
+            Event::Names(_) => {
+                self.begun_unheard = false;
+                self.ended = 0;
+            }
+            Event::Ignored => self.underway = false,
+            Event::Answer => {
+                self.is_final = false;
+                self.acknowledges = false;
+            }
+            Event::Says(token) => self.hear_token(time, &token),
+            Event::Answered(_) => self.end_answer(time),
+            Event::Borrowed => self.borrowed = true,
+            Event::Packet(_) | Event::Unfinished | Event::Later(_) => {}
+            Event::TakenUp | Event::Stops(_, _) | Event::Closed => {}
+        }
+    }
+
+    /// Something is said: appends what is wrong with it.
+    pub fn hear(&mut self, out: &mut Vec<Finding>, limits: &Limits, spot: Spot, event: Event)
+        requires { vec_len out.old + 8 ≤ vec_capacity out.old }
+        ensures items { out.new.items
+            ≡ talking.told_by out.old.items limits.now self.old spot event }
+        ensures talk { self.new ≡ talking.talk_by self.old spot.time event }
+        ensures few { vec_len out.new ≤ vec_len out.old + 8 }
+        ensures capacity { vec_capacity out.new ≡ vec_capacity out.old }
+    {
+        self.note_event(out, limits, spot, event);
+        self.change(spot.time, event);
+    }
+}

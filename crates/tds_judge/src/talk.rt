@@ -1,0 +1,233 @@
+//! What both ends of a connection have said so far, and what is wrong with what is said next.
+
+ghost use Rattle.std.specs.Prelude.{◌≡◌};
+ghost use Rattle.tds_judge.specs.Talking as talking;
+
+use crate::finding::Name;
+use tds_wire::{Features, Token, Told};
+
+/// What a judge goes by.
+#[derive(Clone, Copy)]
+pub struct Limits {
+    /// How long a transaction may be idle, in microseconds; 0: as long as it likes.
+    pub idle: u64,
+    /// The most columns of a result, at most 4,096.
+    pub columns: u16,
+    /// What the login acknowledged.
+    pub features: Features,
+}
+
+/// What the newest message to the server is, attentions apart.
+#[derive(Clone, Copy)]
+pub enum Asked {
+    /// None was seen.
+    Unknown,
+    /// One of the login's.
+    Login,
+    Request,
+}
+
+/// Which reset a request asks for (MS-TDS 2.2.3.1.2).
+#[derive(Clone, Copy)]
+pub enum Reset {
+    None,
+    /// RESETCONNECTION: it ends a transaction.
+    Full,
+    /// RESETCONNECTIONSKIPTRAN: it keeps the transaction.
+    Keep,
+    /// Both bits, which a request may not have.
+    Both,
+}
+
+/// The transaction, as the server told it last.
+#[derive(Clone, Copy)]
+pub enum Transaction {
+    /// Nothing was told: the connection was begun in its middle.
+    Unknown,
+    /// Its descriptor; 0 outside one.
+    Told(u64),
+}
+
+/// Why the judging ends.
+#[derive(Clone, Copy)]
+pub enum Ending {
+    WrongToken,
+    WrongLength,
+    Encrypted,
+    NotTds,
+}
+
+/// What is said on a connection.
+#[derive(Clone, Copy)]
+pub enum Event {
+    /// A packet of this Length, in either direction.
+    Packet(u16),
+    /// A message begins, and the one before has not ended.
+    Unfinished,
+    /// A request begins, with this status.
+    Request(u8),
+    /// A message of the login begins.
+    Login,
+    /// An attention, of this Length and status.
+    Attention(u16, u8),
+    /// A later packet of a message to the server, with this status.
+    Later(u8),
+    /// A request's header names a transaction.
+    Names(u64),
+    /// A message to the server ends, and is to be ignored.
+    Ignored,
+    /// A message to the client begins.
+    Answer,
+    /// It has this token.
+    Says(Token),
+    /// It ends: between two tokens, or not.
+    Answered(bool),
+    /// The direction is judged from here on.
+    TakenUp,
+    /// The judging ends.
+    Stops(Ending, u64),
+    /// The connection is lent to somebody else.
+    Borrowed,
+    /// The connection is closed.
+    Closed,
+}
+
+/// What both ends have said so far.
+#[derive(Clone, Copy)]
+pub struct Talk {
+    pub asked: Asked,
+    /// A request has begun, and no answer has ended since.
+    pub underway: bool,
+    /// An attention isn't acknowledged; and another one was sent meanwhile.
+    pub attention: bool,
+    pub doubled: bool,
+    /// A request has begun since the attention; and the cancelled request's own answer has ended.
+    pub late: bool,
+    pub ended_since: bool,
+    /// What the newest request asks for, and whether ENVCHANGE 18 answered it.
+    pub reset: Reset,
+    pub reset_done: bool,
+    pub transaction: Transaction,
+    /// The newest request's answer began a transaction.
+    pub begun: bool,
+    /// The transaction was begun by an answer that was cancelled.
+    pub begun_unheard: bool,
+    /// The transaction that ended last; 0 where none did.
+    pub ended: u64,
+    /// The answer's newest DONE says that no more come; and one acknowledged an attention.
+    pub is_final: bool,
+    pub acknowledges: bool,
+    /// The next request is the first one of a new borrower.
+    pub borrowed: bool,
+    /// When the last answer ended, or a transaction began or ended.
+    pub since: u64,
+    /// The packet size that was agreed on; 0 where it isn't known.
+    pub most: u32,
+}
+
+impl Reset {
+    /// What a status asks for.
+    pub fn of(status: u8) -> Reset
+        ensures { result ≡ talking.reset_of status }
+    {
+        match (status / 8 % 2 == 1, status / 16 % 2 == 1) {
+            (true, true) => Reset::Both,
+            (true, false) => Reset::Full,
+            (false, true) => Reset::Keep,
+            (false, false) => Reset::None,
+        }
+    }
+
+    pub fn is_asked(self) -> bool
+        ensures { result ≡ talking.is_asked self }
+    {
+        match self {
+            Reset::None => false,
+            _ => true,
+        }
+    }
+
+    pub fn is_full(self) -> bool
+        ensures { result ≡ talking.is_full self }
+    {
+        match self {
+            Reset::Full | Reset::Both => true,
+            _ => false,
+        }
+    }
+
+    pub fn is_both(self) -> bool
+        ensures { result ≡ talking.is_both self }
+    {
+        match self {
+            Reset::Both => true,
+            _ => false,
+        }
+    }
+}
+
+impl Ending {
+    /// The finding that tells it.
+    pub fn name(self) -> Name
+        ensures { result ≡ talking.ending_name self }
+    {
+        match self {
+            Ending::WrongToken => Name::WrongToken,
+            Ending::WrongLength => Name::WrongLength,
+            Ending::Encrypted => Name::Encrypted,
+            Ending::NotTds => Name::NotTds,
+        }
+    }
+}
+
+impl Asked {
+    pub fn is_request(self) -> bool
+        ensures { result ≡ talking.is_request self }
+    {
+        match self {
+            Asked::Request => true,
+            _ => false,
+        }
+    }
+}
+
+impl Transaction {
+    /// The descriptor, 0 where there is none or it isn't known.
+    pub fn descriptor(self) -> u64
+        ensures { result ≡ talking.descriptor_of self }
+    {
+        match self {
+            Transaction::Unknown => 0,
+            Transaction::Told(descriptor) => descriptor,
+        }
+    }
+
+    pub fn is_told(self) -> bool
+        ensures { result ≡ talking.is_told self }
+    {
+        match self {
+            Transaction::Unknown => false,
+            Transaction::Told(_) => true,
+        }
+    }
+}
+
+/// Whether the token acknowledges an attention (MS-TDS 2.2.1.7).
+pub fn acknowledges(token: &Token) -> bool
+    ensures { result ≡ talking.acknowledges token.now }
+{
+    match token.told {
+        Told::Done(done) => done.status / 32 % 2 == 1,
+        _ => false,
+    }
+}
+
+/// Whether the token is an ENVCHANGE that can't be read.
+pub fn is_unclear(token: &Token) -> bool
+    ensures { result ≡ talking.is_unclear token.now }
+{
+    match token.told {
+        Told::Unclear => token.kind == 0xE3,
+        _ => false,
+    }
+}
