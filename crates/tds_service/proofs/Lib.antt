@@ -1,4 +1,5 @@
 pub mod Tests
+pub mod Tables
 pub mod Pairing
 pub mod Walks
 pub mod Knowing

@@ -7,7 +7,8 @@ ghost use Rattle.tds_service.specs.Parts.{told};
 ghost use Rattle.tds_service.specs.Line as line;
 ghost use Rattle.tds_service.specs.Ties.{Does, DoesAll, Hears, Stands, answer_to, asked_answer};
 ghost use Rattle.tds_service.specs.Ties.{cancel_answer, end_at, finishing, line_in, listed, part_of};
-ghost use Rattle.tds_service.specs.Ties.{items_of, putting, refusal_in, taken_answer};
+ghost use Rattle.tds_service.specs.Refusing.{refusal_in};
+ghost use Rattle.tds_service.specs.Ties.{items_of, putting, taken_answer};
 
 use std::alloc::Global;
 use tds_client::{Cancelled, Client, ClientRefusal, ClientState, MessageKind, Rules, Sign, Taken};
