@@ -1,9 +1,10 @@
 -- The table of the code, and the machine's.
-use Rattle.std.proofs.Common.{◌≡◌, ◌∙◌, ◌<◌, ◌≤◌, ◌+◌, ℕ, zero, suc, Bool, true, false, List, [], ◌∷◌, ◌++◌, length, get_or, take, drop, refl, sym, ap, subst, arith}
+use Rattle.std.proofs.Common.{◌≡◌, ◌∙◌, ◌&&◌, ◌<◌, ◌≤◌, ◌+◌, ℕ, zero, suc, Bool, true, false, List, [], ◌∷◌, ◌++◌, length, get_or, take, drop, refl, sym, ap, subst, arith}
 use Rattle.std.proofs.Math.ListN.{set}
 use Rattle.std.proofs.lemmas.List.{append-nil}
 use Rattle.std.specs.Prelude.{Option, Some, None, Result, Ok, Err, IfErr, if◌then◌else◌}
 use Rattle.tds_wire.specs.declared.told.Token.{Token}
+use Rattle.tds_packet.specs.declared.status.Reset.{Reset}
 use Rattle.tds_client.specs.declared.fault.ClientRefusal.{ClientRefusal}
 use Rattle.tds_client.specs.declared.fault.ClientRefusal.TheVariants as clients
 use Rattle.tds_client.specs.declared.state.Cancelled.{Cancelled}
@@ -14,10 +15,10 @@ use Rattle.tds_service.specs.declared.refusal.Refusal.TheVariants as refusals
 use Rattle.tds_service.specs.declared.seat.Seat as code
 use Rattle.tds_service.specs.History.{Done, done_by, history, line_after}
 use Rattle.tds_service.specs.Line as line
-use Rattle.tds_service.specs.Line.{Line, Act, Answer, Stage, turn, asks, sends, cancels}
+use Rattle.tds_service.specs.Line.{Line, Act, Answer, Stage, turn, asks, sends, cancels, marks}
 use Rattle.tds_service.specs.Refusing.{refusal_in}
-use Rattle.tds_service.specs.Service.{Place, Seat, Service, Call, Step, Reply, Did, No, nothing, find_by, change_by, placed, has_lease, acts, acts_unless, does, step}
-use Rattle.tds_service.specs.Table.{place_of, seat_in, seats_in, met, FirstMet, RefusedBy, RefusesIn, refusal_of}
+use Rattle.tds_service.specs.Service.{Place, Seat, Service, Call, Step, Reply, NotNow, Lent, Did, No, is_idle, is_free, is_lendable, nothing, find_by, change_by, placed, has_lease, acts, acts_unless, does, step}
+use Rattle.tds_service.specs.Table.{place_of, seat_in, seats_in, met, FirstMet, RefusedBy, RefusesIn, StepsIn, refusal_of}
 use Rattle.tds_service.specs.Ties.{line_in, cancel_answer, sent_in, Does, DoesAll, Appends}
 
 -- ---- Finding
@@ -173,9 +174,55 @@ cancelled_fine n hows.Already = refl
 cancelled_fine n hows.Unsent = refl
 cancelled_fine n hows.Asked = refl
 
+-- ---- Lending
+
+marked_by : (l : Line) (reset : Reset) (s : Stage) → (marks {T = Token} l reset s).answer ≡ line.Marked → is_idle s ≡ true
+marked_by l reset line.Idle e = refl
+marked_by l reset (line.Sending begun) e = absurd (let u : ⊥ = cc in u)
+marked_by l reset line.Reading e = absurd (let u : ⊥ = cc in u)
+marked_by l reset line.Cancelling e = absurd (let u : ⊥ = cc in u)
+marked_by l reset (line.Broken fault) e = absurd (let u : ⊥ = cc in u)
+
+busy_by : (l : Line) (reset : Reset) (s : Stage) (why : ClientRefusal) → (marks {T = Token} l reset s).answer ≡ line.Refused why → is_idle s ≡ false
+busy_by l reset line.Idle why e = absurd (let u : ⊥ = cc in u)
+busy_by l reset (line.Sending begun) why e = refl
+busy_by l reset line.Reading why e = refl
+busy_by l reset line.Cancelling why e = refl
+busy_by l reset (line.Broken fault) why e = refl
+
+-- a mark is taken where it is idle, and refused where it isn't
+pub marked_idle : (l : Line) (reset : Reset) → (turn {T = Token} l (line.Mark reset)).answer ≡ line.Marked → is_idle l.stage ≡ true
+marked_idle l reset e = marked_by l reset l.stage e
+
+pub refused_busy : (l : Line) (reset : Reset) (why : ClientRefusal) → (turn {T = Token} l (line.Mark reset)).answer ≡ line.Refused why → is_idle l.stage ≡ false
+refused_busy l reset why e = busy_by l reset l.stage why e
+
+not_and : (a b : Bool) → b ≡ false → (a && b) ≡ false
+not_and true b e = e
+not_and false b e = refl
+
+pub busy_not_lendable : (c : Seat) → is_idle c.line.stage ≡ false → is_lendable c ≡ false
+busy_not_lendable c e = not_and (is_free c.place) (is_idle c.line.stage) e
+
+pub lends_alike : (s : Service) (test : Seat → Bool) (place : Place) (reset : Reset) (lease : ℕ) (cs : List code.Seat) (i : ℕ) (c y : code.Seat)
+    → lease ≡ suc s.given → s.seats ≡ seats_in cs → FirstMet test cs i → c ≡ get_or cs i c → y.number ≡ c.number → place_of y.place ≡ place
+    → Does (line.Mark reset) (line_in c.connection) (line_in y.connection) line.Marked [] []
+    → StepsIn (does s (suc s.given) test (seat_in c) (Some place) (line.Mark reset ∷ []) (Lent (suc s.given) c.number true))
+    (record { max = s.max; last = s.last; given = lease; seats = seats_in (set cs i y) }) (Lent lease c.number true) c.number [] []
+lends_alike s test place reset lease cs i c y is table met at number placed did =
+    let all = one_is_all (line.Mark reset) (line_in c.connection) (line_in y.connection) line.Marked [] [] did in
+    record {
+      service_is =
+          ap (λ (g : ℕ). let t : Service = record { max = s.max; last = s.last; given = g; seats = seats_in (set cs i y) } in t) is
+          ∙ does_alike s (suc s.given) test place (line.Mark reset ∷ []) (Lent (suc s.given) c.number true) cs i c y table met at number placed all.line_is;
+      reply_is = ap (λ (g : ℕ). Lent g c.number true) (sym is);
+      number_is = refl;
+      bytes = all.bytes;
+    }
+
 unless_refuses : (s : Service) (test : Seat → Bool) (c : Seat) (all : List (Act Token)) (x : Option ClientRefusal) (why : ClientRefusal) → IsRefusal x why
     → (x ≡ Some clients.Memory → ⊥) → RefusesIn s (acts_unless s test c all x) (refusal_of why)
-unless_refuses s test c all None why is never = subst (λ (w : ClientRefusal). RefusesIn s (acts_unless s test c all None) (refusal_of w)) (sym is) refl
+unless_refuses s test c all None why is never = subst (λ (w : ClientRefusal). RefusesIn s (acts_unless s test c all None) (refusal_of w)) (sym is) (λ numbers. refl)
 unless_refuses s test c all (Some clients.NotIdle) why is never = subst (λ (w : ClientRefusal). RefusesIn s (acts_unless s test c all (Some clients.NotIdle)) (refusal_of w)) (sym is) refl
 unless_refuses s test c all (Some clients.NotSending) why is never = subst (λ (w : ClientRefusal). RefusesIn s (acts_unless s test c all (Some clients.NotSending)) (refusal_of w)) (sym is) refl
 unless_refuses s test c all (Some clients.Broken) why is never = subst (λ (w : ClientRefusal). RefusesIn s (acts_unless s test c all (Some clients.Broken)) (refusal_of w)) (sym is) refl
@@ -211,3 +258,54 @@ here_in test items looked lent index is same first =
     let first : FirstMet test items index = subst (λ (cs : List code.Seat). FirstMet test cs index) is first in
     let some = some_at items index first.within in
     record { first = first; seat = some.0; at = some.1; at_lent = subst (λ (cs : List code.Seat). some.0 ≡ get_or cs index some.0) (sym same) some.1 }
+
+-- ---- What a lending answers
+
+pub steps_as : (t : Step Token) (new next : Service) (reply other : Reply) (number n : ℕ) → next ≡ new → reply ≡ other → number ≡ n
+    → StepsIn t new reply number [] [] → StepsIn t next other n [] []
+steps_as t new next reply other number n e f g h = record {
+  service_is = e ∙ h.service_is;
+  reply_is = h.reply_is ∙ f;
+  number_is = h.number_is ∙ g;
+  bytes = h.bytes;
+}
+
+pub lent_same : (a b m n : ℕ) (had : Bool) → b ≡ a → n ≡ m → had ≡ true → Lent a m true ≡ Lent b n had
+lent_same a b m n had e f g = let u : Lent b n had ≡ Lent a m true = cc in sym u
+
+pub lends_here : (s : Service) (test : Seat → Bool) (place : ℕ → Place) (reset : Reset) (lease number : ℕ) (items lent news : List code.Seat) (i : ℕ) (here : Here test items lent i) (y : code.Seat)
+    → lease ≡ suc s.given → s.seats ≡ seats_in items → lent ≡ items → news ≡ set lent i y → y.number ≡ here.seat.number → place_of y.place ≡ place lease → number ≡ here.seat.number
+    → Does (line.Mark reset) (line_in here.seat.connection) (line_in y.connection) line.Marked [] []
+    → StepsIn (does s (suc s.given) test (seat_in here.seat) (Some (place (suc s.given))) (line.Mark reset ∷ []) (Lent (suc s.given) here.seat.number true))
+    (record { max = s.max; last = s.last; given = lease; seats = seats_in news }) (Lent lease number true) number [] []
+lends_here s test place reset lease number items lent news i here y is table same changed numbered placed at did =
+    let k = lends_alike s test (place (suc s.given)) reset lease items i here.seat y is table here.first here.at numbered (placed ∙ ap place is) did in
+    let t = does {T = Token} s (suc s.given) test (seat_in here.seat) (Some (place (suc s.given))) (line.Mark reset ∷ []) (Lent (suc s.given) here.seat.number true) in
+    let news_are = changed ∙ ap (λ (cs : List code.Seat). set cs i y) same in
+    steps_as t (record { max = s.max; last = s.last; given = lease; seats = seats_in (set items i y) }) (record { max = s.max; last = s.last; given = lease; seats = seats_in news })
+    (Lent lease here.seat.number true) (Lent lease number true) here.seat.number number
+    (ap (λ (cs : List code.Seat). let x : Service = record { max = s.max; last = s.last; given = lease; seats = seats_in cs } in x) news_are)
+    (ap (λ (n : ℕ). Lent lease n true) (sym at)) (sym at) k
+
+pub found_here : (test : Seat → Bool) (items lent : List code.Seat) (i : ℕ) (here : Here test items lent i) → find_by test (seats_in items) ≡ Some (seat_in here.seat)
+found_here test items lent i here = is_found_at test items i here.seat here.first here.at
+
+pub meets_here : (test : Seat → Bool) (items lent : List code.Seat) (i : ℕ) (here : Here test items lent i) → test (seat_in here.seat) ≡ true
+meets_here test items lent i here =
+    ap (λ (x : code.Seat). test (seat_in x)) here.at ∙ sym (met_at test here.seat items i here.first.within) ∙ here.first.here
+
+pub not_now_in : (s : Service) (t : Step Token) (b : Bool) → b ≡ false → RefusesIn s (if b then t else nothing s NotNow) refusals.NotNow
+not_now_in s t true e = absurd (let u : ⊥ = cc in u)
+not_now_in s t false e = refl
+
+pub done_in : (P : Step Token → Type 0) (t other : Step Token) (b : Bool) → b ≡ true → P t → P (if b then t else other)
+done_in P t other true e h = h
+done_in P t other false e h = absurd (let u : ⊥ = cc in u)
+
+pub length_in : (cs : List code.Seat) → length (seats_in cs) ≡ length cs
+length_in [] = refl
+length_in (c ∷ cs) = ap suc (length_in cs)
+
+pub seats_added : (cs : List code.Seat) (c : code.Seat) → seats_in (cs ++ c ∷ []) ≡ seats_in cs ++ seat_in c ∷ []
+seats_added [] c = refl
+seats_added (d ∷ cs) c = ap (λ ss. seat_in d ∷ ss) (seats_added cs c)

@@ -1,5 +1,5 @@
 -- The table of the code, as the machine's service.
-use Rattle.std.specs.Prelude.{◌≡◌, ℕ, zero, suc, ◌<◌, ◌++◌, Bool, true, false, List, [], ◌∷◌, length, Option, Some, None, slice_index_or, slice_set}
+use Rattle.std.specs.Prelude.{◌≡◌, ℕ, zero, suc, ◌<◌, ◌++◌, Bool, true, false, List, [], ◌∷◌, length, Option, Some, None, take, drop, ◌+◌}
 use Rattle.tds_wire.specs.declared.told.Token.{Token}
 use Rattle.tds_client.specs.declared.fault.ClientRefusal.{ClientRefusal}
 use Rattle.tds_client.specs.declared.fault.ClientRefusal.TheVariants as clients
@@ -16,7 +16,7 @@ use Rattle.tds_service.specs.declared.seat.Seat as seats
 use Rattle.tds_service.specs.declared.service.Service as services
 use Rattle.tds_service.specs.Line.{Line, Answer}
 use Rattle.tds_service.specs.History.{Done}
-use Rattle.tds_service.specs.Service.{Place, Leased, Cleaning, Kept, Free, Draining, Seat, Service, Call, Step, Reply, Unknown, AllInUse, NotNow, No, NoMemory, Lent, Ticket, Did, Back, has_lease, has_ticket, has_number, is_lendable, nothing, step}
+use Rattle.tds_service.specs.Service.{Place, Leased, Cleaning, Kept, Free, Draining, Seat, Service, Call, Step, Reply, Unknown, AllInUse, NotNow, No, NoMemory, Lent, Ticket, Did, Back, has_lease, has_ticket, has_number, is_lendable, nothing, opens, step}
 use Rattle.tds_service.specs.Ties.{line_in, sent_in, Appends}
 
 abbrev pub place_of : code.Place → Place
@@ -41,6 +41,16 @@ seats_in (c ∷ cs) = seat_in c ∷ seats_in cs
 
 abbrev pub service_in : services.Service → Service
 service_in s = record { max = s.max; last = s.last; given = s.given; seats = seats_in s.seats.items }
+
+-- Where a seat is that nobody holds; a closed one is taken out.
+abbrev pub IsAt : Option Place → code.Place → Type 0
+IsAt None place = Unit {0}
+IsAt (Some rest) place = place_of place ≡ rest
+
+abbrev pub without_closed : Rest → ℕ → List seats.Seat → List seats.Seat
+without_closed rests.Free index cs = cs
+without_closed rests.Draining index cs = cs
+without_closed rests.Closed index cs = take index cs ++ drop (index + 1) cs
 
 -- ---- Finding
 
@@ -86,6 +96,10 @@ is_refused (Ticket ticket) = false
 is_refused Did = false
 is_refused (Back place) = false
 
+-- Numbers of leases and of connections are left: there are 2^64 - 1 of each.
+abbrev pub HasNumbers : Service → Type 0
+HasNumbers s = (s.given < 18446744073709551615) × (s.last < 18446744073709551615)
+
 -- Where a call is refused, the machine refuses it so; or memory was refused to one that would have been done.
 abbrev pub RefusesIn : Service → Step Token → Refusal → Type 0
 RefusesIn s t refusals.Unknown = t ≡ nothing s Unknown
@@ -94,7 +108,7 @@ RefusesIn s t refusals.NotNow = t ≡ nothing s NotNow
 RefusesIn s t refusals.NotIdle = t ≡ nothing s (No clients.NotIdle)
 RefusesIn s t refusals.NotSending = t ≡ nothing s (No clients.NotSending)
 RefusesIn s t refusals.Broken = t ≡ nothing s (No clients.Broken)
-RefusesIn s t refusals.Memory = is_refused t.reply ≡ false
+RefusesIn s t refusals.Memory = HasNumbers s → is_refused t.reply ≡ false
 
 abbrev pub Refuses : Call Token → Service → Refusal → Type 0
 Refuses call s refusal = RefusesIn s (step s call) refusal
@@ -107,8 +121,16 @@ answers_in (d ∷ ds) = d.answer ∷ answers_in ds
 
 -- What a call did is what the machine does: the table behind it, the connection that it reached, what is replied, and the bytes
 -- that go out there.
-pub record Steps (call : Call Token) (old new : Service) (reply : Reply) (number : ℕ) (before after : List ℕ) : Type 0 where
-  pub service_is : new ≡ (step old call).service
-  pub reply_is : (step old call).reply ≡ reply
-  pub number_is : (step old call).number ≡ number
-  pub bytes : Appends (sent_in (step old call).dones) before after
+pub record StepsIn (t : Step Token) (new : Service) (reply : Reply) (number : ℕ) (before after : List ℕ) : Type 0 where
+  pub service_is : new ≡ t.service
+  pub reply_is : t.reply ≡ reply
+  pub number_is : t.number ≡ number
+  pub bytes : Appends (sent_in t.dones) before after
+
+abbrev pub Steps : Call Token → Service → Service → Reply → ℕ → (before after : List ℕ) → Type 0
+Steps call old new reply number before after = StepsIn (step old call) new reply number before after
+
+-- A new connection was added, and lent.
+abbrev pub Opened : Service → Service → (lease number : ℕ) → Bool → Type 0
+Opened old new lease number had =
+    (length old.seats < old.max) × (new ≡ (opens {T = Token} old true).service) × (lease ≡ suc old.given) × (number ≡ suc old.last) × (had ≡ false)

@@ -13,4 +13,4 @@ pub mod table_laws;
 pub use connection::Connection;
 pub use place::{Place, Rest};
 pub use refusal::Refusal;
-pub use service::{Asked, Service};
+pub use service::{Asked, Lent, Service};

@@ -3,8 +3,11 @@ ghost use Rattle.std.specs.Prelude.{◌≤◌};
 
 mod asking;
 mod finding;
+mod giving;
+mod lending;
 
 pub use asking::Asked;
+pub use lending::Lent;
 
 use crate::seat::Seat;
 use std::alloc::Global;
