@@ -9,7 +9,7 @@ use Rattle.tds_service.specs.Line as line
 use Rattle.tds_client.specs.declared.fault.ClientRefusal.{ClientRefusal}
 use Rattle.tds_service.specs.Refusing.{packets, refusal_in}
 use Rattle.tds_service.specs.History.{Done, done_by, history, line_after, acts_of}
-use Rattle.tds_service.specs.Service.{Place, Leased, Cleaning, Kept, Free, Draining, Seat, Service, new_service, Call, Lease, Resume, Ask, Put, Finish, Cancel, GiveBack, Clean, Cleaned, Keep, Abandon, Came, Lost, Without, Reply, Unknown, NotNow, No, NoMemory, AllInUse, Lent, Ticket, Did, Back, Step, nothing, seat_numbered, find_by, change_by, has_lease, has_ticket, has_number, is_lendable, placed, does, rests, drained, is_idle, is_open, acts, acts_unless, cleans, cleaned, cleaned_by, rests_cleaned, rests_clean, is_clean, opens, lends, resumes, gives_back, keeps_it, abandons, hears, loses, step, steps, on_one, on}
+use Rattle.tds_service.specs.Service.{Place, Leased, Cleaning, Kept, Free, Draining, Seat, Service, new_service, Call, Lease, Resume, Ask, Put, Finish, Cancel, GiveBack, Clean, Cleaned, Keep, Abandon, Came, Lost, Without, Reply, Unknown, NotNow, No, NoMemory, AllInUse, Lent, Ticket, Did, Back, Step, nothing, seat_numbered, find_by, change_by, has_lease, has_ticket, has_number, is_lendable, placed, does, rests, drained, is_idle, is_open, acts, acts_unless, cleans, cleaned, clean_place, rests_cleaned, opens, lends, resumes, gives_back, keeps_it, abandons, hears, loses, step, steps, on_one, on}
 
 -- ---- Histories joined
 
@@ -281,19 +281,10 @@ rests_alone : {T : Type 0} (n : ℕ) (l : Line) (s : Service) (test : Seat → B
 rests_alone n l s test c None tidy fits e = nothing_alone n l s NotNow tidy fits
 rests_alone n l s test c (Some place) tidy fits e = does_alone n l s s.given test c place [] (Back place) tidy fits e
 
-cleaned_alone_by : {T : Type 0} (n : ℕ) (l : Line) (s : Service) (test : Seat → Bool) (c : Seat) (place : Place) → Tidy s → FitsIn s n l → find_by test s.seats ≡ Some c
-    → IsAlone {T = T} n l (cleaned_by s test c place)
-cleaned_alone_by n l s test c (Leased lease) tidy fits e = nothing_alone n l s NotNow tidy fits
-cleaned_alone_by n l s test c (Cleaning lease) tidy fits e =
-    rests_alone n l s test c (rests_clean (is_clean c.line.heard.mark c.line.heard.descriptor) c.line.stage) tidy fits e
-cleaned_alone_by n l s test c (Kept ticket) tidy fits e = nothing_alone n l s NotNow tidy fits
-cleaned_alone_by n l s test c Free tidy fits e = nothing_alone n l s NotNow tidy fits
-cleaned_alone_by n l s test c Draining tidy fits e = nothing_alone n l s NotNow tidy fits
-
 cleaned_alone : {T : Type 0} (n : ℕ) (l : Line) (s : Service) (test : Seat → Bool) (seat : Option Seat) → Tidy s → FitsIn s n l → find_by test s.seats ≡ seat
     → IsAlone {T = T} n l (cleaned s test seat)
 cleaned_alone n l s test None tidy fits e = nothing_alone n l s Unknown tidy fits
-cleaned_alone n l s test (Some c) tidy fits e = cleaned_alone_by n l s test c c.place tidy fits e
+cleaned_alone n l s test (Some c) tidy fits e = rests_alone n l s test c (clean_place c.place c.line) tidy fits e
 
 opens_fits : (n : ℕ) (l : Line) (s : Service) (d : Seat) (b : Bool) → d.number ≡ suc s.last → d.line ≡ new_line → Tidy s → FitsIn s n l → (suc s.last == n) ≡ b
     → (found : Option Seat) → seat_numbered n s.seats ≡ found → Fits (seat_numbered n (s.seats ++ d ∷ [])) n (suc s.last) l

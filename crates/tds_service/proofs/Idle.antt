@@ -15,7 +15,7 @@ use Rattle.tds_service.specs.History.{Done, done_by, history, line_after, acts_o
 use Rattle.tds_service.specs.Refusing.{packets, refusal_in}
 use Rattle.tds_service.specs.Lending.{awaited, LendsIdle}
 use Rattle.tds_service.specs.Service as calls
-use Rattle.tds_service.specs.Service.{Place, Cleaning, Free, Draining, acts_unless, cleans, cleaned, cleaned_by, rests_cleaned, rests_clean, is_clean, is_free, Seat, Service, new_service, Call, Step, Leased, Kept, Lent, Ticket, NotNow, nothing, does, find_by, seat_numbered, has_lease, has_ticket, has_number, is_lendable, is_idle, is_open, acts, opens, lends, resumes, gives_back, keeps_it, abandons, hears, loses, step, steps, service_after, on, on_one}
+use Rattle.tds_service.specs.Service.{Place, Cleaning, Free, Draining, acts_unless, cleans, cleaned, clean_place, rests_cleaned, is_free, Seat, Service, new_service, Call, Step, Leased, Kept, Lent, Ticket, NotNow, nothing, does, find_by, seat_numbered, has_lease, has_ticket, has_number, is_lendable, is_idle, is_open, acts, opens, lends, resumes, gives_back, keeps_it, abandons, hears, loses, step, steps, service_after, on, on_one}
 use Rattle.tds_service.proofs.Pairing.{line, with_mark}
 use Rattle.tds_service.proofs.Walks.{awaits}
 use Rattle.tds_service.proofs.Alone.{Tidy, FitsIn, IsAlone, step_alone, is_found, fits_here, acts_of_history, acts_of_both, each_alone}
@@ -149,16 +149,9 @@ quiet_rests : (T : Type 0) (ts : List (Step T)) (s : Service) (test : Seat → B
 quiet_rests T ts s test c None = tt
 quiet_rests T ts s test c (Some place) = tt
 
-quiet_cleaned_by : (T : Type 0) (ts : List (Step T)) (s : Service) (test : Seat → Bool) (c : Seat) (place : Place) → LendsIdle ts (cleaned_by {T = T} s test c place).reply
-quiet_cleaned_by T ts s test c (Leased lease) = tt
-quiet_cleaned_by T ts s test c (Cleaning lease) = quiet_rests T ts s test c (rests_clean (is_clean c.line.heard.mark c.line.heard.descriptor) c.line.stage)
-quiet_cleaned_by T ts s test c (Kept ticket) = tt
-quiet_cleaned_by T ts s test c Free = tt
-quiet_cleaned_by T ts s test c Draining = tt
-
 quiet_cleaned : (T : Type 0) (ts : List (Step T)) (s : Service) (test : Seat → Bool) (seat : Option Seat) → LendsIdle ts (cleaned {T = T} s test seat).reply
 quiet_cleaned T ts s test None = tt
-quiet_cleaned T ts s test (Some c) = quiet_cleaned_by T ts s test c c.place
+quiet_cleaned T ts s test (Some c) = quiet_rests T ts s test c (clean_place c.place c.line)
 
 quiet_opens : (T : Type 0) (ts : List (Step T)) (s : Service) (room : Bool) → LendsIdle ts (opens {T = T} s room).reply
 quiet_opens T ts s false = tt

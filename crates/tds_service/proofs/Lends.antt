@@ -10,7 +10,7 @@ use Rattle.tds_service.specs.History.{history}
 use Rattle.tds_service.specs.Lending.{marking, MarksBy, MarksReused}
 use Rattle.tds_client.specs.declared.fault.ClientRefusal.{ClientRefusal}
 use Rattle.tds_service.specs.Refusing.{packets, refusal_in}
-use Rattle.tds_service.specs.Service.{Place, Leased, Cleaning, Kept, Free, Draining, No, NoMemory, acts_unless, cleans, cleaned, cleaned_by, rests_cleaned, rests_clean, is_clean, Seat, Service, new_service, Call, Lease, Resume, Ask, Put, Finish, Cancel, GiveBack, Clean, Cleaned, Keep, Abandon, Came, Lost, Without, NotNow, Lent, Ticket, nothing, find_by, has_lease, has_ticket, has_number, is_lendable, does, is_idle, is_free, is_open, acts, opens, lends, resumes, gives_back, keeps_it, abandons, hears, loses, step, steps}
+use Rattle.tds_service.specs.Service.{Place, Leased, Cleaning, Kept, Free, Draining, No, NoMemory, acts_unless, cleans, cleaned, clean_place, rests_cleaned, Seat, Service, new_service, Call, Lease, Resume, Ask, Put, Finish, Cancel, GiveBack, Clean, Cleaned, Keep, Abandon, Came, Lost, Without, NotNow, Lent, Ticket, nothing, find_by, has_lease, has_ticket, has_number, is_lendable, does, is_idle, is_free, is_open, acts, opens, lends, resumes, gives_back, keeps_it, abandons, hears, loses, step, steps}
 
 -- ---- Marked
 
@@ -67,16 +67,9 @@ rests_mark : {T : Type 0} (s : Service) (test : Seat → Bool) (call : Call T) (
 rests_mark s test call c None = tt
 rests_mark s test call c (Some place) = tt
 
-cleaned_mark_by : {T : Type 0} (s : Service) (test : Seat → Bool) (call : Call T) (c : Seat) (place : Place) → MarksBy call (cleaned_by {T = T} s test c place).reply (cleaned_by {T = T} s test c place).dones
-cleaned_mark_by s test call c (Leased lease) = tt
-cleaned_mark_by s test call c (Cleaning lease) = rests_mark s test call c (rests_clean (is_clean c.line.heard.mark c.line.heard.descriptor) c.line.stage)
-cleaned_mark_by s test call c (Kept ticket) = tt
-cleaned_mark_by s test call c Free = tt
-cleaned_mark_by s test call c Draining = tt
-
 cleaned_mark : {T : Type 0} (s : Service) (test : Seat → Bool) (call : Call T) (seat : Option Seat) → MarksBy call (cleaned {T = T} s test seat).reply (cleaned {T = T} s test seat).dones
 cleaned_mark s test call None = tt
-cleaned_mark s test call (Some c) = cleaned_mark_by s test call c c.place
+cleaned_mark s test call (Some c) = rests_mark s test call c (clean_place c.place c.line)
 
 opens_mark : {T : Type 0} (s : Service) (call : Call T) (room : Bool) → MarksBy call (opens {T = T} s room).reply (opens {T = T} s room).dones
 opens_mark s call false = tt

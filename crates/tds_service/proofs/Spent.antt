@@ -10,7 +10,7 @@ use Rattle.tds_client.specs.declared.fault.ClientRefusal.{ClientRefusal}
 use Rattle.tds_service.specs.Refusing.{packets, refusal_in}
 use Rattle.tds_service.specs.History.{line_after}
 use Rattle.tds_service.specs.Lending.{IsWith, leased, nothing_known_of}
-use Rattle.tds_service.specs.Service.{Place, Leased, Cleaning, No, NoMemory, acts_unless, cleans, cleaned, cleaned_by, rests_cleaned, rests_clean, is_clean, Kept, Free, Draining, Seat, Service, Call, Lease, Resume, Ask, Put, Finish, Cancel, GiveBack, Clean, Cleaned, Keep, Abandon, Came, Lost, Without, Reply, Unknown, NotNow, AllInUse, Lent, Ticket, Did, Back, Step, nothing, find_by, change_by, has_lease, has_ticket, has_number, is_lendable, holds, placed, does, rests, drained, is_idle, is_open, acts, opens, lends, resumes, gives_back, keeps_it, abandons, hears, loses, step, service_after}
+use Rattle.tds_service.specs.Service.{Place, Leased, Cleaning, No, NoMemory, acts_unless, cleans, cleaned, clean_place, rests_cleaned, rests_clean, is_clean, Kept, Free, Draining, Seat, Service, Call, Lease, Resume, Ask, Put, Finish, Cancel, GiveBack, Clean, Cleaned, Keep, Abandon, Came, Lost, Without, Reply, Unknown, NotNow, AllInUse, Lent, Ticket, Did, Back, Step, nothing, find_by, change_by, has_lease, has_ticket, has_number, is_lendable, holds, placed, does, rests, drained, is_idle, is_open, acts, opens, lends, resumes, gives_back, keeps_it, abandons, hears, loses, step, service_after}
 use Rattle.tds_service.proofs.Tests.{below}
 
 -- ---- What isn't found
@@ -156,18 +156,16 @@ rests_keep a s test c None other = not_now a s
 rests_keep a s test c (Some place) other =
     does_keeps a s s.given test c place [] (Back place) (omega arith) (λ lt h. other) (no_lease s.given s.given (Back place) (λ lease number had e. cc))
 
-cleaned_by_keeps : {T : Type 0} (a : ℕ) (s : Service) (test : Seat → Bool) (c : Seat) (place : Place) → Keeps {T = T} a s (cleaned_by s test c place)
-cleaned_by_keeps a s test c (Leased lease) = not_now a s
-cleaned_by_keeps a s test c (Cleaning lease) =
-    let clean = is_clean c.line.heard.mark c.line.heard.descriptor in
-    rests_keep a s test c (rests_clean clean c.line.stage) (rests_clean_other a clean c.line.stage)
-cleaned_by_keeps a s test c (Kept ticket) = not_now a s
-cleaned_by_keeps a s test c Free = not_now a s
-cleaned_by_keeps a s test c Draining = not_now a s
+clean_place_other : (a : ℕ) (place : Place) (l : Line) → OtherIn a (clean_place place l)
+clean_place_other a (Leased lease) l = tt
+clean_place_other a (Cleaning lease) l = rests_clean_other a (is_clean l.heard.mark l.heard.descriptor) l.stage
+clean_place_other a (Kept ticket) l = tt
+clean_place_other a Free l = tt
+clean_place_other a Draining l = tt
 
 cleaned_keep : {T : Type 0} (a : ℕ) (s : Service) (test : Seat → Bool) (seat : Option Seat) → Keeps {T = T} a s (cleaned s test seat)
 cleaned_keep a s test None = unknown a s
-cleaned_keep a s test (Some c) = cleaned_by_keeps a s test c c.place
+cleaned_keep a s test (Some c) = rests_keep a s test c (clean_place c.place c.line) (clean_place_other a c.place c.line)
 
 opens_keep : {T : Type 0} (a : ℕ) (s : Service) (room : Bool) → Keeps {T = T} a s (opens s room)
 opens_keep a s false = nothing_keeps a s AllInUse (no_lease s.given s.given AllInUse (λ lease number had e. cc))

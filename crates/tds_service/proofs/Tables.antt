@@ -12,13 +12,16 @@ use Rattle.tds_client.specs.declared.state.Cancelled.TheVariants as hows
 use Rattle.tds_client.specs.Sending.{IsRefusal}
 use Rattle.tds_service.specs.declared.refusal.Refusal.{Refusal}
 use Rattle.tds_service.specs.declared.refusal.Refusal.TheVariants as refusals
+use Rattle.tds_service.specs.declared.place.Rest.{Rest}
+use Rattle.tds_service.specs.declared.place.Rest.TheVariants as resting
 use Rattle.tds_service.specs.declared.seat.Seat as code
 use Rattle.tds_service.specs.History.{Done, done_by, history, line_after}
 use Rattle.tds_service.specs.Line as line
 use Rattle.tds_service.specs.Line.{Line, Act, Answer, Stage, turn, asks, sends, cancels, marks}
+use Rattle.tds_service.specs.Line.{loses as losing}
 use Rattle.tds_service.specs.Refusing.{refusal_in}
-use Rattle.tds_service.specs.Service.{Place, Seat, Service, Call, Step, Reply, NotNow, Lent, Did, No, is_idle, is_free, is_lendable, nothing, find_by, change_by, placed, has_lease, acts, acts_unless, does, step}
-use Rattle.tds_service.specs.Table.{place_of, seat_in, seats_in, met, FirstMet, RefusedBy, RefusesIn, StepsIn, refusal_of}
+use Rattle.tds_service.specs.Service.{Place, Free, Draining, Seat, Service, Call, Step, Reply, NotNow, Lent, Did, No, is_idle, is_free, is_lendable, nothing, find_by, change_by, placed, has_lease, acts, acts_unless, does, step}
+use Rattle.tds_service.specs.Table.{place_of, seat_in, seats_in, met, FirstMet, IsAt, RefusedBy, RefusesIn, StepsIn, refusal_of, rest_of, without_closed}
 use Rattle.tds_service.specs.Ties.{line_in, cancel_answer, sent_in, Does, DoesAll, Appends}
 
 -- ---- Finding
@@ -309,3 +312,57 @@ length_in (c ∷ cs) = ap suc (length_in cs)
 pub seats_added : (cs : List code.Seat) (c : code.Seat) → seats_in (cs ++ c ∷ []) ≡ seats_in cs ++ seat_in c ∷ []
 seats_added [] c = refl
 seats_added (d ∷ cs) c = ap (λ ss. seat_in d ∷ ss) (seats_added cs c)
+
+-- ---- Giving back
+
+taken_set : (i : ℕ) (cs : List code.Seat) (y : code.Seat) → i < length cs → take i (set cs i y) ++ drop (i + 1) (set cs i y) ≡ take i cs ++ drop (i + 1) cs
+taken_set i [] y lt = absurd (omega arith)
+taken_set zero (c ∷ cs) y lt = refl
+taken_set (suc i) (c ∷ cs) y lt =
+    let e : suc i + 1 ≡ suc (i + 1) = omega arith in
+    ap (λ (k : ℕ). take (suc i) (c ∷ set cs i y) ++ drop k (c ∷ set cs i y)) e
+    ∙ (ap (λ (ds : List code.Seat). c ∷ ds) (taken_set i cs y (omega arith))
+    ∙ ap (λ (k : ℕ). take (suc i) (c ∷ cs) ++ drop k (c ∷ cs)) (sym e))
+
+pub rests_here : (s : Service) (test : Seat → Bool) (all : List (Act Token)) (rest : Rest) (reply : Reply) (items lent news out : List code.Seat) (i : ℕ) (here : Here test items lent i) (y : code.Seat)
+    → s.seats ≡ seats_in items → lent ≡ items → news ≡ set lent i y → out ≡ without_closed rest i news → y.number ≡ here.seat.number
+    → line_in y.connection ≡ line_after (line_in here.seat.connection) all → IsAt (rest_of rest) y.place
+    → with_seats s (seats_in out) ≡ (does s s.given test (seat_in here.seat) (rest_of rest) all reply).service
+rests_here s test all rest reply items lent news out i here y table same changed closed numbered did at =
+    let news_are = changed ∙ ap (λ (cs : List code.Seat). set cs i y) same in
+    let outs = closed ∙ ap (without_closed rest i) news_are in
+    ap (λ (cs : List code.Seat). with_seats s (seats_in cs)) outs ∙ by rest at
+  where
+    by : (rest : Rest) → IsAt (rest_of rest) y.place → with_seats s (seats_in (without_closed rest i (set items i y))) ≡ (does s s.given test (seat_in here.seat) (rest_of rest) all reply).service
+    by resting.Free at = does_alike s s.given test Free all reply items i here.seat y table here.first here.at numbered at did
+    by resting.Draining at = does_alike s s.given test Draining all reply items i here.seat y table here.first here.at numbered at did
+    by resting.Closed at =
+        ap (λ (cs : List code.Seat). with_seats s (seats_in cs)) (taken_set i items y here.first.within)
+        ∙ does_gone s s.given test all reply items i here.seat table here.first
+
+lost_sent : (l : Line) (s : Stage) → (losing {T = Token} l s).sent ≡ []
+lost_sent l line.Idle = refl
+lost_sent l (line.Sending begun) = refl
+lost_sent l line.Reading = refl
+lost_sent l line.Cancelling = refl
+lost_sent l (line.Broken fault) = refl
+
+pub lost_bytes : (l : Line) → Appends (sent_in (history l (line.Lose ∷ []))) [] []
+lost_bytes l = subst (λ ps. Appends (ps ++ []) [] []) (sym (lost_sent l l.stage)) ([], refl, refl)
+
+-- ---- Cancelling, also where it is broken
+
+kept_by : (l : Line) (s : Stage) (why : ClientRefusal) → IsRefusal (refusal_in (cancels {T = Token} l s).answer) why → (why ≡ clients.Memory → ⊥)
+    → (l ≡ (cancels {T = Token} l s).line) × ((cancels {T = Token} l s).sent ≡ [])
+kept_by l line.Idle why is other = absurd (other is)
+kept_by l (line.Sending false) why is other = absurd (other is)
+kept_by l (line.Sending true) why is other = absurd (other is)
+kept_by l line.Reading why is other = absurd (other is)
+kept_by l line.Cancelling why is other = absurd (other is)
+kept_by l (line.Broken fault) why is other = (refl, refl)
+
+pub cancel_kept : (l : Line) (why : ClientRefusal) (out : List ℕ) → IsRefusal (refusal_in (turn {T = Token} l line.Cancel).answer) why → (why ≡ clients.Memory → ⊥)
+    → DoesAll (line.Cancel ∷ []) l l out out
+cancel_kept l why out is other =
+    let k = kept_by l l.stage why is other in
+    record { line_is = k.0; bytes = subst (λ ps. Appends (ps ++ []) out out) (sym k.1) ([], sym (append-nil out), refl) }

@@ -237,21 +237,26 @@ abbrev pub rests_cleaned : {T : Type 0} → Service → (Seat → Bool) → Seat
 rests_cleaned s test c None = nothing s NotNow
 rests_cleaned s test c (Some place) = does s s.given test c place [] (Back place)
 
-abbrev pub cleaned_by : {T : Type 0} → Service → (Seat → Bool) → Seat → Place → Step T
-cleaned_by s test c (Leased lease) = nothing s NotNow
-cleaned_by s test c (Cleaning lease) = rests_cleaned s test c (rests_clean (is_clean c.line.heard.mark c.line.heard.descriptor) c.line.stage)
-cleaned_by s test c (Kept ticket) = nothing s NotNow
-cleaned_by s test c Free = nothing s NotNow
-cleaned_by s test c Draining = nothing s NotNow
+-- only one that is lent for this is looked at
+abbrev pub clean_place : Place → Line → Option (Option Place)
+clean_place (Leased lease) l = None
+clean_place (Cleaning lease) l = rests_clean (is_clean l.heard.mark l.heard.descriptor) l.stage
+clean_place (Kept ticket) l = None
+clean_place Free l = None
+clean_place Draining l = None
 
 abbrev pub cleaned : {T : Type 0} → Service → (Seat → Bool) → Option Seat → Step T
 cleaned s test None = nothing s Unknown
-cleaned s test (Some c) = cleaned_by s test c c.place
+cleaned s test (Some c) = rests_cleaned s test c (clean_place c.place c.line)
+
+-- idle, with a transaction that is open
+abbrev pub may_keep : Seat → Bool
+may_keep c = is_idle c.line.stage && is_open c.line.heard.mark c.line.heard.descriptor
 
 abbrev pub keeps_it : {T : Type 0} → Service → (Seat → Bool) → Option Seat → Step T
 keeps_it s test None = nothing s Unknown
 keeps_it s test (Some c) =
-    if is_idle c.line.stage && is_open c.line.heard.mark c.line.heard.descriptor
+    if may_keep c
     then does s (suc s.given) test c (Some (Kept (suc s.given))) [] (Ticket (suc s.given))
     else nothing s NotNow
 

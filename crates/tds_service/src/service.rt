@@ -2,9 +2,11 @@
 ghost use Rattle.std.specs.Prelude.{◌≤◌};
 
 mod asking;
+mod coming;
 mod finding;
 mod giving;
 mod lending;
+mod making;
 
 pub use asking::Asked;
 pub use lending::Lent;
