@@ -11,7 +11,7 @@ meets_by : (test : Seat → Bool) (c d : Seat) (cs : List Seat) (b : Bool) → t
 meets_by test c d cs true e f ih = let same : c ≡ d = cc in ap test (sym same) ∙ e
 meets_by test c d cs false e f ih = ih f
 
-meets : (test : Seat → Bool) (cs : List Seat) (d : Seat) → find_by test cs ≡ Some d → test d ≡ true
+pub meets : (test : Seat → Bool) (cs : List Seat) (d : Seat) → find_by test cs ≡ Some d → test d ≡ true
 meets test [] d e = cc
 meets test (c ∷ cs) d e = meets_by test c d cs (test c) refl e (meets test cs d)
 

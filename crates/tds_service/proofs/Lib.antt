@@ -2,6 +2,7 @@ pub mod Tests
 pub mod Tables
 pub mod Joining
 pub mod Packeting
+pub mod Arriving
 pub mod Pairing
 pub mod Walks
 pub mod Knowing
@@ -15,3 +16,4 @@ pub mod Lends
 pub mod Idle
 pub mod Leases
 pub mod Spent
+pub mod Owners

@@ -8,4 +8,5 @@ pub mod Ties
 pub mod Packets
 pub mod Service
 pub mod Lending
+pub mod Owning
 pub mod Table

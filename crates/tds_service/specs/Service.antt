@@ -94,6 +94,18 @@ keeps ticket (Kept other) = other == ticket
 keeps ticket Free = false
 keeps ticket Draining = false
 
+-- The lease that holds a connection, where one does.
+abbrev pub lease_in : Place → Option ℕ
+lease_in (Leased lease) = Some lease
+lease_in (Cleaning lease) = Some lease
+lease_in (Kept ticket) = None
+lease_in Free = None
+lease_in Draining = None
+
+abbrev pub lease_at : Option Seat → Option ℕ
+lease_at None = None
+lease_at (Some c) = lease_in c.place
+
 abbrev pub is_free : Place → Bool
 is_free (Leased lease) = false
 is_free (Cleaning lease) = false

@@ -18,7 +18,7 @@ use Rattle.tds_service.specs.Parts.{Part}
 use Rattle.tds_service.specs.Line.{Line, Answer, Reading}
 use Rattle.tds_service.specs.History.{Done}
 use Rattle.tds_service.specs.Service as calls
-use Rattle.tds_service.specs.Service.{find_by, Place, Leased, Cleaning, Kept, Free, Draining, Seat, Service, Call, Step, Reply, Unknown, AllInUse, NotNow, No, NoMemory, Lent, Ticket, Did, Back, has_lease, has_ticket, has_number, is_lendable, nothing, opens, step}
+use Rattle.tds_service.specs.Service.{find_by, Place, Leased, Cleaning, Kept, Free, Draining, Seat, Service, Call, Step, Reply, Unknown, AllInUse, NotNow, No, NoMemory, Lent, Ticket, Did, Back, lease_in, lease_at, has_lease, has_ticket, has_number, is_lendable, nothing, opens, step}
 use Rattle.tds_service.specs.Ties.{line_in, sent_in, tokens_in, IsTo, Appends}
 
 abbrev pub place_of : code.Place → Place
@@ -144,18 +144,6 @@ told_in (d ∷ ds) = tokens_in d.told ++ told_in ds
 abbrev pub AllTo : ℕ → List (Done Token) → Type 0
 AllTo request [] = Unit {0}
 AllTo request (d ∷ ds) = IsTo request d.told × AllTo request ds
-
--- The lease that holds a connection, where one does.
-abbrev pub lease_in : Place → Option ℕ
-lease_in (Leased lease) = Some lease
-lease_in (Cleaning lease) = Some lease
-lease_in (Kept ticket) = None
-lease_in Free = None
-lease_in Draining = None
-
-abbrev pub lease_at : Option Seat → Option ℕ
-lease_at None = None
-lease_at (Some c) = lease_in c.place
 
 -- A packet came on the connection of this number: the machine hears its part there, it answers so, what is told of it is appended,
 -- and it is the newest request's, of the lease that holds the connection.

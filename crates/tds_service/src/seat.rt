@@ -1,7 +1,7 @@
 //! A connection in its service: its number and who holds it.
 ghost use Rattle.std.specs.Prelude.{◌≡◌, ◌≢◌, true, false};
-ghost use Rattle.tds_service.specs.Service.{clean_place, drained, is_idle, rests};
-ghost use Rattle.tds_service.specs.Table.{lease_in, place_of, rest_of, rests_of, seat_in, test_of};
+ghost use Rattle.tds_service.specs.Service.{clean_place, drained, is_idle, lease_in, rests};
+ghost use Rattle.tds_service.specs.Table.{place_of, rest_of, rests_of, seat_in, test_of};
 ghost use Rattle.tds_service.specs.Line as line;
 ghost use Rattle.tds_service.specs.Ties.{line_in};
 

@@ -5,8 +5,8 @@ ghost use Rattle.tds_service.specs.declared.seat.Seat.{Seat as CodeSeat};
 ghost use Rattle.tds_service.specs.Line as line;
 ghost use Rattle.tds_service.specs.Packets.{outcome_answer, packet_part, told_of_part};
 ghost use Rattle.tds_service.specs.Service as calls;
-ghost use Rattle.tds_service.specs.Service.{drained, find_by, has_number};
-ghost use Rattle.tds_service.specs.Table.{Comes, ReadsAt, Refuses, lease_in, place_of, service_in};
+ghost use Rattle.tds_service.specs.Service.{drained, find_by, has_number, lease_in};
+ghost use Rattle.tds_service.specs.Table.{Comes, ReadsAt, Refuses, place_of, service_in};
 ghost use Rattle.tds_service.specs.Ties.{Hears, line_in};
 
 use crate::hearing::hear_packet;
