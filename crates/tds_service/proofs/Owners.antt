@@ -309,9 +309,9 @@ by_nothing asker (calls.Came number part) = refl
 by_nothing asker (calls.Lost number) = refl
 by_nothing asker (calls.Without call) = refl
 
-nothing_own : {T : Type 0} (b : Bool) (asker : Option Asker) (holder : Option ℕ) → OwnHere {T = T} b asker holder []
-nothing_own true asker holder = tt
-nothing_own false asker holder = tt
+nothing_own : (T : Type 0) (b : Bool) (asker : Option Asker) (holder : Option ℕ) → OwnHere {T = T} b asker holder []
+nothing_own T true asker holder = tt
+nothing_own T false asker holder = tt
 
 nothing_asked : {T : Type 0} (b : Bool) (asker : Option Asker) (call : Call T) → asker_here b asker call [] ≡ asker
 nothing_asked true asker call = by_nothing asker call
@@ -319,7 +319,7 @@ nothing_asked false asker call = refl
 
 nothing_goes : {T : Type 0} (n : ℕ) (s : Service) (call : Call T) (reply : Reply) → Goes n s call (nothing s reply)
 nothing_goes n s call reply = record {
-  own = λ asker h. nothing_own (0 == n) asker (lease_at (seat_numbered n s.seats));
+  own = λ asker h. nothing_own _ (0 == n) asker (lease_at (seat_numbered n s.seats));
   next = λ asker h. subst (λ (a : Option Asker). OwnedIn (seat_numbered n s.seats) a) (sym (nothing_asked (0 == n) asker call)) h;
 }
 
@@ -369,7 +369,7 @@ opens_goes n s call false tidy = nothing_goes n s call AllInUse
 opens_goes n s call true tidy =
     let d : Seat = record { number = suc s.last; place = Leased (suc s.given); line = new_line } in
     record {
-      own = λ asker h. nothing_own (0 == n) asker (lease_at (seat_numbered n s.seats));
+      own = λ asker h. nothing_own _ (0 == n) asker (lease_at (seat_numbered n s.seats));
       next = λ asker h.
           subst (λ (a : Option Asker). OwnedIn (seat_numbered n (s.seats ++ d ∷ [])) a) (sym (nothing_asked (0 == n) asker call))
           (added_owned n s d asker (d.number == n) refl refl (tidy.fresh (suc s.last) (omega arith)) h);

@@ -1,6 +1,6 @@
 -- A packet is heard token by token.
 use Rattle.std.proofs.Common.{◌≡◌, ◌∙◌, ◌+◌, ◌-◌, ◌<◌, ◌≤◌, ℕ, Bool, true, false, List, [], ◌∷◌, ◌++◌, length, take, drop, refl, sym, ap, subst, arith, append_assoc}
-use Rattle.std.proofs.lemmas.List.{append-nil, take_all, drop-drop, length-drop}
+use Rattle.std.proofs.lemmas.List.{append-nil, take_all, drop_all, drop-drop, length-drop}
 use Rattle.std.specs.Prelude.{Option, Some, None, Result, Ok, Err}
 use Rattle.tds_wire.specs.declared.told.Token.{Token}
 use Rattle.tds_wire.specs.declared.fault.Refusal.{Refusal}
@@ -287,3 +287,75 @@ pub stop_is : (c : Bool) (l k : Line) (r reading : Reading) (bytes : List ℕ) (
     → (tokens_in r bytes).stop ≡ Stands reading
 stop_is c l k r reading bytes before after some =
     ap (λ (t : Tokens). t.stop) some.are ∙ (led_stop some.tokens (tokens_in reading []) ∙ ap (λ (t : Tokens). t.stop) (none_left reading))
+
+-- ---- Room for what is told
+
+pub listed_short : (token : Option Token) → length (listed token) ≤ 1
+listed_short None = omega arith
+listed_short (Some token) = omega arith
+
+no_tokens_told : (n : ℕ) (h : Heard) (f : Found) (new : Line) (toks : List Token) → Hears (part_of f) (line_at n line.Cancelling h) new line.More toks → length toks ≡ 0
+no_tokens_told n h f new toks k = ap length (goes_in true n h f new toks k).told_is
+
+pub fits : (c : Bool) (l k new : Line) (r reading : Reading) (bytes left : List ℕ) (before after : List Token) (f : Found) (token : Option Token) (len cap rest : ℕ)
+    → HeardSome c l r bytes k reading left before after → Hears (part_of f) k new line.More (listed token) → len ≤ cap → 0 < rest
+    → (l.stage ≡ line.Reading → len + rest ≤ cap) → len + length (listed token) ≤ cap
+fits false l k new r reading bytes left before after f token len cap rest some h under lt room =
+    let fit = room (ap (λ (x : Line). x.stage) some.old_is) in
+    let short = listed_short token in
+    omega (arith, fit, short, lt)
+fits true l k new r reading bytes left before after f token len cap rest some h under lt room =
+    let none = no_tokens_told l.asked k.heard f new (listed token) (subst (λ (x : Line). Hears (part_of f) x new line.More (listed token)) some.new_is h) in
+    omega (arith, none, under)
+
+pub still_fits : (token : Option Token) (len cap rest count : ℕ) → len + rest ≤ cap → 0 < count → count ≤ rest → len + length (listed token) + (rest - count) ≤ cap
+still_fits token len cap rest count fit some within = let short = listed_short token in omega (arith, short, fit, some, within)
+
+pub front_is : (before after xs : List Token) → after ≡ before ++ xs → take (length before) after ≡ before
+front_is before after xs e = ap (take (length before)) e ∙ taken before xs
+  where
+    taken : (before xs : List Token) → take (length before) (before ++ xs) ≡ before
+    taken [] xs = refl
+    taken (b ∷ before) xs = ap (λ ts. b ∷ ts) (taken before xs)
+
+-- ---- With the bytes of a packet behind the first `done`
+
+module _ (c : Bool) (l k new : Line) (r reading : Reading) (bytes : List ℕ) (before after : List Token) (done : ℕ) (more : done < length bytes)
+    (some : HeardSome c l r bytes k reading (drop done bytes) before after) where
+  abbrev piece : List ℕ
+  piece = take (length bytes - done) (drop done bytes)
+
+  piece_is : piece ≡ drop done bytes
+  piece_is = take_all (length bytes - done) (drop done bytes) (let e : length (drop done bytes) ≡ length bytes - done = length-drop done bytes in omega (arith, e))
+
+  has_some : 0 < length (drop done bytes)
+  has_some = let e : length (drop done bytes) ≡ length bytes - done = length-drop done bytes in omega (arith, e, more)
+
+  pub one_more_at : (behind : Reading) (count : ℕ) (toks : List Token) → Hears (part_of (next_token reading piece)) k new line.More toks
+      → Stood (next_token reading piece) behind (drop count piece) → HeardSome c l r bytes new behind (drop (done + count) bytes) before (after ++ toks)
+  one_more_at behind count toks h s =
+      let at = subst (λ (b : List ℕ). Hears (part_of (next_token reading b)) k new line.More toks) piece_is h in
+      let stood = subst (λ (b : List ℕ). Stood (next_token reading b) behind (drop count b)) piece_is s in
+      subst (λ (b : List ℕ). HeardSome c l r bytes new behind b before (after ++ toks)) (drop-drop count done bytes)
+      (one_more c l k new r reading behind bytes (drop done bytes) (drop count (drop done bytes)) before after toks has_some some at stood)
+
+  pub fault_at : (fault : ListenFault) (ends : Bool) → Hears (part_of (next_token reading piece)) k new (line.Fault fault) [] → Hears (packet_part r bytes ends) l new (line.Fault fault) []
+  fault_at fault ends h =
+      let at = subst (λ (b : List ℕ). Hears (part_of (next_token reading b)) k new (line.Fault fault) []) piece_is h in
+      fault_behind c l k new r reading bytes (drop done bytes) before after fault ends has_some some at
+
+  pub within_at : (count : ℕ) → count ≤ length piece → done + count ≤ length bytes
+  within_at count h = let e : length piece ≡ length bytes - done = ap length piece_is ∙ length-drop done bytes in omega (arith, e, h, more)
+
+  pub moves_at : (count : ℕ) → (0 < length piece → 0 < count) → 0 < count
+  moves_at count h = let e : length piece ≡ length bytes - done = ap length piece_is ∙ length-drop done bytes in h (omega (arith, e, more))
+
+  pub fits_at : (token : Option Token) (len cap : ℕ) → Hears (part_of (next_token reading piece)) k new line.More (listed token) → len ≤ cap
+      → (l.stage ≡ line.Reading → len + (length bytes - done) ≤ cap) → len + length (listed token) ≤ cap
+  fits_at token len cap h under room =
+      fits c l k new r reading bytes (drop done bytes) before after (next_token reading piece) token len cap (length bytes - done) some h under (omega (arith, more)) room
+
+-- at the end nothing is left
+pub all_heard : (c : Bool) (l k : Line) (r reading : Reading) (bytes : List ℕ) (before after : List Token) (done : ℕ) → length bytes ≤ done
+    → HeardSome c l r bytes k reading (drop done bytes) before after → HeardSome c l r bytes k reading [] before after
+all_heard c l k r reading bytes before after done e some = subst (λ (b : List ℕ). HeardSome c l r bytes k reading b before after) (drop_all done bytes e) some

@@ -13,7 +13,7 @@ use Rattle.tds_service.specs.Service.{Service, Seat, Place, Kept, Lent, Ticket, 
 use Rattle.tds_service.specs.Table.{StepsIn, RefusesIn, service_in, seat_in, seats_in, place_of, rest_of, without_closed}
 use Rattle.tds_service.specs.Ties.{line_in}
 use Rattle.tds_service.proofs.Alone.{same_number}
-use Rattle.tds_service.proofs.Tables.{with_seats, here_in, found_here, meets_here, rests_here, does_alike, does_gone, lost_bytes, not_now_in, done_in}
+use Rattle.tds_service.proofs.Tables.{with_seats, here_in, found_here, meets_here, rests_here, does_alike, does_gone, lost_bytes, not_now_in, done_in, steps_as}
 use Rattle.tds_service.proofs.service.Service.keep.Goals as goal
 
 pub returns-in-Ok-clause-ok : goal.returns-in-Ok-clause-ok
@@ -28,18 +28,20 @@ returns-in-Ok-clause-ok c =
     let is : ticket ≡ suc old.given = c.in_ok-ticket.ensures.value ∙ (let e : old.given + 1 ≡ suc old.given = omega arith in e) in
     let news = c.keep_at.new.seats in
     let len : length news ≡ c.args.self.now.seats.len = first_of (omega arith, search rules) in
-    let table = with_items_is c.args.self.now.seats news len ∙ k.1 ∙ ap (λ (cs : List code.Seat). set cs index k.0) c.deref_mut.ensures.value in
-    let with_given = λ (g : ℕ) (cs : List code.Seat). let t : Service = record { max = old.max; last = old.last; given = g; seats = seats_in cs } in t in
+    let table = k.1 ∙ ap (λ (cs : List code.Seat). set cs index k.0) c.deref_mut.ensures.value in
     let did = does_alike old (suc old.given) (has_lease c.args.lease) (Kept (suc old.given)) [] (Ticket (suc old.given)) items index here.seat k.0 refl here.first here.at k.2 (ap place_of k.3 ∙ ap Kept is) k.5 in
-    (here.seat.number,
-    subst (λ (x : Option Seat). StepsIn (keeps_it old (has_lease c.args.lease) x) _ (Ticket ticket) here.seat.number [] []) (sym found)
-    (done_in (λ (t : Step Token). StepsIn t _ (Ticket ticket) here.seat.number [] []) (does old (suc old.given) (has_lease c.args.lease) (seat_in here.seat) (Some (Kept (suc old.given))) [] (Ticket (suc old.given))) (nothing old NotNow) (may_keep (seat_in here.seat)) k.6
-    (record {
-      service_is = ap (with_given ticket) table ∙ (ap (λ (g : ℕ). with_given g (set items index k.0)) is ∙ did);
-      reply_is = ap Ticket (sym is);
-      number_is = refl;
-      bytes = ([], refl, refl);
-    })))
+    let new : Service = record { max = old.max; last = old.last; given = ticket; seats = seats_in news } in
+    let P = λ (t : Step Token). StepsIn t new (Ticket ticket) here.seat.number [] [] in
+    let same = ap (λ (cs : List code.Seat). let t : Service = record { max = old.max; last = old.last; given = ticket; seats = seats_in cs } in t) table
+    ∙ (ap (λ (g : ℕ). let t : Service = record { max = old.max; last = old.last; given = g; seats = seats_in (set items index k.0) } in t) is ∙ did) in
+    let stepped = subst (λ (x : Option Seat). P (keeps_it old (has_lease c.args.lease) x)) (sym found)
+    (done_in P (does old (suc old.given) (has_lease c.args.lease) (seat_in here.seat) (Some (Kept (suc old.given))) [] (Ticket (suc old.given))) (nothing old NotNow) (may_keep (seat_in here.seat)) k.6
+    (record { service_is = same; reply_is = ap Ticket (sym is); number_is = refl; bytes = ([], refl, refl) })) in (
+      here.seat.number,
+      steps_as (keeps_it old (has_lease c.args.lease) (find_by (has_lease c.args.lease) old.seats)) new _ (Ticket ticket) (Ticket ticket) here.seat.number here.seat.number
+      (ap (λ (cs : List code.Seat). let t : Service = record { max = old.max; last = old.last; given = ticket; seats = seats_in cs } in t) (with_items_is c.args.self.now.seats news len))
+      refl refl stepped,
+    )
 
 pub returns-in-Err-clause-refused : goal.returns-in-Err-clause-refused
 returns-in-Err-clause-refused c =
