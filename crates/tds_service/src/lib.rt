@@ -3,9 +3,7 @@
 #![tactic(auto)]
 
 mod connection;
-mod hearing;
 pub mod laws;
-mod outcome;
 mod place;
 mod refusal;
 mod seat;
@@ -13,7 +11,6 @@ mod service;
 pub mod table_laws;
 
 pub use connection::Connection;
-pub use outcome::{Came, Outcome};
 pub use place::{Place, Rest};
 pub use refusal::Refusal;
 pub use service::{Asked, Lent, Service};

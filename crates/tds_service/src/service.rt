@@ -2,7 +2,6 @@
 ghost use Rattle.std.specs.Prelude.{◌≤◌};
 
 mod asking;
-mod coming;
 mod finding;
 mod giving;
 mod lending;
