@@ -11,7 +11,7 @@ use Rattle.tds_client.specs.declared.sign.Rules.TheVariants.{Any}
 use Rattle.tds_client.specs.Acts.{is_acknowledgement}
 use Rattle.tds_client.specs.Hearing.{with_done, hear_sign}
 use Rattle.tds_client.proofs.Acknowledged.{is_acknowledging, by_sign}
-use Rattle.tds_service.specs.Parts.{Item, Part, is_end, hear_part, hear_items}
+use Rattle.tds_service.specs.Parts.{Item, Part, is_end, hear_part, hear_items, heard_until}
 use Rattle.tds_service.specs.Line.{Act, Mark, Ask, Send, Cancel, Come, Lose, Stage, Idle, Sending, Reading, Cancelling, Broken, reads, skips, skips_to_end, cause, left_by}
 use Rattle.tds_service.specs.History.{history}
 use Rattle.tds_service.specs.Acknowledging.{has_ack, Settles, SettlesRight, out_by}
@@ -57,14 +57,14 @@ settles_broken n fault h out seen (Cancel ∷ acts) = (tt, settles_broken n faul
 settles_broken n fault h out seen (Come part ∷ acts) = (tt, settles_broken n fault h out (if (is_end part.close) then false else (seen || has_ack part.items)) acts)
 settles_broken n fault h out seen (Lose ∷ acts) = (tt, settles_broken n fault h out seen acts)
 
-settles_reads : {T : Type 0} (n : ℕ) (h : Heard) (seen : Bool) (part : Part T) (ends : Bool) (result : Result Heard ListenFault) (acts : List (Act T))
+settles_reads : {T : Type 0} (n : ℕ) (h : Heard) (seen : Bool) (part : Part T) (ends : Bool) (u : Heard) (result : Result Heard ListenFault) (acts : List (Act T))
     → ((next : Heard) → result ≡ Ok next → is_acknowledging next.done ≡ (seen || has_ack part.items))
     → ((s : Stage) (h : Heard) (seen : Bool) → is_acknowledging h.done ≡ seen → SettlesRight (attending s) seen (history (line n s h) acts))
     → ((f : ClientFault) (h : Heard) (out seen : Bool) → SettlesRight out seen (history (line n (Broken f) h) acts))
-    → Settles (attending Reading) ends (seen || has_ack part.items) (reads (line n Reading h) part ends result).answer × SettlesRight (out_by (attending Reading) (reads (line n Reading h) part ends result).answer) (if ends then false else (seen || has_ack part.items)) (history (reads (line n Reading h) part ends result).line acts)
-settles_reads n h seen part ends (Err fault) acts kn ih ib = (tt, ib (cause fault) (left_by fault h) false (if ends then false else (seen || has_ack part.items)))
-settles_reads n h seen part false (Ok heard) acts kn ih ib = (refl, ih Reading heard (seen || has_ack part.items) (kn heard refl))
-settles_reads n h seen part true (Ok heard) acts kn ih ib = ((refl, refl), ih Idle (with_done heard Awaited) false refl)
+    → Settles (attending Reading) ends (seen || has_ack part.items) (reads (line n Reading h) part ends u result).answer × SettlesRight (out_by (attending Reading) (reads (line n Reading h) part ends u result).answer) (if ends then false else (seen || has_ack part.items)) (history (reads (line n Reading h) part ends u result).line acts)
+settles_reads n h seen part ends u (Err fault) acts kn ih ib = (tt, ib (cause fault) (left_by fault u) false (if ends then false else (seen || has_ack part.items)))
+settles_reads n h seen part false u (Ok heard) acts kn ih ib = (refl, ih Reading heard (seen || has_ack part.items) (kn heard refl))
+settles_reads n h seen part true u (Ok heard) acts kn ih ib = ((refl, refl), ih Idle (with_done heard Awaited) false refl)
 
 settles_skips_to_end : {T : Type 0} (n : ℕ) (h heard : Heard) (seen : Bool) (part : Part T) (done : FinalDone) (acts : List (Act T))
     → is_acknowledging done ≡ (seen || has_ack part.items)
@@ -75,14 +75,14 @@ settles_skips_to_end n h heard seen part Awaited acts kn ih ib = (sym kn, ih Can
 settles_skips_to_end n h heard seen part Answered acts kn ih ib = (sym kn, ih Cancelling (with_done heard Awaited) false refl)
 settles_skips_to_end n h heard seen part Acknowledged acts kn ih ib = ((refl, sym kn), ih Idle (with_done heard Awaited) false refl)
 
-settles_skips : {T : Type 0} (n : ℕ) (h : Heard) (seen : Bool) (part : Part T) (ends : Bool) (result : Result Heard ListenFault) (acts : List (Act T))
+settles_skips : {T : Type 0} (n : ℕ) (h : Heard) (seen : Bool) (part : Part T) (ends : Bool) (u : Heard) (result : Result Heard ListenFault) (acts : List (Act T))
     → ((next : Heard) → result ≡ Ok next → is_acknowledging next.done ≡ (seen || has_ack part.items))
     → ((s : Stage) (h : Heard) (seen : Bool) → is_acknowledging h.done ≡ seen → SettlesRight (attending s) seen (history (line n s h) acts))
     → ((f : ClientFault) (h : Heard) (out seen : Bool) → SettlesRight out seen (history (line n (Broken f) h) acts))
-    → Settles (attending Cancelling) ends (seen || has_ack part.items) (skips {T = T} (line n Cancelling h) ends result).answer × SettlesRight (out_by (attending Cancelling) (skips {T = T} (line n Cancelling h) ends result).answer) (if ends then false else (seen || has_ack part.items)) (history (skips {T = T} (line n Cancelling h) ends result).line acts)
-settles_skips n h seen part ends (Err fault) acts kn ih ib = (tt, ib (cause fault) (left_by fault h) true (if ends then false else (seen || has_ack part.items)))
-settles_skips n h seen part false (Ok heard) acts kn ih ib = (refl, ih Cancelling heard (seen || has_ack part.items) (kn heard refl))
-settles_skips n h seen part true (Ok heard) acts kn ih ib = settles_skips_to_end n h heard seen part heard.done acts (kn heard refl) ih ib
+    → Settles (attending Cancelling) ends (seen || has_ack part.items) (skips {T = T} (line n Cancelling h) ends u result).answer × SettlesRight (out_by (attending Cancelling) (skips {T = T} (line n Cancelling h) ends u result).answer) (if ends then false else (seen || has_ack part.items)) (history (skips {T = T} (line n Cancelling h) ends u result).line acts)
+settles_skips n h seen part ends u (Err fault) acts kn ih ib = (tt, ib (cause fault) (left_by fault u) true (if ends then false else (seen || has_ack part.items)))
+settles_skips n h seen part false u (Ok heard) acts kn ih ib = (refl, ih Cancelling heard (seen || has_ack part.items) (kn heard refl))
+settles_skips n h seen part true u (Ok heard) acts kn ih ib = settles_skips_to_end n h heard seen part heard.done acts (kn heard refl) ih ib
 
 pub settles : {T : Type 0} (n : ℕ) (s : Stage) (h : Heard) (seen : Bool) (acts : List (Act T)) → is_acknowledging h.done ≡ seen → SettlesRight (attending s) seen (history (line n s h) acts)
 settles n s h seen [] e = tt
@@ -104,12 +104,12 @@ settles n Reading h seen (Mark reset ∷ acts) e = (tt, settles n Reading h seen
 settles n Reading h seen (Ask ∷ acts) e = (tt, settles n Reading h seen acts e)
 settles n Reading h seen (Send last ∷ acts) e = (tt, settles n Reading h seen acts e)
 settles n Reading h seen (Cancel ∷ acts) e = (tt, settles n Cancelling h seen acts e)
-settles n Reading h seen (Come part ∷ acts) e = settles_reads n h seen part (is_end part.close) (hear_part false h part) acts (λ next f. by_part false h next part f ∙ ap (λ (x : Bool). x || has_ack part.items) e) (λ s h seen e. settles n s h seen acts e) (λ f h out seen. settles_broken n f h out seen acts)
+settles n Reading h seen (Come part ∷ acts) e = settles_reads n h seen part (is_end part.close) (heard_until false h part.items) (hear_part false h part) acts (λ next f. by_part false h next part f ∙ ap (λ (x : Bool). x || has_ack part.items) e) (λ s h seen e. settles n s h seen acts e) (λ f h out seen. settles_broken n f h out seen acts)
 settles n Reading h seen (Lose ∷ acts) e = (tt, settles_broken n faults.Lost h false seen acts)
 settles n Cancelling h seen (Mark reset ∷ acts) e = (tt, settles n Cancelling h seen acts e)
 settles n Cancelling h seen (Ask ∷ acts) e = (tt, settles n Cancelling h seen acts e)
 settles n Cancelling h seen (Send last ∷ acts) e = (tt, settles n Cancelling h seen acts e)
 settles n Cancelling h seen (Cancel ∷ acts) e = (tt, settles n Cancelling h seen acts e)
-settles n Cancelling h seen (Come part ∷ acts) e = settles_skips n h seen part (is_end part.close) (hear_part true h part) acts (λ next f. by_part true h next part f ∙ ap (λ (x : Bool). x || has_ack part.items) e) (λ s h seen e. settles n s h seen acts e) (λ f h out seen. settles_broken n f h out seen acts)
+settles n Cancelling h seen (Come part ∷ acts) e = settles_skips n h seen part (is_end part.close) (heard_until true h part.items) (hear_part true h part) acts (λ next f. by_part true h next part f ∙ ap (λ (x : Bool). x || has_ack part.items) e) (λ s h seen e. settles n s h seen acts e) (λ f h out seen. settles_broken n f h out seen acts)
 settles n Cancelling h seen (Lose ∷ acts) e = (tt, settles_broken n faults.Lost h true seen acts)
 settles n (Broken fault) h seen acts e = settles_broken n fault h false seen acts

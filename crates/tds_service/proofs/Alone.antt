@@ -6,8 +6,10 @@ use Rattle.tds_packet.specs.declared.status.Reset.TheVariants.{Full, KeepTransac
 use Rattle.tds_service.specs.Parts.{Part}
 use Rattle.tds_service.specs.Line.{Line, new_line, Act, Stage}
 use Rattle.tds_service.specs.Line as line
+use Rattle.tds_client.specs.declared.fault.ClientRefusal.{ClientRefusal}
+use Rattle.tds_service.specs.Refusing.{packets, refusal_in}
 use Rattle.tds_service.specs.History.{Done, done_by, history, line_after, acts_of}
-use Rattle.tds_service.specs.Service.{Place, Leased, Kept, Seat, Service, new_service, Call, Lease, Resume, Ask, Send, Cancel, GiveBack, Keep, Abandon, Came, Lost, Reply, Unknown, NotNow, AllInUse, Lent, Ticket, Did, Back, Step, nothing, seat_numbered, find_by, change_by, has_lease, has_ticket, has_number, is_lendable, placed, does, rests, drained, is_idle, is_open, acts, opens, lends, resumes, gives_back, keeps_it, abandons, hears, loses, step, steps, on_one, on}
+use Rattle.tds_service.specs.Service.{Place, Leased, Cleaning, Kept, Free, Draining, Seat, Service, new_service, Call, Lease, Resume, Ask, Put, Finish, Cancel, GiveBack, Clean, Cleaned, Keep, Abandon, Came, Lost, Without, Reply, Unknown, NotNow, No, NoMemory, AllInUse, Lent, Ticket, Did, Back, Step, nothing, seat_numbered, find_by, change_by, has_lease, has_ticket, has_number, is_lendable, placed, does, rests, drained, is_idle, is_open, acts, acts_unless, cleans, cleaned, clean_place, rests_cleaned, opens, lends, resumes, gives_back, keeps_it, abandons, hears, loses, step, steps, on_one, on}
 
 -- ---- Histories joined
 
@@ -253,10 +255,36 @@ does_alone n l s given test c place xs reply tidy fits e =
 
 -- ---- Each call
 
-acts_alone : {T : Type 0} (n : ℕ) (l : Line) (s : Service) (test : Seat → Bool) (act : Act T) (seat : Option Seat) → Tidy s → FitsIn s n l → find_by test s.seats ≡ seat
-    → IsAlone n l (acts s test act seat)
-acts_alone n l s test act None tidy fits e = nothing_alone n l s Unknown tidy fits
-acts_alone n l s test act (Some c) tidy fits e = does_alone n l s s.given test c (Some c.place) (act ∷ []) Did tidy fits e
+unless_alone : {T : Type 0} (n : ℕ) (l : Line) (s : Service) (test : Seat → Bool) (c : Seat) (all : List (Act T)) (why : Option ClientRefusal) → Tidy s → FitsIn s n l
+    → find_by test s.seats ≡ Some c → IsAlone n l (acts_unless s test c all why)
+unless_alone n l s test c all None tidy fits e = does_alone n l s s.given test c (Some c.place) all Did tidy fits e
+unless_alone n l s test c all (Some why) tidy fits e = nothing_alone n l s (No why) tidy fits
+
+acts_alone : {T : Type 0} (n : ℕ) (l : Line) (s : Service) (test : Seat → Bool) (first : Act T) (all : List (Act T)) (seat : Option Seat) → Tidy s → FitsIn s n l
+    → find_by test s.seats ≡ seat → IsAlone n l (acts s test first all seat)
+acts_alone n l s test first all None tidy fits e = nothing_alone n l s Unknown tidy fits
+acts_alone n l s test first all (Some c) tidy fits e = unless_alone n l s test c all (refusal_in (line.turn c.line first).answer) tidy fits e
+
+cleans_by : {T : Type 0} (n : ℕ) (l : Line) (s : Service) (test : Seat → Bool) (c : Seat) (b : Bool) → Tidy s → FitsIn s n l → find_by test s.seats ≡ Some c
+    → IsAlone {T = T} n l (if b then does s (suc s.given) test c (Some (Cleaning (suc s.given))) (line.Mark Full ∷ []) (Lent (suc s.given) c.number true) else nothing s NotNow)
+cleans_by n l s test c true tidy fits e =
+    does_alone n l s (suc s.given) test c (Some (Cleaning (suc s.given))) (line.Mark Full ∷ []) (Lent (suc s.given) c.number true) tidy fits e
+cleans_by n l s test c false tidy fits e = nothing_alone n l s NotNow tidy fits
+
+cleans_alone : {T : Type 0} (n : ℕ) (l : Line) (s : Service) (test : Seat → Bool) (seat : Option Seat) → Tidy s → FitsIn s n l → find_by test s.seats ≡ seat
+    → IsAlone {T = T} n l (cleans s test seat)
+cleans_alone n l s test None tidy fits e = nothing_alone n l s Unknown tidy fits
+cleans_alone n l s test (Some c) tidy fits e = cleans_by n l s test c (is_lendable c) tidy fits e
+
+rests_alone : {T : Type 0} (n : ℕ) (l : Line) (s : Service) (test : Seat → Bool) (c : Seat) (place : Option (Option Place)) → Tidy s → FitsIn s n l → find_by test s.seats ≡ Some c
+    → IsAlone {T = T} n l (rests_cleaned s test c place)
+rests_alone n l s test c None tidy fits e = nothing_alone n l s NotNow tidy fits
+rests_alone n l s test c (Some place) tidy fits e = does_alone n l s s.given test c place [] (Back place) tidy fits e
+
+cleaned_alone : {T : Type 0} (n : ℕ) (l : Line) (s : Service) (test : Seat → Bool) (seat : Option Seat) → Tidy s → FitsIn s n l → find_by test s.seats ≡ seat
+    → IsAlone {T = T} n l (cleaned s test seat)
+cleaned_alone n l s test None tidy fits e = nothing_alone n l s Unknown tidy fits
+cleaned_alone n l s test (Some c) tidy fits e = rests_alone n l s test c (clean_place c.place c.line) tidy fits e
 
 opens_fits : (n : ℕ) (l : Line) (s : Service) (d : Seat) (b : Bool) → d.number ≡ suc s.last → d.line ≡ new_line → Tidy s → FitsIn s n l → (suc s.last == n) ≡ b
     → (found : Option Seat) → seat_numbered n s.seats ≡ found → Fits (seat_numbered n (s.seats ++ d ∷ [])) n (suc s.last) l
@@ -345,14 +373,18 @@ loses_alone n l s test (Some c) tidy fits e = does_alone n l s s.given test c No
 pub step_alone : {T : Type 0} (n : ℕ) (l : Line) (s : Service) (call : Call T) → Tidy s → FitsIn s n l → IsAlone n l (step s call)
 step_alone n l s Lease tidy fits = lends_alone n l s (find_by is_lendable s.seats) tidy fits refl
 step_alone n l s (Resume ticket) tidy fits = resumes_alone n l s (has_ticket ticket) (find_by (has_ticket ticket) s.seats) tidy fits refl
-step_alone n l s (Ask lease) tidy fits = acts_alone n l s (has_lease lease) line.Ask (find_by (has_lease lease) s.seats) tidy fits refl
-step_alone n l s (Send lease last) tidy fits = acts_alone n l s (has_lease lease) (line.Send last) (find_by (has_lease lease) s.seats) tidy fits refl
-step_alone n l s (Cancel lease) tidy fits = acts_alone n l s (has_lease lease) line.Cancel (find_by (has_lease lease) s.seats) tidy fits refl
+step_alone n l s (Ask lease) tidy fits = acts_alone n l s (has_lease lease) line.Ask (line.Ask ∷ []) (find_by (has_lease lease) s.seats) tidy fits refl
+step_alone n l s (Put lease count) tidy fits = acts_alone n l s (has_lease lease) (line.Send false) (packets count) (find_by (has_lease lease) s.seats) tidy fits refl
+step_alone n l s (Finish lease count) tidy fits = acts_alone n l s (has_lease lease) (line.Send true) (packets count ++ line.Send true ∷ []) (find_by (has_lease lease) s.seats) tidy fits refl
+step_alone n l s (Cancel lease) tidy fits = acts_alone n l s (has_lease lease) line.Cancel (line.Cancel ∷ []) (find_by (has_lease lease) s.seats) tidy fits refl
 step_alone n l s (GiveBack lease) tidy fits = gives_back_alone n l s (has_lease lease) (find_by (has_lease lease) s.seats) tidy fits refl
+step_alone n l s (Clean number) tidy fits = cleans_alone n l s (has_number number) (find_by (has_number number) s.seats) tidy fits refl
+step_alone n l s (Cleaned lease) tidy fits = cleaned_alone n l s (has_lease lease) (find_by (has_lease lease) s.seats) tidy fits refl
 step_alone n l s (Keep lease) tidy fits = keeps_alone n l s (has_lease lease) (find_by (has_lease lease) s.seats) tidy fits refl
 step_alone n l s (Abandon ticket) tidy fits = abandons_alone n l s (has_ticket ticket) (find_by (has_ticket ticket) s.seats) tidy fits refl
 step_alone n l s (Came number part) tidy fits = hears_alone n l s (has_number number) part (find_by (has_number number) s.seats) tidy fits refl
 step_alone n l s (Lost number) tidy fits = loses_alone n l s (has_number number) (find_by (has_number number) s.seats) tidy fits refl
+step_alone n l s (Without call) tidy fits = nothing_alone n l s NoMemory tidy fits
 
 -- ---- All calls
 

@@ -22,7 +22,7 @@ use Rattle.tds_listen.specs.declared.fault.ListenFault.TheVariants as listens
 use Rattle.tds_listen.specs.Faults.{broken_at, broken_at_end}
 use Rattle.tds_listen.specs.Hearing.{Move, heard_by, heard_end, moved_by, next_heard, settled_by, told_if, without_mark}
 use Rattle.tds_listen.specs.Signs.{sign_of}
-use Rattle.tds_service.specs.Parts.{Part, Goes, Ends, Cut, close_by, close_part, told, unless_owed}
+use Rattle.tds_service.specs.Parts.{Part, Goes, Ends, Cut, close_by, close_part, told, unless_owed, until_by}
 use Rattle.tds_service.specs.Line as line
 use Rattle.tds_service.specs.Line.{Line, Turn, comes, reads, skips, skips_to_end, turn}
 use Rattle.tds_service.specs.Ties.{stage_of, line_of, Hears, IsTo, Stands, end_at, items_of, part_of, taken_answer, tokens_in}
@@ -78,13 +78,13 @@ module _ (n : ℕ) (s : ClientSession) where
   lost_at k e = ap (λ (k : session.Stage). let l : Line = record { asked = n; stage = stage_of (session.lost_stage k); heard = s.heard } in l) e
 
   reads_token : (token : Token) (r : Reading) (rest : List ℕ) (x : Result Heard ClientFault) → s.stage ≡ session.Reading
-      → Moves n s (reads (line_at n s session.Reading) (part_of (Sees token r rest)) false (heard_by (x >>= λ next. Ok next) (λ next. close_part false Goes next)))
+      → Moves n s (reads (line_at n s session.Reading) (part_of (Sees token r rest)) false (until_by s.heard x (λ next. next)) (heard_by (x >>= λ next. Ok next) (λ next. close_part false Goes next)))
       (heard_by (x >>= λ heard. Ok (with_heard s heard)) (λ next. Ok (record { told = Some token; session = next; reading = r; rest = rest })))
   reads_token token r rest (Ok heard) e = (at_stage session.Reading heard e, refl, refl, refl, refl)
   reads_token token r rest (Err fault) e = (refl, refl, refl, tt, refl)
 
   skips_token : (token : Token) (r : Reading) (rest : List ℕ) (x : Result Heard ClientFault) → s.stage ≡ session.Cancelling
-      → Moves n s (skips (line_at n s session.Cancelling) false (heard_by (x >>= λ next. Ok next) (λ next. close_part true Goes next)))
+      → Moves n s (skips (line_at n s session.Cancelling) false (until_by s.heard x (λ next. next)) (heard_by (x >>= λ next. Ok next) (λ next. close_part true Goes next)))
       (heard_by (x >>= λ heard. Ok (with_heard s heard)) (λ next. Ok (record { told = None; session = next; reading = r; rest = rest })))
   skips_token token r rest (Ok heard) e = (at_stage session.Cancelling heard e, refl, refl, tt, refl)
   skips_token token r rest (Err fault) e = (refl, refl, refl, tt, refl)
@@ -149,12 +149,12 @@ module _ (n : ℕ) (s : ClientSession) where
   closing between = record { items = []; close = if between then Ends else Cut }
 
   reads_mark : (mark : Option Reset)
-      → Closes (reads (line_at n s session.Reading) (closing true) true (unless_owed mark s.heard)) (without_mark mark (end_read s))
+      → Closes (reads (line_at n s session.Reading) (closing true) true s.heard (unless_owed mark s.heard)) (without_mark mark (end_read s))
   reads_mark None = (refl, refl, refl, refl, refl)
   reads_mark (Some reset) = (refl, refl, refl, tt, refl)
 
   reads_end : (may : Bool)
-      → Closes (reads (line_at n s session.Reading) (closing true) true (close_by false may s.heard))
+      → Closes (reads (line_at n s session.Reading) (closing true) true s.heard (close_by false may s.heard))
       (heard_by (if may then Ok (end_read s) else Err faults.NoFinalDone) (λ move. settled_by move.answer move))
   reads_end true = reads_mark s.heard.mark
   reads_end false = (refl, refl, refl, tt, refl)
@@ -167,7 +167,7 @@ module _ (n : ℕ) (s : ClientSession) where
   skips_done Acknowledged = (refl, refl, refl, tt, refl)
 
   skips_end : (may : Bool)
-      → Closes (skips {T = Token} (line_at n s session.Cancelling) true (close_by true may s.heard))
+      → Closes (skips {T = Token} (line_at n s session.Cancelling) true s.heard (close_by true may s.heard))
       (heard_by (if may then Ok (end_skipped s s.heard.done) else Err faults.NoFinalDone) (λ move. settled_by move.answer move))
   skips_end true = skips_done s.heard.done
   skips_end false = (refl, refl, refl, tt, refl)

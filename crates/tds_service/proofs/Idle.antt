@@ -1,30 +1,32 @@
 -- What is lent again is idle.
 use Rattle.std.proofs.Common.{◌≡◌, ◌∙◌, ◌==◌, ◌&&◌, ℕ, suc, Bool, true, false, List, [], ◌∷◌, ◌++◌, length, refl, sym, ap, subst, inr}
 use Rattle.std.specs.Prelude.{Option, Some, None, Result, Ok, Err, nat_lt, if◌then◌else◌}
-use Rattle.tds_packet.specs.declared.status.Reset.TheVariants.{KeepTransaction}
+use Rattle.tds_packet.specs.declared.status.Reset.TheVariants.{Full, KeepTransaction}
 use Rattle.tds_client.specs.declared.fault.ClientFault.TheVariants as faults
+use Rattle.tds_client.specs.declared.fault.ClientRefusal.{ClientRefusal}
 use Rattle.tds_client.specs.declared.heard.Heard.{Heard}
 use Rattle.tds_listen.specs.declared.fault.ListenFault.{ListenFault}
 use Rattle.tds_client.specs.declared.heard.FinalDone.{FinalDone}
 use Rattle.tds_client.specs.declared.heard.FinalDone.TheVariants.{Awaited, Answered, Acknowledged}
 use Rattle.tds_client.specs.Hearing.{with_done}
-use Rattle.tds_service.specs.Parts.{Part, is_end, hear_part}
+use Rattle.tds_service.specs.Parts.{Part, is_end, hear_part, heard_until}
 use Rattle.tds_service.specs.Line.{Line, new_line, Act, Mark, Ask, Send, Cancel, Come, Lose, Stage, Idle, Sending, Reading, Cancelling, Broken, turn, reads, skips, skips_to_end, cause, left_by}
 use Rattle.tds_service.specs.History.{Done, done_by, history, line_after, acts_of}
+use Rattle.tds_service.specs.Refusing.{packets, refusal_in}
 use Rattle.tds_service.specs.Lending.{awaited, LendsIdle}
 use Rattle.tds_service.specs.Service as calls
-use Rattle.tds_service.specs.Service.{Seat, Service, new_service, Call, Step, Leased, Kept, Lent, Ticket, NotNow, nothing, does, find_by, seat_numbered, has_lease, has_ticket, has_number, is_lendable, is_idle, is_open, acts, opens, lends, resumes, gives_back, keeps_it, abandons, hears, loses, step, steps, service_after, on, on_one}
+use Rattle.tds_service.specs.Service.{Place, Cleaning, Free, Draining, acts_unless, cleans, cleaned, clean_place, rests_cleaned, is_free, Seat, Service, new_service, Call, Step, Leased, Kept, Lent, Ticket, NotNow, nothing, does, find_by, seat_numbered, has_lease, has_ticket, has_number, is_lendable, is_idle, is_open, acts, opens, lends, resumes, gives_back, keeps_it, abandons, hears, loses, step, steps, service_after, on, on_one}
 use Rattle.tds_service.proofs.Pairing.{line, with_mark}
 use Rattle.tds_service.proofs.Walks.{awaits}
 use Rattle.tds_service.proofs.Alone.{Tidy, FitsIn, IsAlone, step_alone, is_found, fits_here, acts_of_history, acts_of_both, each_alone}
-use Rattle.tds_service.proofs.Lends.{free_idle, idle_stage}
+use Rattle.tds_service.proofs.Lends.{free_idle, idle_both, idle_stage}
 
-awaits_along_reads : {T : Type 0} (n : ℕ) (h : Heard) (part : Part T) (ends : Bool) (result : Result Heard ListenFault) (acts : List (Act T))
+awaits_along_reads : {T : Type 0} (n : ℕ) (h : Heard) (part : Part T) (ends : Bool) (u : Heard) (result : Result Heard ListenFault) (acts : List (Act T))
     → ((s : Stage) (h : Heard) → awaited (awaits s) (history (line n s h) acts) ≡ awaits (line_after (line n s h) acts).stage)
-    → awaited (awaits Reading) (done_by (Come part) (reads (line n Reading h) part ends result) ∷ history (reads (line n Reading h) part ends result).line acts) ≡ awaits (line_after (reads (line n Reading h) part ends result).line acts).stage
-awaits_along_reads n h part ends (Err fault) acts ih = ih (Broken (cause fault)) (left_by fault h)
-awaits_along_reads n h part false (Ok heard) acts ih = ih Reading heard
-awaits_along_reads n h part true (Ok heard) acts ih = ih Idle (with_done heard Awaited)
+    → awaited (awaits Reading) (done_by (Come part) (reads (line n Reading h) part ends u result) ∷ history (reads (line n Reading h) part ends u result).line acts) ≡ awaits (line_after (reads (line n Reading h) part ends u result).line acts).stage
+awaits_along_reads n h part ends u (Err fault) acts ih = ih (Broken (cause fault)) (left_by fault u)
+awaits_along_reads n h part false u (Ok heard) acts ih = ih Reading heard
+awaits_along_reads n h part true u (Ok heard) acts ih = ih Idle (with_done heard Awaited)
 
 awaits_along_skips_to_end : {T : Type 0} (n : ℕ) (h heard : Heard) (part : Part T) (done : FinalDone) (acts : List (Act T))
     → ((s : Stage) (h : Heard) → awaited (awaits s) (history (line n s h) acts) ≡ awaits (line_after (line n s h) acts).stage)
@@ -33,12 +35,12 @@ awaits_along_skips_to_end n h heard part Awaited acts ih = ih Cancelling (with_d
 awaits_along_skips_to_end n h heard part Answered acts ih = ih Cancelling (with_done heard Awaited)
 awaits_along_skips_to_end n h heard part Acknowledged acts ih = ih Idle (with_done heard Awaited)
 
-awaits_along_skips : {T : Type 0} (n : ℕ) (h : Heard) (part : Part T) (ends : Bool) (result : Result Heard ListenFault) (acts : List (Act T))
+awaits_along_skips : {T : Type 0} (n : ℕ) (h : Heard) (part : Part T) (ends : Bool) (u : Heard) (result : Result Heard ListenFault) (acts : List (Act T))
     → ((s : Stage) (h : Heard) → awaited (awaits s) (history (line n s h) acts) ≡ awaits (line_after (line n s h) acts).stage)
-    → awaited (awaits Cancelling) (done_by (Come part) (skips {T = T} (line n Cancelling h) ends result) ∷ history (skips {T = T} (line n Cancelling h) ends result).line acts) ≡ awaits (line_after (skips {T = T} (line n Cancelling h) ends result).line acts).stage
-awaits_along_skips n h part ends (Err fault) acts ih = ih (Broken (cause fault)) (left_by fault h)
-awaits_along_skips n h part false (Ok heard) acts ih = ih Cancelling heard
-awaits_along_skips n h part true (Ok heard) acts ih = awaits_along_skips_to_end n h heard part heard.done acts ih
+    → awaited (awaits Cancelling) (done_by (Come part) (skips {T = T} (line n Cancelling h) ends u result) ∷ history (skips {T = T} (line n Cancelling h) ends u result).line acts) ≡ awaits (line_after (skips {T = T} (line n Cancelling h) ends u result).line acts).stage
+awaits_along_skips n h part ends u (Err fault) acts ih = ih (Broken (cause fault)) (left_by fault u)
+awaits_along_skips n h part false u (Ok heard) acts ih = ih Cancelling heard
+awaits_along_skips n h part true u (Ok heard) acts ih = awaits_along_skips_to_end n h heard part heard.done acts ih
 
 pub awaits_along : {T : Type 0} (n : ℕ) (s : Stage) (h : Heard) (acts : List (Act T)) → awaited (awaits s) (history (line n s h) acts) ≡ awaits (line_after (line n s h) acts).stage
 awaits_along n s h [] = refl
@@ -60,13 +62,13 @@ awaits_along n Reading h (Mark reset ∷ acts) = awaits_along n Reading h acts
 awaits_along n Reading h (Ask ∷ acts) = awaits_along n Reading h acts
 awaits_along n Reading h (Send last ∷ acts) = awaits_along n Reading h acts
 awaits_along n Reading h (Cancel ∷ acts) = awaits_along n Cancelling h acts
-awaits_along n Reading h (Come part ∷ acts) = awaits_along_reads n h part (is_end part.close) (hear_part false h part) acts (λ s h. awaits_along n s h acts)
+awaits_along n Reading h (Come part ∷ acts) = awaits_along_reads n h part (is_end part.close) (heard_until false h part.items) (hear_part false h part) acts (λ s h. awaits_along n s h acts)
 awaits_along n Reading h (Lose ∷ acts) = awaits_along n (Broken faults.Lost) h acts
 awaits_along n Cancelling h (Mark reset ∷ acts) = awaits_along n Cancelling h acts
 awaits_along n Cancelling h (Ask ∷ acts) = awaits_along n Cancelling h acts
 awaits_along n Cancelling h (Send last ∷ acts) = awaits_along n Cancelling h acts
 awaits_along n Cancelling h (Cancel ∷ acts) = awaits_along n Cancelling h acts
-awaits_along n Cancelling h (Come part ∷ acts) = awaits_along_skips n h part (is_end part.close) (hear_part true h part) acts (λ s h. awaits_along n s h acts)
+awaits_along n Cancelling h (Come part ∷ acts) = awaits_along_skips n h part (is_end part.close) (heard_until true h part.items) (hear_part true h part) acts (λ s h. awaits_along n s h acts)
 awaits_along n Cancelling h (Lose ∷ acts) = awaits_along n (Broken faults.Lost) h acts
 awaits_along n (Broken fault) h (Mark reset ∷ acts) = awaits_along n (Broken fault) h acts
 awaits_along n (Broken fault) h (Ask ∷ acts) = awaits_along n (Broken fault) h acts
@@ -123,9 +125,33 @@ idle_at {T} max before test c e idle =
 
 -- ---- Each call
 
-quiet_acts : {T : Type 0} (ts : List (Step T)) (s : Service) (test : Seat → Bool) (act : Act T) (seat : Option Seat) → LendsIdle ts (acts s test act seat).reply
-quiet_acts ts s test act None = tt
-quiet_acts ts s test act (Some c) = tt
+quiet_unless : {T : Type 0} (ts : List (Step T)) (s : Service) (test : Seat → Bool) (c : Seat) (all : List (Act T)) (why : Option ClientRefusal) → LendsIdle ts (acts_unless s test c all why).reply
+quiet_unless ts s test c all None = tt
+quiet_unless ts s test c all (Some why) = tt
+
+quiet_acts : {T : Type 0} (ts : List (Step T)) (s : Service) (test : Seat → Bool) (first : Act T) (all : List (Act T)) (seat : Option Seat) → LendsIdle ts (acts s test first all seat).reply
+quiet_acts ts s test first all None = tt
+quiet_acts ts s test first all (Some c) = quiet_unless ts s test c all (refusal_in (turn c.line first).answer)
+
+cleans_by : (T : Type 0) (ts : List (Step T)) (s : Service) (test : Seat → Bool) (c : Seat) (b : Bool) → is_lendable c ≡ b
+    → (is_lendable c ≡ true → awaited false (on c.number ts) ≡ false)
+    → let t = (if b then does {T = T} s (suc s.given) test c (Some (Cleaning (suc s.given))) (Mark Full ∷ []) (Lent (suc s.given) c.number true) else nothing s NotNow)
+    in LendsIdle ts t.reply
+cleans_by T ts s test c true e h = h e
+cleans_by T ts s test c false e h = tt
+
+cleans_one : (T : Type 0) (ts : List (Step T)) (s : Service) (test : Seat → Bool) (seat : Option Seat)
+    → ((c : Seat) → seat ≡ Some c → is_lendable c ≡ true → awaited false (on c.number ts) ≡ false) → LendsIdle ts (cleans {T = T} s test seat).reply
+cleans_one T ts s test None h = tt
+cleans_one T ts s test (Some c) h = cleans_by T ts s test c (is_lendable c) refl (h c refl)
+
+quiet_rests : (T : Type 0) (ts : List (Step T)) (s : Service) (test : Seat → Bool) (c : Seat) (place : Option (Option Place)) → LendsIdle ts (rests_cleaned {T = T} s test c place).reply
+quiet_rests T ts s test c None = tt
+quiet_rests T ts s test c (Some place) = tt
+
+quiet_cleaned : (T : Type 0) (ts : List (Step T)) (s : Service) (test : Seat → Bool) (seat : Option Seat) → LendsIdle ts (cleaned {T = T} s test seat).reply
+quiet_cleaned T ts s test None = tt
+quiet_cleaned T ts s test (Some c) = quiet_rests T ts s test c (clean_place c.place c.line)
 
 quiet_opens : (T : Type 0) (ts : List (Step T)) (s : Service) (room : Bool) → LendsIdle ts (opens {T = T} s room).reply
 quiet_opens T ts s false = tt
@@ -182,11 +208,21 @@ lends_idle {T} max before (calls.Resume ticket) =
     let s = service_after (new_service max) before in
     resumes_one T (steps (new_service max) before) s (has_ticket ticket) (find_by (has_ticket ticket) s.seats) (λ c e idle. idle_at max before (has_ticket ticket) c e idle)
 lends_idle {T} max before (calls.Ask lease) =
-    let s = service_after (new_service max) before in quiet_acts (steps (new_service max) before) s (has_lease lease) Ask (find_by (has_lease lease) s.seats)
-lends_idle {T} max before (calls.Send lease last) =
-    let s = service_after (new_service max) before in quiet_acts (steps (new_service max) before) s (has_lease lease) (Send last) (find_by (has_lease lease) s.seats)
+    let s = service_after (new_service max) before in quiet_acts (steps (new_service max) before) s (has_lease lease) Ask (Ask ∷ []) (find_by (has_lease lease) s.seats)
+lends_idle {T} max before (calls.Put lease count) =
+    let s = service_after (new_service max) before in quiet_acts (steps (new_service max) before) s (has_lease lease) (Send false) (packets count) (find_by (has_lease lease) s.seats)
+lends_idle {T} max before (calls.Finish lease count) =
+    let s = service_after (new_service max) before in
+    quiet_acts (steps (new_service max) before) s (has_lease lease) (Send true) (packets count ++ Send true ∷ []) (find_by (has_lease lease) s.seats)
+lends_idle {T} max before (calls.Clean number) =
+    let s = service_after (new_service max) before in
+    cleans_one T (steps (new_service max) before) s (has_number number) (find_by (has_number number) s.seats)
+    (λ c e may. idle_at max before (has_number number) c e (idle_both (is_free c.place) (is_idle c.line.stage) may))
+lends_idle {T} max before (calls.Cleaned lease) =
+    let s = service_after (new_service max) before in quiet_cleaned T (steps (new_service max) before) s (has_lease lease) (find_by (has_lease lease) s.seats)
+lends_idle {T} max before (calls.Without call) = tt
 lends_idle {T} max before (calls.Cancel lease) =
-    let s = service_after (new_service max) before in quiet_acts (steps (new_service max) before) s (has_lease lease) Cancel (find_by (has_lease lease) s.seats)
+    let s = service_after (new_service max) before in quiet_acts (steps (new_service max) before) s (has_lease lease) Cancel (Cancel ∷ []) (find_by (has_lease lease) s.seats)
 lends_idle {T} max before (calls.GiveBack lease) =
     let s = service_after (new_service max) before in quiet_back T (steps (new_service max) before) s (has_lease lease) (find_by (has_lease lease) s.seats)
 lends_idle {T} max before (calls.Keep lease) =

@@ -2,7 +2,7 @@
 use Rattle.std.proofs.Common.{◌≡◌, ◌∙◌, ℕ, Bool, true, false, List, [], ◌∷◌, refl, sym, ap, subst, inr}
 use Rattle.std.specs.Prelude.{Option, Some, if◌then◌else◌}
 use Rattle.tds_service.specs.Line.{new_line}
-use Rattle.tds_service.specs.Service.{Place, Leased, Kept, Free, Draining, Seat, new_service, Call, find_by, seat_numbered, has_lease, holds, service_after}
+use Rattle.tds_service.specs.Service.{Place, Leased, Cleaning, Kept, Free, Draining, Seat, new_service, Call, find_by, seat_numbered, has_lease, holds, service_after}
 use Rattle.tds_service.proofs.Alone.{is_found, same_number}
 use Rattle.tds_service.proofs.Idle.{behind}
 
@@ -11,12 +11,13 @@ meets_by : (test : Seat → Bool) (c d : Seat) (cs : List Seat) (b : Bool) → t
 meets_by test c d cs true e f ih = let same : c ≡ d = cc in ap test (sym same) ∙ e
 meets_by test c d cs false e f ih = ih f
 
-meets : (test : Seat → Bool) (cs : List Seat) (d : Seat) → find_by test cs ≡ Some d → test d ≡ true
+pub meets : (test : Seat → Bool) (cs : List Seat) (d : Seat) → find_by test cs ≡ Some d → test d ≡ true
 meets test [] d e = cc
 meets test (c ∷ cs) d e = meets_by test c d cs (test c) refl e (meets test cs d)
 
 same_lease : (a b : ℕ) (place : Place) → holds a place ≡ true → holds b place ≡ true → a ≡ b
 same_lease a b (Leased lease) e f = sym (same_number lease a e) ∙ same_number lease b f
+same_lease a b (Cleaning lease) e f = sym (same_number lease a e) ∙ same_number lease b f
 same_lease a b (Kept ticket) e f = cc
 same_lease a b Free e f = cc
 same_lease a b Draining e f = cc

@@ -1,4 +1,5 @@
 pub mod Tests
+pub mod Tables
 pub mod Pairing
 pub mod Walks
 pub mod Knowing
@@ -12,3 +13,4 @@ pub mod Lends
 pub mod Idle
 pub mod Leases
 pub mod Spent
+pub mod Owners

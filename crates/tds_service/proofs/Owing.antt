@@ -8,7 +8,7 @@ use Rattle.tds_listen.specs.declared.fault.ListenFault.{ListenFault}
 use Rattle.tds_client.specs.declared.heard.FinalDone.{FinalDone}
 use Rattle.tds_client.specs.declared.heard.FinalDone.TheVariants.{Awaited, Answered, Acknowledged}
 use Rattle.tds_client.specs.Hearing.{with_done}
-use Rattle.tds_service.specs.Parts.{Part, is_end, hear_part}
+use Rattle.tds_service.specs.Parts.{Part, is_end, hear_part, heard_until}
 use Rattle.tds_service.specs.Line.{Act, Mark, Ask, Send, Cancel, Come, Lose, Stage, Idle, Sending, Reading, Cancelling, Broken, reads, skips, skips_to_end, cause, left_by}
 use Rattle.tds_service.specs.History.{done_by, history}
 use Rattle.tds_service.specs.Promises.{Known, known_by_items, AsksAsOwed, LeavesNoneOwed, NamesAsHeard}
@@ -24,14 +24,14 @@ owed_broken n fault h k (Cancel ∷ acts) = (tt, owed_broken n fault h k acts)
 owed_broken n fault h k (Come part ∷ acts) = (tt, owed_broken n fault h (known_by_items k part.items) acts)
 owed_broken n fault h k (Lose ∷ acts) = (tt, owed_broken n fault h k acts)
 
-owed_reads : {T : Type 0} (n : ℕ) (h : Heard) (part : Part T) (ends : Bool) (result : Result Heard ListenFault) (acts : List (Act T))
+owed_reads : {T : Type 0} (n : ℕ) (h : Heard) (part : Part T) (ends : Bool) (u : Heard) (result : Result Heard ListenFault) (acts : List (Act T))
     → ((next : Heard) → result ≡ Ok next → known_of next ≡ known_by_items (known_of h) part.items)
     → ((s : Stage) (h : Heard) → AsksAsOwed (known_of h) (history (line n s h) acts))
     → ((f : ClientFault) (h : Heard) (k : Known) → AsksAsOwed k (history (line n (Broken f) h) acts))
-    → AsksAsOwed (known_of h) (done_by (Come part) (reads (line n Reading h) part ends result) ∷ history (reads (line n Reading h) part ends result).line acts)
-owed_reads n h part ends (Err fault) acts kn ih ib = (tt, ib (cause fault) (left_by fault h) (known_by_items (known_of h) part.items))
-owed_reads n h part false (Ok heard) acts kn ih ib = (tt, subst (λ (k : Known). AsksAsOwed k (history (line n Reading heard) acts)) (kn heard refl) (ih Reading heard))
-owed_reads n h part true (Ok heard) acts kn ih ib = (tt, subst (λ (k : Known). AsksAsOwed k (history (line n Idle (with_done heard Awaited)) acts)) (kn heard refl) (ih Idle (with_done heard Awaited)))
+    → AsksAsOwed (known_of h) (done_by (Come part) (reads (line n Reading h) part ends u result) ∷ history (reads (line n Reading h) part ends u result).line acts)
+owed_reads n h part ends u (Err fault) acts kn ih ib = (tt, ib (cause fault) (left_by fault u) (known_by_items (known_of h) part.items))
+owed_reads n h part false u (Ok heard) acts kn ih ib = (tt, subst (λ (k : Known). AsksAsOwed k (history (line n Reading heard) acts)) (kn heard refl) (ih Reading heard))
+owed_reads n h part true u (Ok heard) acts kn ih ib = (tt, subst (λ (k : Known). AsksAsOwed k (history (line n Idle (with_done heard Awaited)) acts)) (kn heard refl) (ih Idle (with_done heard Awaited)))
 
 owed_skips_to_end : {T : Type 0} (n : ℕ) (h heard : Heard) (part : Part T) (done : FinalDone) (acts : List (Act T))
     → known_of heard ≡ known_by_items (known_of h) part.items
@@ -42,14 +42,14 @@ owed_skips_to_end n h heard part Awaited acts kn ih ib = (tt, subst (λ (k : Kno
 owed_skips_to_end n h heard part Answered acts kn ih ib = (tt, subst (λ (k : Known). AsksAsOwed k (history (line n Cancelling (with_done heard Awaited)) acts)) (kn) (ih Cancelling (with_done heard Awaited)))
 owed_skips_to_end n h heard part Acknowledged acts kn ih ib = (tt, subst (λ (k : Known). AsksAsOwed k (history (line n Idle (with_done heard Awaited)) acts)) (kn) (ih Idle (with_done heard Awaited)))
 
-owed_skips : {T : Type 0} (n : ℕ) (h : Heard) (part : Part T) (ends : Bool) (result : Result Heard ListenFault) (acts : List (Act T))
+owed_skips : {T : Type 0} (n : ℕ) (h : Heard) (part : Part T) (ends : Bool) (u : Heard) (result : Result Heard ListenFault) (acts : List (Act T))
     → ((next : Heard) → result ≡ Ok next → known_of next ≡ known_by_items (known_of h) part.items)
     → ((s : Stage) (h : Heard) → AsksAsOwed (known_of h) (history (line n s h) acts))
     → ((f : ClientFault) (h : Heard) (k : Known) → AsksAsOwed k (history (line n (Broken f) h) acts))
-    → AsksAsOwed (known_of h) (done_by (Come part) (skips {T = T} (line n Cancelling h) ends result) ∷ history (skips {T = T} (line n Cancelling h) ends result).line acts)
-owed_skips n h part ends (Err fault) acts kn ih ib = (tt, ib (cause fault) (left_by fault h) (known_by_items (known_of h) part.items))
-owed_skips n h part false (Ok heard) acts kn ih ib = (tt, subst (λ (k : Known). AsksAsOwed k (history (line n Cancelling heard) acts)) (kn heard refl) (ih Cancelling heard))
-owed_skips n h part true (Ok heard) acts kn ih ib = owed_skips_to_end n h heard part heard.done acts (kn heard refl) ih ib
+    → AsksAsOwed (known_of h) (done_by (Come part) (skips {T = T} (line n Cancelling h) ends u result) ∷ history (skips {T = T} (line n Cancelling h) ends u result).line acts)
+owed_skips n h part ends u (Err fault) acts kn ih ib = (tt, ib (cause fault) (left_by fault u) (known_by_items (known_of h) part.items))
+owed_skips n h part false u (Ok heard) acts kn ih ib = (tt, subst (λ (k : Known). AsksAsOwed k (history (line n Cancelling heard) acts)) (kn heard refl) (ih Cancelling heard))
+owed_skips n h part true u (Ok heard) acts kn ih ib = owed_skips_to_end n h heard part heard.done acts (kn heard refl) ih ib
 
 pub owed : {T : Type 0} (n : ℕ) (s : Stage) (h : Heard) (acts : List (Act T)) → AsksAsOwed (known_of h) (history (line n s h) acts)
 owed n s h [] = tt
@@ -73,13 +73,13 @@ owed n Reading h (Mark reset ∷ acts) = (tt, owed n Reading h acts)
 owed n Reading h (Ask ∷ acts) = (tt, owed n Reading h acts)
 owed n Reading h (Send last ∷ acts) = (tt, owed n Reading h acts)
 owed n Reading h (Cancel ∷ acts) = (tt, owed n Cancelling h acts)
-owed n Reading h (Come part ∷ acts) = owed_reads n h part (is_end part.close) (hear_part false h part) acts (λ next. by_part false h next part) (λ s h. owed n s h acts) (λ f h k. owed_broken n f h k acts)
+owed n Reading h (Come part ∷ acts) = owed_reads n h part (is_end part.close) (heard_until false h part.items) (hear_part false h part) acts (λ next. by_part false h next part) (λ s h. owed n s h acts) (λ f h k. owed_broken n f h k acts)
 owed n Reading h (Lose ∷ acts) = (tt, owed_broken n faults.Lost h (known_of h) acts)
 owed n Cancelling h (Mark reset ∷ acts) = (tt, owed n Cancelling h acts)
 owed n Cancelling h (Ask ∷ acts) = (tt, owed n Cancelling h acts)
 owed n Cancelling h (Send last ∷ acts) = (tt, owed n Cancelling h acts)
 owed n Cancelling h (Cancel ∷ acts) = (tt, owed n Cancelling h acts)
-owed n Cancelling h (Come part ∷ acts) = owed_skips n h part (is_end part.close) (hear_part true h part) acts (λ next. by_part true h next part) (λ s h. owed n s h acts) (λ f h k. owed_broken n f h k acts)
+owed n Cancelling h (Come part ∷ acts) = owed_skips n h part (is_end part.close) (heard_until true h part.items) (hear_part true h part) acts (λ next. by_part true h next part) (λ s h. owed n s h acts) (λ f h k. owed_broken n f h k acts)
 owed n Cancelling h (Lose ∷ acts) = (tt, owed_broken n faults.Lost h (known_of h) acts)
 owed n (Broken fault) h acts = owed_broken n fault h (known_of h) acts
 
@@ -92,14 +92,14 @@ naming_broken n fault h k (Cancel ∷ acts) = (tt, naming_broken n fault h k act
 naming_broken n fault h k (Come part ∷ acts) = (tt, naming_broken n fault h (known_by_items k part.items) acts)
 naming_broken n fault h k (Lose ∷ acts) = (tt, naming_broken n fault h k acts)
 
-naming_reads : {T : Type 0} (n : ℕ) (h : Heard) (part : Part T) (ends : Bool) (result : Result Heard ListenFault) (acts : List (Act T))
+naming_reads : {T : Type 0} (n : ℕ) (h : Heard) (part : Part T) (ends : Bool) (u : Heard) (result : Result Heard ListenFault) (acts : List (Act T))
     → ((next : Heard) → result ≡ Ok next → known_of next ≡ known_by_items (known_of h) part.items)
     → ((s : Stage) (h : Heard) → NamesAsHeard (known_of h) (history (line n s h) acts))
     → ((f : ClientFault) (h : Heard) (k : Known) → NamesAsHeard k (history (line n (Broken f) h) acts))
-    → NamesAsHeard (known_of h) (done_by (Come part) (reads (line n Reading h) part ends result) ∷ history (reads (line n Reading h) part ends result).line acts)
-naming_reads n h part ends (Err fault) acts kn ih ib = (tt, ib (cause fault) (left_by fault h) (known_by_items (known_of h) part.items))
-naming_reads n h part false (Ok heard) acts kn ih ib = (tt, subst (λ (k : Known). NamesAsHeard k (history (line n Reading heard) acts)) (kn heard refl) (ih Reading heard))
-naming_reads n h part true (Ok heard) acts kn ih ib = (tt, subst (λ (k : Known). NamesAsHeard k (history (line n Idle (with_done heard Awaited)) acts)) (kn heard refl) (ih Idle (with_done heard Awaited)))
+    → NamesAsHeard (known_of h) (done_by (Come part) (reads (line n Reading h) part ends u result) ∷ history (reads (line n Reading h) part ends u result).line acts)
+naming_reads n h part ends u (Err fault) acts kn ih ib = (tt, ib (cause fault) (left_by fault u) (known_by_items (known_of h) part.items))
+naming_reads n h part false u (Ok heard) acts kn ih ib = (tt, subst (λ (k : Known). NamesAsHeard k (history (line n Reading heard) acts)) (kn heard refl) (ih Reading heard))
+naming_reads n h part true u (Ok heard) acts kn ih ib = (tt, subst (λ (k : Known). NamesAsHeard k (history (line n Idle (with_done heard Awaited)) acts)) (kn heard refl) (ih Idle (with_done heard Awaited)))
 
 naming_skips_to_end : {T : Type 0} (n : ℕ) (h heard : Heard) (part : Part T) (done : FinalDone) (acts : List (Act T))
     → known_of heard ≡ known_by_items (known_of h) part.items
@@ -110,14 +110,14 @@ naming_skips_to_end n h heard part Awaited acts kn ih ib = (tt, subst (λ (k : K
 naming_skips_to_end n h heard part Answered acts kn ih ib = (tt, subst (λ (k : Known). NamesAsHeard k (history (line n Cancelling (with_done heard Awaited)) acts)) (kn) (ih Cancelling (with_done heard Awaited)))
 naming_skips_to_end n h heard part Acknowledged acts kn ih ib = (tt, subst (λ (k : Known). NamesAsHeard k (history (line n Idle (with_done heard Awaited)) acts)) (kn) (ih Idle (with_done heard Awaited)))
 
-naming_skips : {T : Type 0} (n : ℕ) (h : Heard) (part : Part T) (ends : Bool) (result : Result Heard ListenFault) (acts : List (Act T))
+naming_skips : {T : Type 0} (n : ℕ) (h : Heard) (part : Part T) (ends : Bool) (u : Heard) (result : Result Heard ListenFault) (acts : List (Act T))
     → ((next : Heard) → result ≡ Ok next → known_of next ≡ known_by_items (known_of h) part.items)
     → ((s : Stage) (h : Heard) → NamesAsHeard (known_of h) (history (line n s h) acts))
     → ((f : ClientFault) (h : Heard) (k : Known) → NamesAsHeard k (history (line n (Broken f) h) acts))
-    → NamesAsHeard (known_of h) (done_by (Come part) (skips {T = T} (line n Cancelling h) ends result) ∷ history (skips {T = T} (line n Cancelling h) ends result).line acts)
-naming_skips n h part ends (Err fault) acts kn ih ib = (tt, ib (cause fault) (left_by fault h) (known_by_items (known_of h) part.items))
-naming_skips n h part false (Ok heard) acts kn ih ib = (tt, subst (λ (k : Known). NamesAsHeard k (history (line n Cancelling heard) acts)) (kn heard refl) (ih Cancelling heard))
-naming_skips n h part true (Ok heard) acts kn ih ib = naming_skips_to_end n h heard part heard.done acts (kn heard refl) ih ib
+    → NamesAsHeard (known_of h) (done_by (Come part) (skips {T = T} (line n Cancelling h) ends u result) ∷ history (skips {T = T} (line n Cancelling h) ends u result).line acts)
+naming_skips n h part ends u (Err fault) acts kn ih ib = (tt, ib (cause fault) (left_by fault u) (known_by_items (known_of h) part.items))
+naming_skips n h part false u (Ok heard) acts kn ih ib = (tt, subst (λ (k : Known). NamesAsHeard k (history (line n Cancelling heard) acts)) (kn heard refl) (ih Cancelling heard))
+naming_skips n h part true u (Ok heard) acts kn ih ib = naming_skips_to_end n h heard part heard.done acts (kn heard refl) ih ib
 
 pub naming : {T : Type 0} (n : ℕ) (s : Stage) (h : Heard) (acts : List (Act T)) → NamesAsHeard (known_of h) (history (line n s h) acts)
 naming n s h [] = tt
@@ -141,13 +141,13 @@ naming n Reading h (Mark reset ∷ acts) = (tt, naming n Reading h acts)
 naming n Reading h (Ask ∷ acts) = (tt, naming n Reading h acts)
 naming n Reading h (Send last ∷ acts) = (tt, naming n Reading h acts)
 naming n Reading h (Cancel ∷ acts) = (tt, naming n Cancelling h acts)
-naming n Reading h (Come part ∷ acts) = naming_reads n h part (is_end part.close) (hear_part false h part) acts (λ next. by_part false h next part) (λ s h. naming n s h acts) (λ f h k. naming_broken n f h k acts)
+naming n Reading h (Come part ∷ acts) = naming_reads n h part (is_end part.close) (heard_until false h part.items) (hear_part false h part) acts (λ next. by_part false h next part) (λ s h. naming n s h acts) (λ f h k. naming_broken n f h k acts)
 naming n Reading h (Lose ∷ acts) = (tt, naming_broken n faults.Lost h (known_of h) acts)
 naming n Cancelling h (Mark reset ∷ acts) = (tt, naming n Cancelling h acts)
 naming n Cancelling h (Ask ∷ acts) = (tt, naming n Cancelling h acts)
 naming n Cancelling h (Send last ∷ acts) = (tt, naming n Cancelling h acts)
 naming n Cancelling h (Cancel ∷ acts) = (tt, naming n Cancelling h acts)
-naming n Cancelling h (Come part ∷ acts) = naming_skips n h part (is_end part.close) (hear_part true h part) acts (λ next. by_part true h next part) (λ s h. naming n s h acts) (λ f h k. naming_broken n f h k acts)
+naming n Cancelling h (Come part ∷ acts) = naming_skips n h part (is_end part.close) (heard_until true h part.items) (hear_part true h part) acts (λ next. by_part true h next part) (λ s h. naming n s h acts) (λ f h k. naming_broken n f h k acts)
 naming n Cancelling h (Lose ∷ acts) = (tt, naming_broken n faults.Lost h (known_of h) acts)
 naming n (Broken fault) h acts = naming_broken n fault h (known_of h) acts
 
@@ -160,15 +160,15 @@ paid_broken n fault h k (Cancel ∷ acts) = (tt, paid_broken n fault h k acts)
 paid_broken n fault h k (Come part ∷ acts) = (tt, paid_broken n fault h (known_by_items k part.items) acts)
 paid_broken n fault h k (Lose ∷ acts) = (tt, paid_broken n fault h k acts)
 
-paid_reads : {T : Type 0} (n : ℕ) (h : Heard) (part : Part T) (ends : Bool) (result : Result Heard ListenFault) (acts : List (Act T))
+paid_reads : {T : Type 0} (n : ℕ) (h : Heard) (part : Part T) (ends : Bool) (u : Heard) (result : Result Heard ListenFault) (acts : List (Act T))
     → ((next : Heard) → result ≡ Ok next → known_of next ≡ known_by_items (known_of h) part.items)
     → ((next : Heard) → result ≡ Ok next → ends ≡ true → next.mark ≡ None)
     → ((s : Stage) (h : Heard) → LeavesNoneOwed (known_of h) (history (line n s h) acts))
     → ((f : ClientFault) (h : Heard) (k : Known) → LeavesNoneOwed k (history (line n (Broken f) h) acts))
-    → LeavesNoneOwed (known_of h) (done_by (Come part) (reads (line n Reading h) part ends result) ∷ history (reads (line n Reading h) part ends result).line acts)
-paid_reads n h part ends (Err fault) acts kn pays ih ib = (tt, ib (cause fault) (left_by fault h) (known_by_items (known_of h) part.items))
-paid_reads n h part false (Ok heard) acts kn pays ih ib = (tt, subst (λ (k : Known). LeavesNoneOwed k (history (line n Reading heard) acts)) (kn heard refl) (ih Reading heard))
-paid_reads n h part true (Ok heard) acts kn pays ih ib = (sym (ap (λ (k : Known). k.owed) (kn heard refl)) ∙ pays heard refl refl, subst (λ (k : Known). LeavesNoneOwed k (history (line n Idle (with_done heard Awaited)) acts)) (kn heard refl) (ih Idle (with_done heard Awaited)))
+    → LeavesNoneOwed (known_of h) (done_by (Come part) (reads (line n Reading h) part ends u result) ∷ history (reads (line n Reading h) part ends u result).line acts)
+paid_reads n h part ends u (Err fault) acts kn pays ih ib = (tt, ib (cause fault) (left_by fault u) (known_by_items (known_of h) part.items))
+paid_reads n h part false u (Ok heard) acts kn pays ih ib = (tt, subst (λ (k : Known). LeavesNoneOwed k (history (line n Reading heard) acts)) (kn heard refl) (ih Reading heard))
+paid_reads n h part true u (Ok heard) acts kn pays ih ib = (sym (ap (λ (k : Known). k.owed) (kn heard refl)) ∙ pays heard refl refl, subst (λ (k : Known). LeavesNoneOwed k (history (line n Idle (with_done heard Awaited)) acts)) (kn heard refl) (ih Idle (with_done heard Awaited)))
 
 paid_skips_to_end : {T : Type 0} (n : ℕ) (h heard : Heard) (part : Part T) (done : FinalDone) (acts : List (Act T))
     → known_of heard ≡ known_by_items (known_of h) part.items
@@ -179,14 +179,14 @@ paid_skips_to_end n h heard part Awaited acts kn ih ib = (tt, subst (λ (k : Kno
 paid_skips_to_end n h heard part Answered acts kn ih ib = (tt, subst (λ (k : Known). LeavesNoneOwed k (history (line n Cancelling (with_done heard Awaited)) acts)) (kn) (ih Cancelling (with_done heard Awaited)))
 paid_skips_to_end n h heard part Acknowledged acts kn ih ib = (tt, subst (λ (k : Known). LeavesNoneOwed k (history (line n Idle (with_done heard Awaited)) acts)) (kn) (ih Idle (with_done heard Awaited)))
 
-paid_skips : {T : Type 0} (n : ℕ) (h : Heard) (part : Part T) (ends : Bool) (result : Result Heard ListenFault) (acts : List (Act T))
+paid_skips : {T : Type 0} (n : ℕ) (h : Heard) (part : Part T) (ends : Bool) (u : Heard) (result : Result Heard ListenFault) (acts : List (Act T))
     → ((next : Heard) → result ≡ Ok next → known_of next ≡ known_by_items (known_of h) part.items)
     → ((s : Stage) (h : Heard) → LeavesNoneOwed (known_of h) (history (line n s h) acts))
     → ((f : ClientFault) (h : Heard) (k : Known) → LeavesNoneOwed k (history (line n (Broken f) h) acts))
-    → LeavesNoneOwed (known_of h) (done_by (Come part) (skips {T = T} (line n Cancelling h) ends result) ∷ history (skips {T = T} (line n Cancelling h) ends result).line acts)
-paid_skips n h part ends (Err fault) acts kn ih ib = (tt, ib (cause fault) (left_by fault h) (known_by_items (known_of h) part.items))
-paid_skips n h part false (Ok heard) acts kn ih ib = (tt, subst (λ (k : Known). LeavesNoneOwed k (history (line n Cancelling heard) acts)) (kn heard refl) (ih Cancelling heard))
-paid_skips n h part true (Ok heard) acts kn ih ib = paid_skips_to_end n h heard part heard.done acts (kn heard refl) ih ib
+    → LeavesNoneOwed (known_of h) (done_by (Come part) (skips {T = T} (line n Cancelling h) ends u result) ∷ history (skips {T = T} (line n Cancelling h) ends u result).line acts)
+paid_skips n h part ends u (Err fault) acts kn ih ib = (tt, ib (cause fault) (left_by fault u) (known_by_items (known_of h) part.items))
+paid_skips n h part false u (Ok heard) acts kn ih ib = (tt, subst (λ (k : Known). LeavesNoneOwed k (history (line n Cancelling heard) acts)) (kn heard refl) (ih Cancelling heard))
+paid_skips n h part true u (Ok heard) acts kn ih ib = paid_skips_to_end n h heard part heard.done acts (kn heard refl) ih ib
 
 pub paid : {T : Type 0} (n : ℕ) (s : Stage) (h : Heard) (acts : List (Act T)) → LeavesNoneOwed (known_of h) (history (line n s h) acts)
 paid n s h [] = tt
@@ -210,12 +210,12 @@ paid n Reading h (Mark reset ∷ acts) = (tt, paid n Reading h acts)
 paid n Reading h (Ask ∷ acts) = (tt, paid n Reading h acts)
 paid n Reading h (Send last ∷ acts) = (tt, paid n Reading h acts)
 paid n Reading h (Cancel ∷ acts) = (tt, paid n Cancelling h acts)
-paid n Reading h (Come part ∷ acts) = paid_reads n h part (is_end part.close) (hear_part false h part) acts (λ next. by_part false h next part) (λ next e ends. (part_heard false h next part e).paid ends refl) (λ s h. paid n s h acts) (λ f h k. paid_broken n f h k acts)
+paid n Reading h (Come part ∷ acts) = paid_reads n h part (is_end part.close) (heard_until false h part.items) (hear_part false h part) acts (λ next. by_part false h next part) (λ next e ends. (part_heard false h next part e).paid ends refl) (λ s h. paid n s h acts) (λ f h k. paid_broken n f h k acts)
 paid n Reading h (Lose ∷ acts) = (tt, paid_broken n faults.Lost h (known_of h) acts)
 paid n Cancelling h (Mark reset ∷ acts) = (tt, paid n Cancelling h acts)
 paid n Cancelling h (Ask ∷ acts) = (tt, paid n Cancelling h acts)
 paid n Cancelling h (Send last ∷ acts) = (tt, paid n Cancelling h acts)
 paid n Cancelling h (Cancel ∷ acts) = (tt, paid n Cancelling h acts)
-paid n Cancelling h (Come part ∷ acts) = paid_skips n h part (is_end part.close) (hear_part true h part) acts (λ next. by_part true h next part) (λ s h. paid n s h acts) (λ f h k. paid_broken n f h k acts)
+paid n Cancelling h (Come part ∷ acts) = paid_skips n h part (is_end part.close) (heard_until true h part.items) (hear_part true h part) acts (λ next. by_part true h next part) (λ s h. paid n s h acts) (λ f h k. paid_broken n f h k acts)
 paid n Cancelling h (Lose ∷ acts) = (tt, paid_broken n faults.Lost h (known_of h) acts)
 paid n (Broken fault) h acts = paid_broken n fault h (known_of h) acts

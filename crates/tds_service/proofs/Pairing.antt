@@ -9,7 +9,7 @@ use Rattle.tds_listen.specs.declared.fault.ListenFault.{ListenFault}
 use Rattle.tds_client.specs.declared.heard.FinalDone.{FinalDone}
 use Rattle.tds_client.specs.declared.heard.FinalDone.TheVariants.{Awaited, Answered, Acknowledged}
 use Rattle.tds_client.specs.Hearing.{with_done}
-use Rattle.tds_service.specs.Parts.{Part, is_end, told, hear_part}
+use Rattle.tds_service.specs.Parts.{Part, is_end, told, hear_part, heard_until}
 use Rattle.tds_service.specs.Line.{Line, new_line, Act, Mark, Ask, Send, Cancel, Come, Lose, Stage, Idle, Sending, Reading, Cancelling, Broken, reads, skips, skips_to_end, cause, left_by}
 use Rattle.tds_service.specs.History.{Done, done_by, history, given, told_to}
 use Rattle.tds_service.specs.Promises.{Paired, message_of, next_message, leaves_off}
@@ -30,12 +30,12 @@ IsPast Reading n r = r < n
 IsPast Cancelling n r = r ≤ n
 IsPast (Broken fault) n r = Unit {0}
 
-past_reads : {T : Type 0} (n r : ℕ) (h : Heard) (part : Part T) (ends : Bool) (result : Result Heard ListenFault) (acts : List (Act T)) → r < n
+past_reads : {T : Type 0} (n r : ℕ) (h : Heard) (part : Part T) (ends : Bool) (u : Heard) (result : Result Heard ListenFault) (acts : List (Act T)) → r < n
     → ((s : Stage) (h : Heard) → IsPast s n r → given r (history (line n s h) acts) ≡ [])
-    → told_to r (reads (line n Reading h) part ends result).told ++ given r (history (reads (line n Reading h) part ends result).line acts) ≡ []
-past_reads n r h part ends (Err fault) acts p ih = ih (Broken (cause fault)) (left_by fault h) tt
-past_reads n r h part false (Ok heard) acts p ih = rw (below n r p) (ih Reading heard p)
-past_reads n r h part true (Ok heard) acts p ih = rw (below n r p) (ih Idle (with_done heard Awaited) (omega arith))
+    → told_to r (reads (line n Reading h) part ends u result).told ++ given r (history (reads (line n Reading h) part ends u result).line acts) ≡ []
+past_reads n r h part ends u (Err fault) acts p ih = ih (Broken (cause fault)) (left_by fault u) tt
+past_reads n r h part false u (Ok heard) acts p ih = rw (below n r p) (ih Reading heard p)
+past_reads n r h part true u (Ok heard) acts p ih = rw (below n r p) (ih Idle (with_done heard Awaited) (omega arith))
 
 past_skips_to_end : {T : Type 0} (n r : ℕ) (h heard : Heard) (done : FinalDone) (acts : List (Act T)) → r ≤ n
     → ((s : Stage) (h : Heard) → IsPast s n r → given r (history (line n s h) acts) ≡ [])
@@ -44,12 +44,12 @@ past_skips_to_end n r h heard Awaited acts p ih = ih Cancelling (with_done heard
 past_skips_to_end n r h heard Answered acts p ih = ih Cancelling (with_done heard Awaited) p
 past_skips_to_end n r h heard Acknowledged acts p ih = ih Idle (with_done heard Awaited) p
 
-past_skips : {T : Type 0} (n r : ℕ) (h : Heard) (ends : Bool) (result : Result Heard ListenFault) (acts : List (Act T)) → r ≤ n
+past_skips : {T : Type 0} (n r : ℕ) (h : Heard) (ends : Bool) (u : Heard) (result : Result Heard ListenFault) (acts : List (Act T)) → r ≤ n
     → ((s : Stage) (h : Heard) → IsPast s n r → given r (history (line n s h) acts) ≡ [])
-    → told_to r (skips {T = T} (line n Cancelling h) ends result).told ++ given r (history (skips {T = T} (line n Cancelling h) ends result).line acts) ≡ []
-past_skips n r h ends (Err fault) acts p ih = ih (Broken (cause fault)) (left_by fault h) tt
-past_skips n r h false (Ok heard) acts p ih = ih Cancelling heard p
-past_skips n r h true (Ok heard) acts p ih = past_skips_to_end n r h heard heard.done acts p ih
+    → told_to r (skips {T = T} (line n Cancelling h) ends u result).told ++ given r (history (skips {T = T} (line n Cancelling h) ends u result).line acts) ≡ []
+past_skips n r h ends u (Err fault) acts p ih = ih (Broken (cause fault)) (left_by fault u) tt
+past_skips n r h false u (Ok heard) acts p ih = ih Cancelling heard p
+past_skips n r h true u (Ok heard) acts p ih = past_skips_to_end n r h heard heard.done acts p ih
 
 pub past : {T : Type 0} (n r : ℕ) (s : Stage) (h : Heard) (acts : List (Act T)) → IsPast s n r → given r (history (line n s h) acts) ≡ []
 past n r s h [] p = refl
@@ -71,13 +71,13 @@ past n r Reading h (Mark reset ∷ acts) p = past n r Reading h acts p
 past n r Reading h (Ask ∷ acts) p = past n r Reading h acts p
 past n r Reading h (Send last ∷ acts) p = past n r Reading h acts p
 past n r Reading h (Cancel ∷ acts) p = past n r Cancelling h acts (omega arith)
-past n r Reading h (Come part ∷ acts) p = past_reads n r h part (is_end part.close) (hear_part false h part) acts p (λ s h q. past n r s h acts q)
+past n r Reading h (Come part ∷ acts) p = past_reads n r h part (is_end part.close) (heard_until false h part.items) (hear_part false h part) acts p (λ s h q. past n r s h acts q)
 past n r Reading h (Lose ∷ acts) p = past n r (Broken faults.Lost) h acts tt
 past n r Cancelling h (Mark reset ∷ acts) p = past n r Cancelling h acts p
 past n r Cancelling h (Ask ∷ acts) p = past n r Cancelling h acts p
 past n r Cancelling h (Send last ∷ acts) p = past n r Cancelling h acts p
 past n r Cancelling h (Cancel ∷ acts) p = past n r Cancelling h acts p
-past n r Cancelling h (Come part ∷ acts) p = past_skips n r h (is_end part.close) (hear_part true h part) acts p (λ s h q. past n r s h acts q)
+past n r Cancelling h (Come part ∷ acts) p = past_skips n r h (is_end part.close) (heard_until true h part.items) (hear_part true h part) acts p (λ s h q. past n r s h acts q)
 past n r Cancelling h (Lose ∷ acts) p = past n r (Broken faults.Lost) h acts tt
 past n r (Broken fault) h (Mark reset ∷ acts) p = past n r (Broken fault) h acts tt
 past n r (Broken fault) h (Ask ∷ acts) p = past n r (Broken fault) h acts tt
@@ -95,12 +95,12 @@ IsOver Reading n r = r ≤ n
 IsOver Cancelling n r = r ≤ n
 IsOver (Broken fault) n r = Unit {0}
 
-over_reads : {T : Type 0} (n r : ℕ) (h : Heard) (part : Part T) (ends : Bool) (result : Result Heard ListenFault) (acts : List (Act T)) → r ≤ n
+over_reads : {T : Type 0} (n r : ℕ) (h : Heard) (part : Part T) (ends : Bool) (u : Heard) (result : Result Heard ListenFault) (acts : List (Act T)) → r ≤ n
     → ((s : Stage) (h : Heard) → IsOver s n r → message_of r (history (line n s h) acts) ≡ [])
-    → message_of r (done_by (Come part) (reads (line n Reading h) part ends result) ∷ history (reads (line n Reading h) part ends result).line acts) ≡ []
-over_reads n r h part ends (Err fault) acts p ih = ih (Broken (cause fault)) (left_by fault h) tt
-over_reads n r h part false (Ok heard) acts p ih = ih Reading heard p
-over_reads n r h part true (Ok heard) acts p ih = ih Idle (with_done heard Awaited) p
+    → message_of r (done_by (Come part) (reads (line n Reading h) part ends u result) ∷ history (reads (line n Reading h) part ends u result).line acts) ≡ []
+over_reads n r h part ends u (Err fault) acts p ih = ih (Broken (cause fault)) (left_by fault u) tt
+over_reads n r h part false u (Ok heard) acts p ih = ih Reading heard p
+over_reads n r h part true u (Ok heard) acts p ih = ih Idle (with_done heard Awaited) p
 
 over_skips_to_end : {T : Type 0} (n r : ℕ) (h heard : Heard) (part : Part T) (done : FinalDone) (acts : List (Act T)) → r ≤ n
     → ((s : Stage) (h : Heard) → IsOver s n r → message_of r (history (line n s h) acts) ≡ [])
@@ -109,12 +109,12 @@ over_skips_to_end n r h heard part Awaited acts p ih = ih Cancelling (with_done 
 over_skips_to_end n r h heard part Answered acts p ih = ih Cancelling (with_done heard Awaited) p
 over_skips_to_end n r h heard part Acknowledged acts p ih = ih Idle (with_done heard Awaited) p
 
-over_skips : {T : Type 0} (n r : ℕ) (h : Heard) (part : Part T) (ends : Bool) (result : Result Heard ListenFault) (acts : List (Act T)) → r ≤ n
+over_skips : {T : Type 0} (n r : ℕ) (h : Heard) (part : Part T) (ends : Bool) (u : Heard) (result : Result Heard ListenFault) (acts : List (Act T)) → r ≤ n
     → ((s : Stage) (h : Heard) → IsOver s n r → message_of r (history (line n s h) acts) ≡ [])
-    → message_of r (done_by (Come part) (skips (line n Cancelling h) ends result) ∷ history (skips {T = T} (line n Cancelling h) ends result).line acts) ≡ []
-over_skips n r h part ends (Err fault) acts p ih = ih (Broken (cause fault)) (left_by fault h) tt
-over_skips n r h part false (Ok heard) acts p ih = ih Cancelling heard p
-over_skips n r h part true (Ok heard) acts p ih = over_skips_to_end n r h heard part heard.done acts p ih
+    → message_of r (done_by (Come part) (skips (line n Cancelling h) ends u result) ∷ history (skips {T = T} (line n Cancelling h) ends u result).line acts) ≡ []
+over_skips n r h part ends u (Err fault) acts p ih = ih (Broken (cause fault)) (left_by fault u) tt
+over_skips n r h part false u (Ok heard) acts p ih = ih Cancelling heard p
+over_skips n r h part true u (Ok heard) acts p ih = over_skips_to_end n r h heard part heard.done acts p ih
 
 pub over : {T : Type 0} (n r : ℕ) (s : Stage) (h : Heard) (acts : List (Act T)) → IsOver s n r → message_of r (history (line n s h) acts) ≡ []
 over n r s h [] p = refl
@@ -136,13 +136,13 @@ over n r Reading h (Mark reset ∷ acts) p = over n r Reading h acts p
 over n r Reading h (Ask ∷ acts) p = over n r Reading h acts p
 over n r Reading h (Send last ∷ acts) p = over n r Reading h acts p
 over n r Reading h (Cancel ∷ acts) p = over n r Cancelling h acts p
-over n r Reading h (Come part ∷ acts) p = over_reads n r h part (is_end part.close) (hear_part false h part) acts p (λ s h q. over n r s h acts q)
+over n r Reading h (Come part ∷ acts) p = over_reads n r h part (is_end part.close) (heard_until false h part.items) (hear_part false h part) acts p (λ s h q. over n r s h acts q)
 over n r Reading h (Lose ∷ acts) p = over n r (Broken faults.Lost) h acts tt
 over n r Cancelling h (Mark reset ∷ acts) p = over n r Cancelling h acts p
 over n r Cancelling h (Ask ∷ acts) p = over n r Cancelling h acts p
 over n r Cancelling h (Send last ∷ acts) p = over n r Cancelling h acts p
 over n r Cancelling h (Cancel ∷ acts) p = over n r Cancelling h acts p
-over n r Cancelling h (Come part ∷ acts) p = over_skips n r h part (is_end part.close) (hear_part true h part) acts p (λ s h q. over n r s h acts q)
+over n r Cancelling h (Come part ∷ acts) p = over_skips n r h part (is_end part.close) (heard_until true h part.items) (hear_part true h part) acts p (λ s h q. over n r s h acts q)
 over n r Cancelling h (Lose ∷ acts) p = over n r (Broken faults.Lost) h acts tt
 over n r (Broken fault) h (Mark reset ∷ acts) p = over n r (Broken fault) h acts tt
 over n r (Broken fault) h (Ask ∷ acts) p = over n r (Broken fault) h acts tt
@@ -153,14 +153,14 @@ over n r (Broken fault) h (Lose ∷ acts) p = over n r (Broken fault) h acts tt
 
 -- ---- The request whose answer is awaited
 
-now_reads : {T : Type 0} (n : ℕ) (h : Heard) (part : Part T) (ends : Bool) (result : Result Heard ListenFault) (acts : List (Act T))
+now_reads : {T : Type 0} (n : ℕ) (h : Heard) (part : Part T) (ends : Bool) (u : Heard) (result : Result Heard ListenFault) (acts : List (Act T))
     → ((h : Heard) → given n (history (line n Reading h) acts) ≡ next_message (history (line n Reading h) acts))
-    → told_to n (reads (line n Reading h) part ends result).told ++ given n (history (reads (line n Reading h) part ends result).line acts)
-    ≡ (if leaves_off (reads (line n Reading h) part ends result).answer then []
-    else (told part.items ++ (if ends then [] else next_message (history (reads (line n Reading h) part ends result).line acts))))
-now_reads n h part ends (Err fault) acts ih = past n n (Broken (cause fault)) (left_by fault h) acts tt
-now_reads n h part false (Ok heard) acts ih = rw (same n) (ap (λ xs. told part.items ++ xs) (ih heard))
-now_reads n h part true (Ok heard) acts ih = rw (same n) (ap (λ xs. told part.items ++ xs) (past n n Idle (with_done heard Awaited) acts (omega arith)))
+    → told_to n (reads (line n Reading h) part ends u result).told ++ given n (history (reads (line n Reading h) part ends u result).line acts)
+    ≡ (if leaves_off (reads (line n Reading h) part ends u result).answer then []
+    else (told part.items ++ (if ends then [] else next_message (history (reads (line n Reading h) part ends u result).line acts))))
+now_reads n h part ends u (Err fault) acts ih = past n n (Broken (cause fault)) (left_by fault u) acts tt
+now_reads n h part false u (Ok heard) acts ih = rw (same n) (ap (λ xs. told part.items ++ xs) (ih heard))
+now_reads n h part true u (Ok heard) acts ih = rw (same n) (ap (λ xs. told part.items ++ xs) (past n n Idle (with_done heard Awaited) acts (omega arith)))
 
 pub now : {T : Type 0} (n : ℕ) (h : Heard) (acts : List (Act T)) → given n (history (line n Reading h) acts) ≡ next_message (history (line n Reading h) acts)
 now n h [] = refl
@@ -168,7 +168,7 @@ now n h (Mark reset ∷ acts) = now n h acts
 now n h (Ask ∷ acts) = now n h acts
 now n h (Send last ∷ acts) = now n h acts
 now n h (Cancel ∷ acts) = past n n Cancelling h acts (omega arith)
-now n h (Come part ∷ acts) = now_reads n h part (is_end part.close) (hear_part false h part) acts (λ h. now n h acts)
+now n h (Come part ∷ acts) = now_reads n h part (is_end part.close) (heard_until false h part.items) (hear_part false h part) acts (λ h. now n h acts)
 now n h (Lose ∷ acts) = past n n (Broken faults.Lost) h acts tt
 
 -- ---- Requests to come
@@ -195,13 +195,13 @@ left n r rest p one other later = elim (cases n r p) [
   | inr lt ↦ later lt
 ]
 
-next_reads : {T : Type 0} (n r : ℕ) (h : Heard) (part : Part T) (ends : Bool) (result : Result Heard ListenFault) (acts : List (Act T)) → n < r
+next_reads : {T : Type 0} (n r : ℕ) (h : Heard) (part : Part T) (ends : Bool) (u : Heard) (result : Result Heard ListenFault) (acts : List (Act T)) → n < r
     → ((s : Stage) (h : Heard) → IsNext s n r → given r (history (line n s h) acts) ≡ message_of r (history (line n s h) acts))
-    → told_to r (reads (line n Reading h) part ends result).told ++ given r (history (reads (line n Reading h) part ends result).line acts)
-    ≡ message_of r (done_by (Come part) (reads (line n Reading h) part ends result) ∷ history (reads (line n Reading h) part ends result).line acts)
-next_reads n r h part ends (Err fault) acts p ih = ih (Broken (cause fault)) (left_by fault h) tt
-next_reads n r h part false (Ok heard) acts p ih = rw (above n r p) (ih Reading heard p)
-next_reads n r h part true (Ok heard) acts p ih = rw (above n r p) (ih Idle (with_done heard Awaited) p)
+    → told_to r (reads (line n Reading h) part ends u result).told ++ given r (history (reads (line n Reading h) part ends u result).line acts)
+    ≡ message_of r (done_by (Come part) (reads (line n Reading h) part ends u result) ∷ history (reads (line n Reading h) part ends u result).line acts)
+next_reads n r h part ends u (Err fault) acts p ih = ih (Broken (cause fault)) (left_by fault u) tt
+next_reads n r h part false u (Ok heard) acts p ih = rw (above n r p) (ih Reading heard p)
+next_reads n r h part true u (Ok heard) acts p ih = rw (above n r p) (ih Idle (with_done heard Awaited) p)
 
 next_skips_to_end : {T : Type 0} (n r : ℕ) (h heard : Heard) (part : Part T) (done : FinalDone) (acts : List (Act T)) → n < r
     → ((s : Stage) (h : Heard) → IsNext s n r → given r (history (line n s h) acts) ≡ message_of r (history (line n s h) acts))
@@ -211,13 +211,13 @@ next_skips_to_end n r h heard part Awaited acts p ih = ih Cancelling (with_done 
 next_skips_to_end n r h heard part Answered acts p ih = ih Cancelling (with_done heard Awaited) p
 next_skips_to_end n r h heard part Acknowledged acts p ih = ih Idle (with_done heard Awaited) p
 
-next_skips : {T : Type 0} (n r : ℕ) (h : Heard) (part : Part T) (ends : Bool) (result : Result Heard ListenFault) (acts : List (Act T)) → n < r
+next_skips : {T : Type 0} (n r : ℕ) (h : Heard) (part : Part T) (ends : Bool) (u : Heard) (result : Result Heard ListenFault) (acts : List (Act T)) → n < r
     → ((s : Stage) (h : Heard) → IsNext s n r → given r (history (line n s h) acts) ≡ message_of r (history (line n s h) acts))
-    → told_to r (skips {T = T} (line n Cancelling h) ends result).told ++ given r (history (skips {T = T} (line n Cancelling h) ends result).line acts)
-    ≡ message_of r (done_by (Come part) (skips (line n Cancelling h) ends result) ∷ history (skips {T = T} (line n Cancelling h) ends result).line acts)
-next_skips n r h part ends (Err fault) acts p ih = ih (Broken (cause fault)) (left_by fault h) tt
-next_skips n r h part false (Ok heard) acts p ih = ih Cancelling heard p
-next_skips n r h part true (Ok heard) acts p ih = next_skips_to_end n r h heard part heard.done acts p ih
+    → told_to r (skips {T = T} (line n Cancelling h) ends u result).told ++ given r (history (skips {T = T} (line n Cancelling h) ends u result).line acts)
+    ≡ message_of r (done_by (Come part) (skips (line n Cancelling h) ends u result) ∷ history (skips {T = T} (line n Cancelling h) ends u result).line acts)
+next_skips n r h part ends u (Err fault) acts p ih = ih (Broken (cause fault)) (left_by fault u) tt
+next_skips n r h part false u (Ok heard) acts p ih = ih Cancelling heard p
+next_skips n r h part true u (Ok heard) acts p ih = next_skips_to_end n r h heard part heard.done acts p ih
 
 pub next : {T : Type 0} (n r : ℕ) (s : Stage) (h : Heard) (acts : List (Act T)) → IsNext s n r
     → given r (history (line n s h) acts) ≡ message_of r (history (line n s h) acts)
@@ -242,13 +242,13 @@ next n r Reading h (Mark reset ∷ acts) p = next n r Reading h acts p
 next n r Reading h (Ask ∷ acts) p = next n r Reading h acts p
 next n r Reading h (Send last ∷ acts) p = next n r Reading h acts p
 next n r Reading h (Cancel ∷ acts) p = next n r Cancelling h acts p
-next n r Reading h (Come part ∷ acts) p = next_reads n r h part (is_end part.close) (hear_part false h part) acts p (λ s h q. next n r s h acts q)
+next n r Reading h (Come part ∷ acts) p = next_reads n r h part (is_end part.close) (heard_until false h part.items) (hear_part false h part) acts p (λ s h q. next n r s h acts q)
 next n r Reading h (Lose ∷ acts) p = next n r (Broken faults.Lost) h acts tt
 next n r Cancelling h (Mark reset ∷ acts) p = next n r Cancelling h acts p
 next n r Cancelling h (Ask ∷ acts) p = next n r Cancelling h acts p
 next n r Cancelling h (Send last ∷ acts) p = next n r Cancelling h acts p
 next n r Cancelling h (Cancel ∷ acts) p = next n r Cancelling h acts p
-next n r Cancelling h (Come part ∷ acts) p = next_skips n r h part (is_end part.close) (hear_part true h part) acts p (λ s h q. next n r s h acts q)
+next n r Cancelling h (Come part ∷ acts) p = next_skips n r h part (is_end part.close) (heard_until true h part.items) (hear_part true h part) acts p (λ s h q. next n r s h acts q)
 next n r Cancelling h (Lose ∷ acts) p = next n r (Broken faults.Lost) h acts tt
 next n r (Broken fault) h (Mark reset ∷ acts) p = next n r (Broken fault) h acts tt
 next n r (Broken fault) h (Ask ∷ acts) p = next n r (Broken fault) h acts tt

@@ -6,9 +6,11 @@ use Rattle.tds_packet.specs.declared.status.Reset.TheVariants.{Full, KeepTransac
 use Rattle.tds_service.specs.Parts.{Part}
 use Rattle.tds_service.specs.Line.{Line, Act, Stage, new_line}
 use Rattle.tds_service.specs.Line as line
+use Rattle.tds_client.specs.declared.fault.ClientRefusal.{ClientRefusal}
+use Rattle.tds_service.specs.Refusing.{packets, refusal_in}
 use Rattle.tds_service.specs.History.{line_after}
 use Rattle.tds_service.specs.Lending.{IsWith, leased, nothing_known_of}
-use Rattle.tds_service.specs.Service.{Place, Leased, Kept, Free, Draining, Seat, Service, Call, Lease, Resume, Ask, Send, Cancel, GiveBack, Keep, Abandon, Came, Lost, Reply, Unknown, NotNow, AllInUse, Lent, Ticket, Did, Back, Step, nothing, find_by, change_by, has_lease, has_ticket, has_number, is_lendable, holds, placed, does, rests, drained, is_idle, is_open, acts, opens, lends, resumes, gives_back, keeps_it, abandons, hears, loses, step, service_after}
+use Rattle.tds_service.specs.Service.{Place, Leased, Cleaning, No, NoMemory, acts_unless, cleans, cleaned, clean_place, rests_cleaned, rests_clean, is_clean, Kept, Free, Draining, Seat, Service, Call, Lease, Resume, Ask, Put, Finish, Cancel, GiveBack, Clean, Cleaned, Keep, Abandon, Came, Lost, Without, Reply, Unknown, NotNow, AllInUse, Lent, Ticket, Did, Back, Step, nothing, find_by, change_by, has_lease, has_ticket, has_number, is_lendable, holds, placed, does, rests, drained, is_idle, is_open, acts, opens, lends, resumes, gives_back, keeps_it, abandons, hears, loses, step, service_after}
 use Rattle.tds_service.proofs.Tests.{below}
 
 -- ---- What isn't found
@@ -97,6 +99,7 @@ drains_other a false = refl
 
 drained_other : (a : ℕ) (place : Place) (stage : Stage) → holds a place ≡ false → holds a (drained place stage) ≡ false
 drained_other a (Leased lease) stage e = e
+drained_other a (Cleaning lease) stage e = e
 drained_other a (Kept ticket) stage e = refl
 drained_other a Free stage e = refl
 drained_other a Draining stage e = drains_other a (is_idle stage)
@@ -109,10 +112,60 @@ not_now a s = nothing_keeps a s NotNow (no_lease s.given s.given NotNow (λ leas
 
 -- ---- Each call
 
-acts_keep : {T : Type 0} (a : ℕ) (s : Service) (test : Seat → Bool) (act : Act T) (seat : Option Seat) → find_by test s.seats ≡ seat → Keeps a s (acts s test act seat)
-acts_keep a s test act None e = unknown a s
-acts_keep a s test act (Some c) e =
-    does_keeps a s s.given test c (Some c.place) (act ∷ []) Did (omega arith) (λ lt h. found_other a test c s.seats e h) (no_lease s.given s.given Did (λ lease number had e. cc))
+unless_keeps : {T : Type 0} (a : ℕ) (s : Service) (test : Seat → Bool) (c : Seat) (all : List (Act T)) (why : Option ClientRefusal) → find_by test s.seats ≡ Some c
+    → Keeps a s (acts_unless s test c all why)
+unless_keeps a s test c all None e =
+    does_keeps a s s.given test c (Some c.place) all Did (omega arith) (λ lt h. found_other a test c s.seats e h) (no_lease s.given s.given Did (λ lease number had e. cc))
+unless_keeps a s test c all (Some why) e = nothing_keeps a s (No why) (no_lease s.given s.given (No why) (λ lease number had e. cc))
+
+acts_keep : {T : Type 0} (a : ℕ) (s : Service) (test : Seat → Bool) (first : Act T) (all : List (Act T)) (seat : Option Seat) → find_by test s.seats ≡ seat
+    → Keeps a s (acts s test first all seat)
+acts_keep a s test first all None e = unknown a s
+acts_keep a s test first all (Some c) e = unless_keeps a s test c all (refusal_in (line.turn c.line first).answer) e
+
+cleans_by : {T : Type 0} (a : ℕ) (s : Service) (test : Seat → Bool) (c : Seat) (may : Bool)
+    → Keeps {T = T} a s (if may
+    then does s (suc s.given) test c (Some (Cleaning (suc s.given))) (line.Mark Full ∷ []) (Lent (suc s.given) c.number true)
+    else nothing s NotNow)
+cleans_by a s test c true =
+    does_keeps a s (suc s.given) test c (Some (Cleaning (suc s.given))) (line.Mark Full ∷ []) (Lent (suc s.given) c.number true) (omega arith) (λ lt h. not_next a s.given lt)
+    (next_fresh s.given c.number true)
+cleans_by a s test c false = not_now a s
+
+cleans_keep : {T : Type 0} (a : ℕ) (s : Service) (test : Seat → Bool) (seat : Option Seat) → Keeps {T = T} a s (cleans s test seat)
+cleans_keep a s test None = unknown a s
+cleans_keep a s test (Some c) = cleans_by a s test c (is_lendable c)
+
+clean_other : (a : ℕ) (clean : Bool) → IsOther a (if clean then Some Free else None)
+clean_other a true = refl
+clean_other a false = tt
+
+abbrev OtherIn : ℕ → Option (Option Place) → Type 0
+OtherIn a None = Unit {0}
+OtherIn a (Some place) = IsOther a place
+
+rests_clean_other : (a : ℕ) (clean : Bool) (stage : Stage) → OtherIn a (rests_clean clean stage)
+rests_clean_other a clean line.Idle = clean_other a clean
+rests_clean_other a clean (line.Sending begun) = tt
+rests_clean_other a clean line.Reading = tt
+rests_clean_other a clean line.Cancelling = tt
+rests_clean_other a clean (line.Broken fault) = tt
+
+rests_keep : {T : Type 0} (a : ℕ) (s : Service) (test : Seat → Bool) (c : Seat) (place : Option (Option Place)) → OtherIn a place → Keeps {T = T} a s (rests_cleaned s test c place)
+rests_keep a s test c None other = not_now a s
+rests_keep a s test c (Some place) other =
+    does_keeps a s s.given test c place [] (Back place) (omega arith) (λ lt h. other) (no_lease s.given s.given (Back place) (λ lease number had e. cc))
+
+clean_place_other : (a : ℕ) (place : Place) (l : Line) → OtherIn a (clean_place place l)
+clean_place_other a (Leased lease) l = tt
+clean_place_other a (Cleaning lease) l = rests_clean_other a (is_clean l.heard.mark l.heard.descriptor) l.stage
+clean_place_other a (Kept ticket) l = tt
+clean_place_other a Free l = tt
+clean_place_other a Draining l = tt
+
+cleaned_keep : {T : Type 0} (a : ℕ) (s : Service) (test : Seat → Bool) (seat : Option Seat) → Keeps {T = T} a s (cleaned s test seat)
+cleaned_keep a s test None = unknown a s
+cleaned_keep a s test (Some c) = rests_keep a s test c (clean_place c.place c.line) (clean_place_other a c.place c.line)
 
 opens_keep : {T : Type 0} (a : ℕ) (s : Service) (room : Bool) → Keeps {T = T} a s (opens s room)
 opens_keep a s false = nothing_keeps a s AllInUse (no_lease s.given s.given AllInUse (λ lease number had e. cc))
@@ -179,14 +232,18 @@ loses_keep a s test (Some c) = does_keeps a s s.given test c None (line.Lose ∷
 pub step_keeps : {T : Type 0} (a : ℕ) (s : Service) (call : Call T) → Keeps a s (step s call)
 step_keeps a s Lease = lends_keep a s (find_by is_lendable s.seats)
 step_keeps a s (Resume ticket) = resumes_keep a s (has_ticket ticket) (find_by (has_ticket ticket) s.seats)
-step_keeps a s (Ask lease) = acts_keep a s (has_lease lease) line.Ask (find_by (has_lease lease) s.seats) refl
-step_keeps a s (Send lease last) = acts_keep a s (has_lease lease) (line.Send last) (find_by (has_lease lease) s.seats) refl
-step_keeps a s (Cancel lease) = acts_keep a s (has_lease lease) line.Cancel (find_by (has_lease lease) s.seats) refl
+step_keeps a s (Ask lease) = acts_keep a s (has_lease lease) line.Ask (line.Ask ∷ []) (find_by (has_lease lease) s.seats) refl
+step_keeps a s (Put lease count) = acts_keep a s (has_lease lease) (line.Send false) (packets count) (find_by (has_lease lease) s.seats) refl
+step_keeps a s (Finish lease count) = acts_keep a s (has_lease lease) (line.Send true) (packets count ++ line.Send true ∷ []) (find_by (has_lease lease) s.seats) refl
+step_keeps a s (Cancel lease) = acts_keep a s (has_lease lease) line.Cancel (line.Cancel ∷ []) (find_by (has_lease lease) s.seats) refl
 step_keeps {T} a s (GiveBack lease) = gives_keep T a s (has_lease lease) (find_by (has_lease lease) s.seats)
+step_keeps a s (Clean number) = cleans_keep a s (has_number number) (find_by (has_number number) s.seats)
+step_keeps a s (Cleaned lease) = cleaned_keep a s (has_lease lease) (find_by (has_lease lease) s.seats)
 step_keeps a s (Keep lease) = keeps_keep a s (has_lease lease) (find_by (has_lease lease) s.seats)
 step_keeps a s (Abandon ticket) = abandons_keep a s (has_ticket ticket) (find_by (has_ticket ticket) s.seats)
 step_keeps a s (Came number part) = hears_keep a s (has_number number) part (find_by (has_number number) s.seats) refl
 step_keeps a s (Lost number) = loses_keep a s (has_number number) (find_by (has_number number) s.seats)
+step_keeps a s (Without call) = nothing_keeps a s NoMemory (no_lease s.given s.given NoMemory (λ lease number had e. cc))
 
 -- ---- All calls
 
@@ -217,9 +274,13 @@ none_as s a b is h = subst (λ (k : ℕ). find_by (has_lease k) s.seats ≡ None
 pub with_unknown : (T : Type 0) (s : Service) (call : Call T) (lease : ℕ) → IsWith lease call → find_by (has_lease lease) s.seats ≡ None → step s call ≡ nothing_known_of T s
 with_unknown T s Lease lease is h = absurd is
 with_unknown T s (Resume ticket) lease is h = absurd is
-with_unknown T s (Ask other) lease is h = ap (acts {T = T} s (has_lease other) line.Ask) (none_as s lease other is h)
-with_unknown T s (Send other last) lease is h = ap (acts {T = T} s (has_lease other) (line.Send last)) (none_as s lease other is h)
-with_unknown T s (Cancel other) lease is h = ap (acts {T = T} s (has_lease other) line.Cancel) (none_as s lease other is h)
+with_unknown T s (Ask other) lease is h = ap (acts {T = T} s (has_lease other) line.Ask (line.Ask ∷ [])) (none_as s lease other is h)
+with_unknown T s (Put other count) lease is h = ap (acts {T = T} s (has_lease other) (line.Send false) (packets count)) (none_as s lease other is h)
+with_unknown T s (Finish other count) lease is h = ap (acts {T = T} s (has_lease other) (line.Send true) (packets count ++ line.Send true ∷ [])) (none_as s lease other is h)
+with_unknown T s (Cancel other) lease is h = ap (acts {T = T} s (has_lease other) line.Cancel (line.Cancel ∷ [])) (none_as s lease other is h)
+with_unknown T s (Clean number) lease is h = absurd is
+with_unknown T s (Cleaned other) lease is h = ap (cleaned {T = T} s (has_lease other)) (none_as s lease other is h)
+with_unknown T s (Without call) lease is h = absurd is
 with_unknown T s (GiveBack other) lease is h = ap (gives_back {T = T} s (has_lease other)) (none_as s lease other is h)
 with_unknown T s (Keep other) lease is h = ap (keeps_it {T = T} s (has_lease other)) (none_as s lease other is h)
 with_unknown T s (Abandon ticket) lease is h = absurd is

@@ -7,7 +7,7 @@ use Rattle.tds_listen.specs.declared.fault.ListenFault.{ListenFault}
 use Rattle.tds_client.specs.declared.heard.FinalDone.{FinalDone}
 use Rattle.tds_client.specs.declared.heard.FinalDone.TheVariants.{Awaited, Answered, Acknowledged}
 use Rattle.tds_client.specs.Hearing.{with_done}
-use Rattle.tds_service.specs.Parts.{Part, is_end, hear_part}
+use Rattle.tds_service.specs.Parts.{Part, is_end, hear_part, heard_until}
 use Rattle.tds_service.specs.Line.{new_line, Act, Mark, Ask, Send, Cancel, Come, Lose, Stage, Idle, Sending, Reading, Cancelling, Broken, reads, skips, skips_to_end, cause, left_by}
 use Rattle.tds_service.specs.History.{done_by, history, line_after}
 use Rattle.tds_service.specs.Promises.{AsksUnawaited, FaultsUnawaited, NothingBehindCancel, attentions, acknowledgements}
@@ -22,12 +22,12 @@ awaits Reading = true
 awaits Cancelling = true
 awaits (Broken fault) = false
 
-unawaited_reads : {T : Type 0} (n : ℕ) (h : Heard) (part : Part T) (ends : Bool) (result : Result Heard ListenFault) (acts : List (Act T))
+unawaited_reads : {T : Type 0} (n : ℕ) (h : Heard) (part : Part T) (ends : Bool) (u : Heard) (result : Result Heard ListenFault) (acts : List (Act T))
     → ((s : Stage) (h : Heard) → FaultsUnawaited (awaits s) (history (line n s h) acts))
-    → FaultsUnawaited (awaits Reading) (done_by (Come part) (reads (line n Reading h) part ends result) ∷ history (reads (line n Reading h) part ends result).line acts)
-unawaited_reads n h part ends (Err fault) acts ih = (tt, (ih (Broken (cause fault)) (left_by fault h)))
-unawaited_reads n h part false (Ok heard) acts ih = (tt, (ih Reading heard))
-unawaited_reads n h part true (Ok heard) acts ih = (tt, (ih Idle (with_done heard Awaited)))
+    → FaultsUnawaited (awaits Reading) (done_by (Come part) (reads (line n Reading h) part ends u result) ∷ history (reads (line n Reading h) part ends u result).line acts)
+unawaited_reads n h part ends u (Err fault) acts ih = (tt, (ih (Broken (cause fault)) (left_by fault u)))
+unawaited_reads n h part false u (Ok heard) acts ih = (tt, (ih Reading heard))
+unawaited_reads n h part true u (Ok heard) acts ih = (tt, (ih Idle (with_done heard Awaited)))
 
 unawaited_skips_to_end : {T : Type 0} (n : ℕ) (h heard : Heard) (part : Part T) (done : FinalDone) (acts : List (Act T))
     → ((s : Stage) (h : Heard) → FaultsUnawaited (awaits s) (history (line n s h) acts))
@@ -36,12 +36,12 @@ unawaited_skips_to_end n h heard part Awaited acts ih = (tt, (ih Cancelling (wit
 unawaited_skips_to_end n h heard part Answered acts ih = (tt, (ih Cancelling (with_done heard Awaited)))
 unawaited_skips_to_end n h heard part Acknowledged acts ih = (tt, (ih Idle (with_done heard Awaited)))
 
-unawaited_skips : {T : Type 0} (n : ℕ) (h : Heard) (part : Part T) (ends : Bool) (result : Result Heard ListenFault) (acts : List (Act T))
+unawaited_skips : {T : Type 0} (n : ℕ) (h : Heard) (part : Part T) (ends : Bool) (u : Heard) (result : Result Heard ListenFault) (acts : List (Act T))
     → ((s : Stage) (h : Heard) → FaultsUnawaited (awaits s) (history (line n s h) acts))
-    → FaultsUnawaited (awaits Cancelling) (done_by (Come part) (skips {T = T} (line n Cancelling h) ends result) ∷ history (skips {T = T} (line n Cancelling h) ends result).line acts)
-unawaited_skips n h part ends (Err fault) acts ih = (tt, (ih (Broken (cause fault)) (left_by fault h)))
-unawaited_skips n h part false (Ok heard) acts ih = (tt, (ih Cancelling heard))
-unawaited_skips n h part true (Ok heard) acts ih = unawaited_skips_to_end n h heard part heard.done acts ih
+    → FaultsUnawaited (awaits Cancelling) (done_by (Come part) (skips {T = T} (line n Cancelling h) ends u result) ∷ history (skips {T = T} (line n Cancelling h) ends u result).line acts)
+unawaited_skips n h part ends u (Err fault) acts ih = (tt, (ih (Broken (cause fault)) (left_by fault u)))
+unawaited_skips n h part false u (Ok heard) acts ih = (tt, (ih Cancelling heard))
+unawaited_skips n h part true u (Ok heard) acts ih = unawaited_skips_to_end n h heard part heard.done acts ih
 
 pub unawaited : {T : Type 0} (n : ℕ) (s : Stage) (h : Heard) (acts : List (Act T)) → FaultsUnawaited (awaits s) (history (line n s h) acts)
 unawaited n s h [] = tt
@@ -63,13 +63,13 @@ unawaited n Reading h (Mark reset ∷ acts) = (tt, (unawaited n Reading h acts))
 unawaited n Reading h (Ask ∷ acts) = (tt, (unawaited n Reading h acts))
 unawaited n Reading h (Send last ∷ acts) = (tt, (unawaited n Reading h acts))
 unawaited n Reading h (Cancel ∷ acts) = (tt, (unawaited n Cancelling h acts))
-unawaited n Reading h (Come part ∷ acts) = unawaited_reads n h part (is_end part.close) (hear_part false h part) acts (λ s h. unawaited n s h acts)
+unawaited n Reading h (Come part ∷ acts) = unawaited_reads n h part (is_end part.close) (heard_until false h part.items) (hear_part false h part) acts (λ s h. unawaited n s h acts)
 unawaited n Reading h (Lose ∷ acts) = (tt, (unawaited n (Broken faults.Lost) h acts))
 unawaited n Cancelling h (Mark reset ∷ acts) = (tt, (unawaited n Cancelling h acts))
 unawaited n Cancelling h (Ask ∷ acts) = (tt, (unawaited n Cancelling h acts))
 unawaited n Cancelling h (Send last ∷ acts) = (tt, (unawaited n Cancelling h acts))
 unawaited n Cancelling h (Cancel ∷ acts) = (tt, (unawaited n Cancelling h acts))
-unawaited n Cancelling h (Come part ∷ acts) = unawaited_skips n h part (is_end part.close) (hear_part true h part) acts (λ s h. unawaited n s h acts)
+unawaited n Cancelling h (Come part ∷ acts) = unawaited_skips n h part (is_end part.close) (heard_until true h part.items) (hear_part true h part) acts (λ s h. unawaited n s h acts)
 unawaited n Cancelling h (Lose ∷ acts) = (tt, (unawaited n (Broken faults.Lost) h acts))
 unawaited n (Broken fault) h (Mark reset ∷ acts) = (tt, (unawaited n (Broken fault) h acts))
 unawaited n (Broken fault) h (Ask ∷ acts) = (tt, (unawaited n (Broken fault) h acts))
@@ -80,12 +80,12 @@ unawaited n (Broken fault) h (Lose ∷ acts) = (tt, (unawaited n (Broken fault) 
 
 -- ---- What is asked
 
-free_reads : {T : Type 0} (n : ℕ) (h : Heard) (part : Part T) (ends : Bool) (result : Result Heard ListenFault) (acts : List (Act T))
+free_reads : {T : Type 0} (n : ℕ) (h : Heard) (part : Part T) (ends : Bool) (u : Heard) (result : Result Heard ListenFault) (acts : List (Act T))
     → ((s : Stage) (h : Heard) → AsksUnawaited (awaits s) (history (line n s h) acts))
-    → AsksUnawaited (awaits Reading) (done_by (Come part) (reads (line n Reading h) part ends result) ∷ history (reads (line n Reading h) part ends result).line acts)
-free_reads n h part ends (Err fault) acts ih = (tt, (ih (Broken (cause fault)) (left_by fault h)))
-free_reads n h part false (Ok heard) acts ih = (tt, (ih Reading heard))
-free_reads n h part true (Ok heard) acts ih = (tt, (ih Idle (with_done heard Awaited)))
+    → AsksUnawaited (awaits Reading) (done_by (Come part) (reads (line n Reading h) part ends u result) ∷ history (reads (line n Reading h) part ends u result).line acts)
+free_reads n h part ends u (Err fault) acts ih = (tt, (ih (Broken (cause fault)) (left_by fault u)))
+free_reads n h part false u (Ok heard) acts ih = (tt, (ih Reading heard))
+free_reads n h part true u (Ok heard) acts ih = (tt, (ih Idle (with_done heard Awaited)))
 
 free_skips_to_end : {T : Type 0} (n : ℕ) (h heard : Heard) (part : Part T) (done : FinalDone) (acts : List (Act T))
     → ((s : Stage) (h : Heard) → AsksUnawaited (awaits s) (history (line n s h) acts))
@@ -94,12 +94,12 @@ free_skips_to_end n h heard part Awaited acts ih = (tt, (ih Cancelling (with_don
 free_skips_to_end n h heard part Answered acts ih = (tt, (ih Cancelling (with_done heard Awaited)))
 free_skips_to_end n h heard part Acknowledged acts ih = (tt, (ih Idle (with_done heard Awaited)))
 
-free_skips : {T : Type 0} (n : ℕ) (h : Heard) (part : Part T) (ends : Bool) (result : Result Heard ListenFault) (acts : List (Act T))
+free_skips : {T : Type 0} (n : ℕ) (h : Heard) (part : Part T) (ends : Bool) (u : Heard) (result : Result Heard ListenFault) (acts : List (Act T))
     → ((s : Stage) (h : Heard) → AsksUnawaited (awaits s) (history (line n s h) acts))
-    → AsksUnawaited (awaits Cancelling) (done_by (Come part) (skips {T = T} (line n Cancelling h) ends result) ∷ history (skips {T = T} (line n Cancelling h) ends result).line acts)
-free_skips n h part ends (Err fault) acts ih = (tt, (ih (Broken (cause fault)) (left_by fault h)))
-free_skips n h part false (Ok heard) acts ih = (tt, (ih Cancelling heard))
-free_skips n h part true (Ok heard) acts ih = free_skips_to_end n h heard part heard.done acts ih
+    → AsksUnawaited (awaits Cancelling) (done_by (Come part) (skips {T = T} (line n Cancelling h) ends u result) ∷ history (skips {T = T} (line n Cancelling h) ends u result).line acts)
+free_skips n h part ends u (Err fault) acts ih = (tt, (ih (Broken (cause fault)) (left_by fault u)))
+free_skips n h part false u (Ok heard) acts ih = (tt, (ih Cancelling heard))
+free_skips n h part true u (Ok heard) acts ih = free_skips_to_end n h heard part heard.done acts ih
 
 pub free : {T : Type 0} (n : ℕ) (s : Stage) (h : Heard) (acts : List (Act T)) → AsksUnawaited (awaits s) (history (line n s h) acts)
 free n s h [] = tt
@@ -121,13 +121,13 @@ free n Reading h (Mark reset ∷ acts) = (tt, (free n Reading h acts))
 free n Reading h (Ask ∷ acts) = (tt, (free n Reading h acts))
 free n Reading h (Send last ∷ acts) = (tt, (free n Reading h acts))
 free n Reading h (Cancel ∷ acts) = (tt, (free n Cancelling h acts))
-free n Reading h (Come part ∷ acts) = free_reads n h part (is_end part.close) (hear_part false h part) acts (λ s h. free n s h acts)
+free n Reading h (Come part ∷ acts) = free_reads n h part (is_end part.close) (heard_until false h part.items) (hear_part false h part) acts (λ s h. free n s h acts)
 free n Reading h (Lose ∷ acts) = (tt, (free n (Broken faults.Lost) h acts))
 free n Cancelling h (Mark reset ∷ acts) = (tt, (free n Cancelling h acts))
 free n Cancelling h (Ask ∷ acts) = (tt, (free n Cancelling h acts))
 free n Cancelling h (Send last ∷ acts) = (tt, (free n Cancelling h acts))
 free n Cancelling h (Cancel ∷ acts) = (tt, (free n Cancelling h acts))
-free n Cancelling h (Come part ∷ acts) = free_skips n h part (is_end part.close) (hear_part true h part) acts (λ s h. free n s h acts)
+free n Cancelling h (Come part ∷ acts) = free_skips n h part (is_end part.close) (heard_until true h part.items) (hear_part true h part) acts (λ s h. free n s h acts)
 free n Cancelling h (Lose ∷ acts) = (tt, (free n (Broken faults.Lost) h acts))
 free n (Broken fault) h (Mark reset ∷ acts) = (tt, (free n (Broken fault) h acts))
 free n (Broken fault) h (Ask ∷ acts) = (tt, (free n (Broken fault) h acts))
@@ -138,12 +138,12 @@ free n (Broken fault) h (Lose ∷ acts) = (tt, (free n (Broken fault) h acts))
 
 -- ---- Behind a cancel
 
-silent_reads : {T : Type 0} (n : ℕ) (h : Heard) (part : Part T) (ends : Bool) (result : Result Heard ListenFault) (acts : List (Act T))
+silent_reads : {T : Type 0} (n : ℕ) (h : Heard) (part : Part T) (ends : Bool) (u : Heard) (result : Result Heard ListenFault) (acts : List (Act T))
     → ((s : Stage) (h : Heard) → NothingBehindCancel (history (line n s h) acts))
-    → NothingBehindCancel (done_by (Come part) (reads (line n Reading h) part ends result) ∷ history (reads (line n Reading h) part ends result).line acts)
-silent_reads n h part ends (Err fault) acts ih = (tt, (ih (Broken (cause fault)) (left_by fault h)))
-silent_reads n h part false (Ok heard) acts ih = (tt, (ih Reading heard))
-silent_reads n h part true (Ok heard) acts ih = (tt, (ih Idle (with_done heard Awaited)))
+    → NothingBehindCancel (done_by (Come part) (reads (line n Reading h) part ends u result) ∷ history (reads (line n Reading h) part ends u result).line acts)
+silent_reads n h part ends u (Err fault) acts ih = (tt, (ih (Broken (cause fault)) (left_by fault u)))
+silent_reads n h part false u (Ok heard) acts ih = (tt, (ih Reading heard))
+silent_reads n h part true u (Ok heard) acts ih = (tt, (ih Idle (with_done heard Awaited)))
 
 silent_skips_to_end : {T : Type 0} (n : ℕ) (h heard : Heard) (part : Part T) (done : FinalDone) (acts : List (Act T))
     → ((s : Stage) (h : Heard) → NothingBehindCancel (history (line n s h) acts))
@@ -152,12 +152,12 @@ silent_skips_to_end n h heard part Awaited acts ih = (tt, (ih Cancelling (with_d
 silent_skips_to_end n h heard part Answered acts ih = (tt, (ih Cancelling (with_done heard Awaited)))
 silent_skips_to_end n h heard part Acknowledged acts ih = (tt, (ih Idle (with_done heard Awaited)))
 
-silent_skips : {T : Type 0} (n : ℕ) (h : Heard) (part : Part T) (ends : Bool) (result : Result Heard ListenFault) (acts : List (Act T))
+silent_skips : {T : Type 0} (n : ℕ) (h : Heard) (part : Part T) (ends : Bool) (u : Heard) (result : Result Heard ListenFault) (acts : List (Act T))
     → ((s : Stage) (h : Heard) → NothingBehindCancel (history (line n s h) acts))
-    → NothingBehindCancel (done_by (Come part) (skips {T = T} (line n Cancelling h) ends result) ∷ history (skips {T = T} (line n Cancelling h) ends result).line acts)
-silent_skips n h part ends (Err fault) acts ih = (tt, (ih (Broken (cause fault)) (left_by fault h)))
-silent_skips n h part false (Ok heard) acts ih = (tt, (ih Cancelling heard))
-silent_skips n h part true (Ok heard) acts ih = silent_skips_to_end n h heard part heard.done acts ih
+    → NothingBehindCancel (done_by (Come part) (skips {T = T} (line n Cancelling h) ends u result) ∷ history (skips {T = T} (line n Cancelling h) ends u result).line acts)
+silent_skips n h part ends u (Err fault) acts ih = (tt, (ih (Broken (cause fault)) (left_by fault u)))
+silent_skips n h part false u (Ok heard) acts ih = (tt, (ih Cancelling heard))
+silent_skips n h part true u (Ok heard) acts ih = silent_skips_to_end n h heard part heard.done acts ih
 
 pub silent : {T : Type 0} (n : ℕ) (s : Stage) (h : Heard) (acts : List (Act T)) → NothingBehindCancel (history (line n s h) acts)
 silent n s h [] = tt
@@ -179,13 +179,13 @@ silent n Reading h (Mark reset ∷ acts) = (tt, (silent n Reading h acts))
 silent n Reading h (Ask ∷ acts) = (tt, (silent n Reading h acts))
 silent n Reading h (Send last ∷ acts) = (tt, (silent n Reading h acts))
 silent n Reading h (Cancel ∷ acts) = (past n n Cancelling h acts (omega arith), (silent n Cancelling h acts))
-silent n Reading h (Come part ∷ acts) = silent_reads n h part (is_end part.close) (hear_part false h part) acts (λ s h. silent n s h acts)
+silent n Reading h (Come part ∷ acts) = silent_reads n h part (is_end part.close) (heard_until false h part.items) (hear_part false h part) acts (λ s h. silent n s h acts)
 silent n Reading h (Lose ∷ acts) = (tt, (silent n (Broken faults.Lost) h acts))
 silent n Cancelling h (Mark reset ∷ acts) = (tt, (silent n Cancelling h acts))
 silent n Cancelling h (Ask ∷ acts) = (tt, (silent n Cancelling h acts))
 silent n Cancelling h (Send last ∷ acts) = (tt, (silent n Cancelling h acts))
 silent n Cancelling h (Cancel ∷ acts) = (tt, (silent n Cancelling h acts))
-silent n Cancelling h (Come part ∷ acts) = silent_skips n h part (is_end part.close) (hear_part true h part) acts (λ s h. silent n s h acts)
+silent n Cancelling h (Come part ∷ acts) = silent_skips n h part (is_end part.close) (heard_until true h part.items) (hear_part true h part) acts (λ s h. silent n s h acts)
 silent n Cancelling h (Lose ∷ acts) = (tt, (silent n (Broken faults.Lost) h acts))
 silent n (Broken fault) h (Mark reset ∷ acts) = (tt, (silent n (Broken fault) h acts))
 silent n (Broken fault) h (Ask ∷ acts) = (tt, (silent n (Broken fault) h acts))
@@ -210,12 +210,12 @@ at_most_one Reading = omega arith
 at_most_one Cancelling = omega arith
 at_most_one (Broken fault) = omega arith
 
-few_reads : {T : Type 0} (n : ℕ) (h : Heard) (part : Part T) (ends : Bool) (result : Result Heard ListenFault) (acts : List (Act T))
+few_reads : {T : Type 0} (n : ℕ) (h : Heard) (part : Part T) (ends : Bool) (u : Heard) (result : Result Heard ListenFault) (acts : List (Act T))
     → ((s : Stage) (h : Heard) → attentions (history (line n s h) acts) + out s ≤ acknowledgements (history (line n s h) acts) + 1)
-    → attentions (done_by (Come part) (reads (line n Reading h) part ends result) ∷ history (reads (line n Reading h) part ends result).line acts) + out Reading ≤ acknowledgements (done_by (Come part) (reads (line n Reading h) part ends result) ∷ history (reads (line n Reading h) part ends result).line acts) + 1
-few_reads n h part ends (Err fault) acts ih = omega (arith, (ih (Broken (cause fault)) (left_by fault h)))
-few_reads n h part false (Ok heard) acts ih = omega (arith, (ih Reading heard))
-few_reads n h part true (Ok heard) acts ih = omega (arith, (ih Idle (with_done heard Awaited)))
+    → attentions (done_by (Come part) (reads (line n Reading h) part ends u result) ∷ history (reads (line n Reading h) part ends u result).line acts) + out Reading ≤ acknowledgements (done_by (Come part) (reads (line n Reading h) part ends u result) ∷ history (reads (line n Reading h) part ends u result).line acts) + 1
+few_reads n h part ends u (Err fault) acts ih = omega (arith, (ih (Broken (cause fault)) (left_by fault u)))
+few_reads n h part false u (Ok heard) acts ih = omega (arith, (ih Reading heard))
+few_reads n h part true u (Ok heard) acts ih = omega (arith, (ih Idle (with_done heard Awaited)))
 
 few_skips_to_end : {T : Type 0} (n : ℕ) (h heard : Heard) (part : Part T) (done : FinalDone) (acts : List (Act T))
     → ((s : Stage) (h : Heard) → attentions (history (line n s h) acts) + out s ≤ acknowledgements (history (line n s h) acts) + 1)
@@ -224,12 +224,12 @@ few_skips_to_end n h heard part Awaited acts ih = omega (arith, (ih Cancelling (
 few_skips_to_end n h heard part Answered acts ih = omega (arith, (ih Cancelling (with_done heard Awaited)))
 few_skips_to_end n h heard part Acknowledged acts ih = omega (arith, (ih Idle (with_done heard Awaited)))
 
-few_skips : {T : Type 0} (n : ℕ) (h : Heard) (part : Part T) (ends : Bool) (result : Result Heard ListenFault) (acts : List (Act T))
+few_skips : {T : Type 0} (n : ℕ) (h : Heard) (part : Part T) (ends : Bool) (u : Heard) (result : Result Heard ListenFault) (acts : List (Act T))
     → ((s : Stage) (h : Heard) → attentions (history (line n s h) acts) + out s ≤ acknowledgements (history (line n s h) acts) + 1)
-    → attentions (done_by (Come part) (skips {T = T} (line n Cancelling h) ends result) ∷ history (skips {T = T} (line n Cancelling h) ends result).line acts) + out Cancelling ≤ acknowledgements (done_by (Come part) (skips {T = T} (line n Cancelling h) ends result) ∷ history (skips {T = T} (line n Cancelling h) ends result).line acts) + 1
-few_skips n h part ends (Err fault) acts ih = omega (arith, (ih (Broken (cause fault)) (left_by fault h)))
-few_skips n h part false (Ok heard) acts ih = omega (arith, (ih Cancelling heard))
-few_skips n h part true (Ok heard) acts ih = few_skips_to_end n h heard part heard.done acts ih
+    → attentions (done_by (Come part) (skips {T = T} (line n Cancelling h) ends u result) ∷ history (skips {T = T} (line n Cancelling h) ends u result).line acts) + out Cancelling ≤ acknowledgements (done_by (Come part) (skips {T = T} (line n Cancelling h) ends u result) ∷ history (skips {T = T} (line n Cancelling h) ends u result).line acts) + 1
+few_skips n h part ends u (Err fault) acts ih = omega (arith, (ih (Broken (cause fault)) (left_by fault u)))
+few_skips n h part false u (Ok heard) acts ih = omega (arith, (ih Cancelling heard))
+few_skips n h part true u (Ok heard) acts ih = few_skips_to_end n h heard part heard.done acts ih
 
 pub few : {T : Type 0} (n : ℕ) (s : Stage) (h : Heard) (acts : List (Act T)) → attentions (history (line n s h) acts) + out s ≤ acknowledgements (history (line n s h) acts) + 1
 few n s h [] = omega (arith, at_most_one s)
@@ -251,13 +251,13 @@ few n Reading h (Mark reset ∷ acts) = omega (arith, (few n Reading h acts))
 few n Reading h (Ask ∷ acts) = omega (arith, (few n Reading h acts))
 few n Reading h (Send last ∷ acts) = omega (arith, (few n Reading h acts))
 few n Reading h (Cancel ∷ acts) = omega (arith, (few n Cancelling h acts))
-few n Reading h (Come part ∷ acts) = few_reads n h part (is_end part.close) (hear_part false h part) acts (λ s h. few n s h acts)
+few n Reading h (Come part ∷ acts) = few_reads n h part (is_end part.close) (heard_until false h part.items) (hear_part false h part) acts (λ s h. few n s h acts)
 few n Reading h (Lose ∷ acts) = omega (arith, (few n (Broken faults.Lost) h acts))
 few n Cancelling h (Mark reset ∷ acts) = omega (arith, (few n Cancelling h acts))
 few n Cancelling h (Ask ∷ acts) = omega (arith, (few n Cancelling h acts))
 few n Cancelling h (Send last ∷ acts) = omega (arith, (few n Cancelling h acts))
 few n Cancelling h (Cancel ∷ acts) = omega (arith, (few n Cancelling h acts))
-few n Cancelling h (Come part ∷ acts) = few_skips n h part (is_end part.close) (hear_part true h part) acts (λ s h. few n s h acts)
+few n Cancelling h (Come part ∷ acts) = few_skips n h part (is_end part.close) (heard_until true h part.items) (hear_part true h part) acts (λ s h. few n s h acts)
 few n Cancelling h (Lose ∷ acts) = omega (arith, (few n (Broken faults.Lost) h acts))
 few n (Broken fault) h (Mark reset ∷ acts) = omega (arith, (few n (Broken fault) h acts))
 few n (Broken fault) h (Ask ∷ acts) = omega (arith, (few n (Broken fault) h acts))

@@ -6,7 +6,7 @@ use Rattle.tds_service.specs.Line.{Act}
 use Rattle.tds_service.specs.Line as line
 use Rattle.tds_service.specs.History.{Done}
 use Rattle.tds_service.specs.Promises.{awaited_by_answer, awaited_by_packets}
-use Rattle.tds_service.specs.Service.{Call, Lease, Resume, Ask, Send, Cancel, GiveBack, Keep, Abandon, Came, Lost, Reply, Unknown, AllInUse, NotNow, Lent, Ticket, Did, Back, Service, Step, nothing, step, on}
+use Rattle.tds_service.specs.Service.{Call, Lease, Resume, Ask, Put, Finish, Cancel, GiveBack, Clean, Cleaned, Keep, Abandon, Came, Lost, Without, Reply, Unknown, AllInUse, NotNow, No, NoMemory, Lent, Ticket, Did, Back, Service, Step, nothing, step, on}
 
 -- Whether an answer or an acknowledgement is awaited behind what was done.
 abbrev pub awaited : {T : Type 0} → Bool → List (Done T) → Bool
@@ -18,6 +18,8 @@ abbrev pub LendsIdle : {T : Type 0} → List (Step T) → Reply → Type 0
 LendsIdle before Unknown = Unit {0}
 LendsIdle before AllInUse = Unit {0}
 LendsIdle before NotNow = Unit {0}
+LendsIdle before (No why) = Unit {0}
+LendsIdle before NoMemory = Unit {0}
 LendsIdle before (Lent lease number true) = awaited false (on number before) ≡ false
 LendsIdle before (Lent lease number false) = Unit {0}
 LendsIdle before (Ticket ticket) = Unit {0}
@@ -29,13 +31,17 @@ abbrev pub reset_of : {T : Type 0} → Call T → Reset
 reset_of (Resume ticket) = KeepTransaction
 reset_of Lease = Full
 reset_of (Ask lease) = Full
-reset_of (Send lease last) = Full
+reset_of (Put lease count) = Full
+reset_of (Finish lease count) = Full
 reset_of (Cancel lease) = Full
 reset_of (GiveBack lease) = Full
+reset_of (Clean number) = Full
+reset_of (Cleaned lease) = Full
 reset_of (Keep lease) = Full
 reset_of (Abandon ticket) = Full
 reset_of (Came number part) = Full
 reset_of (Lost number) = Full
+reset_of (Without call) = Full
 
 abbrev pub marking : {T : Type 0} → Reset → Done T
 marking reset = record { act = line.Mark reset; answer = line.Marked; sent = []; told = line.Nobody }
@@ -44,6 +50,8 @@ abbrev pub MarksBy : {T : Type 0} → Call T → Reply → List (Done T) → Typ
 MarksBy call Unknown ds = Unit {0}
 MarksBy call AllInUse ds = Unit {0}
 MarksBy call NotNow ds = Unit {0}
+MarksBy call (No why) ds = Unit {0}
+MarksBy call NoMemory ds = Unit {0}
 MarksBy call (Lent lease number true) ds = ds ≡ marking (reset_of call) ∷ []
 MarksBy call (Lent lease number false) ds = ds ≡ []
 MarksBy call (Ticket ticket) ds = Unit {0}
@@ -65,13 +73,17 @@ abbrev pub IsWith : {T : Type 0} → ℕ → Call T → Type 0
 IsWith lease Lease = ⊥
 IsWith lease (Resume ticket) = ⊥
 IsWith lease (Ask other) = other ≡ lease
-IsWith lease (Send other last) = other ≡ lease
+IsWith lease (Put other count) = other ≡ lease
+IsWith lease (Finish other count) = other ≡ lease
 IsWith lease (Cancel other) = other ≡ lease
 IsWith lease (GiveBack other) = other ≡ lease
+IsWith lease (Clean number) = ⊥
+IsWith lease (Cleaned other) = other ≡ lease
 IsWith lease (Keep other) = other ≡ lease
 IsWith lease (Abandon ticket) = ⊥
 IsWith lease (Came number part) = ⊥
 IsWith lease (Lost number) = ⊥
+IsWith lease (Without call) = ⊥
 
 -- It reaches no connection, and the table stays.
 abbrev pub nothing_known_of : (T : Type 0) → Service → Step T

@@ -1,8 +1,11 @@
 pub mod Parts
 pub mod Line
 pub mod History
+pub mod Refusing
 pub mod Promises
 pub mod Acknowledging
 pub mod Ties
 pub mod Service
 pub mod Lending
+pub mod Owning
+pub mod Table

@@ -12,7 +12,7 @@ use Rattle.tds_client.specs.declared.heard.Heard.{Heard}
 use Rattle.tds_client.specs.declared.heard.FinalDone.{FinalDone}
 use Rattle.tds_client.specs.declared.heard.FinalDone.TheVariants.{Awaited, Answered, Acknowledged}
 use Rattle.tds_client.specs.Hearing.{with_done}
-use Rattle.tds_service.specs.Parts.{Part, is_end, told, hear_part}
+use Rattle.tds_service.specs.Parts.{Part, is_end, told, hear_part, heard_until}
 
 -- Where the newest request is.
 pub data Stage : Type 0 where
@@ -164,25 +164,25 @@ cause (listens.Wire refusal) = faults.Lost
 cause listens.Cut = faults.Lost
 cause listens.ResetUnanswered = faults.Lost
 
--- Nothing of the part counts. The message is over where it had its end without the reset's.
+-- What was heard before the fault is known still. The message is over where it had its end without the reset's.
 abbrev pub left_by : ListenFault → Heard → Heard
 left_by (listens.Client fault) heard = heard
 left_by (listens.Wire refusal) heard = heard
 left_by listens.Cut heard = heard
 left_by listens.ResetUnanswered heard = with_done heard Awaited
 
-abbrev pub breaks : {T : Type 0} → Line → ListenFault → Turn T
-breaks l fault = quiet (heard_at l (Broken (cause fault)) (left_by fault l.heard)) (Fault fault)
+abbrev pub breaks : {T : Type 0} → Line → Heard → ListenFault → Turn T
+breaks l heard fault = quiet (heard_at l (Broken (cause fault)) (left_by fault heard)) (Fault fault)
 
 abbrev pub breaks_as : {T : Type 0} → Line → ClientFault → Turn T
-breaks_as l fault = breaks l (listens.Client fault)
+breaks_as l fault = breaks l l.heard (listens.Client fault)
 
--- The answer of a request that is awaited.
-abbrev pub reads : {T : Type 0} → Line → Part T → Bool → Result Heard ListenFault → Turn T
-reads l part ends (Err fault) = breaks l fault
-reads l part false (Ok heard) =
+-- The answer of a request that is awaited; `until` is what was heard up to a fault.
+abbrev pub reads : {T : Type 0} → Line → Part T → Bool → Heard → Result Heard ListenFault → Turn T
+reads l part ends until (Err fault) = breaks l until fault
+reads l part false until (Ok heard) =
     record { line = heard_at l Reading heard; answer = More; sent = []; told = To l.asked (told part.items) }
-reads l part true (Ok heard) =
+reads l part true until (Ok heard) =
     record { line = heard_at l Idle (with_done heard Awaited); answer = Finished l.asked; sent = []; told = To l.asked (told part.items) }
 
 -- What comes behind a cancel.
@@ -191,16 +191,16 @@ skips_to_end l heard Awaited = quiet (heard_at l Cancelling (with_done heard Awa
 skips_to_end l heard Answered = quiet (heard_at l Cancelling (with_done heard Awaited)) More
 skips_to_end l heard Acknowledged = quiet (heard_at l Idle (with_done heard Awaited)) (Acked l.asked)
 
-abbrev pub skips : {T : Type 0} → Line → Bool → Result Heard ListenFault → Turn T
-skips l ends (Err fault) = breaks l fault
-skips l false (Ok heard) = quiet (heard_at l Cancelling heard) More
-skips l true (Ok heard) = skips_to_end l heard heard.done
+abbrev pub skips : {T : Type 0} → Line → Bool → Heard → Result Heard ListenFault → Turn T
+skips l ends until (Err fault) = breaks l until fault
+skips l false until (Ok heard) = quiet (heard_at l Cancelling heard) More
+skips l true until (Ok heard) = skips_to_end l heard heard.done
 
 abbrev pub comes : {T : Type 0} → Line → Part T → Stage → Turn T
 comes l part Idle = breaks_as l faults.AnswerInIdle
 comes l part (Sending begun) = breaks_as l faults.AnswerInSending
-comes l part Reading = reads l part (is_end part.close) (hear_part false l.heard part)
-comes l part Cancelling = skips l (is_end part.close) (hear_part true l.heard part)
+comes l part Reading = reads l part (is_end part.close) (heard_until false l.heard part.items) (hear_part false l.heard part)
+comes l part Cancelling = skips l (is_end part.close) (heard_until true l.heard part.items) (hear_part true l.heard part)
 comes l part (Broken fault) = breaks_as l fault
 
 -- ---- All

@@ -52,6 +52,15 @@ abbrev pub hear_items : {T : Type 0} → Bool → Heard → List (Item T) → Re
 hear_items cancelling heard [] = Ok heard
 hear_items cancelling heard (item ∷ items) = hear_sign Any cancelling heard item.sign >>= λ next. hear_items cancelling next items
 
+-- What was heard up to the one that is at fault, or up to the end.
+abbrev pub until_by : Heard → Result Heard ClientFault → (Heard → Heard) → Heard
+until_by heard (Ok next) behind = behind next
+until_by heard (Err fault) behind = heard
+
+abbrev pub heard_until : {T : Type 0} → Bool → Heard → List (Item T) → Heard
+heard_until cancelling heard [] = heard
+heard_until cancelling heard (item ∷ items) = until_by heard (hear_sign Any cancelling heard item.sign) (λ next. heard_until cancelling next items)
+
 -- A request that has its whole answer was told that the reset it asked for is done (MS-TDS 2.2.7.9, type 18).
 abbrev pub unless_owed : Option Reset → Heard → Result Heard ListenFault
 unless_owed None heard = Ok heard

@@ -1,16 +1,20 @@
 -- A service: its connections, who holds each, and what each call does. One total function.
 use Rattle.std.specs.Prelude.{ℕ, suc, ◌==◌, ◌&&◌, nat_lt, Bool, true, false, List, [], ◌∷◌, ◌++◌, length, Option, Some, None, if◌then◌else◌}
 use Rattle.tds_packet.specs.declared.status.Reset.{Reset}
+use Rattle.tds_client.specs.declared.fault.ClientRefusal.{ClientRefusal}
 use Rattle.tds_packet.specs.declared.status.Reset.TheVariants.{Full, KeepTransaction}
 use Rattle.tds_service.specs.Parts.{Part}
 use Rattle.tds_service.specs.Line.{Line, new_line, Stage, Idle, Sending, Reading, Cancelling, Broken}
 use Rattle.tds_service.specs.Line as line
-use Rattle.tds_service.specs.Line.{Act}
+use Rattle.tds_service.specs.Line.{Act, turn}
 use Rattle.tds_service.specs.History.{Done, history, line_after}
+use Rattle.tds_service.specs.Refusing.{packets, refusal_in}
 
 -- Who holds a connection.
 pub data Place : Type 0 where
   Leased : (lease : ℕ) → Place
+  -- by a lease too, to be cleaned
+  Cleaning : (lease : ℕ) → Place
   Kept : (ticket : ℕ) → Place
   Free : Place
   Draining : Place
@@ -34,18 +38,28 @@ pub data Call (T : Type 0) : Type 0 where
   Lease : Call T
   Resume : (ticket : ℕ) → Call T
   Ask : (lease : ℕ) → Call T
-  Send : (lease : ℕ) (last : Bool) → Call T
+  -- bytes of a request, by which so many packets go out; its end, by which so many go out before its last one
+  Put : (lease count : ℕ) → Call T
+  Finish : (lease count : ℕ) → Call T
   Cancel : (lease : ℕ) → Call T
   GiveBack : (lease : ℕ) → Call T
+  -- the connection of a number is lent to be cleaned; it was
+  Clean : (number : ℕ) → Call T
+  Cleaned : (lease : ℕ) → Call T
   Keep : (lease : ℕ) → Call T
   Abandon : (ticket : ℕ) → Call T
   Came : (number : ℕ) (part : Part T) → Call T
   Lost : (number : ℕ) → Call T
+  -- one of these, to which memory was refused
+  Without : (call : Call T) → Call T
 
 pub data Reply : Type 0 where
   Unknown : Reply
   AllInUse : Reply
   NotNow : Reply
+  -- the connection refuses it so; memory was refused
+  No : (why : ClientRefusal) → Reply
+  NoMemory : Reply
   -- a lease of this connection, which somebody had before or not
   Lent : (lease number : ℕ) (had : Bool) → Reply
   Ticket : (ticket : ℕ) → Reply
@@ -68,18 +82,33 @@ nothing s reply = record { service = s; reply = reply; number = 0; dones = [] }
 
 abbrev pub holds : ℕ → Place → Bool
 holds lease (Leased other) = other == lease
+holds lease (Cleaning other) = other == lease
 holds lease (Kept ticket) = false
 holds lease Free = false
 holds lease Draining = false
 
 abbrev pub keeps : ℕ → Place → Bool
 keeps ticket (Leased lease) = false
+keeps ticket (Cleaning lease) = false
 keeps ticket (Kept other) = other == ticket
 keeps ticket Free = false
 keeps ticket Draining = false
 
+-- The lease that holds a connection, where one does.
+abbrev pub lease_in : Place → Option ℕ
+lease_in (Leased lease) = Some lease
+lease_in (Cleaning lease) = Some lease
+lease_in (Kept ticket) = None
+lease_in Free = None
+lease_in Draining = None
+
+abbrev pub lease_at : Option Seat → Option ℕ
+lease_at None = None
+lease_at (Some c) = lease_in c.place
+
 abbrev pub is_free : Place → Bool
 is_free (Leased lease) = false
+is_free (Cleaning lease) = false
 is_free (Kept ticket) = false
 is_free Free = true
 is_free Draining = false
@@ -142,15 +171,21 @@ rests (Broken fault) = None
 -- where one is behind what came: a draining one is free once it is idle
 abbrev pub drained : Place → Stage → Place
 drained (Leased lease) stage = Leased lease
+drained (Cleaning lease) stage = Cleaning lease
 drained (Kept ticket) stage = Kept ticket
 drained Free stage = Free
 drained Draining stage = if is_idle stage then Free else Draining
 
 -- ---- The calls
 
-abbrev pub acts : {T : Type 0} → Service → (Seat → Bool) → Act T → Option Seat → Step T
-acts s test act None = nothing s Unknown
-acts s test act (Some c) = does s s.given test c (Some c.place) (act ∷ []) Did
+-- Where the connection refuses the first act, nothing is done.
+abbrev pub acts_unless : {T : Type 0} → Service → (Seat → Bool) → Seat → List (Act T) → Option ClientRefusal → Step T
+acts_unless s test c all None = does s s.given test c (Some c.place) all Did
+acts_unless s test c all (Some why) = nothing s (No why)
+
+abbrev pub acts : {T : Type 0} → Service → (Seat → Bool) → Act T → List (Act T) → Option Seat → Step T
+acts s test first all None = nothing s Unknown
+acts s test first all (Some c) = acts_unless s test c all (refusal_in (turn c.line first).answer)
 
 abbrev pub opens : {T : Type 0} → Service → Bool → Step T
 opens s false = nothing s AllInUse
@@ -189,10 +224,51 @@ is_open (Some Full) descriptor = false
 is_open (Some KeepTransaction) descriptor = nat_lt 0 descriptor
 is_open None descriptor = nat_lt 0 descriptor
 
+-- a connection that can be lent is lent to be cleaned
+abbrev pub cleans : {T : Type 0} → Service → (Seat → Bool) → Option Seat → Step T
+cleans s test None = nothing s Unknown
+cleans s test (Some c) =
+    if is_lendable c
+    then does s (suc s.given) test c (Some (Cleaning (suc s.given))) (line.Mark Full ∷ []) (Lent (suc s.given) c.number true)
+    else nothing s NotNow
+
+-- no reset is owed there, and no transaction is open
+abbrev pub is_clean : Option Reset → ℕ → Bool
+is_clean (Some reset) descriptor = false
+is_clean None descriptor = descriptor == 0
+
+-- where it is then: it is closed where it isn't clean; or it isn't time to ask
+abbrev pub rests_clean : Bool → Stage → Option (Option Place)
+rests_clean clean Idle = Some (if clean then Some Free else None)
+rests_clean clean (Sending begun) = None
+rests_clean clean Reading = None
+rests_clean clean Cancelling = None
+rests_clean clean (Broken fault) = Some None
+
+abbrev pub rests_cleaned : {T : Type 0} → Service → (Seat → Bool) → Seat → Option (Option Place) → Step T
+rests_cleaned s test c None = nothing s NotNow
+rests_cleaned s test c (Some place) = does s s.given test c place [] (Back place)
+
+-- only one that is lent for this is looked at
+abbrev pub clean_place : Place → Line → Option (Option Place)
+clean_place (Leased lease) l = None
+clean_place (Cleaning lease) l = rests_clean (is_clean l.heard.mark l.heard.descriptor) l.stage
+clean_place (Kept ticket) l = None
+clean_place Free l = None
+clean_place Draining l = None
+
+abbrev pub cleaned : {T : Type 0} → Service → (Seat → Bool) → Option Seat → Step T
+cleaned s test None = nothing s Unknown
+cleaned s test (Some c) = rests_cleaned s test c (clean_place c.place c.line)
+
+-- idle, with a transaction that is open
+abbrev pub may_keep : Seat → Bool
+may_keep c = is_idle c.line.stage && is_open c.line.heard.mark c.line.heard.descriptor
+
 abbrev pub keeps_it : {T : Type 0} → Service → (Seat → Bool) → Option Seat → Step T
 keeps_it s test None = nothing s Unknown
 keeps_it s test (Some c) =
-    if is_idle c.line.stage && is_open c.line.heard.mark c.line.heard.descriptor
+    if may_keep c
     then does s (suc s.given) test c (Some (Kept (suc s.given))) [] (Ticket (suc s.given))
     else nothing s NotNow
 
@@ -212,14 +288,18 @@ loses s test (Some c) = does s s.given test c None (line.Lose ∷ []) (Back None
 abbrev pub step : {T : Type 0} → Service → Call T → Step T
 step s Lease = lends s (find_by is_lendable s.seats)
 step s (Resume ticket) = resumes s (has_ticket ticket) (find_by (has_ticket ticket) s.seats)
-step s (Ask lease) = acts s (has_lease lease) line.Ask (find_by (has_lease lease) s.seats)
-step s (Send lease last) = acts s (has_lease lease) (line.Send last) (find_by (has_lease lease) s.seats)
-step s (Cancel lease) = acts s (has_lease lease) line.Cancel (find_by (has_lease lease) s.seats)
+step s (Ask lease) = acts s (has_lease lease) line.Ask (line.Ask ∷ []) (find_by (has_lease lease) s.seats)
+step s (Put lease count) = acts s (has_lease lease) (line.Send false) (packets count) (find_by (has_lease lease) s.seats)
+step s (Finish lease count) = acts s (has_lease lease) (line.Send true) (packets count ++ line.Send true ∷ []) (find_by (has_lease lease) s.seats)
+step s (Cancel lease) = acts s (has_lease lease) line.Cancel (line.Cancel ∷ []) (find_by (has_lease lease) s.seats)
 step s (GiveBack lease) = gives_back s (has_lease lease) (find_by (has_lease lease) s.seats)
+step s (Clean number) = cleans s (has_number number) (find_by (has_number number) s.seats)
+step s (Cleaned lease) = cleaned s (has_lease lease) (find_by (has_lease lease) s.seats)
 step s (Keep lease) = keeps_it s (has_lease lease) (find_by (has_lease lease) s.seats)
 step s (Abandon ticket) = abandons s (has_ticket ticket) (find_by (has_ticket ticket) s.seats)
 step s (Came number part) = hears s (has_number number) part (find_by (has_number number) s.seats)
 step s (Lost number) = loses s (has_number number) (find_by (has_number number) s.seats)
+step s (Without call) = nothing s NoMemory
 
 abbrev pub service_after : {T : Type 0} → Service → List (Call T) → Service
 service_after s [] = s

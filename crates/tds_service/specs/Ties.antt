@@ -6,7 +6,6 @@ use Rattle.tds_packet.specs.Resets.{reset_bit, header_descriptor}
 use Rattle.tds_packet.specs.Sent.{end_bit}
 use Rattle.tds_wire.specs.declared.told.Token.{Token}
 use Rattle.tds_wire.specs.Reading.{Reading, Found, Sees, Inside, Refuses, is_between}
-use Rattle.tds_client.specs.declared.fault.ClientRefusal.{ClientRefusal}
 use Rattle.tds_client.specs.declared.state.Cancelled.{Cancelled}
 use Rattle.tds_client.specs.declared.state.Cancelled.TheVariants as how
 use Rattle.tds_client.specs.declared.state.Taken.{Taken}
@@ -24,6 +23,7 @@ use Rattle.tds_service.specs.Parts.{Item, Part, Goes, Ends, Cut, Fails}
 use Rattle.tds_service.specs.Line as line
 use Rattle.tds_service.specs.Line.{Line, Stage, Packet, OfRequest, Ignore, Attention, Act, Answer, Told, Nobody, To, turn, not_begun}
 use Rattle.tds_service.specs.History.{Done, history, line_after}
+use Rattle.tds_service.specs.Refusing.{packets}
 
 abbrev pub begun_of : ℕ → Bool
 begun_of packets = not_begun (packets == 0)
@@ -72,22 +72,6 @@ pub record Does (act : Act Token) (old new : Line) (answer : Answer) (before aft
   pub answer_is : (turn old act).answer ≡ answer
   pub bytes : Appends (turn old act).sent before after
 
--- Why the machine refuses, if it does.
-abbrev pub refusal_in : Answer → Option ClientRefusal
-refusal_in (line.Refused why) = Some why
-refusal_in line.Marked = None
-refusal_in (line.Asked request descriptor) = None
-refusal_in line.Sent = None
-refusal_in line.Nothing = None
-refusal_in line.Already = None
-refusal_in (line.Unsent request) = None
-refusal_in (line.Stopped request) = None
-refusal_in line.More = None
-refusal_in (line.Finished request) = None
-refusal_in (line.Acked request) = None
-refusal_in (line.Fault fault) = None
-refusal_in line.Lost = None
-
 -- A request's number, and the transaction that its header names.
 abbrev pub asked_answer : Connection → ℕ → Answer
 asked_answer c number = line.Asked number (header_descriptor c.client.heard.mark c.client.heard.descriptor)
@@ -106,8 +90,7 @@ sent_in (d ∷ ds) = d.sent ++ sent_in ds
 
 -- So many packets, none the last.
 abbrev pub sends : ℕ → List (Act Token)
-sends zero = []
-sends (suc count) = line.Send false ∷ sends count
+sends count = packets count
 
 -- What a call did is what the machine does by these acts.
 pub record DoesAll (acts : List (Act Token)) (old new : Line) (before after : List ℕ) : Type 0 where

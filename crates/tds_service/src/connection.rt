@@ -7,7 +7,9 @@ ghost use Rattle.tds_service.specs.Parts.{told};
 ghost use Rattle.tds_service.specs.Line as line;
 ghost use Rattle.tds_service.specs.Ties.{Does, DoesAll, Hears, Stands, answer_to, asked_answer};
 ghost use Rattle.tds_service.specs.Ties.{cancel_answer, end_at, finishing, line_in, listed, part_of};
-ghost use Rattle.tds_service.specs.Ties.{items_of, putting, refusal_in, taken_answer};
+ghost use Rattle.tds_service.specs.Refusing.{refusal_in};
+ghost use Rattle.tds_service.specs.Service.{is_clean, is_open};
+ghost use Rattle.tds_service.specs.Ties.{items_of, putting, taken_answer};
 
 use std::alloc::Global;
 use tds_client::{Cancelled, Client, ClientRefusal, ClientState, MessageKind, Rules, Sign, Taken};
@@ -56,6 +58,28 @@ impl Connection {
         ensures { result ≡ self.now.asked }
     {
         self.asked
+    }
+
+    /// Whether a transaction is open, and no full reset is about to end it.
+    pub(crate) fn is_open(&self) -> bool
+        ensures { result ≡ is_open (line_in self.now).heard.mark (line_in self.now).heard.descriptor }
+    {
+        match self.client.reset_mark() {
+            Some(Reset::Full) => false,
+            Some(Reset::KeepTransaction) => self.client.descriptor() > 0,
+            None => self.client.descriptor() > 0,
+        }
+    }
+
+    /// Whether no reset is owed, and no transaction is open.
+    pub(crate) fn is_clean(&self) -> bool
+        ensures { result
+            ≡ is_clean (line_in self.now).heard.mark (line_in self.now).heard.descriptor }
+    {
+        match self.client.reset_mark() {
+            Some(_) => false,
+            None => self.client.descriptor() == 0,
+        }
     }
 
     /// Lets the next request ask for this reset (MS-TDS 2.2.3.1.2). Of two the stronger one stays.

@@ -14,6 +14,7 @@ ghost use Rattle.tds_service.specs.Promises.{AsksUnawaited, FaultsUnawaited, Not
 ghost use Rattle.tds_service.specs.Promises.{attentions, acknowledgements};
 ghost use Rattle.tds_service.specs.Promises.{AsksAsOwed, LeavesNoneOwed, NamesAsHeard};
 ghost use Rattle.tds_service.specs.Promises.{nothing_known};
+ghost use Rattle.tds_service.specs.Owning.{OwnAlong};
 ghost use Rattle.tds_service.specs.Lending.{IsWith, LendsIdle, MarksReused, leased};
 ghost use Rattle.tds_service.specs.Lending.{nothing_known_of};
 
@@ -75,6 +76,12 @@ pub fn asks_for_reset<T>()
 pub fn names_descriptor<T>()
     ensures { (max n : ℕ) (calls : List (Call T))
         → NamesAsHeard nothing_known (on n (steps (new_service max) calls)) }
+{}
+
+/// Whoever is told: on each connection a token is told only to the newest request, and the lease that
+/// holds the connection as it comes is the one by which that request was asked.
+pub fn told_to_asker<T>()
+    ensures { (max n : ℕ) (calls : List (Call T)) → OwnAlong n None (new_service max) calls }
 {}
 
 /// A connection is lent again only where nothing is awaited on it.

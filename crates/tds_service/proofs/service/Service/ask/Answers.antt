@@ -1,0 +1,45 @@
+use Rattle.std.proofs.Common.{◌≡◌, ◌∙◌, ◌++◌, List, [], ◌∷◌, length, refl, sym, ap, arith, rules, true, false}
+use Rattle.std.proofs.Math.ListN.{set}
+use Rattle.std.proofs.lemmas.List.{with_items_is}
+use Rattle.std.proofs.lemmas.Result.{IfOk-weaker}
+use Rattle.tds_service.specs.declared.seat.Seat.{Seat}
+use Rattle.tds_service.specs.Line as line
+use Rattle.tds_service.specs.Refusing.{packets, refusal_in}
+use Rattle.tds_service.specs.Service.{Service, has_lease}
+use Rattle.tds_service.specs.Table.{service_in, seats_in}
+use Rattle.tds_service.specs.Ties.{line_in, asked_answer}
+use Rattle.tds_service.proofs.Tables.{here_in, acts_alike, refuses_alike, one_is_all, on_err, ask_never}
+use Rattle.tds_service.proofs.service.Service.ask.Goals as goal
+
+pub returns-in-Some-clause-ok : goal.returns-in-Some-clause-ok
+returns-in-Some-clause-ok c =
+    let old = service_in c.args.self.now in
+    let items = c.args.self.now.seats.items in
+    let index = c.in-Some.index in
+    let here = here_in (has_lease c.args.lease) items c.deref.result.now c.deref_mut.result.now index c.deref.ensures.value c.deref_mut.ensures.value c.in-Some.ensures.first in
+    let len : length c.ask_at.new.seats ≡ c.args.self.now.seats.len = first_of (omega arith, search rules) in
+    let items_are = with_items_is c.args.self.now.seats c.ask_at.new.seats len in
+    IfOk-weaker c.ask_at.result _ _
+    (λ done h.
+    let k = h here.seat here.at_lent in
+    let table = k.1 ∙ ap (λ (cs : List Seat). set cs index k.0) c.deref_mut.ensures.value in
+    let r = acts_alike old (has_lease c.args.lease) line.Ask (line.Ask ∷ []) items index here.seat k.0 [] [] refl here.first here.at k.2 k.3
+    (one_is_all line.Ask (line_in here.seat.connection) (line_in k.0.connection) (asked_answer here.seat.connection done.request) [] [] k.5)
+    (ap refusal_in k.5.answer_is) in
+    record {
+      service_is = ap (λ (cs : List Seat). let t : Service = record { max = old.max; last = old.last; given = old.given; seats = seats_in cs } in t) (items_are ∙ table) ∙ r.0;
+      reply_is = r.1;
+      number_is = r.2 ∙ sym k.4;
+      bytes = r.3;
+    })
+    c.ask_at.ensures.ok
+
+pub returns-in-Some-clause-refused : goal.returns-in-Some-clause-refused
+returns-in-Some-clause-refused c =
+    let old = service_in c.args.self.now in
+    let items = c.args.self.now.seats.items in
+    let index = c.in-Some.index in
+    let here = here_in (has_lease c.args.lease) items c.deref.result.now c.deref_mut.result.now index c.deref.ensures.value c.deref_mut.ensures.value c.in-Some.ensures.first in
+    on_err c.ask_at.result _ _
+    (λ refusal h. refuses_alike old (has_lease c.args.lease) line.Ask (line.Ask ∷ []) items index here.seat refusal refl here.first here.at (h here.seat here.at_lent) (ask_never (line_in here.seat.connection)))
+    c.ask_at.ensures.refused

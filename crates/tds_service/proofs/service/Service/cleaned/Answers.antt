@@ -1,0 +1,45 @@
+use Rattle.std.proofs.Common.{◌≡◌, ◌∙◌, ◌+◌, ◌==◌, ℕ, List, [], ◌∷◌, ◌++◌, Bool, true, false, length, suc, refl, sym, ap, subst, arith, rules}
+use Rattle.std.proofs.lemmas.List.{with_items_is}
+use Rattle.std.specs.Prelude.{Option, Some, None, if◌then◌else◌}
+use Rattle.tds_wire.specs.declared.told.Token.{Token}
+use Rattle.tds_service.specs.declared.seat.Seat as code
+use Rattle.tds_service.specs.declared.refusal.Refusal.{Refusal}
+use Rattle.tds_service.specs.declared.refusal.Refusal.TheVariants as refusals
+use Rattle.tds_service.specs.Line as line
+use Rattle.tds_service.specs.Line.{Line}
+use Rattle.tds_service.specs.History.{line_after}
+use Rattle.tds_service.specs.Service.{Service, Seat, Place, Kept, Lent, Ticket, Back, NotNow, Step, abandons, gives_back, cleaned, rests_cleaned, clean_place, keeps_it, may_keep, loses, does, nothing, rests, find_by, has_ticket, has_lease, has_number}
+use Rattle.tds_service.specs.Table.{StepsIn, RefusesIn, service_in, seat_in, seats_in, place_of, rest_of, without_closed}
+use Rattle.tds_service.specs.Ties.{line_in}
+use Rattle.tds_service.proofs.Alone.{same_number}
+use Rattle.tds_service.proofs.Tables.{with_seats, here_in, found_here, meets_here, rests_here, does_alike, does_gone, lost_bytes, not_now_in, done_in}
+use Rattle.tds_service.proofs.service.Service.cleaned.Goals as goal
+
+pub returns-in-Ok-clause-ok : goal.returns-in-Ok-clause-ok
+returns-in-Ok-clause-ok c =
+    let old = service_in c.args.self.now in
+    let items = c.args.self.now.seats.items in
+    let index = c.in-Some.index in
+    let here = here_in (has_lease c.args.lease) items c.deref.result.now c.deref_mut.result.now index c.deref.ensures.value c.deref_mut.ensures.value c.in-Some.ensures.first in
+    let found = found_here (has_lease c.args.lease) items c.deref_mut.result.now index here in
+    let k = c.in-Ok.ensures.ok here.seat here.at_lent in
+    let rest = c.in-Ok.rest in
+    let news = c.cleaned_at.new.seats in
+    let len : length news ≡ c.args.self.now.seats.len = first_of (omega arith, search rules) in
+    let closed = c.close.ensures ∙ ap (without_closed rest index) (with_items_is c.args.self.now.seats news len) in
+    let did = rests_here old (has_lease c.args.lease) [] rest (Back (rest_of rest)) items c.deref_mut.result.now news c.close.new.seats.items index here k.0 refl c.deref_mut.ensures.value k.1 closed k.2 k.4 k.6 in
+    let new = with_seats old (seats_in c.close.new.seats.items) in
+    subst (λ (x : Option Seat). StepsIn (cleaned old (has_lease c.args.lease) x) new (Back (rest_of rest)) c.in-Ok.number [] []) (sym found)
+    (subst (λ (p : Option (Option Place)). StepsIn (rests_cleaned old (has_lease c.args.lease) (seat_in here.seat) p) new (Back (rest_of rest)) c.in-Ok.number [] []) k.5
+    (record { service_is = did; reply_is = refl; number_is = sym k.3; bytes = ([], refl, refl) }))
+
+pub returns-in-Err-clause-refused : goal.returns-in-Err-clause-refused
+returns-in-Err-clause-refused c =
+    let old = service_in c.args.self.now in
+    let items = c.args.self.now.seats.items in
+    let index = c.in-Some.index in
+    let here = here_in (has_lease c.args.lease) items c.deref.result.now c.deref_mut.result.now index c.deref.ensures.value c.deref_mut.ensures.value c.in-Some.ensures.first in
+    let found = found_here (has_lease c.args.lease) items c.deref_mut.result.now index here in
+    subst (λ (r : Refusal). RefusesIn old (cleaned old (has_lease c.args.lease) (find_by (has_lease c.args.lease) old.seats)) r) (sym c.in-Err.ensures.refused.0)
+    (subst (λ (x : Option Seat). RefusesIn old (cleaned old (has_lease c.args.lease) x) refusals.NotNow) (sym found)
+    (subst (λ (p : Option (Option Place)). RefusesIn old (rests_cleaned old (has_lease c.args.lease) (seat_in here.seat) p) refusals.NotNow) (sym (c.in-Err.ensures.refused.1 here.seat here.at_lent)) refl))

@@ -1,0 +1,48 @@
+use Rattle.std.proofs.Common.{◌≡◌, ◌∙◌, ◌++◌, List, [], ◌∷◌, length, refl, sym, ap, arith, rules, true, false}
+use Rattle.std.proofs.Math.ListN.{set}
+use Rattle.std.proofs.lemmas.List.{with_items_is}
+use Rattle.std.proofs.lemmas.Result.{IfOk-weaker}
+use Rattle.tds_client.specs.Parts.{left_of}
+use Rattle.tds_service.specs.declared.seat.Seat.{Seat}
+use Rattle.tds_service.specs.Line as line
+use Rattle.tds_service.specs.Refusing.{packets, refusal_in}
+use Rattle.tds_service.specs.Service.{Service, has_lease}
+use Rattle.tds_service.specs.Table.{service_in, seats_in}
+use Rattle.tds_service.specs.Ties.{line_in, full_in}
+use Rattle.tds_service.proofs.Tables.{here_in, acts_alike, refuses_alike, one_is_all, on_err, send_never}
+use Rattle.tds_service.proofs.service.Service.finish.Goals as goal
+
+pub returns-in-Some-clause-ok : goal.returns-in-Some-clause-ok
+returns-in-Some-clause-ok c =
+    let old = service_in c.args.self.now in
+    let items = c.args.self.now.seats.items in
+    let index = c.in-Some.index in
+    let here = here_in (has_lease c.args.lease) items c.deref.result.now c.deref_mut.result.now index c.deref.ensures.value c.deref_mut.ensures.value c.in-Some.ensures.first in
+    let len : length c.finish_at.new.seats ≡ c.args.self.now.seats.len = first_of (omega arith, search rules) in
+    let items_are = with_items_is c.args.self.now.seats c.finish_at.new.seats len in
+    IfOk-weaker c.finish_at.result _ _
+    (λ done h.
+    let k = h here.seat here.at_lent in
+    let table = k.1 ∙ ap (λ (cs : List Seat). set cs index k.0) c.deref_mut.ensures.value in
+    let r = acts_alike old (has_lease c.args.lease) (line.Send true) (packets (full_in here.seat.connection.client (left_of here.seat.connection.client.stage)) ++ line.Send true ∷ []) items index here.seat k.0 c.args.out.now.items c.finish_at.new.out.items refl here.first here.at k.2 k.3
+    k.5
+    (ap refusal_in k.6) in (
+      full_in here.seat.connection.client (left_of here.seat.connection.client.stage),
+      record {
+        service_is = ap (λ (cs : List Seat). let t : Service = record { max = old.max; last = old.last; given = old.given; seats = seats_in cs } in t) (items_are ∙ table) ∙ r.0;
+        reply_is = r.1;
+        number_is = r.2 ∙ sym k.4;
+        bytes = r.3;
+      },
+    ))
+    c.finish_at.ensures.ok
+
+pub returns-in-Some-clause-refused : goal.returns-in-Some-clause-refused
+returns-in-Some-clause-refused c =
+    let old = service_in c.args.self.now in
+    let items = c.args.self.now.seats.items in
+    let index = c.in-Some.index in
+    let here = here_in (has_lease c.args.lease) items c.deref.result.now c.deref_mut.result.now index c.deref.ensures.value c.deref_mut.ensures.value c.in-Some.ensures.first in
+    on_err c.finish_at.result _ _
+    (λ refusal h. λ count. refuses_alike old (has_lease c.args.lease) (line.Send true) (packets count ++ line.Send true ∷ []) items index here.seat refusal refl here.first here.at (h here.seat here.at_lent) (send_never (line_in here.seat.connection) true))
+    c.finish_at.ensures.refused

@@ -1,0 +1,55 @@
+use Rattle.std.proofs.Common.{◌≡◌, ◌∙◌, ◌+◌, ◌==◌, ℕ, List, [], ◌∷◌, ◌++◌, Bool, true, false, length, suc, refl, sym, ap, subst, arith, rules}
+use Rattle.std.proofs.Math.ListN.{set}
+use Rattle.std.proofs.lemmas.List.{with_items_is}
+use Rattle.std.specs.Prelude.{Option, Some, None, if◌then◌else◌}
+use Rattle.tds_wire.specs.declared.told.Token.{Token}
+use Rattle.tds_service.specs.declared.seat.Seat as code
+use Rattle.tds_service.specs.declared.refusal.Refusal.{Refusal}
+use Rattle.tds_service.specs.declared.refusal.Refusal.TheVariants as refusals
+use Rattle.tds_service.specs.Line as line
+use Rattle.tds_service.specs.Line.{Line}
+use Rattle.tds_service.specs.History.{line_after}
+use Rattle.tds_service.specs.Service.{Service, Seat, Place, Kept, Lent, Ticket, Back, NotNow, Step, abandons, gives_back, cleaned, rests_cleaned, clean_place, keeps_it, may_keep, loses, does, nothing, rests, find_by, has_ticket, has_lease, has_number}
+use Rattle.tds_service.specs.Table.{StepsIn, RefusesIn, service_in, seat_in, seats_in, place_of, rest_of, without_closed}
+use Rattle.tds_service.specs.Ties.{line_in}
+use Rattle.tds_service.proofs.Alone.{same_number}
+use Rattle.tds_service.proofs.Tables.{with_seats, here_in, found_here, meets_here, rests_here, does_alike, does_gone, lost_bytes, not_now_in, done_in, steps_as}
+use Rattle.tds_service.proofs.service.Service.keep.Goals as goal
+
+pub returns-in-Ok-clause-ok : goal.returns-in-Ok-clause-ok
+returns-in-Ok-clause-ok c =
+    let old = service_in c.args.self.now in
+    let items = c.args.self.now.seats.items in
+    let index = c.in-Some.index in
+    let here = here_in (has_lease c.args.lease) items c.deref.result.now c.deref_mut.result.now index c.deref.ensures.value c.deref_mut.ensures.value c.in-Some.ensures.first in
+    let found = found_here (has_lease c.args.lease) items c.deref_mut.result.now index here in
+    let k = c.in-Ok.ensures.ok here.seat here.at_lent in
+    let ticket = c.in_ok-ticket.ticket in
+    let is : ticket ≡ suc old.given = c.in_ok-ticket.ensures.value ∙ (let e : old.given + 1 ≡ suc old.given = omega arith in e) in
+    let news = c.keep_at.new.seats in
+    let len : length news ≡ c.args.self.now.seats.len = first_of (omega arith, search rules) in
+    let table = k.1 ∙ ap (λ (cs : List code.Seat). set cs index k.0) c.deref_mut.ensures.value in
+    let did = does_alike old (suc old.given) (has_lease c.args.lease) (Kept (suc old.given)) [] (Ticket (suc old.given)) items index here.seat k.0 refl here.first here.at k.2 (ap place_of k.3 ∙ ap Kept is) k.5 in
+    let new : Service = record { max = old.max; last = old.last; given = ticket; seats = seats_in news } in
+    let P = λ (t : Step Token). StepsIn t new (Ticket ticket) here.seat.number [] [] in
+    let same = ap (λ (cs : List code.Seat). let t : Service = record { max = old.max; last = old.last; given = ticket; seats = seats_in cs } in t) table
+    ∙ (ap (λ (g : ℕ). let t : Service = record { max = old.max; last = old.last; given = g; seats = seats_in (set items index k.0) } in t) is ∙ did) in
+    let stepped = subst (λ (x : Option Seat). P (keeps_it old (has_lease c.args.lease) x)) (sym found)
+    (done_in P (does old (suc old.given) (has_lease c.args.lease) (seat_in here.seat) (Some (Kept (suc old.given))) [] (Ticket (suc old.given))) (nothing old NotNow) (may_keep (seat_in here.seat)) k.6
+    (record { service_is = same; reply_is = ap Ticket (sym is); number_is = refl; bytes = ([], refl, refl) })) in (
+      here.seat.number,
+      steps_as (keeps_it old (has_lease c.args.lease) (find_by (has_lease c.args.lease) old.seats)) new _ (Ticket ticket) (Ticket ticket) here.seat.number here.seat.number
+          (ap (λ (cs : List code.Seat). let t : Service = record { max = old.max; last = old.last; given = ticket; seats = seats_in cs } in t) (with_items_is c.args.self.now.seats news len))
+          refl refl stepped,
+    )
+
+pub returns-in-Err-clause-refused : goal.returns-in-Err-clause-refused
+returns-in-Err-clause-refused c =
+    let old = service_in c.args.self.now in
+    let items = c.args.self.now.seats.items in
+    let index = c.in-Some.index in
+    let here = here_in (has_lease c.args.lease) items c.deref.result.now c.deref_mut.result.now index c.deref.ensures.value c.deref_mut.ensures.value c.in-Some.ensures.first in
+    let found = found_here (has_lease c.args.lease) items c.deref_mut.result.now index here in
+    subst (λ (r : Refusal). RefusesIn old (keeps_it old (has_lease c.args.lease) (find_by (has_lease c.args.lease) old.seats)) r) (sym c.in-Err.ensures.refused.0)
+    (subst (λ (x : Option Seat). RefusesIn old (keeps_it old (has_lease c.args.lease) x) refusals.NotNow) (sym found)
+    (not_now_in old (does old (suc old.given) (has_lease c.args.lease) (seat_in here.seat) (Some (Kept (suc old.given))) [] (Ticket (suc old.given))) (may_keep (seat_in here.seat)) (c.in-Err.ensures.refused.1 here.seat here.at_lent)))

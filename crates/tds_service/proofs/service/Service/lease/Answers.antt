@@ -1,0 +1,65 @@
+use Rattle.std.proofs.Common.{◌≡◌, ◌∙◌, ◌+◌, ℕ, List, [], ◌∷◌, ◌++◌, Bool, true, false, length, suc, refl, sym, ap, subst, arith, rules}
+use Rattle.std.proofs.lemmas.List.{with_items_is}
+use Rattle.std.specs.Prelude.{Option, Some, None, nat_lt, if◌then◌else◌}
+use Rattle.tds_wire.specs.declared.told.Token.{Token}
+use Rattle.tds_packet.specs.declared.status.Reset.TheVariants.{Full, KeepTransaction}
+use Rattle.tds_service.specs.declared.seat.Seat as code
+use Rattle.tds_service.specs.declared.refusal.Refusal.{Refusal}
+use Rattle.tds_service.specs.Line as line
+use Rattle.tds_service.specs.Service as calls
+use Rattle.tds_service.specs.Service.{Service, Seat, Leased, Cleaning, Lent, NotNow, Step, lends, resumes, cleans, opens, does, nothing, find_by, has_ticket, has_number, is_lendable, is_idle}
+use Rattle.tds_service.specs.Table.{StepsIn, RefusesIn, service_in, seat_in, seats_in, place_of}
+use Rattle.tds_service.specs.Ties.{line_in}
+use Rattle.tds_service.proofs.Tables.{here_in, found_here, meets_here, lends_here, lent_same, steps_as, marked_idle, refused_busy, busy_not_lendable, not_now_in, done_in, length_in, on_err}
+use Rattle.tds_service.proofs.service.Service.lease.Goals as goal
+
+lent_number : (n m : ℕ) (had : Bool) → n ≡ m → had ≡ true → m ≡ (if had then n else 0)
+lent_number n m true e f = sym e
+lent_number n m false e f = absurd (let u : ⊥ = cc in u)
+
+not_both : {A : Type 0} (b : Bool) → b ≡ true → b ≡ false → A
+not_both true e f = absurd (let u : ⊥ = cc in u)
+not_both false e f = absurd (let u : ⊥ = cc in u)
+
+pub returns-in-Ok-clause-ok : goal.returns-in-Ok-clause-ok
+returns-in-Ok-clause-ok c =
+    let old = service_in c.args.self.now in
+    let items = c.args.self.now.seats.items in
+    let index = c.in-Some.index in
+    let lease = c.in_ok-lease.lease in
+    let news = c.lend_at.new.seats in
+    let here = here_in is_lendable items c.deref.result.now c.deref_mut.result.now index c.deref.ensures.value c.deref_mut.ensures.value c.in-Some.ensures.first in
+    let len : length news ≡ c.args.self.now.seats.len = first_of (omega arith, search rules) in
+    let items_are = with_items_is c.args.self.now.seats news len in
+    let k = c.in-Ok.ensures.ok here.seat here.at_lent in
+    let is : lease ≡ suc old.given = c.in_ok-lease.ensures.value ∙ (let e : old.given + 1 ≡ suc old.given = omega arith in e) in
+    let did = lends_here old is_lendable Leased Full lease c.in-Ok.number items c.deref_mut.result.now news index here k.0 is refl c.deref_mut.ensures.value k.1 k.2 (ap place_of k.3) k.4 k.5 in
+    let new : Service = record { max = old.max; last = old.last; given = lease; seats = seats_in news } in
+    let P = λ (t : Step Token). StepsIn t new (Lent lease c.in-Ok.number true) c.in-Ok.number [] [] in
+    let found = found_here is_lendable items c.deref_mut.result.now index here in
+    let stepped = subst (λ (x : Option Seat). P (lends old x)) (sym found) did in
+    steps_as (lends old (find_by is_lendable old.seats)) new _ (Lent lease c.in-Ok.number true) _ c.in-Ok.number _
+    (ap (λ (cs : List code.Seat). let t : Service = record { max = old.max; last = old.last; given = lease; seats = seats_in cs } in t) items_are)
+    (lent_same lease c.lent_again.result.lease c.in-Ok.number c.lent_again.result.number c.lent_again.result.had c.lent_again.ensures.0 c.lent_again.ensures.1 c.lent_again.ensures.2)
+    (lent_number c.lent_again.result.number c.in-Ok.number c.lent_again.result.had c.lent_again.ensures.1 c.lent_again.ensures.2) stepped
+
+pub returns-in-Err-clause-refused : goal.returns-in-Err-clause-refused
+returns-in-Err-clause-refused c =
+    let old = service_in c.args.self.now in
+    let items = c.args.self.now.seats.items in
+    let index = c.in-Some.index in
+    let here = here_in is_lendable items c.deref.result.now c.deref_mut.result.now index c.deref.ensures.value c.deref_mut.ensures.value c.in-Some.ensures.first in
+    let found = found_here is_lendable items c.deref_mut.result.now index here in
+    let busy = c.in-Err.ensures.refused.1 here.seat here.at_lent in
+    not_both (is_lendable (seat_in here.seat)) (meets_here is_lendable items c.deref_mut.result.now index here)
+    (busy_not_lendable (seat_in here.seat) (refused_busy (line_in here.seat.connection) Full busy.0 busy.1))
+
+pub returns-in-None-clause-refused : goal.returns-in-None-clause-refused
+returns-in-None-clause-refused c =
+    let old = service_in c.args.self.now in
+    let items = c.args.self.now.seats.items in
+    let none = ap (λ (cs : List code.Seat). find_by is_lendable (seats_in cs)) (sym c.deref.ensures.value) ∙ c.in-None.ensures.none in
+    on_err c.open.result _ _
+    (λ refusal h. subst (λ (x : Option Seat). RefusesIn old (lends old x) refusal) (sym none)
+    (subst (λ (n : ℕ). RefusesIn old (opens old (nat_lt n old.max)) refusal) (sym (length_in items)) h))
+    c.open.ensures.refused

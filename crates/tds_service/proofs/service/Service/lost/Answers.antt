@@ -1,0 +1,33 @@
+use Rattle.std.proofs.Common.{◌≡◌, ◌∙◌, ◌+◌, ◌==◌, ℕ, List, [], ◌∷◌, ◌++◌, Bool, true, false, length, suc, refl, sym, ap, subst, arith, rules}
+use Rattle.std.proofs.lemmas.List.{with_items_is}
+use Rattle.std.specs.Prelude.{Option, Some, None, if◌then◌else◌}
+use Rattle.tds_wire.specs.declared.told.Token.{Token}
+use Rattle.tds_service.specs.declared.seat.Seat as code
+use Rattle.tds_service.specs.declared.refusal.Refusal.{Refusal}
+use Rattle.tds_service.specs.declared.refusal.Refusal.TheVariants as refusals
+use Rattle.tds_service.specs.Line as line
+use Rattle.tds_service.specs.Line.{Line}
+use Rattle.tds_service.specs.History.{line_after}
+use Rattle.tds_service.specs.Service.{Service, Seat, Place, Kept, Lent, Ticket, Back, NotNow, Step, abandons, gives_back, cleaned, rests_cleaned, clean_place, keeps_it, may_keep, loses, does, nothing, rests, find_by, has_ticket, has_lease, has_number}
+use Rattle.tds_service.specs.Table.{StepsIn, RefusesIn, service_in, seat_in, seats_in, place_of, rest_of, without_closed}
+use Rattle.tds_service.specs.Ties.{line_in}
+use Rattle.tds_service.proofs.Alone.{same_number}
+use Rattle.tds_service.proofs.Tables.{with_seats, here_in, found_here, meets_here, rests_here, does_alike, does_gone, lost_bytes, not_now_in, done_in}
+use Rattle.tds_service.proofs.service.Service.lost.Goals as goal
+
+pub returns-in-Some-clause-ok : goal.returns-in-Some-clause-ok
+returns-in-Some-clause-ok c =
+    let old = service_in c.args.self.now in
+    let items = c.args.self.now.seats.items in
+    let index = c.in-Some.index in
+    let here = here_in (has_number c.args.number) items c.deref.result.now items index c.deref.ensures.value refl c.in-Some.ensures.first in
+    let found = found_here (has_number c.args.number) items items index here in
+    let gone = does_gone old old.given (has_number c.args.number) (line.Lose ∷ []) (Back None) items index here.seat refl here.first in
+    let is = ap (λ (cs : List code.Seat). with_seats old (seats_in cs)) c.remove.ensures.by_index.2 in
+    subst (λ (x : Option Seat). StepsIn (loses old (has_number c.args.number) x) (with_seats old (seats_in c.remove.new.self.items)) (Back None) c.args.number [] []) (sym found)
+    (record {
+      service_is = is ∙ gone;
+      reply_is = refl;
+      number_is = same_number here.seat.number c.args.number (meets_here (has_number c.args.number) items items index here);
+      bytes = lost_bytes (line_in here.seat.connection);
+    })

@@ -1,0 +1,37 @@
+use Rattle.std.proofs.Common.{◌≡◌, ◌∙◌, ◌+◌, ◌<◌, ℕ, List, [], ◌∷◌, ◌++◌, Bool, true, false, length, suc, refl, sym, ap, subst, arith, rules}
+use Rattle.std.proofs.lemmas.List.{with_items_is}
+use Rattle.std.specs.Prelude.{Option, Some, None, nat_lt, if◌then◌else◌}
+use Rattle.tds_wire.specs.declared.told.Token.{Token}
+use Rattle.tds_packet.specs.declared.status.Reset.TheVariants.{Full, KeepTransaction}
+use Rattle.tds_service.specs.declared.seat.Seat as code
+use Rattle.tds_service.specs.declared.refusal.Refusal.{Refusal}
+use Rattle.tds_service.specs.declared.place.Place.TheVariants as places
+use Rattle.tds_service.specs.Line as line
+use Rattle.tds_service.specs.Service as calls
+use Rattle.tds_service.specs.Service.{Service, Seat, Leased, Cleaning, Lent, NotNow, Step, lends, resumes, cleans, opens, does, nothing, find_by, has_ticket, has_number, is_lendable, is_idle}
+use Rattle.tds_service.specs.Table.{StepsIn, RefusesIn, service_in, seat_in, seats_in, place_of}
+use Rattle.tds_service.specs.Ties.{line_in}
+use Rattle.tds_service.proofs.Tables.{here_in, found_here, meets_here, lends_here, lent_same, steps_as, marked_idle, refused_busy, busy_not_lendable, not_now_in, done_in, length_in, seats_added, on_err}
+use Rattle.tds_service.proofs.service.Service.open.Goals as goal
+
+pub returns-clause-ok : goal.returns-clause-ok
+returns-clause-ok c =
+    let s = c.args.self.now in
+    let items = s.seats.items in
+    let next : s.last + 1 ≡ suc s.last = omega arith in
+    let is : c.args.lease ≡ suc s.given = c.requires ∙ (let e : s.given + 1 ≡ suc s.given = omega arith in e) in
+    let room : length items < s.max = first_of (search rules, omega arith) in
+    let new : code.Seat = record { number = s.last + 1; place = places.Leased c.args.lease; connection = c.in-Ok.connection } in
+    let added : seat_in new ≡ record { number = suc s.last; place = Leased (suc s.given); line = line.new_line } =
+    ap (λ (n : ℕ). let x : Seat = record { number = n; place = Leased c.args.lease; line = line_in c.in-Ok.connection } in x) next
+    ∙ (ap (λ (n : ℕ). let x : Seat = record { number = suc s.last; place = Leased n; line = line_in c.in-Ok.connection } in x) is
+    ∙ ap (λ (l : line.Line). let x : Seat = record { number = suc s.last; place = Leased (suc s.given); line = l } in x) c.in-Ok.ensures) in
+    let seats = ap seats_in (c.push_reserved.ensures.items ∙ ap (λ (cs : List code.Seat). cs ++ new ∷ []) c.reserve.ensures.items) ∙ (seats_added items new ∙ ap (λ (x : Seat). seats_in items ++ x ∷ []) added) in (
+      subst (λ (n : ℕ). n < s.max) (sym (length_in items)) room,
+      ap (λ ss. let t : Service = record { max = s.max; last = s.last + 1; given = c.args.lease; seats = ss } in t) seats
+          ∙ (ap (λ (n : ℕ). let t : Service = record { max = s.max; last = n; given = c.args.lease; seats = seats_in items ++ (record { number = suc s.last; place = Leased (suc s.given); line = line.new_line }) ∷ [] } in t) next
+          ∙ ap (λ (n : ℕ). let t : Service = record { max = s.max; last = suc s.last; given = n; seats = seats_in items ++ (record { number = suc s.last; place = Leased (suc s.given); line = line.new_line }) ∷ [] } in t) is),
+      is,
+      next,
+      refl,
+    )

@@ -1,0 +1,17 @@
+use Rattle.std.proofs.Common.{◌∙◌, [], refl, sym, ap, subst}
+use Rattle.tds_service.specs.declared.seat.Seat.{Seat}
+use Rattle.tds_service.specs.Line as line
+use Rattle.tds_service.specs.Ties.{Does, line_in, asked_answer}
+use Rattle.tds_service.proofs.Tables.{same_get}
+use Rattle.tds_service.proofs.service.asking.ask_at.Goals as goal
+
+pub returns-in-Ok-clause-ok : goal.returns-in-Ok-clause-ok
+returns-in-Ok-clause-ok c = λ s h.
+    let same = same_get c.args.seats.now c.args.index c.index-seats-index.result s c.requires ∙ sym h in (
+      _,
+      refl,
+      ap (λ (x : Seat). x.number) same,
+      ap (λ (x : Seat). x.place) same,
+      ap (λ (x : Seat). x.number) same,
+      subst (λ (x : Seat). Does line.Ask (line_in x.connection) (line_in c.ask.new.self) (asked_answer x.connection c.in-Ok.request) [] []) same (c.in-Ok.ensures.ok []),
+    )

@@ -1,0 +1,20 @@
+use Rattle.std.proofs.Common.{◌∙◌, sym, ap, arith, rules, below_more}
+use Rattle.tds_service.specs.declared.seat.Seat.{Seat}
+use Rattle.tds_service.specs.Table.{seat_in, test_of}
+use Rattle.tds_service.proofs.Tables.{met_at, none_met}
+use Rattle.tds_service.proofs.service.finding.find.Goals as goal
+
+pub returns-then-is_wanted-clause-first : goal.returns-then-is_wanted-clause-first
+returns-then-is_wanted-clause-first c = record {
+  within = c.loop-index-test.true;
+  here = met_at (test_of c.args.wanted) c.index-seats-index.result c.args.seats.now c.loop-index.index c.loop-index-test.true ∙ (ap (λ (x : Seat). test_of c.args.wanted (seat_in x)) (sym c.index-seats-index.is) ∙ sym c.is_wanted.ensures ∙ c.if-is_wanted.true);
+  before = c.loop-index.invariant;
+}
+
+pub loop-index-preserved : goal.loop-index-preserved
+loop-index-preserved c =
+    below_more _ _ c.loop-index.invariant
+    (met_at (test_of c.args.wanted) c.index-seats-index.result c.args.seats.now c.loop-index.index c.loop-index-test.true ∙ (ap (λ (x : Seat). test_of c.args.wanted (seat_in x)) (sym c.index-seats-index.is) ∙ sym c.is_wanted.ensures ∙ c.if-is_wanted.false))
+
+pub returns-clause-none : goal.returns-clause-none
+returns-clause-none c = none_met (test_of c.args.wanted) c.args.seats.now (λ k lt. c.loop-index.invariant k (first_of (search rules, omega arith)))

@@ -1,0 +1,17 @@
+use Rattle.std.proofs.Common.{◌∙◌, [], refl, sym, ap, subst}
+use Rattle.tds_service.specs.declared.seat.Seat.{Seat}
+use Rattle.tds_service.specs.Line as line
+use Rattle.tds_service.specs.Ties.{Does, line_in}
+use Rattle.tds_service.proofs.Tables.{same_get}
+use Rattle.tds_service.proofs.service.lending.lend_at.Goals as goal
+
+pub returns-in-Ok-clause-ok : goal.returns-in-Ok-clause-ok
+returns-in-Ok-clause-ok c = λ s h.
+    let same = same_get c.args.seats.now c.args.index c.index-seats-index.result s c.requires ∙ sym h in (
+      _,
+      refl,
+      ap (λ (x : Seat). x.number) same,
+      refl,
+      ap (λ (x : Seat). x.number) same,
+      subst (λ (x : Seat). Does (line.Mark c.args.reset) (line_in x.connection) (line_in c.mark.new.self) line.Marked [] []) same (c.in-Ok.ensures.ok []),
+    )

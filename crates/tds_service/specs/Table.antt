@@ -1,0 +1,140 @@
+-- The table of the code, as the machine's service.
+use Rattle.std.specs.Prelude.{◌≡◌, ℕ, zero, suc, ◌<◌, ◌++◌, Bool, true, false, List, [], ◌∷◌, length, Option, Some, None, take, drop, ◌+◌}
+use Rattle.tds_wire.specs.declared.told.Token.{Token}
+use Rattle.tds_client.specs.declared.fault.ClientRefusal.{ClientRefusal}
+use Rattle.tds_client.specs.declared.fault.ClientRefusal.TheVariants as clients
+use Rattle.tds_client.specs.Sending.{IsRefusal}
+use Rattle.tds_service.specs.declared.place.Place as code
+use Rattle.tds_service.specs.declared.place.Place.TheVariants as places
+use Rattle.tds_service.specs.declared.place.Rest.{Rest}
+use Rattle.tds_service.specs.declared.place.Rest.TheVariants as rests
+use Rattle.tds_service.specs.declared.place.Wanted.{Wanted}
+use Rattle.tds_service.specs.declared.place.Wanted.TheVariants as wants
+use Rattle.tds_service.specs.declared.refusal.Refusal.{Refusal}
+use Rattle.tds_service.specs.declared.refusal.Refusal.TheVariants as refusals
+use Rattle.tds_service.specs.declared.seat.Seat as seats
+use Rattle.tds_service.specs.declared.service.Service as services
+use Rattle.tds_service.specs.Line.{Line, Answer}
+use Rattle.tds_service.specs.History.{Done}
+use Rattle.tds_service.specs.Service.{Place, Leased, Cleaning, Kept, Free, Draining, Seat, Service, Call, Step, Reply, Unknown, AllInUse, NotNow, No, NoMemory, Lent, Ticket, Did, Back, has_lease, has_ticket, has_number, is_lendable, nothing, opens, step}
+use Rattle.tds_service.specs.Ties.{line_in, sent_in, Appends}
+
+abbrev pub place_of : code.Place → Place
+place_of (places.Leased lease) = Leased lease
+place_of (places.Cleaning lease) = Cleaning lease
+place_of (places.Kept ticket) = Kept ticket
+place_of places.Free = Free
+place_of places.Draining = Draining
+
+-- Where it is: no place where it is closed.
+abbrev pub rest_of : Rest → Option Place
+rest_of rests.Free = Some Free
+rest_of rests.Draining = Some Draining
+rest_of rests.Closed = None
+
+abbrev pub rests_of : Option Rest → Option (Option Place)
+rests_of None = None
+rests_of (Some rest) = Some (rest_of rest)
+
+abbrev pub seat_in : seats.Seat → Seat
+seat_in c = record { number = c.number; place = place_of c.place; line = line_in c.connection }
+
+abbrev pub seats_in : List seats.Seat → List Seat
+seats_in [] = []
+seats_in (c ∷ cs) = seat_in c ∷ seats_in cs
+
+abbrev pub service_in : services.Service → Service
+service_in s = record { max = s.max; last = s.last; given = s.given; seats = seats_in s.seats.items }
+
+-- Where a seat is that nobody holds; a closed one is taken out.
+abbrev pub IsAt : Option Place → code.Place → Type 0
+IsAt None place = Unit {0}
+IsAt (Some rest) place = place_of place ≡ rest
+
+abbrev pub without_closed : Rest → ℕ → List seats.Seat → List seats.Seat
+without_closed rests.Free index cs = cs
+without_closed rests.Draining index cs = cs
+without_closed rests.Closed index cs = take index cs ++ drop (index + 1) cs
+
+-- ---- Finding
+
+abbrev pub test_of : Wanted → Seat → Bool
+test_of (wants.Lease lease) c = has_lease lease c
+test_of (wants.Ticket ticket) c = has_ticket ticket c
+test_of (wants.Number number) c = has_number number c
+test_of wants.Lendable c = is_lendable c
+
+-- whether the connection at an index meets a test
+abbrev pub met : (Seat → Bool) → List seats.Seat → ℕ → Bool
+met test [] k = false
+met test (c ∷ cs) zero = test (seat_in c)
+met test (c ∷ cs) (suc k) = met test cs k
+
+-- it does, and none before it
+pub record FirstMet (test : Seat → Bool) (cs : List seats.Seat) (index : ℕ) : Type 0 where
+  pub within : index < length cs
+  pub here : met test cs index ≡ true
+  pub before : (k : ℕ) → k < index → met test cs k ≡ false
+
+-- ---- Refusing
+
+abbrev pub refusal_of : ClientRefusal → Refusal
+refusal_of clients.NotIdle = refusals.NotIdle
+refusal_of clients.NotSending = refusals.NotSending
+refusal_of clients.Broken = refusals.Broken
+refusal_of clients.Memory = refusals.Memory
+
+-- A connection's refusal, as its service says it.
+abbrev pub RefusedBy : Option ClientRefusal → Refusal → Type 0
+RefusedBy first refusal = (why : ClientRefusal) × (refusal ≡ refusal_of why) × IsRefusal first why
+
+-- Whether a reply says that nothing was done.
+abbrev pub is_refused : Reply → Bool
+is_refused Unknown = true
+is_refused AllInUse = true
+is_refused NotNow = true
+is_refused (No why) = true
+is_refused NoMemory = true
+is_refused (Lent lease number had) = false
+is_refused (Ticket ticket) = false
+is_refused Did = false
+is_refused (Back place) = false
+
+-- Numbers of leases and of connections are left: there are 2^64 - 1 of each.
+abbrev pub HasNumbers : Service → Type 0
+HasNumbers s = (s.given < 18446744073709551615) × (s.last < 18446744073709551615)
+
+-- Where a call is refused, the machine refuses it so; or memory was refused to one that would have been done.
+abbrev pub RefusesIn : Service → Step Token → Refusal → Type 0
+RefusesIn s t refusals.Unknown = t ≡ nothing s Unknown
+RefusesIn s t refusals.AllInUse = t ≡ nothing s AllInUse
+RefusesIn s t refusals.NotNow = t ≡ nothing s NotNow
+RefusesIn s t refusals.NotIdle = t ≡ nothing s (No clients.NotIdle)
+RefusesIn s t refusals.NotSending = t ≡ nothing s (No clients.NotSending)
+RefusesIn s t refusals.Broken = t ≡ nothing s (No clients.Broken)
+RefusesIn s t refusals.Memory = HasNumbers s → is_refused t.reply ≡ false
+
+abbrev pub Refuses : Call Token → Service → Refusal → Type 0
+Refuses call s refusal = RefusesIn s (step s call) refusal
+
+-- ---- Doing
+
+abbrev pub answers_in : List (Done Token) → List Answer
+answers_in [] = []
+answers_in (d ∷ ds) = d.answer ∷ answers_in ds
+
+-- What a call did is what the machine does: the table behind it, the connection that it reached, what is replied, and the bytes
+-- that go out there.
+pub record StepsIn (t : Step Token) (new : Service) (reply : Reply) (number : ℕ) (before after : List ℕ) : Type 0 where
+  pub service_is : new ≡ t.service
+  pub reply_is : t.reply ≡ reply
+  pub number_is : t.number ≡ number
+  pub bytes : Appends (sent_in t.dones) before after
+
+abbrev pub Steps : Call Token → Service → Service → Reply → ℕ → (before after : List ℕ) → Type 0
+Steps call old new reply number before after = StepsIn (step old call) new reply number before after
+
+-- A new connection was added, and lent.
+abbrev pub Opened : Service → Service → (lease number : ℕ) → Bool → Type 0
+Opened old new lease number had =
+    (length old.seats < old.max) × (new ≡ (opens {T = Token} old true).service) × (lease ≡ suc old.given) × (number ≡ suc old.last) × (had ≡ false)

@@ -1,0 +1,91 @@
+//! A connection in its service: its number and who holds it.
+ghost use Rattle.std.specs.Prelude.{◌≡◌};
+ghost use Rattle.tds_service.specs.Service.{clean_place, is_idle, rests};
+ghost use Rattle.tds_service.specs.Table.{rest_of, rests_of, seat_in, test_of};
+ghost use Rattle.tds_service.specs.Ties.{line_in};
+
+use crate::connection::Connection;
+use crate::place::{Place, Rest, Wanted};
+use tds_client::ClientState;
+
+#[derive(Drop)]
+pub(crate) struct Seat {
+    pub(crate) number: u64,
+    pub(crate) place: Place,
+    pub(crate) connection: Connection,
+}
+
+impl Seat {
+    /// Whether no request is underway on it.
+    pub(crate) fn is_idle(&self) -> bool
+        ensures { result ≡ is_idle (line_in self.now.connection).stage }
+    {
+        match self.connection.state() {
+            ClientState::Idle => true,
+            ClientState::Sending => false,
+            ClientState::Reading => false,
+            ClientState::Cancelling => false,
+            ClientState::Broken(_) => false,
+        }
+    }
+
+    /// Whether it is the one that is wanted.
+    pub(crate) fn is_wanted(&self, wanted: Wanted) -> bool
+        ensures { result ≡ test_of wanted (seat_in self.now) }
+    {
+        match (wanted, self.place) {
+            (Wanted::Lease(lease), Place::Leased(other)) => other == lease,
+            (Wanted::Lease(lease), Place::Cleaning(other)) => other == lease,
+            (Wanted::Lease(_), Place::Kept(_)) => false,
+            (Wanted::Lease(_), Place::Free) => false,
+            (Wanted::Lease(_), Place::Draining) => false,
+            (Wanted::Ticket(ticket), Place::Kept(other)) => other == ticket,
+            (Wanted::Ticket(_), Place::Leased(_)) => false,
+            (Wanted::Ticket(_), Place::Cleaning(_)) => false,
+            (Wanted::Ticket(_), Place::Free) => false,
+            (Wanted::Ticket(_), Place::Draining) => false,
+            (Wanted::Number(number), _) => self.number == number,
+            (Wanted::Lendable, Place::Free) => self.is_idle(),
+            (Wanted::Lendable, Place::Leased(_)) => false,
+            (Wanted::Lendable, Place::Cleaning(_)) => false,
+            (Wanted::Lendable, Place::Kept(_)) => false,
+            (Wanted::Lendable, Place::Draining) => false,
+        }
+    }
+
+    /// Where it is once it is cleaned: none while that goes on, or where it isn't lent for this.
+    pub(crate) fn clean_rest(&self) -> Option<Rest>
+        ensures { rests_of result ≡ clean_place (seat_in self.now).place (seat_in self.now).line }
+    {
+        match (self.place, self.connection.state()) {
+            (Place::Cleaning(_), ClientState::Idle) => {
+                if self.connection.is_clean() {
+                    Some(Rest::Free)
+                } else {
+                    Some(Rest::Closed)
+                }
+            }
+            (Place::Cleaning(_), ClientState::Broken(_)) => Some(Rest::Closed),
+            (Place::Cleaning(_), ClientState::Sending) => None,
+            (Place::Cleaning(_), ClientState::Reading) => None,
+            (Place::Cleaning(_), ClientState::Cancelling) => None,
+            (Place::Leased(_), _) => None,
+            (Place::Kept(_), _) => None,
+            (Place::Free, _) => None,
+            (Place::Draining, _) => None,
+        }
+    }
+
+    /// Where it is once nobody holds it.
+    pub(crate) fn rest(&self) -> Rest
+        ensures { rest_of result ≡ rests (line_in self.now.connection).stage }
+    {
+        match self.connection.state() {
+            ClientState::Idle => Rest::Free,
+            ClientState::Sending => Rest::Draining,
+            ClientState::Reading => Rest::Draining,
+            ClientState::Cancelling => Rest::Draining,
+            ClientState::Broken(_) => Rest::Closed,
+        }
+    }
+}

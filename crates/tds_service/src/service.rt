@@ -1,0 +1,30 @@
+//! The service.
+ghost use Rattle.std.specs.Prelude.{◌≤◌};
+
+mod asking;
+mod finding;
+mod giving;
+mod lending;
+mod making;
+
+use crate::seat::Seat;
+pub use asking::Asked;
+pub use lending::Lent;
+use std::alloc::Global;
+use tds_packet::PacketSize;
+use tds_wire::Features;
+
+/// Connections that callers share, before any server. It does no input or output: bytes that came go
+/// in, and bytes to be sent are appended, for the connection whose number is answered.
+#[derive(Drop)]
+pub struct Service {
+    alloc: Global,
+    size: PacketSize,
+    most: u16,
+    features: Features,
+    max: usize,
+    last: u64,
+    given: u64,
+    seats: Vec<Seat>,
+    ghost columns: { most ≤ 4096 },
+}
