@@ -1,13 +1,10 @@
 -- A client that is cancelling is idle again at the end of a message in which a DONE acknowledges: whoever reads the answers.
 use Rattle.std.proofs.Common.{◌≡◌, ◌∙◌, ℕ, Bool, true, false, cond, ◌||◌, List, [], ◌∷◌, ◌++◌, refl, sym, ap, subst}
-use Rattle.std.specs.Prelude.{Result, Ok, Err, Option, Some, None, nat_le, length, ◌==◌, if◌then◌else◌}
+use Rattle.std.specs.Prelude.{Result, Ok, Err, Option, Some, None, if◌then◌else◌}
 use Rattle.tds_packet.specs.Layout.{has_bit}
-use Rattle.tds_request.specs.declared.request.Request.{Request}
 use Rattle.tds_token.specs.declared.env_change.EnvChange.{EnvChange}
 use Rattle.tds_client.specs.declared.fault.ClientFault.{ClientFault}
-use Rattle.tds_client.specs.declared.message.MessageKind.{MessageKind}
 use Rattle.tds_client.specs.declared.fault.ClientFault.TheVariants as faults
-use Rattle.tds_client.specs.declared.fault.ClientRefusal.{ClientRefusal}
 use Rattle.tds_client.specs.declared.heard.Heard.{Heard}
 use Rattle.tds_client.specs.declared.heard.FinalDone.{FinalDone}
 use Rattle.tds_client.specs.declared.heard.FinalDone.TheVariants.{Awaited, Answered, Acknowledged}
@@ -19,12 +16,10 @@ use Rattle.tds_client.specs.declared.sign.Sign.TheVariants as signs
 use Rattle.tds_client.specs.declared.state.Taken.{Taken}
 use Rattle.tds_client.specs.declared.state.Taken.TheVariants as takes
 use Rattle.tds_client.specs.Acts.{Act, MarkReset, Start, Send, Cancel, Lose, Stream, Hear, heard_turn, act, behind, message_behind, message_of, is_acknowledgement, has_acknowledgement}
-use Rattle.tds_client.specs.Calls.{unless_refused, effect_of, streamed}
 use Rattle.tds_client.specs.Hearing.{◌>>=◌, hear_sign, strict_sign, strict_before, any_sign, hear_change, hear_done, place_change, place_done, changed, with_done, done_behind, may_end}
 use Rattle.tds_client.specs.Machine.{ItemMove, Token, MessageEnd, signed_in, ended_in, message_ended, with_heard, going_on, end_read, end_skipped}
-use Rattle.tds_client.specs.Streams.{Step, Open, Put, Finish, opened, put_in, finished_in}
-use Rattle.tds_client.specs.Sending.{Effect, started, sent_in, sent_of, cancelled_in, cancelled_sending}
 use Rattle.tds_client.specs.Session.{ClientSession, Stage, Idle, Sending, Reading, Cancelling, Broken, new_session, with_stage, lost_stage, marked, unless_idle}
+use Rattle.tds_client.proofs.Leaving.{Leaves, is_broken, mark_leaves, start_leaves, send_leaves, stream_leaves, cancel_leaves}
 
 abbrev Answer : Type 0
 Answer = Result Heard ClientFault
@@ -121,13 +116,6 @@ module _ (heard next : Heard) where
 
 -- ---- All acts
 
-abbrev is_broken : Stage → Bool
-is_broken Idle = false
-is_broken (Sending kind left packets) = false
-is_broken Reading = false
-is_broken Cancelling = false
-is_broken (Broken fault) = true
-
 -- Unless the client is broken, it knows whether the message that comes has an acknowledgement.
 abbrev Knows : ClientSession → List Sign → Type 0
 Knows s m = is_broken s.stage ≡ false → is_acknowledging s.heard.done ≡ has_acknowledgement m
@@ -144,77 +132,8 @@ also (x ∷ first) sign = ap (λ (b : Bool). is_acknowledgement x || b) (also fi
     or_assoc true b c = refl
     or_assoc false b c = refl
 
--- what an act that hears nothing leaves
-record Leaves (s next : ClientSession) : Type 0 where
-  heard : next.heard.done ≡ s.heard.done
-  whole : is_broken next.stage ≡ false → is_broken s.stage ≡ false
-
 left : (s next : ClientSession) (m : List Sign) → Leaves s next → Knows s m → Knows next m
 left s next m l k whole = ap is_acknowledging l.heard ∙ k (l.whole whole)
-
-leaves_all : (s : ClientSession) → Leaves s s
-leaves_all s = record { heard = refl; whole = λ h. h }
-
-mark_leaves : (s next : ClientSession) (o : Option ClientRefusal) → Leaves s next → Leaves s (unless_refused o s next)
-mark_leaves s next None l = l
-mark_leaves s next (Some refusal) l = leaves_all s
-
--- from a client that is not broken to any other stage
-moves : (s : ClientSession) (stage next : Stage) → s.stage ≡ stage → is_broken stage ≡ false → Leaves s (with_stage s next)
-moves s stage next e sound = record { heard = refl; whole = λ h. ap is_broken e ∙ sound }
-
-start_leaves : (s : ClientSession) (request : Request) (stage : Stage) → s.stage ≡ stage → Leaves s (unless_refused (unless_idle stage) s (started s request))
-start_leaves s request Idle e = moves s Idle _ e refl
-start_leaves s request (Sending kind left packets) e = leaves_all s
-start_leaves s request Reading e = leaves_all s
-start_leaves s request Cancelling e = leaves_all s
-start_leaves s request (Broken fault) e = leaves_all s
-
-either_leaves : {A : Type 0} (s : ClientSession) (b : Bool) (x y : Effect A) → Leaves s x.session → Leaves s y.session → Leaves s (effect_of s (Ok (cond b x y))).session
-either_leaves s true x y a c = a
-either_leaves s false x y a c = c
-
-send_leaves : (s : ClientSession) (stage : Stage) → s.stage ≡ stage → Leaves s (effect_of s (sent_in s stage)).session
-unfolding sent_of
-send_leaves s Idle e = leaves_all s
-send_leaves s (Sending kind left packets) e = either_leaves s (nat_le (length left) _) _ _ (moves s (Sending kind left packets) _ e refl) (moves s (Sending kind left packets) _ e refl)
-send_leaves s Reading e = leaves_all s
-send_leaves s Cancelling e = leaves_all s
-send_leaves s (Broken fault) e = leaves_all s
-
-opens_leaves : (s : ClientSession) (kind : MessageKind) (stage : Stage) → s.stage ≡ stage → Leaves s (unless_refused (unless_idle stage) s (opened s kind))
-opens_leaves s kind Idle e = moves s Idle _ e refl
-opens_leaves s kind (Sending of left packets) e = leaves_all s
-opens_leaves s kind Reading e = leaves_all s
-opens_leaves s kind Cancelling e = leaves_all s
-opens_leaves s kind (Broken fault) e = leaves_all s
-
-put_leaves : (s : ClientSession) (part : List ℕ) (stage : Stage) → s.stage ≡ stage → Leaves s (effect_of s (put_in s part stage)).session
-put_leaves s part Idle e = leaves_all s
-put_leaves s part (Sending kind left packets) e = moves s (Sending kind left packets) _ e refl
-put_leaves s part Reading e = leaves_all s
-put_leaves s part Cancelling e = leaves_all s
-put_leaves s part (Broken fault) e = leaves_all s
-
-finish_leaves : (s : ClientSession) (stage : Stage) → s.stage ≡ stage → Leaves s (effect_of s (finished_in s stage)).session
-finish_leaves s Idle e = leaves_all s
-finish_leaves s (Sending kind left packets) e = moves s (Sending kind left packets) _ e refl
-finish_leaves s Reading e = leaves_all s
-finish_leaves s Cancelling e = leaves_all s
-finish_leaves s (Broken fault) e = leaves_all s
-
-stream_leaves : (s : ClientSession) (step : Step) → Leaves s (streamed s step).session
-stream_leaves s (Open kind) = opens_leaves s kind s.stage refl
-stream_leaves s (Put part) = put_leaves s part s.stage refl
-stream_leaves s Finish = finish_leaves s s.stage refl
-
-cancel_leaves : (s : ClientSession) (stage : Stage) → s.stage ≡ stage → Leaves s (effect_of s (cancelled_in s stage)).session
-unfolding cancelled_sending
-cancel_leaves s Idle e = leaves_all s
-cancel_leaves s (Sending kind left packets) e = either_leaves s (packets == 0) _ _ (moves s (Sending kind left packets) _ e refl) (moves s (Sending kind left packets) _ e refl)
-cancel_leaves s Reading e = moves s Reading _ e refl
-cancel_leaves s Cancelling e = leaves_all s
-cancel_leaves s (Broken fault) e = leaves_all s
 
 no_longer : true ≡ false → ⊥
 no_longer e = cc
@@ -261,7 +180,7 @@ ends_know s rules Cancelling whole = end_knows s (end_skipped s s.heard.done) (m
 ends_know s rules (Broken fault) whole = absurd (no_longer whole)
 
 act_knows : (s : ClientSession) (m : List Sign) (a : Act) → Knows s m → Knows (act s a).session (message_behind m a)
-act_knows s m (MarkReset reset) k = left s _ m (mark_leaves s (marked s reset) (unless_idle s.stage) (record { heard = refl; whole = λ h. h })) k
+act_knows s m (MarkReset reset) k = left s _ m (mark_leaves s (marked s reset) (unless_idle s.stage) (record { heard = refl; columns = refl; whole = λ h. h })) k
 act_knows s m (Start request) k = left s _ m (start_leaves s request s.stage refl) k
 act_knows s m Send k = left s _ m (send_leaves s s.stage refl) k
 act_knows s m Cancel k = left s _ m (cancel_leaves s s.stage refl) k

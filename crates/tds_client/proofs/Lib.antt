@@ -8,6 +8,7 @@ pub mod StreamedRequests
 pub mod Spelled
 pub mod Attentions
 pub mod HeardAttentions
+pub mod Leaving
 pub mod Acknowledged
 pub mod Placed
 pub mod TakenHeard
@@ -16,3 +17,4 @@ pub mod Alike
 pub mod Lawful
 pub mod Finals
 pub mod Ends
+pub mod Waiting

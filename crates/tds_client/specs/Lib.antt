@@ -15,3 +15,4 @@ pub mod Parts
 pub mod Calls
 pub mod Promises
 pub mod Streamed
+pub mod Filling

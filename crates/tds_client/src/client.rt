@@ -5,7 +5,9 @@ ghost use Rattle.tds_client.specs.Session.{new_session, state_of, lost, marked, 
 ghost use Rattle.tds_packet.specs.Resets.{header_descriptor};
 ghost use Rattle.tds_client.specs.Sending.{Does, IsRefusal, room, started, sent, cancelled, refusal_of};
 
+mod filling;
 mod hearing;
+mod listening;
 mod parts;
 mod sending;
 mod streaming;
@@ -15,6 +17,7 @@ use crate::fault::{ClientFault, ClientRefusal};
 use crate::heard::{FinalDone, Heard};
 use crate::packets::{put, put_attention, put_ignore_and_attention};
 use crate::state::{Cancelled, ClientState, Sent};
+pub use filling::Fill;
 pub use parts::{ClientParts, StageParts};
 pub use sending::NextPacket;
 use std::alloc::Global;

@@ -15,7 +15,7 @@ mod state;
 pub mod stream_laws;
 mod walks;
 
-pub use client::{Client, ClientParts, NextPacket, StageParts};
+pub use client::{Client, ClientParts, Fill, NextPacket, StageParts};
 pub use fault::{ClientFault, ClientRefusal};
 pub use heard::{FinalDone, Heard};
 pub use message::MessageKind;

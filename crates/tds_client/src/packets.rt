@@ -1,5 +1,7 @@
-ghost use Rattle.std.specs.Prelude.{◌≡◌, ◌+◌, ◌*◌, ◌≤◌, ◌<◌, ◌^◌, ◌++◌, OnOk, OnErr, length, take};
+ghost use Rattle.std.specs.Prelude.{◌≡◌, ◌+◌, ◌*◌, ◌≤◌, ◌<◌, ◌^◌, ◌++◌, OnOk, OnErr, length, take, false};
 ghost use Rattle.tds_packet.specs.Layout.{bits_of};
+ghost use Rattle.tds_packet.specs.Resets.{mark_bit};
+ghost use Rattle.tds_packet.specs.Sent.{end_bit};
 ghost use Rattle.tds_client.specs.Packets.{packet_bytes, attention, ignore};
 ghost use Rattle.tds_client.specs.Streams.{ended_by, full_packets, packets_of};
 
@@ -32,6 +34,51 @@ pub(crate) fn header(kind: Kind, status: Status, before: usize, data: &[u8]) -> 
     ensures { result ++ «data».now ≡ packet_bytes kind (bits_of status) before «data».now }
 {
     sent_header(kind, status, ((before + 1) % 256) as u8, data)
+}
+
+/// The header of a packet that isn't the last one of its message, behind `before` others. Its data
+/// are two runs of bytes, one behind the other.
+#[inline(always)]
+pub(crate) fn full_header(
+    kind: Kind,
+    mark: Option<Reset>,
+    before: usize,
+    front: &[u8],
+    rest: &[u8],
+) -> [u8; 8]
+    requires length { length front.now + length rest.now ≤ 32759 }
+    requires before { before < 2 ^ 63 }
+    ensures { result ++ (front.now ++ rest.now)
+        ≡ packet_bytes kind (end_bit false + mark_bit before mark) before (front.now ++ rest.now) }
+{
+    let length = 8 + front.len() + rest.len();
+    let id = ((before + 1) % 256) as u8;
+    [
+        kind.byte(),
+        mark_bits(before, mark),
+        (length / 256) as u8,
+        (length % 256) as u8,
+        0,
+        0,
+        id,
+        0,
+    ]
+}
+
+/// The bit of the reset that a message asks for, in its first packet (MS-TDS 2.2.3.1.2).
+#[inline(always)]
+fn mark_bits(before: usize, mark: Option<Reset>) -> u8
+    ensures value { result ≡ end_bit false + mark_bit before mark }
+    ensures range { end_bit false + mark_bit before mark ≤ 16 }
+{
+    if before > 0 {
+        return 0;
+    }
+    match mark {
+        None => 0,
+        Some(Reset::Full) => 8,
+        Some(Reset::KeepTransaction) => 16,
+    }
 }
 
 /// Appends an attention.

@@ -105,8 +105,9 @@ impl<E: Engine + Drop> Held<E> {
         if self.link.is_cut {
             return Ok(on_cut(event));
         }
+        // A play cleans no connection, so its client is there.
         let Some(client) = pool.at(self.link.number) else {
-            unreachable!()
+            return Err(NoMemory);
         };
         let done = self.link.act(alloc, carrier, client, number, event)?;
         self.settle(carrier, pool, event);

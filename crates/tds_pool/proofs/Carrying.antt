@@ -1,6 +1,6 @@
 -- The client of a number, lent to whoever carries its packets.
-use Rattle.std.proofs.Common.{◌≡◌, ◌∙◌, ℕ, Bool, true, false, not, List, Option, Some, None, Result, Ok, Err, refl, sym, ap, subst, cond}
-use Rattle.std.specs.Prelude.{IsSome, IfOk, IfErr, OnErr, option_map}
+use Rattle.std.proofs.Common.{◌≡◌, ◌∙◌, ℕ, Bool, true, false, not, List, Option, Some, None, Result, refl, sym, ap, subst, cond}
+use Rattle.std.specs.Prelude.{IsSome, IfOk, option_map}
 use Rattle.tds_client.specs.Sending.{Does, sent}
 use Rattle.tds_client.specs.Session.{ClientSession}
 use Rattle.tds_client.specs.Taking.{Takes, taken_of}

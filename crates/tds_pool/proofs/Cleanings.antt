@@ -1,5 +1,5 @@
 -- A connection that is being cleaned, whatever is called meanwhile.
-use Rattle.std.proofs.Common.{◌≡◌, ℕ, suc, Bool, true, false, not, ◌≤◌, List, [], ◌∷◌, ◌++◌, Option, Some, None, refl, sym, ap, subst, ◌∙◌, cond, Result, Ok, Err}
+use Rattle.std.proofs.Common.{◌≡◌, ℕ, suc, Bool, true, false, not, ◌≤◌, List, [], ◌∷◌, Option, Some, None, refl, sym, ap, subst, ◌∙◌, cond, Result, Ok, Err}
 use Rattle.std.proofs.Math.Dec.{eqb}
 use Rattle.std.proofs.Math.Nat.{le_trans, le-suc, not-suc-le_self}
 use Rattle.std.proofs.lemmas.Bool.{eqb-true, eqb-false}
@@ -17,15 +17,14 @@ use Rattle.tds_packet.specs.declared.status.Reset.TheVariants.{Full, KeepTransac
 use Rattle.tds_request.specs.declared.request.Request.{Request}
 use Rattle.tds_request.specs.Layout.{spelling}
 use Rattle.tds_token.specs.Contents.{Contents, contents_of}
-use Rattle.tds_pool.specs.declared.answers.PoolRefusal.{PoolRefusal}
 use Rattle.tds_pool.specs.declared.lease.Lease.{Lease}
 use Rattle.tds_pool.specs.declared.lease.Ticket.{Ticket}
 use Rattle.tds_pool.specs.declared.lease.Turn.{Turn}
 use Rattle.tds_pool.specs.declared.seat.Place.{Place}
 use Rattle.tds_pool.specs.declared.seat.Place.TheVariants as places
-use Rattle.tds_pool.specs.Connections.{Connection, numbered, changed, at_place, with_client, ended_at, taken_out, next_turn, same_turn}
+use Rattle.tds_pool.specs.Connections.{Connection, numbered, changed, at_place, with_client, taken_out, next_turn, same_turn}
 use Rattle.tds_pool.specs.Calls.{only, lent_to, kept_for, is_leased, is_kept, is_free, is_held, is_idle, is_draining, is_cleaning, is_lendable, lent_again, put_back, rested, rests_at, settled, cancels, cancelled_and_settled, session_behind, refuses_keep, refuses_resume, free_one, held_one, closed_for, refuses_clean, asks_reset, behind_refusal, new_connection, cleaned_to, looked_at_clean, rests_clean, is_clean}
-use Rattle.tds_pool.specs.History.{Seen, Opens, moved}
+use Rattle.tds_pool.specs.History.{Seen}
 use Rattle.tds_pool.specs.Cleaning.{Packet, Call, LendsAgain, LendsNew, Uses, Carries, Moves, Keeps, Resumes, GivesBack, Abandons, TakesBack, LooksAtDrained, Loses, Closes, Cleans, CleansNot, LooksAtCleaned, behind_packet, behind_packets, where_some, with_these, called, is_cleaned, while_cleaned, IsBehind, carried, Out, In, behind_sent, behind_taken, is_cancelling}
 use Rattle.tds_pool.proofs.Others.{by_number, changed_here, changed_other, taken_other, added_other}
 use Rattle.tds_pool.proofs.Over.{numbered_has}

@@ -1,6 +1,5 @@
 -- The lease that is handed out is known, and before it no lease of that connection was.
 use Rattle.std.proofs.Common.{◌≡◌, ℕ, Bool, true, false, List, [], ◌∷◌, ◌++◌, Option, Some, None, refl, sym, ap, subst, ◌∙◌, cond}
-use Rattle.std.proofs.Math.Dec.{eqb}
 use Rattle.std.proofs.lemmas.Bool.{eq-eqb}
 use Rattle.std.specs.Prelude.{◌==◌, ◌&&◌, IsSome, IfSome, option_map}
 use Rattle.tds_client.specs.Session.{marked}

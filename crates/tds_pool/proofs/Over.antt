@@ -1,20 +1,19 @@
 -- A lending that has ended, and a connection that is being cleaned.
-use Rattle.std.proofs.Common.{◌≡◌, ℕ, suc, Bool, true, false, ◌+◌, ◌<◌, ◌≤◌, List, [], ◌∷◌, ◌++◌, Option, Some, None, refl, sym, ap, subst, ◌∙◌, cond, arith}
+use Rattle.std.proofs.Common.{◌≡◌, ℕ, suc, Bool, true, false, ◌<◌, ◌≤◌, List, [], ◌∷◌, Option, Some, None, refl, sym, ap, subst, ◌∙◌, cond, arith}
 use Rattle.std.proofs.Math.Dec.{eqb}
 use Rattle.std.proofs.Math.Nat.{le_trans, le-suc, not-suc-le_self}
 use Rattle.std.proofs.lemmas.Bool.{eqb-true, eqb-false}
-use Rattle.std.specs.Prelude.{◌==◌, ◌&&◌, ◌≢◌, nat_lt, IsSome, IsSomeAnd, IfSome, is_none, option_map}
+use Rattle.std.specs.Prelude.{◌==◌, ◌&&◌, ◌≢◌, IsSome, IsSomeAnd, IfSome, is_none, option_map}
 use Rattle.tds_client.specs.Session.{ClientSession, Stage, Idle, Sending, Reading, Cancelling, Broken}
 use Rattle.tds_client.specs.Sending.{cancelled}
-use Rattle.tds_pool.specs.declared.answers.GivenBack.{GivenBack}
 use Rattle.tds_pool.specs.declared.answers.GivenBack.TheVariants as given
 use Rattle.tds_pool.specs.declared.lease.Lease.{Lease}
 use Rattle.tds_pool.specs.declared.lease.Ticket.{Ticket}
 use Rattle.tds_pool.specs.declared.lease.Turn.{Turn}
 use Rattle.tds_pool.specs.declared.seat.Place.{Place}
 use Rattle.tds_pool.specs.declared.seat.Place.TheVariants as places
-use Rattle.tds_pool.specs.Connections.{Connection, numbered, changed, at_place, ended_at, with_client, taken_out, next_turn, same_turn}
-use Rattle.tds_pool.specs.Calls.{only, lent_to, kept_for, is_leased, is_kept, is_free, is_held, is_idle, is_cleaning, is_lendable, is_lent_for, is_kept_for, lent_next, put_back, rested, rests_at, settled, cancels, cancelled_and_settled, session_behind, given_back, abandoned, taken_back, held_one, new_connection, cleaned, cleaned_to, looked_at_clean, rests_clean, is_clean}
+use Rattle.tds_pool.specs.Connections.{Connection, numbered, changed, ended_at, taken_out, next_turn, same_turn}
+use Rattle.tds_pool.specs.Calls.{only, lent_to, kept_for, is_leased, is_kept, is_free, is_held, is_idle, is_cleaning, is_lendable, lent_next, put_back, rested, rests_at, settled, cancels, cancelled_and_settled, session_behind, given_back, abandoned, taken_back, new_connection, cleaned, cleaned_to, looked_at_clean, rests_clean, is_clean}
 use Rattle.tds_pool.specs.History.{Seen, Move, Changes, Ends, TakesOut, Opens, moved, behind, IsOver}
 use Rattle.tds_pool.proofs.Others.{by_number, changed_here, changed_other, taken_other, added_other}
 use Rattle.tds_pool.proofs.Taken.{gone}

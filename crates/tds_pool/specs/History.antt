@@ -1,5 +1,5 @@
 -- What becomes of a pool's connections, call after call.
-use Rattle.std.specs.Prelude.{◌≡◌, ℕ, suc, ◌+◌, ◌<◌, ◌≤◌, IfSome, List, [], ◌∷◌, ◌++◌}
+use Rattle.std.specs.Prelude.{◌≡◌, ℕ, suc, ◌<◌, IfSome, List, [], ◌∷◌, ◌++◌}
 use Rattle.tds_client.specs.Session.{ClientSession}
 use Rattle.tds_pool.specs.declared.lease.Turn.{Turn}
 use Rattle.tds_pool.specs.declared.seat.Place.{Place}

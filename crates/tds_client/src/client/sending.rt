@@ -1,13 +1,15 @@
 //! Sending a request whose message lies in the caller's memory.
 
-ghost use Rattle.std.specs.Prelude.{◌≡◌, ◌≤◌, ◌++◌, [], None, Some, Ok, IfOk, IfErr, OnErr, OnOk};
+ghost use Rattle.std.specs.Prelude.{◌≡◌, ◌≤◌, ◌++◌, ℕ, List, [], None, Some, Ok, IfOk, IfErr, OnErr, OnOk};
 ghost use Rattle.std.specs.Prelude.{drop, length};
 ghost use Rattle.tds_request.specs.declared.request.Request.{Request};
 ghost use Rattle.tds_request.specs.Layout.{kind_of_request, spelling};
 ghost use Rattle.tds_client.specs.declared.client.parts.StageParts.TheVariants.{Sending};
 ghost use Rattle.tds_client.specs.Parts.{AreParts, left_by, session_from, stage_from};
 ghost use Rattle.tds_client.specs.Sending.{message_of, refusal_of, sent, started};
-ghost use Rattle.tds_client.specs.Session.{unless_idle};
+ghost use Rattle.tds_client.specs.Session as session;
+ghost use Rattle.tds_client.specs.Session.{unless_idle, with_stage};
+ghost use Rattle.tds_packet.specs.Resets.{header_descriptor};
 
 use super::{ClientParts, StageParts};
 use crate::fault::ClientRefusal;
@@ -40,6 +42,23 @@ impl ClientParts {
             unless_idle (stage_from self.old.stage []) ≡ Some refusal) }
         ensures err { OnErr result (self.new ≡ self.old) }
     {
+        self.begin(kind.packet_kind())
+    }
+
+    /// Begins a message whose packets have this type: none of it is out. Answers the descriptor in
+    /// its headers: that of the open transaction, or 0 under a full mark (MS-TDS 2.2.5.3.2).
+    #[inline(always)]
+    pub(super) fn begin(&mut self, kind: Kind) -> Result<u64, ClientRefusal>
+        ensures ok { IfOk result (λ descriptor. (left : List ℕ)
+            → session_from self.new left
+            ≡ with_stage (session_from self.old []) (session.Sending kind left 0)) }
+        ensures descriptor { IfOk result (λ descriptor. descriptor
+            ≡ header_descriptor self.old.heard.mark self.old.heard.descriptor) }
+        ensures accepted { OnOk result (unless_idle (stage_from self.old.stage []) ≡ None) }
+        ensures refused { IfErr result (λ refusal.
+            unless_idle (stage_from self.old.stage []) ≡ Some refusal) }
+        ensures err { OnErr result (self.new ≡ self.old) }
+    {
         match &self.stage {
             StageParts::Idle => {}
             StageParts::Sending { .. } => return Err(ClientRefusal::NotIdle),
@@ -52,10 +71,7 @@ impl ClientParts {
             Some(Reset::Full) => 0,
             Some(Reset::KeepTransaction) => self.heard.descriptor,
         };
-        self.stage = StageParts::Sending {
-            kind: kind.packet_kind(),
-            packets: 0,
-        };
+        self.stage = StageParts::Sending { kind, packets: 0 };
         Ok(descriptor)
     }
 

@@ -24,9 +24,9 @@ use tds_token::{Columns, Token};
 /// What a packet without a fault makes of the client, found before anything changes.
 #[derive(Clone, Copy, Debug)]
 pub(super) struct Judged {
-    answer: Taken,
-    heard: Heard,
-    columns: Columns,
+    pub(super) answer: Taken,
+    pub(super) heard: Heard,
+    pub(super) columns: Columns,
 }
 
 impl Client {
@@ -220,7 +220,7 @@ impl Client {
 
 /// What the end of a message answers in cancelling: it is acknowledged, or its acknowledgement is
 /// still to come.
-fn end_skipped(done: FinalDone) -> Taken
+pub(super) fn end_skipped(done: FinalDone) -> Taken
     ensures { result ≡ answer_skipped done }
 {
     match done {
@@ -231,7 +231,7 @@ fn end_skipped(done: FinalDone) -> Taken
 }
 
 /// The message has ended: of the next one nothing is known.
-fn at_end(answer: Taken, heard: Heard) -> Judged
+pub(super) fn at_end(answer: Taken, heard: Heard) -> Judged
     ensures { result ≡ record {
       answer = answer;
       heard = with_done heard Awaited;

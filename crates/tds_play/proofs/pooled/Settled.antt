@@ -1,8 +1,9 @@
 -- One connection of a play that the pool was asked about: what the play keeps of it, and its seat.
-use Rattle.std.proofs.Common.{◌≡◌, ◌≢◌, ◌∙◌, ◌⊎◌, inl, inr, ℕ, Bool, true, false, List, Option, Some, None, refl, sym, ap, subst}
+use Rattle.std.proofs.Common.{◌≡◌, ◌≢◌, ◌∙◌, ◌⊎◌, inl, inr, ℕ, Bool, true, false, not, List, Option, Some, None, refl, sym, ap, subst, cond}
 use Rattle.std.specs.Prelude.{IsSome, option_map}
 use Rattle.tds_client.specs.Session.{ClientSession}
-use Rattle.tds_pool.specs.Calls.{Returned, all_numbers, is_broken}
+use Rattle.tds_pool.specs.Calls.{Returned, all_numbers, is_broken, is_cleaning, only}
+use Rattle.tds_pool.specs.Cleaning.{carried}
 use Rattle.tds_pool.specs.Connections.{Connection, PoolState, SameRest, connections, numbered, taken_out, with_client}
 use Rattle.tds_pool.specs.declared.answers.GivenBack.{GivenBack}
 use Rattle.tds_pool.specs.declared.answers.GivenBack.TheVariants as given
@@ -198,6 +199,15 @@ settled_reads size e o mid new columns then before between after on still same =
       brings = λ d. subst (λ (x : List ℕ). BringsBy (delivers e d) (new_reader d size) o (traffic before d).came x) (sym (still.came d)) (on.brings d);
     }
 
--- The client that is lent.
-pub lent_client : (n : ℕ) (pcs : List Connection) (c : Connection) (s : ClientSession) → numbered n pcs ≡ Some c → Some s ≡ option_map (λ (d : Connection). d.client) (numbered n pcs) → s ≡ c.client
-lent_client n pcs c s found lent = let e : Some s ≡ Some c.client = lent ∙ ap (option_map (λ (d : Connection). d.client)) found in cc
+-- The client that is lent. It is none of a connection that is being cleaned.
+pub lent_client : (n : ℕ) (pcs : List Connection) (c : Connection) (s : ClientSession) → numbered n pcs ≡ Some c → Some s ≡ option_map (λ (d : Connection). d.client) (carried n pcs) → s ≡ c.client
+lent_client n pcs c s found lent = by (not (is_cleaning c.place)) (lent ∙ ap (λ o. option_map (λ (d : Connection). d.client) (only (λ (d : Connection). not (is_cleaning d.place)) o)) found) where
+  by : (b : Bool) → Some s ≡ option_map (λ (d : Connection). d.client) (cond b (Some c) None) → s ≡ c.client
+  by true e = cc
+  by false e = absurd (cc)
+
+pub lent_there : (n : ℕ) (pcs : List Connection) (s : ClientSession) → Some s ≡ option_map (λ (d : Connection). d.client) (carried n pcs) → IsSome (carried n pcs)
+lent_there n pcs s lent = by (carried n pcs) lent where
+  by : (o : Option Connection) → Some s ≡ option_map (λ (d : Connection). d.client) o → IsSome o
+  by None e = absurd (cc)
+  by (Some c) e = refl

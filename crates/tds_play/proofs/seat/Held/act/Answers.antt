@@ -21,7 +21,7 @@ use Rattle.tds_play.proofs.Tying.{ties_handed}
 use Rattle.tds_play.proofs.any_bytes.Brought.{gone_on}
 use Rattle.tds_play.proofs.any_bytes.Stays.{stays_numbered}
 use Rattle.tds_play.proofs.pooled.Numbers.{IsIn}
-use Rattle.tds_play.proofs.pooled.Settled.{client_changes, client_found, in_of, is_some_of, lent_client, none_changes, settled_played, settled_reads}
+use Rattle.tds_play.proofs.pooled.Settled.{client_changes, client_found, in_of, is_some_of, lent_client, lent_there, none_changes, settled_played, settled_reads}
 use Rattle.tds_play.proofs.seat.Held.act.Goals as goal
 
 pub returns-then-self-clause-pool : goal.returns-then-self-clause-pool
@@ -42,7 +42,7 @@ settle-requires-clause-is_in g c =
     let it : IsIn n (connections c.args.pool.now) = in_of n (connections c.args.pool.now) there in
     is_some_of _ (record it.connection { client = s })
     (ap (λ (k : ℕ). numbered k (connections (with_client_numbered c.args.pool.now n s))) c.in_ok-done.ensures.number
-    ∙ ap (numbered n) (c.at.ensures.writes s there)
+    ∙ ap (numbered n) (c.at.ensures.writes s (lent_there n (connections c.args.pool.now) c.in-Some.client.now c.in-Some.ensures.value))
     ∙ client_found n s (connections c.args.pool.now) it.connection it.there)
 
 pub returns-clause-pool : goal.returns-clause-pool
@@ -52,7 +52,7 @@ returns-clause-pool g c =
     let there : IsSome (numbered n (connections c.args.pool.now)) = c.requires.there.is_in c.if-self.false in
     let it : IsIn n (connections c.args.pool.now) = in_of n (connections c.args.pool.now) there in
     let mid : PoolState = with_client_numbered c.args.pool.now n s in
-    client_changes n c.settle.new.self.link.is_cut s c.args.pool.now mid c.settle.new.pool it.connection it.there (c.at.ensures.writes s there)
+    client_changes n c.settle.new.self.link.is_cut s c.args.pool.now mid c.settle.new.pool it.connection it.there (c.at.ensures.writes s (lent_there n (connections c.args.pool.now) c.in-Some.client.now c.in-Some.ensures.value))
     (record { name = refl; max = refl; size = refl; last = refl })
     (subst (λ (k : ℕ). ChangesOne k c.settle.new.self.link.is_cut mid c.settle.new.pool) c.in_ok-done.ensures.number c.settle.ensures.pool)
 
@@ -70,7 +70,7 @@ returns-clause-reads g c = λ size reads.
     ap (λ o. (seat_by h o).client.columns) it.there ∙ sym (ap (λ (x : ClientSession). x.columns) lent) in
     let seat : numbered c.act.new.self.number (connections mid) ≡ Some (record it.connection { client = s }) =
     ap (λ (k : ℕ). numbered k (connections mid)) c.in_ok-done.ensures.number
-    ∙ ap (numbered n) (c.at.ensures.writes s there)
+    ∙ ap (numbered n) (c.at.ensures.writes s (lent_there n (connections c.args.pool.now) c.in-Some.client.now c.in-Some.ensures.value))
     ∙ client_found n s (connections c.args.pool.now) it.connection it.there in
     settled_reads size c.args.event.now c.in_ok-done.done.outcome c.act.new.self c.settle.new.self.link s.columns (seat_in c.settle.new.self c.settle.new.pool).client.columns old (g.C.Carrier.pipes c.act.new.carrier n) (g.C.Carrier.pipes c.settle.new.carrier n)
     (c.in_ok-done.ensures.reads size (subst (λ (k : Option ℕ). IsReading size c.args.self.now.link k old) columns reads))
@@ -94,7 +94,7 @@ returns-clause-refines g c = λ setup w m engine tells played gives few next.
     let acted = c.in_ok-done.ensures.refines setup w m engine p tells (subst (λ (x : Seat). RepresentsConnection n size engine c.args.self.now.link x old m) seat played) gives few next in
     let found : numbered c.act.new.self.number (connections mid) ≡ Some (record it.connection { client = s }) =
     ap (λ (k : ℕ). numbered k (connections mid)) c.in_ok-done.ensures.number
-    ∙ ap (numbered n) (c.at.ensures.writes s there)
+    ∙ ap (numbered n) (c.at.ensures.writes s (lent_there n (connections c.args.pool.now) c.in-Some.client.now c.in-Some.ensures.value))
     ∙ client_found n s (connections c.args.pool.now) it.connection it.there in
     let now : Held g.row.E.Denot g.row.E-Stmt.Denot = record c.args.self.now { link = c.act.new.self } in
     let is : seat_in now mid ≡ seated p s = ap (seat_by h) found in

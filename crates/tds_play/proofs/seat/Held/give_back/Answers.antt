@@ -30,7 +30,7 @@ use Rattle.tds_play.proofs.pooled.Given.{unknown}
 use Rattle.tds_play.proofs.pooled.Leaves.{Leaves, given_in, given_leaves, leaves_changed, leaves_none, leaves_numbered, leaves_twice}
 use Rattle.tds_play.proofs.pooled.Numbers.{IsIn}
 use Rattle.tds_play.proofs.pooled.Returned.{given_back_unknown, idle_alike, rest_answer, unbroken}
-use Rattle.tds_play.proofs.pooled.Settled.{in_of, lent_client, one_of, settled_reads}
+use Rattle.tds_play.proofs.pooled.Settled.{in_of, lent_client, lent_there, one_of, settled_reads}
 use Rattle.tds_play.proofs.pooled.Changes.{changed_numbers}
 use Rattle.tds_play.proofs.seat.Held.give_back.Goals.{in-Ok, in-Err}
 use Rattle.tds_play.proofs.seat.Held.give_back.Goals as goal
@@ -61,7 +61,7 @@ returns-in-Ok-give_back-clause-pool g c =
     let pcs : List Connection = connections c.args.pool.now in
     let then : List Connection = with_client n s pcs in
     let q : PoolState = c.give_back-2.new.self in
-    let writes : connections (with_client_numbered c.args.pool.now n s) ≡ then = c.at.ensures.writes s (c.requires.there.is_in c.if-self.false) in
+    let writes : connections (with_client_numbered c.args.pool.now n s) ≡ then = c.at.ensures.writes s (lent_there n (connections c.args.pool.now) c.in-Some.client.now c.in-Some.ensures.value) in
     let shown : connections q ≡ (given_back c.args.lease then).connections = c.in-Ok-give_back.ensures.shown ∙ ap (λ (cs : List Connection). (given_back c.args.lease cs).connections) writes in
     let answer : c.in-Ok-give_back.answer ≡ (given_back c.args.lease then).answer = c.in-Ok-give_back.ensures.answer ∙ ap (λ (cs : List Connection). (given_back c.args.lease cs).answer) writes in
     let left : Leaves n pcs (connections q) =
@@ -81,7 +81,7 @@ returns-in-Ok-give_back-clause-there g c =
     let then : List Connection = with_client n s pcs in
     let q : PoolState = c.give_back-2.new.self in
     let there : IsSome (numbered n pcs) = c.requires.there.is_in c.if-self.false in
-    let writes : connections (with_client_numbered c.args.pool.now n s) ≡ then = c.at.ensures.writes s there in
+    let writes : connections (with_client_numbered c.args.pool.now n s) ≡ then = c.at.ensures.writes s (lent_there n (connections c.args.pool.now) c.in-Some.client.now c.in-Some.ensures.value) in
     let shown : connections q ≡ (given_back c.args.lease then).connections = c.in-Ok-give_back.ensures.shown ∙ ap (λ (cs : List Connection). (given_back c.args.lease cs).connections) writes in
     let answer : c.in-Ok-give_back.answer ≡ (given_back c.args.lease then).answer = c.in-Ok-give_back.ensures.answer ∙ ap (λ (cs : List Connection). (given_back c.args.lease cs).answer) writes in
     back_there c.come_back.new.self n c.give_up.new.self.number (rests_in c.in-Ok-give_back.answer) c.args.pool.now q c.come_back.new.pool (c.come_back.ensures.number ∙ c.in-Ok-give_up.ensures.number) c.in-Ok-give_up.ensures.number there
@@ -98,7 +98,7 @@ returns-in-Ok-give_back-clause-reads g c = λ size k reads.
     let q : PoolState = c.give_back-2.new.self in
     let there : IsSome (numbered n pcs) = c.requires.there.is_in c.if-self.false in
     let it : IsIn n pcs = in_of n pcs there in
-    let writes : connections (with_client_numbered c.args.pool.now n s) ≡ then = c.at.ensures.writes s there in
+    let writes : connections (with_client_numbered c.args.pool.now n s) ≡ then = c.at.ensures.writes s (lent_there n (connections c.args.pool.now) c.in-Some.client.now c.in-Some.ensures.value) in
     let shown : connections q ≡ (given_back c.args.lease then).connections = c.in-Ok-give_back.ensures.shown ∙ ap (λ (cs : List Connection). (given_back c.args.lease cs).connections) writes in
     let answer : c.in-Ok-give_back.answer ≡ (given_back c.args.lease then).answer = c.in-Ok-give_back.ensures.answer ∙ ap (λ (cs : List Connection). (given_back c.args.lease cs).answer) writes in
     let lent = one_of (lent_to c.args.lease pcs) (c.requires.lent c.if-self.false) in
@@ -135,7 +135,7 @@ returns-in-Ok-give_back-clause-refines g c = λ setup w k m engine played few.
     let there : IsSome (numbered n pcs) = c.requires.there.is_in live in
     let it : IsIn n pcs = in_of n pcs there in
     let old : Option Pipe = g.C.Carrier.pipes c.args.carrier.now n in
-    let writes : connections (with_client_numbered c.args.pool.now n s) ≡ then = c.at.ensures.writes s there in
+    let writes : connections (with_client_numbered c.args.pool.now n s) ≡ then = c.at.ensures.writes s (lent_there n (connections c.args.pool.now) c.in-Some.client.now c.in-Some.ensures.value) in
     let shown : connections q ≡ (given_back c.args.lease then).connections = c.in-Ok-give_back.ensures.shown ∙ ap (λ (cs : List Connection). (given_back c.args.lease cs).connections) writes in
     let answer : c.in-Ok-give_back.answer ≡ (given_back c.args.lease then).answer = c.in-Ok-give_back.ensures.answer ∙ ap (λ (cs : List Connection). (given_back c.args.lease cs).answer) writes in
     let lent = one_of (lent_to c.args.lease pcs) (c.requires.lent live) in

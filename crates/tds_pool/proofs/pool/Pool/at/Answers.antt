@@ -1,4 +1,4 @@
-use Rattle.std.proofs.Common.{◌≡◌, ◌∙◌, refl, sym}
+use Rattle.std.proofs.Common.{◌∙◌, refl, sym}
 use Rattle.tds_pool.specs.Connections.{connections}
 use Rattle.tds_pool.proofs.Carrying.{not_lent, not_written}
 use Rattle.tds_pool.proofs.pool.Pool.at.Goals as goal

@@ -1,4 +1,4 @@
-use Rattle.std.proofs.Common.{◌≡◌, ◌∙◌, refl, sym, ap}
+use Rattle.std.proofs.Common.{◌≡◌}
 use Rattle.std.specs.Prelude.{IsSome}
 use Rattle.tds_pool.specs.Cleaning.{client_at}
 use Rattle.tds_pool.specs.Connections.{connections, numbered}
