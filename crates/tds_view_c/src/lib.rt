@@ -8,7 +8,7 @@ mod fault;
 mod views;
 
 ghost use Rattle.std.specs.Prelude.{◌≡◌, ◌<◌, ◌≤◌, ◌⊎◌, length};
-ghost use Rattle.tds_view_c.specs.Written.{Writes, WritesReport, WritesText};
+ghost use Rattle.tds_view_c.specs.Written.{WritesReport, WritesText};
 
 use buffer::put;
 use explaining::{Finding, explain};
