@@ -2,7 +2,6 @@
 
 ghost use Rattle.std.specs.Prelude.{◌≡◌, IfOk, Some};
 ghost use Rattle.tds_view_c.specs.Written.{IsReportText};
-ghost use Rattle.tds_view_c.specs.declared.views.View.TheVariants as view;
 
 use crate::explaining::NAME;
 use crate::fault::ViewFault;
@@ -25,7 +24,7 @@ pub(crate) enum View {
 impl View {
     /// The view of this number.
     pub(crate) fn of(number: u8) -> Option<View>
-        ensures { number ≡ 3 → result ≡ Some view.Report }
+        ensures { number ≡ 3 → result ≡ Some View.Report }
     {
         match number {
             1 => Some(View::Picture),
@@ -61,7 +60,7 @@ pub(crate) fn view_of(
     choice: Choice,
     bytes: &[u8],
 ) -> Result<Vec<u8>, ViewFault>
-    ensures { view ≡ view.Report → IfOk result (λ text. IsReportText bytes.now text.items) }
+    ensures { view ≡ View.Report → IfOk result (λ text. IsReportText bytes.now text.items) }
 {
     match view {
         View::Report => report_of(alloc, bytes),
