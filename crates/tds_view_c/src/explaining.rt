@@ -67,7 +67,11 @@ fn explain_play(
     let Exchange { events, report, .. } = exchange;
     let said = what_is_said(alloc, NAME, bytes, events.as_slice(), report)?;
     let mut text = said.refused;
-    let finding = if text.is_empty() { Finding::Well } else { Finding::Refused };
+    let finding = if text.is_empty() {
+        Finding::Well
+    } else {
+        Finding::Refused
+    };
     text.push_str(said.remarks.as_str())?;
     if let Finding::Well = finding {
         let count = events.len();

@@ -47,7 +47,11 @@ pub extern "C" fn tds_view(
         Err(ViewFault::Unplayed) => return 1,
         Err(ViewFault::Memory) => return 3,
     };
-    if put(text.as_slice(), out, count) { 0 } else { 2 }
+    if put(text.as_slice(), out, count) {
+        0
+    } else {
+        2
+    }
 }
 
 /// Writes what is to be said of a schedule to `out`, a line for each thing: `schedule:LINE:COLUMN: ..`.
@@ -68,7 +72,9 @@ pub extern "C" fn tds_explain(
     ensures nothing { result ≡ 3 → (out.new ≡ out.old) × (count.new ≡ 0) }
 {
     *count = 0;
-    let Ok(said) = explain(alloc, schedule) else { return 3 };
+    let Ok(said) = explain(alloc, schedule) else {
+        return 3
+    };
     if !put(said.text.as_bytes(), out, count) {
         return 2;
     }

@@ -82,7 +82,11 @@ fn report_of(alloc: Global, bytes: &[u8]) -> Result<Vec<u8>, ViewFault>
     let mut line = Vec::new(alloc);
     let status = run_play(alloc, &mut reader, &mut carrier, &mut report, &mut line);
     laws::memory_never_fails();
-    if status == 0 { Ok(report) } else { Err(why_unreported(alloc, bytes)) }
+    if status == 0 {
+        Ok(report)
+    } else {
+        Err(why_unreported(alloc, bytes))
+    }
 }
 
 /// Why a schedule has no report. Where it is played now, memory was refused before.
