@@ -27,8 +27,8 @@ extern "C" {
 /* Plays a schedule over links in memory that never fail, and writes this view of its play to `out`. Of a picture
  * `first` and `last` say which events are drawn, from 1; 0 says nothing: from the first one, and 300 events. The
  * other views are of all events. The text ends in a line feed, which `count` counts, with no 0 behind it. */
-uint8_t tds_view(uint8_t view, uint32_t first, uint32_t last, const uint8_t *schedule, size_t length, uint8_t *out, size_t room,
-                 size_t *count);
+uint8_t tds_view(uint8_t view, uint32_t first, uint32_t last, const uint8_t *schedule, size_t length,
+                 uint8_t *out, size_t room, size_t *count);
 
 #define TDS_EXPLAINED 0            /* nothing is wrong, and no event is refused */
 #define TDS_EXPLAINED_UNPLAYED 1   /* it isn't played: what is wrong was written */

@@ -60,7 +60,8 @@ def main(module, target):
     page = page.replace(EMPTY, json.dumps(data, separators=(",", ":")).replace("<", "\\u003c"))
     with open(target, "w", encoding="utf-8", newline="") as it:
         it.write(page)
-    print(f"page: {target}: {len(page)} characters, {len(data['examples'])} schedules, a module of {len(wasm) * 3 // 4} bytes")
+    size, count = os.path.getsize(module), len(data["examples"])
+    print(f"page: {target}: {len(page)} characters, {count} schedules, a module of {size} bytes")
 
 
 if __name__ == "__main__":
