@@ -21,6 +21,9 @@ HEADERS = {
     "tds_play": "plays a schedule of pooled TDS sessions",
 }
 
+# Headers of libraries that aren't installed: the page's views.
+ELSEWHERE = {"tds_view"}
+
 FIRST = """/* Mouktelf {version}: the client's end of a connection that speaks the Tabular Data Stream (MS-TDS), and the
  * player of schedules. C99 and C++. It is the headers {names},
  * one behind the other. https://learn.microsoft.com/openspecs/windows_protocols/ms-tds has the protocol. */
@@ -50,7 +53,7 @@ FRAME = re.compile(
 
 def here():
     """The names of the headers that there are, in order."""
-    there = {it[:-2] for it in os.listdir(f"{TOP}/include") if it.endswith(".h")}
+    there = {it[:-2] for it in os.listdir(f"{TOP}/include") if it.endswith(".h")} - ELSEWHERE
     if there - HEADERS.keys():
         sys.exit(f"headers: {', '.join(sorted(there - HEADERS.keys()))}: in no list of scripts/release_parts/headers.py")
     return [it for it in HEADERS if it in there]
