@@ -40,7 +40,7 @@ def of_vector(printer, name, gives, values, item, count):
 
 def of_numbers(printer, words, gives, values, kind):
     word, c_type, bits = words[0], printer.c_type(kind), kind.bits
-    if bits not in (8, 16, 32, 64) and word not in ("umin", "umax"):
+    if bits not in (8, 16, 32, 64) and word not in ("umin", "umax") and words[1:2] != ["sat"]:
         raise Refused(f"intrinsic llvm.{'.'.join(words)}")
     if word in ("umin", "umax"):
         return f"{values[0]} {'<' if word == 'umin' else '>'} {values[1]} ? {values[0]} : {values[1]}"
