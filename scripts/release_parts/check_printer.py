@@ -176,6 +176,8 @@ class Form:
             raise Refused("a copy")
         while not self.reader.take(")"):
             last, kind = self.typed("length" if is_memory and len(parts) == 2 else None)
+            if is_memory and len(parts) == 2 and re.search(r" \d{4,}$| [3-9]\d\d$", last):
+                raise Refused("more bytes are set than a run has")
             kinds.append(text_of_type(kind))
             # Where a 0 has no value, it gets one.
             parts.append("i1 false" if last == "i1 true" else last)
