@@ -72,7 +72,7 @@ pub fn version() -> String {
                   ("include/tds.h", "mouktelf.h"), ("mod fault;\nmod raw;\n", "mod fault;\nmod login;\n"),
                   ("pub use fault::Fault;\n", "use mouktelf_sys as raw;\n\npub use fault::Fault;\npub use login::{is_let_in, login};\n"))
     put(f"{to}/mouktelf/src/lib.rs", lib + version)
-    for name in ("fault", "tokens"):
+    for name in ("fault", "streams", "tokens"):
         put(f"{to}/mouktelf/src/{name}.rs", text_of(f"{examples}/{name}.rs"))
     put(f"{to}/mouktelf/examples/exchange.rs", changed(text_of(f"{examples}/main.rs"), ("use tds::", "use mouktelf::")))
 
@@ -87,6 +87,8 @@ def go(tree):
                                      ("// Package tds is", "// Package mouktelf is"), ("package tds\n", "package mouktelf\n"),
                                      ("// library tds_c.", "// C file mouktelf.c."), ("of tds.h", "of mouktelf.h"),
                                      ("tds.h says", "mouktelf.h says")))
+    put(f"{to}/streams.go", changed(text_of(f"{examples}/tds/streams.go"), ('#include "tds.h"', '#include "mouktelf.h"'),
+                                    ("package tds\n", "package mouktelf\n")))
     put(f"{to}/play/play.go", changed(text_of(f"{examples}/play/play.go"), flags, ('#include "tds_play.h"', '#include "mouktelf.h"'),
                                       ("over the library tds_play_c", "over the C file mouktelf_play.c")))
     main = changed(text_of(f"{examples}/main.go"), ('"example/play"', '"mouktelf/play"'), ('"example/tds"', 'tds "mouktelf"'))
