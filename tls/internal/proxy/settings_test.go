@@ -362,9 +362,8 @@ func throw(t *testing.T, p *Proxy, address string, data []byte) {
 	conn.CloseWrite()
 	io.Copy(io.Discard, conn)
 	conn.Close()
-	if n := p.Sessions(); n > 100 {
-		t.Fatal(n, "sessions")
-	}
+	// On a busy machine a session ends some time behind its connection.
+	waitFor(t, "over 100 sessions are left", func() bool { return p.Sessions() <= 100 })
 }
 
 // TestForwardIsLocal has a clear server that isn't this machine's: nothing goes there.
