@@ -1,5 +1,8 @@
 pub mod Tests
 pub mod Tables
+pub mod Joining
+pub mod Packeting
+pub mod Arriving
 pub mod Pairing
 pub mod Walks
 pub mod Knowing

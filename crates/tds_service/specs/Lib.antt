@@ -5,6 +5,7 @@ pub mod Refusing
 pub mod Promises
 pub mod Acknowledging
 pub mod Ties
+pub mod Packets
 pub mod Service
 pub mod Lending
 pub mod Owning

@@ -14,10 +14,12 @@ use Rattle.tds_service.specs.declared.refusal.Refusal.{Refusal}
 use Rattle.tds_service.specs.declared.refusal.Refusal.TheVariants as refusals
 use Rattle.tds_service.specs.declared.seat.Seat as seats
 use Rattle.tds_service.specs.declared.service.Service as services
-use Rattle.tds_service.specs.Line.{Line, Answer}
+use Rattle.tds_service.specs.Parts.{Part}
+use Rattle.tds_service.specs.Line.{Line, Answer, Reading}
 use Rattle.tds_service.specs.History.{Done}
-use Rattle.tds_service.specs.Service.{Place, Leased, Cleaning, Kept, Free, Draining, Seat, Service, Call, Step, Reply, Unknown, AllInUse, NotNow, No, NoMemory, Lent, Ticket, Did, Back, has_lease, has_ticket, has_number, is_lendable, nothing, opens, step}
-use Rattle.tds_service.specs.Ties.{line_in, sent_in, Appends}
+use Rattle.tds_service.specs.Service as calls
+use Rattle.tds_service.specs.Service.{find_by, Place, Leased, Cleaning, Kept, Free, Draining, Seat, Service, Call, Step, Reply, Unknown, AllInUse, NotNow, No, NoMemory, Lent, Ticket, Did, Back, lease_in, lease_at, has_lease, has_ticket, has_number, is_lendable, nothing, opens, step}
+use Rattle.tds_service.specs.Ties.{line_in, sent_in, tokens_in, IsTo, Appends}
 
 abbrev pub place_of : code.Place → Place
 place_of (places.Leased lease) = Leased lease
@@ -133,6 +135,29 @@ pub record StepsIn (t : Step Token) (new : Service) (reply : Reply) (number : �
 
 abbrev pub Steps : Call Token → Service → Service → Reply → ℕ → (before after : List ℕ) → Type 0
 Steps call old new reply number before after = StepsIn (step old call) new reply number before after
+
+abbrev pub told_in : List (Done Token) → List Token
+told_in [] = []
+told_in (d ∷ ds) = tokens_in d.told ++ told_in ds
+
+-- Nobody but this request is told.
+abbrev pub AllTo : ℕ → List (Done Token) → Type 0
+AllTo request [] = Unit {0}
+AllTo request (d ∷ ds) = IsTo request d.told × AllTo request ds
+
+-- A packet came on the connection of this number: the machine hears its part there, it answers so, what is told of it is appended,
+-- and it is the newest request's, of the lease that holds the connection.
+pub record Comes (s new : Service) (number : ℕ) (part : Part Token) (lease : Option ℕ) (request : ℕ) (answer : Answer) (before after : List Token) : Type 0 where
+  pub steps : StepsIn (step s (calls.Came number part)) new Did number [] []
+  pub answers : answers_in (step s (calls.Came number part)).dones ≡ answer ∷ []
+  pub told : after ≡ before ++ told_in (step s (calls.Came number part)).dones
+  pub owner : AllTo request (step s (calls.Came number part)).dones
+  pub holder : lease_at (find_by (has_number number) s.seats) ≡ lease
+
+-- The answer of a request is being read on the connection of this number.
+abbrev pub ReadsAt : Option Seat → Type 0
+ReadsAt None = ⊥
+ReadsAt (Some c) = c.line.stage ≡ Reading
 
 -- A new connection was added, and lent.
 abbrev pub Opened : Service → Service → (lease number : ℕ) → Bool → Type 0
