@@ -10,3 +10,4 @@ pub mod Service
 pub mod Lending
 pub mod Owning
 pub mod Table
+pub mod Newest

@@ -45,6 +45,16 @@ abbrev pub behind_packet : Bool → Reading → Reading
 behind_packet false r = r
 behind_packet true r = restarted r
 
+abbrev pub ReadsTo : Bool → Stop → Reading → Type 0
+ReadsTo ends stop now = (r : Reading) × (stop ≡ Stands r) × (now ≡ behind_packet ends r)
+
+-- Where the next packet is read from, so that a token may be cut by packets. Behind a fault none is read.
+abbrev pub Reads : Outcome → Bool → Stop → Reading → Type 0
+Reads outcomes.More ends stop now = ReadsTo ends stop now
+Reads outcomes.Finished ends stop now = ReadsTo ends stop now
+Reads outcomes.Acknowledged ends stop now = ReadsTo ends stop now
+Reads (outcomes.Fault fault) ends stop now = Unit {0}
+
 -- ---- Tokens, one behind the other
 
 -- What a client is doing that awaits an answer, or, behind an attention, an acknowledgement.

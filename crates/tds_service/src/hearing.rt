@@ -3,7 +3,7 @@ ghost use Rattle.std.specs.Prelude.{◌≡◌, ◌≤◌, ◌<◌, ◌+◌, ◌+
 ghost use Rattle.tds_listen.specs.Hearing.{Stands, tokens_in};
 ghost use Rattle.tds_wire.specs.Reading.{Reading};
 ghost use Rattle.tds_service.specs.Line as line;
-ghost use Rattle.tds_service.specs.Packets.{HeardSome, awaiting, behind_packet, outcome_answer, packet_part, told_of_part};
+ghost use Rattle.tds_service.specs.Packets.{HeardSome, Reads, awaiting, behind_packet, outcome_answer, packet_part, told_of_part};
 ghost use Rattle.tds_service.specs.Ties.{Hears, line_in, listed, taken_answer};
 
 use crate::connection::Connection;
@@ -116,6 +116,8 @@ pub(crate) fn hear_packet(
         (packet_part connection.old.walker bytes.now ends)) }
     ensures told { told.new.items ≡ told.old.items ++ told_of_part (line_in connection.old)
         (packet_part connection.old.walker bytes.now ends) }
+    ensures reads { Reads result ends (tokens_in connection.old.walker bytes.now).stop
+        connection.new.walker }
 {
     match hear(connection, bytes, ends, told) {
         Ok(Taken::More) => Outcome::More,

@@ -1,12 +1,14 @@
 //! What comes on a connection.
-ghost use Rattle.std.specs.Prelude.{◌≡◌, ◌<◌, ◌≤◌, ◌+◌, ◌++◌, ℕ, length, slice_index_or, slice_set, vec_len, vec_capacity, IfOk, IfErr, OnOk, OnErr};
+ghost use Rattle.std.specs.Prelude.{◌≡◌, ◌<◌, ◌≤◌, ◌+◌, ◌++◌, ℕ, length, Some, slice_index_or, slice_set, vec_len};
+ghost use Rattle.std.specs.Prelude.{vec_capacity, IfOk, IfErr, OnOk, OnErr};
+ghost use Rattle.tds_listen.specs.Hearing.{tokens_in};
 ghost use Rattle.tds_wire.specs.Reading.{Reading};
 ghost use Rattle.tds_service.specs.declared.seat.Seat.{Seat as CodeSeat};
 ghost use Rattle.tds_service.specs.Line as line;
-ghost use Rattle.tds_service.specs.Packets.{outcome_answer, packet_part, told_of_part};
+ghost use Rattle.tds_service.specs.Packets.{Reads, outcome_answer, packet_part, told_of_part};
 ghost use Rattle.tds_service.specs.Service as calls;
 ghost use Rattle.tds_service.specs.Service.{drained, find_by, has_number, lease_in};
-ghost use Rattle.tds_service.specs.Table.{Comes, ReadsAt, Refuses, place_of, service_in};
+ghost use Rattle.tds_service.specs.Table.{Comes, ReadsAt, Refuses, place_of, reading_on, service_in};
 ghost use Rattle.tds_service.specs.Ties.{Hears, line_in};
 
 use crate::hearing::hear_packet;
@@ -54,6 +56,10 @@ fn came_at(
         (packet_part c.connection.walker bytes.now ends))
         × (told.new.items ≡ told.old.items ++ told_of_part (line_in c.connection)
         (packet_part c.connection.walker bytes.now ends))) }
+    ensures reads { IfOk result (λ came. (c : CodeSeat) → c ≡ slice_index_or seats.old index c
+        → (d : CodeSeat) × (seats.new ≡ slice_set seats.old index d) × (d.number ≡ c.number)
+        × Reads came.outcome ends (tokens_in c.connection.walker bytes.now).stop
+        d.connection.walker) }
     ensures refused { IfErr result (λ refusal. (refusal ≡ Refusal.Memory)
         × ((c : CodeSeat) → c ≡ slice_index_or seats.old index c
         → (line_in c.connection).stage ≡ line.Reading)) }
@@ -89,15 +95,19 @@ impl Service {
         ends: bool,
         told: &mut Vec<Token>,
     ) -> Result<Came, Refusal>
-        ensures ok { IfOk result (λ came. (r : Reading) × Comes (service_in self.old)
-            (service_in self.new) number (packet_part r bytes.now ends) came.lease came.request
+        ensures ok { IfOk result (λ came. (r : Reading) × (reading_on number self.old ≡ Some r)
+            × Comes (service_in self.old) (service_in self.new) number
+            (packet_part r bytes.now ends) came.lease came.request
             (outcome_answer came.request came.outcome) told.old.items told.new.items) }
+        ensures reads { IfOk result (λ came. (r : Reading) → reading_on number self.old ≡ Some r
+            → (next : Reading) × (reading_on number self.new ≡ Some next)
+            × Reads came.outcome ends (tokens_in r bytes.now).stop next) }
         ensures refused { IfErr result (λ refusal. (r : Reading)
             → Refuses (calls.Came number (packet_part r bytes.now ends)) (service_in self.old)
             refusal) }
         ensures memory { IfErr result (λ refusal. refusal ≡ Refusal.Memory
             → ReadsAt (find_by (has_number number) (service_in self.old).seats)) }
-        ensures err { OnErr result (service_in self.new ≡ service_in self.old) }
+        ensures err { OnErr result (self.new ≡ self.old) }
         ensures untold { OnErr result (told.new.items ≡ told.old.items) }
     {
         match find(&self.seats, Wanted::Number(number)) {
