@@ -4,8 +4,8 @@ ghost use Rattle.serve_drivers.specs.declared.connection.TheConstants.{MOST_READ
 ghost use Rattle.serve_drivers.specs.declared.peer.TheConstants.{MOST_WAITING};
 
 use crate::peer::{CROWDED, FULL, MOST_WAITING, Next, Note, Peer};
+use crate::place::Link;
 use crate::script::Script;
-use mio::net::TcpStream;
 use std::alloc::{AllocError, Global};
 use std::io::{self, ErrorKind, Read, Write};
 use tds_session::OnAttention;
@@ -23,7 +23,7 @@ const MOST_READ: usize = 4096;
 /// A connection with what is to be sent on it.
 #[derive(Drop)]
 pub struct Connection {
-    stream: TcpStream,
+    stream: Link,
     peer: Peer,
     /// Its number, from 1, for the log.
     pub number: u64,
@@ -74,7 +74,7 @@ impl Connection {
     /// so that what is kept for a peer that reads nothing is this much memory and no more.
     pub fn new(
         alloc: Global,
-        stream: TcpStream,
+        stream: Link,
         number: u64,
         on_attention: OnAttention,
         now: u64,

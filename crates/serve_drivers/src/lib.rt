@@ -1,4 +1,4 @@
-//! A server of the batch language for TDS drivers, over TCP: one thread, many connections.
+//! A server of the batch language for TDS drivers, over TCP or a Unix socket: one thread, many connections.
 //!
 //! A [`House`] serves whoever comes, until it is to end or a round at a time. A [`Script`] says what is done
 //! with answers, to put a driver where it hurts.
@@ -9,10 +9,12 @@ mod front;
 mod keeping;
 mod log;
 mod peer;
+mod place;
 mod script;
 mod serving;
 
 pub use log::Log;
 pub use peer::{Next, Note, Peer};
+pub use place::{Link, Listener, Place};
 pub use script::{Event, Script, ScriptFault, read_script};
 pub use serving::{House, Manner};

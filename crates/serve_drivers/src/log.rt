@@ -18,11 +18,15 @@ impl<W: Write + Drop> Log<W> {
         Log { writer, is_on }
     }
 
-    /// A connection has come.
-    pub fn opened(&mut self, number: u64, from: SocketAddr) {
-        if self.is_on {
-            let _ = writeln!(self.writer, "connection {number} from {from}");
+    /// A connection has come, from this address; without one by a Unix socket.
+    pub fn opened(&mut self, number: u64, from: Option<SocketAddr>) {
+        if !self.is_on {
+            return;
         }
+        let _ = match from {
+            Some(from) => writeln!(self.writer, "connection {number} from {from}"),
+            None => writeln!(self.writer, "connection {number} from unix"),
+        };
     }
 
     /// This happened on a connection.

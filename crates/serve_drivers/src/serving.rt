@@ -1,14 +1,14 @@
 //! The loop over all connections.
 
 use crate::connection::{Connection, Late, Then};
-use crate::keeping::keep_alive;
 use crate::log::Log;
+use crate::place::{Link, Listener, Place};
 use crate::script::Script;
-use mio::net::{TcpListener, TcpStream};
 use mio::unix::SourceFd;
 use mio::{Events, Interest, Poll, Token};
 use slab::Slab;
 use std::alloc::Global;
+use std::fs::Files;
 use std::io::{self, Write};
 use std::mem;
 use std::net::{Net, SocketAddr};
@@ -31,7 +31,6 @@ pub const ROUND: usize = 256;
 /// How a server serves.
 #[derive(Clone, Copy, Debug)]
 pub struct Manner {
-    pub address: SocketAddr,
     pub on_attention: OnAttention,
     /// The milliseconds between two steps of an answer.
     pub pace: u64,
@@ -47,7 +46,7 @@ pub struct House<W: Write + Drop> {
     script: Script,
     start: Instant,
     poll: Poll,
-    listener: TcpListener,
+    listener: Listener,
     connections: Slab<Connection>,
     /// The keys of those that are to have a turn.
     waiting: Vec<usize>,
@@ -62,15 +61,16 @@ pub struct House<W: Write + Drop> {
 
 impl<W: Write + Drop> House<W> {
     /// A server that listens and has no connection yet.
-    pub fn new<R: Net + Clock>(
+    pub fn new<R: Net + Files + Clock>(
         rt: &R,
         alloc: Global,
+        place: &Place,
         manner: Manner,
         script: Script,
         log: Log<W>,
     ) -> io::Result<House<W>> {
         let start = Instant::now(rt)?;
-        let (poll, listener) = listen(rt, manner.address)?;
+        let (poll, listener) = listen(rt, place)?;
         Ok(House {
             alloc,
             manner,
@@ -113,9 +113,9 @@ impl<W: Write + Drop> House<W> {
         Ok(count)
     }
 
-    /// Where it listens.
-    pub fn local_addr(&self) -> io::Result<SocketAddr> {
-        self.listener.local_addr()
+    /// The address that it has, where it listens over TCP.
+    pub fn address(&self) -> io::Result<Option<SocketAddr>> {
+        self.listener.address()
     }
 
     /// How many connections it has.
@@ -249,10 +249,10 @@ impl<W: Write + Drop> House<W> {
     /// Accepts all that wait.
     fn accept(&mut self, now: u64) {
         for _ in 0..MOST {
-            let Ok((stream, from)) = self.listener.accept() else {
+            let Ok((link, from)) = self.listener.accept() else {
                 return;
             };
-            if !self.take_in(stream, from, now) {
+            if !self.take_in(link, from, now) {
                 return;
             }
         }
@@ -260,20 +260,18 @@ impl<W: Write + Drop> House<W> {
 
     /// Takes a connection in. One over the most connections is closed at once, and one that the system
     /// doesn't report. False where there is no memory for it.
-    fn take_in(&mut self, mut stream: TcpStream, from: SocketAddr, now: u64) -> bool {
-        if self.connections.len() >= MOST || stream.set_nodelay(true).is_err() {
+    fn take_in(&mut self, mut link: Link, from: Option<SocketAddr>, now: u64) -> bool {
+        if self.connections.len() >= MOST {
             return true;
         }
         let key = self.connections.vacant_key();
-        let both = Interest::READABLE | Interest::WRITABLE;
-        let registry = self.poll.registry();
-        if registry.register(&mut stream, Token(key), both).is_err() {
+        if link.register(self.poll.registry(), Token(key)).is_err() {
             return true;
         }
         self.opened = self.opened.saturating_add(1);
         let number = self.opened;
         let on_attention = self.manner.on_attention;
-        let Ok(connection) = Connection::new(self.alloc, stream, number, on_attention, now) else {
+        let Ok(connection) = Connection::new(self.alloc, link, number, on_attention, now) else {
             return false;
         };
         let is_in = self.connections.insert(connection).is_ok();
@@ -285,11 +283,9 @@ impl<W: Write + Drop> House<W> {
 }
 
 /// A listener there, and what the system reports it to.
-fn listen<R: Net>(rt: &R, address: SocketAddr) -> io::Result<(Poll, TcpListener)> {
+fn listen<R: Net + Files>(rt: &R, place: &Place) -> io::Result<(Poll, Listener)> {
     let poll = Poll::new(rt)?;
-    let mut listener = TcpListener::bind(rt, address)?;
-    keep_alive(&listener)?;
-    poll.registry()
-        .register(&mut listener, LISTENER, Interest::READABLE)?;
+    let mut listener = Listener::new(rt, place)?;
+    listener.register(poll.registry(), LISTENER)?;
     Ok((poll, listener))
 }

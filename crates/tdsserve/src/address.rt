@@ -1,6 +1,7 @@
-//! The address that a word stands for.
+//! Where a word says to listen.
 
 use crate::fault::ServeFault;
+use serve_drivers::Place;
 use std::alloc::{AllocError, Global};
 use std::net::{HostAddrs, SocketAddr, ToSocketAddrs};
 
@@ -8,9 +9,21 @@ use std::net::{HostAddrs, SocketAddr, ToSocketAddrs};
 const NO_PORT: &str =
     "has no port: an IP address or a machine's name, a colon and a port, as 127.0.0.1:1433";
 
+/// What stands before the path of a Unix socket.
+const UNIX: &str = "unix:";
+
+/// Where a word says to listen: a Unix socket by `unix:` and its path, else an address.
+pub fn find_place(rt: &HostRuntime, word: &str, lets_others_in: bool) -> Result<Place, ServeFault> {
+    match word.strip_prefix(UNIX) {
+        Some("") => Err(wrong(rt.alloc(), word, "has no path behind unix:")?),
+        Some(path) => Ok(Place::Unix(String::from_str(rt.alloc(), path)?)),
+        None => Ok(Place::Tcp(find_address(rt, word, lets_others_in)?)),
+    }
+}
+
 /// The address that a word stands for: an IP address or a name, a colon and a port. Where others
 /// aren't let in, it is to be this machine's own.
-pub fn find_address(
+fn find_address(
     rt: &HostRuntime,
     word: &str,
     lets_others_in: bool,

@@ -1,19 +1,19 @@
 //! The server as the words ask for it, before it serves.
 
-use crate::address::find_address;
+use crate::address::find_place;
 use crate::fault::ServeFault;
 use crate::words::Asked;
-use serve_drivers::{House, Log, Manner, Script, ScriptFault, read_script};
+use serve_drivers::{House, Log, Manner, Place, Script, ScriptFault, read_script};
 use std::fs;
 use std::io::{ErrorKind, Read, Stderr};
 
 /// The most bytes of a script file, as of a schedule's.
 const FILE_LIMIT: usize = 33_554_432;
 
-/// A server that listens as the words ask for.
-pub fn begin(rt: &HostRuntime, asked: &Asked) -> Result<House<Stderr>, ServeFault> {
+/// A server that listens as the words ask for, and where.
+pub fn begin(rt: &HostRuntime, asked: &Asked) -> Result<(House<Stderr>, Place), ServeFault> {
+    let place = find_place(rt, asked.address.as_str(), asked.lets_others_in)?;
     let manner = Manner {
-        address: find_address(rt, asked.address.as_str(), asked.lets_others_in)?,
         on_attention: asked.on_attention,
         pace: asked.pace,
         silence: asked.silence,
@@ -22,25 +22,15 @@ pub fn begin(rt: &HostRuntime, asked: &Asked) -> Result<House<Stderr>, ServeFaul
         Some(path) => given_script(rt, path.as_str())?,
         None => Script::none(rt.alloc()),
     };
-    let mut house = listen(rt, manner, script, asked.is_logged)?;
+    let log = Log::new(rt.stderr(), asked.is_logged);
+    let mut house = match House::new(rt, rt.alloc(), &place, manner, script, log) {
+        Ok(house) => house,
+        Err(error) => return Err(ServeFault::Listen(place, error)),
+    };
     if asked.ends_with_input {
         house.end_with_input().map_err(ServeFault::Input)?;
     }
-    Ok(house)
-}
-
-/// A server that listens so.
-fn listen(
-    rt: &HostRuntime,
-    manner: Manner,
-    script: Script,
-    is_logged: bool,
-) -> Result<House<Stderr>, ServeFault> {
-    let log = Log::new(rt.stderr(), is_logged);
-    match House::new(rt, rt.alloc(), manner, script, log) {
-        Ok(house) => Ok(house),
-        Err(error) => Err(ServeFault::Listen(manner.address, error)),
-    }
+    Ok((house, place))
 }
 
 /// The script in the file of this name.

@@ -2,10 +2,9 @@
 
 use clap::Error;
 use clap::error::ErrorKind as UsageKind;
-use serve_drivers::ScriptFault;
+use serve_drivers::{Place, ScriptFault};
 use std::alloc::AllocError;
 use std::io::{self, ErrorKind};
-use std::net::SocketAddr;
 
 /// What keeps it from serving.
 #[derive(Debug, Drop, thiserror::Error)]
@@ -31,7 +30,7 @@ pub enum ServeFault {
     Script(ScriptFault),
     /// The system doesn't let it listen there.
     #[error("error: {0}: {1}")]
-    Listen(SocketAddr, io::Error),
+    Listen(Place, io::Error),
     /// The system refuses to go on.
     #[error("error: {0}")]
     Refused(io::Error),

@@ -1,4 +1,5 @@
-//! A server of the batch language for TDS drivers, over TCP: one thread, many connections.
+//! A server of the batch language for TDS drivers, over TCP or a Unix socket: one thread, many
+//! connections.
 #![tactic(auto)]
 
 mod address;
@@ -8,8 +9,9 @@ mod words;
 
 use beginning::begin;
 use fault::ServeFault;
-use serve_drivers::House;
+use serve_drivers::{House, Place};
 use std::env;
+use std::fs;
 use std::io::{self, Stderr};
 use std::process::ExitCode;
 use words::read_words;
@@ -40,7 +42,12 @@ fn answer(rt: &HostRuntime, fault: &ServeFault) -> u8 {
 fn run(rt: &HostRuntime) -> Result<(), ServeFault> {
     let words = given_words(rt).map_err(ServeFault::of_words)?;
     let asked = read_words(rt.alloc(), words.as_slice())?;
-    serve(rt, begin(rt, &asked)?)
+    let (house, place) = begin(rt, &asked)?;
+    let done = serve(rt, house, &place);
+    if let Place::Unix(path) = &place {
+        let _ = fs::remove_file(rt, path.as_str());
+    }
+    done
 }
 
 /// The words of the command line, the program's name too.
@@ -53,9 +60,11 @@ fn given_words(rt: &HostRuntime) -> io::Result<Vec<String>> {
 }
 
 /// Says where it serves, serves, and says what it had done once it ends.
-fn serve(rt: &HostRuntime, mut house: House<Stderr>) -> Result<(), ServeFault> {
-    let address = house.local_addr().map_err(ServeFault::Refused)?;
-    let _ = eprintln!(rt; "serving on {address}");
+fn serve(rt: &HostRuntime, mut house: House<Stderr>, place: &Place) -> Result<(), ServeFault> {
+    let _ = match house.address().map_err(ServeFault::Refused)? {
+        Some(address) => eprintln!(rt; "serving on {address}"),
+        None => eprintln!(rt; "serving on {place}"),
+    };
     let open = house.serve(rt).map_err(ServeFault::Refused)?;
     let came = house.opened();
     let _ = eprintln!(rt; "ended: connections {came}, open {open}");

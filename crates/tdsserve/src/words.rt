@@ -112,7 +112,7 @@ fn no_words<'a>(alloc: Global) -> Command<'a> {
 
 fn address<'a>(alloc: Global) -> Arg<'a> {
     Arg::new(alloc, "ADDRESS").required(true).help(
-        "where to listen, as 127.0.0.1:1433 or localhost:1433; port 0 is a free one",
+        "where to listen, as 127.0.0.1:1433 or localhost:1433; port 0 is a free one; unix:PATH is a socket that its owner alone may open",
     )
 }
 
