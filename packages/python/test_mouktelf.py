@@ -4,7 +4,9 @@ The bytes are those of examples/c/bytes.h, and stand in docs/PROTOCOL.md."""
 
 import sys
 
-from mouktelf import Answer, Change, Client, Columns, Done, Fault, Message, NotPlayed, Reset, Row, Stage, packets_of, play
+from mouktelf import (
+    Answer, Change, Client, Columns, Done, Fault, Message, MessageKind, NotPlayed, Reset, Row, Stage, Walk, packets_of, play,
+)
 
 BEGIN = bytes.fromhex("0E010022000001001600000012000000020000000000000000000100000005000000")
 BEGUN = bytes.fromhex("0401002300000100E30B000808010000000000000000FD000000000000000000000000")
@@ -49,6 +51,25 @@ def cancelled():
     assert client.take(ACKNOWLEDGED).answer == Answer.ACKNOWLEDGED and client.stage == Stage.IDLE
 
 
+def streamed():
+    """A batch of 4,000 bytes goes out in 8 packets of 512; its answer, of any server, is heard token by token."""
+    client, body = Client(512), (b"g\0e\0t\0" * 667)[:4000]
+    client.start_message(MessageKind.BATCH)
+    parts = b"".join(client.put(body[at: at + 7]) for at in range(0, len(body), 7)) + client.finish()
+    assert len(parts) == 8 * 8 + 22 + 4000 and [parts[at + 1] for at in (0, 512, 7 * 512)] == [0, 0, 1]
+    walk = Walk()
+    begun = bytes.fromhex("E30B0008080500000000000000" + "00") + ENDED[8:]
+    assert [client.heard(it) for it in walk.tokens(begun)] == [True, True]
+    assert client.message_ended() == Answer.FINISHED and client.descriptor == 5
+    client.start_message(MessageKind.PROCEDURE)
+    client.finish()
+    client.cancel()
+    walk.restart()
+    assert [client.heard(it) for it in walk.tokens(ACKNOWLEDGED[8:])] == [False]
+    assert client.message_ended() == Answer.ACKNOWLEDGED
+    refuses(32, client.put, b"a")
+
+
 def refused():
     for size in (0, 511, 32768, 65536, -1):
         refuses(23, Client, size)
@@ -85,6 +106,7 @@ def schedules(names):
 if __name__ == "__main__":
     exchange()
     cancelled()
+    streamed()
     refused()
     schedules(sys.argv[1:])
     print(f"{len(sys.argv) - 1} schedules, and all else is right")

@@ -11,13 +11,15 @@ output: bytes go in, bytes and tokens come out, and the socket is the caller's. 
 
 from ._library import VERSION as __version__
 from .client import (
-    Acknowledged, Answer, Change, Client, Columns, Done, Fault, Message, Reset, ReturnStatus, Row, Stage, Taken, Token,
-    packets_of,
+    Acknowledged, Answer, Change, Client, Columns, Done, Fault, Message, MessageKind, Reset, ReturnStatus, Row, Stage,
+    Taken, Token, packets_of,
 )
 from .login import is_let_in, login
 from .play import NotPlayed, play
+from .wire import Place, Refused, Tells, Walk, Walked
 
 __all__ = [
-    "Acknowledged", "Answer", "Change", "Client", "Columns", "Done", "Fault", "Message", "NotPlayed", "Reset",
-    "ReturnStatus", "Row", "Stage", "Taken", "Token", "is_let_in", "login", "packets_of", "play",
+    "Acknowledged", "Answer", "Change", "Client", "Columns", "Done", "Fault", "Message", "MessageKind", "NotPlayed",
+    "Place", "Refused", "Reset", "ReturnStatus", "Row", "Stage", "Taken", "Tells", "Token", "Walk", "Walked", "is_let_in",
+    "login", "packets_of", "play",
 ]

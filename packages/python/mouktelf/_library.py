@@ -31,7 +31,52 @@ class TokenValue(Structure):
     ]
 
 
+class WireColumn(Structure):
+    _fields_ = [("form", c_uint8), ("bytes", c_uint8)]
+
+
+class WireMemory(Structure):
+    _fields_ = [("columns", WireColumn * 4096), ("nulls", c_uint8 * 512), ("count", c_uint16)]
+
+
+class WireDue(Structure):
+    _fields_ = [
+        ("left", c_uint64), ("value", c_uint32), ("change", c_uint16), ("due", c_uint8), ("bytes", c_uint8),
+        ("field", c_uint8), ("next", c_uint8), ("fault", c_uint8),
+    ]
+
+
+class WireInside(Structure):
+    _fields_ = [("column", c_uint16), ("inside", c_uint8), ("base", WireColumn)]
+
+
+class WireRefusal(Structure):
+    _fields_ = [("at", c_uint64), ("fault", c_uint8), ("byte", c_uint8)]
+
+
+class WireWalk(Structure):
+    _fields_ = [
+        ("due", WireDue), ("refused", WireRefusal), ("start", c_uint64), ("passed", c_uint64), ("most", c_uint16),
+        ("entries", c_uint16), ("inside", WireInside), ("shape", WireColumn), ("kind", c_uint8), ("parts", c_uint8),
+        ("ciphered", c_uint8), ("encryption", c_uint8), ("ranks", c_uint8), ("head", c_uint8 * 24), ("head_count", c_uint8),
+    ]
+
+
+class WirePlace(Structure):
+    _fields_ = [("start", c_uint64), ("length", c_uint64)]
+
+
+class WireToken(Structure):
+    _fields_ = [
+        ("start", c_uint64), ("length", c_uint64), ("value", c_uint64), ("old_value", c_uint64), ("text", WirePlace),
+        ("others", WirePlace), ("number", c_int32), ("size", c_uint32), ("status", c_uint16), ("command", c_uint16),
+        ("kind", c_uint8), ("told", c_uint8), ("change", c_uint8), ("state", c_uint8), ("severity", c_uint8),
+        ("recoverable", c_uint8),
+    ]
+
+
 _CLIENT, _COUNT, _BYTES = POINTER(ClientValue), POINTER(c_size_t), c_char_p
+_ROOM, _WALK, _MEMORY = POINTER(c_uint8), POINTER(WireWalk), POINTER(WireMemory)
 _CALLS = {
     "tds_packets_read": (_BYTES, c_size_t, c_uint16, c_uint8, POINTER(Packet), c_size_t, _COUNT),
     "tds_client_new": (c_uint16, _CLIENT),
@@ -43,7 +88,18 @@ _CALLS = {
     "tds_client_send": (_CLIENT, _BYTES, c_size_t, POINTER(c_uint8), c_size_t, _COUNT),
     "tds_client_cancel": (_CLIENT, POINTER(c_uint8), c_size_t, _COUNT),
     "tds_client_take": (_CLIENT, _BYTES, c_size_t),
+    "tds_client_start_message": (_CLIENT, c_uint8, _ROOM, c_size_t, _COUNT),
+    "tds_client_put": (_CLIENT, _ROOM, c_size_t, _COUNT, _BYTES, c_size_t, _COUNT, _ROOM, c_size_t, _COUNT),
+    "tds_client_finish": (_CLIENT, _ROOM, c_size_t, _ROOM, c_size_t, _COUNT),
+    "tds_client_heard_change": (_CLIENT, c_uint8, c_uint64),
+    "tds_client_heard_done": (_CLIENT, c_uint8, c_uint16),
+    "tds_client_heard_other": (_CLIENT,),
+    "tds_client_message_ended": (_CLIENT,),
     "tds_client_lost": (_CLIENT,),
+    "tds_wire_new": (c_uint16, c_uint8, c_uint8, _WALK, _MEMORY),
+    "tds_wire_next": (_WALK, _MEMORY, _BYTES, c_size_t, _COUNT, POINTER(WireToken)),
+    "tds_wire_is_between": (_WALK, _MEMORY),
+    "tds_wire_restart": (_WALK, _MEMORY),
     "tds_tokens_next": (_BYTES, c_size_t, POINTER(Cursor), POINTER(TokenValue), c_size_t, _COUNT),
     "tds_play": (_BYTES, c_size_t, POINTER(c_uint8), c_size_t, _COUNT),
 }

@@ -7,11 +7,13 @@ from enum import IntEnum
 from typing import Iterator, List, Optional, Tuple, Union
 
 from ._library import LIBRARY, ClientValue, Cursor, Packet, TokenValue
+from .wire import Tells, Walked
 
 _MESSAGE_MOST = 4022
 _NO_NEXT = 255
 _TO_CLIENT = 1
-_OK, _END, _WANTS_BYTES, _FIRST_FAULT = 0, 9, 24, 20
+_OK, _FULL, _END, _TELL, _WANTS_BYTES, _FIRST_FAULT = 0, 1, 9, 10, 24, 20
+_HEADER, _RESET, _NEW_IS_TOLD = 8, 18, (8, 11)
 
 
 class Answer(IntEnum):
@@ -28,6 +30,15 @@ class Answer(IntEnum):
 
 
 Acknowledged = Answer.ACKNOWLEDGED
+
+
+class MessageKind(IntEnum):
+    """Which message a request is (MS-TDS 2.2.1)."""
+
+    BATCH = 1
+    PROCEDURE = 3
+    BULK_LOAD = 7
+    TRANSACTION = 14
 
 
 class Stage(IntEnum):
@@ -131,6 +142,7 @@ class Client:
 
     def __init__(self, size: int) -> None:
         self._value, self._message = ClientValue(), b""
+        self._kept, self._waiting = (c_uint8 * 1)(), c_size_t()
         if not 0 <= size <= 0xFFFF:
             raise Fault(23)
         _done(LIBRARY.tds_client_new(size, byref(self._value)))
@@ -198,6 +210,49 @@ class Client:
         is_told, columns = self._value.stage == Stage.READING, self._value.columns
         answer = Answer(_done(LIBRARY.tds_client_take(byref(self._value), packet, len(packet))))
         return Taken(answer, list(_tokens(packet[8:], columns)) if is_told else [])
+
+    def start_message(self, kind: MessageKind) -> None:
+        """In idle: begins a message that is sent in parts. Its body comes by `put`, and `finish` ends it."""
+        kept, waiting = (c_uint8 * (self._value.size - _HEADER))(), c_size_t()
+        _done(LIBRARY.tds_client_start_message(byref(self._value), kind, kept, len(kept), byref(waiting)))
+        self._kept, self._waiting = kept, waiting
+
+    def put(self, data: bytes) -> bytes:
+        """In sending: puts bytes of the message's body, and gives the packets that are full."""
+        room, packets = self._value.size, b""
+        out, taken, count, answer = (c_uint8 * max(room, 1))(), c_size_t(), c_size_t(), _FULL
+        while answer == _FULL:
+            answer = _done(LIBRARY.tds_client_put(
+                byref(self._value), self._kept, len(self._kept), byref(self._waiting), data, len(data), byref(taken), out,
+                room, byref(count)))
+            packets += bytes(out[: count.value])
+            data = data[taken.value:]
+        return packets
+
+    def finish(self) -> bytes:
+        """Ends the message, and gives its last packet."""
+        room, count = self._value.size, c_size_t()
+        out = (c_uint8 * max(room, 1))()
+        _done(LIBRARY.tds_client_finish(byref(self._value), self._kept, self._waiting, out, room, byref(count)))
+        return bytes(out[: count.value])
+
+    def heard(self, token: Walked) -> bool:
+        """Hears a token that a walk has found, of any server, in place of `take`. Whether the caller that asked is told
+        of it: behind a cancel nobody is."""
+        if token.tells == Tells.DONE:
+            answer = LIBRARY.tds_client_heard_done(byref(self._value), token.kind, token.status)
+        elif token.tells == Tells.TRANSACTION:
+            descriptor = token.value if token.change in _NEW_IS_TOLD else token.old_value
+            answer = LIBRARY.tds_client_heard_change(byref(self._value), token.change, descriptor)
+        elif token.tells == Tells.RESET:
+            answer = LIBRARY.tds_client_heard_change(byref(self._value), _RESET, 0)
+        else:
+            answer = LIBRARY.tds_client_heard_other(byref(self._value))
+        return _done(answer) == _TELL
+
+    def message_ended(self) -> Answer:
+        """Hears that a message has ended, behind the packet whose status has bit 1: MORE, FINISHED or ACKNOWLEDGED."""
+        return Answer(_done(LIBRARY.tds_client_message_ended(byref(self._value))))
 
     def lost(self) -> None:
         """The connection is lost: the client is broken, unless it is broken already."""
