@@ -6,10 +6,12 @@ mod fault;
 mod raw;
 mod streams;
 mod tokens;
+mod wire;
 
 pub use fault::Fault;
 pub use streams::{Heard, MessageKind};
 pub use tokens::{Change, Message, Packets, Rows, Token, Tokens};
+pub use wire::{Agreed, Place, Refused, Told, Walk, Walked};
 
 /// The reset that the next request asks for.
 #[derive(Clone, Copy, PartialEq, Eq, Debug)]

@@ -1,4 +1,4 @@
-//! The declarations of `include/tds.h` and `include/tds_play.h`.
+//! The declarations of `include/tds.h`, `include/tds_wire.h` and `include/tds_play.h`.
 
 #[repr(C)]
 #[derive(Clone, Copy, Default, Debug)]
@@ -54,6 +54,104 @@ pub struct Rows {
     pub columns: usize,
 }
 
+#[repr(C)]
+#[derive(Clone, Copy, Default, Debug)]
+pub struct WireColumn {
+    pub form: u8,
+    pub bytes: u8,
+}
+
+#[repr(C)]
+#[derive(Clone, Copy, Debug)]
+pub struct WireMemory {
+    pub columns: [WireColumn; 4096],
+    pub nulls: [u8; 512],
+    pub count: u16,
+}
+
+impl Default for WireMemory {
+    fn default() -> WireMemory {
+        WireMemory { columns: [WireColumn::default(); 4096], nulls: [0; 512], count: 0 }
+    }
+}
+
+#[repr(C)]
+#[derive(Clone, Copy, Default, Debug)]
+pub struct WireDue {
+    pub left: u64,
+    pub value: u32,
+    pub change: u16,
+    pub due: u8,
+    pub bytes: u8,
+    pub field: u8,
+    pub next: u8,
+    pub fault: u8,
+}
+
+#[repr(C)]
+#[derive(Clone, Copy, Default, Debug)]
+pub struct WireInside {
+    pub column: u16,
+    pub inside: u8,
+    pub base: WireColumn,
+}
+
+#[repr(C)]
+#[derive(Clone, Copy, Default, Debug)]
+pub struct WireRefusal {
+    pub at: u64,
+    pub fault: u8,
+    pub byte: u8,
+}
+
+#[repr(C)]
+#[derive(Clone, Copy, Default, Debug)]
+pub struct Wire {
+    pub due: WireDue,
+    pub refused: WireRefusal,
+    pub start: u64,
+    pub passed: u64,
+    pub most: u16,
+    pub entries: u16,
+    pub inside: WireInside,
+    pub shape: WireColumn,
+    pub kind: u8,
+    pub parts: u8,
+    pub ciphered: u8,
+    pub encryption: u8,
+    pub ranks: u8,
+    pub head: [u8; 24],
+    pub head_count: u8,
+}
+
+#[repr(C)]
+#[derive(Clone, Copy, Default, Debug)]
+pub struct WirePlace {
+    pub start: u64,
+    pub length: u64,
+}
+
+#[repr(C)]
+#[derive(Clone, Copy, Default, Debug)]
+pub struct WireToken {
+    pub start: u64,
+    pub length: u64,
+    pub value: u64,
+    pub old_value: u64,
+    pub text: WirePlace,
+    pub others: WirePlace,
+    pub number: i32,
+    pub size: u32,
+    pub status: u16,
+    pub command: u16,
+    pub kind: u8,
+    pub told: u8,
+    pub change: u8,
+    pub state: u8,
+    pub severity: u8,
+    pub recoverable: u8,
+}
+
 extern "C" {
     pub fn tds_packets_read(bytes: *const u8, length: usize, size: u16, direction: u8, packets: *mut Packet, room: usize, count: &mut usize) -> u8;
     pub fn tds_client_new(size: u16, client: &mut Client) -> u8;
@@ -76,6 +174,10 @@ extern "C" {
     pub fn tds_client_lost(client: &mut Client) -> u8;
     pub fn tds_tokens_next(data: *const u8, length: usize, cursor: &mut Cursor, tokens: *mut Token, room: usize, count: &mut usize) -> u8;
     pub fn tds_rows_next(data: *const u8, length: usize, cursor: &mut Cursor, rows: &mut Rows) -> u8;
+    pub fn tds_wire_new(most: u16, encryption: u8, ranks: u8, walk: &mut Wire, memory: &mut WireMemory) -> u8;
+    pub fn tds_wire_next(walk: &mut Wire, memory: &mut WireMemory, bytes: *const u8, length: usize, count: &mut usize, token: &mut WireToken) -> u8;
+    pub fn tds_wire_is_between(walk: &Wire, memory: &WireMemory) -> u8;
+    pub fn tds_wire_restart(walk: &mut Wire, memory: &mut WireMemory) -> u8;
     #[cfg(feature = "play")]
     pub fn tds_play(schedule: *const u8, length: usize, out: *mut u8, room: usize, count: &mut usize) -> u8;
 }
