@@ -20,8 +20,11 @@ import (
 	"tdstls/internal/selfsigned"
 )
 
+const version = "tdstls 0.1.0"
+
 const usage = `usage: tdstls server -listen ADDR -forward ADDR (-cert FILE -key FILE | -selfsigned [-cert FILE])
        tdstls client -listen ADDR -forward ADDR [-ca FILE] [-servername NAME] [-encrypt on|login|strict]
+       tdstls -version
 ADDR is HOST:PORT; where what goes there is clear it may be unix:PATH. Each with -h tells all its flags.
 `
 
@@ -39,6 +42,8 @@ func main() {
 		err = clientMain(os.Args[2:])
 	case "-h", "-help", "--help":
 		fmt.Print(usage)
+	case "-version", "--version":
+		fmt.Println(version)
 	default:
 		fmt.Fprint(os.Stderr, usage)
 		os.Exit(2)

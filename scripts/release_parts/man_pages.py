@@ -1,5 +1,5 @@
-"""Man pages: man_pages.py OUT. Section 3 out of the headers' comments and prototypes, a page a header; section 1 out of
-the programs' help (scripts/help). Nothing is written by hand here but the frame."""
+"""Man pages: man_pages.py OUT [TDSTLS]. Section 3 out of the headers' comments and prototypes, a page a header; section 1 out of
+the programs' help (scripts/help), and out of what the built tdstls says. Nothing is written by hand here but the frame."""
 
 import os
 import re
@@ -52,12 +52,21 @@ def of_program(name):
     return frame(name, 1, PROGRAMS[name]) + [".SH DESCRIPTION"] + as_it_is(text)
 
 
+def of_tdstls(program):
+    """Its flags as it tells them."""
+    said = [subprocess.run([program, *words], capture_output=True, text=True, check=False)
+            for words in (["-help"], ["server", "-h"], ["client", "-h"])]
+    text = "\n".join((it.stdout + it.stderr).strip() + "\n" for it in said).replace("\t", "        ")
+    return frame("tdstls", 1, "TLS before a TDS server or behind a TDS client that has none") + [".SH DESCRIPTION"] + as_it_is(text.strip())
+
+
 def page_name(page):
     return re.match(r"(\S+)", page[2])[1]
 
 
-def main(out):
-    for section, pages in ((3, [of_header(it) for it in headers.here()]), (1, [of_program(it) for it in PROGRAMS])):
+def main(out, *tdstls):
+    programs = [of_program(it) for it in PROGRAMS] + [of_tdstls(it) for it in tdstls]
+    for section, pages in ((3, [of_header(it) for it in headers.here()]), (1, programs)):
         os.makedirs(f"{out}/man{section}", exist_ok=True)
         for page in pages:
             with open(f"{out}/man{section}/{page_name(page)}.{section}", "w", encoding="utf-8") as it:
@@ -65,4 +74,4 @@ def main(out):
 
 
 if __name__ == "__main__":
-    main(sys.argv[1])
+    main(*sys.argv[1:])

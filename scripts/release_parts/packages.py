@@ -1,11 +1,13 @@
-"""Packages for Python, Rust and Go out of a release's tree: packages.py TREE. Their own sources stand in packages/, what they share
-with the examples in examples/rust and examples/go, and the C files, headers and libraries are the tree's."""
+"""Packages for Python, Rust, Go and JavaScript out of a release's tree: packages.py TREE MODULE.ll. Their own sources stand in
+packages/, what they share with the examples in examples/rust and examples/go; the C files, headers, libraries and modules are the
+tree's. MODULE.ll is the client's, of which Go without cgo is printed."""
 
 import base64
 import hashlib
 import os
 import re
 import shutil
+import subprocess
 import sys
 import time
 import zipfile
@@ -13,6 +15,7 @@ import zipfile
 import headers
 
 TOP = headers.TOP
+HERE = os.path.dirname(os.path.realpath(__file__))
 VERSION = headers.version()
 PLATFORMS = {"x86_64": "manylinux2014_x86_64", "aarch64": "manylinux2014_aarch64"}
 
@@ -57,7 +60,7 @@ def rust(tree):
     to, examples = f"{tree}/packages/rust", f"{TOP}/examples/rust/src"
     copy_all(f"{TOP}/packages/rust", to)
     c_files(tree, f"{to}/mouktelf-sys/c", "mouktelf.c", "mouktelf_play.c")
-    raw = changed(text_of(f"{examples}/raw.rs"), ("`include/tds.h` and `include/tds_play.h`", "`mouktelf.h`, over `mouktelf.c`"),
+    raw = changed(text_of(f"{examples}/raw.rs"), ("`include/tds.h`, `include/tds_wire.h` and `include/tds_play.h`", "`mouktelf.h`, over `mouktelf.c`"),
                   ('extern "C" {\n', 'extern "C" {\n    pub fn mouktelf_version() -> u32;\n'))
     put(f"{to}/mouktelf-sys/src/lib.rs", raw)
     version = """
@@ -72,12 +75,12 @@ pub fn version() -> String {
                   ("include/tds.h", "mouktelf.h"), ("mod fault;\nmod raw;\n", "mod fault;\nmod login;\n"),
                   ("pub use fault::Fault;\n", "use mouktelf_sys as raw;\n\npub use fault::Fault;\npub use login::{is_let_in, login};\n"))
     put(f"{to}/mouktelf/src/lib.rs", lib + version)
-    for name in ("fault", "streams", "tokens"):
+    for name in ("fault", "streams", "tokens", "wire"):
         put(f"{to}/mouktelf/src/{name}.rs", text_of(f"{examples}/{name}.rs"))
     put(f"{to}/mouktelf/examples/exchange.rs", changed(text_of(f"{examples}/main.rs"), ("use tds::", "use mouktelf::")))
 
 
-def go(tree):
+def go(tree, module):
     to, examples = f"{tree}/packages/go", f"{TOP}/examples/go"
     copy_all(f"{TOP}/packages/go", to)
     c_files(tree, to, "mouktelf.c")
@@ -87,12 +90,23 @@ def go(tree):
                                      ("// Package tds is", "// Package mouktelf is"), ("package tds\n", "package mouktelf\n"),
                                      ("// library tds_c.", "// C file mouktelf.c."), ("of tds.h", "of mouktelf.h"),
                                      ("tds.h says", "mouktelf.h says")))
-    put(f"{to}/streams.go", changed(text_of(f"{examples}/tds/streams.go"), ('#include "tds.h"', '#include "mouktelf.h"'),
-                                    ("package tds\n", "package mouktelf\n")))
+    for name, header in (("streams", "tds"), ("wire", "tds_wire")):
+        put(f"{to}/{name}.go", changed(text_of(f"{examples}/tds/{name}.go"), (f'#include "{header}.h"', '#include "mouktelf.h"'),
+                                       ("package tds\n", "package mouktelf\n")))
     put(f"{to}/play/play.go", changed(text_of(f"{examples}/play/play.go"), flags, ('#include "tds_play.h"', '#include "mouktelf.h"'),
                                       ("over the library tds_play_c", "over the C file mouktelf_play.c")))
+    without_cgo(module, to)
     main = changed(text_of(f"{examples}/main.go"), ('"example/play"', '"mouktelf/play"'), ('"example/tds"', 'tds "mouktelf"'))
     put(f"{to}/examples/exchange/main.go", main)
+
+
+def without_cgo(module, to):
+    """What is compiled where cgo is off: Go that is printed from the module of the client."""
+    words = [sys.executable, "-B", f"{HERE}/go_package.py", module, *(f"{to}/{it}.go" for it in ("mouktelf", "streams", "wire"))]
+    text = subprocess.run(words, stdout=subprocess.PIPE, text=True, check=True).stdout
+    if shutil.which("gofmt"):
+        text = subprocess.run(["gofmt"], input=text, stdout=subprocess.PIPE, text=True, check=True).stdout
+    put(f"{to}/without_cgo.go", text)
 
 
 def wheel(tree, machine):
@@ -132,11 +146,18 @@ def python(tree):
         wheel(tree, folder.removesuffix("-linux-gnu"))
 
 
-def main(tree):
+def js(tree):
+    """Where no modules of WebAssembly were made there is no such package."""
+    if os.path.isdir(f"{tree}/packages/js/lib"):
+        copy_all(f"{TOP}/packages/js", f"{tree}/packages/js")
+
+
+def main(tree, module):
+    js(tree)
     python(tree)
     rust(tree)
-    go(tree)
+    go(tree, module)
 
 
 if __name__ == "__main__":
-    main(sys.argv[1])
+    main(*sys.argv[1:])

@@ -69,17 +69,22 @@ func (n NotLocal) Error() string {
 	return fmt.Sprintf("%v is no loopback address, and what goes there is clear (-clear-beyond-loopback allows it)", n.At)
 }
 
-// listenUnix takes the place of a socket that nobody listens at any more.
+// listenUnix takes the place of a socket that nobody listens at any more. A file of another kind stays.
 func (a Address) listenUnix() (net.Listener, error) {
 	if made, err := net.Dial("unix", a.text); err == nil {
 		made.Close()
 		return nil, fmt.Errorf("%v: somebody listens there", a)
-	} else if errors.Is(err, syscall.ECONNREFUSED) {
+	} else if errors.Is(err, syscall.ECONNREFUSED) && isSocket(a.text) {
 		os.Remove(a.text)
 	}
 	before := syscall.Umask(0o177)
 	defer syscall.Umask(before)
 	return net.Listen("unix", a.text)
+}
+
+func isSocket(path string) bool {
+	info, err := os.Lstat(path)
+	return err == nil && info.Mode().Type() == os.ModeSocket
 }
 
 // connect connects to the address with this dialer. Where isLocal is set nothing is sent to an address that

@@ -170,6 +170,17 @@ func TestUnixSockets(t *testing.T) {
 		t.Fatal(err)
 	}
 	again.Close()
+	// Whoever connects to a file that is no socket is refused as at a socket that nobody listens at.
+	other := filepath.Join(folder, "file")
+	if err := os.WriteFile(other, []byte("kept"), 0o600); err != nil {
+		t.Fatal(err)
+	}
+	if _, err := (Address{"unix", other}).Listen(true); err == nil {
+		t.Fatal("it listens at a file")
+	}
+	if kept, err := os.ReadFile(other); err != nil || string(kept) != "kept" {
+		t.Fatal("the file is gone: ", err)
+	}
 }
 
 func TestAddresses(t *testing.T) {
