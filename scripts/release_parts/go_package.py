@@ -1,0 +1,140 @@
+#!/usr/bin/env python3
+"""The Go package without cgo, as one file: go_package.py MODULE.ll SOURCE.go ..
+
+The printed functions (go_file.py), the header's calls over them, and the sources of the package with cgo, in which each
+C.NAME became c_NAME. It is compiled where cgo is off; the player isn't in it."""
+
+import re
+import sys
+
+import headers
+from go_file import GoPrinter
+from layer import parts, structs
+
+TYPES = {"size_t": "uint64", "uint64_t": "uint64", "int64_t": "int64", "uint32_t": "uint32", "int32_t": "int32",
+         "uint16_t": "uint16", "uint8_t": "uint8"}
+# Nobody reads its fields, and it is long: it crosses as it is.
+WHOLE = "tds_wire_memory"
+IMPORTS = ("fmt", "sync", "unicode/utf16", "unsafe")
+
+
+def go_type(kind):
+    return f"c_struct_{kind[7:]}" if kind.startswith("struct ") else TYPES[kind]
+
+
+def declaration(it):
+    if it.name == WHOLE:
+        return f"type c_struct_{it.name} struct {{ image [{it.size}]byte }}"
+    fields = "; ".join(f"{name} {f'[{many}]' if many else ''}{go_type(kind)}" for kind, name, many, _, _ in it.fields)
+    return f"type c_struct_{it.name} struct {{ {fields} }}"
+
+
+def image(it, writes):
+    """What writes a struct to the machine at p, or reads it back."""
+    lines = []
+    for kind, name, many, at, size in it.fields:
+        place, value, loop = f"p+{at}", f"v.{name}", ""
+        if many:
+            place, value, loop = f"p+{at}+{size}*uint64(k)", f"v.{name}[k]", f"for k := range v.{name} "
+        if kind.startswith("struct "):
+            way = f"{value}.{'to' if writes else 'from'}(m, {place})"
+        elif writes:
+            way = f"m.write{8 * size}({place}, uint{8 * size}({value}))"
+        else:
+            way = f"{value} = {TYPES[kind]}(m.read{8 * size}({place}))"
+        lines.append(f"{loop}{{ {way} }}" if loop else way)
+    if it.name == WHOLE:
+        lines = ["copy(m.b[p:], v.image[:])" if writes else "copy(v.image[:], m.b[p:])"]
+    return f"func (v *c_struct_{it.name}) {'to' if writes else 'from'}(m *machine, p uint64) {{ {'; '.join(lines)} }}"
+
+
+def length_of(arguments, place):
+    """The argument behind a pointer that says how many there are."""
+    if place + 1 < len(arguments):
+        kind, name = parts(arguments[place + 1])
+        if kind == "size_t":
+            return name
+    return None
+
+
+def crossing(argument, many, known):
+    """How an argument that points crosses: its Go type, and what is done before the call and behind it."""
+    kind, word = parts(argument)
+    item, is_const = kind.replace("const", "").replace("*", "").strip(), "const" in kind
+    at, whole = f"of_{word}", f"unsafe.Slice({word}, {many})"
+    if item == "uint8_t" and many:
+        return item, f"{at} := m.hand({whole})", "" if is_const else f"copy({whole}, m.b[{at}:])"
+    if item == "uint16_t" and many:
+        return item, f"{at} := m.room(int({many}) * 2)\n\tfor k, it := range {whole} {{ m.write16({at}+2*uint64(k), it) }}", ""
+    if item.startswith("struct "):
+        size = known[item[7:]].size
+        if many:
+            return item, f"{at} := m.room(int({many}) * {size})", f"for k := range {whole} {{ {whole}[k].from(m, {at}+{size}*uint64(k)) }}"
+        return item, f"{at} := m.room({size}); {word}.to(m, {at})", "" if is_const else f"{word}.from(m, {at})"
+    if item == "size_t":
+        return item, f"{at} := m.room(8); m.write64({at}, *{word})", f"*{word} = m.read64({at})"
+    sys.exit(f"go_package: {argument}")
+
+
+def call(answer, name, arguments, known):
+    """The header's call: what is pointed to is handed to the machine, and what isn't const comes back."""
+    head, words, before, behind = [], [], [], []
+    for place, argument in enumerate(arguments):
+        kind, word = parts(argument)
+        if "*" not in kind:
+            head.append(f"{word} {go_type(kind)}")
+            words.append(word)
+            continue
+        item, first, last = crossing(argument, length_of(arguments, place), known)
+        head.append(f"{word} *{go_type(item)}")
+        words.append(f"of_{word}")
+        before.append(first)
+        behind += [last] if last else []
+    body = ["m := machines.Get().(*machine)", "m.begin()", *before, f"answer := of_core_{name}({', '.join(['m', *words])})", *behind,
+            "machines.Put(m)", "return answer"]
+    return f"func c_{name}({', '.join(head)}) {TYPES[answer]} {{\n\t" + "\n\t".join(body) + "\n}\n"
+
+
+def constants():
+    found = {}
+    for name in headers.here():
+        for word, value in re.findall(r"(?m)^#define (TDS_\w+) (\d+|0x[0-9A-Fa-f]+)\b", headers.text_of(name)):
+            found[word] = value
+    return "const (\n" + "\n".join(f"\tc_{word} = {value}" for word, value in found.items()) + "\n)\n"
+
+
+def source(path):
+    """A source of the package with cgo, without its first lines."""
+    with open(path, encoding="utf-8") as it:
+        text = it.read()
+    text = text[text.index('import "C"') + len('import "C"'):]
+    text = re.sub(r'(?s)^\s*import (\(.*?\n\)|"\w+")\n', "", text)
+    return re.sub(r"\bC\.(\w+)", r"c_\1", text)
+
+
+def main(module, *sources):
+    with open(module, encoding="utf-8") as it:
+        printer = GoPrinter(it.read())
+    exported = {it[1:] for it in printer.module.exports()}
+    known = structs()
+    calls = [(answer, name, arguments) for _, answer, name, arguments in headers.prototypes() if name in exported]
+    used = " ".join(" ".join(it[2]) for it in calls)
+    wanted = {it for it in known if re.search(rf"struct {it}\b", used)}
+    while more := {kind[7:] for it in wanted - {WHOLE} for kind, *_ in known[it].fields if kind.startswith("struct ")} - wanted:
+        wanted |= more
+    print("//go:build !cgo\n")
+    print(printer.whole("mouktelf", IMPORTS))
+    print("var machines = sync.Pool{New: func() any { return newMachine() }}\n")
+    print("\n".join(f"type c_{name} = {kind}" for name, kind in TYPES.items()))
+    print(constants())
+    for it in known.values():
+        if it.name in wanted:
+            print(declaration(it), image(it, True), image(it, False), sep="\n")
+    for it in calls:
+        print(call(*it, known))
+    for path in sources:
+        print(source(path))
+
+
+if __name__ == "__main__":
+    main(*sys.argv[1:])
