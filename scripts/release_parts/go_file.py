@@ -64,9 +64,18 @@ class GoPrinter(Printer):
     def masked(self, kind, value):
         return value if kind.bits == width_of(kind.bits) else f"(({value}) & {(1 << kind.bits) - 1:#x})"
 
+    @staticmethod
+    def constant_of(kind, value):
+        """The signed number that a constant is, or None."""
+        found = re.fullmatch(r"uint\d+\((\d+)\)", value)
+        number = int(found[1]) if found else None
+        return number - (1 << kind.bits) if found and number >> (kind.bits - 1) else number
+
     def sign_extended(self, kind, value, bits):
         if kind.bits == bits:
             return value
+        if (number := self.constant_of(kind, value)) is not None:
+            return self.number(integer(bits), number)
         if kind.bits in (8, 16, 32, 64):
             return f"uint{bits}(int{bits}(int{kind.bits}({value})))"
         sign = f"{1 << (kind.bits - 1):#x}"
@@ -74,8 +83,9 @@ class GoPrinter(Printer):
 
     def signed(self, kind, value):
         """The value as a signed one of its width."""
-        width = width_of(kind.bits)
-        return f"int{width}({self.sign_extended(kind, value, width)})"
+        width, number = width_of(kind.bits), self.constant_of(kind, value)
+        # Go's compiler refuses to make a signed constant of a large one.
+        return f"int{width}({self.sign_extended(kind, value, width) if number is None else number})"
 
     def number(self, kind, value):
         return f"{self.c_type(kind)}({int(value) & ((1 << kind.bits) - 1)})"
