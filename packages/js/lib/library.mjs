@@ -12,7 +12,10 @@ export async function library(name, version) {
   const [major, minor, patch] = VERSION.split(".").map(Number);
   if (exports[version]() !== 10_000 * major + 100 * minor + patch)
     throw new Error(`${name} is ${exports[version]()}, and ${VERSION} is wanted`);
-  return exports;
+  const calls = { ...exports };
+  // An answer is a byte; what stands above it is left from elsewhere.
+  for (const call of Object.keys(exports).filter(it => it.startsWith("tds_"))) calls[call] = (...words) => exports[call](...words) & 0xff;
+  return calls;
 }
 
 /** Bytes of a module's memory. One part is lent to each call anew; a value that lives longer has room of its own. */
