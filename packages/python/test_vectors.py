@@ -41,7 +41,8 @@ def walked(pieces, form, agreed):
     walk, lines = Walk(4096, agreed == "encryption", agreed == "ranks"), []
     try:
         for piece in pieces:
-            lines += [line(it, form) for it in walk.tokens(piece)]
+            for it in walk.tokens(piece):
+                lines.append(line(it, form))
     except Refused as refused:
         return lines + [f"fault {refused.number} at {refused.at}"]
     return lines + ["end" if walk.is_between else "cut"]
