@@ -10,10 +10,9 @@ mod words;
 use beginning::begin;
 use fault::ServeFault;
 use serve_drivers::{House, Place};
-use std::env;
-use std::fs;
 use std::io::{self, Stderr};
 use std::process::ExitCode;
+use std::{env, fs};
 use words::read_words;
 
 fn main(rt: HostRuntime) -> ExitCode {
