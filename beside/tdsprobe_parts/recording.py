@@ -1,4 +1,4 @@
-"""A recording: one JSON file with every byte both ways. docs/REAL_SERVERS.md has its format."""
+"""A recording: one JSON file with every byte both ways. README.md beside it has its format."""
 
 import datetime
 import json
