@@ -175,7 +175,7 @@ class Encrypted(unittest.TestCase):
             return events, peer.came[0]
 
     def test_login_alone_and_all(self):
-        for encryption in (wire.OFF, wire.ON):
+        for encryption in (wire.OFF, wire.ON, wire.REQ):
             events, came = self.recorded(encryption)
             self.assertEqual(came[-2][8:], wire.login7("user", PASSWORD, "base", "127.0.0.1"))
             self.assertEqual(digits_of(events)[-2:], [
