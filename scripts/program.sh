@@ -65,7 +65,7 @@ compile_unproved() {
     fi
     tell "the proved program isn't built, or older than its sources. To prove and to build it: $build"
     tell "compiling the sources without proof, once: some minutes"
-    python3 "$here/scripts/compile_unproved.py" "$here/crates/$name" "$program" || exit
+    python3 "$here/scripts/compile_unproved.py" "$here/crates/$name" "${sum:0:16}" || exit
 }
 
 # Whether the wrapper answers: the program of tdsplay has no help and no version.
