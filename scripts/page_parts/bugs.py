@@ -1,7 +1,7 @@
 """What others get wrong, as a page: each bug of docs/PEERS.md and of docs/DRIVERS.md.
 
 The pictures of what goes wrong, and what a driver printed, are told by page/bugs.txt; the words are those of
-docs/PEERS.md, so each section and each row of its table must have a picture. What happens here the page's player
+docs/PEERS.md, so each section and each item of its list must have a picture. What happens here the page's player
 draws, or a test says it."""
 
 import html
@@ -15,7 +15,7 @@ from bug_pictures import picture
 TOP = os.path.dirname(os.path.dirname(os.path.dirname(os.path.abspath(__file__))))
 FOLDER = f"{TOP}/crates/test_calls/data/schedules"
 TESTS = "crates/test_layers/data"
-KEYS = ("title", "elsewhere", "here", "row", "recorded", "packets", "schedule", "test")
+KEYS = ("title", "elsewhere", "here", "item", "recorded", "packets", "schedule", "test")
 PLAYER = "index.html"
 
 
@@ -48,43 +48,69 @@ def plain(words):
     return re.sub(r"\*([^*]*)\*", r"<em>\1</em>", words)
 
 
+def large(words):
+    """With a large letter in front."""
+    return words[:1].upper() + words[1:]
+
+
+def rows_of(text):
+    """The rows of the table in a part of a page, each as its cells."""
+    lines = [it for it in text.splitlines() if it.startswith("|")]
+    return [[cell.strip() for cell in it.strip("|").split("|")] for it in lines[2:]]
+
+
 def sections(page):
-    """The sections of docs/PEERS.md about a schedule, by its name: title, what goes wrong, what happens here."""
-    found = {}
+    """The sections of docs/PEERS.md about a schedule, by its name: title, what goes wrong and what comes of it (the
+    table in front says that), what happens here."""
+    found, front = {}, page.partition("\n## ")[0]
+    outcomes = {re.match(r"\[(\w+)\]", name)[1]: (wrong, here) for name, wrong, here in rows_of(front)}
     for title, text in re.findall(r"(?ms)^## (.*?)\n(.*?)(?=^## |\Z)", page):
         name = re.search(r"\(\.\./\S*/peers/(\w+)\.json\)", text)
-        parts = [re.search(rf"(?m)^\*\*{it}\.\*\* (.*)$", text) for it in ("Elsewhere", "Here")]
+        parts = [re.search(rf"(?m)^\*\*{it}[.:]\*\* (.*)$", text) for it in ("Elsewhere", "Here")]
         if name and all(parts):
-            found[name[1]] = {"title": title, "elsewhere": parts[0][1], "here": parts[1][1]}
+            wrong, here = outcomes[name[1]]
+            found[name[1]] = {
+                "title": title,
+                "elsewhere": f"{large(parts[0][1])} **So {wrong}.**",
+                "here": f"{parts[1][1]} **So {here}.**",
+            }
     return found
 
 
-def rows_of_table(page):
-    """The rows of its table of those that need bytes: what goes wrong, and what happens here."""
-    table = page.partition("## Those that need bytes")[2]
-    rows = [it.strip("|").split("|") for it in table.splitlines() if it.startswith("|")][2:]
-    return [(mistake.strip(), here.strip()) for mistake, here, _ in rows]
+def items_of_list(page):
+    """The items of its list of those that need bytes: what goes wrong, and what happens here."""
+    items = re.findall(r"(?m)^- (.*)$", page.partition("## Those that need bytes")[2])
+    return [(mistake, here) for mistake, _, here in (it.partition(" Here ") for it in items)]
 
 
-def with_words(entry, named, rows):
+def is_about(entry, item):
+    """Whether a bug is this item of the list."""
+    return "item" in entry and item[0].removeprefix("**").startswith(entry["item"])
+
+
+def with_words(entry, named, items):
     """The bug with its words."""
-    if "row" in entry:
-        mistake, here = next(it for it in rows if it[0].startswith(entry["row"]))
-        return {"title": entry["row"], "elsewhere": mistake + ".", "here": f"{here[0].upper()}{here[1:]}."} | entry
+    if "item" in entry:
+        mistake, here = next((it for it in items if is_about(entry, it)), (None, None))
+        if mistake is None:
+            sys.exit(f"page/bugs.txt: docs/PEERS.md has no item {entry['item']}")
+        return {"title": entry["item"], "elsewhere": mistake, "here": "Here " + here} | entry
+    if entry["name"] not in named and "title" not in entry:
+        sys.exit(f"page/bugs.txt: docs/PEERS.md has no section of {entry['name']}")
     return named.get(entry["name"], {}) | entry
 
 
 def bugs():
-    """All bugs, each with its words. Each section and each row has its bug."""
+    """All bugs, each with its words. Each section and each item has its bug."""
     page = text_of(f"{TOP}/docs/PEERS.md")
-    named, rows, found = sections(page), rows_of_table(page), entries()
+    named, items, found = sections(page), items_of_list(page), entries()
     missing = named.keys() - {it["name"] for it in found}
-    missing |= {it[0] for it in rows if not any(it[0].startswith(entry.get("row", "-")) for entry in found)}
+    missing |= {it[0] for it in items if not any(is_about(entry, it) for entry in found)}
     schedules_there = {it.removesuffix(".json") for it in os.listdir(f"{FOLDER}/peers") if it.endswith(".json")}
     missing |= schedules_there - {it["name"] for it in found}
     if missing:
         sys.exit(f"page/bugs.txt: these have no picture: {sorted(missing)}")
-    return [with_words(it, named, rows) for it in found]
+    return [with_words(it, named, items) for it in found]
 
 
 def schedule_of(bug):
