@@ -68,6 +68,8 @@ def sections(page):
         name = re.search(r"\(\.\./\S*/peers/(\w+)\.json\)", text)
         parts = [re.search(rf"(?m)^\*\*{it}[.:]\*\* (.*)$", text) for it in ("Elsewhere", "Here")]
         if name and all(parts):
+            if name[1] not in outcomes:
+                sys.exit(f"docs/PEERS.md: the table in front has no row of {name[1]}")
             wrong, here = outcomes[name[1]]
             found[name[1]] = {
                 "title": title,
