@@ -73,8 +73,8 @@ def sections(page):
             wrong, here = outcomes[name[1]]
             found[name[1]] = {
                 "title": title,
-                "elsewhere": f"{large(parts[0][1])} **So {wrong}.**",
-                "here": f"{parts[1][1]} **So {here}.**",
+                "elsewhere": f"{large(parts[0][1])} **Outcome: {wrong}.**",
+                "here": f"{parts[1][1]} **Outcome: {here}.**",
             }
     return found
 
