@@ -7,6 +7,7 @@ what they follow. A stream of which a mebibyte waits is given up, and so is one 
 a line on standard error says which, and the exit status is 1."""
 
 import argparse
+import os
 import shutil
 import subprocess
 import sys
@@ -106,6 +107,17 @@ class Capture:
             self.give_up(number)
 
 
+def write_all(paths, port):
+    """Writes the lines of all captures. Whether each was read to its end."""
+    first, is_whole = 0, True
+    for path in paths:
+        capture = Capture(path, port, first)
+        capture.write()
+        first, is_whole = capture.last, is_whole and capture.is_whole
+    sys.stdout.flush()
+    return is_whole
+
+
 def microseconds(time):
     whole, _, part = time.partition(".")
     return int(whole) * 1_000_000 + int((part + "000000")[:6])
@@ -122,12 +134,12 @@ def main():
     given = words.parse_args()
     if shutil.which("tshark") is None:
         sys.exit("capture_lines: there is no tshark here; docs/JUDGING.md says how to make the lines without it")
-    first, is_whole = 0, True
-    for path in given.files:
-        capture = Capture(path, given.port, first)
-        capture.write()
-        first, is_whole = capture.last, is_whole and capture.is_whole
-    return 0 if is_whole else 1
+    try:
+        return 0 if write_all(given.files, given.port) else 1
+    except BrokenPipeError:
+        # Who reads the lines has ended, and says why.
+        os.dup2(os.open(os.devnull, os.O_WRONLY), sys.stdout.fileno())
+        return 0
 
 
 if __name__ == "__main__":
