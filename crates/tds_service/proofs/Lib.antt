@@ -1,5 +1,9 @@
 pub mod Tests
 pub mod Tables
+pub mod Joining
+pub mod Packeting
+pub mod Answering
+pub mod Arriving
 pub mod Pairing
 pub mod Walks
 pub mod Knowing
@@ -8,6 +12,7 @@ pub mod Acknowledging
 pub mod Alike
 pub mod Coming
 pub mod Alone
+pub mod Naming
 pub mod Lifted
 pub mod Lends
 pub mod Idle

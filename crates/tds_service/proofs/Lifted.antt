@@ -6,10 +6,12 @@ use Rattle.tds_service.specs.Service.{Call, new_service, on, steps}
 use Rattle.tds_service.specs.Promises.{Paired, AsksUnawaited, FaultsUnawaited, NothingBehindCancel, attentions, acknowledgements, AsksAsOwed, LeavesNoneOwed, NamesAsHeard, nothing_known}
 use Rattle.tds_service.proofs.Alone.{each_alone}
 use Rattle.tds_service.specs.Acknowledging.{SettlesRight}
+use Rattle.tds_service.specs.Newest.{NamesNewest}
 use Rattle.tds_service.proofs.Acknowledging as acknowledging
 use Rattle.tds_service.proofs.Pairing as pairing
 use Rattle.tds_service.proofs.Walks as walks
 use Rattle.tds_service.proofs.Owing as owing
+use Rattle.tds_service.proofs.Naming as naming
 
 lifted : {T : Type 0} (P : List (Done T) → Type 0) (max n : ℕ) (calls : List (Call T)) → ((acts : List (Act T)) → P (history new_line acts))
     → P (on n (steps (new_service max) calls))
@@ -39,6 +41,9 @@ answers_resets max n calls = lifted (LeavesNoneOwed nothing_known) max n calls (
 
 pub names_descriptor : {T : Type 0} (max n : ℕ) (calls : List (Call T)) → NamesAsHeard nothing_known (on n (steps (new_service max) calls))
 names_descriptor max n calls = lifted (NamesAsHeard nothing_known) max n calls (λ acts. owing.naming 0 Idle new_line.heard acts)
+
+pub names_newest : {T : Type 0} (max n : ℕ) (calls : List (Call T)) → NamesNewest 0 (on n (steps (new_service max) calls))
+names_newest max n calls = lifted (NamesNewest 0) max n calls (λ acts. naming.names_newest new_line acts)
 
 pub a_fault_stays : {T : Type 0} (max most n : ℕ) (calls others : List (Call T))
     → acts_of (on n (steps (new_service max) calls)) ≡ acts_of (on n (steps (new_service most) others))

@@ -5,7 +5,9 @@ pub mod Refusing
 pub mod Promises
 pub mod Acknowledging
 pub mod Ties
+pub mod Packets
 pub mod Service
 pub mod Lending
 pub mod Owning
 pub mod Table
+pub mod Newest

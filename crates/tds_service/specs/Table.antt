@@ -1,6 +1,7 @@
 -- The table of the code, as the machine's service.
-use Rattle.std.specs.Prelude.{◌≡◌, ℕ, zero, suc, ◌<◌, ◌++◌, Bool, true, false, List, [], ◌∷◌, length, Option, Some, None, take, drop, ◌+◌}
+use Rattle.std.specs.Prelude.{◌≡◌, ℕ, zero, suc, ◌<◌, ◌++◌, Bool, true, false, List, [], ◌∷◌, length, Option, Some, None, take, drop, ◌+◌, if◌then◌else◌}
 use Rattle.tds_wire.specs.declared.told.Token.{Token}
+use Rattle.tds_wire.specs.Reading.{Reading}
 use Rattle.tds_client.specs.declared.fault.ClientRefusal.{ClientRefusal}
 use Rattle.tds_client.specs.declared.fault.ClientRefusal.TheVariants as clients
 use Rattle.tds_client.specs.Sending.{IsRefusal}
@@ -14,10 +15,13 @@ use Rattle.tds_service.specs.declared.refusal.Refusal.{Refusal}
 use Rattle.tds_service.specs.declared.refusal.Refusal.TheVariants as refusals
 use Rattle.tds_service.specs.declared.seat.Seat as seats
 use Rattle.tds_service.specs.declared.service.Service as services
+use Rattle.tds_service.specs.Parts.{Part}
+use Rattle.tds_service.specs.Line as lines
 use Rattle.tds_service.specs.Line.{Line, Answer}
 use Rattle.tds_service.specs.History.{Done}
-use Rattle.tds_service.specs.Service.{Place, Leased, Cleaning, Kept, Free, Draining, Seat, Service, Call, Step, Reply, Unknown, AllInUse, NotNow, No, NoMemory, Lent, Ticket, Did, Back, has_lease, has_ticket, has_number, is_lendable, nothing, opens, step}
-use Rattle.tds_service.specs.Ties.{line_in, sent_in, Appends}
+use Rattle.tds_service.specs.Service as calls
+use Rattle.tds_service.specs.Service.{find_by, Place, Leased, Cleaning, Kept, Free, Draining, Seat, Service, Call, Step, Reply, Unknown, AllInUse, NotNow, No, NoMemory, Lent, Ticket, Did, Back, lease_in, lease_at, has_lease, has_ticket, has_number, is_lendable, nothing, opens, step}
+use Rattle.tds_service.specs.Ties.{line_in, sent_in, tokens_in, IsTo, Appends}
 
 abbrev pub place_of : code.Place → Place
 place_of (places.Leased lease) = Leased lease
@@ -133,6 +137,41 @@ pub record StepsIn (t : Step Token) (new : Service) (reply : Reply) (number : �
 
 abbrev pub Steps : Call Token → Service → Service → Reply → ℕ → (before after : List ℕ) → Type 0
 Steps call old new reply number before after = StepsIn (step old call) new reply number before after
+
+-- The connection answered so to the one act of a call.
+abbrev pub Answers : Call Token → Service → Answer → Type 0
+Answers call s answer = answers_in (step s call).dones ≡ answer ∷ []
+
+abbrev pub told_in : List (Done Token) → List Token
+told_in [] = []
+told_in (d ∷ ds) = tokens_in d.told ++ told_in ds
+
+-- Nobody but this request is told.
+abbrev pub AllTo : ℕ → List (Done Token) → Type 0
+AllTo request [] = Unit {0}
+AllTo request (d ∷ ds) = IsTo request d.told × AllTo request ds
+
+-- A packet came on the connection of this number: the machine hears its part there, it answers so, what is told of it is appended,
+-- and it is the newest request's, of the lease that holds the connection.
+pub record Comes (s new : Service) (number : ℕ) (part : Part Token) (lease : Option ℕ) (request : ℕ) (answer : Answer) (before after : List Token) : Type 0 where
+  pub steps : StepsIn (step s (calls.Came number part)) new Did number [] []
+  pub answers : Answers (calls.Came number part) s answer
+  pub told : after ≡ before ++ told_in (step s (calls.Came number part)).dones
+  pub owner : AllTo request (step s (calls.Came number part)).dones
+  pub holder : lease_at (find_by (has_number number) s.seats) ≡ lease
+
+-- Where the walker of the connection of this number stands.
+abbrev pub reading_by : (Seat → Bool) → List seats.Seat → Option Reading
+reading_by test [] = None
+reading_by test (c ∷ cs) = if test (seat_in c) then Some c.connection.walker else reading_by test cs
+
+abbrev pub reading_on : ℕ → services.Service → Option Reading
+reading_on number s = reading_by (has_number number) s.seats.items
+
+-- The answer of a request is being read on the connection of this number.
+abbrev pub ReadsAt : Option Seat → Type 0
+ReadsAt None = ⊥
+ReadsAt (Some c) = c.line.stage ≡ lines.Reading
 
 -- A new connection was added, and lent.
 abbrev pub Opened : Service → Service → (lease number : ℕ) → Bool → Type 0

@@ -1,9 +1,11 @@
 ghost use Rattle.std.specs.Prelude.{◌≡◌, ◌≤◌, ◌<◌, ◌+◌, ℕ, List, [], Ok, Err, IfOk, IfErr, OnOk, OnErr};
-ghost use Rattle.std.specs.Prelude.{drop, length, true, false, None};
+ghost use Rattle.std.specs.Prelude.{drop, length, Bool, true, false, None};
 ghost use Rattle.tds_client.specs.Sending.{IsRefusal};
 ghost use Rattle.tds_client.specs.Session.{state_of, unless_idle};
 ghost use Rattle.tds_wire.specs.Reading.{next_token, restarted};
-ghost use Rattle.tds_service.specs.Parts.{told};
+ghost use Rattle.tds_wire.specs.declared.told.Token.{Token};
+ghost use Rattle.tds_service.specs.Packets.{awaiting};
+ghost use Rattle.tds_service.specs.Parts.{Part, told};
 ghost use Rattle.tds_service.specs.Line as line;
 ghost use Rattle.tds_service.specs.Ties.{Does, DoesAll, Hears, Stands, answer_to, asked_answer};
 ghost use Rattle.tds_service.specs.Ties.{cancel_answer, end_at, finishing, line_in, listed, part_of};
@@ -210,6 +212,21 @@ impl Connection {
                 token: unless_change(heard.token),
             }),
             Err(fault) => Err(fault),
+        }
+    }
+
+    /// Whether an answer or an acknowledgement is awaited. Where none is, whatever comes is a fault, which
+    /// breaks the connection.
+    pub(crate) fn expects(&mut self) -> Result<(), ListenFault>
+        ensures ok { OnOk result (self.new ≡ self.old) }
+        ensures awaits { OnOk result ((cancelling : Bool)
+            × ((line_in self.old).stage ≡ awaiting cancelling)) }
+        ensures fault { IfErr result (λ fault. (part : Part Token)
+            → Hears part (line_in self.old) (line_in self.new) (line.Fault fault) []) }
+    {
+        match self.client.hear_sign(Rules::Any, Sign::Nothing) {
+            Ok(()) => Ok(()),
+            Err(fault) => Err(ListenFault::Client(fault)),
         }
     }
 

@@ -5,6 +5,7 @@ ghost use Rattle.std.specs.Prelude.{◌≡◌, ◌≤◌, ◌+◌, ℕ, List, Bo
 ghost use Rattle.tds_service.specs.Line.{Act, new_line};
 ghost use Rattle.tds_service.specs.History.{history, line_after};
 ghost use Rattle.tds_service.specs.Acknowledging.{SettlesRight};
+ghost use Rattle.tds_service.specs.Newest.{NamesNewest};
 ghost use Rattle.tds_service.specs.Promises.{AsksUnawaited, FaultsUnawaited, NothingBehindCancel, Paired};
 ghost use Rattle.tds_service.specs.Promises.{attentions, acknowledgements};
 ghost use Rattle.tds_service.specs.Promises.{AsksAsOwed, LeavesNoneOwed, NamesAsHeard};
@@ -46,6 +47,12 @@ pub fn asks_for_reset<T>()
 /// A request's header names the transaction that was heard last, or none under a full reset.
 pub fn names_descriptor<T>()
     ensures { (acts : List (Act T)) → NamesAsHeard nothing_known (history new_line acts) }
+{}
+
+/// A request has the number behind the one before, and whichever is cancelled, answered or acknowledged
+/// is the newest one.
+pub fn names_newest<T>()
+    ensures { (acts : List (Act T)) → NamesNewest 0 (history new_line acts) }
 {}
 
 /// A cancelled request is settled exactly at the end of a message with an acknowledgement.

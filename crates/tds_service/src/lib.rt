@@ -3,7 +3,9 @@
 #![tactic(auto)]
 
 mod connection;
+mod hearing;
 pub mod laws;
+mod outcome;
 mod place;
 mod refusal;
 mod seat;
@@ -11,6 +13,7 @@ mod service;
 pub mod table_laws;
 
 pub use connection::Connection;
+pub use outcome::{Came, Outcome};
 pub use place::{Place, Rest};
 pub use refusal::Refusal;
 pub use service::{Asked, Lent, Service};

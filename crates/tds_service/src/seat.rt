@@ -1,7 +1,8 @@
 //! A connection in its service: its number and who holds it.
-ghost use Rattle.std.specs.Prelude.{◌≡◌};
-ghost use Rattle.tds_service.specs.Service.{clean_place, is_idle, rests};
-ghost use Rattle.tds_service.specs.Table.{rest_of, rests_of, seat_in, test_of};
+ghost use Rattle.std.specs.Prelude.{◌≡◌, ◌≢◌, true, false};
+ghost use Rattle.tds_service.specs.Service.{clean_place, drained, is_idle, lease_in, rests};
+ghost use Rattle.tds_service.specs.Table.{place_of, rest_of, rests_of, seat_in, test_of};
+ghost use Rattle.tds_service.specs.Line as line;
 ghost use Rattle.tds_service.specs.Ties.{line_in};
 
 use crate::connection::Connection;
@@ -27,6 +28,61 @@ impl Seat {
             ClientState::Cancelling => false,
             ClientState::Broken(_) => false,
         }
+    }
+
+    /// The lease that holds it, where one does.
+    pub(crate) fn lease(&self) -> Option<u64>
+        ensures { result ≡ lease_in (seat_in self.now).place }
+    {
+        match self.place {
+            Place::Leased(lease) => Some(lease),
+            Place::Cleaning(lease) => Some(lease),
+            Place::Kept(_) => None,
+            Place::Free => None,
+            Place::Draining => None,
+        }
+    }
+
+    /// Whether an answer is being read on it.
+    pub(crate) fn is_reading(&self) -> bool
+        ensures yes { result ≡ true → (line_in self.now.connection).stage ≡ line.Reading }
+        ensures no { result ≡ false → (line_in self.now.connection).stage ≢ line.Reading }
+    {
+        match self.connection.state() {
+            ClientState::Reading => true,
+            ClientState::Idle => false,
+            ClientState::Sending => false,
+            ClientState::Cancelling => false,
+            ClientState::Broken(_) => false,
+        }
+    }
+
+    /// Its place behind what came: one that drains is free once it is idle.
+    fn place_behind(&self) -> Place
+        ensures { place_of result ≡ drained (seat_in self.now).place (seat_in self.now).line.stage }
+    {
+        match self.place {
+            Place::Draining => {
+                if self.is_idle() {
+                    Place::Free
+                } else {
+                    Place::Draining
+                }
+            }
+            Place::Leased(lease) => Place::Leased(lease),
+            Place::Cleaning(lease) => Place::Cleaning(lease),
+            Place::Kept(ticket) => Place::Kept(ticket),
+            Place::Free => Place::Free,
+        }
+    }
+
+    /// Puts it where it is behind what came.
+    pub(crate) fn settle(&mut self)
+        ensures { (self.new.number ≡ self.old.number) × (self.new.connection ≡ self.old.connection)
+            × (place_of self.new.place
+            ≡ drained (seat_in self.old).place (seat_in self.old).line.stage) }
+    {
+        self.place = self.place_behind();
     }
 
     /// Whether it is the one that is wanted.

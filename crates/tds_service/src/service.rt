@@ -2,6 +2,7 @@
 ghost use Rattle.std.specs.Prelude.{◌≤◌};
 
 mod asking;
+mod coming;
 mod finding;
 mod giving;
 mod lending;

@@ -10,6 +10,7 @@ ghost use Rattle.tds_service.specs.Service.{Call, new_service, on, service_after
 ghost use Rattle.tds_service.specs.Service.{AllInUse, Lent, Seat, Service, find_by, has_lease};
 ghost use Rattle.tds_service.specs.Service.{is_lendable};
 ghost use Rattle.tds_service.specs.Acknowledging.{SettlesRight};
+ghost use Rattle.tds_service.specs.Newest.{NamesNewest};
 ghost use Rattle.tds_service.specs.Promises.{AsksUnawaited, FaultsUnawaited, NothingBehindCancel, Paired};
 ghost use Rattle.tds_service.specs.Promises.{attentions, acknowledgements};
 ghost use Rattle.tds_service.specs.Promises.{AsksAsOwed, LeavesNoneOwed, NamesAsHeard};
@@ -76,6 +77,13 @@ pub fn asks_for_reset<T>()
 pub fn names_descriptor<T>()
     ensures { (max n : ℕ) (calls : List (Call T))
         → NamesAsHeard nothing_known (on n (steps (new_service max) calls)) }
+{}
+
+/// On each connection a request has the number behind the one before, and whichever is cancelled,
+/// answered or acknowledged is the newest one.
+pub fn names_newest<T>()
+    ensures { (max n : ℕ) (calls : List (Call T))
+        → NamesNewest 0 (on n (steps (new_service max) calls)) }
 {}
 
 /// Whoever is told: on each connection a token is told only to the newest request, and the lease that

@@ -5,6 +5,7 @@
 mod fault;
 mod player;
 mod service;
+mod table;
 mod timing;
 mod words;
 
@@ -48,6 +49,7 @@ fn run(rt: &HostRuntime) -> io::Result<bool> {
         is_well &= play(rt, text.as_str(), *size)?;
     }
     print!(rt; "{}", service::play(rt.alloc())?)?;
+    print!(rt; "{}", table::play(rt.alloc())?)?;
     Ok(is_well)
 }
 

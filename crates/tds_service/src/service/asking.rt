@@ -4,7 +4,7 @@ ghost use Rattle.tds_service.specs.declared.seat.Seat.{Seat as CodeSeat};
 ghost use Rattle.tds_service.specs.Line as line;
 ghost use Rattle.tds_service.specs.Refusing.{refusal_in};
 ghost use Rattle.tds_service.specs.Service as calls;
-ghost use Rattle.tds_service.specs.Table.{Refuses, RefusedBy, Steps, service_in};
+ghost use Rattle.tds_service.specs.Table.{Answers, Refuses, RefusedBy, Steps, service_in};
 ghost use Rattle.tds_service.specs.Ties.{Does, DoesAll, answer_to, asked_answer, cancel_answer, finishing, line_in, putting};
 
 use crate::place::Wanted;
@@ -110,6 +110,8 @@ impl Service {
     pub fn ask(&mut self, lease: u64, kind: MessageKind) -> Result<Asked, Refusal>
         ensures ok { IfOk result (λ done. Steps (calls.Ask lease) (service_in self.old)
             (service_in self.new) calls.Did done.number [] []) }
+        ensures names { IfOk result (λ done. (descriptor : ℕ) × Answers (calls.Ask lease)
+            (service_in self.old) (line.Asked done.request descriptor)) }
         ensures refused { IfErr result (Refuses (calls.Ask lease) (service_in self.old)) }
         ensures err { OnErr result (self.new ≡ self.old) }
     {
@@ -157,6 +159,8 @@ impl Service {
     pub fn cancel(&mut self, lease: u64, out: &mut Vec<u8>) -> Result<(u64, Cancelled), Refusal>
         ensures ok { IfOk result (λ done. Steps (calls.Cancel lease) (service_in self.old)
             (service_in self.new) calls.Did done.0 out.old.items out.new.items) }
+        ensures how { IfOk result (λ done. (request : ℕ) × Answers (calls.Cancel lease)
+            (service_in self.old) (cancel_answer request done.1)) }
         ensures refused { IfErr result (Refuses (calls.Cancel lease) (service_in self.old)) }
         ensures err { OnErr result (self.new ≡ self.old) }
         ensures nothing { OnErr result (out.new.items ≡ out.old.items) }

@@ -8,6 +8,8 @@ use Rattle.tds_service.specs.Refusing.{packets, refusal_in}
 use Rattle.tds_service.specs.Service.{Service, has_lease}
 use Rattle.tds_service.specs.Table.{service_in, seats_in}
 use Rattle.tds_service.specs.Ties.{line_in, asked_answer}
+use Rattle.tds_packet.specs.Resets.{header_descriptor}
+use Rattle.tds_service.proofs.Answering.{answered}
 use Rattle.tds_service.proofs.Tables.{here_in, acts_alike, refuses_alike, one_is_all, on_err, ask_never}
 use Rattle.tds_service.proofs.service.Service.ask.Goals as goal
 
@@ -32,6 +34,20 @@ returns-in-Some-clause-ok c =
       number_is = r.2 ∙ sym k.4;
       bytes = r.3;
     })
+    c.ask_at.ensures.ok
+
+pub returns-in-Some-clause-names : goal.returns-in-Some-clause-names
+returns-in-Some-clause-names c =
+    let old = service_in c.args.self.now in
+    let items = c.args.self.now.seats.items in
+    let index = c.in-Some.index in
+    let here = here_in (has_lease c.args.lease) items c.deref.result.now c.deref_mut.result.now index c.deref.ensures.value c.deref_mut.ensures.value c.in-Some.ensures.first in
+    IfOk-weaker c.ask_at.result _ _
+    (λ done h.
+      let heard = here.seat.connection.client.heard in (
+        header_descriptor heard.mark heard.descriptor,
+        answered old (has_lease c.args.lease) line.Ask items index here.seat (asked_answer here.seat.connection done.request) refl here.first here.at (h here.seat here.at_lent).5.answer_is refl,
+      ))
     c.ask_at.ensures.ok
 
 pub returns-in-Some-clause-refused : goal.returns-in-Some-clause-refused

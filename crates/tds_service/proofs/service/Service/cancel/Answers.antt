@@ -8,6 +8,7 @@ use Rattle.tds_service.specs.Refusing.{packets, refusal_in}
 use Rattle.tds_service.specs.Service.{Service, has_lease}
 use Rattle.tds_service.specs.Table.{service_in, seats_in}
 use Rattle.tds_service.specs.Ties.{line_in, cancel_answer}
+use Rattle.tds_service.proofs.Answering.{answered}
 use Rattle.tds_service.proofs.Tables.{here_in, acts_alike, refuses_alike, one_is_all, on_err, cancel_never, cancelled_fine}
 use Rattle.tds_service.proofs.service.Service.cancel.Goals as goal
 
@@ -32,6 +33,20 @@ returns-in-Some-clause-ok c =
       number_is = r.2 ∙ sym k.4;
       bytes = r.3;
     })
+    c.cancel_at.ensures.ok
+
+pub returns-in-Some-clause-how : goal.returns-in-Some-clause-how
+returns-in-Some-clause-how c =
+    let old = service_in c.args.self.now in
+    let items = c.args.self.now.seats.items in
+    let index = c.in-Some.index in
+    let here = here_in (has_lease c.args.lease) items c.deref.result.now c.deref_mut.result.now index c.deref.ensures.value c.deref_mut.ensures.value c.in-Some.ensures.first in
+    IfOk-weaker c.cancel_at.result _ _
+    (λ done h.
+      let n = here.seat.connection.asked in (
+        n,
+        answered old (has_lease c.args.lease) line.Cancel items index here.seat (cancel_answer n done.1) refl here.first here.at (h here.seat here.at_lent).5.answer_is (cancelled_fine n done.1),
+      ))
     c.cancel_at.ensures.ok
 
 pub returns-in-Some-clause-refused : goal.returns-in-Some-clause-refused

@@ -1,0 +1,16 @@
+use Rattle.std.proofs.Common.{◌≡◌, ◌≤◌, ◌+◌, ◌-◌, Bool, length, drop}
+use Rattle.std.specs.Prelude.{vec_len, vec_capacity}
+use Rattle.tds_service.specs.Line as line
+use Rattle.tds_service.specs.Packets.{HeardSome}
+use Rattle.tds_service.specs.Ties.{line_in}
+use Rattle.tds_service.proofs.hearing.hear_tokens.Given as goal
+
+abbrev pub invariant-tokens : goal.invariant-tokens
+invariant-tokens l = record {
+  some : (cancelling : Bool) × HeardSome cancelling (line_in l.fn.connection) l.fn.connection.walker l.bytes (line_in l.connection) l.connection.walker (drop l.done l.bytes) l.fn.told.items l.told.items;
+  within : l.done ≤ length l.bytes;
+  room : (line_in l.fn.connection).stage ≡ line.Reading → vec_len l.told + (length l.bytes - l.done) ≤ vec_capacity l.told;
+}
+
+abbrev pub decreases-tokens : goal.decreases-tokens
+decreases-tokens l = length l.bytes - l.done

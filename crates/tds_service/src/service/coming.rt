@@ -1,0 +1,118 @@
+//! What comes on a connection.
+ghost use Rattle.std.specs.Prelude.{◌≡◌, ◌<◌, ◌≤◌, ◌+◌, ◌++◌, ℕ, length, Some, slice_index_or, slice_set, vec_len};
+ghost use Rattle.std.specs.Prelude.{vec_capacity, IfOk, IfErr, OnOk, OnErr};
+ghost use Rattle.tds_listen.specs.Hearing.{tokens_in};
+ghost use Rattle.tds_wire.specs.Reading.{Reading};
+ghost use Rattle.tds_service.specs.declared.seat.Seat.{Seat as CodeSeat};
+ghost use Rattle.tds_service.specs.Line as line;
+ghost use Rattle.tds_service.specs.Packets.{Reads, outcome_answer, packet_part, told_of_part};
+ghost use Rattle.tds_service.specs.Service as calls;
+ghost use Rattle.tds_service.specs.Service.{drained, find_by, has_number, lease_in};
+ghost use Rattle.tds_service.specs.Table.{Comes, ReadsAt, Refuses, place_of, reading_on, service_in};
+ghost use Rattle.tds_service.specs.Ties.{Hears, line_in};
+
+use crate::hearing::hear_packet;
+use crate::outcome::Came;
+use crate::place::Wanted;
+use crate::refusal::Refusal;
+use crate::seat::Seat;
+use crate::service::Service;
+use crate::service::finding::find;
+use tds_wire::Token;
+
+/// Makes room for what may be told of so many bytes, where an answer is being read.
+fn make_room(seat: &Seat, count: usize, told: &mut Vec<Token>) -> Result<(), Refusal>
+    ensures room { OnOk result ((line_in seat.now.connection).stage ≡ line.Reading
+        → vec_len told.new + count ≤ vec_capacity told.new) }
+    ensures refused { IfErr result (λ refusal. (refusal ≡ Refusal.Memory)
+        × ((line_in seat.now.connection).stage ≡ line.Reading)) }
+    ensures same { told.new.items ≡ told.old.items }
+{
+    if !seat.is_reading() {
+        return Ok(());
+    }
+    match told.reserve(count) {
+        Ok(()) => Ok(()),
+        Err(_) => Err(Refusal::Memory),
+    }
+}
+
+/// The connection at this index hears a packet's data.
+fn came_at(
+    seats: &mut [Seat],
+    index: usize,
+    bytes: &[u8],
+    ends: bool,
+    told: &mut Vec<Token>,
+) -> Result<Came, Refusal>
+    requires { index < length seats.old }
+    ensures ok { IfOk result (λ came. (c : CodeSeat) → c ≡ slice_index_or seats.old index c
+        → (d : CodeSeat) × (seats.new ≡ slice_set seats.old index d) × (d.number ≡ c.number)
+        × (place_of d.place ≡ drained (place_of c.place) (line_in d.connection).stage)
+        × (came.lease ≡ lease_in (place_of c.place)) × (came.request ≡ c.connection.asked)
+        × Hears (packet_part c.connection.walker bytes.now ends) (line_in c.connection)
+        (line_in d.connection) (outcome_answer came.request came.outcome)
+        (told_of_part (line_in c.connection)
+        (packet_part c.connection.walker bytes.now ends))
+        × (told.new.items ≡ told.old.items ++ told_of_part (line_in c.connection)
+        (packet_part c.connection.walker bytes.now ends))) }
+    ensures reads { IfOk result (λ came. (c : CodeSeat) → c ≡ slice_index_or seats.old index c
+        → (d : CodeSeat) × (seats.new ≡ slice_set seats.old index d) × (d.number ≡ c.number)
+        × Reads came.outcome ends (tokens_in c.connection.walker bytes.now).stop
+        d.connection.walker) }
+    ensures refused { IfErr result (λ refusal. (refusal ≡ Refusal.Memory)
+        × ((c : CodeSeat) → c ≡ slice_index_or seats.old index c
+        → (line_in c.connection).stage ≡ line.Reading)) }
+    ensures err { OnErr result (seats.new ≡ seats.old) }
+    ensures untold { OnErr result (told.new.items ≡ told.old.items) }
+{
+    let seat = &mut seats[index];
+    if let Err(refusal) = make_room(seat, bytes.len(), told) {
+        return Err(refusal);
+    }
+    let lease = seat.lease();
+    let request = seat.connection.asked();
+    let outcome = hear_packet(&mut seat.connection, bytes, ends, told);
+    seat.settle();
+    Ok(Came {
+        lease,
+        request,
+        outcome,
+    })
+}
+
+impl Service {
+    /// The data of a packet of type `04` came on the connection of this number, which ends its message
+    /// or not (MS-TDS 2.2.3.1.2). What may be told is appended to `told`, and belongs to the request
+    /// and the lease that are answered; it stands where `Token` says, counted from the message's first
+    /// byte. Of a packet with a fault nothing is told.
+    ///
+    /// Memory is taken only while an answer is read, for as many tokens as there are bytes.
+    pub fn came(
+        &mut self,
+        number: u64,
+        bytes: &[u8],
+        ends: bool,
+        told: &mut Vec<Token>,
+    ) -> Result<Came, Refusal>
+        ensures ok { IfOk result (λ came. (r : Reading) × (reading_on number self.old ≡ Some r)
+            × Comes (service_in self.old) (service_in self.new) number
+            (packet_part r bytes.now ends) came.lease came.request
+            (outcome_answer came.request came.outcome) told.old.items told.new.items) }
+        ensures reads { IfOk result (λ came. (r : Reading) → reading_on number self.old ≡ Some r
+            → (next : Reading) × (reading_on number self.new ≡ Some next)
+            × Reads came.outcome ends (tokens_in r bytes.now).stop next) }
+        ensures refused { IfErr result (λ refusal. (r : Reading)
+            → Refuses (calls.Came number (packet_part r bytes.now ends)) (service_in self.old)
+            refusal) }
+        ensures memory { IfErr result (λ refusal. refusal ≡ Refusal.Memory
+            → ReadsAt (find_by (has_number number) (service_in self.old).seats)) }
+        ensures err { OnErr result (self.new ≡ self.old) }
+        ensures untold { OnErr result (told.new.items ≡ told.old.items) }
+    {
+        match find(&self.seats, Wanted::Number(number)) {
+            Some(index) => came_at(&mut self.seats, index, bytes, ends, told),
+            None => Err(Refusal::Unknown),
+        }
+    }
+}
