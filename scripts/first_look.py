@@ -157,7 +157,7 @@ def before(name, words):
         print_help(name, words)
         return 100
     if name not in COMMANDS:
-        if words:
+        if words or name not in WORDS:
             return 0
         print(f"{name}: {WORDS[name]}", file=sys.stderr)
         return 2

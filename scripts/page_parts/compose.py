@@ -1,22 +1,26 @@
 #!/usr/bin/env python3
-"""Puts the module, the examples and the version into the page: compose.py MODULE.wasm OUT.html
+"""Makes the pages of the sources in page/, of the module, the schedules and the version:
 
-The examples are all schedules, each with the sentence that says what it shows (page/examples.txt)."""
+usage: compose.py MODULE.wasm FOLDER    FOLDER/index.html, the player, and FOLDER/bugs.html
+
+Each is one file: what it names stands in it. The player's examples are all schedules, each with the sentence that
+says what it shows (page/examples.txt); what the other page has, bugs.py says."""
 
 import base64
 import json
 import os
+import re
 import sys
 
-TOP = os.path.dirname(os.path.dirname(os.path.dirname(os.path.abspath(__file__))))
-FOLDER = f"{TOP}/crates/test_calls/data/schedules"
-EMPTY = '{"version":"","module":"","examples":[]}'
+sys.dont_write_bytecode = True
+import bugs
+
+TOP = bugs.TOP
+FOLDER = bugs.FOLDER
 KINDS = (("Schedules", ""), ("What drivers and pools get wrong", "peers/"))
-
-
-def text_of(path):
-    with open(path, encoding="utf-8", newline="") as it:
-        return it.read()
+STYLE = re.compile(r'<link rel="stylesheet" href="([\w.]+)">')
+SCRIPT = re.compile(r'<script(.*?) src="([\w.]+)"></script>')
+text_of = bugs.text_of
 
 
 def sentences():
@@ -49,19 +53,33 @@ def examples():
                 yield {"kind": kind, "name": name, "shows": sentence, "text": text}
 
 
-def main(module, target):
+def one_file(name, made):
+    """A page of this name, with what is made, and with all that it names in it."""
+    # So no text ends the element that it stands in.
+    data = json.dumps(made, separators=(",", ":")).replace("<", "\\u003c")
+
+    def script(found):
+        text = data if found[2] == "data" else text_of(f"{TOP}/page/{found[2]}")
+        if "</script" in text:
+            sys.exit(f"page/{found[2]} ends the element that it is put into")
+        return f"<script{found[1]}>\n{text.strip()}\n</script>"
+
+    page = text_of(f"{TOP}/page/{name}").replace("<!-- BUGS -->", bugs.all_bugs() if name == "bugs.html" else "")
+    page = STYLE.sub(lambda found: f"<style>\n{text_of(f'{TOP}/page/{found[1]}')}</style>", page)
+    return SCRIPT.sub(script, page)
+
+
+def main(module, folder):
     with open(module, "rb") as it:
         wasm = base64.b64encode(it.read()).decode()
-    data = {"version": text_of(f"{TOP}/VERSION").strip(), "module": wasm, "examples": list(examples())}
-    page = text_of(f"{TOP}/page/index.html")
-    if page.count(EMPTY) != 1:
-        sys.exit("page/index.html has no place for what is made")
-    # So no text ends the element that it stands in.
-    page = page.replace(EMPTY, json.dumps(data, separators=(",", ":")).replace("<", "\\u003c"))
-    with open(target, "w", encoding="utf-8", newline="") as it:
-        it.write(page)
-    size, count = os.path.getsize(module), len(data["examples"])
-    print(f"page: {target}: {len(page)} characters, {count} schedules, a module of {size} bytes")
+    made = {"version": text_of(f"{TOP}/VERSION").strip(), "module": wasm}
+    shown = list(examples())
+    for name, more in (("index.html", {"examples": shown}), ("bugs.html", {"schedules": bugs.schedules()})):
+        page = one_file(name, made | more)
+        with open(f"{folder}/{name}", "w", encoding="utf-8", newline="") as it:
+            it.write(page)
+        print(f"page: {folder}/{name}: {len(page)} characters")
+    print(f"page: {len(shown)} schedules, a module of {len(wasm) * 3 // 4} bytes")
 
 
 if __name__ == "__main__":

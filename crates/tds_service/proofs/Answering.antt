@@ -1,5 +1,5 @@
 -- What a connection answered to a call of the table.
-use Rattle.std.proofs.Common.{◌≡◌, ◌∙◌, ℕ, Bool, List, [], ◌∷◌, get_or, refl, sym, ap, subst}
+use Rattle.std.proofs.Common.{◌≡◌, ◌∙◌, ℕ, Bool, List, [], ◌∷◌, get_or, sym, ap, subst}
 use Rattle.std.specs.Prelude.{Option, None}
 use Rattle.tds_wire.specs.declared.told.Token.{Token}
 use Rattle.tds_client.specs.declared.fault.ClientRefusal.{ClientRefusal}

@@ -12,7 +12,7 @@ use Rattle.tds_service.specs.Line as line
 use Rattle.tds_service.specs.Line.{Line, Answer, Packet, turn}
 use Rattle.tds_service.specs.History.{line_after}
 use Rattle.tds_service.specs.Packets.{told_of_part}
-use Rattle.tds_service.specs.Service.{Seat, Service, Step, Did, lease_in, lease_at, drained, find_by, has_number, hears, does}
+use Rattle.tds_service.specs.Service.{Seat, Service, Did, lease_in, lease_at, drained, find_by, has_number, hears}
 use Rattle.tds_service.specs.Table.{Comes, StepsIn, AllTo, answers_in, told_in, RefusesIn, met, reading_by, place_of, seat_in, seats_in}
 use Rattle.tds_service.specs.Ties.{Hears, IsTo, Appends, line_in, tokens_in}
 use Rattle.tds_service.proofs.Alone.{same_number}

@@ -1,7 +1,6 @@
 -- Parts that come one behind the other are one part.
-use Rattle.std.proofs.Common.{◌≡◌, ◌∙◌, ℕ, Bool, true, false, List, [], ◌∷◌, ◌++◌, refl, sym, ap, subst, append_assoc}
-use Rattle.std.proofs.lemmas.List.{append-nil}
-use Rattle.std.specs.Prelude.{Option, Some, None, Result, Ok, Err}
+use Rattle.std.proofs.Common.{◌≡◌, ◌∙◌, ℕ, Bool, true, false, List, [], ◌∷◌, ◌++◌, refl, sym, ap, subst}
+use Rattle.std.specs.Prelude.{Result, Ok, Err}
 use Rattle.tds_wire.specs.declared.told.Token.{Token}
 use Rattle.tds_client.specs.declared.fault.ClientFault.{ClientFault}
 use Rattle.tds_client.specs.declared.heard.Heard.{Heard}
@@ -12,13 +11,12 @@ use Rattle.tds_client.specs.declared.sign.Sign.{Sign}
 use Rattle.tds_client.specs.declared.sign.Sign.TheVariants as signs
 use Rattle.tds_client.specs.Hearing.{◌>>=◌, hear_sign}
 use Rattle.tds_listen.specs.declared.fault.ListenFault.{ListenFault}
-use Rattle.tds_listen.specs.declared.fault.ListenFault.TheVariants as faults
 use Rattle.tds_listen.specs.Hearing.{heard_by}
-use Rattle.tds_service.specs.Parts.{Item, Part, Close, Goes, Ends, Cut, Fails, is_end, told, told_by, hear_items, hear_part, heard_until, until_by, close_part}
+use Rattle.tds_service.specs.Parts.{Item, Part, Close, is_end, told, told_by, hear_items, hear_part, heard_until, until_by, close_part}
 use Rattle.tds_service.specs.Packets.{awaiting, tells}
 use Rattle.tds_service.specs.Line as line
 use Rattle.tds_service.specs.Line.{Line, Turn, Answer, Told, Stage, turn, reads, skips, skips_to_end}
-use Rattle.tds_service.specs.Ties.{Hears, IsTo, tokens_in}
+use Rattle.tds_service.specs.Ties.{IsTo, tokens_in}
 use Rattle.tds_service.proofs.Pairing.{line as line_at}
 
 -- ---- Items

@@ -10,7 +10,7 @@ use Rattle.tds_service.specs.History.{history}
 use Rattle.tds_service.specs.Lending.{marking, MarksBy, MarksReused}
 use Rattle.tds_client.specs.declared.fault.ClientRefusal.{ClientRefusal}
 use Rattle.tds_service.specs.Refusing.{packets, refusal_in}
-use Rattle.tds_service.specs.Service.{Place, Leased, Cleaning, Kept, Free, Draining, No, NoMemory, acts_unless, cleans, cleaned, clean_place, rests_cleaned, Seat, Service, new_service, Call, Lease, Resume, Ask, Put, Finish, Cancel, GiveBack, Clean, Cleaned, Keep, Abandon, Came, Lost, Without, NotNow, Lent, Ticket, nothing, find_by, has_lease, has_ticket, has_number, is_lendable, does, is_idle, is_free, is_open, acts, opens, lends, resumes, gives_back, keeps_it, abandons, hears, loses, step, steps}
+use Rattle.tds_service.specs.Service.{Place, Leased, Cleaning, Kept, acts_unless, cleans, cleaned, clean_place, rests_cleaned, Seat, Service, new_service, Call, Lease, Resume, Ask, Put, Finish, Cancel, GiveBack, Clean, Cleaned, Keep, Abandon, Came, Lost, Without, NotNow, Lent, Ticket, nothing, find_by, has_lease, has_ticket, has_number, is_lendable, does, is_idle, is_free, is_open, acts, opens, lends, resumes, gives_back, keeps_it, abandons, hears, loses, step, steps}
 
 -- ---- Marked
 

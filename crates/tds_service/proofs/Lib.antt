@@ -18,4 +18,5 @@ pub mod Lends
 pub mod Idle
 pub mod Leases
 pub mod Spent
+pub mod Owned
 pub mod Owners

@@ -3,8 +3,7 @@ use Rattle.std.proofs.Common.{◌≡◌, ◌∙◌, ◌+◌, ◌-◌, ◌<◌, �
 use Rattle.std.proofs.lemmas.List.{append-nil, take_all, drop_all, drop-drop, length-drop}
 use Rattle.std.specs.Prelude.{Option, Some, None, Result, Ok, Err}
 use Rattle.tds_wire.specs.declared.told.Token.{Token}
-use Rattle.tds_wire.specs.declared.fault.Refusal.{Refusal}
-use Rattle.tds_wire.specs.Reading.{Reading, Found, Sees, Inside, Refuses, is_between, next_token}
+use Rattle.tds_wire.specs.Reading.{Reading, Found, Sees, Inside, Refuses, next_token}
 use Rattle.tds_client.specs.declared.fault.ClientFault.{ClientFault}
 use Rattle.tds_client.specs.declared.heard.Heard.{Heard}
 use Rattle.tds_client.specs.declared.sign.Rules.TheVariants.{Any}
@@ -16,8 +15,7 @@ use Rattle.tds_client.specs.Machine.{signed, signed_in}
 use Rattle.tds_client.specs.Session as session
 use Rattle.tds_client.specs.Session.{ClientSession}
 use Rattle.tds_listen.specs.declared.fault.ListenFault.{ListenFault}
-use Rattle.tds_listen.specs.declared.fault.ListenFault.TheVariants as faults
-use Rattle.tds_listen.specs.Hearing.{Tokens, Stop, Stands, Fails, heard_by, led_by, no_tokens, tokens_by, tokens_in, tokens_within}
+use Rattle.tds_listen.specs.Hearing.{Tokens, Stop, Stands, heard_by, led_by, no_tokens, tokens_by, tokens_in, tokens_within}
 use Rattle.tds_listen.specs.Signs.{sign_of}
 use Rattle.tds_listen.proofs.Within.{step_is}
 use Rattle.tds_service.specs.Parts as parts

@@ -1,5 +1,5 @@
 -- The table of the code, and the machine's.
-use Rattle.std.proofs.Common.{◌≡◌, ◌∙◌, ◌&&◌, ◌<◌, ◌≤◌, ◌+◌, ℕ, zero, suc, Bool, true, false, List, [], ◌∷◌, ◌++◌, length, get_or, take, drop, refl, sym, ap, subst, arith}
+use Rattle.std.proofs.Common.{◌≡◌, ◌∙◌, ◌&&◌, ◌<◌, ◌+◌, ℕ, zero, suc, Bool, true, false, List, [], ◌∷◌, ◌++◌, length, get_or, take, drop, refl, sym, ap, subst, arith}
 use Rattle.std.proofs.Math.ListN.{set}
 use Rattle.std.proofs.lemmas.List.{append-nil}
 use Rattle.std.specs.Prelude.{Option, Some, None, Result, Ok, Err, IfErr, if◌then◌else◌}
@@ -15,12 +15,12 @@ use Rattle.tds_service.specs.declared.refusal.Refusal.TheVariants as refusals
 use Rattle.tds_service.specs.declared.place.Rest.{Rest}
 use Rattle.tds_service.specs.declared.place.Rest.TheVariants as resting
 use Rattle.tds_service.specs.declared.seat.Seat as code
-use Rattle.tds_service.specs.History.{Done, done_by, history, line_after}
+use Rattle.tds_service.specs.History.{history, line_after}
 use Rattle.tds_service.specs.Line as line
 use Rattle.tds_service.specs.Line.{Line, Act, Answer, Stage, turn, asks, sends, cancels, marks}
 use Rattle.tds_service.specs.Line.{loses as losing}
 use Rattle.tds_service.specs.Refusing.{refusal_in}
-use Rattle.tds_service.specs.Service.{Place, Free, Draining, Seat, Service, Call, Step, Reply, NotNow, Lent, Did, No, is_idle, is_free, is_lendable, nothing, find_by, change_by, placed, has_lease, acts, acts_unless, does, step}
+use Rattle.tds_service.specs.Service.{Place, Free, Draining, Seat, Service, Step, Reply, NotNow, Lent, Did, is_idle, is_free, is_lendable, nothing, find_by, change_by, placed, acts, acts_unless, does}
 use Rattle.tds_service.specs.Table.{place_of, seat_in, seats_in, met, FirstMet, IsAt, RefusedBy, RefusesIn, StepsIn, refusal_of, rest_of, without_closed}
 use Rattle.tds_service.specs.Ties.{line_in, cancel_answer, sent_in, Does, DoesAll, Appends}
 

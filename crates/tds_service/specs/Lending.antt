@@ -85,6 +85,23 @@ IsWith lease (Came number part) = ⊥
 IsWith lease (Lost number) = ⊥
 IsWith lease (Without call) = ⊥
 
+-- Whether a call is made with this ticket.
+abbrev pub IsWithTicket : {T : Type 0} → ℕ → Call T → Type 0
+IsWithTicket ticket Lease = ⊥
+IsWithTicket ticket (Resume other) = other ≡ ticket
+IsWithTicket ticket (Ask lease) = ⊥
+IsWithTicket ticket (Put lease count) = ⊥
+IsWithTicket ticket (Finish lease count) = ⊥
+IsWithTicket ticket (Cancel lease) = ⊥
+IsWithTicket ticket (GiveBack lease) = ⊥
+IsWithTicket ticket (Clean number) = ⊥
+IsWithTicket ticket (Cleaned lease) = ⊥
+IsWithTicket ticket (Keep lease) = ⊥
+IsWithTicket ticket (Abandon other) = other ≡ ticket
+IsWithTicket ticket (Came number part) = ⊥
+IsWithTicket ticket (Lost number) = ⊥
+IsWithTicket ticket (Without call) = ⊥
+
 -- It reaches no connection, and the table stays.
 abbrev pub nothing_known_of : (T : Type 0) → Service → Step T
 nothing_known_of T s = nothing s Unknown

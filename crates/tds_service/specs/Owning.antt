@@ -1,9 +1,9 @@
 -- Whose request it is that is told: who asked it.
-use Rattle.std.specs.Prelude.{◌≡◌, ℕ, ◌==◌, Bool, true, false, List, [], ◌∷◌, Option, Some, None, if◌then◌else◌}
+use Rattle.std.specs.Prelude.{◌≡◌, ℕ, ◌==◌, Bool, true, false, List, [], ◌∷◌, Option, Some}
 use Rattle.tds_service.specs.Line as line
 use Rattle.tds_service.specs.Line.{Answer, Told, Nobody, To}
 use Rattle.tds_service.specs.History.{Done}
-use Rattle.tds_service.specs.Service.{Call, Lease, Resume, Ask, Put, Finish, Cancel, GiveBack, Clean, Cleaned, Keep, Abandon, Came, Lost, Without, Service, Step, lease_at, seat_numbered, step}
+use Rattle.tds_service.specs.Service.{Call, Lease, Resume, Ask, Put, Finish, Cancel, GiveBack, Clean, Cleaned, Keep, Abandon, Came, Lost, Without, Service, lease_at, seat_numbered, step}
 
 -- By which lease a request was asked.
 pub record Asker : Type 0 where

@@ -1,6 +1,6 @@
 -- What the machine's words are in the code: a client is a line, what goes out are its packets' bytes, and what a walker finds in a
 -- piece is a part.
-use Rattle.std.specs.Prelude.{◌≡◌, ℕ, zero, suc, ◌+◌, ◌==◌, Bool, true, false, List, [], ◌∷◌, ◌++◌, length, Option, Some, None, if◌then◌else◌}
+use Rattle.std.specs.Prelude.{◌≡◌, ℕ, ◌+◌, ◌==◌, Bool, true, List, [], ◌∷◌, ◌++◌, length, Option, Some, None, if◌then◌else◌}
 use Rattle.tds_packet.specs.declared.kind.Kind.{Kind}
 use Rattle.tds_packet.specs.Resets.{reset_bit, header_descriptor}
 use Rattle.tds_packet.specs.Sent.{end_bit}

@@ -7,8 +7,8 @@ ghost use Rattle.std.specs.Prelude.{length};
 ghost use Rattle.tds_service.specs.Line.{new_line};
 ghost use Rattle.tds_service.specs.History.{history, acts_of};
 ghost use Rattle.tds_service.specs.Service.{Call, new_service, on, service_after, step, steps};
-ghost use Rattle.tds_service.specs.Service.{AllInUse, Lent, Seat, Service, find_by, has_lease};
-ghost use Rattle.tds_service.specs.Service.{is_lendable};
+ghost use Rattle.tds_service.specs.Service.{AllInUse, Lent, Seat, Service, Ticket, find_by, has_lease};
+ghost use Rattle.tds_service.specs.Service.{has_ticket, is_lendable};
 ghost use Rattle.tds_service.specs.Acknowledging.{SettlesRight};
 ghost use Rattle.tds_service.specs.Newest.{NamesNewest};
 ghost use Rattle.tds_service.specs.Promises.{AsksUnawaited, FaultsUnawaited, NothingBehindCancel, Paired};
@@ -16,7 +16,7 @@ ghost use Rattle.tds_service.specs.Promises.{attentions, acknowledgements};
 ghost use Rattle.tds_service.specs.Promises.{AsksAsOwed, LeavesNoneOwed, NamesAsHeard};
 ghost use Rattle.tds_service.specs.Promises.{nothing_known};
 ghost use Rattle.tds_service.specs.Owning.{OwnAlong};
-ghost use Rattle.tds_service.specs.Lending.{IsWith, LendsIdle, MarksReused, leased};
+ghost use Rattle.tds_service.specs.Lending.{IsWith, IsWithTicket, LendsIdle, MarksReused, leased};
 ghost use Rattle.tds_service.specs.Lending.{nothing_known_of};
 
 /// On each connection all comes out as it would if it were the only one.
@@ -122,8 +122,8 @@ pub fn all_in_use<T>()
         → leased T s ≡ AllInUse }
 {}
 
-/// The number of a lease is larger than any that was given before; and a number that was given and
-/// that a table doesn't know is unknown for ever. A call with an unknown one changes nothing.
+/// The number of a lease or a ticket is larger than any that was given before; and a number that was
+/// given and that a table doesn't know is unknown for ever. A call with an unknown one changes nothing.
 pub fn never_again<T>()
     ensures fresh { (s : Service) (call : Call T) (lease number : ℕ) (had : Bool)
         → (step s call).reply ≡ Lent lease number had
@@ -135,4 +135,12 @@ pub fn never_again<T>()
         → find_by (has_lease lease) (service_after s calls).seats ≡ None }
     ensures unknown { (s : Service) (call : Call T) (lease : ℕ) → IsWith lease call
         → find_by (has_lease lease) s.seats ≡ None → step s call ≡ nothing_known_of T s }
+    ensures ticket_fresh { (s : Service) (call : Call T) (ticket : ℕ)
+        → (step s call).reply ≡ Ticket ticket
+        → (s.given < ticket) × (ticket ≤ (step s call).service.given) }
+    ensures ticket_spent { (s : Service) (calls : List (Call T)) (ticket : ℕ) → ticket ≤ s.given
+        → find_by (has_ticket ticket) s.seats ≡ None
+        → find_by (has_ticket ticket) (service_after s calls).seats ≡ None }
+    ensures ticket_unknown { (s : Service) (call : Call T) (ticket : ℕ) → IsWithTicket ticket call
+        → find_by (has_ticket ticket) s.seats ≡ None → step s call ≡ nothing_known_of T s }
 {}

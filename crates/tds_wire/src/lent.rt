@@ -74,6 +74,7 @@ impl LentWalk {
     /// # Errors
     ///
     /// At the first byte that no answer has there, what is wrong. Each later call answers it again.
+    #[inline(always)]
     pub fn feed(&mut self, memory: &mut Memory, piece: &[u8]) -> Result<Fed, Refusal>
         ensures within { IfOk result (λ fed. fed.count ≤ length piece.now) }
         ensures all { IfOk result (λ fed. fed.token ≡ None → fed.count ≡ length piece.now) }
@@ -113,6 +114,7 @@ impl LentWalk {
     }
 
     /// A token has ended with these bytes.
+    #[inline(always)]
     fn end_token(&mut self, bytes: &[u8]) -> Token
         ensures token { (m : AnyMemory) → result
             ≡ token_with (reading_of self.old m) self.old.cursor.at.kind bytes.now }
@@ -136,6 +138,7 @@ impl LentWalk {
 
     /// What a token of this kind and length says, of which these are the last bytes. Rows and all others
     /// that say nothing are most of an answer, so their first bytes aren't put together for it.
+    #[inline(always)]
     fn tell(&mut self, kind: u8, length: u64, bytes: &[u8]) -> Told
         ensures told { result
             ≡ told_of kind self.old.start length (kept (head_of self.old.head) bytes.now) }
@@ -149,6 +152,7 @@ impl LentWalk {
     }
 
     /// Refuses the last of these bytes.
+    #[inline(never)]
     fn refuse(&mut self, fault: WireFault, bytes: &[u8]) -> Refusal
         ensures refusal { (m : AnyMemory) → result ≡ refusal_at (reading_of self.old m) fault bytes.now }
         ensures state { self.new ≡ record self.old { refused = Some result } }

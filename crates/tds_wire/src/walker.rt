@@ -54,6 +54,7 @@ impl Walker {
     /// # Errors
     ///
     /// At the first byte that no answer has there, what is wrong. Each later call answers it again.
+    #[inline(always)]
     pub fn feed(&mut self, piece: &[u8]) -> Result<Fed, Refusal>
         ensures within { IfOk result (λ fed. fed.count ≤ length piece.now) }
         ensures all { IfOk result (λ fed. fed.token ≡ None → fed.count ≡ length piece.now) }

@@ -6,12 +6,14 @@ mod fault;
 mod player;
 mod service;
 mod table;
+mod timing;
 mod words;
 
 use fault::SceneFault;
 use player::Player;
 use std::process::ExitCode;
 use std::{env, fs, io};
+use timing::time_hearing;
 
 /// How many bytes a piece has.
 const SIZES: [usize; 4] = [1, 3, 7, 4096];
@@ -27,12 +29,20 @@ fn main(rt: HostRuntime) -> ExitCode {
     }
 }
 
-/// Plays the scenes of the file that the first word names, with each size. Whether all came out as
-/// they are written.
+/// Plays the scenes of the file that the first word names, with each size: whether all came out as
+/// they are written. Or runs `time FILE PIECE TIMES`.
 fn run(rt: &HostRuntime) -> io::Result<bool> {
-    let Some(file) = env::args(rt)?.nth(1) else {
+    let mut words = Vec::new(rt.alloc());
+    for word in env::args(rt)?.skip(1) {
+        words.push(word)?;
+    }
+    let Some((file, others)) = words.as_slice().split_first() else {
         return Err(io::Error::from(io::ErrorKind::InvalidInput));
     };
+    if file.as_str() == "time" {
+        time_hearing(rt, others)?;
+        return Ok(true);
+    }
     let text = fs::read_to_string(rt, file.as_str())?;
     let mut is_well = true;
     for size in SIZES.iter() {

@@ -11,7 +11,9 @@ use tds_service::{Lent, Outcome, Refusal, Service};
 use tds_wire::Features;
 
 /// A return status of 5, and a DONE behind it (MS-TDS 2.2.7.18, 2.2.7.6).
-const ANSWER: [u8; 18] = [0x79, 5, 0, 0, 0, 0xFD, 0, 0, 0xC1, 0, 0, 0, 0, 0, 0, 0, 0, 0];
+const ANSWER: [u8; 18] = [
+    0x79, 5, 0, 0, 0, 0xFD, 0, 0, 0xC1, 0, 0, 0, 0, 0, 0, 0, 0, 0,
+];
 
 /// A DONE that acknowledges an attention.
 const ACKNOWLEDGED: [u8; 13] = [0xFD, 0x20, 0, 0, 0, 0, 0, 0, 0, 0, 0, 0, 0];
@@ -67,7 +69,11 @@ fn cancelled(alloc: Global, service: &mut Service, text: &mut String) -> Result<
     writeln!(text, "cancel: {word}, {} bytes on {number}", out.len())?;
     came(alloc, service, &ANSWER, true, text)?;
     let (number, rest) = service.give_back(1, &mut out)?;
-    writeln!(text, "given back: {number} is {rest:?}, {} bytes", out.len())?;
+    writeln!(
+        text,
+        "given back: {number} is {rest:?}, {} bytes",
+        out.len()
+    )?;
     came(alloc, service, &ACKNOWLEDGED, true, text)
 }
 
@@ -137,12 +143,20 @@ fn came(
             let word = outcome_word(&came.outcome);
             let count = told.len();
             let lease = came.lease.unwrap_or(0);
-            writeln!(text, "came: {word}, {count} to request {} of lease {lease}", came.request)?;
+            writeln!(
+                text,
+                "came: {word}, {count} to request {} of lease {lease}",
+                came.request
+            )?;
         }
         Err(refusal) => writeln!(text, "came: {refusal:?}")?,
     }
     for token in &told {
-        writeln!(text, "  {:02x} at {}, {} bytes", token.kind, token.start, token.length)?;
+        writeln!(
+            text,
+            "  {:02x} at {}, {} bytes",
+            token.kind, token.start, token.length
+        )?;
     }
     Ok(())
 }

@@ -82,6 +82,7 @@ impl Cursor {
     }
 
     /// Passes a piece that ends inside a run of bytes. Whether it does.
+    #[inline(always)]
     fn pass_middle(&mut self, memory: &mut Memory, piece: &[u8]) -> bool
         ensures inside { result ≡ true → onward (walk_of self.old memory.old) piece.now ≡ Within (walk_of self.new memory.new) }
         ensures other { result ≡ false → walk_of self.new memory.new ≡ (walk_of self.old memory.old) }
@@ -96,6 +97,7 @@ impl Cursor {
     }
 
     /// Takes bytes up to the end of one token. After a fault it takes no more.
+    #[inline(always)]
     pub fn feed(&mut self, memory: &mut Memory, piece: &[u8]) -> Step
         ensures within { IsWithin result (length piece.now) }
         ensures moves { Moves result (length piece.now) }
@@ -110,6 +112,7 @@ impl Cursor {
     }
 
     /// The same of any piece, a run of bytes or a byte at a time.
+    #[inline(never)]
     fn feed_on(&mut self, memory: &mut Memory, piece: &[u8]) -> Step
         ensures within { IsWithin result (length piece.now) }
         ensures moves { Moves result (length piece.now) }

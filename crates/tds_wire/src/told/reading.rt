@@ -262,6 +262,7 @@ pub(crate) fn tells(kind: u8) -> bool
 /// What a token of this kind says that starts here and has so many bytes, of which these are the
 /// first.
 #[tactic(auto, unfolding(crate::specs::Told::told_of))]
+#[inline(never)]
 pub(crate) fn told_of(kind: u8, start: u64, size: u64, head: &[u8]) -> Told
     ensures { result ≡ told_of kind start size head.now }
 {

@@ -1,5 +1,4 @@
-use Rattle.std.proofs.Common.{◌≡◌, ◌∙◌, Bool, true, false, [], refl, sym, ap, subst, rules}
-use Rattle.tds_wire.specs.Reading.{Reading, restarted}
+use Rattle.std.proofs.Common.{◌≡◌, ◌∙◌, Bool, true, false, [], sym, ap, subst, rules}
 use Rattle.tds_service.specs.declared.connection.Connection.{Connection}
 use Rattle.tds_service.specs.Packets.{HeardSome, behind_packet}
 use Rattle.tds_service.specs.Ties.{line_in}
@@ -100,4 +99,3 @@ returns-in-Err-ended-clause-fault c =
     let some = subst (λ (x : Connection). HeardSome s.0 (line_in x) x.walker c.args.bytes.now k reading [] before after) c.in_default.ensures.ok s.1 in
     let e : c.args.ends ≡ true = search rules in
     fault_ends s.0 l k (line_in c.ended.new.self) r reading c.args.bytes.now before after c.args.ends c.in-Err-ended.fault e some c.in-Err-ended.ensures.fault
-

@@ -1,4 +1,4 @@
-use Rattle.std.proofs.Common.{◌≡◌, ◌≤◌, ◌+◌, ◌-◌, List, [], length, drop, refl, sym, subst, arith, rules}
+use Rattle.std.proofs.Common.{◌≤◌, ◌+◌, ◌-◌, List, length, drop, sym, subst, arith}
 use Rattle.tds_wire.specs.declared.told.Token.{Token}
 use Rattle.tds_service.specs.Packets.{HeardSome}
 use Rattle.tds_service.specs.Ties.{line_in, listed}

@@ -1,10 +1,10 @@
-use Rattle.std.proofs.Common.{◌≡◌, ◌∙◌, ◌++◌, List, [], ◌∷◌, length, refl, sym, ap, arith, rules, true, false}
+use Rattle.std.proofs.Common.{◌≡◌, ◌∙◌, List, [], ◌∷◌, length, refl, sym, ap, arith, rules}
 use Rattle.std.proofs.Math.ListN.{set}
 use Rattle.std.proofs.lemmas.List.{with_items_is}
 use Rattle.std.proofs.lemmas.Result.{IfOk-weaker}
 use Rattle.tds_service.specs.declared.seat.Seat.{Seat}
 use Rattle.tds_service.specs.Line as line
-use Rattle.tds_service.specs.Refusing.{packets, refusal_in}
+use Rattle.tds_service.specs.Refusing.{refusal_in}
 use Rattle.tds_service.specs.Service.{Service, has_lease}
 use Rattle.tds_service.specs.Table.{service_in, seats_in}
 use Rattle.tds_service.specs.Ties.{line_in, asked_answer}
@@ -44,10 +44,10 @@ returns-in-Some-clause-names c =
     let here = here_in (has_lease c.args.lease) items c.deref.result.now c.deref_mut.result.now index c.deref.ensures.value c.deref_mut.ensures.value c.in-Some.ensures.first in
     IfOk-weaker c.ask_at.result _ _
     (λ done h.
-      let heard = here.seat.connection.client.heard in (
-        header_descriptor heard.mark heard.descriptor,
-        answered old (has_lease c.args.lease) line.Ask items index here.seat (asked_answer here.seat.connection done.request) refl here.first here.at (h here.seat here.at_lent).5.answer_is refl,
-      ))
+    let heard = here.seat.connection.client.heard in (
+      header_descriptor heard.mark heard.descriptor,
+      answered old (has_lease c.args.lease) line.Ask items index here.seat (asked_answer here.seat.connection done.request) refl here.first here.at (h here.seat here.at_lent).5.answer_is refl,
+    ))
     c.ask_at.ensures.ok
 
 pub returns-in-Some-clause-refused : goal.returns-in-Some-clause-refused

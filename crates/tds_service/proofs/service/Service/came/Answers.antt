@@ -1,15 +1,12 @@
-use Rattle.std.proofs.Common.{◌≡◌, ◌∙◌, ℕ, List, [], ◌∷◌, length, refl, sym, ap, subst, arith, rules}
+use Rattle.std.proofs.Common.{◌≡◌, ◌∙◌, List, length, refl, sym, ap, subst, arith, rules}
 use Rattle.std.proofs.lemmas.List.{with_items_is}
 use Rattle.std.proofs.lemmas.Result.{IfOk-weaker}
-use Rattle.std.specs.Prelude.{Option}
-use Rattle.tds_wire.specs.declared.told.Token.{Token}
 use Rattle.tds_service.specs.declared.refusal.Refusal.{Refusal}
-use Rattle.tds_service.specs.declared.refusal.Refusal.TheVariants as refusals
 use Rattle.tds_service.specs.declared.seat.Seat as code
 use Rattle.tds_wire.specs.Reading.{Reading}
 use Rattle.tds_listen.specs.Hearing.{tokens_in}
 use Rattle.tds_service.specs.Packets.{Reads, packet_part, outcome_answer}
-use Rattle.tds_service.specs.Service.{Service, Seat, has_number, find_by, hears}
+use Rattle.tds_service.specs.Service.{Service, has_number, find_by, hears}
 use Rattle.tds_service.specs.Table.{Comes, ReadsAt, RefusesIn, reading_by, service_in, seats_in}
 use Rattle.tds_service.proofs.Tables.{with_seats, here_in, found_here, on_err}
 use Rattle.tds_service.proofs.Arriving.{comes_here, reading_here, reading_behind, same_reading, wants_memory}
@@ -26,15 +23,15 @@ returns-in-Some-clause-ok c =
     let items_are = with_items_is c.args.self.now.seats news len in
     IfOk-weaker c.came_at.result _ _
     (λ came h.
-      let k = h here.seat here.at_lent in
-      let part = packet_part here.seat.connection.walker c.args.bytes.now c.args.ends in
-      let did = comes_here old c.args.number part came.lease came.request (outcome_answer came.request came.outcome) items c.deref_mut.result.now news index here k.0 c.args.told.now.items c.came_at.new.told.items
-      refl c.deref_mut.ensures.value k.1 k.2 k.3 k.4 k.5 k.6 k.7 in (
-        here.seat.connection.walker,
-        reading_here (has_number c.args.number) items c.deref_mut.result.now index here,
-        subst (λ (s : Service). Comes old s c.args.number part came.lease came.request (outcome_answer came.request came.outcome) c.args.told.now.items c.came_at.new.told.items)
-            (sym (ap (λ (cs : List code.Seat). with_seats old (seats_in cs)) items_are)) did,
-      ))
+    let k = h here.seat here.at_lent in
+    let part = packet_part here.seat.connection.walker c.args.bytes.now c.args.ends in
+    let did = comes_here old c.args.number part came.lease came.request (outcome_answer came.request came.outcome) items c.deref_mut.result.now news index here k.0 c.args.told.now.items c.came_at.new.told.items
+    refl c.deref_mut.ensures.value k.1 k.2 k.3 k.4 k.5 k.6 k.7 in (
+      here.seat.connection.walker,
+      reading_here (has_number c.args.number) items c.deref_mut.result.now index here,
+      subst (λ (s : Service). Comes old s c.args.number part came.lease came.request (outcome_answer came.request came.outcome) c.args.told.now.items c.came_at.new.told.items)
+          (sym (ap (λ (cs : List code.Seat). with_seats old (seats_in cs)) items_are)) did,
+    ))
     c.came_at.ensures.ok
 
 pub returns-in-Some-clause-reads : goal.returns-in-Some-clause-reads
@@ -48,13 +45,13 @@ returns-in-Some-clause-reads c =
     let items_are = with_items_is c.args.self.now.seats news len in
     IfOk-weaker c.came_at.result _ _
     (λ came h r e.
-      let k = h here.seat here.at_lent in
-      let now = reading_behind c.args.number items lent news index here k.0 c.deref_mut.ensures.value k.1 k.2 in
-      let was = same_reading _ r (sym (reading_here (has_number c.args.number) items lent index here) ∙ e) in (
-        k.0.connection.walker,
-        ap (reading_by (has_number c.args.number)) items_are ∙ now,
-        subst (λ (r : Reading). Reads came.outcome c.args.ends (tokens_in r c.args.bytes.now).stop k.0.connection.walker) was k.3,
-      ))
+    let k = h here.seat here.at_lent in
+    let now = reading_behind c.args.number items lent news index here k.0 c.deref_mut.ensures.value k.1 k.2 in
+    let was = same_reading _ r (sym (reading_here (has_number c.args.number) items lent index here) ∙ e) in (
+      k.0.connection.walker,
+      ap (reading_by (has_number c.args.number)) items_are ∙ now,
+      subst (λ (r : Reading). Reads came.outcome c.args.ends (tokens_in r c.args.bytes.now).stop k.0.connection.walker) was k.3,
+    ))
     c.came_at.ensures.reads
 
 pub returns-in-Some-clause-refused : goal.returns-in-Some-clause-refused
@@ -65,7 +62,7 @@ returns-in-Some-clause-refused c =
     let here = here_in (has_number c.args.number) items c.deref.result.now c.deref_mut.result.now index c.deref.ensures.value c.deref_mut.ensures.value c.in-Some.ensures.first in
     on_err c.came_at.result _ _
     (λ refusal h r. subst (λ (x : Refusal). RefusesIn old (hears old (has_number c.args.number) (packet_part r c.args.bytes.now c.args.ends) (find_by (has_number c.args.number) old.seats)) x) (sym h.0)
-      (wants_memory old c.args.number (packet_part r c.args.bytes.now c.args.ends) items c.deref_mut.result.now index here refl))
+    (wants_memory old c.args.number (packet_part r c.args.bytes.now c.args.ends) items c.deref_mut.result.now index here refl))
     c.came_at.ensures.refused
 
 pub returns-in-Some-clause-memory : goal.returns-in-Some-clause-memory

@@ -1,4 +1,4 @@
-use Rattle.std.proofs.Common.{◌≡◌, ◌∙◌, ◌++◌, List, [], ◌∷◌, length, refl, sym, ap, arith, rules, true, false}
+use Rattle.std.proofs.Common.{◌≡◌, ◌∙◌, ◌++◌, List, [], ◌∷◌, length, refl, sym, ap, arith, rules, true}
 use Rattle.std.proofs.Math.ListN.{set}
 use Rattle.std.proofs.lemmas.List.{with_items_is}
 use Rattle.std.proofs.lemmas.Result.{IfOk-weaker}
@@ -9,7 +9,7 @@ use Rattle.tds_service.specs.Refusing.{packets, refusal_in}
 use Rattle.tds_service.specs.Service.{Service, has_lease}
 use Rattle.tds_service.specs.Table.{service_in, seats_in}
 use Rattle.tds_service.specs.Ties.{line_in, full_in}
-use Rattle.tds_service.proofs.Tables.{here_in, acts_alike, refuses_alike, one_is_all, on_err, send_never}
+use Rattle.tds_service.proofs.Tables.{here_in, acts_alike, refuses_alike, on_err, send_never}
 use Rattle.tds_service.proofs.service.Service.finish.Goals as goal
 
 pub returns-in-Some-clause-ok : goal.returns-in-Some-clause-ok

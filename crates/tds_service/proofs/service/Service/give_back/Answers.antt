@@ -1,18 +1,13 @@
-use Rattle.std.proofs.Common.{◌≡◌, ◌∙◌, ◌+◌, ◌==◌, ℕ, List, [], ◌∷◌, ◌++◌, Bool, true, false, length, suc, refl, sym, ap, subst, arith, rules}
+use Rattle.std.proofs.Common.{◌≡◌, ◌∙◌, [], ◌∷◌, length, refl, sym, ap, subst, arith, rules}
 use Rattle.std.proofs.lemmas.List.{with_items_is}
-use Rattle.std.specs.Prelude.{Option, Some, None, if◌then◌else◌}
-use Rattle.tds_wire.specs.declared.told.Token.{Token}
-use Rattle.tds_service.specs.declared.seat.Seat as code
+use Rattle.std.specs.Prelude.{Option}
 use Rattle.tds_service.specs.declared.refusal.Refusal.{Refusal}
 use Rattle.tds_service.specs.declared.refusal.Refusal.TheVariants as refusals
 use Rattle.tds_service.specs.Line as line
 use Rattle.tds_service.specs.Line.{Line}
-use Rattle.tds_service.specs.History.{line_after}
-use Rattle.tds_service.specs.Service.{Service, Seat, Place, Kept, Lent, Ticket, Back, NotNow, Step, abandons, gives_back, cleaned, rests_cleaned, clean_place, keeps_it, may_keep, loses, does, nothing, rests, find_by, has_ticket, has_lease, has_number}
-use Rattle.tds_service.specs.Table.{StepsIn, RefusesIn, service_in, seat_in, seats_in, place_of, rest_of, without_closed}
-use Rattle.tds_service.specs.Ties.{line_in}
-use Rattle.tds_service.proofs.Alone.{same_number}
-use Rattle.tds_service.proofs.Tables.{with_seats, here_in, found_here, meets_here, rests_here, does_alike, does_gone, lost_bytes, not_now_in, done_in}
+use Rattle.tds_service.specs.Service.{Seat, Place, Back, gives_back, does, rests, find_by, has_lease}
+use Rattle.tds_service.specs.Table.{StepsIn, RefusesIn, service_in, seat_in, seats_in, rest_of, without_closed}
+use Rattle.tds_service.proofs.Tables.{with_seats, here_in, found_here, rests_here}
 use Rattle.tds_service.proofs.service.Service.give_back.Goals as goal
 
 pub returns-in-Ok-clause-ok : goal.returns-in-Ok-clause-ok

@@ -1,16 +1,13 @@
-use Rattle.std.proofs.Common.{◌≡◌, ◌∙◌, ◌+◌, ℕ, List, [], ◌∷◌, ◌++◌, Bool, true, false, length, suc, refl, sym, ap, subst, arith, rules}
+use Rattle.std.proofs.Common.{◌≡◌, ◌∙◌, ◌+◌, ℕ, List, [], Bool, true, false, length, suc, refl, sym, ap, subst, arith, rules}
 use Rattle.std.proofs.lemmas.List.{with_items_is}
-use Rattle.std.specs.Prelude.{Option, Some, None, nat_lt, if◌then◌else◌}
+use Rattle.std.specs.Prelude.{Option, nat_lt, if◌then◌else◌}
 use Rattle.tds_wire.specs.declared.told.Token.{Token}
-use Rattle.tds_packet.specs.declared.status.Reset.TheVariants.{Full, KeepTransaction}
+use Rattle.tds_packet.specs.declared.status.Reset.TheVariants.{Full}
 use Rattle.tds_service.specs.declared.seat.Seat as code
-use Rattle.tds_service.specs.declared.refusal.Refusal.{Refusal}
-use Rattle.tds_service.specs.Line as line
-use Rattle.tds_service.specs.Service as calls
-use Rattle.tds_service.specs.Service.{Service, Seat, Leased, Cleaning, Lent, NotNow, Step, lends, resumes, cleans, opens, does, nothing, find_by, has_ticket, has_number, is_lendable, is_idle}
+use Rattle.tds_service.specs.Service.{Service, Seat, Leased, Lent, Step, lends, opens, find_by, is_lendable}
 use Rattle.tds_service.specs.Table.{StepsIn, RefusesIn, service_in, seat_in, seats_in, place_of}
 use Rattle.tds_service.specs.Ties.{line_in}
-use Rattle.tds_service.proofs.Tables.{here_in, found_here, meets_here, lends_here, lent_same, steps_as, marked_idle, refused_busy, busy_not_lendable, not_now_in, done_in, length_in, on_err}
+use Rattle.tds_service.proofs.Tables.{here_in, found_here, meets_here, lends_here, lent_same, steps_as, refused_busy, busy_not_lendable, length_in, on_err}
 use Rattle.tds_service.proofs.service.Service.lease.Goals as goal
 
 lent_number : (n m : ℕ) (had : Bool) → n ≡ m → had ≡ true → m ≡ (if had then n else 0)

@@ -1,17 +1,16 @@
-use Rattle.std.proofs.Common.{◌≡◌, ◌∙◌, ◌+◌, ℕ, List, [], ◌∷◌, ◌++◌, Bool, true, false, length, suc, refl, sym, ap, subst, arith, rules}
+use Rattle.std.proofs.Common.{◌≡◌, ◌∙◌, ◌+◌, List, [], ◌∷◌, true, length, suc, refl, sym, ap, subst, arith, rules}
 use Rattle.std.proofs.lemmas.List.{with_items_is}
-use Rattle.std.specs.Prelude.{Option, Some, None, nat_lt, if◌then◌else◌}
+use Rattle.std.specs.Prelude.{Option, Some}
 use Rattle.tds_wire.specs.declared.told.Token.{Token}
-use Rattle.tds_packet.specs.declared.status.Reset.TheVariants.{Full, KeepTransaction}
+use Rattle.tds_packet.specs.declared.status.Reset.TheVariants.{KeepTransaction}
 use Rattle.tds_service.specs.declared.seat.Seat as code
 use Rattle.tds_service.specs.declared.refusal.Refusal.{Refusal}
 use Rattle.tds_service.specs.declared.refusal.Refusal.TheVariants as refusals
 use Rattle.tds_service.specs.Line as line
-use Rattle.tds_service.specs.Service as calls
-use Rattle.tds_service.specs.Service.{Service, Seat, Leased, Cleaning, Lent, NotNow, Step, lends, resumes, cleans, opens, does, nothing, find_by, has_ticket, has_number, is_lendable, is_idle}
+use Rattle.tds_service.specs.Service.{Service, Seat, Leased, Lent, NotNow, Step, resumes, does, nothing, find_by, has_ticket, is_idle}
 use Rattle.tds_service.specs.Table.{StepsIn, RefusesIn, service_in, seat_in, seats_in, place_of}
 use Rattle.tds_service.specs.Ties.{line_in}
-use Rattle.tds_service.proofs.Tables.{here_in, found_here, meets_here, lends_here, lent_same, steps_as, marked_idle, refused_busy, busy_not_lendable, not_now_in, done_in, length_in, on_err}
+use Rattle.tds_service.proofs.Tables.{here_in, found_here, lends_here, lent_same, steps_as, marked_idle, refused_busy, not_now_in, done_in}
 use Rattle.tds_service.proofs.service.Service.resume.Goals as goal
 
 pub returns-in-Ok-clause-ok : goal.returns-in-Ok-clause-ok

@@ -1,0 +1,107 @@
+//! Judges the connections of a capture: lines of bytes on standard input, a table of findings on standard
+//! output. It ends with status 0 where nothing breaks MS-TDS, 1 where something does, and 2 where it
+//! couldn't judge.
+#![tactic(auto)]
+
+mod line;
+mod table;
+mod texts;
+mod watch;
+mod words;
+
+use std::io::{BufRead, BufReader};
+use std::process::ExitCode;
+use std::{env, io};
+use table::put_tables;
+use watch::Watch;
+use words::{Asked, read_words};
+
+const HELP: &str = "\
+Judges the connections of a capture: names each breach of MS-TDS and each risk, with its place
+
+Usage: tdswatch [WORD..]  (./tdswatch FILE.pcap.. [WORD..] has tshark read the files)
+
+Standard input has a line for each piece of bytes, in the order in which they were seen:
+  STREAM > TIME HEX   bytes to the server; STREAM is a number, TIME microseconds
+  STREAM < TIME HEX   bytes to the client
+  STREAM borrow TIME  the connection is lent to somebody else
+  STREAM close TIME   the connection is closed; its number may be used again
+
+  --json              an object for each finding, in place of the table
+  --limit idle-in-transaction=5s
+                      a transaction that nothing is asked in for longer is a risk
+  --help, --version   alone
+Status: 0 no breach, 1 a breach, 2 something couldn't be judged
+";
+
+const VERSION: &str = "tdswatch 0.1.0\n";
+
+/// After how many bytes a line on standard error says that it goes on.
+const TOLD_EACH: u64 = 100_000_000;
+
+const USAGE: &str = "error: usage (tdswatch --help lists the words)";
+
+fn main(rt: HostRuntime) -> ExitCode {
+    match run(&rt) {
+        Ok(status) => ExitCode::from(status),
+        Err(error) => {
+            let _ = eprintln!(rt; "error: {error}");
+            ExitCode::from(2)
+        }
+    }
+}
+
+fn run(rt: &HostRuntime) -> io::Result<u8> {
+    let words = given_words(rt)?;
+    match read_words(words.as_slice()) {
+        Asked::Help => print(rt, HELP),
+        Asked::Version => print(rt, VERSION),
+        Asked::Wrong => {
+            eprintln!(rt; "{USAGE}")?;
+            Ok(2)
+        }
+        Asked::Judge { is_json, idle } => judge(rt, is_json, idle),
+    }
+}
+
+fn print(rt: &HostRuntime, text: &str) -> io::Result<u8> {
+    print!(rt; "{text}")?;
+    Ok(0)
+}
+
+/// The words of the command line behind the program's name.
+fn given_words(rt: &HostRuntime) -> io::Result<Vec<String>> {
+    let mut words = Vec::new(rt.alloc());
+    for word in env::args(rt)?.skip(1) {
+        words.push(word)?;
+    }
+    Ok(words)
+}
+
+/// Judges the lines of standard input, and prints what was found.
+fn judge(rt: &HostRuntime, is_json: bool, idle: u64) -> io::Result<u8> {
+    let mut watch = Watch::new(rt.alloc(), idle);
+    let mut told = 0;
+    for line in BufReader::new(rt.alloc(), rt.reader())?.lines(rt.alloc()) {
+        let line = line?;
+        if !watch.take_line(rt.alloc(), line.as_str())? {
+            let number = watch.lines();
+            eprintln!(rt; "line {number}: not judged")?;
+        }
+        told = tell_progress(rt, &watch, told)?;
+    }
+    watch.sort()?;
+    put_tables(rt, &watch, is_json)?;
+    Ok(watch.status())
+}
+
+/// Tells on standard error how far it has come, each time that so many bytes more were judged. How
+/// often it has told so.
+fn tell_progress(rt: &HostRuntime, watch: &Watch, told: u64) -> io::Result<u64> {
+    let now = watch.bytes() / TOLD_EACH;
+    if now > told {
+        let megabytes = watch.bytes() / 1_000_000;
+        eprintln!(rt; "{megabytes} MB judged")?;
+    }
+    Ok(now)
+}

@@ -1,0 +1,146 @@
+#!/usr/bin/env python3
+"""Writes the TCP payloads of captures as tdswatch reads them: capture_lines.py [--port N] FILE..
+
+A line `STREAM DIRECTION TIME HEX` for each piece, in the order in which they were seen. tshark reads the
+files (pcap, pcapng). Bytes that were sent again are left out, and those that came out of order wait for
+what they follow. A stream of which a mebibyte waits is given up, and so is one that ends while bytes wait:
+a line on standard error says which, and the exit status is 1."""
+
+import argparse
+import os
+import shutil
+import subprocess
+import sys
+
+FIELDS = ["tcp.stream", "tcp.dstport", "frame.time_epoch", "tcp.seq", "tcp.flags.syn", "tcp.flags.fin",
+          "tcp.flags.reset", "tcp.payload"]
+# What tshark need not look into.
+UNREAD = ["tds", "tls", "data"]
+MOST_WAITING = 1 << 20
+
+
+class Side:
+    """One direction of a stream: what comes next, and what waits for it."""
+
+    def __init__(self, start=None):
+        self.next = start
+        self.waiting = {}
+
+    def is_short(self):
+        return sum(map(len, self.waiting.values())) > MOST_WAITING
+
+    def ready(self, seq, payload):
+        """The bytes that are whole now, with these."""
+        if self.next is None:
+            self.next = seq
+        self.waiting[seq] = max(payload, self.waiting.get(seq, b""), key=len)
+        whole = b""
+        for at in sorted(self.waiting):
+            if at > self.next:
+                break
+            fresh = self.waiting.pop(at)[self.next - at:]
+            self.next += len(fresh)
+            whole += fresh
+        return whole
+
+
+class Capture:
+    """The streams of one file."""
+
+    def __init__(self, path, port, first):
+        self.path, self.port, self.first, self.last = path, port, first, first
+        self.sides, self.closed, self.is_whole = {}, set(), True
+
+    def rows(self):
+        """The packets that have bytes, or begin or end a stream."""
+        marks = " || ".join(f"tcp.flags.{it} == 1" for it in ("syn", "fin", "reset"))
+        wanted = f"tcp.port == {self.port} && (tcp.len > 0 || {marks})"
+        words = ["tshark", "-n", "-r", self.path, "-Y", wanted, "-T", "fields", "-E", "separator=/t"]
+        words += [it for name in UNREAD for it in ("--disable-protocol", name)]
+        words += [it for field in FIELDS for it in ("-e", field)]
+        with subprocess.Popen(words, stdout=subprocess.PIPE, text=True) as run:
+            for line in run.stdout:
+                yield line.rstrip("\n").split("\t")
+        if run.returncode:
+            print(f"capture_lines: tshark couldn't read {self.path} to its end", file=sys.stderr)
+            self.is_whole = False
+
+    def close(self, number, time):
+        """A stream ends."""
+        self.closed.add(number)
+        for is_to_server in (True, False):
+            side = self.sides.pop((number, is_to_server), None)
+            if side and side.waiting:
+                self.give_up(number)
+        print(number, "close", time)
+
+    def give_up(self, number):
+        print(f"capture_lines: {self.path}: bytes of stream {number} are missing", file=sys.stderr)
+        self.is_whole = False
+
+    def take(self, number, time, is_to_server, seq, payload):
+        """Bytes of a stream came."""
+        side = self.sides.setdefault((number, is_to_server), Side())
+        whole = side.ready(seq, payload)
+        if whole:
+            print(number, ">" if is_to_server else "<", time, whole.hex())
+        if side.is_short():
+            self.closed.add(number)
+            self.give_up(number)
+
+    def write(self):
+        """Writes the lines; streams are numbered from `first` on."""
+        for stream, target, time, seq, syn, fin, reset, payload in self.rows():
+            number = self.first + int(stream)
+            self.last = max(self.last, number + 1)
+            if number in self.closed:
+                continue
+            is_to_server = int(target) == self.port
+            if is_set(syn):
+                self.sides[number, is_to_server] = Side(int(seq) + 1)
+            if payload:
+                data = bytes.fromhex(payload.replace(":", ""))
+                self.take(number, microseconds(time), is_to_server, int(seq), data)
+            if number not in self.closed and (is_set(reset) or is_set(fin) and is_to_server):
+                self.close(number, microseconds(time))
+        for number in sorted({number for (number, _), side in self.sides.items() if side.waiting} - self.closed):
+            self.give_up(number)
+
+
+def write_all(paths, port):
+    """Writes the lines of all captures. Whether each was read to its end."""
+    first, is_whole = 0, True
+    for path in paths:
+        capture = Capture(path, port, first)
+        capture.write()
+        first, is_whole = capture.last, is_whole and capture.is_whole
+    sys.stdout.flush()
+    return is_whole
+
+
+def microseconds(time):
+    whole, _, part = time.partition(".")
+    return int(whole) * 1_000_000 + int((part + "000000")[:6])
+
+
+def is_set(flag):
+    return flag.lower() in ("1", "true")
+
+
+def main():
+    words = argparse.ArgumentParser(description=__doc__.partition("\n")[0])
+    words.add_argument("--port", type=int, default=1433)
+    words.add_argument("files", nargs="+")
+    given = words.parse_args()
+    if shutil.which("tshark") is None:
+        sys.exit("capture_lines: there is no tshark here; docs/JUDGING.md says how to make the lines without it")
+    try:
+        return 0 if write_all(given.files, given.port) else 1
+    except BrokenPipeError:
+        # Who reads the lines has ended, and says why.
+        os.dup2(os.open(os.devnull, os.O_WRONLY), sys.stdout.fileno())
+        return 0
+
+
+if __name__ == "__main__":
+    sys.exit(main())

@@ -1,0 +1,216 @@
+"""What others get wrong, as a page: each bug of docs/PEERS.md and of docs/DRIVERS.md.
+
+The pictures of what goes wrong, and what a driver printed, are told by page/bugs.txt; the words are those of
+docs/PEERS.md, so each section and each item of its list must have a picture. What happens here the page's player
+draws, or a test says it."""
+
+import html
+import os
+import re
+import sys
+import urllib.parse
+
+from bug_pictures import picture
+
+TOP = os.path.dirname(os.path.dirname(os.path.dirname(os.path.abspath(__file__))))
+FOLDER = f"{TOP}/crates/test_calls/data/schedules"
+TESTS = "crates/test_layers/data"
+KEYS = ("title", "elsewhere", "here", "item", "recorded", "packets", "schedule", "test")
+PLAYER = "index.html"
+
+
+def text_of(path):
+    with open(path, encoding="utf-8", newline="") as it:
+        return it.read()
+
+
+def entries():
+    """The bugs of page/bugs.txt, each with its name, its keys and the rows of its picture."""
+    found = []
+    for line in text_of(f"{TOP}/page/bugs.txt").splitlines():
+        key, _, value = line.partition(": ")
+        if not line or line.startswith("#"):
+            continue
+        if line.startswith("= "):
+            found.append({"name": line[2:], "rows": []})
+        elif key in KEYS:
+            found[-1][key] = value
+        else:
+            found[-1]["rows"].append(line)
+    return found
+
+
+def plain(words):
+    """Markdown's words as HTML: code and what is stressed; of a link its words."""
+    words = html.escape(re.sub(r"!?\[([^\]]*)\]\([^)]*\)", r"\1", words), quote=False)
+    words = re.sub(r"`([^`]*)`", r"<code>\1</code>", words)
+    words = re.sub(r"\*\*([^*]*)\*\*", r"<b>\1</b>", words)
+    return re.sub(r"\*([^*]*)\*", r"<em>\1</em>", words)
+
+
+def large(words):
+    """With a large letter in front."""
+    return words[:1].upper() + words[1:]
+
+
+def rows_of(text):
+    """The rows of the table in a part of a page, each as its cells."""
+    lines = [it for it in text.splitlines() if it.startswith("|")]
+    return [[cell.strip() for cell in it.strip("|").split("|")] for it in lines[2:]]
+
+
+def sections(page):
+    """The sections of docs/PEERS.md about a schedule, by its name: title, what goes wrong and what comes of it (the
+    table in front says that), what happens here."""
+    found, front = {}, page.partition("\n## ")[0]
+    outcomes = {re.match(r"\[(\w+)\]", name)[1]: (wrong, here) for name, wrong, here in rows_of(front)}
+    for title, text in re.findall(r"(?ms)^## (.*?)\n(.*?)(?=^## |\Z)", page):
+        name = re.search(r"\(\.\./\S*/peers/(\w+)\.json\)", text)
+        parts = [re.search(rf"(?m)^\*\*{it}[.:]\*\* (.*)$", text) for it in ("Elsewhere", "Here")]
+        if name and all(parts):
+            if name[1] not in outcomes:
+                sys.exit(f"docs/PEERS.md: the table in front has no row of {name[1]}")
+            wrong, here = outcomes[name[1]]
+            found[name[1]] = {
+                "title": title,
+                "elsewhere": f"{large(parts[0][1])} **Outcome: {wrong}.**",
+                "here": f"{parts[1][1]} **Outcome: {here}.**",
+            }
+    return found
+
+
+def items_of_list(page):
+    """The items of its list of those that need bytes: what goes wrong, and what happens here."""
+    items = re.findall(r"(?m)^- (.*)$", page.partition("## Those that need bytes")[2])
+    return [(mistake, here) for mistake, _, here in (it.partition(" Here ") for it in items)]
+
+
+def is_about(entry, item):
+    """Whether a bug is this item of the list."""
+    return "item" in entry and item[0].removeprefix("**").startswith(entry["item"])
+
+
+def with_words(entry, named, items):
+    """The bug with its words."""
+    if "item" in entry:
+        mistake, here = next((it for it in items if is_about(entry, it)), (None, None))
+        if mistake is None:
+            sys.exit(f"page/bugs.txt: docs/PEERS.md has no item {entry['item']}")
+        return {"title": entry["item"], "elsewhere": mistake, "here": "Here " + here} | entry
+    if entry["name"] not in named and "title" not in entry:
+        sys.exit(f"page/bugs.txt: docs/PEERS.md has no section of {entry['name']}")
+    return named.get(entry["name"], {}) | entry
+
+
+def bugs():
+    """All bugs, each with its words. Each section and each item has its bug."""
+    page = text_of(f"{TOP}/docs/PEERS.md")
+    named, items, found = sections(page), items_of_list(page), entries()
+    missing = named.keys() - {it["name"] for it in found}
+    missing |= {it[0] for it in items if not any(is_about(entry, it) for entry in found)}
+    schedules_there = {it.removesuffix(".json") for it in os.listdir(f"{FOLDER}/peers") if it.endswith(".json")}
+    missing |= schedules_there - {it["name"] for it in found}
+    if missing:
+        sys.exit(f"page/bugs.txt: these have no picture: {sorted(missing)}")
+    return [with_words(it, named, items) for it in found]
+
+
+def schedule_of(bug):
+    """What is played here: the name of an example, or None, and its text, or None."""
+    given = bug.get("schedule", None if "test" in bug else f"peers/{bug['name']}")
+    if given is None or given.startswith("{"):
+        return None, given and spread(given)
+    return given, text_of(f"{FOLDER}/{given}.json")
+
+
+def spread(schedule):
+    """A schedule of one line with an event in each line."""
+    head, events = schedule.split('"events": [', 1)
+    events = events.removesuffix("]}").replace("], [", "],\n  [")
+    return f'{head}"events": [\n  {events}\n]}}\n'
+
+
+def schedules():
+    """What is played here, by the bug's name."""
+    return {it["name"]: schedule_of(it)[1] for it in bugs() if schedule_of(it)[1]}
+
+
+def address_of(bug):
+    """Where the player has the schedule of a bug."""
+    name, text = schedule_of(bug)
+    return PLAYER + "#" + urllib.parse.urlencode({"example": name} if name else {"text": text})
+
+
+def part_of(found, form):
+    """A file of drivers/ and, of what it has, the parts that this form finds behind the name of a part."""
+    path, _, name = found.partition(" ")
+    parts = re.findall(form.format(re.escape(name)), text_of(f"{TOP}/{path}"))
+    if not parts:
+        sys.exit(f"page/bugs.txt: {path} has no {name}")
+    return path, "".join(parts)
+
+
+def case_of(bug):
+    """The lines of a test, behind its name."""
+    path, _, case = bug["test"].partition(" ")
+    found = re.search(rf"(?m)^= \w+: {re.escape(case)}\n((?:.+\n)+)", text_of(f"{TOP}/{TESTS}/{path}"))
+    if not found:
+        sys.exit(f"page/bugs.txt: {path} has no case {case}")
+    return f"{TESTS}/{path}, case “{case}”", found[1]
+
+
+def shown_lines(words, lines):
+    """Lines as they are, with what they are."""
+    label = re.sub("<[^>]*>", "", words)
+    return f'<p class="source">{words}</p><pre tabindex="0" aria-label="{label}">{html.escape(lines)}</pre>'
+
+
+def said_of_source(bug):
+    """Where the picture of what goes wrong is from."""
+    if "recorded" not in bug:
+        return '<p class="source">Drawn by hand, after these words.</p>'
+    path, printed = part_of(bug["recorded"], r"(?m)^{}\n(?:  .*\n)+")
+    source, packets = part_of(bug["packets"], r"(?m)^= {}\n((?:(?!= ).+\n)+)")
+    return shown_lines(f"What a run of this driver printed, <code>{path}</code>:", printed) + shown_lines(
+        f"What it sent and was sent, <code>{source}</code> (a request names its transaction, “in 0” none):", packets)
+
+
+def shown_here(bug):
+    """What happens here: a picture, where a schedule is played, and a test's lines."""
+    parts = []
+    name, title = bug["name"], html.escape(bug["title"])
+    if schedule_of(bug)[1]:
+        image = f'<img data-bug="{name}" alt="">'
+        parts.append(f'<div class="frame" tabindex="0" role="group" aria-label="{title}, here">{image}</div>')
+        parts.append(f'<p><a class="try" href="{html.escape(address_of(bug))}">Change it and see</a></p>')
+    if "test" in bug:
+        source, lines = case_of(bug)
+        words = f"A schedule has two proved ends, so no peer says this in one: it is a test, {source}."
+        parts.append(shown_lines(words, lines))
+    return "".join(parts)
+
+
+def article(bug):
+    name, title = bug["name"], html.escape(bug["title"])
+    drawn = picture(name, bug["title"], bug["rows"])
+    return f"""<article id="{name}" aria-labelledby="{name}-head">
+<h2 id="{name}-head">{title}</h2>
+<section class="elsewhere" aria-label="Elsewhere">
+<h3>Elsewhere</h3>
+<p>{plain(bug["elsewhere"])}</p>
+<div class="frame" tabindex="0" role="group" aria-label="{title}, elsewhere">{drawn}</div>
+{said_of_source(bug)}
+</section>
+<section class="here" aria-label="Here">
+<h3>Here</h3>
+<p>{plain(bug["here"])}</p>
+{shown_here(bug)}
+</section>
+</article>"""
+
+
+def all_bugs():
+    """The list of all bugs, and each of them."""
+    found = bugs()
+    links = "".join(f'<li><a href="#{it["name"]}">{html.escape(it["title"])}</a></li>' for it in found)
+    return f'<nav aria-label="All bugs"><ol>{links}</ol></nav>\n' + "\n".join(map(article, found))
