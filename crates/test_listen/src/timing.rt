@@ -76,13 +76,7 @@ fn ask(client: &mut Client, out: &mut Vec<u8>) -> Result<(), SceneFault> {
 }
 
 /// Hears one message in pieces of so many bytes.
-fn hear_all(
-    client: &mut Client,
-    walker: &mut Walker,
-    bytes: &[u8],
-    size: usize,
-    sums: &mut Sums,
-) {
+fn hear_all(client: &mut Client, walker: &mut Walker, bytes: &[u8], size: usize, sums: &mut Sums) {
     let mut rest = bytes;
     for _ in 0..bytes.len() {
         let (piece, others) = rest.split_at(size.min(rest.len()));
