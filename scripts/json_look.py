@@ -17,7 +17,7 @@ FIELDS = {
     "X": "a text of 1 to 2000 UTF-16 units",
 }
 EVENTS = {
-    "lease": "", "resume": "T", "give_back": "L", "keep": "L", "abandon": "T", "batch": "LX",
+    "lease": "", "resume": "T", "give_back": "L", "keep": "L", "abandon": "T", "clean": "C", "batch": "LX",
     "begin": "LI", "commit": "L", "rollback": "L", "send": "L", "cancel": "L", "work": "C",
     "to_server": "CN", "to_client": "CN", "cut": "C", "restart_server": "", "restart_client": "",
 }
@@ -125,9 +125,9 @@ def check_outside(start, members):
     """Raises what is wrong outside of the events."""
     found = dict((key, (value, at)) for (key, _), (value, at) in members)
     version, at = found.get("version", (None, start))
-    if type(version) is not int or version not in (1, 2, 3):
-        raise Fault(at, 'the key "version" is the number 1, 2 or 3')
-    wanted = KEYS + [LATE_KEY] * (version == 3)
+    if type(version) is not int or version not in (1, 2, 3, 4):
+        raise Fault(at, 'the key "version" is a number, 1 to 4')
+    wanted = KEYS + [LATE_KEY] * (version >= 3)
     for (key, at), _ in members:
         if key not in wanted:
             raise Fault(at, f'version {version} has no key "{key}"{similar(key, wanted)}')
@@ -138,7 +138,7 @@ def check_outside(start, members):
     check_number(*found["max"], "max", 64, 1, "1 to 64")
     if type(found["events"][0]) is not list:
         raise Fault(found["events"][1], '"events" is an array of events')
-    if version == 3 and type(found[LATE_KEY][0]) is not bool:
+    if version >= 3 and type(found[LATE_KEY][0]) is not bool:
         raise Fault(found[LATE_KEY][1], f'"{LATE_KEY}" is true or false')
     return version, found["events"][1]
 
@@ -162,6 +162,8 @@ def check_event(text, version, number, event, at):
         if version == 1:
             raise Fault(word_at, f'event {number}: "{word}" has a second value from version 2 on')
         wanted = "LI"
+    if word == "clean" and version < 4:
+        raise Fault(word_at, f'event {number}: "{word}" stands from version 4 on')
     if len(fields) != len(wanted):
         stands = ", ".join(FIELDS[it] for it in wanted) or "nothing"
         raise Fault(word_at, f'event {number}: behind "{word}" stands: {stands}; here are {len(fields)} values')

@@ -72,7 +72,7 @@ newest_asked id number lease heard q mark asked (Some r) same h = record {
 
 -- ---- The connection then
 
-asked_played : {E S : Type 0} → RefinesAsks E → (number size id lease : ℕ) (engine : E) (q : Request) (link new : Link E S) (seat next : Seat) (pipe : Option Pipe) (c : Connection)
+pub asked_played : {E S : Type 0} → RefinesAsks E → (number size id lease : ℕ) (engine : E) (q : Request) (link new : Link E S) (seat next : Seat) (pipe : Option Pipe) (c : Connection)
     → RepresentsConnection number size engine link seat pipe c → link.is_cut ≡ false → is_idle c ≡ true → c.parts ≡ []
     → next ≡ record seat { client = started seat.client q } → IsAskedOn lease seat.client.heard.mark link new
     → RepresentsConnection number size engine new next pipe (asks id lease number q c)

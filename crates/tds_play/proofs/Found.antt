@@ -281,6 +281,7 @@ link_found setup w (event.Resume ticket) place c is at false lives may = absurd 
 link_found setup w (event.GiveBack lease) place c is at false lives may = links_by w _ _ place c (back_link w lease) is at lives
 link_found setup w (event.Keep lease) place c is at false lives may = absurd may
 link_found setup w (event.Abandon ticket) place c is at false lives may = absurd may
+link_found setup w (event.Clean n) place c is at false lives may = links_by w _ _ place c (numbered_link w n) is at lives
 link_found setup w (event.Ask lease q) place c is at false lives may = absurd may
 link_found setup w (event.Send lease) place c is at false lives may = links_by w _ _ place c (lease_link w lease) is at lives
 link_found setup w (event.Cancel lease) place c is at false lives may = links_by w _ _ place c (lease_link w lease) is at lives
@@ -314,6 +315,7 @@ happens_found setup answers w (event.Keep lease) alike ready one = lease_happens
 happens_found setup answers w (event.Abandon ticket) alike ready one =
     back_happens setup answers w (event.Abandon ticket) w.tickets ticket refusal.UnknownTicket (abandons_on setup answers w ticket)
     (λ m c z lives. ready.resume ticket m c (ap not_cut z ∙ uncut_is_here refusal.ConnectionCut m c lives))
+happens_found setup answers w (event.Clean n) alike ready one = numbered_by setup answers w (event.Clean n) n (λ c. refl) (λ c. tt)
 happens_found setup answers w (event.Ask lease q) alike ready one = lease_happens setup answers w (event.Ask lease q) lease (λ c. refl) (λ c. tt)
 happens_found setup answers w (event.Send lease) alike ready one = lease_happens setup answers w (event.Send lease) lease (λ c. refl) (λ c. tt)
 happens_found setup answers w (event.Cancel lease) alike ready one = lease_happens setup answers w (event.Cancel lease) lease (λ c. refl) (λ c. tt)

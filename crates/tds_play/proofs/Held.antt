@@ -9,7 +9,7 @@ use Rattle.tds_world.specs.World.{Holding, World, holding, numbered, ended, ende
 use Rattle.tds_world.specs.declared.event.Event.{Event}
 use Rattle.tds_world.specs.declared.event.Event.TheVariants as event
 
-get_mapped : {A B : Type 0} (f : A → B) (xs : List A) (i : ℕ) → slice_get (map f xs) i ≡ option_map f (slice_get xs i)
+pub get_mapped : {A B : Type 0} (f : A → B) (xs : List A) (i : ℕ) → slice_get (map f xs) i ≡ option_map f (slice_get xs i)
 get_mapped f [] i = refl
 get_mapped f (x ∷ xs) zero = refl
 get_mapped f (x ∷ xs) (suc i) = get_mapped f xs i
@@ -44,6 +44,11 @@ pub given_held : (hs : List Holding) (n heard : ℕ) (from : Option ℕ) → hol
 given_held [] n heard from = refl
 given_held (h ∷ hs) n heard from = ap (λ (os : List (Option ℕ)). held_by h ∷ os) (given_held hs n heard from)
 
+-- One that is over at once.
+over_held : (hs : List Holding) (n heard : ℕ) → holdings_of hs ++ None ∷ [] ≡ holdings_of (hs ++ ended (holding n heard None) ∷ [])
+over_held [] n heard = refl
+over_held (h ∷ hs) n heard = ap (λ (os : List (Option ℕ)). held_by h ∷ os) (over_held hs n heard)
+
 -- ---- What is noted of an event
 
 pub leases_noted : (e : Event) (n heard : ℕ) (w : World) → leases_after e n (holdings_of w.leases) ≡ holdings_of (notes e n heard w).leases
@@ -51,6 +56,7 @@ leases_noted event.Lease n heard w = given_held w.leases n heard None
 leases_noted (event.Resume ticket) n heard w = given_held w.leases n heard (Some ticket)
 leases_noted (event.GiveBack lease) n heard w = ended_held w.leases lease
 leases_noted (event.Keep lease) n heard w = ended_held w.leases lease
+leases_noted (event.Clean _) n heard w = over_held w.leases n heard
 leases_noted e n heard w = refl
 
 pub tickets_noted : (e : Event) (n heard : ℕ) (w : World) → tickets_after e n (holdings_of w.tickets) ≡ holdings_of (notes e n heard w).tickets

@@ -24,6 +24,7 @@ pub mod AllPlayed
 pub mod Held
 pub mod Snapshots
 pub mod Promised
+pub mod Cleaning
 pub mod Found
 pub mod Listening
 pub mod ClientSizes

@@ -41,7 +41,7 @@ idle_unless waits s c m e = none_where (unless_idle s.stage) (waits s c m ∙ e)
 -- ---- Elsewhere in the pool
 
 -- It stands there with this client, and may be marked.
-stood : {E S : Type 0} (number size : ℕ) (engine : E) (link : Link E S) (seat : Seat) (pipe : Option Pipe) (c : Connection) (client : ClientSession) (p : Place) (mark : Option Reset)
+pub stood : {E S : Type 0} (number size : ℕ) (engine : E) (link : Link E S) (seat : Seat) (pipe : Option Pipe) (c : Connection) (client : ClientSession) (p : Place) (mark : Option Reset)
     → RepresentsConnection number size engine link seat pipe c → link.is_cut ≡ false → client.size ≡ seat.client.size
     → (MatchesClient seat.client c → MatchesClient client (record c { mark = mark; standing = In p }))
     → (MatchesServer link.server c → MatchesServer link.server (record c { mark = mark; standing = In p }))

@@ -12,12 +12,13 @@ use Rattle.tds_world.specs.declared.outcome.Outcome.{Outcome}
 use Rattle.tds_world.specs.declared.outcome.Outcome.TheVariants as outcome
 use Rattle.tds_world.specs.declared.outcome.Refusal.{Refusal}
 use Rattle.tds_world.specs.declared.report.Place.{Place}
+use Rattle.tds_world.specs.Cleaning.{can_clean}
 use Rattle.tds_world.specs.Connection.{Connection, Standing, In, Cut, is_cut, is_idle, phase}
-use Rattle.tds_world.specs.Events.{asks_by, happens, notes, sends_in, settles}
+use Rattle.tds_world.specs.Events.{asks_by, cleans_by, happens, notes, sends_in, settles}
 use Rattle.tds_world.specs.Laws.{OfEachConnection}
 use Rattle.tds_world.specs.Losses.{Loss, Nothing, Failed, bringing, link_of, met, world_then}
 use Rattle.tds_world.specs.Phase.{Phase, Settled, Asked, Sending, Reading, Cancelling}
-use Rattle.tds_world.specs.Pool.{Acted, Refuses, Does, abandons_at, gives_back_at, is_full, keeps_by}
+use Rattle.tds_world.specs.Pool.{Acted, Refuses, Does, abandons_at, gives_back_at, is_free, is_full, keeps_by}
 use Rattle.tds_world.specs.Record.{Record}
 use Rattle.tds_world.specs.World.{World, next_number, put, put_numbered}
 use Rattle.tds_world.proofs.events.Grows.{notes_leave}
@@ -58,6 +59,11 @@ asked_never : (idle : Bool) (number lease n : ℕ) (q : Request) (c : Connection
 asked_never true number lease n q c = λ why e. cc
 asked_never false number lease n q c = tt
 
+cleaned_never : (free can : Bool) (room lease number n : ℕ) (c : Connection) → NeverRefused (cleans_by free can room lease number n c)
+cleaned_never false can room lease number n c = tt
+cleaned_never true false room lease number n c = tt
+cleaned_never true true room lease number n c = λ why e. cc
+
 sent_never : (p : Phase) (room : ℕ) (o : Option Record) (c : Connection) → NeverRefused (sends_in p room o c)
 sent_never Settled room o c = tt
 sent_never Asked room None c = tt
@@ -71,6 +77,8 @@ in_never : (place : Place) (setup : Setup) (answers : Answers) (w : World) (e : 
 in_never place setup answers w (event.GiveBack lease) n c = back_never c.standing c
 in_never place setup answers w (event.Keep lease) n c = kept_never (is_idle c) (c.heard == 0 || is_full c.mark) (next_number w.tickets) c
 in_never place setup answers w (event.Abandon ticket) n c = abandoned_never c.standing c
+in_never place setup answers w (event.Clean k) n c =
+    cleaned_never (is_free c.standing) (can_clean (setup.packet_size - 8) (next_number w.leases) (next_number w.asked_on) n c) (setup.packet_size - 8) (next_number w.leases) (next_number w.asked_on) n c
 in_never place setup answers w (event.Ask lease q) n c = asked_never (is_idle c) (next_number w.asked_on) lease n q c
 in_never place setup answers w (event.Send lease) n c = sent_never (phase c) (setup.packet_size - 8) c.current c
 in_never place setup answers w event.RestartServer n c = tt

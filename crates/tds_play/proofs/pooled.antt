@@ -18,6 +18,8 @@ pub mod Cancels
 pub mod Ended
 pub mod Leaves
 pub mod Settled
+pub mod Clients
+pub mod Cleaned
 pub mod Reusing
 pub mod Opening
 pub mod Leasing
@@ -32,7 +34,9 @@ pub mod InPlace
 pub mod Keeping
 pub mod Resuming
 pub mod Ending
+pub mod Callers
 pub mod Noting
+pub mod Skipping
 pub mod Restarting
 pub mod Happening
 pub mod Finding

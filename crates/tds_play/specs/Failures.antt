@@ -60,6 +60,7 @@ Fails calls false pipe = HasNoFailure pipe
 abbrev pub calls_of : Event → List Call
 calls_of event.Lease = Open ∷ []
 calls_of (event.GiveBack lease) = Send ToServer ∷ []
+calls_of (event.Clean n) = Send ToServer ∷ []
 calls_of (event.Send lease) = Send ToServer ∷ []
 calls_of (event.Cancel lease) = Send ToServer ∷ []
 calls_of (event.Work n) = Send ToClient ∷ []

@@ -8,12 +8,13 @@ use Rattle.tds_world.specs.Connection.{Standing}
 use Rattle.tds_play.specs.Lending.{Found, Missing, lent, numbered_of}
 use Rattle.tds_play.specs.Holdings.{conn_of, ended_of}
 
--- The leases after it.
+-- The leases after it. That of a cleaning is over at once.
 abbrev pub leases_after : Event → ℕ → List (Option ℕ) → List (Option ℕ)
 leases_after event.Lease conn leases = leases ++ Some conn ∷ []
 leases_after (event.Resume ticket) conn leases = leases ++ Some conn ∷ []
 leases_after (event.GiveBack lease) conn leases = ended_of leases lease
 leases_after (event.Keep lease) conn leases = ended_of leases lease
+leases_after (event.Clean n) conn leases = leases ++ None ∷ []
 leases_after e conn leases = leases
 
 -- The tickets.
@@ -26,6 +27,7 @@ tickets_after e conn tickets = tickets
 -- The connections of the requests.
 abbrev pub asked_after : Event → ℕ → List ℕ → List ℕ
 asked_after (event.Ask lease request) conn asked = asked ++ conn ∷ []
+asked_after (event.Clean n) conn asked = asked ++ conn ∷ []
 asked_after e conn asked = asked
 
 -- The connection that a lease or ticket holds, of so many.
@@ -45,6 +47,8 @@ about_of (event.GiveBack lease) standings max leases tickets =
     held_of (length standings) (conn_of leases lease) UnknownLease
 about_of (event.Keep lease) standings max leases tickets =
     held_of (length standings) (conn_of leases lease) UnknownLease
+about_of (event.Clean n) standings max leases tickets =
+    numbered_of (length standings) n UnknownConnection
 about_of (event.Ask lease q) standings max leases tickets =
     held_of (length standings) (conn_of leases lease) UnknownLease
 about_of (event.Send lease) standings max leases tickets =

@@ -63,6 +63,7 @@ pub record RepresentsConnection {E S : Type 0} (number size : ℕ) (engine : E) 
 abbrev pub on_cut : Event → Connection → Acted
 on_cut (event.GiveBack lease) c = Does (outcome.GivenBack given_back.Closed) c
 on_cut (event.Abandon ticket) c = Does (outcome.Abandoned abandoned.Closed) c
+on_cut (event.Clean n) c = Refuses UnknownConnection
 on_cut (event.Work n) c = Refuses UnknownConnection
 on_cut (event.ToServer n count) c = Refuses UnknownConnection
 on_cut (event.ToClient n count) c = Refuses UnknownConnection
@@ -131,6 +132,7 @@ loss_of done = loss_by done.lost done.outcome
 abbrev pub MayLose : Bool → Event → Type 0
 MayLose true e = ⊥
 MayLose false (event.GiveBack lease) = Unit {0}
+MayLose false (event.Clean n) = Unit {0}
 MayLose false (event.Send lease) = Unit {0}
 MayLose false (event.Cancel lease) = Unit {0}
 MayLose false (event.Work n) = Unit {0}

@@ -7,7 +7,7 @@ use Rattle.tds_pool.specs.declared.lease.Ticket.{Ticket}
 use Rattle.tds_pool.specs.declared.lease.Turn.{Turn}
 use Rattle.tds_pool.specs.declared.seat.Place.{Place as PoolPlace}
 use Rattle.tds_pool.specs.declared.seat.Place.TheVariants as pooled
-use Rattle.tds_pool.specs.Calls.{all_numbers}
+use Rattle.tds_pool.specs.Calls.{all_numbers, is_held}
 use Rattle.tds_pool.specs.Connections as pool
 use Rattle.tds_pool.specs.declared.answers.PoolRefusal.{PoolRefusal}
 use Rattle.tds_pool.specs.declared.answers.PoolRefusal.TheVariants as refusals
@@ -16,7 +16,8 @@ use Rattle.tds_pool.specs.declared.answers.GivenBack.TheVariants as given
 use Rattle.tds_world.specs.declared.outcome.GiveBackOutcome.{GiveBackOutcome}
 use Rattle.tds_world.specs.declared.outcome.GiveBackOutcome.TheVariants as back
 use Rattle.tds_world.specs.declared.outcome.Refusal.{Refusal}
-use Rattle.tds_world.specs.declared.outcome.Refusal.TheVariants.{NotIdle, NothingToKeep}
+use Rattle.tds_world.specs.declared.outcome.Refusal.TheVariants.{NotFree, NotIdle, NothingToKeep}
+use Rattle.tds_pool.specs.Cleaning.{client_at}
 use Rattle.tds_pool.specs.Connections.{PoolState, SameRest, connections, numbered, taken_out}
 use Rattle.tds_world.specs.declared.report.Place.{Place}
 use Rattle.tds_world.specs.declared.report.Place.TheVariants.{Draining, Free, Kept, Leased}
@@ -27,13 +28,13 @@ use Rattle.tds_play.specs.declared.seat.Held.{Held}
 -- ---- Each connection in its seat
 
 -- Where a connection of the pool stands, in the words of a play: who holds it is the lease or the ticket
--- of this number. A play cleans none.
+-- of this number. One that is being cleaned is free once its answer has come, as one that drains is.
 abbrev pub place_by : ℕ → PoolPlace → Place
 place_by holder pooled.Leased = Leased holder
 place_by holder pooled.Kept = Kept holder
 place_by holder pooled.Free = Free
 place_by holder pooled.Draining = Draining
-place_by holder pooled.Cleaning = Leased holder
+place_by holder pooled.Cleaning = Draining
 
 -- The seat of a connection, as the pool has it. One that is cut is in the pool no longer, and its seat
 -- means nothing.
@@ -146,9 +147,19 @@ pub record IsGone (number : ℕ) (old new : PoolState) : Type 0 where
   pub connections : pool.connections new ≡ taken_out number (pool.connections old)
   pub rest : SameRest old new
 
--- A connection of the pool stands where it stood, with its key and its turn, or it was draining.
+-- A connection of the pool stands where it stood, with its key and its turn, or nobody held it.
 abbrev pub StaysAs : pool.Connection → pool.Connection → Type 0
-StaysAs c d = ((stamp_of d ≡ stamp_of c) × (d.place ≡ c.place)) ⊎ (c.place ≡ pooled.Draining)
+StaysAs c d = ((stamp_of d ≡ stamp_of c) × (d.place ≡ c.place)) ⊎ (is_held c.place ≡ false)
+
+-- The client of the pool's connection of this number alone may have changed.
+pub record ChangesClient (number : ℕ) (old new : PoolState) : Type 0 where
+  pub others : (m : ℕ) → m ≢ number → numbered m (connections new) ≡ numbered m (connections old)
+  pub numbers : all_numbers (connections new) ≡ all_numbers (connections old)
+  pub here : numbered number (connections new)
+      ≡ option_map (λ (c : pool.Connection). record c { client = client_at number (connections new) })
+      (numbered number (connections old))
+  pub but : taken_out number (connections new) ≡ taken_out number (connections old)
+  pub rest : SameRest old new
 
 -- The pool's connection of this number alone may have changed, and it is still there unless it was cut.
 pub record ChangesOne (number : ℕ) (is_cut : Bool) (old new : PoolState) : Type 0 where
@@ -189,3 +200,12 @@ rests_in given.Unknown = false
 abbrev pub keeps_not : PoolRefusal → Refusal
 keeps_not refusals.NoTransaction = NothingToKeep
 keeps_not why = NotIdle
+
+-- Why a connection isn't cleaned.
+abbrev pub cleans_not : PoolRefusal → Refusal
+cleans_not refusals.Unknown = NotFree
+cleans_not why = NotIdle
+
+abbrev pub IsNotCleaned : Option PoolRefusal → Refusal → Type 0
+IsNotCleaned None why = ⊥
+IsNotCleaned (Some first) why = why ≡ cleans_not first

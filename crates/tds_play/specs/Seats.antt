@@ -51,6 +51,13 @@ IsOfEnds (event.ToClient n count) = Unit {0}
 IsOfEnds (event.Cut n) = Unit {0}
 IsOfEnds e = ⊥
 
+-- A caller asks, sends or cancels.
+abbrev pub is_of_caller : Event → Bool
+is_of_caller (event.Ask lease q) = true
+is_of_caller (event.Send lease) = true
+is_of_caller (event.Cancel lease) = true
+is_of_caller e = false
+
 -- Where it stands behind an event of its ends: a delivery to the client may end its draining.
 abbrev pub placed_behind : Event → ClientSession → Place → Place
 placed_behind (event.ToClient n count) s p = drained_at (is_none (unless_idle s.stage)) p

@@ -1,5 +1,5 @@
 //! Bytes that came are fed to an end, and what it refuses is a fault of the play.
-ghost use Rattle.std.specs.Prelude.{◌≡◌, ◌≢◌, ◌++◌, ℕ, List, None, Some, Ok, IfOk, OnOk};
+ghost use Rattle.std.specs.Prelude.{◌≡◌, ◌≢◌, ◌++◌, ℕ, List, None, Some, Ok, IfOk, IsSome, OnOk};
 ghost use Rattle.tds_ends.specs.declared.listening.ClientStop.TheVariants as client_stop;
 ghost use Rattle.tds_ends.specs.declared.serving.ServerStop.TheVariants as server_stop;
 ghost use Rattle.tds_packet.specs.Reading.{with_taken};
@@ -8,16 +8,20 @@ ghost use Rattle.tds_ends.specs.Feeding.{Coming, Comes, IsServed, Served, served
 ghost use Rattle.tds_ends.specs.AllBytes.{ClientHasRead, ServerHasRead, new_reader};
 ghost use Rattle.tds_play.specs.Reads.{ClientIsFed, IsClientFault, IsServerFault, ServerIsFed};
 ghost use Rattle.tds_play.specs.Seen.{outcome_of};
+ghost use Rattle.tds_play.specs.Pooled.{ChangesClient};
+ghost use Rattle.tds_pool.specs.Cleaning.{client_at};
+ghost use Rattle.tds_pool.specs.Connections.{connections, numbered};
 ghost use Rattle.tds_token.specs.declared.token.Token.{Token};
 ghost use Rattle.tds_session.specs.Answer.{answer_of};
 
 use crate::NoMemory;
+use crate::hearing::listen_in;
 use std::alloc::AllocError;
-use tds_client::Client;
 use tds_ends::all_bytes::{all_bytes_are_heard, all_bytes_are_served};
 use tds_ends::laws::{whole_packets_are_heard, whole_packets_are_served};
-use tds_ends::{ClientStop, ServerStop, listen, serve};
+use tds_ends::{ClientStop, ServerStop, serve};
 use tds_packet::PacketReader;
+use tds_pool::Pool;
 use tds_server::Server;
 use tds_session::Engine;
 use tds_token::Token;
@@ -125,34 +129,40 @@ pub(crate) fn feed_server<E: Engine + Drop>(
     }
 }
 
-/// Feeds a whole piece to a client. It appends the tokens that it is told to `told`.
+/// Feeds a whole piece to the client of this number, wherever it stands in the pool. It appends the
+/// tokens that it is told to `told`.
 pub(crate) fn feed_client(
-    client: &mut Client,
+    pool: &mut Pool,
+    number: u32,
     reader: &mut PacketReader,
     piece: &[u8],
     told: &mut Vec<Token>,
 ) -> Result<Heard, NoMemory>
-    requires { reader.old.direction ≡ ToClient }
+    requires reads { reader.old.direction ≡ ToClient }
+    requires there { IsSome (numbered number (connections pool.old)) }
     ensures reads { reader.new.direction ≡ ToClient }
     // Whatever comes, the reader has read all of it, or a fault of it is answered; what was given
     // and what is told now is told by the packets that came.
     ensures any { (size : ℕ) (bytes : List ℕ) (given : List Token)
-        → ClientHasRead (new_reader ToClient size) reader.old client.old.columns bytes
-        (given ++ told.old.items)
-        → IfOk result (λ heard. ClientIsFed size reader.new client.new.columns (bytes ++ piece.now)
+        → ClientHasRead (new_reader ToClient size) reader.old
+        (client_at number (connections pool.old)).columns bytes (given ++ told.old.items)
+        → IfOk result (λ heard. ClientIsFed size reader.new
+        (client_at number (connections pool.new)).columns (bytes ++ piece.now)
         (given ++ told.new.items) heard.fault) }
     // Where packets come that the client takes, it takes them in order, and the reader keeps what
     // is behind them.
     ensures listened { (packets : List Coming) (rest : List ℕ) (then : Listened)
         → Comes reader.old (reader.old.taken ++ piece.now) packets rest
-        → listened client.old None told.old.items packets ≡ Some then
+        → listened (client_at number (connections pool.old)) None told.old.items packets
+        ≡ Some then
         → IfOk result (λ heard. (heard.fault ≡ None)
-        × IsListened client.new heard.settled told.new.items then
+        × IsListened (client_at number (connections pool.new)) heard.settled told.new.items then
         × (reader.new ≡ with_taken reader.old rest)) }
+    ensures client { ChangesClient number pool.old pool.new }
 {
     whole_packets_are_heard();
     all_bytes_are_heard();
-    let fed = listen(client, reader, piece, told);
+    let fed = listen_in(pool, number, reader, piece, told);
     let settled = fed.settled;
     match fed.stop {
         None => Ok(Heard {

@@ -4,6 +4,7 @@
 
 mod carrier;
 mod feeding;
+mod hearing;
 pub mod laws;
 mod link;
 mod memory;

@@ -18,6 +18,7 @@ ghost use Rattle.tds_world.specs.declared.report.Place.TheVariants.{Leased};
 pub(crate) mod acts;
 mod asking;
 mod carrying;
+mod cleaning;
 mod deliveries;
 mod leasing;
 

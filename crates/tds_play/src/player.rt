@@ -13,6 +13,7 @@ ghost use Rattle.tds_world.specs.declared.event.Event.TheVariants as events;
 ghost use Rattle.tds_world.specs.declared.outcome.Outcome.TheVariants as outcome;
 
 mod acting;
+mod cleaning;
 mod ending;
 mod lending;
 
@@ -140,7 +141,8 @@ impl<E: Engine + Copy> Player<E> {
             Event::Work(conn)
             | Event::ToServer(conn, _)
             | Event::ToClient(conn, _)
-            | Event::Cut(conn) => by_number(self.links.len(), *conn, Refusal::UnknownConnection),
+            | Event::Cut(conn)
+            | Event::Clean(conn) => by_number(self.links.len(), *conn, Refusal::UnknownConnection),
             Event::Lease | Event::RestartServer | Event::RestartClient => {
                 Err(Refusal::UnknownConnection)
             }

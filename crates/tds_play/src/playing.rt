@@ -11,6 +11,8 @@ ghost use Rattle.tds_play.specs.declared.playing.PlayRefusal.TheVariants.{Memory
 ghost use Rattle.tds_play.specs.declared.playing.PlayRefusal.{PlayRefusal};
 ghost use Rattle.tds_session.specs.Answer.{answer_of, script_answers};
 ghost use Rattle.tds_world.specs.Descriptors.{UseFewDescriptors};
+ghost use Rattle.tds_world.specs.LeftClean.{AnswersClean};
+ghost use Rattle.tds_world.specs.LeftCleanShown.{ShowsLeftClean};
 ghost use Rattle.tds_world.specs.Losses.{marked, world_with};
 ghost use Rattle.tds_world.specs.alone.Alone.{AsIfAlone, BlindToNumbers};
 ghost use Rattle.tds_world.specs.alone.AloneShown.{ShowsAsIfAlone, far_in};
@@ -33,7 +35,8 @@ use tds_packet::PacketSize;
 use tds_request::Request;
 use tds_session::{Engine, ScriptEngine};
 use tds_world::laws::{
-    engine_is_lawful, script_hands_out_next, script_is_blind, script_is_lawful, script_uses_few,
+    engine_is_lawful, script_answers_clean, script_hands_out_next, script_is_blind,
+    script_is_lawful, script_uses_few,
 };
 use tds_world::losses::{as_if_alone, begins_once, marks_of_a_report, never_stuck, one_attention};
 use tds_world::report::losses::of_marked_report;
@@ -149,6 +152,8 @@ pub fn play<C: Carrier>(
     ensures kept_transaction { C.tells carrier.old
         → IfOk result (ShowsKeptTransaction events.now) }
     ensures lends_idle { C.tells carrier.old → IfOk result ShowsLendsIdle }
+    // What is cleaned is lent fresh: no transaction and no setting is left on its server.
+    ensures left_clean { C.tells carrier.old → IfOk result (ShowsLeftClean events.now) }
     // Where nobody waits nothing is underway, and at no time much is. No outcome is an end's
     // fault.
     ensures idle_is_quiet { C.tells carrier.old → IfOk result ShowsIdleQuiet }
@@ -180,6 +185,7 @@ pub fn play<C: Carrier>(
     script_hands_out_next();
     script_is_blind();
     script_uses_few();
+    script_answers_clean();
     of_marked_report();
     marks_of_a_report();
     one_attention();
@@ -236,6 +242,10 @@ pub fn play_with<E: Engine + Copy, C: Carrier>(
         (answer_of (E.statements_of engine) (E.step_of engine))
         (far_in (world_with setup.now (answer_of (E.statements_of engine) (E.step_of engine))
         (marked events.now report.events) new_world)) events.now report) }
+    // What is cleaned is lent fresh, where the engine's answer to a cleaning leaves a fresh session.
+    ensures left_clean { C.tells carrier.old
+        → AnswersClean (answer_of (E.statements_of engine) (E.step_of engine))
+        → IfOk result (ShowsLeftClean events.now) }
 {
     engine_is_lawful(&engine);
     of_marked_report();

@@ -5,7 +5,7 @@ ghost use Rattle.tds_play.specs.Lending.{found_by, numbered_of};
 ghost use Rattle.tds_play.specs.Holdings.{all_ended, conn_of, ended_of, put_in};
 ghost use Rattle.tds_world.specs.World.{numbered};
 
-use std::alloc::Global;
+use std::alloc::{AllocError, Global};
 use std::marker::Model;
 use std::mem::replace;
 use tds_world::Refusal;
@@ -62,6 +62,22 @@ impl<T> Holdings<T> {
                 Some(given) => Err(given),
                 None => unreachable!(),
             },
+        }
+    }
+
+    /// The next one is one that has ended.
+    pub(crate) fn skip(&mut self) -> Result<(), AllocError>
+        ensures { OnOk result (self.new ≡ self.old ++ None ∷ []) }
+    {
+        match self.held.push(None) {
+            Ok(()) => Ok(()),
+            Err(failed) => {
+                let value = failed.value;
+                match value {
+                    None => Err(AllocError),
+                    Some(_) => unreachable!(),
+                }
+            }
         }
     }
 

@@ -5,10 +5,11 @@ ghost use Rattle.tds_play.specs.Failures.{FailsAs, FailsNoMore, HasNoFailure, ca
 ghost use Rattle.tds_play.specs.Plays.{MayLose, RefinesAct, RepresentsConnection, acts_on, after, loss_of};
 ghost use Rattle.tds_play.specs.Pooled.{ChangesOne, IsThere, place_by, seat_in};
 ghost use Rattle.tds_play.specs.Reads.{IsReading, ReadsNoMore, ReadsOn};
-ghost use Rattle.tds_play.specs.Seats.{IsOfEnds, behind_event, drained};
+ghost use Rattle.tds_play.specs.Seats.{IsOfEnds, behind_event, drained, is_of_caller};
 ghost use Rattle.tds_play.specs.Seen.{seen_in};
 ghost use Rattle.tds_play.specs.Ties.{IsTied, KeepsTies};
 ghost use Rattle.tds_pool.specs.Calls.{is_broken};
+ghost use Rattle.tds_pool.specs.Cleaning.{carried, is_cleaned};
 ghost use Rattle.tds_pool.specs.Connections.{connections, numbered};
 ghost use Rattle.tds_session.specs.Answer.{answer_of};
 ghost use Rattle.tds_world.specs.Connection.{Connection};
@@ -16,13 +17,14 @@ ghost use Rattle.tds_world.specs.Losses.{bringing, met};
 ghost use Rattle.tds_world.specs.World.{World, next_number};
 ghost use Rattle.tds_world.specs.declared.event.Setup.{Setup};
 
+mod cleaning;
 mod leasing;
 
 use crate::NoMemory;
 use crate::carrier::Carrier;
 use crate::link::acts::on_cut;
 use crate::link::{EventDone, Link};
-use std::alloc::{AllocError, Global};
+use std::alloc::Global;
 use tds_pool::{GivenBack, Pool};
 use tds_session::Engine;
 use tds_world::{Event, Place, Snapshot};
@@ -43,8 +45,7 @@ fn place_by(holder: u32, place: tds_pool::Place) -> Place
         tds_pool::Place::Kept => Place::Kept(holder),
         tds_pool::Place::Free => Place::Free,
         tds_pool::Place::Draining => Place::Draining,
-        // A play cleans none.
-        tds_pool::Place::Cleaning => Place::Leased(holder),
+        tds_pool::Place::Cleaning => Place::Draining,
     }
 }
 
@@ -62,6 +63,8 @@ impl<E: Engine + Drop> Held<E> {
         requires ends { IsOfEnds event.now }
         requires tied { IsTied self.old.link (C.pipes carrier.old self.old.link.number) }
         requires there { IsThere self.old pool.old }
+        requires lent { is_of_caller event.now ≡ true → self.old.link.is_cut ≡ false
+            → IsSome (carried self.old.link.number (connections pool.old)) }
         ensures number { self.new.link.number ≡ self.old.link.number }
         ensures holder { self.new.holder ≡ self.old.holder }
         ensures pool { OnOk result (ChangesOne self.old.link.number self.new.link.is_cut pool.old
@@ -105,24 +108,26 @@ impl<E: Engine + Drop> Held<E> {
         if self.link.is_cut {
             return Ok(on_cut(event));
         }
-        // A play cleans no connection, so its client is there.
-        let Some(client) = pool.at(self.link.number) else {
-            return Err(AllocError);
-        };
-        let done = self.link.act(alloc, carrier, client, number, event)?;
-        self.settle(carrier, pool, event);
+        let done = self.link.act(alloc, carrier, pool, number, event)?;
+        self.settle(carrier, pool, event)?;
         Ok(done)
     }
 
-    /// What an event at its ends makes of it in the pool: one that is cut leaves it, and a draining
-    /// one may be free once bytes came to its client.
-    fn settle<C: Carrier>(&mut self, carrier: &mut C, pool: &mut Pool, event: &Event)
+    /// What an event at its ends makes of it in the pool: one that is cut leaves it, and one that
+    /// drains, or is being cleaned, may be free once bytes came to its client.
+    fn settle<C: Carrier>(
+        &mut self,
+        carrier: &mut C,
+        pool: &mut Pool,
+        event: &Event,
+    ) -> Result<(), NoMemory>
         requires tied { IsTied self.old.link (C.pipes carrier.old self.old.link.number) }
         requires is_in { IsSome (numbered self.old.link.number (connections pool.old)) }
         ensures number { self.new.link.number ≡ self.old.link.number }
         ensures holder { self.new.holder ≡ self.old.holder }
-        ensures pool { ChangesOne self.old.link.number self.new.link.is_cut pool.old pool.new }
-        ensures there { IsThere self.new pool.new }
+        ensures pool { OnOk result
+            (ChangesOne self.old.link.number self.new.link.is_cut pool.old pool.new) }
+        ensures there { OnOk result (IsThere self.new pool.new) }
         ensures ties { KeepsTies self.old.link.number self.new.link (C.pipes carrier.old)
             (C.pipes carrier.new) (C.tells carrier.old) (C.tells carrier.new) }
         ensures failed { FailsNoMore (C.pipes carrier.old self.old.link.number)
@@ -131,25 +136,35 @@ impl<E: Engine + Drop> Held<E> {
             (C.pipes carrier.old self.old.link.number) (C.pipes carrier.new self.old.link.number) }
         ensures cut { self.old.link.is_cut ≡ true → (self.new ≡ self.old)
             × (carrier.new ≡ carrier.old) }
-        ensures client { self.new.link.is_cut ≡ false
-            → (seat_in self.new pool.new).client ≡ (seat_in self.old pool.old).client }
-        ensures sound { self.old.link.is_cut ≡ false
+        ensures client { OnOk result (self.new.link.is_cut ≡ false
+            → (seat_in self.new pool.new).client ≡ (seat_in self.old pool.old).client) }
+        ensures sound { OnOk result (self.old.link.is_cut ≡ false
             → is_broken (seat_in self.old pool.old).client.stage ≡ false
             → (self.new ≡ self.old) × (carrier.new ≡ carrier.old)
-            × (seat_in self.new pool.new ≡ behind_event event.now (seat_in self.old pool.old)) }
+            × (seat_in self.new pool.new ≡ behind_event event.now (seat_in self.old pool.old))) }
     {
         if self.link.is_cut {
             let _ = pool.lost(self.link.number);
-        } else if matches!(event, Event::ToClient(..)) {
-            self.drain(carrier, pool);
+            return Ok(());
         }
+        if !matches!(event, Event::ToClient(..)) {
+            return Ok(());
+        }
+        if self.is_cleaned(pool) {
+            return self.look_at_cleaning(pool);
+        }
+        self.drain(carrier, pool);
+        Ok(())
     }
 
-    /// A draining connection is free once its client is idle. One that the pool closes is cut.
+    /// A draining connection is free once its client is idle. One that the pool closes is cut. One
+    /// that is being cleaned stays.
     fn drain<C: Carrier>(&mut self, carrier: &mut C, pool: &mut Pool)
         requires live { self.old.link.is_cut ≡ false }
         requires tied { IsTied self.old.link (C.pipes carrier.old self.old.link.number) }
         requires is_in { IsSome (numbered self.old.link.number (connections pool.old)) }
+        requires other { is_cleaned (numbered self.old.link.number (connections pool.old))
+            ≡ false }
         ensures number { self.new.link.number ≡ self.old.link.number }
         ensures holder { self.new.holder ≡ self.old.holder }
         ensures pool { ChangesOne self.old.link.number self.new.link.is_cut pool.old pool.new }

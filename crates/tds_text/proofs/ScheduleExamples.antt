@@ -5,7 +5,7 @@ use Rattle.serde_json.specs.Data.{Data, null, boolean, string, number, array, ob
 use Rattle.tds_request.specs.declared.request.Request.TheVariants as request
 use Rattle.tds_world.specs.declared.event.Event.TheVariants as event
 use Rattle.tds_session.specs.declared.attention.OnAttention.TheVariants.{Keep, RollBack}
-use Rattle.tds_text.specs.declared.schedule.version.Version.TheVariants.{One, Two, Three}
+use Rattle.tds_text.specs.declared.schedule.version.Version.TheVariants.{One, Two, Three, Four}
 use Rattle.tds_text.specs.Events.{event_of}
 use Rattle.tds_text.specs.Schedule.{outer_of, events_of, wrong_place}
 
@@ -67,7 +67,7 @@ first_events : events_of One (values (called (codes "lease") [] ∷ called (code
 first_events = refl
 
 -- the object is looked at first, then the events in order
-wrong_version : wrong_place (file 4 512 (null ∷ [])) ≡ Some 0
+wrong_version : wrong_place (file 5 512 (null ∷ [])) ≡ Some 0
 wrong_version = refl
 
 wrong_size : wrong_place (file 1 65536 []) ≡ Some 0
@@ -129,3 +129,38 @@ no_boolean = refl
 anew_in_three : wrong_place (file_with 3 (boolean true) (called (codes "lease") [] ∷ commit_then ∷ [])) ≡ None
 unfolding commit_then
 anew_in_three = refl
+
+-- ---- a cleaning, in version 4
+
+clean_one : Data
+clean_one = called (codes "clean") (whole 1 ∷ [])
+
+clean : event_of Four clean_one ≡ Some (event.Clean 1)
+unfolding clean_one
+clean = refl
+
+-- it is an array of version 4 alone, and names one connection
+clean_in_three : wrong_place (file_with 3 (boolean true) (called (codes "lease") [] ∷ clean_one ∷ [])) ≡ Some 2
+unfolding clean_one
+clean_in_three = refl
+
+clean_in_four : wrong_place (file_with 4 (boolean true) (called (codes "lease") [] ∷ clean_one ∷ [])) ≡ None
+unfolding clean_one
+clean_in_four = refl
+
+clean_too_large : event_of Four (called (codes "clean") (whole (2 ^ 32) ∷ [])) ≡ None
+clean_too_large = refl
+
+clean_none : event_of Four (called (codes "clean") []) ≡ None
+clean_none = refl
+
+-- its object is that of version 3
+four : outer_of (file_with 4 (boolean false) []) ≡ Some (Four, (record { packet_size = 512; max = 1; on_attention = Keep }, no_items))
+four = refl
+
+four_without : wrong_place (file 4 512 []) ≡ Some 0
+four_without = refl
+
+anew_in_four : wrong_place (file_with 4 (boolean true) (called (codes "lease") [] ∷ commit_then ∷ [])) ≡ None
+unfolding commit_then
+anew_in_four = refl

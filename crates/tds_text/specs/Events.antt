@@ -8,13 +8,13 @@ use Rattle.tds_world.specs.declared.event.Event.TheVariants as event
 use Rattle.tds_text.specs.declared.schedule.version.Version.{Version}
 use Rattle.tds_text.specs.declared.schedule.word.Word.{Word}
 use Rattle.tds_text.specs.declared.schedule.word.Word.TheVariants as word
-use Rattle.tds_text.specs.Fields.{alone, one_field, two_fields, number_of, isolation_of, batch_of, ended_lease}
+use Rattle.tds_text.specs.Fields.{alone, one_field, two_fields, number_of, isolation_of, batch_of, ended_lease, cleaned_one}
 
 -- The words that an event's array begins with.
 abbrev pub words : List (List ℕ × Word)
 words =
     (codes "lease", word.Lease) ∷ (codes "resume", word.Resume) ∷ (codes "give_back", word.GiveBack) ∷ (codes "keep", word.Keep)
-    ∷ (codes "abandon", word.Abandon) ∷ (codes "batch", word.Batch) ∷ (codes "begin", word.Begin) ∷ (codes "commit", word.Commit)
+    ∷ (codes "abandon", word.Abandon) ∷ (codes "clean", word.Clean) ∷ (codes "batch", word.Batch) ∷ (codes "begin", word.Begin) ∷ (codes "commit", word.Commit)
     ∷ (codes "rollback", word.Rollback) ∷ (codes "send", word.Send) ∷ (codes "cancel", word.Cancel) ∷ (codes "work", word.Work)
     ∷ (codes "to_server", word.ToServer) ∷ (codes "to_client", word.ToClient) ∷ (codes "cut", word.Cut)
     ∷ (codes "restart_server", word.RestartServer) ∷ (codes "restart_client", word.RestartClient) ∷ []
@@ -28,13 +28,14 @@ word_among (w ∷ ws) text = if bytes_eq text w.0 then Some w.1 else word_among 
 abbrev pub word_of : List ℕ → Option Word
 word_of text = word_among words text
 
--- The event of a word and of what stands behind it: one line for each array of the format. The version says what may stand behind `commit` and `rollback`.
+-- The event of a word and of what stands behind it: one line for each array of the format. The version says what may stand behind `commit` and `rollback`, and whether `clean` may stand there.
 abbrev pub event_with : Version → Word → Items → Option Event
 event_with version word.Lease fields = alone event.Lease fields
 event_with version word.Resume fields = option_map (λ ticket. event.Resume ticket) (one_field number_of fields)
 event_with version word.GiveBack fields = option_map (λ lease. event.GiveBack lease) (one_field number_of fields)
 event_with version word.Keep fields = option_map (λ lease. event.Keep lease) (one_field number_of fields)
 event_with version word.Abandon fields = option_map (λ ticket. event.Abandon ticket) (one_field number_of fields)
+event_with version word.Clean fields = option_map (λ conn. event.Clean conn) (cleaned_one version fields)
 event_with version word.Batch fields = option_map (λ p. event.Ask p.0 (request.Batch p.1)) (two_fields number_of batch_of fields)
 event_with version word.Begin fields = option_map (λ p. event.Ask p.0 (request.Begin p.1)) (two_fields number_of isolation_of fields)
 event_with version word.Commit fields = option_map (λ p. event.Ask p.0 (request.Commit p.1)) (ended_lease version fields)

@@ -6,7 +6,7 @@ use Rattle.serde_json.specs.Data.{Data, Items, no_items, item}
 use Rattle.std.specs.Option.{option_or}
 use Rattle.serde_json.specs.Find.{as_number, as_str, as_u64}
 use Rattle.tds_text.specs.declared.schedule.version.Version.{Version}
-use Rattle.tds_text.specs.Versions.{may_begin_anew}
+use Rattle.tds_text.specs.Versions.{may_begin_anew, may_clean}
 
 -- Two values, if both are there.
 abbrev pub both : {A B : Type 0} → Option A → Option B → Option (A × B)
@@ -84,3 +84,7 @@ lease_and_next fields = option_map (λ p. (p.0, Some p.1)) (two_fields number_of
 -- What stands behind `commit` and `rollback`: either, where the version has both.
 abbrev pub ended_lease : Version → Items → Option (ℕ × Option ℕ)
 ended_lease version fields = option_or (lease_alone fields) (if may_begin_anew version then lease_and_next fields else None)
+
+-- What stands behind `clean`: the connection, where the version has it.
+abbrev pub cleaned_one : Version → Items → Option ℕ
+cleaned_one version fields = if may_clean version then one_field number_of fields else None

@@ -71,6 +71,7 @@ outcome_text (outcome.Leased lease conn how) = codes "leased " ++ decimal lease 
 outcome_text (outcome.GivenBack how) = codes "given back " ++ give_back_word how
 outcome_text (outcome.Kept ticket) = codes "kept " ++ decimal ticket
 outcome_text (outcome.Abandoned how) = codes "abandoned " ++ abandon_word how
+outcome_text (outcome.Cleaning lease request) = codes "cleaning " ++ decimal request ++ codes " lease " ++ decimal lease
 outcome_text (outcome.Asked request) = codes "asked " ++ decimal request
 outcome_text (outcome.Sent how) = codes "sent " ++ send_word how
 outcome_text (outcome.Cancel how) = codes "cancel " ++ cancel_word how

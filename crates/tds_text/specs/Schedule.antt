@@ -10,7 +10,7 @@ use Rattle.tds_text.specs.Fields.{both, such, whole_number, number_below}
 use Rattle.tds_text.specs.declared.schedule.version.Version.{Version}
 use Rattle.tds_session.specs.declared.attention.OnAttention.{OnAttention}
 use Rattle.tds_session.specs.declared.attention.OnAttention.TheVariants.{Keep, RollBack}
-use Rattle.tds_text.specs.declared.schedule.version.Version.TheVariants.{One, Two, Three}
+use Rattle.tds_text.specs.declared.schedule.version.Version.TheVariants.{One, Two, Three, Four}
 use Rattle.tds_text.specs.Versions.{version_numbered, keys_of}
 use Rattle.tds_text.specs.Events.{event_of}
 
@@ -46,6 +46,7 @@ abbrev pub on_attention_of : Version → Data → Option OnAttention
 on_attention_of One value = Some Keep
 on_attention_of Two value = Some Keep
 on_attention_of Three value = option_map by_rollback (option_and_then as_bool (get (codes "rollback_on_attention") value))
+on_attention_of Four value = option_map by_rollback (option_and_then as_bool (get (codes "rollback_on_attention") value))
 
 -- A setup of its three parts.
 abbrev pub setup_from : Option ℕ → Option ℕ → Option OnAttention → Option Setup

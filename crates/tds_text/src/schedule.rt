@@ -22,12 +22,13 @@ use tds_session::OnAttention;
 use tds_world::{Event, Setup};
 use version::Version;
 
-/// Reads a schedule file of version 1, 2 or 3: a JSON object with the keys `version`, `packet_size`,
+/// Reads a schedule file of version 1 to 4: a JSON object with the keys `version`, `packet_size`,
 /// `max` and `events`, each event an array. Version 2 has the arrays of version 1, and those of a
 /// commit and a rollback that begin the next transaction. Version 3 has the further key
-/// `rollback_on_attention`, which is true or false; before it the transaction is kept. Where the bytes are JSON and memory is
-/// there, they are a schedule, or the fault tells the first wrong place: 0 outside the events, which
-/// are looked at after it, in order, from 1.
+/// `rollback_on_attention`, which is true or false; before it the transaction is kept. Version 4 has
+/// the further array of a cleaning. Where the bytes are JSON and memory is there, they are a
+/// schedule, or the fault tells the first wrong place: 0 outside the events, which are looked at
+/// after it, in order, from 1.
 pub fn read_schedule(alloc: Global, bytes: &[u8]) -> Result<(Setup, Vec<Event>), ScheduleFault>
     ensures ok { IfOk result (λ found. Spells bytes.now found.0 found.1.items) }
     ensures wrong { (place : ℕ) → IsErrOf result (ScheduleFault.Wrong place)
@@ -101,7 +102,7 @@ fn read_on_attention(version: Version, value: &Value) -> Option<OnAttention>
 {
     match version {
         Version::One | Version::Two => Some(OnAttention::Keep),
-        Version::Three => match value.get("rollback_on_attention")?.as_bool()? {
+        Version::Three | Version::Four => match value.get("rollback_on_attention")?.as_bool()? {
             true => Some(OnAttention::RollBack),
             false => Some(OnAttention::Keep),
         },

@@ -37,3 +37,4 @@ pub mod PartOfAnAnswerComes
 pub mod LostAtACancel
 pub mod BroughtToRest
 pub mod ToldAlone
+pub mod CleanedAtRelease

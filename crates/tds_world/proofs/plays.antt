@@ -6,4 +6,6 @@ pub mod Told
 pub mod Reports
 pub mod Alone
 pub mod Rest
+pub mod Cleaned
+pub mod LeftClean
 pub mod Headline

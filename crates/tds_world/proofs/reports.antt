@@ -3,6 +3,7 @@ pub mod Few
 pub mod Reports
 pub mod NoFault
 pub mod Asks
+pub mod OwnShown
 pub mod FirstRuns
 pub mod Leased
 pub mod NoMore

@@ -14,6 +14,7 @@ pub mod Given
 pub mod Own
 pub mod OwnActs
 pub mod OwnAnswers
+pub mod LeftClean
 pub mod Newest
 pub mod Order
 pub mod Lending

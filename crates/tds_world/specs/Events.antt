@@ -15,9 +15,10 @@ use Rattle.tds_world.specs.declared.outcome.WorkOutcome.{WorkOutcome}
 use Rattle.tds_world.specs.declared.outcome.WorkOutcome.TheVariants as work
 use Rattle.tds_world.specs.Arrivals.{to_server, to_client, works}
 use Rattle.tds_world.specs.Caller.{asks, sends, sends_last, cancels, cancel_outcome}
+use Rattle.tds_world.specs.Cleaning.{can_clean, cleans}
 use Rattle.tds_world.specs.Connection.{Connection, phase, is_idle, up_underway, down_underway, cut}
 use Rattle.tds_world.specs.Phase.{Phase, Asked, Sending}
-use Rattle.tds_world.specs.Pool.{Acted, Refuses, Does, to_lend, opens, lends, resumes, gives_back, abandons, keeps}
+use Rattle.tds_world.specs.Pool.{Acted, Refuses, Does, is_free, to_lend, opens, lends, resumes, gives_back, abandons, keeps}
 use Rattle.tds_world.specs.Record.{Record}
 use Rattle.tds_world.specs.World.{World, Found, Missing, Here, Opens, put_numbered, next_number, holding, ended, ended_numbered, by_number, by_lease, by_ticket, not_cut}
 
@@ -38,6 +39,12 @@ sends_in Sending room (Some q) c =
     Does (outcome.Sent (sent_as (sends_last room q))) (sends room q c)
 sends_in p room q c = Refuses refusal.NotSending
 
+-- A free connection is cleaned. Any other one is refused.
+abbrev pub cleans_by : Bool → Bool → ℕ → ℕ → ℕ → ℕ → Connection → Acted
+cleans_by false can room lease number n c = Refuses refusal.NotFree
+cleans_by true false room lease number n c = Refuses refusal.NotIdle
+cleans_by true true room lease number n c = Does (outcome.Cleaning lease number) (cleans room lease number n c)
+
 -- What work answers, by the answer that was due.
 abbrev pub work_outcome : List answer.Step → WorkOutcome
 work_outcome [] = work.Idle
@@ -51,6 +58,7 @@ about setup w (event.Resume ticket) = not_cut (by_ticket w ticket)
 about setup w (event.GiveBack lease) = by_lease w lease
 about setup w (event.Keep lease) = not_cut (by_lease w lease)
 about setup w (event.Abandon ticket) = by_ticket w ticket
+about setup w (event.Clean n) = by_number w n
 about setup w (event.Ask lease q) = not_cut (by_lease w lease)
 about setup w (event.Send lease) = not_cut (by_lease w lease)
 about setup w (event.Cancel lease) = not_cut (by_lease w lease)
@@ -68,6 +76,10 @@ acts setup answers w (event.Resume ticket) n c = resumes (next_number w.leases) 
 acts setup answers w (event.GiveBack lease) n c = gives_back c
 acts setup answers w (event.Keep lease) n c = keeps (next_number w.tickets) c
 acts setup answers w (event.Abandon ticket) n c = abandons c
+acts setup answers w (event.Clean _) n c =
+    cleans_by (is_free c.standing)
+    (can_clean (setup.packet_size - 8) (next_number w.leases) (next_number w.asked_on) n c)
+    (setup.packet_size - 8) (next_number w.leases) (next_number w.asked_on) n c
 acts setup answers w (event.Ask lease q) n c =
     asks_by (is_idle c) (next_number w.asked_on) lease n q c
 acts setup answers w (event.Send lease) n c =
@@ -97,6 +109,10 @@ notes (event.Keep lease) n heard w = record w {
   tickets = w.tickets ++ holding n heard None ∷ [];
 }
 notes (event.Abandon ticket) n heard w = record w { tickets = ended_numbered ticket w.tickets }
+notes (event.Clean _) n heard w = record w {
+  leases = w.leases ++ ended (holding n heard None) ∷ [];
+  asked_on = w.asked_on ++ n ∷ [];
+}
 notes (event.Ask lease q) n heard w = record w { asked_on = w.asked_on ++ n ∷ [] }
 notes e n heard w = w
 

@@ -8,10 +8,13 @@ pub mod Arrivals
 pub mod Caller
 pub mod World
 pub mod Pool
+pub mod Cleaning
 pub mod Events
 pub mod Observed
 pub mod Lawful
 pub mod Laws
+pub mod LeftClean
+pub mod LeftCleanShown
 pub mod Bounds
 pub mod Packets
 pub mod Deliveries

@@ -43,6 +43,7 @@ number_of (Opens n) = Some n
 abbrev pub link_of : Setup → World → Event → Option ℕ
 link_of setup w event.Lease = number_of (about setup w event.Lease)
 link_of setup w (event.GiveBack lease) = number_of (about setup w (event.GiveBack lease))
+link_of setup w (event.Clean n) = number_of (about setup w (event.Clean n))
 link_of setup w (event.Send lease) = number_of (about setup w (event.Send lease))
 link_of setup w (event.Cancel lease) = number_of (about setup w (event.Cancel lease))
 link_of setup w (event.Work n) = number_of (about setup w (event.Work n))

@@ -1,7 +1,7 @@
 -- The numbers of the refusals.
 use Rattle.std.specs.Prelude.{ℕ}
 use Rattle.tds_world.specs.declared.outcome.Refusal.{Refusal}
-use Rattle.tds_world.specs.declared.outcome.Refusal.TheVariants.{UnknownLease, UnknownTicket, UnknownConnection, NotIdle, NotSending, NothingToKeep, AllInUse, ConnectionCut}
+use Rattle.tds_world.specs.declared.outcome.Refusal.TheVariants.{UnknownLease, UnknownTicket, UnknownConnection, NotIdle, NotSending, NothingToKeep, AllInUse, ConnectionCut, NotFree}
 
 -- The number that a report shows.
 abbrev pub refusal_number : Refusal → ℕ
@@ -13,3 +13,4 @@ refusal_number NotSending = 5
 refusal_number NothingToKeep = 6
 refusal_number AllInUse = 7
 refusal_number ConnectionCut = 8
+refusal_number NotFree = 9

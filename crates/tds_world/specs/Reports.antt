@@ -20,6 +20,7 @@ use Rattle.tds_world.specs.declared.report.RequestReport.{RequestReport}
 use Rattle.tds_world.specs.declared.report.RequestStatus.{RequestStatus}
 use Rattle.tds_world.specs.declared.report.RequestStatus.TheVariants as status
 use Rattle.tds_world.specs.declared.report.Snapshot.{Snapshot}
+use Rattle.tds_world.specs.Cleaning.{clean_request}
 use Rattle.tds_world.specs.Laws.{whole_answer}
 use Rattle.tds_world.specs.Observed.{observed}
 use Rattle.tds_packet.specs.Resets.{header_descriptor}
@@ -72,16 +73,20 @@ abbrev pub ShowsNoFault : Report → Type 0
 ShowsNoFault r = AllByRecursion IsWithoutFault r.events
 
 -- A request that was asked, as the report shows it: its number, the lease under which it was asked,
--- and the snapshots after its event.
+-- and the snapshots after its event. A cleaning asks one too, under a lease of the pool's own; its
+-- snapshots are not looked at.
 pub record Ask : Type 0 where
   pub number : ℕ
   pub lease : ℕ
   pub request : Request
+  pub cleans : Bool
   pub snapshots : List Snapshot
 
 abbrev pub asked_by : Event → EventReport → Outcome → List Ask
 asked_by (event.Ask lease q) r (outcome.Asked number) =
-    record { number = number; lease = lease; request = q; snapshots = r.snapshots } ∷ []
+    record { number = number; lease = lease; request = q; cleans = false; snapshots = r.snapshots } ∷ []
+asked_by (event.Clean n) r (outcome.Cleaning lease number) =
+    record { number = number; lease = lease; request = clean_request; cleans = true; snapshots = [] } ∷ []
 asked_by e r o = []
 
 -- The requests that were asked, in their order: those of the events that the report says so of.
@@ -151,9 +156,14 @@ pub record IsInOwn (a : Ask) (r : RequestReport) (s : SessionState) : Type 0 whe
   pub shown : snapshot_in r.conn a.snapshots ≡ Some snapshot
   pub descriptor : s.descriptor ≡ header_descriptor snapshot.mark snapshot.descriptor
 
+-- A cleaning is always under a full reset, so its request runs outside one.
+abbrev pub RanInOwnBy : Bool → Ask → RequestReport → SessionState → Type 0
+RanInOwnBy false a r s = IsInOwn a r s
+RanInOwnBy true a r s = s.descriptor ≡ 0
+
 -- Each request that ran did so in its own transaction.
 abbrev pub ShowsRunInOwn : Ask → RequestReport → Type 0
-ShowsRunInOwn a r = (s : SessionState) → r.ran ≡ Some s → IsInOwn a r s
+ShowsRunInOwn a r = (s : SessionState) → r.ran ≡ Some s → RanInOwnBy a.cleans a r s
 
 abbrev pub ShowsOwnTransaction : List Event → Report → Type 0
 ShowsOwnTransaction events r = OfEachAsk ShowsRunInOwn events r

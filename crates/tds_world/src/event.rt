@@ -27,6 +27,9 @@ pub enum Event {
     Keep(u32),
     /// This ticket ends.
     Abandon(u32),
+    /// This connection, which is free, is cleaned: a request of the pool's own goes out, all of it,
+    /// and asks for a full reset. Nobody is lent it until the answer has come.
+    Clean(u32),
     /// A request is asked under this lease. None of it goes out yet.
     Ask(u32, Request),
     /// The request of this lease sends its next packet.

@@ -15,6 +15,7 @@ ghost use Rattle.tds_world.specs.Events.{world_after};
 ghost use Rattle.tds_world.specs.Heard.{ChangesAreHeard};
 ghost use Rattle.tds_world.specs.Lawful.{Lawful};
 ghost use Rattle.tds_world.specs.Laws.{Always, AlwaysOf, FreshStart, IdleIsQuiet, NothingAfterCancel, OwnAnswers};
+ghost use Rattle.tds_world.specs.LeftClean.{AnswersClean, LeftClean};
 ghost use Rattle.tds_world.specs.Lending.{LendsIdle};
 ghost use Rattle.tds_world.specs.Newest.{ActOnNewest, WorkOnNewest};
 ghost use Rattle.tds_world.specs.Order.{RequestsInOrder};
@@ -97,6 +98,18 @@ pub fn own_transaction()
 pub fn fresh_start()
     ensures { (setup : Setup) (answers : Answers) → Lawful answers
         → Always setup answers FreshStart }
+{}
+
+/// Where a connection was cleaned, and its answer has come whole, its server has no transaction and no
+/// settings before anybody is lent it.
+pub fn left_clean()
+    ensures { (setup : Setup) (answers : Answers) → Lawful answers → AnswersClean answers
+        → Always setup answers LeftClean }
+{}
+
+/// What a server with the batch language answers to a cleaning leaves a fresh session.
+pub fn script_answers_clean()
+    ensures { AnswersClean script_answers }
 {}
 
 /// Where servers roll back, a request that was stopped in the middle of its answer leaves no

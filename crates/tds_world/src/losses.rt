@@ -12,6 +12,7 @@ ghost use Rattle.tds_world.specs.Counts.{AreFew};
 ghost use Rattle.tds_world.specs.Descriptors.{AreFewEvents, UseFewDescriptors};
 ghost use Rattle.tds_world.specs.Events.{world_after};
 ghost use Rattle.tds_world.specs.Lawful.{Lawful};
+ghost use Rattle.tds_world.specs.LeftClean.{AnswersClean, LeftClean};
 ghost use Rattle.tds_world.specs.Losses.{Played, event_reports_with, marked, observed_with};
 ghost use Rattle.tds_world.specs.Losses.{with_cuts, world_with};
 ghost use Rattle.tds_world.specs.Observed.{observed};
@@ -112,6 +113,13 @@ pub fn few_to_clients()
 pub fn one_attention()
     ensures { (setup : Setup) (answers : Answers) → Lawful answers
         → AlwaysWith setup answers OneAttention }
+{}
+
+/// Where a connection was cleaned, and its answer has come whole, its server has no transaction and no
+/// settings before anybody is lent it.
+pub fn left_clean()
+    ensures { (setup : Setup) (answers : Answers) → Lawful answers → AnswersClean answers
+        → AlwaysWith setup answers LeftClean }
 {}
 
 /// No two steps of a connection tell that the same transaction began, where the answers hand out

@@ -16,6 +16,11 @@ pub enum Outcome {
     Kept(u32),
     /// A ticket was abandoned.
     Abandoned(AbandonOutcome),
+    /// A connection is being cleaned, under this lease of the pool's own, by this request.
+    Cleaning {
+        lease: u32,
+        request: u32,
+    },
     /// This request was asked.
     Asked(u32),
     /// A packet of a request went out.
@@ -128,6 +133,8 @@ pub enum Refusal {
     AllInUse,
     /// 8: the connection of this lease or ticket was cut.
     ConnectionCut,
+    /// 9: the connection is not free.
+    NotFree,
 }
 
 impl Refusal {
@@ -144,6 +151,7 @@ impl Refusal {
             Refusal::NothingToKeep => 6,
             Refusal::AllInUse => 7,
             Refusal::ConnectionCut => 8,
+            Refusal::NotFree => 9,
         }
     }
 }

@@ -126,7 +126,7 @@ fn put_text(name: &str, text: &[u8], out: &mut String) -> Result<(), Fault> {
 }
 
 /// Each outcome.
-const OUTCOMES: [Outcome; 27] = [
+const OUTCOMES: [Outcome; 28] = [
     Outcome::Leased {
         lease: 1,
         conn: 1,
@@ -173,6 +173,10 @@ const OUTCOMES: [Outcome; 27] = [
         end: End::Client,
         layer: Layer::Core,
         number: 10,
+    },
+    Outcome::Cleaning {
+        lease: 2,
+        request: 10,
     },
 ];
 

@@ -57,26 +57,31 @@ fn fields_of(word: &str, count: usize, version: u64) -> Option<&'static [Field]>
         "give_back" | "keep" | "commit" | "rollback" | "send" | "cancel" => Some(&[Field::Lease]),
         "batch" => Some(&[Field::Lease, Field::Text]),
         "begin" => Some(&[Field::Lease, Field::Isolation]),
-        "work" | "cut" => Some(&[Field::Connection]),
+        "clean" | "work" | "cut" => Some(&[Field::Connection]),
         "to_server" | "to_client" => Some(&[Field::Connection, Field::Count]),
         _ => None,
     }
 }
 
 /// The words of events, in the order of their table.
-const WORDS: &str = "lease, resume, give_back, keep, abandon, batch, begin, commit, rollback, \
-    send, cancel, work, to_server, to_client, cut, restart_server, restart_client";
+const WORDS: &str = "lease, resume, give_back, keep, abandon, clean, batch, begin, commit, \
+    rollback, send, cancel, work, to_server, to_client, cut, restart_server, restart_client";
+
+/// Whether a file of this version has no event of this word yet.
+fn is_early(word: &str, version: u64) -> bool {
+    version < 4 && word == "clean"
+}
 
 /// Whether a value is an event of a file of this version.
 pub(crate) fn is_right(event: &Value, version: u64) -> bool {
     let Some([first, fields @ ..]) = event.as_array().map(|values| values.as_slice()) else {
         return false;
     };
-    match first
-        .as_str()
-        .and_then(|word| fields_of(word, fields.len(), version))
-    {
-        Some(wanted) => are_taken(wanted, fields),
+    let Some(word) = first.as_str() else {
+        return false;
+    };
+    match fields_of(word, fields.len(), version) {
+        Some(wanted) => are_taken(wanted, fields) && !is_early(word, version),
         None => false,
     }
 }
@@ -198,7 +203,7 @@ impl WrongEvent<'_> {
         match stand {
             1 => text.push_str("; here 1 stands\n"),
             2 if self.is_of_later_version(word) => {
-                text.push_str("; here 2 stand, as versions 2 and 3 have it\n")
+                text.push_str("; here 2 stand, as later versions have it\n")
             }
             count => writeln!(text, "; here {count} stand"),
         }

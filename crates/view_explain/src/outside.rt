@@ -8,15 +8,15 @@ use std::alloc::{AllocError, Global};
 use std::fmt::Write;
 use tds_play::Setup;
 
-/// The key that a schedule has in version 3 alone.
+/// The key that a schedule has from version 3 on.
 const LATE_KEY: &str = "rollback_on_attention";
 
 /// The keys of a schedule.
 const KEYS: [Key; 5] = [
     Key {
         name: "version",
-        takes: Takes::Whole { least: 1, most: 3 },
-        wanted: "the number 1, 2 or 3",
+        takes: Takes::Whole { least: 1, most: 4 },
+        wanted: "a number, 1 to 4",
     },
     Key {
         name: "packet_size",
@@ -117,7 +117,7 @@ fn put_missing(
     key: &str,
     version: Option<u64>,
 ) -> Result<(), AllocError> {
-    if key == LATE_KEY && version != Some(3) {
+    if key == LATE_KEY && !matches!(version, Some(3 | 4)) {
         return Ok(());
     }
     put_place(text, page, start)?;
@@ -137,7 +137,7 @@ fn put_early(
     for member in outline.members.iter() {
         if member.key.as_str() == LATE_KEY {
             put_place(text, page, member.key_at)?;
-            return writeln!(text, "the key \"{LATE_KEY}\" stands in version 3 alone");
+            return writeln!(text, "the key \"{LATE_KEY}\" stands from version 3 on");
         }
     }
     Ok(())

@@ -16,6 +16,7 @@ fn rule_of(why: Refusal) -> &'static str {
         Refusal::NothingToKeep => "there is no transaction to keep",
         Refusal::AllInUse => "all connections are in use",
         Refusal::ConnectionCut => "the connection of this lease or ticket is cut",
+        Refusal::NotFree => "the connection is not free",
     }
 }
 

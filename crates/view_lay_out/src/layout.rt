@@ -136,7 +136,7 @@ fn free_slot(holders: &[u32], shown: &[Snapshot]) -> usize {
 fn asked_of(alloc: Global, exchange: &Exchange) -> Result<Vec<usize>, AllocError> {
     let mut asked = Vec::new(alloc);
     for (index, told) in exchange.report.events.as_slice().iter().enumerate() {
-        if matches!(told.outcome, Outcome::Asked(_)) {
+        if matches!(told.outcome, Outcome::Asked(_) | Outcome::Cleaning { .. }) {
             asked.push(index)?;
         }
     }

@@ -86,10 +86,14 @@ fn place_mark(outcome: Outcome, moment: Moment<'_>, index: usize) -> PlaceMark {
     match outcome {
         Outcome::Leased { lease, .. } if index == 0 => PlaceMark::LeaseBegins(lease),
         Outcome::Kept(ticket) if index == 0 => PlaceMark::TicketBegins(ticket),
-        Outcome::GivenBack(GiveBackOutcome::Draining) if index == 0 => PlaceMark::DrainingBegins,
+        Outcome::GivenBack(GiveBackOutcome::Draining) | Outcome::Cleaning { .. } if index == 0 =>
+            PlaceMark::DrainingBegins,
         Outcome::GivenBack(_) | Outcome::Abandoned(_) if index == 0 => before,
-        Outcome::Leased { .. } | Outcome::Kept(_) | Outcome::GivenBack(_) | Outcome::Abandoned(_) =>
-            after,
+        Outcome::Leased { .. }
+        | Outcome::Kept(_)
+        | Outcome::GivenBack(_)
+        | Outcome::Abandoned(_)
+        | Outcome::Cleaning { .. } => after,
         _ => before,
     }
 }

@@ -97,6 +97,7 @@ impl<'a> Drawing<'a> {
             Outcome::Kept(_) => self.note("kept"),
             Outcome::Abandoned(AbandonOutcome::Free) => self.note("abandoned, free"),
             Outcome::Abandoned(AbandonOutcome::Closed) => self.note("abandoned, closed"),
+            Outcome::Cleaning { request, .. } => self.draw_cleaning(request, moment),
             Outcome::Asked(request) => self.draw_ask(request),
             Outcome::Sent(_) => self.depart_all(moment.number),
             Outcome::Cancel(outcome) => self.draw_cancel(outcome, moment),
@@ -154,6 +155,13 @@ impl<'a> Drawing<'a> {
                 Ok(())
             }
         }
+    }
+
+    /// The pool asks by itself, and its request goes out at once.
+    fn draw_cleaning(&mut self, request: u32, moment: Moment<'a>) -> Result<(), AllocError> {
+        self.note("cleaned")?;
+        self.draw_ask(request)?;
+        self.depart_all(moment.number)
     }
 
     fn draw_ask(&mut self, request: u32) -> Result<(), AllocError> {

@@ -25,6 +25,7 @@ fn event_word(event: &Event) -> &'static str {
         Event::GiveBack(_) => "give_back",
         Event::Keep(_) => "keep",
         Event::Abandon(_) => "abandon",
+        Event::Clean(_) => "clean",
         Event::Ask(_, request) => request_word(request),
         Event::Send(_) => "send",
         Event::Cancel(_) => "cancel",
@@ -45,6 +46,7 @@ fn numbers_of(event: &Event) -> (Option<u32>, Option<u32>) {
         | Event::GiveBack(number)
         | Event::Keep(number)
         | Event::Abandon(number)
+        | Event::Clean(number)
         | Event::Send(number)
         | Event::Cancel(number)
         | Event::Work(number)
@@ -117,6 +119,7 @@ pub(crate) fn refusal_text(why: Refusal) -> &'static str {
         Refusal::NothingToKeep => "refused 6: no tx",
         Refusal::AllInUse => "refused 7: in use",
         Refusal::ConnectionCut => "refused 8: cut",
+        Refusal::NotFree => "refused 9: not free",
     }
 }
 

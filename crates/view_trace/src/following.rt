@@ -125,6 +125,8 @@ impl Followed {
                 }
             }
             Outcome::Kept(_) => self.tickets.push(conn.unwrap_or(0))?,
+            // A cleaning is under a lease of its own.
+            Outcome::Cleaning { .. } => self.leases.push(conn.unwrap_or(0))?,
             Outcome::ToServer(count) => self.come(conn, Direction::ToServer, count),
             Outcome::ToClient(count) => self.come(conn, Direction::ToClient, count),
             _ => {}
@@ -144,7 +146,8 @@ impl Followed {
             | Event::Send(lease)
             | Event::Cancel(lease) => numbered(self.leases.as_slice(), *lease).copied(),
             Event::Abandon(ticket) => numbered(self.tickets.as_slice(), *ticket).copied(),
-            Event::Work(conn)
+            Event::Clean(conn)
+            | Event::Work(conn)
             | Event::ToServer(conn, _)
             | Event::ToClient(conn, _)
             | Event::Cut(conn) => numbered(self.came.as_slice(), *conn).map(|_| *conn),

@@ -15,7 +15,7 @@ place_by : (b : Bool) (m place : ℕ) (why : Refusal) → Here place ≡ cond b 
 place_by true m place why is = let same : place ≡ m = cc in ap suc (sym same)
 place_by false m place why is = absurd (cc)
 
-place_of : (n count place : ℕ) (why : Refusal) → Here place ≡ numbered_of count n why → n ≡ suc place
+pub place_of : (n count place : ℕ) (why : Refusal) → Here place ≡ numbered_of count n why → n ≡ suc place
 place_of zero count place why is = absurd (cc)
 place_of (suc m) count place why is = place_by (nat_lt m count) m place why is
 

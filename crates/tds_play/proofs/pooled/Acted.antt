@@ -3,11 +3,11 @@
 use Rattle.std.proofs.Common.{◌≡◌, ◌∙◌, inl, inr, ℕ, suc, ◌+◌, Bool, true, false, List, Option, Some, None, refl, sym, ap, subst, arith}
 use Rattle.std.specs.List.{slice_get}
 use Rattle.std.specs.Prelude.{IsSome, slice_set}
-use Rattle.tds_pool.specs.Calls.{all_numbers}
+use Rattle.tds_pool.specs.Calls.{all_numbers, is_held}
 use Rattle.tds_pool.specs.Connections.{Connection, PoolState, SameRest, connections, numbered, taken_out}
 use Rattle.tds_pool.specs.declared.lease.Lease.{Lease}
 use Rattle.tds_pool.specs.declared.lease.Ticket.{Ticket}
-use Rattle.tds_pool.specs.declared.seat.Place.TheVariants.{Draining, Kept, Leased}
+use Rattle.tds_pool.specs.declared.seat.Place.TheVariants.{Kept, Leased}
 use Rattle.tds_play.specs.Pooled.{AreKnown, ArePooled, ChangesOne, IsThere, StaysAs, holder_at, lease_stamp, seat_in, seated_from, seated_in, ticket_stamp}
 use Rattle.tds_play.specs.declared.seat.Held.{Held}
 use Rattle.tds_play.proofs.pooled.Kept.{known_lost, known_unheld, pooled_cut, pooled_link, pooled_lost_by, pooled_pool, pooled_there}
@@ -70,10 +70,10 @@ acted_known {E} {S} max size place leases tickets hs old new p q pooled known at
       leases_are = of_same Leased lease_stamp (λ (l : Lease). l.number) leases (suc place) hs (slice_set hs place new) (connections p) (connections q) c d known.leases_are changes.others held before now stamp same same_holder;
       tickets_are = of_same Kept ticket_stamp (λ (t : Ticket). t.number) tickets (suc place) hs (slice_set hs place new) (connections p) (connections q) c d known.tickets_are changes.others held before now stamp same same_holder;
     }
-    by_place c d before now (inr drains) =
+    by_place c d before now (inr unheld) =
         known_unheld leases tickets (suc place) hs (slice_set hs place new) (connections p) (connections q) c known changes.others held before
-        (λ lent. let bad : Draining ≡ Leased = sym drains ∙ lent in cc)
-        (λ kept. let bad : Draining ≡ Kept = sym drains ∙ kept in cc)
+        (λ lent. let bad : false ≡ true = sym unheld ∙ ap is_held lent in absurd (cc))
+        (λ kept. let bad : false ≡ true = sym unheld ∙ ap is_held kept in absurd (cc))
 
     by_cut : (b : Bool) → new.link.is_cut ≡ b → (before : Bool) → old.link.is_cut ≡ before → AreKnown leases tickets (slice_set hs place new) (connections q)
     by_cut true cut before was =

@@ -20,7 +20,7 @@ abbrev pub AboutTicket : Event → ℕ → Type 0
 AboutTicket e ticket = (e ≡ event.Resume ticket) ⊎ (e ≡ event.Abandon ticket)
 
 abbrev pub AboutNumber : Event → ℕ → Type 0
-AboutNumber e conn = (e ≡ event.Work conn) ⊎ (((n : ℕ) × (e ≡ event.ToServer conn n)) ⊎ (((n : ℕ) × (e ≡ event.ToClient conn n)) ⊎ (e ≡ event.Cut conn)))
+AboutNumber e conn = (e ≡ event.Work conn) ⊎ (((n : ℕ) × (e ≡ event.ToServer conn n)) ⊎ (((n : ℕ) × (e ≡ event.ToClient conn n)) ⊎ ((e ≡ event.Cut conn) ⊎ (e ≡ event.Clean conn))))
 
 pub about_lease : (e : Event) (lease max : ℕ) (ss : List Standing) (leases tickets : List (Option ℕ)) → AboutLease e lease → about_of e ss max leases tickets ≡ held_of (length ss) (conn_of leases lease) UnknownLease
 about_lease e lease max ss leases tickets (inl is) = ap (λ (x : Event). about_of x ss max leases tickets) is
@@ -37,7 +37,8 @@ pub about_number : (e : Event) (conn max : ℕ) (ss : List Standing) (leases tic
 about_number e conn max ss leases tickets (inl is) = ap (λ (x : Event). about_of x ss max leases tickets) is
 about_number e conn max ss leases tickets (inr (inl t)) = ap (λ (x : Event). about_of x ss max leases tickets) t.1
 about_number e conn max ss leases tickets (inr (inr (inl t))) = ap (λ (x : Event). about_of x ss max leases tickets) t.1
-about_number e conn max ss leases tickets (inr (inr (inr is))) = ap (λ (x : Event). about_of x ss max leases tickets) is
+about_number e conn max ss leases tickets (inr (inr (inr (inl is)))) = ap (λ (x : Event). about_of x ss max leases tickets) is
+about_number e conn max ss leases tickets (inr (inr (inr (inr is)))) = ap (λ (x : Event). about_of x ss max leases tickets) is
 
 -- There are as many standings as links.
 pub many_standings : {E S : Type 0} (player : Player E S) → length (map standing_of (all_of player)) ≡ length player.links.items

@@ -4,7 +4,7 @@ use Rattle.std.proofs.Common.{◌≡◌, ◌∙◌, ◌⊎◌, inl, inr, ℕ, Bo
 use Rattle.std.specs.Prelude.{IsSome, option_map}
 use Rattle.tds_client.specs.Sending.{cancelled}
 use Rattle.tds_client.specs.Session.{ClientSession, Stage, Idle, Sending, Reading, Cancelling, Broken}
-use Rattle.tds_pool.specs.Calls.{Returned, abandoned, all_numbers, given_back, is_broken, is_draining, is_kept_for, is_lent_for, kept_for, lent_to, only, put_back, rested, rests_at, session_behind, standing}
+use Rattle.tds_pool.specs.Calls.{Returned, abandoned, all_numbers, given_back, is_broken, is_draining, is_held, is_kept_for, is_lent_for, kept_for, lent_to, only, put_back, rested, rests_at, session_behind, standing}
 use Rattle.tds_pool.specs.Calls as calls
 use Rattle.tds_pool.specs.Connections.{Connection, changed, ended_at, next_turn, numbered, taken_out, with_client}
 use Rattle.tds_pool.specs.declared.answers.GivenBack.{GivenBack}
@@ -188,14 +188,14 @@ pub record IsClosed (n : ℕ) (cs : List Connection) (c : Connection) (r : Retur
   pub broken : is_broken c.client.stage ≡ true
   pub connections : r.connections ≡ taken_out n cs
 
--- Else it stands where it stood, or was draining.
+-- Else it stands where it stood, or nobody held it.
 pub record IsMoved (n : ℕ) (cs : List Connection) (c : Connection) (r : Returned) : Type 0 where
   pub others : SameBut n cs r.connections
   pub numbers : all_numbers r.connections ≡ all_numbers cs
   pub place : Place
   pub turn : Turn
   pub here : numbered n r.connections ≡ Some (record c { place = place; turn = turn })
-  pub from : ((turn ≡ c.turn) × (place ≡ c.place)) ⊎ (c.place ≡ places.Draining)
+  pub from : ((turn ≡ c.turn) × (place ≡ c.place)) ⊎ (is_held c.place ≡ false)
 
 draining_is : (p : Place) → is_draining p ≡ true → p ≡ places.Draining
 draining_is places.Leased e = absurd (cc)
@@ -211,10 +211,10 @@ moved_to n cs c p a found drains = record {
   place = p;
   turn = next_turn c.turn;
   here = changed_here n (ends p) cs (λ d. refl) ∙ ap (option_map (ends p)) found;
-  from = inr drains;
+  from = inr (ap is_held drains);
 }
 
-stays_there : (n : ℕ) (cs : List Connection) (c : Connection) (a : GivenBack) → numbered n cs ≡ Some c → IsMoved n cs c (record { answer = a; connections = cs })
+pub stays_there : (n : ℕ) (cs : List Connection) (c : Connection) (a : GivenBack) → numbered n cs ≡ Some c → IsMoved n cs c (record { answer = a; connections = cs })
 stays_there n cs c a found = record {
   others = λ m other. refl;
   numbers = refl;

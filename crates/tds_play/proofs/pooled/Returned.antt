@@ -5,7 +5,7 @@ use Rattle.std.specs.Prelude.{is_none, option_map}
 use Rattle.tds_client.specs.Session.{ClientSession, Stage, Idle, Broken, unless_idle}
 use Rattle.tds_client.specs.Sending.{cancelled}
 use Rattle.tds_ends.specs.Stands.{MatchesClient, stage_by, stage_in}
-use Rattle.tds_pool.specs.Calls.{Returned, abandoned, all_numbers, given_back, is_broken, is_draining, is_idle, kept_for, lent_to, only, put_back, rested, rests_at, session_behind}
+use Rattle.tds_pool.specs.Calls.{Returned, abandoned, all_numbers, given_back, is_broken, is_cleaning, is_draining, is_idle, kept_for, lent_to, only, put_back, rested, rests_at, session_behind}
 use Rattle.tds_pool.specs.Calls as calls
 use Rattle.tds_pool.specs.declared.answers.GivenBack.{GivenBack}
 use Rattle.tds_pool.specs.declared.answers.GivenBack.TheVariants as given
@@ -94,8 +94,8 @@ drained_not n pcs c found stands =
     ∙ ap (λ (b : Bool). put_back (cond b (Some c) None) pcs) stands
 
 -- Its seat then, where it drained or not.
-pub seat_drained : (n holder : ℕ) (pcs : List Connection) (c : Connection) → numbered n pcs ≡ Some c → is_broken c.client.stage ≡ false → seat_by holder (numbered n (calls.drained n pcs).connections) ≡ seats.drained (seat_by holder (Some c))
-seat_drained n holder pcs c found sound = by_place c.place refl
+pub seat_drained : (n holder : ℕ) (pcs : List Connection) (c : Connection) → numbered n pcs ≡ Some c → is_cleaning c.place ≡ false → is_broken c.client.stage ≡ false → seat_by holder (numbered n (calls.drained n pcs).connections) ≡ seats.drained (seat_by holder (Some c))
+seat_drained n holder pcs c found other sound = by_place c.place refl
   where
     stays : (p : Place) → c.place ≡ p → is_draining p ≡ false → seat_by holder (numbered n (calls.drained n pcs).connections) ≡ seat_by holder (Some c)
     stays p is not_draining =
@@ -129,11 +129,7 @@ seat_drained n holder pcs c found sound = by_place c.place refl
         free : (b : Bool) → seat_by holder (Some (record c { place = Free })) ≡ seats.placed_at (seats.drained_at b (seat_by holder (Some (record c { place = Free }))).place) (seat_by holder (Some (record c { place = Free })))
         free true = refl
         free false = refl
-    by_place Cleaning is = as_it_is Cleaning is refl (cleaning (is_none (unless_idle c.client.stage)))
-      where
-        cleaning : (b : Bool) → seat_by holder (Some (record c { place = Cleaning })) ≡ seats.placed_at (seats.drained_at b (seat_by holder (Some (record c { place = Cleaning }))).place) (seat_by holder (Some (record c { place = Cleaning })))
-        cleaning true = refl
-        cleaning false = refl
+    by_place Cleaning is = let bad : true ≡ false = sym (ap is_cleaning is) ∙ other in absurd (cc)
     by_place Draining is =
         ap (λ (r : Returned). seat_by holder (numbered n r.connections)) (drained_is n pcs c found is sound)
         ∙ ap (seat_by holder) (changed_here n (ends (rest_place (is_idle c.client.stage))) pcs (λ d. refl) ∙ ap (option_map (ends (rest_place (is_idle c.client.stage)))) found)

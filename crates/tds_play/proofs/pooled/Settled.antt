@@ -2,14 +2,15 @@
 use Rattle.std.proofs.Common.{◌≡◌, ◌≢◌, ◌∙◌, ◌⊎◌, inl, inr, ℕ, Bool, true, false, not, List, Option, Some, None, refl, sym, ap, subst, cond}
 use Rattle.std.specs.Prelude.{IsSome, option_map}
 use Rattle.tds_client.specs.Session.{ClientSession}
-use Rattle.tds_pool.specs.Calls.{Returned, all_numbers, is_broken, is_cleaning, only}
+use Rattle.tds_pool.specs.Calls.{Returned, all_numbers, is_broken, is_cleaning, is_held, only}
 use Rattle.tds_pool.specs.Cleaning.{carried}
 use Rattle.tds_pool.specs.Connections.{Connection, PoolState, SameRest, connections, numbered, taken_out, with_client}
 use Rattle.tds_pool.specs.declared.answers.GivenBack.{GivenBack}
 use Rattle.tds_pool.specs.declared.answers.GivenBack.TheVariants as given
 use Rattle.tds_pool.specs.declared.lease.Turn.{Turn}
-use Rattle.tds_pool.specs.declared.seat.Place.TheVariants.{Draining}
-use Rattle.tds_play.specs.Plays.{RepresentsConnection}
+use Rattle.tds_play.specs.Plays.{RefinesAct, RepresentsConnection, after, cut_where}
+use Rattle.tds_play.specs.declared.link.EventDone.{EventDone}
+use Rattle.tds_world.specs.Pool.{Acted}
 use Rattle.tds_play.specs.Pipe.{Pipe, traffic}
 use Rattle.tds_play.specs.Reads.{BringsBy, IsReading, ReadsNoMore, ReadsOn, delivers, given_by}
 use Rattle.tds_ends.specs.AllBytes.{ClientHasRead, new_reader}
@@ -75,9 +76,9 @@ moved_changes n cut old new c r lives found moved shown rest = record {
     then : Connection
     then = record c { place = moved.place; turn = moved.turn }
 
-    stayed : ((moved.turn ≡ c.turn) × (moved.place ≡ c.place)) ⊎ (c.place ≡ Draining) → StaysAs c then
+    stayed : ((moved.turn ≡ c.turn) × (moved.place ≡ c.place)) ⊎ (is_held c.place ≡ false) → StaysAs c then
     stayed (inl (turn, place)) = inl (ap (λ (t : Turn). stamp_of (record c { turn = t })) turn, place)
-    stayed (inr drains) = inr drains
+    stayed (inr unheld) = inr unheld
 
     as_it : (a b : Connection) → c ≡ a → then ≡ b → StaysAs a b
     as_it a b first last =
@@ -211,3 +212,14 @@ lent_there n pcs s lent = by (carried n pcs) lent where
   by : (o : Option Connection) → Some s ≡ option_map (λ (d : Connection). d.client) o → IsSome o
   by None e = absurd (cc)
   by (Some c) e = refl
+
+-- Its seat means nothing where it is cut.
+pub reseats : {E S : Type 0} (number size : ℕ) (engine : E) (done : EventDone) (link : Link E S) (seat then : Seat) (pipe : Option Pipe) (acted : Acted) (c : model.Connection) → (link.is_cut ≡ false → then ≡ seat) → RefinesAct number size engine done link seat pipe acted c → RefinesAct number size engine done link then pipe acted c
+reseats {E} {S} number size engine done link seat then pipe acted c same h = record { outcome = h.outcome; played = by link.is_cut refl }
+  where
+    d : model.Connection
+    d = cut_where done.lost (after acted c)
+
+    by : (b : Bool) → link.is_cut ≡ b → RepresentsConnection number size engine link then pipe d
+    by true cut = cut_seat number size engine link seat then pipe d cut h.played
+    by false lives = subst (λ (x : Seat). RepresentsConnection number size engine link x pipe d) (sym (same lives)) h.played

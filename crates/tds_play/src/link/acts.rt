@@ -1,5 +1,5 @@
 //! What each event does on its connection.
-ghost use Rattle.std.specs.Prelude.{[], ◌∷◌, ◌≡◌, ◌≤◌, ◌-◌, ℕ, true, false, Option, Some, Ok, IfOk, OnOk, ◌++◌};
+ghost use Rattle.std.specs.Prelude.{[], ◌∷◌, ◌≡◌, ◌≤◌, ◌-◌, ℕ, true, false, Option, Some, Ok, IfOk, IsSome, OnOk, ◌++◌};
 ghost use Rattle.tds_packet.specs.declared.kind.Direction.TheVariants.{ToClient, ToServer};
 ghost use Rattle.tds_play.specs.Failures.{FailsAs, HasNoFailure, Send, calls_of};
 ghost use Rattle.tds_play.specs.Links.{recounted};
@@ -9,7 +9,8 @@ ghost use Rattle.tds_play.specs.Plays.{RefinesAct, RepresentsConnection, MayLose
 ghost use Rattle.tds_ends.specs.ModelGives.{IsCountable, ModelGives};
 ghost use Rattle.tds_world.specs.Newest.{WorksOnNewest};
 ghost use Rattle.tds_world.specs.Steps.{EndsIfDue};
-ghost use Rattle.tds_play.specs.Seats.{Seat, IsOfEnds, placed_behind, seated};
+ghost use Rattle.tds_play.specs.Pooled.{ChangesClient};
+ghost use Rattle.tds_play.specs.Seats.{Seat, IsOfEnds, is_of_caller, placed_behind, seated};
 ghost use Rattle.tds_play.specs.Seen.{done_as};
 ghost use Rattle.tds_world.specs.declared.report.Place.{Place};
 ghost use Rattle.tds_world.specs.Arrivals.{works};
@@ -22,6 +23,8 @@ ghost use Rattle.tds_world.specs.declared.outcome.Outcome.TheVariants.{Refused};
 ghost use Rattle.tds_world.specs.declared.outcome.Outcome.TheVariants as outcome;
 ghost use Rattle.tds_world.specs.declared.event.Setup.{Setup};
 ghost use Rattle.tds_world.specs.World.{World, next_number};
+ghost use Rattle.tds_pool.specs.Cleaning.{carried, client_at};
+ghost use Rattle.tds_pool.specs.Connections.{connections, numbered};
 ghost use Rattle.tds_session.specs.Answer.{answer_of};
 ghost use Rattle.tds_play.specs.Pipe.{Pipe};
 ghost use Rattle.tds_play.specs.Reads.{IsReading, ReadsNoMore, ReadsOn};
@@ -34,6 +37,7 @@ use std::alloc::Global;
 use tds_client::Client;
 use tds_ends::laws::{asks_alike, idle_alike, sends_append, the_other_stays, works_alike};
 use tds_packet::Direction;
+use tds_pool::Pool;
 use tds_server::Worked;
 use tds_session::{Engine, Session};
 use tds_world::{AbandonOutcome, Event, GiveBackOutcome, Outcome, Refusal, WorkOutcome};
@@ -65,9 +69,11 @@ pub(crate) fn on_cut(event: &Event) -> EventDone
     match event {
         Event::GiveBack(_) => done(Outcome::GivenBack(GiveBackOutcome::Closed)),
         Event::Abandon(_) => done(Outcome::Abandoned(AbandonOutcome::Closed)),
-        Event::Work(_) | Event::ToServer(..) | Event::ToClient(..) | Event::Cut(_) => {
-            refused(Refusal::UnknownConnection)
-        }
+        Event::Work(_)
+        | Event::ToServer(..)
+        | Event::ToClient(..)
+        | Event::Cut(_)
+        | Event::Clean(_) => refused(Refusal::UnknownConnection),
         Event::Lease
         | Event::Resume(_)
         | Event::Keep(_)
@@ -90,20 +96,32 @@ fn as_outcome(worked: Worked) -> WorkOutcome
     }
 }
 
+/// Whether a caller asks, sends or cancels.
+fn is_of_caller(event: &Event) -> bool
+    ensures { result ≡ is_of_caller event.now }
+{
+    matches!(event, Event::Ask(..) | Event::Send(_) | Event::Cancel(_))
+}
+
 impl<E: Engine + Drop> Link<E> {
-    /// Does what this event does at the ends of its connection, whose client stands in the pool.
+    /// Does what this event does at the ends of its connection, whose client stands in the pool. What
+    /// a caller does, it does where the pool lends its client.
     pub(crate) fn act<C: Carrier>(
         &mut self,
         alloc: Global,
         carrier: &mut C,
-        client: &mut Client,
+        pool: &mut Pool,
         number: u32,
         event: &Event,
     ) -> Result<EventDone, NoMemory>
         requires ends { IsOfEnds event.now }
         requires live { self.old.is_cut ≡ false }
         requires tied { IsTied self.old (C.pipes carrier.old self.old.number) }
+        requires there { IsSome (numbered self.old.number (connections pool.old)) }
+        requires lent { is_of_caller event.now ≡ true
+            → IsSome (carried self.old.number (connections pool.old)) }
         ensures number { self.new.number ≡ self.old.number }
+        ensures client { OnOk result (ChangesClient self.old.number pool.old pool.new) }
         ensures ties { OnOk result (KeepsTies self.old.number self.new (C.pipes carrier.old)
             (C.pipes carrier.new) (C.tells carrier.old) (C.tells carrier.new)) }
         // Where the connection had no failure, one call of this event failed, or more, exactly where
@@ -115,12 +133,64 @@ impl<E: Engine + Drop> Link<E> {
         ensures loses { IfOk result (λ done. done.lost ≡ true → MayLose false event.now) }
         // Its ends read what comes, whatever it is.
         ensures reads { (size : ℕ)
+            → IsReading size self.old (client_at self.old.number (connections pool.old)).columns
+            (C.pipes carrier.old self.old.number)
+            → IfOk result (λ done. ReadsOn size event.now done.outcome self.new
+            (client_at self.old.number (connections pool.new)).columns
+            (C.pipes carrier.old self.old.number) (C.pipes carrier.new self.old.number)) }
+        // A connection that stands for one of the model, wherever it is in the pool, stands for what
+        // the event, as it was met, makes of it, cut where the carrier failed.
+        ensures refines { (setup : Setup) (w : World) (c : Connection) (engine : E) (p : Place)
+            → C.tells carrier.old
+            → RepresentsConnection self.old.number setup.packet_size engine self.old
+            (seated p (client_at self.old.number (connections pool.old)))
+            (C.pipes carrier.old self.old.number) c
+            → ModelGives E (answer_of (E.statements_of engine)
+            (E.step_of engine)) setup.packet_size c
+            → ((k : ℕ) → IsCountable (after (acts_on setup
+            (answer_of (E.statements_of engine) (E.step_of engine)) w
+            (bringing k event.now) self.old.number c) c))
+            → number ≡ next_number w.asked_on
+            → IfOk result (λ done. RefinesAct self.old.number setup.packet_size engine done self.new
+            (seated (placed_behind event.now (client_at self.old.number (connections pool.new)) p)
+            (client_at self.old.number (connections pool.new)))
+            (C.pipes carrier.new self.old.number)
+            (acts_on setup (answer_of (E.statements_of engine) (E.step_of engine)) w
+            (met (loss_of done) event.now) self.old.number c) c) }
+    {
+        if is_of_caller(event) {
+            let Some(client) = pool.at(self.number) else {
+                unreachable!()
+            };
+            return self.act_by_caller(alloc, carrier, client, number, event);
+        }
+        self.act_alone(alloc, carrier, pool, event)
+    }
+
+    /// Asks, sends or cancels, with its client.
+    fn act_by_caller<C: Carrier>(
+        &mut self,
+        alloc: Global,
+        carrier: &mut C,
+        client: &mut Client,
+        number: u32,
+        event: &Event,
+    ) -> Result<EventDone, NoMemory>
+        requires by { is_of_caller event.now ≡ true }
+        requires live { self.old.is_cut ≡ false }
+        requires tied { IsTied self.old (C.pipes carrier.old self.old.number) }
+        ensures number { self.new.number ≡ self.old.number }
+        ensures ties { OnOk result (KeepsTies self.old.number self.new (C.pipes carrier.old)
+            (C.pipes carrier.new) (C.tells carrier.old) (C.tells carrier.new)) }
+        ensures failed { HasNoFailure (C.pipes carrier.old self.old.number)
+            → IfOk result (λ done. FailsAs (calls_of event.now) done self.new
+            (C.pipes carrier.new self.old.number)) }
+        ensures loses { IfOk result (λ done. done.lost ≡ true → MayLose false event.now) }
+        ensures reads { (size : ℕ)
             → IsReading size self.old client.old.columns (C.pipes carrier.old self.old.number)
             → IfOk result (λ done. ReadsOn size event.now done.outcome self.new
             client.new.columns (C.pipes carrier.old self.old.number)
             (C.pipes carrier.new self.old.number)) }
-        // A connection that stands for one of the model, wherever it is in the pool, stands for what
-        // the event, as it was met, makes of it, cut where the carrier failed.
         ensures refines { (setup : Setup) (w : World) (c : Connection) (engine : E) (p : Place)
             → C.tells carrier.old
             → RepresentsConnection self.old.number setup.packet_size engine self.old
@@ -144,9 +214,69 @@ impl<E: Engine + Drop> Link<E> {
             Event::Ask(lease, request) => self.ask(alloc, client, number, *lease, request),
             Event::Send(_) => self.send(alloc, carrier, client),
             Event::Cancel(_) => self.cancel(alloc, carrier, client),
+            Event::Lease
+            | Event::Resume(_)
+            | Event::GiveBack(_)
+            | Event::Keep(_)
+            | Event::Abandon(_)
+            | Event::Clean(_)
+            | Event::Work(_)
+            | Event::ToServer(..)
+            | Event::ToClient(..)
+            | Event::Cut(_)
+            | Event::RestartServer
+            | Event::RestartClient => unreachable!(),
+        }
+    }
+
+    /// The server works, bytes come, or the connection is cut.
+    fn act_alone<C: Carrier>(
+        &mut self,
+        alloc: Global,
+        carrier: &mut C,
+        pool: &mut Pool,
+        event: &Event,
+    ) -> Result<EventDone, NoMemory>
+        requires ends { IsOfEnds event.now }
+        requires alone { is_of_caller event.now ≡ false }
+        requires live { self.old.is_cut ≡ false }
+        requires tied { IsTied self.old (C.pipes carrier.old self.old.number) }
+        requires there { IsSome (numbered self.old.number (connections pool.old)) }
+        ensures number { self.new.number ≡ self.old.number }
+        ensures client { OnOk result (ChangesClient self.old.number pool.old pool.new) }
+        ensures ties { OnOk result (KeepsTies self.old.number self.new (C.pipes carrier.old)
+            (C.pipes carrier.new) (C.tells carrier.old) (C.tells carrier.new)) }
+        ensures failed { HasNoFailure (C.pipes carrier.old self.old.number)
+            → IfOk result (λ done. FailsAs (calls_of event.now) done self.new
+            (C.pipes carrier.new self.old.number)) }
+        ensures loses { IfOk result (λ done. done.lost ≡ true → MayLose false event.now) }
+        ensures reads { (size : ℕ)
+            → IsReading size self.old (client_at self.old.number (connections pool.old)).columns
+            (C.pipes carrier.old self.old.number)
+            → IfOk result (λ done. ReadsOn size event.now done.outcome self.new
+            (client_at self.old.number (connections pool.new)).columns
+            (C.pipes carrier.old self.old.number) (C.pipes carrier.new self.old.number)) }
+        ensures refines { (setup : Setup) (w : World) (c : Connection) (engine : E) (p : Place)
+            → C.tells carrier.old
+            → RepresentsConnection self.old.number setup.packet_size engine self.old
+            (seated p (client_at self.old.number (connections pool.old)))
+            (C.pipes carrier.old self.old.number) c
+            → ModelGives E (answer_of (E.statements_of engine)
+            (E.step_of engine)) setup.packet_size c
+            → ((k : ℕ) → IsCountable (after (acts_on setup
+            (answer_of (E.statements_of engine) (E.step_of engine)) w
+            (bringing k event.now) self.old.number c) c))
+            → IfOk result (λ done. RefinesAct self.old.number setup.packet_size engine done self.new
+            (seated (placed_behind event.now (client_at self.old.number (connections pool.new)) p)
+            (client_at self.old.number (connections pool.new)))
+            (C.pipes carrier.new self.old.number)
+            (acts_on setup (answer_of (E.statements_of engine) (E.step_of engine)) w
+            (met (loss_of done) event.now) self.old.number c) c) }
+    {
+        match event {
             Event::Work(_) => self.work(alloc, carrier),
             Event::ToServer(_, most) => self.deliver_to_server(alloc, carrier, *most),
-            Event::ToClient(_, most) => self.deliver_to_client(alloc, carrier, client, *most),
+            Event::ToClient(_, most) => self.deliver_to_client(alloc, carrier, pool, *most),
             Event::Cut(_) => {
                 self.cut(carrier);
                 Ok(done(Outcome::Cut))
@@ -156,6 +286,10 @@ impl<E: Engine + Drop> Link<E> {
             | Event::GiveBack(_)
             | Event::Keep(_)
             | Event::Abandon(_)
+            | Event::Clean(_)
+            | Event::Ask(..)
+            | Event::Send(_)
+            | Event::Cancel(_)
             | Event::RestartServer
             | Event::RestartClient => unreachable!(),
         }

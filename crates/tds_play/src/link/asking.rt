@@ -120,7 +120,7 @@ impl<E: Engine + Drop> Link<E> {
     }
 
     /// The newest request is put by those before it.
-    fn retire_newest(&mut self) -> Result<(), NoMemory>
+    pub(super) fn retire_newest(&mut self) -> Result<(), NoMemory>
         ensures value { OnOk result (IsRetired self.old self.new) }
         ensures number { self.new.number ≡ self.old.number }
         ensures tied { (pipe : Option Pipe) → IsTied self.old pipe → IsTied self.new pipe }

@@ -1,5 +1,5 @@
 //! What a delivery does on its connection.
-ghost use Rattle.std.specs.Prelude.{[], ◌∷◌, ◌≡◌, ◌≤◌, ◌||◌, ◌++◌, ℕ, List, false, min, None, Option, Some, IfOk, OnOk};
+ghost use Rattle.std.specs.Prelude.{[], ◌∷◌, ◌≡◌, ◌≤◌, ◌||◌, ◌++◌, ℕ, List, false, min, None, Option, Some, IfOk, IsSome, OnOk};
 ghost use Rattle.tds_packet.specs.declared.kind.Direction.TheVariants.{ToClient, ToServer};
 ghost use Rattle.tds_play.specs.Failures.{Carry, FailsAs, HasNoFailure, Send};
 ghost use Rattle.tds_play.specs.Between.{RepresentsEnds};
@@ -15,6 +15,9 @@ ghost use Rattle.tds_ends.specs.AllBytes.{ClientHasRead, new_reader};
 ghost use Rattle.tds_play.specs.Reads.{ClientIsFed, IsReading, ReadsOn, given_by};
 ghost use Rattle.tds_world.specs.declared.event.Event.TheVariants as event;
 ghost use Rattle.tds_play.specs.Ties.{IsTied, KeepsTies};
+ghost use Rattle.tds_play.specs.Pooled.{ChangesClient};
+ghost use Rattle.tds_pool.specs.Cleaning.{client_at};
+ghost use Rattle.tds_pool.specs.Connections.{connections, numbered};
 ghost use Rattle.tds_session.specs.Answer.{Answers, answer_of};
 ghost use Rattle.tds_world.specs.Arrivals.{to_client, to_server};
 ghost use Rattle.tds_world.specs.Connection.{Connection, down_underway, up_underway};
@@ -26,10 +29,10 @@ use crate::NoMemory;
 use crate::carrier::Carrier;
 use crate::feeding::{Heard, feed_client, feed_server};
 use std::alloc::Global;
-use tds_client::Client;
 use tds_ends::all_bytes::{given_are_told, no_fault_is_read};
 use tds_ends::laws::{idle_alike, listens_alike, pool_is_unseen, serves_alike, the_other_stays};
 use tds_packet::Direction;
+use tds_pool::Pool;
 use tds_session::Engine;
 use tds_world::Outcome;
 
@@ -104,16 +107,19 @@ impl<E: Engine + Drop> Link<E> {
         }
     }
 
-    /// Bytes come to the client, which tells their tokens to the newest request's caller.
+    /// Bytes come to the client, wherever that stands in the pool, and it tells their tokens to the
+    /// newest request's caller.
     pub(crate) fn deliver_to_client<C: Carrier>(
         &mut self,
         alloc: Global,
         carrier: &mut C,
-        client: &mut Client,
+        pool: &mut Pool,
         most: u32,
     ) -> Result<EventDone, NoMemory>
         requires live { self.old.is_cut ≡ false }
         requires tied { IsTied self.old (C.pipes carrier.old self.old.number) }
+        requires there { IsSome (numbered self.old.number (connections pool.old)) }
+        ensures client { OnOk result (ChangesClient self.old.number pool.old pool.new) }
         ensures number { self.new.number ≡ self.old.number }
         ensures ties { OnOk result (KeepsTies self.old.number self.new (C.pipes carrier.old)
             (C.pipes carrier.new) (C.tells carrier.old) (C.tells carrier.new)) }
@@ -122,18 +128,20 @@ impl<E: Engine + Drop> Link<E> {
             (C.pipes carrier.new self.old.number)) }
         // The client reads what comes, whatever it is.
         ensures reads { (size n : ℕ)
-            → IsReading size self.old client.old.columns (C.pipes carrier.old self.old.number)
+            → IsReading size self.old (client_at self.old.number (connections pool.old)).columns
+            (C.pipes carrier.old self.old.number)
             → IfOk result (λ done. ReadsOn size (event.ToClient n most) done.outcome self.new
-            client.new.columns (C.pipes carrier.old self.old.number)
-            (C.pipes carrier.new self.old.number)) }
+            (client_at self.old.number (connections pool.new)).columns
+            (C.pipes carrier.old self.old.number) (C.pipes carrier.new self.old.number)) }
         ensures refines { (answers : Answers) (size : ℕ) (engine : E) (p : Place) (c : Connection)
             → C.tells carrier.old
-            → RepresentsConnection self.old.number size engine self.old (seated p client.old)
+            → RepresentsConnection self.old.number size engine self.old
+            (seated p (client_at self.old.number (connections pool.old)))
             (C.pipes carrier.old self.old.number) c
             → ModelGives E answers size c
             → IfOk result (λ done. RefinesAct self.old.number size engine done self.new
-            (drained (seated p client.new)) (C.pipes carrier.new self.old.number)
-            (delivers_down (count_of done most) c) c) }
+            (drained (seated p (client_at self.old.number (connections pool.new))))
+            (C.pipes carrier.new self.old.number) (delivers_down (count_of done most) c) c) }
     {
         listens_alike();
         no_fault_is_read();
@@ -141,10 +149,11 @@ impl<E: Engine + Drop> Link<E> {
         idle_alike();
         pool_is_unseen::<E>();
         the_other_stays::<E>();
+        let number = self.number;
         let count = at_most(self.to_client, most);
         let mut piece = Vec::new(alloc);
         let carried = self.carry(carrier, Direction::ToClient, count, &mut piece)?;
-        let heard = self.hear(alloc, client, piece.as_slice())?;
+        let heard = self.hear(alloc, pool, number, piece.as_slice())?;
         if let Some(fault) = heard.fault {
             return Ok(self.end_by_fault(carrier, fault, carried.lost));
         }
@@ -152,8 +161,16 @@ impl<E: Engine + Drop> Link<E> {
     }
 
     /// The client takes what came, for the newest request.
-    fn hear(&mut self, alloc: Global, client: &mut Client, piece: &[u8]) -> Result<Heard, NoMemory>
-        requires { self.old.client_reader.direction ≡ ToClient }
+    fn hear(
+        &mut self,
+        alloc: Global,
+        pool: &mut Pool,
+        number: u32,
+        piece: &[u8],
+    ) -> Result<Heard, NoMemory>
+        requires reads { self.old.client_reader.direction ≡ ToClient }
+        requires there { IsSome (numbered number (connections pool.old)) }
+        ensures client { OnOk result (ChangesClient number pool.old pool.new) }
         ensures number { self.new.number ≡ self.old.number }
         ensures live { self.new.is_cut ≡ self.old.is_cut }
         ensures tied { (pipe : Option Pipe) → IsTied self.old pipe
@@ -161,25 +178,28 @@ impl<E: Engine + Drop> Link<E> {
         ensures server { OnOk result (self.new.server_reader ≡ self.old.server_reader) }
         ensures any { (size : ℕ) (bytes : List ℕ)
             → ClientHasRead (new_reader ToClient size) self.old.client_reader
-            client.old.columns bytes (given_by self.old)
-            → IfOk result (λ heard. ClientIsFed size self.new.client_reader client.new.columns
-            (bytes ++ piece.now) (given_by self.new) heard.fault) }
+            (client_at number (connections pool.old)).columns bytes (given_by self.old)
+            → IfOk result (λ heard. ClientIsFed size self.new.client_reader
+            (client_at number (connections pool.new)).columns (bytes ++ piece.now)
+            (given_by self.new) heard.fault) }
         // Where packets come that the client takes, it takes them in order, and tells what they say
         // to the newest request's caller.
         ensures heard { (packets : List Coming) (left : List ℕ) (then : Listened)
             → Comes self.old.client_reader (self.old.client_reader.taken ++ piece.now) packets left
-            → listened client.old None (told_in self.old.current) packets ≡ Some then
+            → listened (client_at number (connections pool.old)) None (told_in self.old.current)
+            packets ≡ Some then
             → IfOk result (λ heard. (heard.fault ≡ None)
-            × (client.new ≡ then.session) × HasListened then left self.old self.new) }
+            × (client_at number (connections pool.new) ≡ then.session)
+            × HasListened then left self.old self.new) }
     {
         match &mut self.current {
             None => {
                 let mut nobody = Vec::new(alloc);
-                feed_client(client, &mut self.client_reader, piece, &mut nobody)
+                feed_client(pool, number, &mut self.client_reader, piece, &mut nobody)
             }
             Some(record) => {
                 let told = &mut record.tokens;
-                let heard = feed_client(client, &mut self.client_reader, piece, told)?;
+                let heard = feed_client(pool, number, &mut self.client_reader, piece, told)?;
                 record.settle(heard.settled);
                 Ok(heard)
             }

@@ -50,6 +50,7 @@ impl<E: Engine + Copy> Player<E> {
             Event::GiveBack(lease) => self.give_back(carrier, place, *lease),
             Event::Keep(lease) => self.keep(place, *lease),
             Event::Abandon(ticket) => self.abandon(carrier, place, *ticket),
+            Event::Clean(conn) => self.clean(carrier, place, *conn),
             _ => self.act_on(carrier, place, event),
         }
     }
@@ -65,6 +66,8 @@ impl<E: Engine + Copy> Player<E> {
         requires held { AreHeld self.old }
         requires few { AreFew 9999 self.old }
         requires there { place < length self.old.links.items }
+        requires found { Here place ≡ about_of event.now (map standing_of (all_of self.old))
+            self.old.max (numbers_leased self.old.leases) (numbers_kept self.old.tickets) }
         requires ends { IsOfEnds event.now }
         ensures { IfOk result (λ done. StepsAt
             (λ engine. answer_of (E.statements_of engine) (E.step_of engine)) event.now place

@@ -21,6 +21,7 @@ pub(crate) fn put_outcome(text: &mut String, outcome: Outcome) -> Result<(), All
         Outcome::GivenBack(how) => write!(text, "given back {}", give_back_word_of(how)),
         Outcome::Kept(ticket) => write!(text, "kept {ticket}"),
         Outcome::Abandoned(how) => write!(text, "abandoned {}", abandon_word_of(how)),
+        Outcome::Cleaning { lease, request } => write!(text, "cleaning {request} lease {lease}"),
         Outcome::Asked(request) => write!(text, "asked {request}"),
         Outcome::Sent(how) => write!(text, "sent {}", send_word_of(how)),
         Outcome::Cancel(how) => write!(text, "cancel {}", cancel_word_of(how)),

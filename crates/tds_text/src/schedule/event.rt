@@ -3,7 +3,7 @@ ghost use Rattle.serde_json.specs.View.{view, items_view};
 ghost use Rattle.tds_text.specs.Events.{event_of, event_with};
 
 use crate::schedule::fields::{
-    alone, ended_lease, number_and_isolation, number_and_text, one_number, two_numbers,
+    alone, cleaned_one, ended_lease, number_and_isolation, number_and_text, one_number, two_numbers,
 };
 use crate::schedule::version::Version;
 use crate::schedule::word::Word;
@@ -46,6 +46,7 @@ fn event_behind(
         Word::GiveBack => Ok(one_number(fields).map(Event::GiveBack)),
         Word::Keep => Ok(one_number(fields).map(Event::Keep)),
         Word::Abandon => Ok(one_number(fields).map(Event::Abandon)),
+        Word::Clean => Ok(cleaned_one(version, fields).map(Event::Clean)),
         Word::Batch => Ok(number_and_text(alloc, fields)?.map(|(lease, text)| Event::Ask(
             lease,
             Request::Batch(text),

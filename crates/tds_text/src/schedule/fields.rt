@@ -3,6 +3,7 @@ ghost use Rattle.serde_json.specs.View.{view, items_view};
 ghost use Rattle.tds_text.specs.Fields.{alone as alone_of, one_field, pair_of, two_fields};
 ghost use Rattle.tds_text.specs.Fields.{number_below, number_of, isolation_of, units_of, such};
 ghost use Rattle.tds_text.specs.Fields.{is_batch, batch_of, ended_lease as ended_lease_of};
+ghost use Rattle.tds_text.specs.Fields.{cleaned_one as cleaned_one_of};
 
 use crate::schedule::version::Version;
 use serde_json::Value;
@@ -59,6 +60,16 @@ pub(crate) fn ended_lease(version: Version, fields: &[Value]) -> Option<(u32, Op
     }
     let (lease, isolation) = number_and_isolation(fields)?;
     Some((lease, Some(isolation)))
+}
+
+/// The connection that is cleaned, where the version has that.
+pub(crate) fn cleaned_one(version: Version, fields: &[Value]) -> Option<u32>
+    ensures { result ≡ cleaned_one_of version (items_view fields.now) }
+{
+    if !version.cleans() {
+        return None;
+    }
+    one_number(fields)
 }
 
 /// The two fields, a number and a batch's text.

@@ -1,5 +1,5 @@
 ghost use Rattle.std.specs.Prelude.{◌≡◌};
-ghost use Rattle.tds_text.specs.Versions.{keys_of, may_begin_anew, version_numbered};
+ghost use Rattle.tds_text.specs.Versions.{keys_of, may_begin_anew, may_clean, version_numbered};
 
 /// A version of schedule files.
 #[derive(Clone, Copy, Debug, PartialEq, Eq)]
@@ -9,6 +9,8 @@ pub(crate) enum Version {
     Two,
     /// The object says what an attention does to the transaction.
     Three,
+    /// A free connection may be cleaned.
+    Four,
 }
 
 impl Version {
@@ -20,6 +22,7 @@ impl Version {
             1 => Some(Version::One),
             2 => Some(Version::Two),
             3 => Some(Version::Three),
+            4 => Some(Version::Four),
             _ => None,
         }
     }
@@ -30,7 +33,7 @@ impl Version {
     {
         match self {
             Version::One | Version::Two => 4,
-            Version::Three => 5,
+            Version::Three | Version::Four => 5,
         }
     }
 
@@ -40,7 +43,17 @@ impl Version {
     {
         match self {
             Version::One => false,
-            Version::Two | Version::Three => true,
+            Version::Two | Version::Three | Version::Four => true,
+        }
+    }
+
+    /// Whether a free connection may be cleaned.
+    pub(crate) fn cleans(self) -> bool
+        ensures { result ≡ may_clean self }
+    {
+        match self {
+            Version::One | Version::Two | Version::Three => false,
+            Version::Four => true,
         }
     }
 }

@@ -18,7 +18,8 @@ impl Cursor {
 
     /// Begins the columns, behind their keys.
     pub fn begin_columns(&mut self, memory: &mut Memory)
-        ensures { walk_of self.new memory.new ≡ columns_begun self.old.at.inside (walk_of self.old memory.old) }
+        ensures { walk_of self.new memory.new ≡
+            columns_begun self.old.at.inside (walk_of self.old memory.old) }
     {
         match self.at.inside {
             Inside::Columns(left) => {
@@ -51,7 +52,8 @@ impl Cursor {
 
     #[tactic(auto, unfolding(crate::specs::Walking::columns_counted))]
     pub fn count_columns(&mut self, memory: &mut Memory, count: u16)
-        ensures { walk_of self.new memory.new ≡ columns_counted (walk_of self.old memory.old) count }
+        ensures { walk_of self.new memory.new ≡
+            columns_counted (walk_of self.old memory.old) count }
     {
         if count == 65_535 {
             self.end();
@@ -76,7 +78,8 @@ impl Cursor {
 
     /// Begins crypto metadata.
     fn begin_base(&mut self, memory: &mut Memory)
-        ensures { walk_of self.new memory.new ≡ based self.old.at.inside (walk_of self.old memory.old) }
+        ensures { walk_of self.new memory.new ≡
+            based self.old.at.inside (walk_of self.old memory.old) }
     {
         match self.at.inside {
             Inside::Columns(left) => {
@@ -145,7 +148,8 @@ impl Cursor {
 
     /// A type has been passed.
     pub fn describe(&mut self, memory: &mut Memory)
-        ensures { walk_of self.new memory.new ≡ described self.old.at.inside (walk_of self.old memory.old) }
+        ensures { walk_of self.new memory.new ≡
+            described self.old.at.inside (walk_of self.old memory.old) }
     {
         match self.at.inside {
             Inside::Columns(_) => self.end_column_type(memory),
@@ -159,7 +163,8 @@ impl Cursor {
 
     /// Crypto metadata have been passed.
     pub fn end_base(&mut self, memory: &mut Memory)
-        ensures { walk_of self.new memory.new ≡ ciphered self.old.at.inside (walk_of self.old memory.old) }
+        ensures { walk_of self.new memory.new ≡
+            ciphered self.old.at.inside (walk_of self.old memory.old) }
     {
         match self.at.inside {
             Inside::Columns(_) => self.end(),
@@ -193,7 +198,8 @@ impl Cursor {
 
     /// A column's name has been passed.
     pub fn end_name(&mut self, memory: &mut Memory)
-        ensures { walk_of self.new memory.new ≡ named self.old.at.inside (walk_of self.old memory.old) }
+        ensures { walk_of self.new memory.new ≡
+            named self.old.at.inside (walk_of self.old memory.old) }
     {
         match self.at.inside {
             Inside::Columns(left) => {

@@ -55,7 +55,8 @@ impl Cursor {
         requires due { self.old.at.due ≡ Run left next }
         ensures within { result ≤ length bytes.now }
         ensures moves { 0 < result }
-        ensures exact { onward (walk_of self.old memory.old) bytes.now ≡ to_end (walk_of self.new memory.new) (drop result bytes.now) }
+        ensures exact { onward (walk_of self.old memory.old) bytes.now ≡
+            to_end (walk_of self.new memory.new) (drop result bytes.now) }
     {
         if left > bytes.len() as u64 {
             self.expect_run(left - bytes.len() as u64, next);
@@ -72,7 +73,8 @@ impl Cursor {
         requires on { IsOn (walk_of self.old memory.old) }
         ensures within { result ≤ length bytes.now }
         ensures moves { 0 < result }
-        ensures exact { onward (walk_of self.old memory.old) bytes.now ≡ to_end (walk_of self.new memory.new) (drop result bytes.now) }
+        ensures exact { onward (walk_of self.old memory.old) bytes.now ≡
+            to_end (walk_of self.new memory.new) (drop result bytes.now) }
     {
         if let Due::Run { left, next } = self.at.due {
             return self.pass_run(memory, left, next, bytes);
@@ -84,8 +86,10 @@ impl Cursor {
     /// Passes a piece that ends inside a run of bytes. Whether it does.
     #[inline(always)]
     fn pass_middle(&mut self, memory: &mut Memory, piece: &[u8]) -> bool
-        ensures inside { result ≡ true → onward (walk_of self.old memory.old) piece.now ≡ Within (walk_of self.new memory.new) }
-        ensures other { result ≡ false → walk_of self.new memory.new ≡ (walk_of self.old memory.old) }
+        ensures inside { result ≡
+            true → onward (walk_of self.old memory.old) piece.now ≡ Within (walk_of self.new memory.new) }
+        ensures other { result ≡
+            false → walk_of self.new memory.new ≡ (walk_of self.old memory.old) }
     {
         if let Due::Run { left, next } = self.at.due {
             if left > piece.len() as u64 {
@@ -102,7 +106,8 @@ impl Cursor {
         ensures within { IsWithin result (length piece.now) }
         ensures moves { Moves result (length piece.now) }
         ensures ends { EndsBetween result (walk_of self.new memory.new) }
-        ensures exact { went_of result (walk_of self.new memory.new) piece.now ≡ onward (walk_of self.old memory.old) piece.now }
+        ensures exact { went_of result (walk_of self.new memory.new) piece.now ≡
+            onward (walk_of self.old memory.old) piece.now }
     {
         if self.pass_middle(memory, piece) {
             Step::Within
@@ -117,7 +122,8 @@ impl Cursor {
         ensures within { IsWithin result (length piece.now) }
         ensures moves { Moves result (length piece.now) }
         ensures ends { EndsBetween result (walk_of self.new memory.new) }
-        ensures exact { went_of result (walk_of self.new memory.new) piece.now ≡ onward (walk_of self.old memory.old) piece.now }
+        ensures exact { went_of result (walk_of self.new memory.new) piece.now ≡
+            onward (walk_of self.old memory.old) piece.now }
     {
         if let Standing::Failing(fault) = self.standing(memory) {
             return Step::Failed(fault, 0);

@@ -27,7 +27,8 @@ fn is_ciphered(features: Features, flags: u32) -> bool
 impl Cursor {
     /// Takes the type of an ENVCHANGE, behind which so many bytes are left.
     fn take_change(&mut self, memory: &mut Memory, number: u32, left: u16)
-        ensures { walk_of self.new memory.new ≡ arrive (walk_of self.old memory.old) (fields.Token (in_token.Change left)) number }
+        ensures { walk_of self.new memory.new ≡
+            arrive (walk_of self.old memory.old) (fields.Token (in_token.Change left)) number }
     {
         if number == 15 {
             self.expect(Field::Token(TokenField::PromotedLength));
@@ -38,7 +39,8 @@ impl Cursor {
 
     /// Takes the most bytes that a value of a type has.
     fn take_most(&mut self, memory: &mut Memory, number: u32, collated: bool)
-        ensures { walk_of self.new memory.new ≡ arrive (walk_of self.old memory.old) (fields.Type (in_type.MaxLength collated)) number }
+        ensures { walk_of self.new memory.new ≡
+            arrive (walk_of self.old memory.old) (fields.Type (in_type.MaxLength collated)) number }
     {
         self.at.shape = if number == 65_535 {
             Shape::Parts
@@ -50,7 +52,8 @@ impl Cursor {
 
     /// Takes a number of a token as a whole.
     fn arrive_in_token(&mut self, memory: &mut Memory, field: TokenField, number: u32)
-        ensures { walk_of self.new memory.new ≡ arrive (walk_of self.old memory.old) (fields.Token field) number }
+        ensures { walk_of self.new memory.new ≡
+            arrive (walk_of self.old memory.old) (fields.Token field) number }
     {
         let count = u64::from(number);
         let low_half = (number % 65_536) as u16;
@@ -89,7 +92,8 @@ impl Cursor {
 
     /// Takes a number of a key.
     fn arrive_in_key(&mut self, memory: &mut Memory, field: KeyField, number: u32)
-        ensures { walk_of self.new memory.new ≡ arrive (walk_of self.old memory.old) (fields.Key field) number }
+        ensures { walk_of self.new memory.new ≡
+            arrive (walk_of self.old memory.old) (fields.Key field) number }
     {
         let count = u64::from(number);
         let low_half = (number % 65_536) as u16;
@@ -132,7 +136,8 @@ impl Cursor {
 
     /// Takes a number of a column, a parameter or a row.
     fn arrive_in_column(&mut self, memory: &mut Memory, field: ColumnField, number: u32)
-        ensures { walk_of self.new memory.new ≡ arrive (walk_of self.old memory.old) (fields.Column field) number }
+        ensures { walk_of self.new memory.new ≡
+            arrive (walk_of self.old memory.old) (fields.Column field) number }
     {
         let count = u64::from(number);
         let low_byte = (number % 256) as u8;
@@ -169,7 +174,8 @@ impl Cursor {
 
     /// Takes a number of a type.
     fn arrive_in_type(&mut self, memory: &mut Memory, field: TypeField, number: u32)
-        ensures { walk_of self.new memory.new ≡ arrive (walk_of self.old memory.old) (fields.Type field) number }
+        ensures { walk_of self.new memory.new ≡
+            arrive (walk_of self.old memory.old) (fields.Type field) number }
     {
         let count = u64::from(number);
         match field {
@@ -214,7 +220,8 @@ impl Cursor {
 
     /// Takes a number of a value.
     fn arrive_in_value(&mut self, memory: &mut Memory, field: ValueField, number: u32)
-        ensures { walk_of self.new memory.new ≡ arrive (walk_of self.old memory.old) (fields.Value field) number }
+        ensures { walk_of self.new memory.new ≡
+            arrive (walk_of self.old memory.old) (fields.Value field) number }
     {
         let count = u64::from(number);
         match field {
@@ -250,7 +257,8 @@ impl Cursor {
 
     /// Takes a number of data classification.
     fn arrive_in_label(&mut self, memory: &mut Memory, field: LabelField, number: u32)
-        ensures { walk_of self.new memory.new ≡ arrive (walk_of self.old memory.old) (fields.Label field) number }
+        ensures { walk_of self.new memory.new ≡
+            arrive (walk_of self.old memory.old) (fields.Label field) number }
     {
         let count = u64::from(number);
         let low_half = (number % 65_536) as u16;
@@ -291,7 +299,8 @@ impl Cursor {
 
     /// Passes a value of so many bytes, unless it is null.
     fn pass_unless(&mut self, memory: &mut Memory, is_null: bool, count: u64)
-        ensures { walk_of self.new memory.new ≡ (if is_null then go (walk_of self.old memory.old) Valued else pass (walk_of self.old memory.old) count Valued) }
+        ensures { walk_of self.new memory.new ≡
+            (if is_null then go (walk_of self.old memory.old) Valued else pass (walk_of self.old memory.old) count Valued) }
     {
         if is_null {
             self.end_value(memory);

@@ -37,7 +37,8 @@ impl Cursor {
     /// Goes on in a row with the first column from this one on that has bytes.
     #[tactic(auto, unfolding(crate::specs::Walking::at_column))]
     fn go_in_row(&mut self, memory: &mut Memory, with_nulls: bool, first: u16)
-        ensures { walk_of self.new memory.new ≡ row_from with_nulls (walk_of self.old memory.old) first }
+        ensures { walk_of self.new memory.new ≡
+            row_from with_nulls (walk_of self.old memory.old) first }
     {
         let column = next_value(memory, with_nulls, first);
         if column < memory.count() {
@@ -54,7 +55,8 @@ impl Cursor {
 
     /// A value has been passed.
     pub fn end_value(&mut self, memory: &mut Memory)
-        ensures { walk_of self.new memory.new ≡ valued self.old.at.inside (walk_of self.old memory.old) }
+        ensures { walk_of self.new memory.new ≡
+            valued self.old.at.inside (walk_of self.old memory.old) }
     {
         match self.at.inside {
             Inside::Columns(_) => self.end(),
@@ -89,7 +91,8 @@ impl Cursor {
 
     #[tactic(auto, unfolding(crate::specs::Walking::nulls_taken))]
     fn take_nulls(&mut self, memory: &mut Memory, place: u16, byte: u8)
-        ensures { walk_of self.new memory.new ≡ nulls_taken (walk_of self.old memory.old) place byte }
+        ensures { walk_of self.new memory.new ≡
+            nulls_taken (walk_of self.old memory.old) place byte }
     {
         memory.keep_nulls(place, byte);
         if 8 * (usize::from(place) + 1) < usize::from(memory.count()) {
@@ -102,7 +105,8 @@ impl Cursor {
 
     /// Takes a byte of the null bitmap.
     pub fn take_null_byte(&mut self, memory: &mut Memory, byte: u8)
-        ensures { walk_of self.new memory.new ≡ null_byte self.old.at.inside (walk_of self.old memory.old) byte }
+        ensures { walk_of self.new memory.new ≡
+            null_byte self.old.at.inside (walk_of self.old memory.old) byte }
     {
         match self.at.inside {
             Inside::Columns(_) => self.end(),

@@ -39,7 +39,8 @@ impl Cursor {
 
     /// Takes the first byte of a token.
     pub fn take_kind(&mut self, memory: &mut Memory, byte: u8)
-        ensures { walk_of self.new memory.new ≡ begun (with_kind (walk_of self.old memory.old) byte) byte }
+        ensures { walk_of self.new memory.new ≡
+            begun (with_kind (walk_of self.old memory.old) byte) byte }
     {
         self.at.kind = byte;
         self.begin(memory, byte);

@@ -27,6 +27,7 @@ use Rattle.tds_world.proofs.events.Moves.{Free, KeptOver, by_moves_of}
 use Rattle.tds_world.proofs.events.Worlds.{always_such, each_follows}
 use Rattle.tds_world.proofs.requests.Cores.{Core, core_of, past_of, newest_of, SameCores, all_of, joined_cores, client_same, server_same, cancels_same_by, sends_same}
 use Rattle.tds_world.proofs.requests.Runs.{runs_in}
+use Rattle.tds_world.proofs.packets.Ranges.{cleaning_is_event}
 
 -- ---- What is left behind so many steps
 
@@ -184,4 +185,4 @@ pub all_fit : (setup : Setup) (answers : Answers) (events : List Event) → AllB
 all_fit setup answers events x =
     each_follows AllFit (λ c. AllByRecursion (λ (q : Record). Fits q.asking.request) (records c)) (world_after setup answers events new_world).connections
     (λ c h. of_records (records c) (all_cores c h))
-    (always_such AllFit IsEvent setup answers events (by_moves_of setup answers IsEvent (λ c ups downs. AllFit c) (fit_moves setup answers)) x)
+    (always_such AllFit IsEvent setup answers events (by_moves_of setup answers IsEvent (λ c ups downs. AllFit c) cleaning_is_event (fit_moves setup answers)) x)

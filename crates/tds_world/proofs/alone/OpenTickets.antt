@@ -9,10 +9,11 @@ use Rattle.tds_world.specs.declared.event.Event.{Event}
 use Rattle.tds_world.specs.declared.event.Event.TheVariants as event
 use Rattle.tds_world.specs.declared.event.Setup.{Setup}
 use Rattle.tds_world.specs.declared.outcome.Refusal.TheVariants as refusal
+use Rattle.tds_world.specs.Cleaning.{can_clean}
 use Rattle.tds_world.specs.Connection.{Connection, Standing, In, Cut, phase, is_idle, is_cut}
-use Rattle.tds_world.specs.Events.{about, acts, asks_by, sends_in, settles, happens_at, happens, world_after}
+use Rattle.tds_world.specs.Events.{about, acts, asks_by, cleans_by, sends_in, settles, happens_at, happens, world_after}
 use Rattle.tds_world.specs.Phase.{Phase, Asked, Sending}
-use Rattle.tds_world.specs.Pool.{gives_back_at, abandons_at, keeps_by, is_full}
+use Rattle.tds_world.specs.Pool.{is_free, gives_back_at, abandons_at, keeps_by, is_full}
 use Rattle.tds_world.specs.Record.{Record}
 use Rattle.tds_world.specs.World.{World, new_world, Holding, Found, Missing, Here, Opens, numbered, next_number, ended, ended_at, ended_numbered, held, not_cut, by_ticket, put_numbered}
 use Rattle.tds_world.proofs.events.Adds.{Extends, notes_add, restart_adds}
@@ -135,6 +136,11 @@ sent l n w Asked room None c a = a
 sent l n w Sending room None c a = a
 sent l n w p room current c a = a
 
+cleaned : (k n : ℕ) (w : World) (free can : Bool) (room lease number : ℕ) (c : Connection) → IsOpenIn w → IsOpenIn (settles (event.Clean k) n w (cleans_by free can room lease number n c)).1
+cleaned k n w false can room lease number c a = a
+cleaned k n w true false room lease number c a = a
+cleaned k n w true true room lease number c a = record { tickets = a.tickets; leases = and_last (λ (h : Holding). FromOpen w.tickets h.resumed) w.leases _ a.leases tt }
+
 acted : (setup : Setup) (answers : Answers) (w : World) (e : Event) (n : ℕ) (c : Connection) → about setup w e ≡ Here n c → IsOpenIn w → IsOpenIn (settles e n w (acts setup answers w e n c)).1
 acted setup answers w event.Lease n c i a = record { tickets = a.tickets; leases = and_last (λ (h : Holding). FromOpen w.tickets h.resumed) w.leases _ a.leases tt }
 acted setup answers w (event.Resume t) n c i a =
@@ -147,6 +153,8 @@ acted setup answers w (event.Resume t) n c i a =
 acted setup answers w (event.GiveBack l) n c i a = back l n w c.standing c a
 acted setup answers w (event.Keep l) n c i a = kept l n w (is_idle c) (c.heard == 0 || is_full c.mark) (next_number w.tickets) c refl a
 acted setup answers w (event.Abandon t) n c i a = abandoned t n w c.standing c a
+acted setup answers w (event.Clean k) n c i a =
+    cleaned k n w (is_free c.standing) (can_clean (setup.packet_size - 8) (next_number w.leases) (next_number w.asked_on) n c) (setup.packet_size - 8) (next_number w.leases) (next_number w.asked_on) c a
 acted setup answers w (event.Ask l q) n c i a = asked l n w (is_idle c) (next_number w.asked_on) q c a
 acted setup answers w (event.Send l) n c i a = sent l n w (phase c) (setup.packet_size - 8) c.current c a
 acted setup answers w e n c i a = a

@@ -3,7 +3,7 @@
 use Rattle.std.proofs.Common.{◌≡◌, ◌⊎◌, ◌≤◌, ◌<◌, ◌-◌, ◌+◌, ℕ, suc, List, [], ◌∷◌, ◌++◌, map, length, Bool, true, false, eqb, min, inl, inr, refl, sym, ap, subst, ◌∙◌, Option, Some, None, option_map, arith}
 use Rattle.std.proofs.lemmas.List.{length-append}
 use Rattle.std.specs.List.{AllByRecursion}
-use Rattle.std.specs.Prelude.{◌==◌, ◌||◌}
+use Rattle.std.specs.Prelude.{◌==◌, ◌||◌, ◌&&◌}
 use Rattle.tds_packet.specs.declared.status.Reset.{Reset}
 use Rattle.tds_request.specs.declared.request.Request.{Request}
 use Rattle.tds_session.specs.Answer as answer
@@ -14,13 +14,15 @@ use Rattle.tds_world.specs.declared.event.Event.TheVariants as event
 use Rattle.tds_world.specs.declared.event.Setup.{Setup}
 use Rattle.tds_world.specs.declared.report.Place.TheVariants as place
 use Rattle.tds_world.specs.Arrivals.{reach_client, works_on}
+use Rattle.tds_world.specs.Caller.{asks, sends_by, sends_last}
+use Rattle.tds_world.specs.Cleaning.{aside, clean_request, cleaning_record, cleans}
 use Rattle.tds_world.specs.Connection.{Connection, Standing, In, Cut, records, phase, is_idle, up_underway, down_underway}
 use Rattle.tds_world.specs.Entries.{Down, Step, Acknowledgement}
-use Rattle.tds_world.specs.Events.{acts, asks_by, sends_in, world_after}
+use Rattle.tds_world.specs.Events.{acts, asks_by, cleans_by, sends_in, world_after}
 use Rattle.tds_world.specs.Lawful.{Lawful}
 use Rattle.tds_world.specs.Laws.{Always, OfEachConnection}
 use Rattle.tds_world.specs.Phase.{phase_in, phase_of, is_settled}
-use Rattle.tds_world.specs.Pool.{Acted, Refuses, Does, gives_back_at, abandons_at, keeps_by, is_full}
+use Rattle.tds_world.specs.Pool.{Acted, Refuses, Does, is_free, gives_back_at, abandons_at, keeps_by, is_full}
 use Rattle.tds_world.specs.Record.{Record, runs, ran_in, if_numbered}
 use Rattle.tds_world.specs.World.{World, new_world, Holding, next_number, put_numbered}
 use Rattle.tds_world.proofs.events.Adds.{notes_add}
@@ -40,7 +42,7 @@ use Rattle.tds_world.proofs.requests.Numbers.{NumbersOf, all_below_next}
 use Rattle.tds_world.proofs.requests.OwnTransactions.{WellMarked, marked_kept, works_past}
 use Rattle.tds_world.proofs.requests.Ready.{NoneRan, cores}
 use Rattle.tds_world.proofs.requests.Runs.{FirstStep, first_step}
-use Rattle.tds_world.proofs.alone.Tenants.{IsRan, Behind, InTurn, WithReset, HasReset, Cleared, HolderOf, Tenant, TenantOf, all_at_most, tenant_grows, more_leases, no_tenant, cancels_tenant, back, abandoned, kept, sent, cleared_more, tenant_then, reach_server_tenant, reach_client_tenant, drained_tenant}
+use Rattle.tds_world.proofs.alone.Tenants.{IsRan, Behind, InTurn, WithReset, HasReset, Cleared, HolderOf, Tenant, TenantOf, all_at_most, tenant_grows, more_leases, no_tenant, cancels_tenant, back, abandoned, kept, sent, sends_tenant, cleared_more, tenant_then, reach_server_tenant, reach_client_tenant, drained_tenant}
 
 -- ---- The server works
 
@@ -202,6 +204,20 @@ lent k m xs s mark new downs l h = record {
 one_longer : (hs : List Holding) (x : Holding) → suc (length hs) ≤ length (hs ++ x ∷ [])
 one_longer hs x = rw (length-append hs (x ∷ [])) (omega arith)
 
+-- ---- A connection is cleaned
+
+-- It is lent, asked and given back: nobody has it then.
+cleans_tenant : (room n : ℕ) (hs : List Holding) (ns : List ℕ) (c : Connection) → is_idle c ≡ true → Sound c → NumbersOf (length ns) (past_of c) (newest_of c) → TenantOf (length hs) c → TenantOf (suc (length hs)) (cleans room (next_number hs) (next_number ns) n c)
+cleans_tenant room n hs ns c i f m h =
+    let l : ℕ = next_number hs in
+    let mark : Option Reset = (aside c).mark in
+    let b : Connection = record c { mark = mark; standing = In (place.Leased l) } in
+    let g : TenantOf l b = lent (length hs) l (cores c) c.standing c.mark mark c.to_client.waiting (same_most l) h in
+    let d : Connection = asks (next_number ns) l n clean_request b in
+    let j : TenantOf l d = asked l true ns l n clean_request b i refl f m g in
+    let e : Connection = sends_by true room (cleaning_record l (next_number ns) n c) d in
+    no_tenant l e (In place.Draining) (λ k xs mark downs. tt) (sends_tenant l true room (cleaning_record l (next_number ns) n c) d refl j)
+
 -- ---- Each act
 
 abbrev TenantIn : World → Connection → Type 0
@@ -213,6 +229,15 @@ noted w e n (Does what d) h =
     tenant_grows (length w.leases) (length (world_with e n w d).leases) d d.to_client.waiting
     (more_leases w.leases (world_with e n w d).leases (notes_add e n d.heard w (put_numbered n d w.connections)).leases) h
 
+cleaned : (w : World) (i n room : ℕ) (free idle last : Bool) (c : Connection) → is_idle c ≡ idle → Sound c → NumbersOf (length w.asked_on) (past_of c) (newest_of c) → TenantIn w c → OfActed (λ d. TenantIn (world_with (event.Clean i) n w d) d) (cleans_by free (idle && last) room (next_number w.leases) (next_number w.asked_on) n c)
+cleaned w i n room false idle last c e f m h = tt
+cleaned w i n room true false last c e f m h = tt
+cleaned w i n room true true false c e f m h = tt
+cleaned w i n room true true true c e f m h =
+    let d : Connection = cleans room (next_number w.leases) (next_number w.asked_on) n c in
+    tenant_grows (suc (length w.leases)) (length (world_with (event.Clean i) n w d).leases) d d.to_client.waiting (one_longer w.leases _)
+    (cleans_tenant room n w.leases w.asked_on c e f m h)
+
 acted : (setup : Setup) (answers : Answers) (w : World) (e : Event) (n : ℕ) (c : Connection) → Lawful answers → StandsFor e c.standing → WellMarked answers w c → TenantIn w c → OfActed (λ d. TenantIn (world_with e n w d) d) (acts setup answers w e n c)
 acted setup answers w event.Lease n c l s f h = lent (length w.leases) _ (cores c) c.standing c.mark _ c.to_client.waiting (one_longer w.leases _) h
 acted setup answers w (event.Resume t) n c l s f h = lent (length w.leases) _ (cores c) c.standing c.mark _ c.to_client.waiting (one_longer w.leases _) h
@@ -220,6 +245,8 @@ acted setup answers w (event.GiveBack x) n c l s f h = noted w (event.GiveBack x
 acted setup answers w (event.Keep x) n c l s f h =
     noted w (event.Keep x) n (keeps_by (is_idle c) (c.heard == 0 || is_full c.mark) (next_number w.tickets) c) (kept (length w.leases) (is_idle c) (c.heard == 0 || is_full c.mark) (next_number w.tickets) c h)
 acted setup answers w (event.Abandon t) n c l s f h = noted w (event.Abandon t) n (abandons_at c.standing c) (abandoned (length w.leases) c.standing c h)
+acted setup answers w (event.Clean i) n c l s f h =
+    cleaned w i n (setup.packet_size - 8) (is_free c.standing) (is_idle c) (sends_last (setup.packet_size - 8) (cleaning_record (next_number w.leases) (next_number w.asked_on) n c)) c refl f.0.0.0 f.0.1 h
 acted setup answers w (event.Ask x q) n c l s f h =
     noted w (event.Ask x q) n (asks_by (is_idle c) (next_number w.asked_on) x n q c) (asked (length w.leases) (is_idle c) w.asked_on x n q c refl s f.0.0.0 f.0.1 h)
 acted setup answers w (event.Send x) n c l s f h =

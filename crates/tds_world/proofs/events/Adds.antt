@@ -1,12 +1,12 @@
 -- What the world notes is never forgotten: a lease keeps the ticket that it came from, a ticket its
 -- descriptor, and numbers only grow.
-use Rattle.std.proofs.Common.{◌≡◌, ◌≤◌, ℕ, zero, suc, List, [], ◌∷◌, ◌++◌, map, length, refl, subst, sym, Option, Some, None, arith}
+use Rattle.std.proofs.Common.{◌≡◌, ◌≤◌, ℕ, zero, suc, List, [], ◌∷◌, ◌++◌, map, length, refl, ap, subst, sym, Option, Some, None, arith}
 use Rattle.std.proofs.lemmas.List.{length-append}
 use Rattle.tds_world.specs.declared.event.Event.{Event}
 use Rattle.tds_world.specs.declared.event.Event.TheVariants as event
 use Rattle.tds_world.specs.Connection.{Connection, cut}
 use Rattle.tds_world.specs.Events.{notes}
-use Rattle.tds_world.specs.World.{World, Holding, numbered, ended, ended_at, ended_numbered, holding}
+use Rattle.tds_world.specs.World.{World, Holding, next_number, numbered, ended, ended_at, ended_numbered, holding}
 
 -- A lease or ticket that was given so, and may have ended since.
 abbrev pub GivenAs : Holding → Option Holding → Type 0
@@ -94,6 +94,11 @@ notes_add (event.Abandon t) n heard w cs = record {
   tickets = extends_ended t w.tickets;
   asked = same_asked (length w.asked_on);
 }
+notes_add (event.Clean k) n heard w cs = record {
+  leases = extends_more w.leases (ended (holding n heard None) ∷ []);
+  tickets = extends_same w.tickets;
+  asked = more_asked w.asked_on n;
+}
 notes_add (event.Ask l q) n heard w cs = record {
   leases = extends_same w.leases;
   tickets = extends_same w.tickets;
@@ -112,4 +117,16 @@ restart_adds w = record {
   leases = extends_all_ended w.leases;
   tickets = extends_all_ended w.tickets;
   asked = same_asked (length w.asked_on);
+}
+
+last_ended : (xs : List Holding) (h : Holding) → ended_numbered (next_number xs) (xs ++ h ∷ []) ≡ xs ++ ended h ∷ []
+last_ended [] h = refl
+last_ended (x ∷ xs) h = ap (λ ys. x ∷ ys) (last_ended xs h)
+
+-- What is noted of a cleaning is what is noted of the four moves.
+pub cleaning_adds : (n heard : ℕ) (w : World) (cs ds : List Connection) → Adds (record w { connections = cs; leases = ended_numbered (next_number w.leases) (w.leases ++ holding n heard None ∷ []); asked_on = w.asked_on ++ n ∷ [] }) (record w { connections = ds; leases = w.leases ++ ended (holding n heard None) ∷ []; asked_on = w.asked_on ++ n ∷ [] })
+cleaning_adds n heard w cs ds = record {
+  leases = subst (λ hs. Extends hs (w.leases ++ ended (holding n heard None) ∷ [])) (sym (last_ended w.leases (holding n heard None))) (extends_same (w.leases ++ ended (holding n heard None) ∷ []));
+  tickets = extends_same w.tickets;
+  asked = omega arith;
 }

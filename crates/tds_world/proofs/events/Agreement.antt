@@ -64,6 +64,14 @@ open_have P c hs x cs stands at have l h e f = elim (began hs x h l e) [
       subst (λ i. Holds (P i) (numbered (put_numbered (next_number cs) c cs) h.conn)) (sym k.0) there
 ]
 
+-- ---- One that is over at once
+
+over_have : (P : ℕ → Place) (hs : List Holding) (x : Holding) (cs : List Connection) → x.over ≡ true → HaveAll P hs cs → HaveAll P (hs ++ x ∷ []) cs
+over_have P hs x cs over have l h e f = elim (began hs x h l e) [
+  | inl k ↦ have l h k f
+  | inr k ↦ let z : true ≡ false = sym over ∙ (ap (λ (y : Holding). y.over) k.1 ∙ f) in absurd (cc)
+]
+
 -- ---- One event
 
 is_there : (w : World) (n : ℕ) (p0 : Place) (old c : Connection) → numbered w.connections n ≡ Some old → old.standing ≡ In p0 → Moved w n p0 c
@@ -124,6 +132,11 @@ did_agree w (event.Abandon t) n old c what a there stood then =
     let m : Moved w n (place.Kept t) c = record { old = old; there = there; stood = stood; stays = then } in record {
       leases = same_have place.Leased w n (place.Kept t) c w.leases m (kept_not_leased t) a.leases;
       tickets = end_have place.Kept w n (place.Kept t) c w.tickets t m (other_ticket t) a.tickets;
+    }
+did_agree w (event.Clean k) n old c what a there stood then =
+    let g : Agrees (record w { connections = put_numbered n c w.connections }) = stays_agreed w n c old a there then in record {
+      leases = over_have place.Leased w.leases (ended (holding n c.heard None)) (put_numbered n c w.connections) refl g.leases;
+      tickets = g.tickets;
     }
 did_agree w (event.Ask l q) n old c what a there stood then =
     let k : Agrees (record w { connections = put_numbered n c w.connections }) = stays_agreed w n c old a there then in

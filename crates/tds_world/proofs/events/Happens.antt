@@ -16,6 +16,7 @@ happens_cases setup answers w P server client other (event.Resume t) = other (ev
 happens_cases setup answers w P server client other (event.GiveBack l) = other (event.GiveBack l)
 happens_cases setup answers w P server client other (event.Keep l) = other (event.Keep l)
 happens_cases setup answers w P server client other (event.Abandon t) = other (event.Abandon t)
+happens_cases setup answers w P server client other (event.Clean n) = other (event.Clean n)
 happens_cases setup answers w P server client other (event.Ask l q) = other (event.Ask l q)
 happens_cases setup answers w P server client other (event.Send l) = other (event.Send l)
 happens_cases setup answers w P server client other (event.Cancel l) = other (event.Cancel l)

@@ -2,7 +2,7 @@
 use Rattle.std.proofs.Common.{◌≡◌, ◌≤◌, ◌-◌, ◌+◌, ℕ, List, [], ◌∷◌, Bool, true, false, length, ltb, min, refl, sym, ap, ◌∙◌, inl, inr, Option, Some, None, flat_map, arith}
 use Rattle.std.proofs.lemmas.Bool.Decides.{nat_tests}
 use Rattle.std.proofs.lemmas.List.{length-append}
-use Rattle.std.specs.Prelude.{◌==◌, ◌||◌}
+use Rattle.std.specs.Prelude.{◌==◌, ◌||◌, ◌&&◌}
 use Rattle.tds_packet.specs.declared.status.Reset.{Reset}
 use Rattle.tds_packet.specs.declared.status.Reset.TheVariants.{Full, KeepTransaction}
 use Rattle.tds_request.specs.declared.request.Request.{Request}
@@ -15,20 +15,21 @@ use Rattle.tds_world.specs.declared.event.Setup.{Setup}
 use Rattle.tds_world.specs.declared.report.Place.TheVariants as place
 use Rattle.tds_world.specs.Arrivals.{server_acts, client_acts, reach_server, reach_client, works, works_on, to_server, to_client, drained}
 use Rattle.tds_world.specs.Caller.{asks, cancels_in, cancels_by, cancels, sends_by, sends_last}
+use Rattle.tds_world.specs.Cleaning.{clean_request, cleaning_record, cleans}
 use Rattle.tds_world.specs.Connection.{Connection, new_connection, phase, is_idle, Standing, In, Cut, up_underway, down_underway, cut}
 use Rattle.tds_world.specs.Entries.{Up, up_bytes, Down, down_bytes}
-use Rattle.tds_world.specs.Events.{acts, asks_by, sends_in, notes}
+use Rattle.tds_world.specs.Events.{acts, asks_by, cleans_by, sends_in, notes}
 use Rattle.tds_world.specs.Lane.{passed, with_waiting}
 use Rattle.tds_world.specs.Phase.{Phase, Settled, Asked, Sending, Reading, Cancelling, phase_of, phase_in}
-use Rattle.tds_world.specs.Pool.{gives_back_at, abandons_at, keeps_by, is_full, place_back}
+use Rattle.tds_world.specs.Pool.{is_free, gives_back_at, abandons_at, keeps_by, is_full, place_back}
 use Rattle.tds_world.specs.Record.{Record}
 use Rattle.tds_world.specs.World.{World, new_world, next_number, put_numbered}
-use Rattle.tds_world.proofs.events.Adds.{Adds, notes_add}
+use Rattle.tds_world.proofs.events.Adds.{Adds, notes_add, cleaning_adds}
 use Rattle.tds_world.proofs.events.Noted.{KeptIn, world_with}
-use Rattle.tds_world.proofs.events.Places.{StandsFor, StandsAt}
+use Rattle.tds_world.proofs.events.Places.{StandsFor, StandsAt, free_stands}
 use Rattle.tds_world.proofs.events.Words.{OfActed, by_test}
 use Rattle.tds_world.proofs.events.Worlds.{Any, Kept}
-use Rattle.tds_world.proofs.flow.Fates.{is_sending, is_stopped, cancelled_stops}
+use Rattle.tds_world.proofs.flow.Fates.{is_sending, is_stopped, cancelled_stops, stopped_sends_none}
 
 -- What is said of a connection on which these entries wait, either way.
 abbrev pub Invariant : Type 1
@@ -90,7 +91,7 @@ event_of (Cuts n) = event.Cut n
 abbrev pub Before : Stand → Connection → Type 0
 Before Lends c = c.standing ≡ In place.Free
 Before (Resumes ticket) c = c.standing ≡ In (place.Kept ticket)
-Before (GivesBack lease) c = is_stopped (phase c) ≡ true
+Before (GivesBack lease) c = is_sending (phase c) ≡ false
 Before (Keeps lease) c = (is_idle c ≡ true) × ((c.heard == 0 || is_full c.mark) ≡ false)
 Before (Abandons ticket) c = c.standing ≡ In (place.Kept ticket)
 Before (Drains n count) c = Unit {0}
@@ -227,7 +228,7 @@ asks_none Lends n heard w = refl
 asks_none r n heard w = refl
 
 -- What a move of one connection keeps, where it keeps too when the world notes something but a new request.
-module _ (setup : Setup) (answers : Answers) (E : ℕ → Event → Type 0) (P : World → Invariant) (noted : (w v : World) (c : Connection) (ups : List Up) (downs : List Down) → v.asked_on ≡ w.asked_on → Adds w v → P w c ups downs → P v c ups downs) (k : MovesOver setup answers E FreeIn P) where
+module _ (setup : Setup) (answers : Answers) (E : ℕ → Event → Type 0) (cleans_ask : (n k lease : ℕ) → E n (event.Clean k) → E n (event.Ask lease clean_request)) (P : World → Invariant) (noted : (w v : World) (c : Connection) (ups : List Up) (downs : List Down) → v.asked_on ≡ w.asked_on → Adds w v → P w c ups downs → P v c ups downs) (k : MovesOver setup answers E FreeIn P) where
   pub reaches_server : (w : World) (c : Connection) (es : List Up) (n : ℕ) → P w c es c.to_client.waiting → Of (P w) (reach_server answers c es n)
   reaches_server w c [] n h = k.server_waits w c [] 0 none_come h
   reaches_server w c (e ∷ es) n h =
@@ -261,7 +262,7 @@ module _ (setup : Setup) (answers : Answers) (E : ℕ → Event → Type 0) (P :
       (noted w (restood_in w r n c) c c.to_server.waiting c.to_client.waiting (asks_none r n c.heard (record w { connections = cs })) (notes_add (event_of r) n c.heard w cs) h)
 
   back : (w : World) (l n : ℕ) (s : Standing) (c : Connection) → Of (P w) c → OfActed (λ d. Of (P (world_with (event.GiveBack l) n w d)) d) (gives_back_at s c)
-  back w l n (In p) c h = stands_now w (GivesBack l) n (cancels c) (cancels_stop c) (cancels_now w c.current c refl h)
+  back w l n (In p) c h = stands_now w (GivesBack l) n (cancels c) (stopped_sends_none (phase (cancels c)) (cancels_stop c)) (cancels_now w c.current c refl h)
   back w l n Cut c h = notes_now w (event.GiveBack l) n c refl h
 
   abandoned : (w : World) (t n : ℕ) (s : Standing) (c : Connection) → c.standing ≡ s → StandsAt (place.Kept t) c.standing → Of (P w) c → OfActed (λ d. Of (P (world_with (event.Abandon t) n w d)) d) (abandons_at s c)
@@ -291,12 +292,39 @@ module _ (setup : Setup) (answers : Answers) (E : ℕ → Event → Type 0) (P :
   sends_now w l n Reading current c is at h = tt
   sends_now w l n Cancelling current c is at h = tt
 
+  -- It is lent, asks, sends all, and is given back without a cancel.
+  cleans_now : (w : World) (i n : ℕ) (c : Connection) → is_idle c ≡ true → sends_last (setup.packet_size - 8) (cleaning_record (next_number w.leases) (next_number w.asked_on) n c) ≡ true → c.standing ≡ In place.Free → E n (event.Clean i) → Of (P w) c → let d : Connection = cleans (setup.packet_size - 8) (next_number w.leases) (next_number w.asked_on) n c in Of (P (world_with (event.Clean i) n w d)) d
+  cleans_now w i n c idle last free x h =
+      let room : ℕ = setup.packet_size - 8 in
+      let l : ℕ = next_number w.leases in
+      let q : Record = cleaning_record l (next_number w.asked_on) n c in
+      let c1 : Connection = restood w Lends c in
+      let w1 : World = restood_in w Lends n c in
+      let c2 : Connection = asks (next_number w.asked_on) l n clean_request c1 in
+      let w2 : World = world_with (event.Ask l clean_request) n w1 c2 in
+      let c3 : Connection = sends_by true room q c2 in
+      let h1 : Of (P w1) c1 = stands_now w Lends n c free h in
+      let h2 : Of (P w2) c2 = k.asked w1 l n clean_request c1 (cleans_ask n i l x) refl idle tt h1 in
+      let h3 : Of (P w2) c3 = k.sent w2 true q c2 refl refl last tt h2 in
+      let d : Connection = restood w2 (GivesBack l) c3 in
+      let w4 : World = restood_in w2 (GivesBack l) n c3 in
+      let h4 : Of (P w4) d = stands_now w2 (GivesBack l) n c3 refl h3 in
+      noted w4 (world_with (event.Clean i) n w d) d d.to_server.waiting d.to_client.waiting refl (cleaning_adds n c.heard w w4.connections (put_numbered n d w.connections)) h4
+
+  cleaned : (w : World) (i n : ℕ) (free idle last : Bool) (c : Connection) → is_free c.standing ≡ free → is_idle c ≡ idle → sends_last (setup.packet_size - 8) (cleaning_record (next_number w.leases) (next_number w.asked_on) n c) ≡ last → E n (event.Clean i) → Of (P w) c → OfActed (λ d. Of (P (world_with (event.Clean i) n w d)) d) (cleans_by free (idle && last) (setup.packet_size - 8) (next_number w.leases) (next_number w.asked_on) n c)
+  cleaned w i n false idle last c f e l x h = tt
+  cleaned w i n true false last c f e l x h = tt
+  cleaned w i n true true false c f e l x h = tt
+  cleaned w i n true true true c f e l x h = cleans_now w i n c e l (free_stands c.standing f) x h
+
   pub acted : (w : World) (e : Event) (n : ℕ) (c : Connection) → E n e → StandsFor e c.standing → Of (P w) c → OfActed (λ d. Of (P (world_with e n w d)) d) (acts setup answers w e n c)
   acted w event.Lease n c x s h = stands_now w Lends n c s h
   acted w (event.Resume t) n c x s h = stands_now w (Resumes t) n c s h
   acted w (event.GiveBack l) n c x s h = back w l n c.standing c h
   acted w (event.Keep l) n c x s h = kept w l n (is_idle c) (c.heard == 0 || is_full c.mark) c refl refl h
   acted w (event.Abandon t) n c x s h = abandoned w t n c.standing c refl s h
+  acted w (event.Clean i) n c x s h =
+      cleaned w i n (is_free c.standing) (is_idle c) (sends_last (setup.packet_size - 8) (cleaning_record (next_number w.leases) (next_number w.asked_on) n c)) c refl refl refl x h
   acted w (event.Ask l q) n c x s h = asks_now w (is_idle c) l n q c refl x s h
   acted w (event.Send l) n c x s h = sends_now w l n (phase c) c.current c refl refl h
   acted w (event.Cancel l) n c x s h = notes_now w (event.Cancel l) n (cancels c) refl (cancels_now w c.current c refl h)
@@ -320,34 +348,35 @@ by_noted_moves setup answers P k =
     let noted : (w v : World) (c : Connection) (ups : List Up) (downs : List Down) → v.asked_on ≡ w.asked_on → Adds w v → P w c ups downs → P v c ups downs = λ w v c u d i a h. k.grows w v c u d a h in record {
       grows = λ w v c a h. k.grows w v c c.to_server.waiting c.to_client.waiting a h;
       opened = k.opened;
-      acted = λ w e n c s f h. acted setup answers AnyAt P noted k.moves w e n c tt s h;
-      was_cut = λ w c h. restarted setup answers AnyAt P noted k.moves w c h;
+      acted = λ w e n c s f h. acted setup answers AnyAt (λ i j lease x. tt) P noted k.moves w e n c tt s h;
+      was_cut = λ w c h. restarted setup answers AnyAt (λ i j lease x. tt) P noted k.moves w c h;
     }
 
-pub by_moves_of : (setup : Setup) (answers : Answers) (E : Event → Type 0) (P : Invariant) → KeptOver setup answers E Free P → Kept setup answers E (Of P)
-by_moves_of setup answers E P k = record {
+-- Events of a kind of which a cleaning's request is too.
+pub by_moves_of : (setup : Setup) (answers : Answers) (E : Event → Type 0) (P : Invariant) → ((k lease : ℕ) → E (event.Clean k) → E (event.Ask lease clean_request)) → KeptOver setup answers E Free P → Kept setup answers E (Of P)
+by_moves_of setup answers E P asks_such k = record {
   opened = k.opened;
-  acted = λ w e n c x s h. acted setup answers (λ i. E) (λ v. P) (λ v u d i j l m g. g) (unnoted setup answers E Free P k).moves w e n c x s h;
+  acted = λ w e n c x s h. acted setup answers (λ i. E) (λ i j lease z. asks_such j lease z) (λ v. P) (λ v u d i j l m g. g) (unnoted setup answers E Free P k).moves w e n c x s h;
   was_cut = λ c h. k.stands c c.mark Cut h;
 }
 
 pub by_moves : (setup : Setup) (answers : Answers) (P : Invariant) → KeptByMoves setup answers P → Kept setup answers Any (Of P)
-by_moves setup answers P k = by_moves_of setup answers Any P k
+by_moves setup answers P k = by_moves_of setup answers Any P (λ k lease x. tt) k
 
 -- ---- What every move keeps, each act of a connection keeps
 
 pub to_server_keeps : (setup : Setup) (answers : Answers) (P : Invariant) → KeptByMoves setup answers P → (n : ℕ) (c : Connection) → Of P c → Of P (to_server answers n c)
 to_server_keeps setup answers P k n c h =
-    reaches_server setup answers (λ i. Any) (λ v. P) (λ v u d i j l m g. g) (unnoted setup answers Any Free P k).moves new_world c c.to_server.waiting (c.to_server.part + min n (up_underway c)) h
+    reaches_server setup answers (λ i. Any) (λ i j lease x. tt) (λ v. P) (λ v u d i j l m g. g) (unnoted setup answers Any Free P k).moves new_world c c.to_server.waiting (c.to_server.part + min n (up_underway c)) h
 
 pub to_client_keeps : (setup : Setup) (answers : Answers) (P : Invariant) → KeptByMoves setup answers P → (n : ℕ) (c : Connection) → Of P c → Of P (to_client n c)
 to_client_keeps setup answers P k n c h =
     let d : Connection = reach_client c c.to_client.waiting (c.to_client.part + min n (down_underway c)) in
     k.stands d d.mark (drained (is_idle d) d.standing)
-    (reaches_client setup answers (λ i. Any) (λ v. P) (λ v u d i j l m g. g) (unnoted setup answers Any Free P k).moves new_world c c.to_client.waiting (c.to_client.part + min n (down_underway c)) h)
+    (reaches_client setup answers (λ i. Any) (λ i j lease x. tt) (λ v. P) (λ v u d i j l m g. g) (unnoted setup answers Any Free P k).moves new_world c c.to_client.waiting (c.to_client.part + min n (down_underway c)) h)
 
 pub works_keeps : (setup : Setup) (answers : Answers) (P : Invariant) → KeptByMoves setup answers P → (c : Connection) → Of P c → Of P (works c)
-works_keeps setup answers P k c h = works_in setup answers (λ i. Any) (λ v. P) (λ v u d i j l m g. g) (unnoted setup answers Any Free P k).moves new_world c c.due refl h
+works_keeps setup answers P k c h = works_in setup answers (λ i. Any) (λ i j lease x. tt) (λ v. P) (λ v u d i j l m g. g) (unnoted setup answers Any Free P k).moves new_world c c.due refl h
 
 pub cancels_keeps : (setup : Setup) (answers : Answers) (P : Invariant) → KeptByMoves setup answers P → (c : Connection) → Of P c → Of P (cancels c)
-cancels_keeps setup answers P k c h = cancels_now setup answers (λ i. Any) (λ v. P) (λ v u d i j l m g. g) (unnoted setup answers Any Free P k).moves new_world c.current c refl h
+cancels_keeps setup answers P k c h = cancels_now setup answers (λ i. Any) (λ i j lease x. tt) (λ v. P) (λ v u d i j l m g. g) (unnoted setup answers Any Free P k).moves new_world c.current c refl h

@@ -35,6 +35,7 @@ StandsFor (event.Resume t) s = s ≡ In (place.Kept t)
 StandsFor (event.GiveBack l) s = StandsAt (place.Leased l) s
 StandsFor (event.Keep l) s = s ≡ In (place.Leased l)
 StandsFor (event.Abandon t) s = StandsAt (place.Kept t) s
+StandsFor (event.Clean n) s = is_cut s ≡ false
 StandsFor (event.Ask l q) s = s ≡ In (place.Leased l)
 StandsFor (event.Send l) s = s ≡ In (place.Leased l)
 StandsFor (event.Cancel l) s = s ≡ In (place.Leased l)
@@ -85,7 +86,7 @@ number_stands w why n (Some c) e =
     by_test (FoundWith w (λ s. is_cut s ≡ false)) (is_cut c.standing) (Missing why) (Here n c) (λ t. tt) (λ t. (e, t))
 
 -- The connection to lend is free.
-free_stands : (s : Standing) → is_free s ≡ true → s ≡ In place.Free
+pub free_stands : (s : Standing) → is_free s ≡ true → s ≡ In place.Free
 free_stands (In place.Free) e = refl
 free_stands s e = absurd (cc)
 
@@ -122,6 +123,7 @@ about_stands setup w (event.Resume t) a = not_cut_stands w (place.Kept t) (by_ti
 about_stands setup w (event.GiveBack l) a = lease_stands w refusal.UnknownLease l (numbered w.leases l) refl a
 about_stands setup w (event.Keep l) a = not_cut_stands w (place.Leased l) (by_lease w l) (lease_stands w refusal.UnknownLease l (numbered w.leases l) refl a)
 about_stands setup w (event.Abandon t) a = ticket_stands w refusal.UnknownTicket t (numbered w.tickets t) refl a
+about_stands setup w (event.Clean n) a = number_stands w refusal.UnknownConnection n (numbered w.connections n) refl
 about_stands setup w (event.Ask l q) a = not_cut_stands w (place.Leased l) (by_lease w l) (lease_stands w refusal.UnknownLease l (numbered w.leases l) refl a)
 about_stands setup w (event.Send l) a = not_cut_stands w (place.Leased l) (by_lease w l) (lease_stands w refusal.UnknownLease l (numbered w.leases l) refl a)
 about_stands setup w (event.Cancel l) a = not_cut_stands w (place.Leased l) (by_lease w l) (lease_stands w refusal.UnknownLease l (numbered w.leases l) refl a)

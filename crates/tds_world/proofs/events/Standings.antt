@@ -11,15 +11,16 @@ use Rattle.tds_world.specs.declared.report.Place.{Place}
 use Rattle.tds_world.specs.declared.report.Place.TheVariants as place
 use Rattle.tds_world.specs.Arrivals.{server_acts, client_acts, reach_server, reach_client, to_server, to_client, works, works_on, drained}
 use Rattle.tds_world.specs.Caller.{cancels, cancels_in, cancels_by, sends_by, sends_last}
+use Rattle.tds_world.specs.Cleaning.{can_clean}
 use Rattle.tds_world.specs.Connection.{Connection, phase, is_idle, Standing, In, Cut, up_underway, down_underway}
 use Rattle.tds_world.specs.Entries.{Up, Part, Down, Step, Acknowledgement, up_bytes, down_bytes}
-use Rattle.tds_world.specs.Events.{acts, asks_by, sends_in}
+use Rattle.tds_world.specs.Events.{acts, asks_by, cleans_by, sends_in}
 use Rattle.tds_world.specs.Lane.{passed, with_waiting}
 use Rattle.tds_world.specs.Phase.{Phase, Settled, Asked, Sending, Reading, Cancelling, phase_of}
-use Rattle.tds_world.specs.Pool.{gives_back_at, abandons_at, keeps_by, is_full}
+use Rattle.tds_world.specs.Pool.{is_free, gives_back_at, abandons_at, keeps_by, is_full}
 use Rattle.tds_world.specs.Record.{Record}
 use Rattle.tds_world.specs.World.{World, next_number}
-use Rattle.tds_world.proofs.events.Places.{StandsAt}
+use Rattle.tds_world.proofs.events.Places.{StandsAt, free_stands}
 use Rattle.tds_world.proofs.events.Words.{OfActed, either}
 
 -- A place that a lease or a ticket has.
@@ -130,6 +131,18 @@ sent_then Settled room current c = tt
 sent_then Reading room current c = tt
 sent_then Cancelling room current c = tt
 
+-- Nobody has a free connection.
+pub free_still : (s t : Standing) → s ≡ In place.Free → Still s t
+free_still s t e p i h = elim h [
+  | inl f ↦ let z : place.Free ≡ p = (let y : In place.Free ≡ In p = sym e ∙ f in cc) in absurd (subst IsHeld (sym z) i)
+  | inr f ↦ let z : In place.Free ≡ Cut = sym e ∙ f in absurd (cc)
+]
+
+cleaned_then : (free can : Bool) (room lease number n : ℕ) (c : Connection) → is_free c.standing ≡ free → OfActed (λ d. Still c.standing d.standing) (cleans_by free can room lease number n c)
+cleaned_then false can room lease number n c e = tt
+cleaned_then true false room lease number n c e = tt
+cleaned_then true true room lease number n c e = free_still c.standing (In place.Draining) (free_stands c.standing e)
+
 -- Each event.
 pub stands_then : (setup : Setup) (answers : Answers) (w : World) (e : Event) (n : ℕ) (c : Connection) → OfActed (λ d. StandsThen w e c.standing d.standing) (acts setup answers w e n c)
 stands_then setup answers w event.Lease n c = refl
@@ -137,6 +150,8 @@ stands_then setup answers w (event.Resume t) n c = refl
 stands_then setup answers w (event.GiveBack l) n c = back_then c.standing c refl
 stands_then setup answers w (event.Keep l) n c = kept_then (is_idle c) (c.heard == 0 || is_full c.mark) (next_number w.tickets) c
 stands_then setup answers w (event.Abandon t) n c = abandoned_then c.standing c refl
+stands_then setup answers w (event.Clean k) n c =
+    cleaned_then (is_free c.standing) (can_clean (setup.packet_size - 8) (next_number w.leases) (next_number w.asked_on) n c) (setup.packet_size - 8) (next_number w.leases) (next_number w.asked_on) n c refl
 stands_then setup answers w (event.Ask l q) n c = asked_then (is_idle c) (next_number w.asked_on) l n q c
 stands_then setup answers w (event.Send l) n c = sent_then (phase c) (setup.packet_size - 8) c.current c
 stands_then setup answers w (event.Cancel l) n c = same_still c.standing (cancels c).standing (cancels_stand_in c.current c)

@@ -95,6 +95,7 @@ about_has P setup w (event.Resume t) h = not_cut_has P (by_ticket w t) (by_ticke
 about_has P setup w (event.GiveBack l) h = by_lease_has P w l h
 about_has P setup w (event.Keep l) h = not_cut_has P (by_lease w l) (by_lease_has P w l h)
 about_has P setup w (event.Abandon t) h = by_ticket_has P w t h
+about_has P setup w (event.Clean n) h = by_number_has P w n h
 about_has P setup w (event.Ask l q) h = not_cut_has P (by_lease w l) (by_lease_has P w l h)
 about_has P setup w (event.Send l) h = not_cut_has P (by_lease w l) (by_lease_has P w l h)
 about_has P setup w (event.Cancel l) h = not_cut_has P (by_lease w l) (by_lease_has P w l h)

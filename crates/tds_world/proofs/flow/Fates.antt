@@ -20,6 +20,14 @@ is_stopped Sending = false
 is_stopped Reading = false
 is_stopped Cancelling = true
 
+-- One that is stopped sends nothing.
+pub stopped_sends_none : (p : Phase) → is_stopped p ≡ true → is_sending p ≡ false
+stopped_sends_none Settled e = refl
+stopped_sends_none Asked e = absurd (cc)
+stopped_sends_none Sending e = absurd (cc)
+stopped_sends_none Reading e = refl
+stopped_sends_none Cancelling e = refl
+
 pub cancelled_stops : (out : Out) → is_stopped (phase_by Cancelled out) ≡ true
 cancelled_stops NotBegun = refl
 cancelled_stops (Begun n) = refl

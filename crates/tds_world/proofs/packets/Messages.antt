@@ -31,7 +31,7 @@ use Rattle.tds_world.proofs.events.Moves.{Invariant, KeptOver, Both, Of, on_top,
 use Rattle.tds_world.proofs.events.Worlds.{Kept, always_such, each_follows}
 use Rattle.tds_world.proofs.flow.Flow.{Quiet, Hears, number_in, Sound, SoundWith}
 use Rattle.tds_world.proofs.flow.Keeps.{ask_fits}
-use Rattle.tds_world.proofs.packets.Ranges.{packet_least}
+use Rattle.tds_world.proofs.packets.Ranges.{cleaning_is_event, packet_least}
 use Rattle.tds_world.proofs.packets.Sessions.{stop_is_session}
 use Rattle.tds_world.proofs.packets.Sent.{Saying, Keeps, SentWith, sent_moves}
 use Rattle.tds_world.proofs.packets.Sizes.{message_size}
@@ -257,7 +257,7 @@ whole_moves setup answers u =
 
 whole_kept : (setup : Setup) (answers : Answers) → IsSetup setup → Lawful answers → StayInRange answers → Kept setup answers IsEvent (Of (Both Known WholeWith))
 whole_kept setup answers u l r =
-    by_moves_of setup answers IsEvent (Both Known WholeWith)
+    by_moves_of setup answers IsEvent (Both Known WholeWith) cleaning_is_event
     (on_top setup answers IsEvent Known WholeWith (sent_moves setup answers InSession l (session_kept answers r)) (whole_moves setup answers u))
 
 pub messages_are_whole : (setup : Setup) (answers : Answers) → IsSetup setup → Lawful answers → StayInRange answers → AlwaysOf IsEvent setup answers MessagesAreWhole

@@ -28,7 +28,7 @@ use Rattle.tds_world.proofs.events.Worlds.{Kept, always_such, each_follows}
 use Rattle.tds_world.proofs.flow.Flow.{Quiet, number_in, Sound, SoundWith}
 use Rattle.tds_world.proofs.flow.Keeps.{ask_fits}
 use Rattle.tds_world.proofs.flow.Sound.{sound_moves}
-use Rattle.tds_world.proofs.packets.Ranges.{packet_least}
+use Rattle.tds_world.proofs.packets.Ranges.{cleaning_is_event, packet_least}
 use Rattle.tds_world.proofs.flow.Fates.{step_cancels_none, is_sending, when_sending, when_reading, when_going}
 
 -- ---- A request's message has at most 4,022 bytes
@@ -249,7 +249,7 @@ sized_moves setup answers u =
 
 sized_kept : (setup : Setup) (answers : Answers) → IsSetup setup → Lawful answers → Kept setup answers IsEvent (λ c. Sound c × Sized c)
 sized_kept setup answers u l =
-    by_moves_of setup answers IsEvent (Both SoundWith (λ c ups downs. SizedIn c.current (size_of ups)))
+    by_moves_of setup answers IsEvent (Both SoundWith (λ c ups downs. SizedIn c.current (size_of ups))) cleaning_is_event
     (on_top setup answers IsEvent SoundWith (λ c ups downs. SizedIn c.current (size_of ups)) (sound_moves setup answers l) (sized_moves setup answers u))
 
 few_underway : (c : Connection) → Sound c × Sized c → up_underway c ≤ 4094

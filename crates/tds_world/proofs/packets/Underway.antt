@@ -14,13 +14,14 @@ use Rattle.tds_world.specs.declared.event.Setup.{Setup}
 use Rattle.tds_world.specs.declared.outcome.Refusal.TheVariants as refusal
 use Rattle.tds_world.specs.Arrivals.{server_acts, client_acts, reach_server, reach_client, works_on, acknowledged_at}
 use Rattle.tds_world.specs.Caller.{sends_last, sends_by, cancels_in, cancels_by}
+use Rattle.tds_world.specs.Cleaning.{can_clean}
 use Rattle.tds_world.specs.Connection.{Connection, phase, is_idle, Standing, In, Cut, is_cut, up_underway, down_underway}
 use Rattle.tds_world.specs.Entries.{Up, Part, End, Drop, Attention, Down, Step, Acknowledgement, Packet, packet_bytes, up_bytes, down_bytes}
-use Rattle.tds_world.specs.Events.{about, acts, asks_by, sends_in, happens_at, happens, world_after}
+use Rattle.tds_world.specs.Events.{about, acts, asks_by, cleans_by, sends_in, happens_at, happens, world_after}
 use Rattle.tds_world.specs.Lane.{passed, with_waiting}
 use Rattle.tds_world.specs.Lawful.{Lawful}
 use Rattle.tds_world.specs.Phase.{Phase, Settled, Asked, Sending, Reading, Cancelling, phase_of}
-use Rattle.tds_world.specs.Pool.{gives_back_at, abandons_at, keeps_by, is_full, opens}
+use Rattle.tds_world.specs.Pool.{is_free, gives_back_at, abandons_at, keeps_by, is_full, opens}
 use Rattle.tds_world.specs.Record.{Record}
 use Rattle.tds_world.specs.Sessions.{FitsStep, FitsAcknowledgement, IsInRange, StayInRange}
 use Rattle.tds_world.specs.Steps.{OfSteps, OfAcknowledgements}
@@ -129,12 +130,19 @@ sent n Settled room o c h = tt
 sent n Reading room o c h = tt
 sent n Cancelling room o c h = tt
 
+cleaned : (n : ℕ) (free can : Bool) (room lease number k : ℕ) (c : Connection) → AtMost n c → OfActed (AtMost n) (cleans_by free can room lease number k c)
+cleaned n false can room lease number k c h = tt
+cleaned n true false room lease number k c h = tt
+cleaned n true true room lease number k c h = h
+
 acted : (setup : Setup) (answers : Answers) (n : ℕ) (w : World) (e : Event) (k : ℕ) (c : Connection) → AtMost n c → AtMost (suc n) c → OfActed (AtMost (suc n)) (acts setup answers w e k c)
 acted setup answers n w event.Lease k c f h = h
 acted setup answers n w (event.Resume t) k c f h = h
 acted setup answers n w (event.GiveBack l) k c f h = back (suc n) c.standing c h
 acted setup answers n w (event.Keep l) k c f h = kept (suc n) (is_idle c) (c.heard == 0 || is_full c.mark) (next_number w.tickets) c h
 acted setup answers n w (event.Abandon t) k c f h = abandoned (suc n) c.standing c h
+acted setup answers n w (event.Clean i) k c f h =
+    cleaned (suc n) (is_free c.standing) (can_clean (setup.packet_size - 8) (next_number w.leases) (next_number w.asked_on) k c) (setup.packet_size - 8) (next_number w.leases) (next_number w.asked_on) k c h
 acted setup answers n w (event.Ask l q) k c f h = asked (suc n) (is_idle c) (next_number w.asked_on) l k q c h
 acted setup answers n w (event.Send l) k c f h = sent (suc n) (phase c) (setup.packet_size - 8) c.current c h
 acted setup answers n w (event.Cancel l) k c f h = cancels_send_in (suc n) c.current c h

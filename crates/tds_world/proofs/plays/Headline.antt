@@ -11,6 +11,8 @@ use Rattle.tds_world.specs.Bounds.{IsEvent, IsSetup}
 use Rattle.tds_world.specs.Descriptors.{AreFewEvents, UseFewDescriptors}
 use Rattle.tds_world.specs.Events.{world_after}
 use Rattle.tds_world.specs.Lawful.{Lawful}
+use Rattle.tds_world.specs.LeftClean.{AnswersClean}
+use Rattle.tds_world.specs.LeftCleanShown.{ShowsLeftClean}
 use Rattle.tds_world.specs.Losses.{Played, marked, world_with, observed_with}
 use Rattle.tds_world.specs.Observed.{observed}
 use Rattle.tds_world.specs.Reports.{GivesNoMore, ShowsFewUnderway, ShowsFreshStart, ShowsIdleQuiet, ShowsKeptTransaction, ShowsLendsIdle, ShowsOwnAnswers, ShowsOwnTransaction}
@@ -18,6 +20,7 @@ use Rattle.tds_world.specs.rest.RestShown.{ShowsNeverStuckWith}
 use Rattle.tds_world.specs.WithLosses.{AlwaysShownWith, AlwaysToldWith, GivesNoMoreWith, IsReportWith, MarksNothing, ShowsNoEndFaults, events_of}
 use Rattle.tds_world.specs.World.{new_world}
 use Rattle.tds_world.proofs.plays.Alone as alone
+use Rattle.tds_world.proofs.plays.LeftClean as left
 use Rattle.tds_world.proofs.plays.Marks as marks
 use Rattle.tds_world.proofs.plays.Reports as reports
 use Rattle.tds_world.proofs.plays.Rest as rest
@@ -42,6 +45,9 @@ kept_transaction setup answers events r l e = of_told ShowsKeptTransaction setup
 
 pub fresh_start : (setup : Setup) (answers : Answers) (events : List Event) (r : Report) → Lawful answers → IsReportWith setup answers events r → ShowsFreshStart r
 fresh_start setup answers events r l e = of_shown ShowsFreshStart setup answers events r (reports.fresh_start setup answers l) e
+
+pub left_clean : (setup : Setup) (answers : Answers) (events : List Event) (r : Report) → Lawful answers → AnswersClean answers → IsReportWith setup answers events r → ShowsLeftClean events r
+left_clean setup answers events r l clean e = of_told ShowsLeftClean setup answers events r (left.left_clean_is_shown setup answers l clean) e
 
 pub lends_idle : (setup : Setup) (answers : Answers) (events : List Event) (r : Report) → Lawful answers → IsReportWith setup answers events r → ShowsLendsIdle r
 lends_idle setup answers events r l e = of_shown ShowsLendsIdle setup answers events r (reports.lends_idle setup answers l) e

@@ -17,7 +17,7 @@ use Rattle.tds_world.specs.WithLosses.{AlwaysShownOfEvents, AlwaysShownWith, Alw
 use Rattle.tds_world.specs.World.{World, new_world}
 use Rattle.tds_world.proofs.plays.Told.{each_follows, same_asks, same_kept, each_resumes}
 use Rattle.tds_world.proofs.plays.Worlds.{plain_worlds, plain_events, schedule_fronts}
-use Rattle.tds_world.proofs.reports.Asks.{own_answers_are_shown, own_transactions_are_shown}
+use Rattle.tds_world.proofs.reports.OwnShown.{own_answers_are_shown, own_transactions_are_shown}
 use Rattle.tds_world.proofs.reports.Leased.{fresh_start_is_shown}
 use Rattle.tds_world.proofs.reports.Lends.{lends_idle_is_shown}
 use Rattle.tds_world.proofs.reports.NoFault as fault

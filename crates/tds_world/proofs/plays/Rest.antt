@@ -45,9 +45,9 @@ answered_alike s r there later later_there e f h = record {
 
 stuck_alike : (attention : OnAttention) (s : Snapshot) (later later_there : Later) (r there : Report) → EndAlike r there → ((more : List Event) → EndAlike (later more) (later_there more)) → IsNeverStuck attention later_there there s → IsNeverStuck attention later r s
 stuck_alike attention s later later_there r there e f h = record {
-  stopped = λ up down i j.
+  stopped = λ z up down i j.
       let more : List Event = stopping (In s.place) s.conn up down in
-      rest_alike s (later more) (later_there more) (f more) (h.stopped up down i j);
+      rest_alike s (later more) (later_there more) (f more) (h.stopped z up down i j);
   finished = (
     h.finished.0,
     λ packets up steps down i j k m.

@@ -1,5 +1,5 @@
 -- What is told of each event of a play, and what is told of the plain events that it stands for.
-use Rattle.std.proofs.Common.{◌≡◌, ℕ, List, [], ◌∷◌, ◌++◌, cond, false, refl, sym, ap, ◌∙◌, Option, Some, None}
+use Rattle.std.proofs.Common.{◌≡◌, ℕ, List, [], ◌∷◌, ◌++◌, Bool, true, cond, false, refl, sym, ap, ◌∙◌, Option, Some, None}
 use Rattle.std.specs.List.{AllByRecursion}
 use Rattle.std.specs.Prelude.{◌-◌}
 use Rattle.tds_request.specs.declared.request.Request.{Request}
@@ -12,16 +12,17 @@ use Rattle.tds_world.specs.declared.outcome.Outcome.TheVariants as outcome
 use Rattle.tds_world.specs.declared.report.EventReport.{EventReport}
 use Rattle.tds_world.specs.declared.report.Report.{Report}
 use Rattle.tds_world.specs.declared.report.Snapshot.{Snapshot}
+use Rattle.tds_world.specs.Cleaning.{can_clean}
 use Rattle.tds_world.specs.Connection.{Connection, phase, Standing, In, Cut}
-use Rattle.tds_world.specs.Events.{about, sends_in, settles, happens_at, happens, world_after}
+use Rattle.tds_world.specs.Events.{about, cleans_by, sends_in, settles, happens_at, happens, world_after}
 use Rattle.tds_world.specs.Losses.{Loss, Nothing, Failed, Played, bringing, met, link_of, cuts_after, is_lost, world_then, with_cuts, report_then, event_reports_with}
 use Rattle.tds_world.specs.Observed.{snapshots, event_report, event_reports}
 use Rattle.tds_world.specs.Phase.{Phase, Asked, Sending}
-use Rattle.tds_world.specs.Pool.{gives_back_at}
+use Rattle.tds_world.specs.Pool.{is_free, gives_back_at}
 use Rattle.tds_world.specs.Record.{Record}
 use Rattle.tds_world.specs.Reports.{Ask, asked_by, asked_in, makes, kept_in, KeepsIfResumed, OfEachOutcome}
 use Rattle.tds_world.specs.WithLosses.{events_of}
-use Rattle.tds_world.specs.World.{World, Found, Missing, Here, Opens}
+use Rattle.tds_world.specs.World.{World, Found, Missing, Here, Opens, next_number}
 
 -- What is told of an event of a play: the outcome of the event as it was met, and what is seen after the
 -- last of the plain events that it stands for. Of what is told of these, R holds.
@@ -100,13 +101,20 @@ each_follows R Q setup answers ps w f h =
 
 same_asked : (l : ℕ) (q : Request) (r s : EventReport) (o : Outcome) → r.snapshots ≡ s.snapshots → asked_by (event.Ask l q) r o ≡ asked_by (event.Ask l q) s o
 same_asked l q r s (outcome.Asked n) e =
-    ap (λ shown. (let a : Ask = record { number = n; lease = l; request = q; snapshots = shown } in a) ∷ []) e
+    ap (λ shown. (let a : Ask = record { number = n; lease = l; request = q; cleans = false; snapshots = shown } in a) ∷ []) e
 same_asked l q r s (outcome.Leased a b c) e = refl
 same_asked l q r s o e = refl
+
+same_cleaning : (n : ℕ) (r s : EventReport) (o : Outcome) → asked_by (event.Clean n) r o ≡ asked_by (event.Clean n) s o
+same_cleaning n r s (outcome.Cleaning l k) = refl
+same_cleaning n r s (outcome.Leased a b c) = refl
+same_cleaning n r s o = refl
 
 asked_failed : (setup : Setup) (answers : Answers) (k : ℕ) (e : Event) (w : World) → asked_by e (told_of setup answers (Failed k) (link_of setup w e) e w) (happens setup answers (bringing k e) w).0 ≡ asked_by (bringing k e) (event_report (happens setup answers (bringing k e) w)) (happens setup answers (bringing k e) w).0
 asked_failed setup answers k (event.Ask l q) w =
     same_asked l q (told_of setup answers (Failed k) None (event.Ask l q) w) (event_report (happens setup answers (event.Ask l q) w)) (happens setup answers (event.Ask l q) w).0 refl
+asked_failed setup answers k (event.Clean n) w =
+    same_cleaning n (told_of setup answers (Failed k) (link_of setup w (event.Clean n)) (event.Clean n) w) (event_report (happens setup answers (event.Clean n) w)) (happens setup answers (event.Clean n) w).0
 asked_failed setup answers k event.Lease w = refl
 asked_failed setup answers k e w = refl
 
@@ -180,9 +188,21 @@ no_cut setup answers t k w (Missing why) = refl
 no_cut setup answers t k w (Here n c) = refl
 no_cut setup answers t k w (Opens n) = refl
 
+cleaned : (t k n : ℕ) (w : World) (free can : Bool) (room lease number : ℕ) (c : Connection) → makes t (settles (event.Clean k) n w (cleans_by free can room lease number n c)).0 ≡ false
+cleaned t k n w false can room lease number c = refl
+cleaned t k n w true false room lease number c = refl
+cleaned t k n w true true room lease number c = refl
+
+no_clean : (setup : Setup) (answers : Answers) (t k : ℕ) (w : World) (f : Found) → makes t (happens_at setup answers (event.Clean k) w f).0 ≡ false
+no_clean setup answers t k w (Missing why) = refl
+no_clean setup answers t k w (Here n c) =
+    cleaned t k n w (is_free c.standing) (can_clean (setup.packet_size - 8) (next_number w.leases) (next_number w.asked_on) n c) (setup.packet_size - 8) (next_number w.leases) (next_number w.asked_on) c
+no_clean setup answers t k w (Opens n) = refl
+
 makes_none : (setup : Setup) (answers : Answers) (t k n : ℕ) (e : Event) (w : World) → link_of setup w e ≡ Some n → makes t (happens setup answers (bringing k e) w).0 ≡ false
 makes_none setup answers t k n event.Lease w x = no_lease setup answers t w (about setup w event.Lease)
 makes_none setup answers t k n (event.GiveBack l) w x = no_back setup answers t l w (about setup w (event.GiveBack l))
+makes_none setup answers t k n (event.Clean i) w x = no_clean setup answers t i w (about setup w (event.Clean i))
 makes_none setup answers t k n (event.Send l) w x = no_send setup answers t l w (about setup w (event.Send l))
 makes_none setup answers t k n (event.Cancel l) w x = no_cancel setup answers t l w (about setup w (event.Cancel l))
 makes_none setup answers t k n (event.Work i) w x = no_work setup answers t i w (about setup w (event.Work i))

@@ -1,11 +1,10 @@
 -- The requests that a report shows as asked are the model's, each by its number.
-use Rattle.std.proofs.Common.{◌≡◌, ◌≤◌, ◌<◌, ◌+◌, ℕ, zero, suc, List, [], ◌∷◌, ◌++◌, map, Bool, true, false, cond, length, eqb, refl, sym, ap, subst, ◌∙◌, Option, Some, None, arith}
+use Rattle.std.proofs.Common.{◌≡◌, ◌≤◌, ◌<◌, ◌+◌, ◌-◌, ℕ, zero, suc, List, [], ◌∷◌, ◌++◌, map, Bool, true, false, cond, length, eqb, refl, sym, ap, subst, ◌∙◌, Option, Some, None, arith}
 use Rattle.std.proofs.lemmas.Bool.Decides.{nat_tests}
 use Rattle.std.specs.List.{AllByRecursion}
 use Rattle.std.specs.Prelude.{◌==◌, find, slice_get}
 use Rattle.tds_request.specs.declared.request.Request.{Request}
 use Rattle.tds_session.specs.Answer.{Answers}
-use Rattle.tds_session.specs.Session.{SessionState}
 use Rattle.tds_world.specs.declared.event.Event.{Event}
 use Rattle.tds_world.specs.declared.event.Event.TheVariants as event
 use Rattle.tds_world.specs.declared.event.Setup.{Setup}
@@ -13,21 +12,18 @@ use Rattle.tds_world.specs.declared.outcome.Outcome.{Outcome}
 use Rattle.tds_world.specs.declared.report.Place.{Place}
 use Rattle.tds_world.specs.declared.report.Place.TheVariants as place
 use Rattle.tds_world.specs.declared.report.RequestReport.{RequestReport}
-use Rattle.tds_world.specs.declared.report.RequestStatus.TheVariants as status
 use Rattle.tds_world.specs.declared.report.Snapshot.{Snapshot}
-use Rattle.tds_world.specs.Bounds.{RanInOwn}
 use Rattle.tds_world.specs.Caller.{asks}
+use Rattle.tds_world.specs.Cleaning.{can_clean, clean_request, cleaning_record, cleans}
 use Rattle.tds_world.specs.Connection.{Connection, records, is_idle, Standing, In, Cut, is_cut}
-use Rattle.tds_world.specs.Events.{about, acts, asks_by, settles, happens_at, happens, world_after}
-use Rattle.tds_world.specs.Lawful.{Lawful}
-use Rattle.tds_world.specs.Laws.{OfEachRequest, IsOwnAnswer, request_in, request_on}
+use Rattle.tds_world.specs.Events.{about, acts, asks_by, cleans_by, settles, happens_at, happens, world_after}
+use Rattle.tds_world.specs.Laws.{OfEachRequest, request_in, request_on}
 use Rattle.tds_world.specs.Observed.{record_on, snapshot_of, seen, snapshots_from, event_report, event_reports, request_report, report_if, report_on, request_reports}
 use Rattle.tds_world.specs.Order.{number_if, numbers_on, RequestsInOrder}
-use Rattle.tds_world.specs.Phase.{Phase, Settled, Asked, Sending, Reading, Cancelling, phase_of, status_by}
-use Rattle.tds_world.specs.Pool.{Acted, Refuses, Does}
-use Rattle.tds_world.specs.Record.{Record, new_record, Fate, Open, Finished, Cancelled, Acknowledged, is_finished}
+use Rattle.tds_world.specs.Pool.{Acted, Refuses, Does, is_free}
+use Rattle.tds_world.specs.Record.{Record, new_record, Whole, packets_of}
 use Rattle.tds_packet.specs.Resets.{header_descriptor}
-use Rattle.tds_world.specs.Reports.{AlwaysTold, Ask, asked_by, asked_in, OfEachAskFrom, ShowsAnswerIn, ShowsOwnAnswer, ShowsOwnAnswers, snapshot_in, ShowsRunInOwn, ShowsOwnTransaction}
+use Rattle.tds_world.specs.Reports.{Ask, asked_by, asked_in, OfEachAskFrom, snapshot_in}
 use Rattle.tds_world.specs.World.{World, Found, Missing, Here, Opens, new_world, numbered, next_number, put, put_numbered}
 use Rattle.tds_world.proofs.events.Agreement.{happens_agrees, new_agrees}
 use Rattle.tds_world.proofs.events.Grows.{Grown, after_grow}
@@ -36,8 +32,17 @@ use Rattle.tds_world.proofs.events.Words.{OfSome}
 use Rattle.tds_world.proofs.events.Worlds.{at_number}
 use Rattle.tds_world.proofs.requests.Given.{Follows, Later, growth, in_grown}
 use Rattle.tds_world.proofs.requests.Order.{requests_in_order, asked_then, notes_asked}
-use Rattle.tds_world.proofs.requests.OwnAnswers.{own_answers}
-use Rattle.tds_world.proofs.requests.OwnTransactions.{own_transaction}
+
+-- Its header names the transaction that its client was in, as the snapshot after its event shows it, or
+-- none where the connection is cleaned.
+pub record NamesShown (n : ℕ) (shown : List Snapshot) (descriptor : ℕ) : Type 0 where
+  pub snapshot : Snapshot
+  pub is : snapshot_in n shown ≡ Some snapshot
+  pub named : descriptor ≡ header_descriptor snapshot.mark snapshot.descriptor
+
+abbrev pub NamesOwn : Bool → ℕ → List Snapshot → ℕ → Type 0
+NamesOwn false n shown descriptor = NamesShown n shown descriptor
+NamesOwn true n shown descriptor = descriptor ≡ 0
 
 -- The request of this number, asked on connection n, is the one that was asked so.
 pub record IsAsked (w : World) (number n : ℕ) (a : Ask) : Type 0 where
@@ -46,9 +51,7 @@ pub record IsAsked (w : World) (number n : ℕ) (a : Ask) : Type 0 where
   pub numbered : a.number ≡ number
   pub lease : request.lease ≡ a.lease
   pub asks : request.asking.request ≡ a.request
-  pub snapshot : Snapshot
-  pub shown : snapshot_in n a.snapshots ≡ Some snapshot
-  pub descriptor : request.asking.descriptor ≡ header_descriptor snapshot.mark snapshot.descriptor
+  pub names : NamesOwn a.cleans n a.snapshots request.asking.descriptor
 
 -- So it is with the requests that were asked on these connections, of which the first has this number.
 abbrev pub AreAsked : World → ℕ → List ℕ → List Ask → Type 0
@@ -69,9 +72,7 @@ asked_stays w v number n a g h =
       numbered = h.numbered;
       lease = later.2.lease ∙ h.lease;
       asks = ap (λ x. x.request) later.2.asking ∙ h.asks;
-      snapshot = h.snapshot;
-      shown = h.shown;
-      descriptor = ap (λ x. x.descriptor) later.2.asking ∙ h.descriptor;
+      names = subst (NamesOwn a.cleans n a.snapshots) (sym (ap (λ x. x.descriptor) later.2.asking)) h.names;
     }
 
 all_stay : (w v : World) (number : ℕ) (ns : List ℕ) (xs : List Ask) → Grown Follows w.connections v.connections → AreAsked w number ns xs → AreAsked v number ns xs
@@ -187,7 +188,7 @@ asks_one false w lease n q c xs i s o g h = no_more w w.asked_on xs h
 asks_one true w lease n q c xs i s o g h =
     let d : Connection = asks (next_number w.asked_on) lease n q c in
     let p = settles (event.Ask lease q) n w (asks_by true (next_number w.asked_on) lease n q c) in
-    let a : Ask = record { number = next_number w.asked_on; lease = lease; request = q; snapshots = (event_report p).snapshots } in
+    let a : Ask = record { number = next_number w.asked_on; lease = lease; request = q; cleans = false; snapshots = (event_report p).snapshots } in
     let next : next_number w.asked_on ≡ 1 + length w.asked_on = omega arith in
     one_more p.1 1 n a w.asked_on xs (all_stay w p.1 1 w.asked_on xs g h) (subst (λ k. IsAsked p.1 k n a) next (record {
       request = new_record (next_number w.asked_on) lease n q c.mark c.heard;
@@ -195,9 +196,11 @@ asks_one true w lease n q c xs i s o g h =
       numbered = refl;
       lease = refl;
       asks = refl;
-      snapshot = snapshot_of n d (place.Leased lease);
-      shown = snapshot_there (put_numbered n d w.connections) n d (place.Leased lease) (put_there w.connections n c d i) s;
-      descriptor = refl;
+      names = record {
+        snapshot = snapshot_of n d (place.Leased lease);
+        is = snapshot_there (put_numbered n d w.connections) n d (place.Leased lease) (put_there w.connections n c d i) s;
+        named = refl;
+      };
     }))
 
 ask_found : (setup : Setup) (answers : Answers) (lease : ℕ) (q : Request) (w : World) (f : Found) (xs : List Ask) → FoundWith w (StandsFor (event.Ask lease q)) f → RequestsInOrder w → Grown Follows w.connections (happens_at setup answers (event.Ask lease q) w f).1.connections → AreAsked w 1 w.asked_on xs → Asks (event.Ask lease q) xs (happens_at setup answers (event.Ask lease q) w f)
@@ -205,6 +208,43 @@ ask_found setup answers lease q w (Missing why) xs s o g h = no_more w w.asked_o
 ask_found setup answers lease q w (Here n c) xs s o g h = asks_one (is_idle c) w lease n q c xs s.0 s.1 o g h
 ask_found setup answers lease q w (Opens n) xs s o g h =
     let v : World = (happens_at setup answers (event.Ask lease q) w (Opens n)).1 in
+    no_more v w.asked_on xs (all_stay w v 1 w.asked_on xs g h)
+
+-- A cleaning asks too: what it sends leaves who it is.
+clean_there : (w : World) (room number lease n : ℕ) (c : Connection) → number ≡ next_number w.asked_on → numbered w.connections n ≡ Some c → RequestsInOrder w → let q : Record = cleaning_record lease number n c in request_in number (numbered (put_numbered n (cleans room lease number n c) w.connections) n) ≡ Some (record q { left = []; out = Whole (packets_of q.out + 1) })
+clean_there w room number lease n c k i o =
+    let q : Record = cleaning_record lease number n c in
+    let sent : Record = record q { left = []; out = Whole (packets_of q.out + 1) } in
+    let less : AllByRecursion (λ x. x < number) (numbers_on n 1 w.asked_on) = all_less n 1 number w.asked_on (omega arith) in
+    let lower : AllByRecursion (λ (p : Record). p.number < number) (records c) =
+    by_numbers (λ x. x < number) (records c) (subst (AllByRecursion (λ x. x < number)) (sym (o.each n c i).numbers) less) in
+    ap (request_in number) (put_there w.connections n c (cleans room lease number n c) i) ∙ find_newest (records c) sent lower
+
+cleans_one : (k room : ℕ) (free can : Bool) (w : World) (n : ℕ) (c : Connection) (xs : List Ask) → numbered w.connections n ≡ Some c → RequestsInOrder w → let p = settles (event.Clean k) n w (cleans_by free can room (next_number w.leases) (next_number w.asked_on) n c) in Grown Follows w.connections p.1.connections → AreAsked w 1 w.asked_on xs → Asks (event.Clean k) xs p
+cleans_one k room false can w n c xs i o g h = no_more w w.asked_on xs h
+cleans_one k room true false w n c xs i o g h = no_more w w.asked_on xs h
+cleans_one k room true true w n c xs i o g h =
+    let l : ℕ = next_number w.leases in
+    let number : ℕ = next_number w.asked_on in
+    let q : Record = cleaning_record l number n c in
+    let p = settles (event.Clean k) n w (cleans_by true true room l number n c) in
+    let a : Ask = record { number = number; lease = l; request = clean_request; cleans = true; snapshots = [] } in
+    let next : number ≡ 1 + length w.asked_on = omega arith in
+    one_more p.1 1 n a w.asked_on xs (all_stay w p.1 1 w.asked_on xs g h) (subst (λ m. IsAsked p.1 m n a) next (record {
+      request = record q { left = []; out = Whole (packets_of q.out + 1) };
+      there = clean_there w room number l n c refl i o;
+      numbered = refl;
+      lease = refl;
+      asks = refl;
+      names = refl;
+    }))
+
+clean_found : (setup : Setup) (answers : Answers) (k : ℕ) (w : World) (f : Found) (xs : List Ask) → FoundWith w (StandsFor (event.Clean k)) f → RequestsInOrder w → Grown Follows w.connections (happens_at setup answers (event.Clean k) w f).1.connections → AreAsked w 1 w.asked_on xs → Asks (event.Clean k) xs (happens_at setup answers (event.Clean k) w f)
+clean_found setup answers k w (Missing why) xs s o g h = no_more w w.asked_on xs h
+clean_found setup answers k w (Here n c) xs s o g h =
+    cleans_one k (setup.packet_size - 8) (is_free c.standing) (can_clean (setup.packet_size - 8) (next_number w.leases) (next_number w.asked_on) n c) w n c xs s.0 o g h
+clean_found setup answers k w (Opens n) xs s o g h =
+    let v : World = (happens_at setup answers (event.Clean k) w (Opens n)).1 in
     no_more v w.asked_on xs (all_stay w v 1 w.asked_on xs g h)
 
 -- No other event asks.
@@ -229,6 +269,8 @@ happens_asks setup answers event.RestartServer w xs a o g h = no_ask w (happens 
 happens_asks setup answers event.RestartClient w xs a o g h = no_ask w (happens setup answers event.RestartClient w).1 xs g refl h
 happens_asks setup answers (event.Ask l q) w xs a o g h =
     ask_found setup answers l q w (about setup w (event.Ask l q)) xs (about_stands setup w (event.Ask l q) a) o g h
+happens_asks setup answers (event.Clean k) w xs a o g h =
+    clean_found setup answers k w (about setup w (event.Clean k)) xs (about_stands setup w (event.Clean k) a) o g h
 happens_asks setup answers event.Lease w xs a o g h = at_event setup answers event.Lease w xs (λ n. refl) g h
 happens_asks setup answers (event.Resume t) w xs a o g h = at_event setup answers (event.Resume t) w xs (λ n. refl) g h
 happens_asks setup answers (event.GiveBack l) w xs a o g h = at_event setup answers (event.GiveBack l) w xs (λ n. refl) g h
@@ -295,67 +337,3 @@ each_reported P R w number (n ∷ ns) (a ∷ xs) f p h =
     on_some P number (numbered w.connections n) q (at_number (λ c. AllByRecursion (P c) (records c)) w.connections n p) h.0.there in
     subst (λ rs. OfEachAskFrom number R (a ∷ xs) (rs ++ request_reports w (suc number) ns)) (sym r.alone)
     (h.0.numbered, f number n a h.0 r, each_reported P R w (suc number) ns xs f p h.1)
-
--- ---- Own answers
-
-pub finished_shown : (fate : Fate) (c : Bool) (p : Phase) → status_by fate c p ≡ status.Finished → is_finished fate ≡ true
-finished_shown Finished c p e = refl
-finished_shown Acknowledged c p e = absurd (cc)
-finished_shown Open c Settled e = absurd (cc)
-finished_shown Open true Asked e = absurd (cc)
-finished_shown Open true Sending e = absurd (cc)
-finished_shown Open true Reading e = absurd (cc)
-finished_shown Open true Cancelling e = absurd (cc)
-finished_shown Open false Asked e = absurd (cc)
-finished_shown Open false Sending e = absurd (cc)
-finished_shown Open false Reading e = absurd (cc)
-finished_shown Open false Cancelling e = absurd (cc)
-finished_shown Cancelled c Settled e = absurd (cc)
-finished_shown Cancelled true Asked e = absurd (cc)
-finished_shown Cancelled true Sending e = absurd (cc)
-finished_shown Cancelled true Reading e = absurd (cc)
-finished_shown Cancelled true Cancelling e = absurd (cc)
-finished_shown Cancelled false Asked e = absurd (cc)
-finished_shown Cancelled false Sending e = absurd (cc)
-finished_shown Cancelled false Reading e = absurd (cc)
-finished_shown Cancelled false Cancelling e = absurd (cc)
-
-not_finished : (b : Bool) → b ≡ false → b ≡ true → ⊥
-not_finished true e f = absurd (cc)
-not_finished false e f = absurd (cc)
-
-answer_shown : (answers : Answers) (cut : Bool) (q : Record) (ran : Option SessionState) → IsOwnAnswer answers q ran → ShowsAnswerIn answers q.asking.request (request_report cut q) ran
-answer_shown answers cut q None h =
-    (h.0, λ e. not_finished (is_finished q.fate) h.1 (finished_shown q.fate cut (phase_of q) e))
-answer_shown answers cut q (Some s) h = record {
-  begins = h.begins;
-  ends = λ e. h.ends (finished_shown q.fate cut (phase_of q) e);
-}
-
-own_shown : (answers : Answers) (c : Connection) (q : Record) (a : Ask) → IsOwnAnswer answers q q.ran → q.lease ≡ a.lease → q.asking.request ≡ a.request → ShowsOwnAnswer answers a (request_report (is_cut c.standing) q)
-own_shown answers c q a h l e = record {
-  lease = l;
-  answer = subst (λ x. ShowsAnswerIn answers x (request_report (is_cut c.standing) q) q.ran) e (answer_shown answers (is_cut c.standing) q q.ran h);
-}
-
-pub own_answers_are_shown : (setup : Setup) (answers : Answers) → Lawful answers → AlwaysTold setup answers (ShowsOwnAnswers answers)
-own_answers_are_shown setup answers l events =
-    let w : World = world_after setup answers events new_world in
-    each_reported (λ c q. IsOwnAnswer answers q q.ran) (ShowsOwnAnswer answers) w 1 w.asked_on (asked_in events (event_reports setup answers events new_world)) (λ k n a h r. own_shown answers r.on h.request a r.holds h.lease h.asks) (own_answers setup answers l events) (all_asked setup answers events)
-
--- ---- Own transactions
-
-runs_in_own : (w : World) → RequestsInOrder w → (k n : ℕ) (a : Ask) (h : IsAsked w k n a) (r : IsReported RanInOwn k (numbered w.connections n) h.request) → ShowsRunInOwn a (request_report (is_cut r.on.standing) h.request)
-runs_in_own w o k n a h r s e =
-    let on : h.request.conn ≡ n =
-    found_has (λ (q : Record). q.conn ≡ n) (λ (q : Record). q.number == k) (records r.on) h.request (o.each n r.on r.is).conns r.found in
-    record {
-      snapshot = h.snapshot;
-      shown = ap (λ m. snapshot_in m a.snapshots) on ∙ h.shown;
-      descriptor = sym (r.holds s e) ∙ h.descriptor;
-    }
-
-pub own_transactions_are_shown : (setup : Setup) (answers : Answers) → Lawful answers → AlwaysTold setup answers ShowsOwnTransaction
-own_transactions_are_shown setup answers l events =
-    let w : World = world_after setup answers events new_world in
-    each_reported RanInOwn ShowsRunInOwn w 1 w.asked_on (asked_in events (event_reports setup answers events new_world)) (runs_in_own w (requests_in_order setup answers events)) (own_transaction setup answers l events) (all_asked setup answers events)

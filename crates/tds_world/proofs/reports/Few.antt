@@ -104,6 +104,12 @@ noted n (event.Abandon t) k heard w cs l h = record {
   tickets = fewer n t w.tickets h.tickets;
   asked = same n (length w.asked_on) h.asked;
 }
+noted n (event.Clean x) k heard w cs l h = record {
+  connections = l;
+  leases = one_more n w.leases _ h.leases;
+  tickets = same n (length w.tickets) h.tickets;
+  asked = one_more n w.asked_on _ h.asked;
+}
 noted n (event.Ask x q) k heard w cs l h = record {
   connections = l;
   leases = same n (length w.leases) h.leases;

@@ -14,13 +14,14 @@ use Rattle.tds_world.specs.declared.outcome.Outcome.{Outcome}
 use Rattle.tds_world.specs.declared.outcome.Outcome.TheVariants as outcome
 use Rattle.tds_world.specs.declared.report.EventReport.{EventReport}
 use Rattle.tds_world.specs.declared.report.RequestReport.{RequestReport}
+use Rattle.tds_world.specs.Cleaning.{can_clean}
 use Rattle.tds_world.specs.Connection.{Connection, phase, is_idle, Standing, In, Cut}
-use Rattle.tds_world.specs.Events.{about, acts, asks_by, sends_in, settles, happens_at, happens, world_after}
+use Rattle.tds_world.specs.Events.{about, acts, asks_by, cleans_by, sends_in, settles, happens_at, happens, world_after}
 use Rattle.tds_world.specs.Lawful.{Lawful}
 use Rattle.tds_world.specs.Laws.{HasKept, StartsFrom, StartsUnder}
 use Rattle.tds_world.specs.Observed.{event_reports, request_reports}
 use Rattle.tds_world.specs.Phase.{Phase, Asked, Sending}
-use Rattle.tds_world.specs.Pool.{Acted, Refuses, Does, gives_back_at, abandons_at, keeps_by, is_full, opens}
+use Rattle.tds_world.specs.Pool.{Acted, Refuses, Does, is_free, gives_back_at, abandons_at, keeps_by, is_full, opens}
 use Rattle.tds_world.specs.Record.{Record}
 use Rattle.tds_world.specs.Reports.{AlwaysShown, asked_in, first_run, StartsBy, StartsIfLeased, ShowsFreshStart}
 use Rattle.tds_world.specs.World.{World, Holding, Found, Missing, Here, Opens, new_world, numbered, next_number, holding, put_numbered}
@@ -106,12 +107,19 @@ sent l n w Asked room None c = tt
 sent l n w Sending room None c = tt
 sent l n w p room current c = tt
 
+cleaned : (k n : ℕ) (w : World) (free can : Bool) (room lease number : ℕ) (c : Connection) → IsNoted (event.Clean k) (settles (event.Clean k) n w (cleans_by free can room lease number n c))
+cleaned k n w false can room lease number c = tt
+cleaned k n w true false room lease number c = tt
+cleaned k n w true true room lease number c = tt
+
 acted : (setup : Setup) (answers : Answers) (w : World) (e : Event) (n : ℕ) (c : Connection) → IsNoted e (settles e n w (acts setup answers w e n c))
 acted setup answers w event.Lease n c = (holding n c.heard None, last_numbered w.leases (holding n c.heard None), refl)
 acted setup answers w (event.Resume t) n c = (holding n c.heard (Some t), last_numbered w.leases (holding n c.heard (Some t)), refl)
 acted setup answers w (event.GiveBack l) n c = back l n w c.standing c
 acted setup answers w (event.Keep l) n c = kept l n w (is_idle c) (c.heard == 0 || is_full c.mark) (next_number w.tickets) c
 acted setup answers w (event.Abandon t) n c = abandoned t n w c.standing c
+acted setup answers w (event.Clean k) n c =
+    cleaned k n w (is_free c.standing) (can_clean (setup.packet_size - 8) (next_number w.leases) (next_number w.asked_on) n c) (setup.packet_size - 8) (next_number w.leases) (next_number w.asked_on) c
 acted setup answers w (event.Ask l q) n c = asked l n w (is_idle c) (next_number w.asked_on) q c
 acted setup answers w (event.Send l) n c = sent l n w (phase c) (setup.packet_size - 8) c.current c
 acted setup answers w e n c = tt

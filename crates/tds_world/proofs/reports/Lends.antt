@@ -10,13 +10,14 @@ use Rattle.tds_world.specs.declared.event.Setup.{Setup}
 use Rattle.tds_world.specs.declared.outcome.Outcome.{Outcome}
 use Rattle.tds_world.specs.declared.report.ClientView.TheVariants as view
 use Rattle.tds_world.specs.declared.report.Place.TheVariants as place
+use Rattle.tds_world.specs.Cleaning.{can_clean}
 use Rattle.tds_world.specs.Connection.{Connection, new_connection, phase, is_idle, Standing, In, Cut}
-use Rattle.tds_world.specs.Events.{about, acts, asks_by, sends_in, settles, happens_at, happens, world_after}
+use Rattle.tds_world.specs.Events.{about, acts, asks_by, cleans_by, sends_in, settles, happens_at, happens, world_after}
 use Rattle.tds_world.specs.Lawful.{Lawful}
 use Rattle.tds_world.specs.Lending.{LendsIdle}
 use Rattle.tds_world.specs.Observed.{snapshot_of, snapshots, snapshots_from, event_reports}
 use Rattle.tds_world.specs.Phase.{Phase, Settled, Asked, Sending, state_of, is_settled}
-use Rattle.tds_world.specs.Pool.{gives_back_at, abandons_at, keeps_by, is_full}
+use Rattle.tds_world.specs.Pool.{is_free, gives_back_at, abandons_at, keeps_by, is_full}
 use Rattle.tds_world.specs.Record.{Record}
 use Rattle.tds_world.specs.Reports.{AlwaysShown, IsLent, LentIfLeased, IsLentIdle, ShowsLendsIdle}
 use Rattle.tds_world.specs.World.{World, Found, Missing, Here, Opens, new_world, numbered, next_number, put, put_numbered}
@@ -72,6 +73,11 @@ sent l n w Asked room None c = tt
 sent l n w Sending room None c = tt
 sent l n w p room current c = tt
 
+cleaned : (k n : ℕ) (w : World) (free can : Bool) (room lease number : ℕ) (c : Connection) → Lends (settles (event.Clean k) n w (cleans_by free can room lease number n c))
+cleaned k n w false can room lease number c = tt
+cleaned k n w true false room lease number c = tt
+cleaned k n w true true room lease number c = tt
+
 acted : (setup : Setup) (answers : Answers) (w : World) (e : Event) (n : ℕ) (c : Connection) → LendsIdle setup w → about setup w e ≡ Here n c → numbered w.connections n ≡ Some c → Lends (settles e n w (acts setup answers w e n c))
 acted setup answers w event.Lease n c h a i =
     lent (next_number w.leases) n (put_numbered n _ w.connections) _ (put_there w.connections n c _ i) refl (h.lease n c a)
@@ -80,6 +86,8 @@ acted setup answers w (event.Resume t) n c h a i =
 acted setup answers w (event.GiveBack l) n c h a i = back l n w c.standing c
 acted setup answers w (event.Keep l) n c h a i = kept l n w (is_idle c) (c.heard == 0 || is_full c.mark) (next_number w.tickets) c
 acted setup answers w (event.Abandon t) n c h a i = abandoned t n w c.standing c
+acted setup answers w (event.Clean k) n c h a i =
+    cleaned k n w (is_free c.standing) (can_clean (setup.packet_size - 8) (next_number w.leases) (next_number w.asked_on) n c) (setup.packet_size - 8) (next_number w.leases) (next_number w.asked_on) c
 acted setup answers w (event.Ask l q) n c h a i = asked l n w (is_idle c) (next_number w.asked_on) q c
 acted setup answers w (event.Send l) n c h a i = sent l n w (phase c) (setup.packet_size - 8) c.current c
 acted setup answers w e n c h a i = tt

@@ -7,11 +7,12 @@ use Rattle.tds_session.specs.Answer.{Answers}
 use Rattle.tds_world.specs.declared.event.Event.{Event}
 use Rattle.tds_world.specs.declared.event.Event.TheVariants as event
 use Rattle.tds_world.specs.declared.event.Setup.{Setup}
+use Rattle.tds_world.specs.Cleaning.{can_clean}
 use Rattle.tds_world.specs.Connection.{Connection, phase, is_idle, Standing, In, Cut}
-use Rattle.tds_world.specs.Events.{about, acts, asks_by, sends_in, settles, happens_at, happens}
+use Rattle.tds_world.specs.Events.{about, acts, asks_by, cleans_by, sends_in, settles, happens_at, happens}
 use Rattle.tds_world.specs.Observed.{event_reports}
 use Rattle.tds_world.specs.Phase.{Phase, Asked, Sending}
-use Rattle.tds_world.specs.Pool.{Acted, Refuses, Does, gives_back_at, abandons_at, keeps_by, is_full}
+use Rattle.tds_world.specs.Pool.{Acted, Refuses, Does, is_free, gives_back_at, abandons_at, keeps_by, is_full}
 use Rattle.tds_world.specs.Record.{Record}
 use Rattle.tds_world.specs.Reports.{AlwaysShown, IsNoFault, IsWithoutFault, ShowsNoFault}
 use Rattle.tds_world.specs.World.{World, Found, Missing, Here, Opens, new_world, next_number}
@@ -44,10 +45,17 @@ sent Asked room None c = tt
 sent Sending room None c = tt
 sent p room current c = tt
 
+cleaned : (free can : Bool) (room lease number n : ℕ) (c : Connection) → Fine (cleans_by free can room lease number n c)
+cleaned false can room lease number n c = tt
+cleaned true false room lease number n c = tt
+cleaned true true room lease number n c = tt
+
 acted : (setup : Setup) (answers : Answers) (w : World) (e : Event) (n : ℕ) (c : Connection) → Fine (acts setup answers w e n c)
 acted setup answers w (event.GiveBack l) n c = back c.standing c
 acted setup answers w (event.Keep l) n c = kept (is_idle c) (c.heard == 0 || is_full c.mark) (next_number w.tickets) c
 acted setup answers w (event.Abandon t) n c = abandoned c.standing c
+acted setup answers w (event.Clean k) n c =
+    cleaned (is_free c.standing) (can_clean (setup.packet_size - 8) (next_number w.leases) (next_number w.asked_on) n c) (setup.packet_size - 8) (next_number w.leases) (next_number w.asked_on) n c
 acted setup answers w (event.Ask l q) n c = asked (is_idle c) (next_number w.asked_on) l n q c
 acted setup answers w (event.Send l) n c = sent (phase c) (setup.packet_size - 8) c.current c
 acted setup answers w e n c = tt

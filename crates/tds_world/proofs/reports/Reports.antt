@@ -54,7 +54,7 @@ any (e ∷ es) = (tt, any es)
 
 -- ---- Idle is quiet
 
-idle_settled : (p : Phase) → state_of p ≡ view.Idle → p ≡ Settled
+pub idle_settled : (p : Phase) → state_of p ≡ view.Idle → p ≡ Settled
 idle_settled Settled e = refl
 idle_settled p e = absurd (cc)
 

@@ -6,16 +6,17 @@ use Rattle.tds_session.specs.Answer.{Answers}
 use Rattle.tds_world.specs.declared.event.Event.{Event}
 use Rattle.tds_world.specs.declared.event.Setup.{Setup}
 use Rattle.tds_world.specs.declared.report.Place.{Place}
+use Rattle.tds_world.specs.declared.report.Place.TheVariants as place
 use Rattle.tds_world.specs.declared.report.Snapshot.{Snapshot}
 use Rattle.tds_world.specs.Bounds.{IsSetup}
-use Rattle.tds_world.specs.Connection.{Connection, Standing, In, Cut, is_cut}
+use Rattle.tds_world.specs.Connection.{Connection, Standing, In, Cut, is_cut, phase}
 use Rattle.tds_world.specs.Events.{happens, world_after}
 use Rattle.tds_world.specs.Lawful.{Lawful}
 use Rattle.tds_world.specs.Observed.{observed, snapshot_of, seen, snapshots_from, snapshots, event_reports}
 use Rattle.tds_world.specs.Phase.{state_of}
 use Rattle.tds_world.specs.Reports.{AlwaysTold, snapshot_in}
-use Rattle.tds_world.specs.rest.Rest.{rested_at, rested, BringsToRest, Finishes, stopping, finishing, NeverStuck}
-use Rattle.tds_world.specs.rest.RestShown.{last_of, last_snapshots, acknowledgement_most, IsAtRest, CanBeStopped, CanBeFinished, IsNeverStuck, ShowsNeverStuck}
+use Rattle.tds_world.specs.rest.Rest.{rested_at, rested, CanCancel, BringsToRest, Finishes, stopping, finishing, NeverStuck}
+use Rattle.tds_world.specs.rest.RestShown.{last_of, last_snapshots, acknowledgement_most, IsAtRest, CanCancelShown, CanBeStopped, CanBeFinished, IsNeverStuck, ShowsNeverStuck}
 use Rattle.tds_world.specs.World.{World, new_world, numbered}
 use Rattle.tds_world.proofs.events.Grows.{after_both}
 use Rattle.tds_world.proofs.events.Worlds.{always}
@@ -51,7 +52,7 @@ each_from P k (c ∷ cs) f =
     seen_each P k c c.standing (snapshots_from (suc k) cs) (λ p e. subst (λ m. P (snapshot_of m c p)) (let z : k + 0 ≡ k = omega arith in z) (f 0 c p refl e))
     (each_from P (suc k) cs (λ i d p e s. subst (λ m. P (snapshot_of m d p)) (let z : k + suc i ≡ suc k + i = omega arith in z) (f (suc i) d p e s)))
 
-each_seen : (P : Snapshot → Type 0) (w : World) → ((n : ℕ) (c : Connection) (p : Place) → numbered w.connections n ≡ Some c → c.standing ≡ In p → P (snapshot_of n c p)) → AllByRecursion P (snapshots w)
+pub each_seen : (P : Snapshot → Type 0) (w : World) → ((n : ℕ) (c : Connection) (p : Place) → numbered w.connections n ≡ Some c → c.standing ≡ In p → P (snapshot_of n c p)) → AllByRecursion P (snapshots w)
 each_seen P w f = each_from P 1 w.connections (λ i c p e s. subst (λ m. P (snapshot_of m c p)) (let z : suc i ≡ 1 + i = omega arith in z) (f (suc i) c p e s))
 
 -- ---- It is shown at rest
@@ -73,12 +74,15 @@ shown_at_rest setup answers events more n c p s b =
 whole_in : (p : Place) (s : Standing) → s ≡ In p → is_cut s ≡ false
 whole_in p s e = ap is_cut e
 
+can_cancel : (n : ℕ) (c : Connection) (p : Place) → c.standing ≡ In p → CanCancelShown (snapshot_of n c p) → CanCancel c.standing (phase c)
+can_cancel n c p s z = λ d r. z (let y : In p ≡ In place.Draining = sym s ∙ d in cc) (ap state_of r)
+
 one_stops : (setup : Setup) (answers : Answers) (events : List Event) (n : ℕ) (c : Connection) (p : Place) → Lawful answers → NeverStuck setup answers (world_after setup answers events new_world) → numbered (world_after setup answers events new_world).connections n ≡ Some c → c.standing ≡ In p → IsGood c → c.on_attention ≡ setup.on_attention → CanBeStopped setup.on_attention (λ more. observed setup answers (events ++ more)) (snapshot_of n c p)
-one_stops setup answers events n c p l h t s g o up down m k =
+one_stops setup answers events n c p l h t s g o z up down m k =
     let w : World = world_after setup answers events new_world in
     shown_at_rest setup answers events (stopping (In p) n up down) n c p s
     (subst (λ x. BringsToRest setup answers w n c (stopping x n up down)) s
-    (h.stops n c up down (number_finds w n c t (whole_in p c.standing s)) (stop_counts (acknowledgement_most setup.on_attention) answers c up down (ap acknowledgement_most o) (cancels_good setup answers c l g).0 m k)))
+    (h.stops n c up down (number_finds w n c t (whole_in p c.standing s)) (can_cancel n c p s z) (stop_counts (acknowledgement_most setup.on_attention) answers c up down (ap acknowledgement_most o) (cancels_good setup answers c l g).0 m k)))
 
 one_finishes : (setup : Setup) (answers : Answers) (events : List Event) (n : ℕ) (c : Connection) (p : Place) → IsSetup setup → Lawful answers → NeverStuck setup answers (world_after setup answers events new_world) → numbered (world_after setup answers events new_world).connections n ≡ Some c → c.standing ≡ In p → IsGood c → CanBeFinished (λ more. observed setup answers (events ++ more)) (observed setup answers events) (snapshot_of n c p)
 one_finishes setup answers events n c p u l h t s g =

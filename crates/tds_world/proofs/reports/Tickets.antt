@@ -15,13 +15,14 @@ use Rattle.tds_world.specs.declared.report.EventReport.{EventReport}
 use Rattle.tds_world.specs.declared.report.Place.TheVariants as place
 use Rattle.tds_world.specs.declared.report.Report.{Report}
 use Rattle.tds_world.specs.declared.report.Snapshot.{Snapshot}
+use Rattle.tds_world.specs.Cleaning.{can_clean}
 use Rattle.tds_world.specs.Connection.{Connection, phase, is_idle, Standing, In, Cut}
-use Rattle.tds_world.specs.Events.{about, acts, asks_by, sends_in, settles, happens_at, happens, world_after}
+use Rattle.tds_world.specs.Events.{about, acts, asks_by, cleans_by, sends_in, settles, happens_at, happens, world_after}
 use Rattle.tds_world.specs.Lawful.{Lawful}
 use Rattle.tds_world.specs.Laws.{HasKept, StartsFrom, StartsUnder}
 use Rattle.tds_world.specs.Observed.{snapshot_of, snapshots, event_report, event_reports, observed}
 use Rattle.tds_world.specs.Phase.{Phase, Asked, Sending}
-use Rattle.tds_world.specs.Pool.{gives_back_at, abandons_at, keeps_by, is_full}
+use Rattle.tds_world.specs.Pool.{is_free, gives_back_at, abandons_at, keeps_by, is_full}
 use Rattle.tds_world.specs.Record.{Record}
 use Rattle.tds_world.specs.Reports.{AlwaysTold, asked_in, first_run, snapshot_in, kept_in, IsInKept, KeepsIfResumed, OfEachOutcome, ShowsKeptTransaction}
 use Rattle.tds_world.specs.World.{World, Holding, Found, Missing, Here, Opens, new_world, numbered, next_number, holding, ended, ended_at, ended_numbered}
@@ -108,11 +109,18 @@ sent l n w Asked room None c = refl
 sent l n w Sending room None c = refl
 sent l n w p room current c = refl
 
+cleaned : (k n : ℕ) (w : World) (free can : Bool) (room lease number : ℕ) (c : Connection) → Makes w (settles (event.Clean k) n w (cleans_by free can room lease number n c))
+cleaned k n w false can room lease number c = refl
+cleaned k n w true false room lease number c = refl
+cleaned k n w true true room lease number c = refl
+
 acted : (setup : Setup) (answers : Answers) (w : World) (e : Event) (n : ℕ) (c : Connection) → numbered w.connections n ≡ Some c → Makes w (settles e n w (acts setup answers w e n c))
 acted setup answers w (event.Resume t) n c i = length_ended t w.tickets
 acted setup answers w (event.GiveBack l) n c i = back l n w c.standing c
 acted setup answers w (event.Keep l) n c i = kept l n w (is_idle c) (c.heard == 0 || is_full c.mark) c i
 acted setup answers w (event.Abandon t) n c i = abandoned t n w c.standing c
+acted setup answers w (event.Clean k) n c i =
+    cleaned k n w (is_free c.standing) (can_clean (setup.packet_size - 8) (next_number w.leases) (next_number w.asked_on) n c) (setup.packet_size - 8) (next_number w.leases) (next_number w.asked_on) c
 acted setup answers w (event.Ask l q) n c i = asked l n w (is_idle c) (next_number w.asked_on) q c
 acted setup answers w (event.Send l) n c i = sent l n w (phase c) (setup.packet_size - 8) c.current c
 acted setup answers w e n c i = refl

@@ -144,7 +144,7 @@ pub growth : (setup : Setup) (answers : Answers) → Growth setup answers Follow
 growth setup answers = record {
   same = λ c. longer_same (records c);
   then = follows_then;
-  acted = λ w e n c s. acted setup answers AnyAt (λ v d ups downs. Follows c d) (λ v u d i j m a h. h) (follows_moves setup answers c) w e n c tt s (longer_same (records c));
+  acted = λ w e n c s. acted setup answers AnyAt (λ i j lease x. tt) (λ v d ups downs. Follows c d) (λ v u d i j m a h. h) (follows_moves setup answers c) w e n c tt s (longer_same (records c));
   was_cut = λ c. longer_same (records c);
 }
 

@@ -116,6 +116,7 @@ newest_listed n ns xs x e g h =
 
 -- The connections of all requests after it, which is about connection n.
 abbrev pub asked_then : Event → ℕ → List ℕ → List ℕ
+asked_then (event.Clean k) n ns = ns ++ n ∷ []
 asked_then (event.Ask l q) n ns = ns ++ n ∷ []
 asked_then e n ns = ns
 
@@ -140,6 +141,7 @@ listed_moves setup answers n = record {
 
 -- What holds where nothing is asked, and where a request is.
 pub asked_cases : (n : ℕ) (ns : List ℕ) (P : List ℕ → Type 0) → P ns → P (ns ++ n ∷ []) → (e : Event) → P (asked_then e n ns)
+asked_cases n ns P none one (event.Clean k) = one
 asked_cases n ns P none one (event.Ask l q) = one
 asked_cases n ns P none one e = none
 
@@ -148,6 +150,7 @@ elsewhere : (e : Event) (n m : ℕ) (ns : List ℕ) (xs : List Core) → eqb n m
 elsewhere e n m ns xs d h = asked_cases n ns (λ ms. Listed m ms xs) h (h.0 ∙ sym (numbers_elsewhere m 1 n ns d), h.1) e
 
 pub notes_asked : (e : Event) (n heard : ℕ) (w : World) → (notes e n heard w).asked_on ≡ asked_then e n w.asked_on
+notes_asked (event.Clean k) n heard w = refl
 notes_asked (event.Ask l q) n heard w = refl
 notes_asked e n heard w = refl
 
@@ -158,7 +161,7 @@ listed_then e n w (Does what d) h = subst (λ ns. ListedOn n ns d) (notes_asked 
 acts_listed : (setup : Setup) (answers : Answers) (w : World) (e : Event) (n : ℕ) (c : Connection) → StandsFor e c.standing → ListedOn n w.asked_on c → OfActed (ListedOn n (asked_then e n w.asked_on)) (acts setup answers w e n c)
 acts_listed setup answers w e n c s h =
     listed_then e n w (acts setup answers w e n c)
-    (acted setup answers (λ i x. i ≡ n) (λ v d ups downs. ListedOn n v.asked_on d) (λ v u d i j m a g. subst (λ ns. ListedOn n ns d) (sym m) g) (listed_moves setup answers n) w e n c refl s h)
+    (acted setup answers (λ i x. i ≡ n) (λ i j lease x. x) (λ v d ups downs. ListedOn n v.asked_on d) (λ v u d i j m a g. subst (λ ns. ListedOn n ns d) (sym m) g) (listed_moves setup answers n) w e n c refl s h)
 
 -- ---- Connections at their numbers
 

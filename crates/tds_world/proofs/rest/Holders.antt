@@ -12,12 +12,13 @@ use Rattle.tds_world.specs.declared.outcome.Refusal.TheVariants as refusal
 use Rattle.tds_world.specs.declared.report.Place.TheVariants as place
 use Rattle.tds_world.specs.Arrivals.{reach_client, to_server, works_on, drained}
 use Rattle.tds_world.specs.Caller.{cancels, sends_by, sends_last}
+use Rattle.tds_world.specs.Cleaning.{can_clean}
 use Rattle.tds_world.specs.Connection.{Connection, Standing, In, Cut, is_cut, is_idle, phase, new_connection, cut, up_underway, down_underway}
-use Rattle.tds_world.specs.Events.{about, acts, settles, happens_at, happens, asks_by, sends_in, world_after}
+use Rattle.tds_world.specs.Events.{about, acts, settles, happens_at, happens, asks_by, cleans_by, sends_in, world_after}
 use Rattle.tds_world.specs.Phase.{Phase, Settled, Asked, Sending, Reading, Cancelling}
-use Rattle.tds_world.specs.Pool.{Acted, Refuses, Does, opens, gives_back_at, abandons_at, keeps_by, place_back, is_full}
+use Rattle.tds_world.specs.Pool.{Acted, Refuses, Does, is_free, opens, gives_back_at, abandons_at, keeps_by, place_back, is_full}
 use Rattle.tds_world.specs.Record.{Record}
-use Rattle.tds_world.specs.World.{World, new_world, Holding, Found, Missing, Here, Opens, numbered, next_number, put, put_numbered, holding, ended_at, ended_numbered, there, held, not_cut, by_lease}
+use Rattle.tds_world.specs.World.{World, new_world, Holding, Found, Missing, Here, Opens, numbered, next_number, put, put_numbered, holding, ended, ended_at, ended_numbered, there, held, not_cut, by_lease}
 use Rattle.tds_world.proofs.events.Agreement.{happens_agrees, new_agrees}
 use Rattle.tds_world.proofs.events.Places.{StandsFor, FoundWith, about_stands, Agrees}
 use Rattle.tds_world.proofs.events.Standings.{works_stand, cancels_stand_in, reach_server_stands, reach_client_stands}
@@ -100,12 +101,19 @@ drained_so true (In (place.Kept t)) l h = h
 drained_so true Cut l h = h
 drained_so false s l h = h
 
+cleaned_for : (free can : Bool) (room lease number n : ℕ) (c : Connection) → OfActed (λ d. StoodSo c.standing d.standing) (cleans_by free can room lease number n c)
+cleaned_for false can room lease number n c = tt
+cleaned_for true false room lease number n c = tt
+cleaned_for true true room lease number n c = λ l h. absurd (cc)
+
 stood_for : (setup : Setup) (answers : Answers) (w : World) (e : Event) (n : ℕ) (c : Connection) → OfActed (λ d. StoodFor w e c.standing d.standing) (acts setup answers w e n c)
 stood_for setup answers w event.Lease n c = refl
 stood_for setup answers w (event.Resume t) n c = refl
 stood_for setup answers w (event.GiveBack l) n c = back_for c.standing c refl
 stood_for setup answers w (event.Keep l) n c = kept_for (is_idle c) (c.heard == 0 || is_full c.mark) (next_number w.tickets) c
 stood_for setup answers w (event.Abandon t) n c = abandoned_for c.standing c refl
+stood_for setup answers w (event.Clean k) n c =
+    cleaned_for (is_free c.standing) (can_clean (setup.packet_size - 8) (next_number w.leases) (next_number w.asked_on) n c) (setup.packet_size - 8) (next_number w.leases) (next_number w.asked_on) n c
 stood_for setup answers w (event.Ask l q) n c = asked_for (is_idle c) (next_number w.asked_on) l n q c
 stood_for setup answers w (event.Send l) n c = sent_for (phase c) (setup.packet_size - 8) c.current c
 stood_for setup answers w (event.Cancel l) n c = same_so c.standing (cancels c).standing (cancels_stand_in c.current c)
@@ -254,6 +262,10 @@ did_hold setup w (event.Keep k) n old d what f i s h =
     held_then w (ended_numbered k w.leases) n d (room_for w.connections n old i) (λ l z. absurd (s l z))
     (others_stay w.leases k n (held_by w refusal.UnknownLease n old w.leases k (numbered w.leases k) refl (not_cut_is (by_lease w k) n old f))) h
 did_hold setup w (event.Abandon t) n old d what f i s h = held_then w w.leases n d (room_for w.connections n old i) (λ l z. absurd (s l z)) (all_stay w.leases n) h
+did_hold setup w (event.Clean k) n old d what f i s h =
+    held_then w (w.leases ++ ended (holding n d.heard None) ∷ []) n d (room_for w.connections n old i)
+    (λ l z. let g : HasLease w.leases l n = h n old l i (s l z) in record { holding = g.holding; given = stays_more w.leases (ended (holding n d.heard None)) g.holding l g.given; goes_on = g.goes_on; on = g.on })
+    (more_stay w.leases (ended (holding n d.heard None)) n) h
 did_hold setup w event.RestartServer n old d what f i s h = absurd (cc)
 did_hold setup w event.RestartClient n old d what f i s h = absurd (cc)
 did_hold setup w e n old d what f i s h = held_then w w.leases n d (room_for w.connections n old i) (λ l z. h n old l i (s l z)) (all_stay w.leases n) h
@@ -293,6 +305,7 @@ happens_hold setup answers (event.Resume t) w a h = at_event setup answers (even
 happens_hold setup answers (event.GiveBack l) w a h = at_event setup answers (event.GiveBack l) w a h
 happens_hold setup answers (event.Keep l) w a h = at_event setup answers (event.Keep l) w a h
 happens_hold setup answers (event.Abandon t) w a h = at_event setup answers (event.Abandon t) w a h
+happens_hold setup answers (event.Clean n) w a h = at_event setup answers (event.Clean n) w a h
 happens_hold setup answers (event.Ask l q) w a h = at_event setup answers (event.Ask l q) w a h
 happens_hold setup answers (event.Send l) w a h = at_event setup answers (event.Send l) w a h
 happens_hold setup answers (event.Cancel l) w a h = at_event setup answers (event.Cancel l) w a h

@@ -1,5 +1,5 @@
 -- No connection that is whole is ever stuck.
-use Rattle.std.proofs.Common.{◌≡◌, ℕ, zero, suc, List, [], ◌∷◌, ◌++◌, ◌+◌, ◌-◌, ◌≤◌, length, min, true, false, cond, refl, sym, ap, subst, ◌∙◌, Option, Some, None}
+use Rattle.std.proofs.Common.{◌≡◌, ◌≢◌, ℕ, zero, suc, List, [], ◌∷◌, ◌++◌, ◌+◌, ◌-◌, ◌≤◌, length, min, true, false, cond, refl, sym, ap, subst, ◌∙◌, Option, Some, None}
 use Rattle.std.specs.Prelude.{replicate}
 use Rattle.std.specs.List.{AllByRecursion}
 use Rattle.tds_session.specs.Answer.{Answers}
@@ -17,7 +17,7 @@ use Rattle.tds_world.specs.Laws.{Always}
 use Rattle.tds_world.specs.Phase.{Phase, Settled, Asked, Sending, Reading, Cancelling, is_settled}
 use Rattle.tds_world.specs.Pool.{Acted, Refuses, Does}
 use Rattle.tds_world.specs.Record.{Record}
-use Rattle.tds_world.specs.rest.Rest.{rested, ComesToRest, BringsToRest, arriving, stopping, AreAll, answering, finishing, times, after_act, sends_next, AreEnough, NeverStuck}
+use Rattle.tds_world.specs.rest.Rest.{rested, CanCancel, ComesToRest, BringsToRest, arriving, stopping, AreAll, answering, finishing, times, after_act, sends_next, AreEnough, NeverStuck}
 use Rattle.tds_world.specs.World.{World, new_world, Found, Missing, Here, numbered, put_numbered, uncut_in, by_number, by_lease, not_cut}
 use Rattle.tds_world.proofs.events.Agreement.{happens_agrees, new_agrees}
 use Rattle.tds_world.proofs.events.Grows.{notes_leave, after_both, after_agrees}
@@ -161,26 +161,34 @@ idle_stopped Sending e = absurd (cc)
 idle_stopped Reading e = absurd (cc)
 idle_stopped Cancelling e = refl
 
+-- What has nothing to send and can be cancelled is stopped.
+not_reading : (p : Phase) → is_sending p ≡ false → p ≢ Reading → is_stopped p ≡ true
+not_reading Settled e n = refl
+not_reading Asked e n = absurd (cc)
+not_reading Sending e n = absurd (cc)
+not_reading Reading e n = absurd (n refl)
+not_reading Cancelling e n = refl
+
 -- What nobody has is stopped.
 stops_at : (setup : Setup) (answers : Answers) (w : World) (n up down : ℕ) (c : Connection) → Lawful answers → There w n c → is_cut c.standing ≡ false → IsGood c → is_stopped (phase c) ≡ true → AreAll answers (cancels c) up down → BringsToRest setup answers w n c (arriving n up down)
 stops_at setup answers w n up down c l t s f p m =
     arrives setup answers w n up down c c l t s refl f p (subst (λ d. AreAll answers d up down) (stopped_stays c p) m)
 
-stops_by : (setup : Setup) (answers : Answers) (w : World) (n up down : ℕ) (c : Connection) (s : Standing) → Lawful answers → Good w → There w n c → c.standing ≡ s → is_cut c.standing ≡ false → IsGood c → RestsIdle c → Stops c → AreAll answers (cancels c) up down → BringsToRest setup answers w n c (stopping s n up down)
-stops_by setup answers w n up down c (In place.Free) l g t e s f i j m =
+stops_by : (setup : Setup) (answers : Answers) (w : World) (n up down : ℕ) (c : Connection) (s : Standing) → Lawful answers → Good w → There w n c → c.standing ≡ s → is_cut c.standing ≡ false → IsGood c → RestsIdle c → Stops c → CanCancel c.standing (phase c) → AreAll answers (cancels c) up down → BringsToRest setup answers w n c (stopping s n up down)
+stops_by setup answers w n up down c (In place.Free) l g t e s f i j r m =
     stops_at setup answers w n up down c l t s f (idle_stopped (phase c) (subst (λ x. Rests x (is_idle c)) e i)) m
-stops_by setup answers w n up down c (In (place.Kept k)) l g t e s f i j m =
+stops_by setup answers w n up down c (In (place.Kept k)) l g t e s f i j r m =
     stops_at setup answers w n up down c l t s f (idle_stopped (phase c) (subst (λ x. Rests x (is_idle c)) e i)) m
-stops_by setup answers w n up down c (In place.Draining) l g t e s f i j m =
-    stops_at setup answers w n up down c l t s f (subst (λ x. StopsIn x (phase c)) e j) m
-stops_by setup answers w n up down c (In (place.Leased k)) l g t e s f i j m =
+stops_by setup answers w n up down c (In place.Draining) l g t e s f i j r m =
+    stops_at setup answers w n up down c l t s f (not_reading (phase c) (subst (λ x. StopsIn x (phase c)) e j) (r e)) m
+stops_by setup answers w n up down c (In (place.Leased k)) l g t e s f i j r m =
     let v : World = (happens setup answers (event.Cancel k) w).1 in
     let stand : (cancels c).standing ≡ c.standing = cancels_stand_in c.current c in
     let calm = arrives setup answers v n up down c (cancels c) l
     (then_there setup answers (event.Cancel k) w n c (about setup w (event.Cancel k)) (lease_about w n c k g t e) t)
     (ap is_cut stand ∙ s) stand (cancels_good setup answers c l f) (cancels_stop c) m in
     record { after = calm.after; there = calm.there; rests = calm.rests }
-stops_by setup answers w n up down c Cut l g t e s f i j m = let z : true ≡ false = sym (ap is_cut e) ∙ s in absurd (cc)
+stops_by setup answers w n up down c Cut l g t e s f i j r m = let z : true ≡ false = sym (ap is_cut e) ∙ s in absurd (cc)
 
 -- They bring it to rest, and its newest request is the same one.
 pub record Did (setup : Setup) (answers : Answers) (w : World) (n : ℕ) (c : Connection) (events : List Event) : Type 0 where
@@ -228,31 +236,31 @@ finishes_leased setup answers w n k packets up steps down c l g t e s f m =
     }
 
 -- One that sends nothing stays as it is.
-sends_none : (p : Phase) (room : ℕ) (o : Option Record) (c : Connection) → is_stopped p ≡ true → after_act c (sends_in p room o c) ≡ c
+sends_none : (p : Phase) (room : ℕ) (o : Option Record) (c : Connection) → is_sending p ≡ false → after_act c (sends_in p room o c) ≡ c
 sends_none Settled room o c e = refl
 sends_none Asked room o c e = absurd (cc)
 sends_none Sending room o c e = absurd (cc)
-sends_none Reading room o c e = absurd (cc)
+sends_none Reading room o c e = refl
 sends_none Cancelling room o c e = refl
 
-none_sent : (room k : ℕ) (c : Connection) → is_stopped (phase c) ≡ true → times k (sends_next room) c ≡ c
+none_sent : (room k : ℕ) (c : Connection) → is_sending (phase c) ≡ false → times k (sends_next room) c ≡ c
 none_sent room zero c e = refl
 none_sent room (suc k) c e =
     ap (λ d. times k (sends_next room) d) (sends_none (phase c) room c.current c e) ∙ none_sent room k c e
 
-finishes_at : (setup : Setup) (answers : Answers) (w : World) (n packets up steps down : ℕ) (c : Connection) → Lawful answers → There w n c → is_cut c.standing ≡ false → IsGood c → is_stopped (phase c) ≡ true → AreEnough (setup.packet_size - 8) answers c packets up steps down → Did setup answers w n c (answering n up steps down)
+finishes_at : (setup : Setup) (answers : Answers) (w : World) (n packets up steps down : ℕ) (c : Connection) → Lawful answers → There w n c → is_cut c.standing ≡ false → IsGood c → is_sending (phase c) ≡ false → AreEnough (setup.packet_size - 8) answers c packets up steps down → Did setup answers w n c (answering n up steps down)
 finishes_at setup answers w n packets up steps down c l t s f p m =
     let same : times packets (sends_next (setup.packet_size - 8)) c ≡ c = none_sent (setup.packet_size - 8) packets c p in
-    answers_all setup answers w n up steps down c c l t s refl f (stopped_quiet (phase c) p)
+    answers_all setup answers w n up steps down c c l t s refl f p
     (subst (λ d. up_underway d ≤ up) same m.up_all)
     (subst (λ d. length (to_server answers up d).due ≤ steps) same m.steps_all)
     (subst (λ d. down_underway (times steps works (to_server answers up d)) ≤ down) same m.down_all) (follows_same c.current)
 
 finishes_by : (setup : Setup) (answers : Answers) (w : World) (n packets up steps down : ℕ) (c : Connection) (s : Standing) → Lawful answers → Good w → There w n c → c.standing ≡ s → is_cut c.standing ≡ false → IsGood c → RestsIdle c → Stops c → AreEnough (setup.packet_size - 8) answers c packets up steps down → Did setup answers w n c (finishing s n packets up steps down)
 finishes_by setup answers w n packets up steps down c (In place.Free) l g t e s f i j m =
-    finishes_at setup answers w n packets up steps down c l t s f (idle_stopped (phase c) (subst (λ x. Rests x (is_idle c)) e i)) m
+    finishes_at setup answers w n packets up steps down c l t s f (stopped_quiet (phase c) (idle_stopped (phase c) (subst (λ x. Rests x (is_idle c)) e i))) m
 finishes_by setup answers w n packets up steps down c (In (place.Kept k)) l g t e s f i j m =
-    finishes_at setup answers w n packets up steps down c l t s f (idle_stopped (phase c) (subst (λ x. Rests x (is_idle c)) e i)) m
+    finishes_at setup answers w n packets up steps down c l t s f (stopped_quiet (phase c) (idle_stopped (phase c) (subst (λ x. Rests x (is_idle c)) e i))) m
 finishes_by setup answers w n packets up steps down c (In place.Draining) l g t e s f i j m =
     finishes_at setup answers w n packets up steps down c l t s f (subst (λ x. StopsIn x (phase c)) e j) m
 finishes_by setup answers w n packets up steps down c (In (place.Leased k)) l g t e s f i j m =
@@ -273,10 +281,10 @@ never_stuck setup answers l events =
     let idle : AllByRecursion (SoundAndIdle w) w.connections = always_in setup answers SoundAndIdle events (rests_kept setup answers l) in
     let stopped : AllByRecursion (SoundAndStopped w) w.connections = always_in setup answers SoundAndStopped events (stops_kept setup answers l) in
     record {
-      stops = λ n c up down e m.
+      stops = λ n c up down e r m.
           let f = found_there setup w n c good.agrees e in
           stops_by setup answers w n up down c c.standing l good f.0 refl f.1 (of_there Sound w n c f.0 sound, of_there LanesWithin w n c f.0 within)
-          (of_there (SoundAndIdle w) w n c f.0 idle).1 (of_there (SoundAndStopped w) w n c f.0 stopped).1 m;
+          (of_there (SoundAndIdle w) w n c f.0 idle).1 (of_there (SoundAndStopped w) w n c f.0 stopped).1 r m;
       finishes = λ n c packets up steps down e m.
           let f = found_there setup w n c good.agrees e in
           let did : Did setup answers w n c (finishing c.standing n packets up steps down) =

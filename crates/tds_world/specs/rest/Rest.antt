@@ -1,6 +1,6 @@
 -- A connection that is whole never hangs: whatever happened on it, it comes to rest by a cancel and
 -- what is underway then, or without one by what is left to do.
-use Rattle.std.specs.Prelude.{ℕ, zero, suc, ◌≡◌, ◌-◌, ◌*◌, ◌≤◌, List, [], ◌∷◌, ◌++◌, length, replicate, false, Option, Some}
+use Rattle.std.specs.Prelude.{ℕ, zero, suc, ◌≡◌, ◌≢◌, ◌-◌, ◌*◌, ◌≤◌, List, [], ◌∷◌, ◌++◌, length, replicate, false, Option, Some}
 use Rattle.tds_session.specs.Answer.{Answers}
 use Rattle.tds_world.specs.declared.event.Event.{Event}
 use Rattle.tds_world.specs.declared.event.Event.TheVariants as event
@@ -12,7 +12,7 @@ use Rattle.tds_world.specs.Caller.{cancels}
 use Rattle.tds_world.specs.Connection.{Connection, Standing, In, Cut, phase, up_underway, down_underway}
 use Rattle.tds_world.specs.Events.{sends_in, world_after}
 use Rattle.tds_world.specs.Laws.{IsQuiet}
-use Rattle.tds_world.specs.Phase.{Phase, Settled, Asked, Sending, Cancelling, phase_of}
+use Rattle.tds_world.specs.Phase.{Phase, Settled, Asked, Sending, Reading, Cancelling, phase_of}
 use Rattle.tds_world.specs.Pool.{Acted, Refuses, Does}
 use Rattle.tds_world.specs.Record.{Record, Fate, Finished, Acknowledged, is_cancelled}
 use Rattle.tds_world.specs.World.{World, Here, numbered, by_number}
@@ -61,11 +61,17 @@ pub record AreAll (answers : Answers) (c : Connection) (up down : ℕ) : Type 0 
   pub up_all : up_underway c ≤ up
   pub down_all : down_underway (to_server answers up c) ≤ down
 
+-- What the pool asks when it cleans a connection nobody cancels: so it is with one that drains while its
+-- answer is waited for. It comes to rest without a cancel.
+abbrev pub CanCancel : Standing → Phase → Type 0
+CanCancel s p = s ≡ In place.Draining → p ≢ Reading
+
 -- Each connection that isn't cut comes to rest by at most three events.
 abbrev pub CanStop : Setup → Answers → World → Type 0
 CanStop setup answers w =
     (n : ℕ) (c : Connection) (up down : ℕ)
-    → by_number w n ≡ Here n c → AreAll answers (cancels c) up down
+    → by_number w n ≡ Here n c → CanCancel c.standing (phase c)
+    → AreAll answers (cancels c) up down
     → BringsToRest setup answers w n c (stopping c.standing n up down)
 
 -- Without a cancel

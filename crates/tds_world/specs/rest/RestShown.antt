@@ -1,6 +1,6 @@
 -- What reports show of it that no connection is ever stuck: the report of a play, and that of the same
 -- play with the events behind it that bring a connection to rest.
-use Rattle.std.specs.Prelude.{ℕ, ◌≡◌, ◌+◌, ◌≤◌, List, [], ◌∷◌, ◌++◌, map, Some}
+use Rattle.std.specs.Prelude.{ℕ, ◌≡◌, ◌≢◌, ◌+◌, ◌≤◌, List, [], ◌∷◌, ◌++◌, map, Some}
 use Rattle.std.specs.List.{AllByRecursion}
 use Rattle.tds_session.specs.declared.attention.OnAttention.{OnAttention}
 use Rattle.tds_session.specs.declared.attention.OnAttention.TheVariants.{Keep, RollBack}
@@ -9,6 +9,7 @@ use Rattle.tds_world.specs.declared.event.Event.{Event}
 use Rattle.tds_world.specs.declared.event.Setup.{Setup}
 use Rattle.tds_world.specs.declared.report.ClientView.TheVariants as view
 use Rattle.tds_world.specs.declared.report.EventReport.{EventReport}
+use Rattle.tds_world.specs.declared.report.Place.TheVariants as place
 use Rattle.tds_world.specs.declared.report.Report.{Report}
 use Rattle.tds_world.specs.declared.report.RequestReport.{RequestReport}
 use Rattle.tds_world.specs.declared.report.RequestStatus.{RequestStatus}
@@ -47,12 +48,18 @@ acknowledgement_most RollBack = 35
 abbrev pub Later : Type 0
 Later = List Event → Report
 
+-- What the pool asks when it cleans a connection nobody cancels: so it is with one that drains while its
+-- client reads. It comes to rest without a cancel.
+abbrev pub CanCancelShown : Snapshot → Type 0
+CanCancelShown s = s.place ≡ place.Draining → s.client ≢ view.Reading
+
 -- With a cancel: for all bytes that are shown underway to the server, and 16 for the word to drop the
 -- request and the attention; and all that are shown underway to the client, and those of the
 -- acknowledgement. More do no harm.
 abbrev pub CanBeStopped : OnAttention → Later → Snapshot → Type 0
 CanBeStopped attention later s =
-    (up down : ℕ) → s.to_server + 16 ≤ up → s.to_client + acknowledgement_most attention ≤ down
+    CanCancelShown s
+    → (up down : ℕ) → s.to_server + 16 ≤ up → s.to_client + acknowledgement_most attention ≤ down
     → IsAtRest s (later (stopping (In s.place) s.conn up down))
 
 -- What becomes of a request that is answered.

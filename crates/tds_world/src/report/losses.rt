@@ -10,6 +10,8 @@ ghost use Rattle.tds_world.specs.Bounds.{IsEvent, IsSetup};
 ghost use Rattle.tds_world.specs.Descriptors.{AreFewEvents, UseFewDescriptors};
 ghost use Rattle.tds_world.specs.Events.{world_after};
 ghost use Rattle.tds_world.specs.Lawful.{Lawful};
+ghost use Rattle.tds_world.specs.LeftClean.{AnswersClean};
+ghost use Rattle.tds_world.specs.LeftCleanShown.{ShowsLeftClean};
 ghost use Rattle.tds_world.specs.Losses.{Played, marked, observed_with, world_with};
 ghost use Rattle.tds_world.specs.Observed.{observed};
 ghost use Rattle.tds_world.specs.Reports.{ShowsFewUnderway, ShowsFreshStart, ShowsIdleQuiet};
@@ -77,6 +79,13 @@ pub fn kept_transaction()
         → AlwaysToldWith setup answers ShowsKeptTransaction }
 {}
 
+/// From the event on that cleans a connection, and up to the one that lends it, it is shown so: where
+/// its client is idle, its server has no transaction and no settings.
+pub fn left_clean()
+    ensures { (setup : Setup) (answers : Answers) → Lawful answers → AnswersClean answers
+        → AlwaysToldWith setup answers ShowsLeftClean }
+{}
+
 /// A connection that is lent is idle after the event that lends it, and stands under the lease, unless
 /// the link failed when it was opened.
 pub fn lends_idle()
@@ -110,6 +119,9 @@ pub fn of_marked_report()
     ensures kept_transaction { (setup : Setup) (answers : Answers) (events : List Event)
         (r : Report) → Lawful answers → IsReportWith setup answers events r
         → ShowsKeptTransaction events r }
+    ensures left_clean { (setup : Setup) (answers : Answers) (events : List Event) (r : Report)
+        → Lawful answers → AnswersClean answers → IsReportWith setup answers events r
+        → ShowsLeftClean events r }
     ensures lends_idle { (setup : Setup) (answers : Answers) (events : List Event) (r : Report)
         → Lawful answers → IsReportWith setup answers events r → ShowsLendsIdle r }
     ensures idle_is_quiet { (setup : Setup) (answers : Answers) (events : List Event) (r : Report)

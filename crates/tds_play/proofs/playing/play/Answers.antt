@@ -66,3 +66,7 @@ returns-clause-comes_to_rest g c = λ tells. IfOk-weaker c.play_with.result _ _ 
 pub returns-clause-told_alone : goal.returns-clause-told_alone
 returns-clause-told_alone g c = λ tells.
     c.play_with.ensures.told_alone tells c.script_is_blind.ensures c.script_uses_few.ensures
+
+pub returns-clause-left_clean : goal.returns-clause-left_clean
+returns-clause-left_clean g c = λ tells.
+    c.play_with.ensures.left_clean tells c.script_answers_clean.ensures

@@ -16,6 +16,7 @@ use Rattle.tds_world.specs.alone.Alone.{AsIfAlone}
 use Rattle.tds_world.specs.alone.AloneShown.{ShowsAsIfAlone, far_in}
 use Rattle.tds_world.specs.Bounds.{IsEvent}
 use Rattle.tds_world.specs.Descriptors.{AreFewEvents}
+use Rattle.tds_world.specs.LeftCleanShown.{ShowsLeftClean}
 use Rattle.tds_world.specs.Losses.{marked, world_with}
 use Rattle.tds_world.specs.World.{new_world}
 use Rattle.tds_world.specs.declared.event.Event.{Event}
@@ -84,4 +85,12 @@ returns-in-Ok-clause-told_alone g c = λ tells blind uses.
     IfOk-weaker c.play_events.result (λ report. IsReportOfPlay c.args.setup.now answers c.args.events.now report (g.C.Carrier.pipes c.play_events.new.carrier))
     (λ report. ShowsAsIfAlone c.args.setup.now.on_attention answers (far_in (world_with c.args.setup.now answers (marked c.args.events.now report.events) new_world)) c.args.events.now report)
     (λ report is. c.of_marked_report.ensures.told_alone c.args.setup.now answers c.args.events.now report c.engine_is_lawful.ensures blind uses (few_events is.known is.few) is.told)
+    (returns-in-Ok-clause-refines g c tells)
+
+pub returns-in-Ok-clause-left_clean : goal.returns-in-Ok-clause-left_clean
+returns-in-Ok-clause-left_clean g c = λ tells clean.
+    let answers = answer_of (g.E.Engine.statements_of c.args.engine) (g.E.Engine.step_of c.args.engine) in
+    IfOk-weaker c.play_events.result (λ report. IsReportOfPlay c.args.setup.now answers c.args.events.now report (g.C.Carrier.pipes c.play_events.new.carrier))
+    (λ report. ShowsLeftClean c.args.events.now report)
+    (λ report is. c.of_marked_report.ensures.left_clean c.args.setup.now answers c.args.events.now report c.engine_is_lawful.ensures clean is.told)
     (returns-in-Ok-clause-refines g c tells)

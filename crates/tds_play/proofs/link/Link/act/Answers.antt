@@ -1,129 +1,55 @@
-use Rattle.std.proofs.Common.{◌∙◌, ap, ℕ, Ok, Option, refl}
-use Rattle.tds_session.specs.Answer.{Answers, answer_of}
-use Rattle.tds_world.specs.declared.event.Event.TheVariants as event
-use Rattle.tds_world.specs.World.{next_number}
+use Rattle.std.proofs.Common.{◌≡◌, ◌∙◌, ℕ, Some, Option, refl, sym, ap, subst, true}
+use Rattle.std.specs.Prelude.{IfOk, IsSome}
+use Rattle.tds_client.specs.Session.{ClientSession}
+use Rattle.tds_pool.specs.Cleaning.{client_at}
+use Rattle.tds_pool.specs.Connections.{PoolState, connections, numbered}
+use Rattle.tds_pool.specs.Lends.{with_client_numbered}
+use Rattle.tds_session.specs.Answer.{answer_of}
+use Rattle.tds_world.specs.Losses.{met}
 use Rattle.tds_play.specs.Pipe.{Pipe}
-use Rattle.tds_play.specs.Seats.{seated}
-use Rattle.tds_play.proofs.Acting.{down_act, plain_act, up_act, whole_act}
-use Rattle.tds_play.proofs.Asked.{asked_ok}
-use Rattle.tds_play.proofs.Listening.{if_ok}
-use Rattle.tds_play.specs.Failures.{calls_of}
-use Rattle.tds_play.proofs.Failing.{whole_as}
-use Rattle.tds_play.proofs.Failing as failing
-use Rattle.tds_play.proofs.Tying.{may_lose, whole_loses}
-use Rattle.tds_world.specs.declared.event.Event.{Event}
-use Rattle.tds_play.specs.Reads.{delivers}
-use Rattle.tds_play.proofs.any_bytes.Brought.{still_ok, still_on}
+use Rattle.tds_play.specs.Plays.{RefinesAct, RepresentsConnection, acts_on, loss_of}
+use Rattle.tds_play.specs.Reads.{IsReading, ReadsOn}
+use Rattle.tds_play.specs.Seats.{placed_behind, seated}
+use Rattle.tds_play.proofs.pooled.Clients.{client_at_is, client_put, on_any, with}
+use Rattle.tds_play.proofs.pooled.Numbers.{IsIn}
+use Rattle.tds_play.proofs.pooled.Settled.{client_found, in_of, lent_client, lent_there}
 use Rattle.tds_play.proofs.link.Link.act.Goals as goal
 
-pub returns-in-Ask-clause-refines : goal.returns-in-Ask-clause-refines
-returns-in-Ask-clause-refines g c = λ setup w m engine p tells played promises few next.
-    let answers : Answers = answer_of (g.E.Engine.statements_of engine) (g.E.Engine.step_of engine) in
-    whole_act setup answers w c.args.event.now c.ask.new.self c.ask.new.client (g.C.Carrier.pipes c.args.carrier.now c.args.self.now.number) c.ask.result played c.requires.live _ c.in-Ask.is
-    (asked_ok (record { waits = c.idle_alike.ensures; takes = c.asks_alike.ensures; stays = c.the_other_stays.ensures.asks }) c.args.self.now.number setup.packet_size c.args.number (next_number w.asked_on) _ engine _ c.args.self.now c.ask.new.self (seated p c.args.client.now) (seated p c.ask.new.client) (g.C.Carrier.pipes c.args.carrier.now c.args.self.now.number) m c.ask.result played c.requires.live promises.rests next (λ e. let h = c.ask.ensures.refused e in (h.0, h.1, ap (seated p) h.2)) (λ e. if_ok c.ask.result _ _ (λ done h. (h.0, ap (seated p) h.1, h.2)) (c.ask.ensures.asked e)))
+pub returns-then-is_of_caller-clause-client : goal.returns-then-is_of_caller-clause-client
+returns-then-is_of_caller-clause-client g c =
+    let n : ℕ = c.args.self.now.number in
+    let s : ClientSession = c.act_by_caller.new.client in
+    on_any c.act_by_caller.result _
+    (client_put n s c.args.pool.now (with_client_numbered c.args.pool.now n s)
+    (c.at.ensures.writes s (lent_there n (connections c.args.pool.now) c.in-Some.client.now c.in-Some.ensures.value))
+    (record { name = refl; max = refl; size = refl; last = refl }))
 
-pub returns-in-Send-clause-refines : goal.returns-in-Send-clause-refines
-returns-in-Send-clause-refines g c = λ setup w m engine p tells played promises few next.
-    let answers : Answers = answer_of (g.E.Engine.statements_of engine) (g.E.Engine.step_of engine) in
-    plain_act setup answers w c.args.event.now c.send.new.self c.send.new.client (g.C.Carrier.pipes c.send.new.carrier c.args.self.now.number) c.send.result played c.requires.live _ c.in-Send.is (λ k. refl) few
-    (λ most. c.send.ensures.refines setup.packet_size engine p m played most.0)
+pub returns-then-is_of_caller-clause-reads : goal.returns-then-is_of_caller-clause-reads
+returns-then-is_of_caller-clause-reads g c = λ size reads.
+    let n : ℕ = c.args.self.now.number in
+    let pcs = connections c.args.pool.now in
+    let s : ClientSession = c.act_by_caller.new.client in
+    let mid : PoolState = with_client_numbered c.args.pool.now n s in
+    let it : IsIn n pcs = in_of n pcs c.requires.there in
+    let before : client_at n pcs ≡ c.in-Some.client.now = client_at_is n pcs it.connection it.there ∙ sym (lent_client n pcs it.connection c.in-Some.client.now it.there c.in-Some.ensures.value) in
+    let after : client_at n (connections mid) ≡ s =
+    client_at_is n (connections mid) (with s it.connection)
+    (ap (numbered n) (c.at.ensures.writes s (lent_there n pcs c.in-Some.client.now c.in-Some.ensures.value)) ∙ client_found n s pcs it.connection it.there) in
+    let old : Option Pipe = g.C.Carrier.pipes c.args.carrier.now n in
+    subst (λ (x : ClientSession). IfOk c.act_by_caller.result (λ done. ReadsOn size c.args.event.now done.outcome c.act_by_caller.new.self x.columns old (g.C.Carrier.pipes c.act_by_caller.new.carrier n))) (sym after)
+    (c.act_by_caller.ensures.reads size (subst (λ (x : ClientSession). IsReading size c.args.self.now x.columns old) before reads))
 
-pub returns-in-Cancel-clause-refines : goal.returns-in-Cancel-clause-refines
-returns-in-Cancel-clause-refines g c = λ setup w m engine p tells played promises few next.
-    let answers : Answers = answer_of (g.E.Engine.statements_of engine) (g.E.Engine.step_of engine) in
-    plain_act setup answers w c.args.event.now c.cancel.new.self c.cancel.new.client (g.C.Carrier.pipes c.cancel.new.carrier c.args.self.now.number) c.cancel.result played c.requires.live _ c.in-Cancel.is (λ k. refl) few
-    (λ most. c.cancel.ensures.refines setup.packet_size engine p m played most.0)
-
-pub returns-in-Work-clause-refines : goal.returns-in-Work-clause-refines
-returns-in-Work-clause-refines g c = λ setup w m engine p tells played promises few next.
-    let answers : Answers = answer_of (g.E.Engine.statements_of engine) (g.E.Engine.step_of engine) in
-    plain_act setup answers w c.args.event.now c.work.new.self c.args.client.now (g.C.Carrier.pipes c.work.new.carrier c.args.self.now.number) c.work.result played c.requires.live _ c.in-Work.is (λ k. refl) few
-    (λ most. c.work.ensures.refines setup.packet_size engine (seated p c.args.client.now) m played promises.ends promises.newest promises.works_past most.1)
-
-pub returns-in-ToServer-clause-refines : goal.returns-in-ToServer-clause-refines
-returns-in-ToServer-clause-refines g c = λ setup w m engine p tells played promises few next.
-    let answers : Answers = answer_of (g.E.Engine.statements_of engine) (g.E.Engine.step_of engine) in
-    up_act setup answers w c.args.event.now c.deliver_to_server.new.self c.args.client.now (g.C.Carrier.pipes c.deliver_to_server.new.carrier c.args.self.now.number) c.deliver_to_server.result played c.requires.live _ _ c.in-ToServer.is few
-    (c.deliver_to_server.ensures.refines setup.packet_size engine (seated p c.args.client.now) m tells played promises)
-
-pub returns-in-ToClient-clause-refines : goal.returns-in-ToClient-clause-refines
-returns-in-ToClient-clause-refines g c = λ setup w m engine p tells played promises few next.
-    let answers : Answers = answer_of (g.E.Engine.statements_of engine) (g.E.Engine.step_of engine) in
-    down_act setup answers w c.args.event.now c.deliver_to_client.new.self c.deliver_to_client.new.client (g.C.Carrier.pipes c.deliver_to_client.new.carrier c.args.self.now.number) c.deliver_to_client.result played c.requires.live _ _ c.in-ToClient.is
-    (c.deliver_to_client.ensures.refines answers setup.packet_size engine p m tells played promises)
-
-pub returns-in-Cut-clause-refines : goal.returns-in-Cut-clause-refines
-returns-in-Cut-clause-refines g c = λ setup w m engine p tells played promises few next.
-    let answers : Answers = answer_of (g.E.Engine.statements_of engine) (g.E.Engine.step_of engine) in
-    whole_act {B = ⊥} setup answers w c.args.event.now c.cut.new.self c.args.client.now (g.C.Carrier.pipes c.cut.new.carrier c.args.self.now.number) (Ok c.done.result) played c.requires.live (event.Cut _) c.in-Cut.is
-    (c.done.ensures, c.cut.ensures.refines setup.packet_size engine (seated p c.args.client.now) m played c.requires.live)
-
-pub returns-in-Ask-clause-failed : goal.returns-in-Ask-clause-failed
-returns-in-Ask-clause-failed g c = failing.whole_ok (calls_of c.args.event.now) c.ask.result c.ask.new.self (g.C.Carrier.pipes c.args.carrier.now c.args.self.now.number) c.ask.ensures.whole
-
-pub returns-in-Send-clause-failed : goal.returns-in-Send-clause-failed
-returns-in-Send-clause-failed g c = rw c.in-Send.is c.send.ensures.failed
-
-pub returns-in-Cancel-clause-failed : goal.returns-in-Cancel-clause-failed
-returns-in-Cancel-clause-failed g c = rw c.in-Cancel.is c.cancel.ensures.failed
-
-pub returns-in-Work-clause-failed : goal.returns-in-Work-clause-failed
-returns-in-Work-clause-failed g c = rw c.in-Work.is c.work.ensures.failed
-
-pub returns-in-ToServer-clause-failed : goal.returns-in-ToServer-clause-failed
-returns-in-ToServer-clause-failed g c = rw c.in-ToServer.is c.deliver_to_server.ensures.failed
-
-pub returns-in-ToClient-clause-failed : goal.returns-in-ToClient-clause-failed
-returns-in-ToClient-clause-failed g c = rw c.in-ToClient.is c.deliver_to_client.ensures.failed
-
-pub returns-in-Cut-clause-failed : goal.returns-in-Cut-clause-failed
-returns-in-Cut-clause-failed g c = λ fine.
-    whole_as (calls_of c.args.event.now) c.done.result c.cut.new.self (g.C.Carrier.pipes c.cut.new.carrier c.args.self.now.number) (ap (λ d. d.lost) c.done.ensures)
-    (λ call. c.cut.ensures.failed call ∙ fine call)
-
-pub returns-in-Ask-clause-reads : goal.returns-in-Ask-clause-reads
-returns-in-Ask-clause-reads g c = λ size reads.
-    let pipe : Option Pipe = g.C.Carrier.pipes c.args.carrier.now c.args.self.now.number in
-    still_ok size c.args.event.now _ c.ask.result c.args.self.now c.ask.new.self c.args.client.now.columns c.ask.new.client.columns pipe pipe c.in-Ask.is (λ d. refl) reads (c.ask.ensures.still pipe) c.ask.ensures.columns
-
-pub returns-in-Send-clause-reads : goal.returns-in-Send-clause-reads
-returns-in-Send-clause-reads g c = λ size reads.
-    still_ok size c.args.event.now _ c.send.result c.args.self.now c.send.new.self c.args.client.now.columns c.send.new.client.columns (g.C.Carrier.pipes c.args.carrier.now c.args.self.now.number) (g.C.Carrier.pipes c.send.new.carrier c.args.self.now.number) c.in-Send.is (λ d. refl) reads c.send.ensures.still c.send.ensures.columns
-
-pub returns-in-Cancel-clause-reads : goal.returns-in-Cancel-clause-reads
-returns-in-Cancel-clause-reads g c = λ size reads.
-    still_ok size c.args.event.now _ c.cancel.result c.args.self.now c.cancel.new.self c.args.client.now.columns c.cancel.new.client.columns (g.C.Carrier.pipes c.args.carrier.now c.args.self.now.number) (g.C.Carrier.pipes c.cancel.new.carrier c.args.self.now.number) c.in-Cancel.is (λ d. refl) reads c.cancel.ensures.still c.cancel.ensures.columns
-
-pub returns-in-Work-clause-reads : goal.returns-in-Work-clause-reads
-returns-in-Work-clause-reads g c = λ size reads.
-    still_ok size c.args.event.now _ c.work.result c.args.self.now c.work.new.self c.args.client.now.columns c.args.client.now.columns (g.C.Carrier.pipes c.args.carrier.now c.args.self.now.number) (g.C.Carrier.pipes c.work.new.carrier c.args.self.now.number) c.in-Work.is (λ d. refl) reads c.work.ensures.still refl
-
-pub returns-in-ToServer-clause-reads : goal.returns-in-ToServer-clause-reads
-returns-in-ToServer-clause-reads g c = λ size reads. rw c.in-ToServer.is (c.deliver_to_server.ensures.reads size _ c.args.client.now.columns reads)
-
-pub returns-in-ToClient-clause-reads : goal.returns-in-ToClient-clause-reads
-returns-in-ToClient-clause-reads g c = λ size reads. rw c.in-ToClient.is (c.deliver_to_client.ensures.reads size _ reads)
-
-pub returns-in-Cut-clause-reads : goal.returns-in-Cut-clause-reads
-returns-in-Cut-clause-reads g c = λ size reads.
-    let conn : ℕ = c.args.self.now.number in
-    still_on size c.args.event.now c.done.result.outcome c.args.self.now c.cut.new.self c.args.client.now.columns c.args.client.now.columns (g.C.Carrier.pipes c.args.carrier.now conn) (g.C.Carrier.pipes c.cut.new.carrier conn)
-    (λ d. ap (λ (e : Event). delivers e d) c.in-Cut.is) reads c.cut.ensures.still refl
-
-pub returns-in-Ask-clause-loses : goal.returns-in-Ask-clause-loses
-returns-in-Ask-clause-loses g c = whole_loses c.ask.result c.args.event.now c.ask.ensures.whole
-
-pub returns-in-Send-clause-loses : goal.returns-in-Send-clause-loses
-returns-in-Send-clause-loses g c = may_lose c.send.result c.args.event.now _ c.in-Send.is tt
-
-pub returns-in-Cancel-clause-loses : goal.returns-in-Cancel-clause-loses
-returns-in-Cancel-clause-loses g c = may_lose c.cancel.result c.args.event.now _ c.in-Cancel.is tt
-
-pub returns-in-Work-clause-loses : goal.returns-in-Work-clause-loses
-returns-in-Work-clause-loses g c = may_lose c.work.result c.args.event.now _ c.in-Work.is tt
-
-pub returns-in-ToServer-clause-loses : goal.returns-in-ToServer-clause-loses
-returns-in-ToServer-clause-loses g c = may_lose c.deliver_to_server.result c.args.event.now _ c.in-ToServer.is tt
-
-pub returns-in-ToClient-clause-loses : goal.returns-in-ToClient-clause-loses
-returns-in-ToClient-clause-loses g c = may_lose c.deliver_to_client.result c.args.event.now _ c.in-ToClient.is tt
+pub returns-then-is_of_caller-clause-refines : goal.returns-then-is_of_caller-clause-refines
+returns-then-is_of_caller-clause-refines g c = λ setup w m engine p tells played promises few next.
+    let n : ℕ = c.args.self.now.number in
+    let pcs = connections c.args.pool.now in
+    let s : ClientSession = c.act_by_caller.new.client in
+    let mid : PoolState = with_client_numbered c.args.pool.now n s in
+    let it : IsIn n pcs = in_of n pcs c.requires.there in
+    let before : client_at n pcs ≡ c.in-Some.client.now = client_at_is n pcs it.connection it.there ∙ sym (lent_client n pcs it.connection c.in-Some.client.now it.there c.in-Some.ensures.value) in
+    let after : client_at n (connections mid) ≡ s =
+    client_at_is n (connections mid) (with s it.connection)
+    (ap (numbered n) (c.at.ensures.writes s (lent_there n pcs c.in-Some.client.now c.in-Some.ensures.value)) ∙ client_found n s pcs it.connection it.there) in
+    let old : Option Pipe = g.C.Carrier.pipes c.args.carrier.now n in
+    subst (λ (x : ClientSession). IfOk c.act_by_caller.result (λ done. RefinesAct n setup.packet_size engine done c.act_by_caller.new.self (seated (placed_behind c.args.event.now x p) x) (g.C.Carrier.pipes c.act_by_caller.new.carrier n) (acts_on setup (answer_of (g.E.Engine.statements_of engine) (g.E.Engine.step_of engine)) w (met (loss_of done) c.args.event.now) n m) m)) (sym after)
+    (c.act_by_caller.ensures.refines setup w m engine p tells (subst (λ (x : ClientSession). RepresentsConnection n setup.packet_size engine c.args.self.now (seated p x) old m) before played) promises few next)

@@ -10,6 +10,8 @@ use Rattle.tds_play.proofs.Losing.{delivered_down}
 use Rattle.tds_play.specs.Failures.{Carry}
 use Rattle.tds_play.proofs.Failing.{brought_as}
 use Rattle.std.proofs.Common.{subst, refl}
+use Rattle.tds_pool.specs.Cleaning.{client_at}
+use Rattle.tds_pool.specs.Connections.{connections}
 use Rattle.tds_ends.specs.AllBytes.{ClientHasRead, new_reader}
 use Rattle.tds_play.specs.declared.link.EventDone.{EventDone}
 use Rattle.tds_play.specs.Reads.{ClientIsFed, given_by}
@@ -27,7 +29,7 @@ returns-in-Some-clause-refines g c = λ answers size engine p m tells played pro
     let pipe : Option Pipe = g.C.Carrier.pipes c.args.carrier.now c.args.self.now.number in
     let k : ℕ = c.in_ok-carried.carried.count in
     let exact : k ≡ min k c.args.self.now.to_client = omega (arith, c.in_ok-carried.ensures.within, c.at_most-count.ensures.within) in
-    let a = come_heard c.listens_alike.ensures c.args.self.now (seated p c.args.client.now) pipe m k k live.stands exact (promises.heard c.args.self.now.client_reader live.client_reads live.client_size) in
+    let a = come_heard c.listens_alike.ensures c.args.self.now (seated p (client_at c.args.self.now.number (connections c.args.pool.now))) pipe m k k live.stands exact (promises.heard c.args.self.now.client_reader live.client_reads live.client_size) in
     let brought = c.in_ok-carried.ensures.brought tells in
     let counted = c.in_ok-carried.ensures.counted in
     let piece : c.as_slice.result.now ≡ next_of (traffic pipe ToClient) k = c.as_slice.ensures.value ∙ brought.bytes ∙ ap (λ xs. xs ++ next_of (traffic pipe ToClient) k) c.new-piece.ensures.items in
@@ -46,23 +48,23 @@ returns-clause-refines g c = λ answers size engine p m tells played promises.
     let k : ℕ = c.in_ok-carried.carried.count in
     let here = live.stands.down.counts in
     let exact : k ≡ min k c.args.self.now.to_client = omega (arith, c.in_ok-carried.ensures.within, c.at_most-count.ensures.within) in
-    let a = come_heard c.listens_alike.ensures c.args.self.now (seated p c.args.client.now) pipe m k k live.stands exact (promises.heard c.args.self.now.client_reader live.client_reads live.client_size) in
+    let a = come_heard c.listens_alike.ensures c.args.self.now (seated p (client_at c.args.self.now.number (connections c.args.pool.now))) pipe m k k live.stands exact (promises.heard c.args.self.now.client_reader live.client_reads live.client_size) in
     let brought = c.in_ok-carried.ensures.brought tells in
     let counted = c.in_ok-carried.ensures.counted in
     let piece : c.as_slice.result.now ≡ next_of (traffic pipe ToClient) k = c.as_slice.ensures.value ∙ brought.bytes ∙ ap (λ xs. xs ++ next_of (traffic pipe ToClient) k) c.new-piece.ensures.items in
     let reader = ap (λ l. l.client_reader) counted in
     let current = ap (λ l. l.current) counted in
     let heard = c.in_ok-heard.ensures.heard a.packets a.rest a.then (rw (reader, piece) a.comes) (rw current a.listens) in
-    let then = listened_by c.args.self.now c.carry.new.self c.hear.new.self (seated p c.args.client.now) (drained (seated p c.hear.new.client)) c.hear.new.client pipe after k a.then a.rest c.in_ok-carried.carried.lost
+    let then = listened_by c.args.self.now c.carry.new.self c.hear.new.self (seated p (client_at c.args.self.now.number (connections c.args.pool.now))) (drained (seated p (client_at c.args.self.now.number (connections c.hear.new.pool)))) (client_at c.args.self.now.number (connections c.hear.new.pool)) pipe after k a.then a.rest c.in_ok-carried.carried.lost
     (c.requires.tied.holds c.requires.live).is_open counted heard.1 heard.2 refl brought.pipe in
-    let stands = heard_alike c.pool_is_unseen.ensures c.the_other_stays.ensures.listens c.args.self.now c.hear.new.self (seated p c.args.client.now) (drained (seated p c.hear.new.client)) pipe after m k k a.then.session a.rest live.stands exact (promises.delivers k).1 a.matches a.left then.heard then.client in
-    let listened : RepresentsConnection conn size engine c.hear.new.self (drained (seated p c.hear.new.client)) after (to_client k m) =
-    listened_on c.idle_alike.ensures conn size k k engine _ c.args.self.now c.hear.new.self (seated p c.args.client.now) (drained (seated p c.hear.new.client)) pipe after m played c.requires.live (promises.hears_past k) a then stands in
-    delivered_down conn size c.args.most k engine c.end.result c.in_ok-carried.carried.lost c.end.new.self (drained (seated p c.hear.new.client)) (g.C.Carrier.pipes c.end.new.carrier conn) m c.end.ensures.done
+    let stands = heard_alike c.pool_is_unseen.ensures c.the_other_stays.ensures.listens c.args.self.now c.hear.new.self (seated p (client_at c.args.self.now.number (connections c.args.pool.now))) (drained (seated p (client_at c.args.self.now.number (connections c.hear.new.pool)))) pipe after m k k a.then.session a.rest live.stands exact (promises.delivers k).1 a.matches a.left then.heard then.client in
+    let listened : RepresentsConnection conn size engine c.hear.new.self (drained (seated p (client_at c.args.self.now.number (connections c.hear.new.pool)))) after (to_client k m) =
+    listened_on c.idle_alike.ensures conn size k k engine _ c.args.self.now c.hear.new.self (seated p (client_at c.args.self.now.number (connections c.args.pool.now))) (drained (seated p (client_at c.args.self.now.number (connections c.hear.new.pool)))) pipe after m played c.requires.live (promises.hears_past k) a then stands in
+    delivered_down conn size c.args.most k engine c.end.result c.in_ok-carried.carried.lost c.end.new.self (drained (seated p (client_at c.args.self.now.number (connections c.hear.new.pool)))) (g.C.Carrier.pipes c.end.new.carrier conn) m c.end.ensures.done
     (λ whole. c.in_ok-carried.ensures.all whole ∙ c.at_most-count.ensures.value ∙ ap (min c.args.most) here)
     (omega (arith, c.in_ok-carried.ensures.within, c.at_most-count.ensures.within, here))
-    (ended conn c.hear.new.self.number size engine c.hear.new.self c.end.new.self (drained (seated p c.hear.new.client)) (g.C.Carrier.pipes c.carry.new.carrier) (g.C.Carrier.pipes c.end.new.carrier) c.in_ok-carried.carried.lost (to_client k m)
-    (then.number) (c.end.ensures.refines size engine (drained (seated p c.hear.new.client)) _) listened)
+    (ended conn c.hear.new.self.number size engine c.hear.new.self c.end.new.self (drained (seated p (client_at c.args.self.now.number (connections c.hear.new.pool)))) (g.C.Carrier.pipes c.carry.new.carrier) (g.C.Carrier.pipes c.end.new.carrier) c.in_ok-carried.carried.lost (to_client k m)
+    (then.number) (c.end.ensures.refines size engine (drained (seated p (client_at c.args.self.now.number (connections c.hear.new.pool)))) _) listened)
 
 pub returns-in-Some-clause-failed : goal.returns-in-Some-clause-failed
 returns-in-Some-clause-failed g c = λ fine.
@@ -85,14 +87,14 @@ returns-clause-reads g c = λ size n reads.
     let b = c.in_ok-carried.ensures.any in
     let counted = c.in_ok-carried.ensures.counted in
     let piece = c.as_slice.ensures.value ∙ b.appended ∙ ap (λ xs. xs ++ b.bytes) c.new-piece.ensures.items in
-    let before : ClientHasRead (new_reader ToClient size) c.carry.new.self.client_reader c.args.client.now.columns (traffic pipe ToClient).came (given_by c.carry.new.self) = rw counted (reads.client live) in
-    let fed = subst (ClientIsFed size c.hear.new.self.client_reader c.hear.new.client.columns ((traffic pipe ToClient).came ++ c.as_slice.result.now) (given_by c.hear.new.self)) c.in_default.is
+    let before : ClientHasRead (new_reader ToClient size) c.carry.new.self.client_reader (client_at c.args.self.now.number (connections c.args.pool.now)).columns (traffic pipe ToClient).came (given_by c.carry.new.self) = rw counted (reads.client live) in
+    let fed = subst (ClientIsFed size c.hear.new.self.client_reader (client_at c.args.self.now.number (connections c.hear.new.pool)).columns ((traffic pipe ToClient).came ++ c.as_slice.result.now) (given_by c.hear.new.self)) c.in_default.is
     (c.in_ok-heard.ensures.any size (traffic pipe ToClient).came before) in
     let number = c.in_ok-heard.ensures.number ∙ c.in_ok-carried.ensures.number in
     let ended = stays_numbered c.hear.new.self.number conn c.hear.new.self c.end.new.self (g.C.Carrier.pipes c.carry.new.carrier) (g.C.Carrier.pipes c.end.new.carrier) number c.end.ensures.still in
-    heard_reads size n c.args.most c.in_ok-carried.carried.count c.args.self.now c.hear.new.self c.end.new.self c.args.client.now.columns c.hear.new.client.columns c.hear.new.client.columns pipe mid (g.C.Carrier.pipes c.end.new.carrier conn) c.new-piece.result.items c.carry.new.out.items c.as_slice.result.now c.end.result.outcome
+    heard_reads size n c.args.most c.in_ok-carried.carried.count c.args.self.now c.hear.new.self c.end.new.self (client_at c.args.self.now.number (connections c.args.pool.now)).columns (client_at c.args.self.now.number (connections c.hear.new.pool)).columns (client_at c.args.self.now.number (connections c.hear.new.pool)).columns pipe mid (g.C.Carrier.pipes c.end.new.carrier conn) c.new-piece.result.items c.carry.new.out.items c.as_slice.result.now c.end.result.outcome
     reads live b piece (c.in_ok-heard.ensures.server ∙ ap (λ l. l.server_reader) counted) fed
-    (c.given_are_told.ensures (new_reader ToClient size) c.hear.new.self.client_reader c.hear.new.client.columns _ (given_by c.hear.new.self) fed)
+    (c.given_are_told.ensures (new_reader ToClient size) c.hear.new.self.client_reader (client_at c.args.self.now.number (connections c.hear.new.pool)).columns _ (given_by c.hear.new.self) fed)
     (c.no_fault_is_read.ensures (new_reader ToClient size) c.hear.new.self.client_reader _ fed.packets fed.read)
     ended refl
     (ap (λ (d : EventDone). d.outcome) c.end.ensures.done)
@@ -106,11 +108,11 @@ returns-in-Some-clause-reads g c = λ size n reads.
     let b = c.in_ok-carried.ensures.any in
     let counted = c.in_ok-carried.ensures.counted in
     let piece = c.as_slice.ensures.value ∙ b.appended ∙ ap (λ xs. xs ++ b.bytes) c.new-piece.ensures.items in
-    let before : ClientHasRead (new_reader ToClient size) c.carry.new.self.client_reader c.args.client.now.columns (traffic pipe ToClient).came (given_by c.carry.new.self) = rw counted (reads.client live) in
-    let fed = subst (ClientIsFed size c.hear.new.self.client_reader c.hear.new.client.columns ((traffic pipe ToClient).came ++ c.as_slice.result.now) (given_by c.hear.new.self)) c.in-Some.is
+    let before : ClientHasRead (new_reader ToClient size) c.carry.new.self.client_reader (client_at c.args.self.now.number (connections c.args.pool.now)).columns (traffic pipe ToClient).came (given_by c.carry.new.self) = rw counted (reads.client live) in
+    let fed = subst (ClientIsFed size c.hear.new.self.client_reader (client_at c.args.self.now.number (connections c.hear.new.pool)).columns ((traffic pipe ToClient).came ++ c.as_slice.result.now) (given_by c.hear.new.self)) c.in-Some.is
     (c.in_ok-heard.ensures.any size (traffic pipe ToClient).came before) in
     let ended = stays_numbered c.hear.new.self.number conn c.hear.new.self c.end_by_fault.new.self (g.C.Carrier.pipes c.carry.new.carrier) (g.C.Carrier.pipes c.end_by_fault.new.carrier) (c.in_ok-heard.ensures.number ∙ c.in_ok-carried.ensures.number) c.end_by_fault.ensures.still in
-    faulty_heard size n c.args.most c.in_ok-carried.carried.count c.args.self.now c.hear.new.self c.end_by_fault.new.self c.args.client.now.columns c.hear.new.client.columns pipe mid (g.C.Carrier.pipes c.end_by_fault.new.carrier conn) c.new-piece.result.items c.carry.new.out.items c.as_slice.result.now c.end_by_fault.result.outcome c.in-Some.fault
+    faulty_heard size n c.args.most c.in_ok-carried.carried.count c.args.self.now c.hear.new.self c.end_by_fault.new.self (client_at c.args.self.now.number (connections c.args.pool.now)).columns (client_at c.args.self.now.number (connections c.hear.new.pool)).columns pipe mid (g.C.Carrier.pipes c.end_by_fault.new.carrier conn) c.new-piece.result.items c.carry.new.out.items c.as_slice.result.now c.end_by_fault.result.outcome c.in-Some.fault
     reads b piece fed.0 fed.1 ended (ap (λ l. l.is_cut) c.end_by_fault.ensures.value) (ap (λ (d : EventDone). d.outcome) c.end_by_fault.ensures.done)
 
 -- ---- What stays tied

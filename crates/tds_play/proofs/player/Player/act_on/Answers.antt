@@ -9,6 +9,7 @@ use Rattle.tds_play.specs.Reads.{ReadsOn}
 use Rattle.tds_play.specs.declared.player.Player.{Player}
 use Rattle.tds_play.specs.declared.seat.Held.{Held}
 use Rattle.tds_play.proofs.pooled.There.{stands_there}
+use Rattle.tds_play.proofs.pooled.Callers.{caller_carried}
 use Rattle.tds_play.proofs.pooled.Noting.{acts_few, acts_held}
 use Rattle.tds_play.proofs.pooled.Unseen.{touched_steps}
 use Rattle.tds_play.proofs.player.Player.act_on.Goals as goal
@@ -21,6 +22,7 @@ act-requires g c =
       tied = stands.tied;
       there = stands.there;
       ends = c.requires.ends;
+      lent = λ asks lives. caller_carried old c.args.place c.index_mut.result.now c.args.event.now c.requires.held stands.at stands.number c.requires.found asks lives;
     }
 
 pub returns : goal.returns

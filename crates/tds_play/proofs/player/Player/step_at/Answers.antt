@@ -19,3 +19,7 @@ returns-in-GiveBack g c =
 pub returns-in-Abandon : goal.returns-in-Abandon
 returns-in-Abandon g c =
     of_event (λ x. answer_of (g.E.Engine.statements_of x) (g.E.Engine.step_of x)) c.args.event.now _ c.args.place c.args.self.now c.abandon.new.self (g.C.Carrier.pipes c.args.carrier.now) (g.C.Carrier.pipes c.abandon.new.carrier) _ _ c.abandon.result c.in-Abandon.is c.abandon.ensures
+
+pub returns-in-Clean : goal.returns-in-Clean
+returns-in-Clean g c =
+    of_event (λ x. answer_of (g.E.Engine.statements_of x) (g.E.Engine.step_of x)) c.args.event.now _ c.args.place c.args.self.now c.clean.new.self (g.C.Carrier.pipes c.args.carrier.now) (g.C.Carrier.pipes c.clean.new.carrier) _ _ c.clean.result c.in-Clean.is c.clean.ensures

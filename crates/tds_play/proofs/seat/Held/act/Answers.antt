@@ -1,9 +1,9 @@
 use Rattle.std.proofs.Common.{◌≡◌, ◌∙◌, ℕ, Bool, true, false, Option, Some, refl, sym, ap, subst}
-use Rattle.std.specs.Prelude.{IsSome}
+use Rattle.std.specs.Prelude.{IsSome, option_map}
 use Rattle.tds_client.specs.Session.{ClientSession}
 use Rattle.tds_pool.specs.Connections.{PoolState, connections, numbered}
 use Rattle.tds_pool.specs.Calls.{is_broken}
-use Rattle.tds_pool.specs.Lends.{with_client_numbered}
+use Rattle.tds_pool.specs.Cleaning.{client_at}
 use Rattle.tds_session.specs.declared.attention.OnAttention.TheVariants.{Keep}
 use Rattle.tds_world.specs.Connection.{new_connection}
 use Rattle.tds_world.specs.declared.report.Place.{Place}
@@ -21,7 +21,8 @@ use Rattle.tds_play.proofs.Tying.{ties_handed}
 use Rattle.tds_play.proofs.any_bytes.Brought.{gone_on}
 use Rattle.tds_play.proofs.any_bytes.Stays.{stays_numbered}
 use Rattle.tds_play.proofs.pooled.Numbers.{IsIn}
-use Rattle.tds_play.proofs.pooled.Settled.{client_changes, client_found, in_of, is_some_of, lent_client, lent_there, none_changes, settled_played, settled_reads}
+use Rattle.tds_play.proofs.pooled.Clients.{client_at_is, client_one, still_there, with}
+use Rattle.tds_play.proofs.pooled.Settled.{in_of, none_changes, settled_played, settled_reads}
 use Rattle.tds_play.proofs.seat.Held.act.Goals as goal
 
 pub returns-then-self-clause-pool : goal.returns-then-self-clause-pool
@@ -37,84 +38,72 @@ returns-then-self-clause-reads g c = λ size reads.
 pub settle-requires-clause-is_in : goal.settle-requires-clause-is_in
 settle-requires-clause-is_in g c =
     let n : ℕ = c.args.self.now.link.number in
-    let s : ClientSession = c.act.new.client in
     let there : IsSome (numbered n (connections c.args.pool.now)) = c.requires.there.is_in c.if-self.false in
-    let it : IsIn n (connections c.args.pool.now) = in_of n (connections c.args.pool.now) there in
-    is_some_of _ (record it.connection { client = s })
-    (ap (λ (k : ℕ). numbered k (connections (with_client_numbered c.args.pool.now n s))) c.in_ok-done.ensures.number
-    ∙ ap (numbered n) (c.at.ensures.writes s (lent_there n (connections c.args.pool.now) c.in-Some.client.now c.in-Some.ensures.value))
-    ∙ client_found n s (connections c.args.pool.now) it.connection it.there)
+    subst (λ (k : ℕ). IsSome (numbered k (connections c.act.new.pool))) (sym c.in_ok-done.ensures.number)
+    (still_there n c.args.pool.now c.act.new.pool c.in_ok-done.ensures.client there)
 
 pub returns-clause-pool : goal.returns-clause-pool
 returns-clause-pool g c =
     let n : ℕ = c.args.self.now.link.number in
-    let s : ClientSession = c.act.new.client in
-    let there : IsSome (numbered n (connections c.args.pool.now)) = c.requires.there.is_in c.if-self.false in
-    let it : IsIn n (connections c.args.pool.now) = in_of n (connections c.args.pool.now) there in
-    let mid : PoolState = with_client_numbered c.args.pool.now n s in
-    client_changes n c.settle.new.self.link.is_cut s c.args.pool.now mid c.settle.new.pool it.connection it.there (c.at.ensures.writes s (lent_there n (connections c.args.pool.now) c.in-Some.client.now c.in-Some.ensures.value))
-    (record { name = refl; max = refl; size = refl; last = refl })
-    (subst (λ (k : ℕ). ChangesOne k c.settle.new.self.link.is_cut mid c.settle.new.pool) c.in_ok-done.ensures.number c.settle.ensures.pool)
+    client_one n c.settle.new.self.link.is_cut c.args.pool.now c.act.new.pool c.settle.new.pool c.in_ok-done.ensures.client
+    (subst (λ (k : ℕ). ChangesOne k c.settle.new.self.link.is_cut c.act.new.pool c.settle.new.pool) c.in_ok-done.ensures.number c.in_ok-settle.ensures.pool)
 
 pub returns-clause-reads : goal.returns-clause-reads
 returns-clause-reads g c = λ size reads.
     let n : ℕ = c.args.self.now.link.number in
     let h : ℕ = c.args.self.now.holder in
-    let s : ClientSession = c.act.new.client in
+    let mid : PoolState = c.act.new.pool in
+    let s : ClientSession = client_at n (connections mid) in
     let there : IsSome (numbered n (connections c.args.pool.now)) = c.requires.there.is_in c.if-self.false in
     let it : IsIn n (connections c.args.pool.now) = in_of n (connections c.args.pool.now) there in
-    let mid : PoolState = with_client_numbered c.args.pool.now n s in
-    let lent : c.in-Some.client.now ≡ it.connection.client = lent_client n (connections c.args.pool.now) it.connection c.in-Some.client.now it.there c.in-Some.ensures.value in
     let old : Option Pipe = g.C.Carrier.pipes c.args.carrier.now n in
-    let columns : (seat_in c.args.self.now c.args.pool.now).client.columns ≡ c.in-Some.client.now.columns =
-    ap (λ o. (seat_by h o).client.columns) it.there ∙ sym (ap (λ (x : ClientSession). x.columns) lent) in
-    let seat : numbered c.act.new.self.number (connections mid) ≡ Some (record it.connection { client = s }) =
+    let columns : (seat_in c.args.self.now c.args.pool.now).client.columns ≡ (client_at n (connections c.args.pool.now)).columns =
+    ap (λ o. (seat_by h o).client.columns) it.there ∙ sym (ap (λ (x : ClientSession). x.columns) (client_at_is n (connections c.args.pool.now) it.connection it.there)) in
+    let seat : numbered c.act.new.self.number (connections mid) ≡ Some (with s it.connection) =
     ap (λ (k : ℕ). numbered k (connections mid)) c.in_ok-done.ensures.number
-    ∙ ap (numbered n) (c.at.ensures.writes s (lent_there n (connections c.args.pool.now) c.in-Some.client.now c.in-Some.ensures.value))
-    ∙ client_found n s (connections c.args.pool.now) it.connection it.there in
+    ∙ c.in_ok-done.ensures.client.here ∙ ap (option_map (with s)) it.there in
     settled_reads size c.args.event.now c.in_ok-done.done.outcome c.act.new.self c.settle.new.self.link s.columns (seat_in c.settle.new.self c.settle.new.pool).client.columns old (g.C.Carrier.pipes c.act.new.carrier n) (g.C.Carrier.pipes c.settle.new.carrier n)
     (c.in_ok-done.ensures.reads size (subst (λ (k : Option ℕ). IsReading size c.args.self.now.link k old) columns reads))
-    (stays_numbered c.act.new.self.number n c.act.new.self c.settle.new.self.link (g.C.Carrier.pipes c.act.new.carrier) (g.C.Carrier.pipes c.settle.new.carrier) c.in_ok-done.ensures.number c.settle.ensures.still)
-    (λ live. ap (λ (x : ClientSession). x.columns) (c.settle.ensures.client live) ∙ ap (λ o. (seat_by h o).client.columns) seat)
+    (stays_numbered c.act.new.self.number n c.act.new.self c.settle.new.self.link (g.C.Carrier.pipes c.act.new.carrier) (g.C.Carrier.pipes c.settle.new.carrier) c.in_ok-done.ensures.number c.in_ok-settle.ensures.still)
+    (λ live. ap (λ (x : ClientSession). x.columns) (c.in_ok-settle.ensures.client live) ∙ ap (λ o. (seat_by h o).client.columns) seat)
 
 pub returns-clause-refines : goal.returns-clause-refines
 returns-clause-refines g c = λ setup w m engine tells played gives few next.
     let n : ℕ = c.args.self.now.link.number in
     let h : ℕ = c.args.self.now.holder in
-    let s : ClientSession = c.act.new.client in
+    let mid : PoolState = c.act.new.pool in
+    let s : ClientSession = client_at n (connections mid) in
     let size : ℕ = setup.packet_size in
     let there : IsSome (numbered n (connections c.args.pool.now)) = c.requires.there.is_in c.if-self.false in
     let it : IsIn n (connections c.args.pool.now) = in_of n (connections c.args.pool.now) there in
-    let mid : PoolState = with_client_numbered c.args.pool.now n s in
-    let lent : c.in-Some.client.now ≡ it.connection.client = lent_client n (connections c.args.pool.now) it.connection c.in-Some.client.now it.there c.in-Some.ensures.value in
+    let lent : client_at n (connections c.args.pool.now) ≡ it.connection.client = client_at_is n (connections c.args.pool.now) it.connection it.there in
     let p : Place = place_by h it.connection.place in
     let old : Option Pipe = g.C.Carrier.pipes c.args.carrier.now n in
-    let seat : seat_in c.args.self.now c.args.pool.now ≡ seated p c.in-Some.client.now =
+    let seat : seat_in c.args.self.now c.args.pool.now ≡ seated p (client_at n (connections c.args.pool.now)) =
     ap (seat_by h) it.there ∙ sym (ap (seated p) lent) in
     let acted = c.in_ok-done.ensures.refines setup w m engine p tells (subst (λ (x : Seat). RepresentsConnection n size engine c.args.self.now.link x old m) seat played) gives few next in
-    let found : numbered c.act.new.self.number (connections mid) ≡ Some (record it.connection { client = s }) =
+    let found : numbered c.act.new.self.number (connections mid) ≡ Some (with s it.connection) =
     ap (λ (k : ℕ). numbered k (connections mid)) c.in_ok-done.ensures.number
-    ∙ ap (numbered n) (c.at.ensures.writes s (lent_there n (connections c.args.pool.now) c.in-Some.client.now c.in-Some.ensures.value))
-    ∙ client_found n s (connections c.args.pool.now) it.connection it.there in
+    ∙ c.in_ok-done.ensures.client.here ∙ ap (option_map (with s)) it.there in
     let now : Held g.row.E.Denot g.row.E-Stmt.Denot = record c.args.self.now { link = c.act.new.self } in
     let is : seat_in now mid ≡ seated p s = ap (seat_by h) found in
     record {
       outcome = acted.outcome;
       played = settled_played n size engine now c.settle.new.self s (seated (placed_behind c.args.event.now s p) s) c.settle.new.pool (g.C.Carrier.pipes c.act.new.carrier n) (g.C.Carrier.pipes c.settle.new.carrier n) _ refl acted.played
-          (λ cut. let z = c.settle.ensures.cut cut in (z.0, ap (λ x. g.C.Carrier.pipes x n) z.1))
+          (λ cut. let z = c.in_ok-settle.ensures.cut cut in (z.0, ap (λ x. g.C.Carrier.pipes x n) z.1))
           (λ lives fine.
-          let z = c.settle.ensures.sound lives (ap (λ (x : Seat). is_broken x.client.stage) is ∙ fine) in
+          let z = c.in_ok-settle.ensures.sound lives (ap (λ (x : Seat). is_broken x.client.stage) is ∙ fine) in
           (z.0, ap (λ x. g.C.Carrier.pipes x n) z.1, z.2 ∙ ap (behind_event c.args.event.now) is));
     }
 
 pub returns-clause-number : goal.returns-clause-number
-returns-clause-number g c = c.settle.ensures.number ∙ c.in_ok-done.ensures.number
+returns-clause-number g c = c.in_ok-settle.ensures.number ∙ c.in_ok-done.ensures.number
 
 pub returns-clause-holder : goal.returns-clause-holder
-returns-clause-holder g c = c.settle.ensures.holder
+returns-clause-holder g c = c.in_ok-settle.ensures.holder
 
 pub returns-clause-there : goal.returns-clause-there
-returns-clause-there g c = c.settle.ensures.there
+returns-clause-there g c = c.in_ok-settle.ensures.there
 
 pub returns-clause-ties : goal.returns-clause-ties
 returns-clause-ties g c =
@@ -122,13 +111,13 @@ returns-clause-ties g c =
     ties_handed n n c.act.new.self.number c.act.new.self c.settle.new.self.link
     (g.C.Carrier.pipes c.args.carrier.now) (g.C.Carrier.pipes c.act.new.carrier) (g.C.Carrier.pipes c.settle.new.carrier)
     (g.C.Carrier.tells c.args.carrier.now) (g.C.Carrier.tells c.act.new.carrier) (g.C.Carrier.tells c.settle.new.carrier)
-    refl c.in_ok-done.ensures.number c.in_ok-done.ensures.ties c.settle.ensures.ties
+    refl c.in_ok-done.ensures.number c.in_ok-done.ensures.ties c.in_ok-settle.ensures.ties
 
 pub returns-clause-failed : goal.returns-clause-failed
 returns-clause-failed g c = λ fine.
     settled_as c.args.self.now.link.number c.act.new.self.number (calls_of c.args.event.now) c.in_ok-done.done c.act.new.self c.settle.new.self.link
     (g.C.Carrier.pipes c.act.new.carrier) (g.C.Carrier.pipes c.settle.new.carrier)
-    c.in_ok-done.ensures.number (λ cut. ap (λ h. h.link.is_cut) (c.settle.ensures.cut cut).0 ∙ cut) c.settle.ensures.failed (c.in_ok-done.ensures.failed fine)
+    c.in_ok-done.ensures.number (λ cut. ap (λ h. h.link.is_cut) (c.in_ok-settle.ensures.cut cut).0 ∙ cut) c.in_ok-settle.ensures.failed (c.in_ok-done.ensures.failed fine)
 
 pub returns-clause-gone : goal.returns-clause-gone
 returns-clause-gone g c = λ cut. let bad : true ≡ false = sym cut ∙ c.if-self.false in absurd (cc)

@@ -1,6 +1,7 @@
 use Rattle.std.proofs.Common.{◌≡◌, ◌∙◌, ℕ, true, false, refl, sym, ap}
 use Rattle.tds_pool.specs.Calls as calls
 use Rattle.tds_pool.specs.Calls.{is_broken}
+use Rattle.tds_pool.specs.Cleaning.{is_cleaned}
 use Rattle.tds_pool.specs.Connections.{connections, numbered}
 use Rattle.tds_play.specs.Pooled.{seat_by}
 use Rattle.tds_play.specs.Seats.{drained}
@@ -70,6 +71,6 @@ returns-in_default-clause-sound g c = λ sound.
       refl,
       refl,
       ap (λ cs. seat_by h (numbered n cs)) c.drained.ensures.shown
-          ∙ seat_drained n h pcs it.connection it.there unbroken
+          ∙ seat_drained n h pcs it.connection it.there (sym (ap is_cleaned it.there) ∙ c.requires.other) unbroken
           ∙ sym (ap (λ o. drained (seat_by h o)) it.there),
     )

@@ -16,6 +16,9 @@ returns-clause-fresh_start c = headline.fresh_start
 pub returns-clause-kept_transaction : goal.returns-clause-kept_transaction
 returns-clause-kept_transaction c = headline.kept_transaction
 
+pub returns-clause-left_clean : goal.returns-clause-left_clean
+returns-clause-left_clean c = headline.left_clean
+
 pub returns-clause-lends_idle : goal.returns-clause-lends_idle
 returns-clause-lends_idle c = headline.lends_idle
 
