@@ -7,25 +7,24 @@ use Rattle.tds_session.specs.Answer.{Answers}
 use Rattle.tds_world.specs.declared.event.Event.{Event}
 use Rattle.tds_world.specs.declared.event.Event.TheVariants as event
 use Rattle.tds_world.specs.declared.event.Setup.{Setup}
-use Rattle.tds_world.specs.declared.report.Place.{Place}
 use Rattle.tds_world.specs.declared.report.Place.TheVariants as place
 use Rattle.tds_world.specs.Arrivals.{client_acts, drained, reach_client, to_client, to_server, works}
-use Rattle.tds_world.specs.Caller.{cancels, cancels_by, sends_by, sends_last}
+use Rattle.tds_world.specs.Caller.{cancels_by, sends_by, sends_last}
 use Rattle.tds_world.specs.Connection.{Connection, Standing, In, Cut, phase, is_idle, up_underway, down_underway}
-use Rattle.tds_world.specs.Entries.{Up, Down, Step, Acknowledgement}
+use Rattle.tds_world.specs.Entries.{Down, Step, Acknowledgement}
 use Rattle.tds_world.specs.Events.{acts, asks_by, sends_in, world_after}
 use Rattle.tds_world.specs.Lane.{passed}
 use Rattle.tds_world.specs.Lawful.{Lawful}
 use Rattle.tds_world.specs.Losses.{Loss, Nothing, Failed, Played, bringing, met, link_of, cuts_after, world_then, world_with, with_cuts}
 use Rattle.tds_world.specs.Phase.{Phase, Settled, Asked, Sending, Reading, Cancelling, phase_in, phase_of, is_settled}
-use Rattle.tds_world.specs.Pool.{Acted, Refuses, Does, abandons_at, gives_back_at, is_full, keeps_by, place_back}
+use Rattle.tds_world.specs.Pool.{Acted, Refuses, Does, abandons_at, gives_back_at, is_full, keeps_by}
 use Rattle.tds_world.specs.Record.{Record, gives, acknowledges, if_numbered}
 use Rattle.tds_world.specs.WithLosses.{CleanNothing}
 use Rattle.tds_world.specs.World.{World, new_world, next_number}
 use Rattle.tds_world.specs.rest.Rest.{AllCanCancel, CanCancel, IsNoCleaning}
-use Rattle.tds_world.proofs.events.Moves.{Free, Both, Invariant, KeptOver, Of, by_moves_of, cancels_stop, on_top}
+use Rattle.tds_world.proofs.events.Moves.{Both, Invariant, KeptOver, Of, by_moves_of, cancels_stop, on_top}
 use Rattle.tds_world.proofs.events.Places.{StandsFor}
-use Rattle.tds_world.proofs.events.Standings.{cancels_stand_in, reach_client_stands, reach_server_stands, sends_stand, works_stand}
+use Rattle.tds_world.proofs.events.Standings.{reach_client_stands, reach_server_stands, sends_stand, works_stand}
 use Rattle.tds_world.proofs.events.Words.{OfActed}
 use Rattle.tds_world.proofs.events.Worlds.{Any, Kept, always_such, each_follows}
 use Rattle.tds_world.proofs.flow.Busy.{busy_down}
