@@ -149,7 +149,7 @@ fn open(alloc: Global, pool: &mut Pool, left: u32) -> Result<(), SpeedFault> {
 }
 
 /// Spends a lease; where memory is wanted for it, as that of a lost connection.
-fn give_back(alloc: Global, pool: &mut Pool, lease: Lease) {
+pub fn give_back(alloc: Global, pool: &mut Pool, lease: Lease) {
     let mut out = Vec::new(alloc);
     if let Err((lease, _)) = pool.give_back(lease, &mut out) {
         let _ = pool.lost(lease.number());

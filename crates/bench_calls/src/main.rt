@@ -5,12 +5,15 @@
 //! TIMES FILE..` does each walk so many times, and prints its nanoseconds before the counts.
 //! `bench_calls sizes` prints how many bytes the values have that a program holds, and `bench_calls
 //! memory KIND COUNT SIZE` makes so many idle ends or pools at once, so that its memory can be seen.
+//! `bench_calls leases COUNT TIMES` prints the nanoseconds of so many leases that find the last connection
+//! of a pool free, each given back.
 #![tactic(auto)]
 
 mod asking;
 mod counted;
 mod fault;
 mod idle;
+mod leasing;
 mod packets;
 mod pieces;
 mod serving;
@@ -21,6 +24,7 @@ use asking::{Hear, Take, Values};
 use counted::Counted;
 use fault::SpeedFault;
 use idle::Idle;
+use leasing::{lend_last, nearly_lent};
 use pieces::pieces;
 use serving::{Look, serve};
 use sizes::print_sizes;
@@ -142,6 +146,9 @@ fn obey(rt: &HostRuntime, words: &[String]) -> Result<(), SpeedFault> {
         [verb, kind, count, size] if verb.as_str() == "memory" => {
             print_made(rt, kind.as_str(), count.as_str(), size.as_str())
         }
+        [verb, count, times] if verb.as_str() == "leases" => {
+            print_leases(rt, count.as_str(), number(times.as_str())?)
+        }
         [verb, size, names @ ..] if verb.as_str() == "count" => {
             count_all(rt, packet_size(size.as_str())?, names)
         }
@@ -159,6 +166,16 @@ fn print_made(rt: &HostRuntime, kind: &str, count: &str, size: &str) -> Result<(
     let count = number(count)?;
     let made = kind.make(rt.alloc(), packet_size(size)?, count as usize)?;
     println!(rt; "{made}")?;
+    Ok(())
+}
+
+/// Prints the nanoseconds of so many leases of a pool with so many connections.
+fn print_leases(rt: &HostRuntime, count: &str, times: u32) -> Result<(), SpeedFault> {
+    let count = count.parse::<u16>().map_err(|_| SpeedFault::Usage)?;
+    let mut pool = nearly_lent(rt.alloc(), count, packet_size("4096")?)?;
+    let start = Instant::now(rt)?;
+    lend_last(rt.alloc(), &mut pool, times)?;
+    println!(rt; "{}", start.elapsed(rt)?.as_nanos())?;
     Ok(())
 }
 

@@ -1,5 +1,5 @@
 -- A connection that is cleaned, in a play and in the model.
-use Rattle.std.proofs.Common.{◌≡◌, ◌≤◌, ◌∙◌, ◌-◌, ℕ, Bool, true, false, cond, refl, sym, ap, subst, List, [], Option, Some, None, Result, Ok, Err}
+use Rattle.std.proofs.Common.{◌≡◌, ◌≤◌, ◌∙◌, ◌-◌, ℕ, Bool, true, false, cond, refl, sym, ap, subst, List, [], Option, Some, None, Result, Ok}
 use Rattle.std.specs.Prelude.{is_none, ◌&&◌}
 use Rattle.tds_client.specs.Sending.{Effect, room, sent, sent_in, sent_of, started}
 use Rattle.tds_client.specs.Session as client
@@ -13,7 +13,6 @@ use Rattle.tds_packet.specs.declared.status.Reset.TheVariants.{Full}
 use Rattle.tds_pool.specs.Calls as pool
 use Rattle.tds_pool.specs.Calls.{asks_reset, free_one, only, refuses_clean}
 use Rattle.tds_pool.specs.Connections as pooled
-use Rattle.tds_pool.specs.declared.answers.PoolRefusal.{PoolRefusal}
 use Rattle.tds_pool.specs.declared.seat.Place.{Place as PoolPlace}
 use Rattle.tds_pool.specs.declared.seat.Place.TheVariants as places
 use Rattle.tds_session.specs.Answer.{Answers}
@@ -21,8 +20,7 @@ use Rattle.tds_world.specs.declared.event.Event.TheVariants as event
 use Rattle.tds_world.specs.declared.event.Setup.{Setup}
 use Rattle.tds_world.specs.declared.outcome.Outcome.TheVariants as outcome
 use Rattle.tds_world.specs.declared.outcome.Refusal.{Refusal}
-use Rattle.tds_world.specs.declared.outcome.Refusal.TheVariants.{NotFree, NotIdle}
-use Rattle.tds_world.specs.declared.outcome.SendOutcome.{SendOutcome}
+use Rattle.tds_world.specs.declared.outcome.Refusal.TheVariants.{NotIdle}
 use Rattle.tds_world.specs.declared.outcome.SendOutcome.TheVariants as last
 use Rattle.tds_world.specs.declared.report.Place.TheVariants.{Draining}
 use Rattle.tds_world.specs.Caller.{asks, sends, sends_by, sends_last}

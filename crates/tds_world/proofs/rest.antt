@@ -2,6 +2,7 @@
 pub mod Arriving
 pub mod Sending
 pub mod Stopping
+pub mod Cancelling
 pub mod Holders
 pub mod Becomes
 pub mod NeverStuck

@@ -10,6 +10,7 @@ use Rattle.tds_world.specs.Bounds.{IsEvent}
 use Rattle.tds_world.specs.Losses.{Played, Nothing, loss_in, marked, world_then, world_with, report_then, observed_with}
 use Rattle.tds_world.specs.Reports.{IsNoFault, GivesNoMore}
 use Rattle.tds_world.specs.World.{World, new_world}
+use Rattle.tds_world.specs.rest.Rest.{IsNoCleaning}
 
 -- The events of a play.
 abbrev pub events_of : List Played → List Event
@@ -18,6 +19,10 @@ events_of ps = map (λ (p : Played). p.event) ps
 -- They are events of the program.
 abbrev pub AreEvents : List Played → Type 0
 AreEvents ps = AllByRecursion (λ (p : Played). IsEvent p.event) ps
+
+-- None of them cleans.
+abbrev pub CleanNothing : List Played → Type 0
+CleanNothing ps = AllByRecursion (λ (p : Played). IsNoCleaning p.event) ps
 
 -- A play that loses nothing.
 abbrev pub LosesNothing : List Played → Type 0

@@ -265,9 +265,10 @@ pub fn phases_tell()
 {}
 
 /// No connection that is whole is ever stuck. Its lease cancels, if a lease has it, and all that is
-/// underway arrives, first at the server and then at the client: it is at rest. Without a cancel it
-/// comes to rest too: what is left is sent and arrives, the server works off what is due, and that
-/// arrives. Then its newest request is finished, or acknowledged if it was cancelled before.
+/// underway arrives, first at the server and then at the client: it is at rest, unless the pool is
+/// cleaning it, where nobody can cancel. Without a cancel it comes to rest too: what is left is sent and
+/// arrives, the server works off what is due, and that arrives. Then its newest request is finished, or
+/// acknowledged if it was cancelled before.
 pub fn never_stuck()
     ensures { (setup : Setup) (answers : Answers) → Lawful answers
         → Always setup answers (NeverStuck setup answers) }

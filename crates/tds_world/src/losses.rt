@@ -16,11 +16,11 @@ ghost use Rattle.tds_world.specs.LeftClean.{AnswersClean, LeftClean};
 ghost use Rattle.tds_world.specs.Losses.{Played, event_reports_with, marked, observed_with};
 ghost use Rattle.tds_world.specs.Losses.{with_cuts, world_with};
 ghost use Rattle.tds_world.specs.Observed.{observed};
-ghost use Rattle.tds_world.specs.rest.Rest.{NeverStuck};
+ghost use Rattle.tds_world.specs.rest.Rest.{AllCanCancel, NeverStuck};
 ghost use Rattle.tds_world.specs.Sessions.{StayInRange};
 ghost use Rattle.tds_world.specs.Underway.{FewToClients};
-ghost use Rattle.tds_world.specs.WithLosses.{AlwaysWith, AreEvents, AreMarked, LosesNothing};
-ghost use Rattle.tds_world.specs.WithLosses.{events_of};
+ghost use Rattle.tds_world.specs.WithLosses.{AlwaysWith, AreEvents, AreMarked, CleanNothing};
+ghost use Rattle.tds_world.specs.WithLosses.{LosesNothing, events_of};
 ghost use Rattle.tds_world.specs.World.{World, new_world};
 ghost use Rattle.tds_world.specs.declared.event.Event.{Event};
 ghost use Rattle.tds_world.specs.declared.event.Setup.{Setup};
@@ -129,11 +129,19 @@ pub fn begins_once()
         → AlwaysWith setup answers BeginsOnce }
 {}
 
-/// No connection that isn't cut is ever stuck: it comes to rest by a cancel and what is underway
-/// then, or without one by what is left to do.
+/// No connection that isn't cut is ever stuck: it comes to rest by what is left to do, and by a cancel
+/// and what is underway then, unless the pool is cleaning it.
 pub fn never_stuck()
     ensures { (setup : Setup) (answers : Answers) → Lawful answers
         → AlwaysWith setup answers (NeverStuck setup answers) }
+{}
+
+/// Where nothing is cleaned, each connection that isn't cut comes to rest by a cancel too: one that
+/// drains was cancelled.
+pub fn all_can_cancel()
+    ensures { (setup : Setup) (answers : Answers) → Lawful answers
+        → (ps : List Played) → CleanNothing ps
+        → AllCanCancel (world_with setup answers ps new_world) }
 {}
 
 /// A lease can't tell that it shares its connection, where the answers are blind to the numbers of

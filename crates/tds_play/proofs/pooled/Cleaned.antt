@@ -3,7 +3,7 @@
 use Rattle.std.proofs.Common.{◌≡◌, ◌≢◌, ◌∙◌, inl, inr, ℕ, Bool, true, false, cond, List, [], ◌∷◌, Option, Some, None, refl, sym, ap, subst}
 use Rattle.std.proofs.Math.Dec.{eqb}
 use Rattle.std.specs.Prelude.{IfNone, IfSome, IsSome, is_none, option_map}
-use Rattle.tds_client.specs.Session.{ClientSession, Stage, Idle, Sending, Reading, Cancelling, Broken, unless_idle}
+use Rattle.tds_client.specs.Session.{Stage, Idle, Sending, Reading, Cancelling, Broken, unless_idle}
 use Rattle.tds_pool.specs.Calls.{IsRefusal, Returned, all_numbers, asks_reset, behind_refusal, cleaned, cleaned_to, cleaning, free_one, is_clean, is_cleaning, is_free, is_held, looked_at_clean, not_cleaned, only, refuses_clean, rests_clean}
 use Rattle.tds_pool.specs.Calls as calls
 use Rattle.tds_pool.specs.Cleaning.{client_at, is_cleaned}
@@ -14,15 +14,14 @@ use Rattle.tds_pool.specs.declared.answers.PoolRefusal.TheVariants as refusals
 use Rattle.tds_pool.specs.declared.seat.Place.{Place}
 use Rattle.tds_pool.specs.declared.seat.Place.TheVariants as places
 use Rattle.tds_request.specs.declared.request.Request.{Request}
-use Rattle.tds_world.specs.declared.outcome.Refusal.{Refusal}
 use Rattle.tds_world.specs.declared.report.Place.TheVariants.{Draining, Free}
 use Rattle.tds_world.specs.declared.report.Place as world
 use Rattle.tds_play.specs.Pooled.{ChangesClient, ChangesOne, IsNotCleaned, IsThere, StaysAs, cleans_not, seat_by}
-use Rattle.tds_play.specs.Seats.{Seat, drained, drained_at, seated}
+use Rattle.tds_play.specs.Seats.{drained, drained_at, seated}
 use Rattle.tds_play.specs.declared.seat.Held.{Held}
 use Rattle.tds_play.proofs.pooled.Changes.{changed_here, changed_numbers, changed_others, taken_gone, taken_others}
 use Rattle.tds_play.proofs.pooled.Clients.{rest_then, with}
-use Rattle.tds_play.proofs.pooled.Leaves.{IsMoved, found_still, is_closed, stays_there, taken_changed}
+use Rattle.tds_play.proofs.pooled.Leaves.{IsMoved, is_closed, stays_there, taken_changed}
 use Rattle.tds_play.proofs.pooled.Returned.{number_found}
 
 -- ---- Its answer comes

@@ -1,5 +1,5 @@
 -- The client of one connection of a pool changes, and nothing else.
-use Rattle.std.proofs.Common.{◌≡◌, ◌≢◌, ◌∙◌, ℕ, Bool, List, Option, Some, None, Result, Ok, Err, refl, sym, ap, subst}
+use Rattle.std.proofs.Common.{◌≡◌, ◌∙◌, ℕ, Bool, List, Option, Some, None, Result, Ok, Err, refl, sym, ap, subst}
 use Rattle.std.specs.Prelude.{IsSome, OnOk, option_map}
 use Rattle.tds_client.specs.Session.{ClientSession}
 use Rattle.tds_pool.specs.Calls.{all_numbers}

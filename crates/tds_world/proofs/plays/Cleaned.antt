@@ -8,7 +8,7 @@ use Rattle.tds_world.specs.declared.event.Event.{Event}
 use Rattle.tds_world.specs.declared.event.Event.TheVariants as event
 use Rattle.tds_world.specs.declared.event.Setup.{Setup}
 use Rattle.tds_world.specs.declared.report.Place.TheVariants as place
-use Rattle.tds_world.specs.Arrivals.{server_acts, client_acts, reach_server, reach_client, to_server, works_on, drained}
+use Rattle.tds_world.specs.Arrivals.{server_acts, client_acts, reach_server, reach_client, works_on, drained}
 use Rattle.tds_world.specs.Cleaning.{can_clean}
 use Rattle.tds_world.specs.Connection.{Connection, Standing, In, Cut, cut, up_underway, down_underway}
 use Rattle.tds_world.specs.Entries.{Up, Down, Step, Acknowledgement, up_bytes, down_bytes}
@@ -16,7 +16,6 @@ use Rattle.tds_world.specs.Events.{acts, cleans_by}
 use Rattle.tds_world.specs.Lane.{passed, with_waiting}
 use Rattle.tds_world.specs.Lawful.{Lawful}
 use Rattle.tds_world.specs.LeftCleanShown.{lent_here}
-use Rattle.tds_world.specs.Losses.{Nothing}
 use Rattle.tds_world.specs.Phase.{phase_by, phase_in}
 use Rattle.tds_world.specs.Pool.{Acted, Refuses, Does, is_free, gives_back_at, abandons_at}
 use Rattle.tds_world.specs.Record.{Record, Fate, Open, Finished, Cancelled, Acknowledged, Out, NotBegun, Begun, Whole, is_cancelled, gives, runs, when, if_numbered}

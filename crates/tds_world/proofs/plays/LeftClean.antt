@@ -1,5 +1,5 @@
 -- From a cleaning on, until the connection is lent, an idle client has a fresh server.
-use Rattle.std.proofs.Common.{◌≡◌, ◌≢◌, ◌-◌, ◌+◌, ℕ, List, [], ◌∷◌, ◌++◌, Bool, true, false, eqb, refl, sym, ap, subst, ◌∙◌, Option, Some, None, arith}
+use Rattle.std.proofs.Common.{◌≡◌, ◌≢◌, ◌-◌, ℕ, List, [], ◌∷◌, ◌++◌, Bool, true, false, eqb, refl, sym, ap, subst, ◌∙◌, Option, Some, None, arith}
 use Rattle.std.proofs.lemmas.Bool.Decides.{nat_tests}
 use Rattle.std.specs.List.{AllByRecursion}
 use Rattle.tds_session.specs.Answer.{Answers}
@@ -12,7 +12,7 @@ use Rattle.tds_world.specs.declared.outcome.Outcome.TheVariants as outcome
 use Rattle.tds_world.specs.declared.outcome.Refusal.TheVariants as refusal
 use Rattle.tds_world.specs.declared.report.EventReport.{EventReport}
 use Rattle.tds_world.specs.Cleaning.{can_clean, cleans}
-use Rattle.tds_world.specs.Connection.{Connection, phase, Cut, is_cut, cut}
+use Rattle.tds_world.specs.Connection.{Connection, phase, is_cut, cut}
 use Rattle.tds_world.specs.Events.{about, acts, cleans_by, settles, happens_at, happens, world_after}
 use Rattle.tds_world.specs.Lawful.{Lawful}
 use Rattle.tds_world.specs.LeftClean.{AnswersClean, IsLeftClean}
@@ -23,7 +23,7 @@ use Rattle.tds_world.specs.Phase.{Settled, phase_by, phase_in}
 use Rattle.tds_world.specs.Pool.{Acted, Refuses, Does, is_free, opens}
 use Rattle.tds_world.specs.Record.{Record, Fate, Open, Finished, Cancelled, Acknowledged, Out, NotBegun, Begun, Whole, is_finished, is_cancelled}
 use Rattle.tds_world.specs.WithLosses.{AlwaysToldWith, events_of}
-use Rattle.tds_world.specs.World.{World, Found, Missing, Here, Opens, new_world, numbered, next_number, put, put_numbered, by_number, uncut_in}
+use Rattle.tds_world.specs.World.{World, Found, Missing, Here, Opens, new_world, numbered, next_number, put_numbered, by_number, uncut_in}
 use Rattle.tds_world.proofs.events.Agreement.{new_agrees}
 use Rattle.tds_world.proofs.events.Grows.{notes_leave, after_both, after_agrees}
 use Rattle.tds_world.proofs.events.Happens.{happens_cases}

@@ -1,13 +1,11 @@
 -- What a report shows of own answers and own transactions.
-use Rattle.std.proofs.Common.{◌≡◌, ◌-◌, ℕ, Bool, true, false, refl, sym, ap, subst, ◌∙◌, Option, Some, None}
+use Rattle.std.proofs.Common.{◌≡◌, ℕ, Bool, true, false, refl, sym, ap, subst, ◌∙◌, Option, Some, None}
 use Rattle.std.specs.Prelude.{◌==◌}
 use Rattle.tds_session.specs.Answer.{Answers}
 use Rattle.tds_session.specs.Session.{SessionState}
 use Rattle.tds_world.specs.declared.event.Setup.{Setup}
 use Rattle.tds_world.specs.declared.report.RequestStatus.TheVariants as status
 use Rattle.tds_world.specs.Bounds.{RanInOwn}
-use Rattle.tds_world.specs.Caller.{asks}
-use Rattle.tds_world.specs.Cleaning.{cleans}
 use Rattle.tds_world.specs.Connection.{Connection, records, is_cut}
 use Rattle.tds_world.specs.Events.{world_after}
 use Rattle.tds_world.specs.Lawful.{Lawful}

@@ -8,7 +8,7 @@ use Rattle.tds_session.specs.Answer.{Answers}
 use Rattle.tds_session.specs.Attention.{stop_by}
 use Rattle.tds_session.specs.Session.{SessionState, IsFresh}
 use Rattle.tds_world.specs.declared.event.Setup.{Setup}
-use Rattle.tds_world.specs.Arrivals.{server_acts, client_acts, works_on, stops}
+use Rattle.tds_world.specs.Arrivals.{server_acts, client_acts, stops}
 use Rattle.tds_world.specs.Caller.{cancels_by, sends_by}
 use Rattle.tds_world.specs.Cleaning.{clean_request}
 use Rattle.tds_world.specs.Connection.{Connection, phase, records, joined}

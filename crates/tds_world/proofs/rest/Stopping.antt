@@ -80,7 +80,7 @@ client_same : (c : Connection) (e : Down) → (client_acts c e).standing ≡ c.s
 client_same c (Step r place s) = refl
 client_same c (Acknowledgement r place changes) = refl
 
-of_either : (P : Record → Type 0) (b : Bool) (f : Record → Record) (q : Record) → P (f q) → P q → P (when b f q)
+pub of_either : (P : Record → Type 0) (b : Bool) (f : Record → Record) (q : Record) → P (f q) → P q → P (when b f q)
 of_either P true f q g h = g
 of_either P false f q g h = h
 

@@ -1,5 +1,5 @@
--- A connection that is whole never hangs: whatever happened on it, it comes to rest by a cancel and
--- what is underway then, or without one by what is left to do.
+-- A connection that is whole never hangs: whatever happened on it, it comes to rest by what is left to
+-- do, and by a cancel and what is underway then, unless the pool is cleaning it.
 use Rattle.std.specs.Prelude.{ℕ, zero, suc, ◌≡◌, ◌≢◌, ◌-◌, ◌*◌, ◌≤◌, List, [], ◌∷◌, ◌++◌, length, replicate, false, Option, Some}
 use Rattle.tds_session.specs.Answer.{Answers}
 use Rattle.tds_world.specs.declared.event.Event.{Event}
@@ -11,7 +11,7 @@ use Rattle.tds_world.specs.Arrivals.{to_server, works}
 use Rattle.tds_world.specs.Caller.{cancels}
 use Rattle.tds_world.specs.Connection.{Connection, Standing, In, Cut, phase, up_underway, down_underway}
 use Rattle.tds_world.specs.Events.{sends_in, world_after}
-use Rattle.tds_world.specs.Laws.{IsQuiet}
+use Rattle.tds_world.specs.Laws.{IsQuiet, OfEachConnection}
 use Rattle.tds_world.specs.Phase.{Phase, Settled, Asked, Sending, Reading, Cancelling, phase_of}
 use Rattle.tds_world.specs.Pool.{Acted, Refuses, Does}
 use Rattle.tds_world.specs.Record.{Record, Fate, Finished, Acknowledged, is_cancelled}
@@ -62,11 +62,19 @@ pub record AreAll (answers : Answers) (c : Connection) (up down : ℕ) : Type 0 
   pub down_all : down_underway (to_server answers up c) ≤ down
 
 -- What the pool asks when it cleans a connection nobody cancels: so it is with one that drains while its
--- answer is waited for. It comes to rest without a cancel.
+-- answer is read. It comes to rest by what is left to do alone.
 abbrev pub CanCancel : Standing → Phase → Type 0
 CanCancel s p = s ≡ In place.Draining → p ≢ Reading
 
--- Each connection that isn't cut comes to rest by at most three events.
+-- So it is with each connection. Where no event cleans, it always is.
+abbrev pub AllCanCancel : World → Type 0
+AllCanCancel w = OfEachConnection (λ c. CanCancel c.standing (phase c)) w
+
+abbrev pub IsNoCleaning : Event → Type 0
+IsNoCleaning (event.Clean n) = ⊥
+IsNoCleaning e = Unit {0}
+
+-- Each connection that isn't cut, and isn't being cleaned, comes to rest by at most three events.
 abbrev pub CanStop : Setup → Answers → World → Type 0
 CanStop setup answers w =
     (n : ℕ) (c : Connection) (up down : ℕ)

@@ -49,7 +49,7 @@ abbrev pub Later : Type 0
 Later = List Event → Report
 
 -- What the pool asks when it cleans a connection nobody cancels: so it is with one that drains while its
--- client reads. It comes to rest without a cancel.
+-- client reads. It comes to rest by what is left to do alone.
 abbrev pub CanCancelShown : Snapshot → Type 0
 CanCancelShown s = s.place ≡ place.Draining → s.client ≢ view.Reading
 
@@ -87,7 +87,8 @@ CanBeFinished later r s =
     × ((packets up steps down : ℕ) → least ≤ packets → least ≤ up → least ≤ steps → least ≤ down
     → IsAnswered s r (later (finishing (In s.place) s.conn packets up steps down)))
 
--- Each connection that is shown after the last event can be brought to rest, both ways.
+-- Each connection that is shown after the last event can be brought to rest, both ways, or where the
+-- pool is cleaning it, without a cancel.
 pub record IsNeverStuck (attention : OnAttention) (later : Later) (r : Report) (s : Snapshot)
     : Type 0 where
   pub stopped : CanBeStopped attention later s

@@ -78,9 +78,9 @@ pub fn lends_idle()
 {}
 
 /// Each connection that is shown after the last event comes to rest, in the report of the same events
-/// with these behind it: by a cancel and what is underway then; or without one, with all that is left
-/// to do, and its request finished, or acknowledged if it was cancelled before. It holds for a setup
-/// that a play takes.
+/// with these behind it: by all that is left to do, and its request is finished, or acknowledged if it
+/// was cancelled before; and by a cancel and what is underway then, unless the pool is cleaning it. It
+/// holds for a setup that a play takes.
 pub fn never_stuck()
     ensures { (setup : Setup) (answers : Answers) → IsSetup setup → Lawful answers
         → AlwaysTold setup answers (ShowsNeverStuck setup answers) }

@@ -1,9 +1,8 @@
 use Rattle.std.proofs.Common.{◌≡◌, ◌≤◌, ◌+◌, ◌-◌, length}
-use Rattle.std.specs.Prelude.{IsSome}
 use Rattle.tds_packet.specs.declared.kind.Direction.TheVariants.{ToClient}
 use Rattle.tds_ends.proofs.FedClient.{Listening}
 use Rattle.tds_pool.specs.Cleaning.{client_at}
-use Rattle.tds_pool.specs.Connections.{connections, numbered}
+use Rattle.tds_pool.specs.Connections.{connections}
 use Rattle.tds_play.specs.Pooled.{ChangesClient}
 use Rattle.tds_play.proofs.hearing.listen_in.Given as goal
 

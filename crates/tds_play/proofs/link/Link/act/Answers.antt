@@ -1,5 +1,5 @@
-use Rattle.std.proofs.Common.{◌≡◌, ◌∙◌, ℕ, Some, Option, refl, sym, ap, subst, true}
-use Rattle.std.specs.Prelude.{IfOk, IsSome}
+use Rattle.std.proofs.Common.{◌≡◌, ◌∙◌, ℕ, Option, refl, sym, ap, subst}
+use Rattle.std.specs.Prelude.{IfOk}
 use Rattle.tds_client.specs.Session.{ClientSession}
 use Rattle.tds_pool.specs.Cleaning.{client_at}
 use Rattle.tds_pool.specs.Connections.{PoolState, connections, numbered}

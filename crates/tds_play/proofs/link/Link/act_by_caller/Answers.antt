@@ -1,19 +1,16 @@
-use Rattle.std.proofs.Common.{◌∙◌, ap, ℕ, Ok, Option, refl}
+use Rattle.std.proofs.Common.{ap, Option, refl}
 use Rattle.tds_session.specs.Answer.{Answers, answer_of}
-use Rattle.tds_world.specs.declared.event.Event.TheVariants as event
 use Rattle.tds_world.specs.World.{next_number}
 use Rattle.tds_play.specs.Pipe.{Pipe}
 use Rattle.tds_play.specs.Seats.{seated}
-use Rattle.tds_play.proofs.Acting.{down_act, plain_act, up_act, whole_act}
+use Rattle.tds_play.proofs.Acting.{plain_act, whole_act}
 use Rattle.tds_play.proofs.Asked.{asked_ok}
 use Rattle.tds_play.proofs.Listening.{if_ok}
 use Rattle.tds_play.specs.Failures.{calls_of}
 use Rattle.tds_play.proofs.Failing.{whole_as}
 use Rattle.tds_play.proofs.Failing as failing
 use Rattle.tds_play.proofs.Tying.{may_lose, whole_loses}
-use Rattle.tds_world.specs.declared.event.Event.{Event}
-use Rattle.tds_play.specs.Reads.{delivers}
-use Rattle.tds_play.proofs.any_bytes.Brought.{still_ok, still_on}
+use Rattle.tds_play.proofs.any_bytes.Brought.{still_ok}
 use Rattle.tds_play.proofs.link.Link.act_by_caller.Goals as goal
 
 pub returns-in-Ask-clause-refines : goal.returns-in-Ask-clause-refines

@@ -1,4 +1,4 @@
-use Rattle.std.proofs.Common.{◌≡◌, ◌≤◌, ◌∙◌, ◌-◌, ℕ, Bool, true, false, Option, Some, None, refl, sym, ap, subst}
+use Rattle.std.proofs.Common.{◌≡◌, ◌∙◌, ◌-◌, ℕ, Bool, true, false, Option, Some, refl, sym, ap, subst}
 use Rattle.std.specs.Prelude.{IfSome, IsSome}
 use Rattle.tds_client.specs.Session.{ClientSession}
 use Rattle.tds_pool.specs.Calls.{asks_reset, free_one, refuses_clean}
@@ -8,18 +8,17 @@ use Rattle.tds_session.specs.Answer.{Answers, answer_of}
 use Rattle.tds_session.specs.declared.attention.OnAttention.TheVariants.{Keep}
 use Rattle.tds_ends.specs.ModelGives.{IsCountable}
 use Rattle.tds_world.specs.Cleaning.{can_clean, clean_request}
-use Rattle.tds_world.specs.Connection.{new_connection, is_idle, up_underway}
+use Rattle.tds_world.specs.Connection.{new_connection, is_idle}
 use Rattle.tds_world.specs.Events.{cleans_by}
 use Rattle.tds_world.specs.Pool.{Acted, Refuses}
 use Rattle.tds_world.specs.declared.event.Event.TheVariants as event
 use Rattle.tds_world.specs.declared.outcome.Outcome.TheVariants.{Refused}
 use Rattle.tds_world.specs.declared.report.Place.TheVariants.{Draining, Leased}
 use Rattle.tds_play.specs.declared.link.EventDone.{EventDone}
-use Rattle.tds_play.specs.declared.seat.Held.{Held}
 use Rattle.tds_play.specs.Pipe.{Pipe}
 use Rattle.tds_play.specs.Plays.{MayLose, RefinesAct, RepresentsConnection, acts_on, after, outcome_of}
 use Rattle.tds_play.specs.Pooled.{IsNotCleaned, seat_by, seat_in}
-use Rattle.tds_play.specs.Seats.{Seat, seated}
+use Rattle.tds_play.specs.Seats.{seated}
 use Rattle.tds_play.proofs.Acting.{cut_alike}
 use Rattle.tds_play.proofs.Cleaning.{cleans_refused, cleans_there as cleans_so}
 use Rattle.tds_play.proofs.Doing.{does_so}
@@ -27,7 +26,7 @@ use Rattle.tds_play.proofs.any_bytes.Brought.{gone_on, still_on}
 use Rattle.tds_play.proofs.any_bytes.Stays.{stays}
 use Rattle.tds_play.proofs.pooled.Back.{does_whole}
 use Rattle.tds_play.proofs.pooled.Cleaned.{CleansOne, WasFree, alike_changes, alike_there, begun, begun_here, cleans_one, cleans_there, idle_there, sent_here, was_free}
-use Rattle.tds_play.proofs.pooled.Clients.{client_at_is, with}
+use Rattle.tds_play.proofs.pooled.Clients.{client_at_is}
 use Rattle.tds_play.proofs.pooled.Numbers.{IsIn}
 use Rattle.tds_play.proofs.pooled.Settled.{in_of, none_changes, reseats, settled_reads}
 use Rattle.tds_play.proofs.seat.Held.clean.Goals as goal

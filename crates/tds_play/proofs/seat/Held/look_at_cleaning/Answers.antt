@@ -1,4 +1,4 @@
-use Rattle.std.proofs.Common.{◌≡◌, ◌∙◌, ℕ, refl, sym, ap}
+use Rattle.std.proofs.Common.{◌∙◌, ℕ, refl, sym, ap}
 use Rattle.tds_pool.specs.Calls as calls
 use Rattle.tds_pool.specs.Connections.{connections, numbered}
 use Rattle.tds_play.specs.Pooled.{seat_by}
