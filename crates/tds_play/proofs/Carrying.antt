@@ -6,7 +6,7 @@ use Rattle.tds_packet.specs.declared.kind.Direction.{Direction}
 use Rattle.tds_packet.specs.declared.kind.Direction.TheVariants.{ToServer, ToClient}
 use Rattle.std.specs.Prelude.{Result, Ok, Err}
 use Rattle.tds_play.specs.declared.carrier.CarrierError.{CarrierError}
-use Rattle.tds_play.specs.Pipe.{Pipe, Traffic, traffic, carried, carried_on, next_of, Brings}
+use Rattle.tds_play.specs.Pipe.{Pipe, Traffic, traffic, carried, carried_on, stuck_on, next_of, Brings}
 use Rattle.tds_play.specs.Ties.{Holds, IsTied, counted, with_counted}
 use Rattle.tds_play.specs.declared.link.Link.{Link}
 
@@ -59,6 +59,19 @@ tied_after link d n pipe new bytes t live less long is =
       client_reads = ap (λ r. r.direction) (reads_same link d (counted link d - n)).1 ∙ t.client_reads;
       holds = λ uncut. subst (λ (p : Option Pipe). Holds after.to_server after.to_client p) (sym is) (holds_after link d n pipe bytes (t.holds live) less long);
     }
+
+-- Nothing came.
+stuck_holds : (up down : ℕ) (p : Option Pipe) (d : Direction) → Holds up down p → Holds up down (stuck_on p d)
+stuck_holds up down None d h = absurd h.is_open
+stuck_holds up down (Some p) ToServer h = record { is_open = h.is_open; to_server = h.to_server; to_client = h.to_client }
+stuck_holds up down (Some p) ToClient h = record { is_open = h.is_open; to_server = h.to_server; to_client = h.to_client }
+
+pub stuck_tied : {E S : Type 0} (link : Link E S) (p new : Option Pipe) (d : Direction) → new ≡ stuck_on p d → IsTied link p → IsTied link new
+stuck_tied link p new d is t = record {
+  server_reads = t.server_reads;
+  client_reads = t.client_reads;
+  holds = λ live. subst (Holds link.to_server link.to_client) (sym is) (stuck_holds link.to_server link.to_client p d (t.holds live));
+}
 
 -- ---- What came is what was handed over
 

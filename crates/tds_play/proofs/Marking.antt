@@ -23,7 +23,7 @@ use Rattle.tds_play.proofs.AllPlayed.{as_many}
 use Rattle.tds_play.proofs.pooled.Seated.{seated_length}
 use Rattle.tds_play.proofs.Turns.{marked_one_more, one_taken, so_many}
 
-marks_lost : (b : Bool) (o : Outcome) → b ≡ is_lost (loss_by b o)
+pub marks_lost : (b : Bool) (o : Outcome) → b ≡ is_lost (loss_by b o)
 marks_lost true o = refl
 marks_lost false o = refl
 

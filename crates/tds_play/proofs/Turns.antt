@@ -240,7 +240,7 @@ bytes_at n m zero size engine (l ∷ ls) pipes (c ∷ cs) ToClient all less at =
 bytes_at n m (suc i) size engine (l ∷ ls) pipes (c ∷ cs) direction all less at =
     bytes_at (suc n) m i size engine ls pipes cs direction all.1 (omega (arith, less)) (omega (arith, at))
 
-bytes_handed : {E S : Type 0} (size : ℕ) (engine : E) (links : List (Seated E S)) (pipes : ℕ → Option Pipe) (w : World) (n : ℕ) (direction : Direction)
+pub bytes_handed : {E S : Type 0} (size : ℕ) (engine : E) (links : List (Seated E S)) (pipes : ℕ → Option Pipe) (w : World) (n : ℕ) (direction : Direction)
     → RepresentConnections 1 size engine links pipes w.connections → 0 < n → n ≤ length w.connections → (traffic (pipes n) direction).handed ≡ bytes_of w n direction
 bytes_handed size engine links pipes w zero direction all some most = absurd (omega (arith, some))
 bytes_handed size engine links pipes w (suc i) direction all some most =
@@ -253,7 +253,7 @@ came_on : {E S : Type 0} (number size : ℕ) (engine : E) (link : Link E S) (sea
 came_on number size engine link seat p c ToServer is = is.came_up
 came_on number size engine link seat p c ToClient is = is.came_down
 
-bytes_carried : {E S : Type 0} (size : ℕ) (engine : E) (links : List (Seated E S)) (pipes : ℕ → Option Pipe) (cs : List Connection) (n : ℕ) (c : Connection) (direction : Direction)
+pub bytes_carried : {E S : Type 0} (size : ℕ) (engine : E) (links : List (Seated E S)) (pipes : ℕ → Option Pipe) (cs : List Connection) (n : ℕ) (c : Connection) (direction : Direction)
     → RepresentConnections 1 size engine links pipes cs → numbered cs n ≡ Some c → (traffic (pipes n) direction).came ≡ come_on direction c
 bytes_carried size engine links pipes cs zero c direction all at = absurd (cc)
 bytes_carried size engine [] pipes [] (suc i) c direction all at = absurd (cc)
@@ -277,7 +277,7 @@ cut_as : {E S : Type 0} (number size : ℕ) (engine : E) (link : Link E S) (seat
 cut_as number size engine link seat p c is tied =
     cut_by link.is_cut seat.place c.standing p is.standing is.gone (λ live. (tied.holds live).is_open)
 
-all_cut : {E S : Type 0} (size : ℕ) (engine : E) (links : List (Seated E S)) (pipes : ℕ → Option Pipe) (cs : List Connection) (n : ℕ) (c : Connection)
+pub all_cut : {E S : Type 0} (size : ℕ) (engine : E) (links : List (Seated E S)) (pipes : ℕ → Option Pipe) (cs : List Connection) (n : ℕ) (c : Connection)
     → RepresentConnections 1 size engine links pipes cs → AreTied links pipes → numbered cs n ≡ Some c → IsCutAs (is_cut c.standing) (pipes n)
 all_cut size engine links pipes cs zero c all tied at = absurd (cc)
 all_cut size engine [] pipes [] (suc i) c all tied at = absurd (cc)

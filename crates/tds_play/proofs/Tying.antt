@@ -10,8 +10,9 @@ use Rattle.tds_server.specs.State.{ServerState}
 use Rattle.tds_world.specs.declared.event.Event.{Event}
 use Rattle.tds_play.specs.Acts.{cancelled_as, unless_lost}
 use Rattle.tds_play.specs.Links.{cut_of, recounted}
-use Rattle.tds_play.specs.Pipe.{Changes, Pipe, sent_on}
+use Rattle.tds_play.specs.Pipe.{Begun, Changes, IsFaithful, Pipe, sent_on}
 use Rattle.tds_play.specs.Plays.{MayLose}
+use Rattle.tds_play.proofs.any_bytes.Faithful.{no_more_came, sent_faithful}
 use Rattle.tds_play.specs.Ties.{Holds, IsTied, KeepsTies, counted, saturated, with_counted}
 use Rattle.tds_play.specs.declared.link.EventDone.{EventDone}
 use Rattle.tds_play.specs.declared.link.Link.{Link}
@@ -55,12 +56,12 @@ holds_more link ToClient n (Some p) bytes failures is h = record {
 }
 
 -- What was handed over is tied.
-pub handed_ties : {E S : Type 0} (link new : Link E S) (d : Direction) (n : ℕ) (bytes : List ℕ) (failures : ℕ) (old pipes : ℕ → Option Pipe) (told still : Type 0)
+pub handed_ties : {E S : Type 0} (link new : Link E S) (d : Direction) (n : ℕ) (bytes : List ℕ) (failures : ℕ) (old pipes : ℕ → Option Pipe) (told still : List Begun)
     → IsTied link (old link.number) → link.is_cut ≡ false → n ≡ length bytes
     → new ≡ with_counted link d (saturated (counted link d + n))
     → Changes old pipes link.number (sent_on (old link.number) d bytes failures)
-    → (told → still) → KeepsTies link.number new old pipes told still
-handed_ties {E} {S} link new d n bytes failures old pipes told still t live is then changes tells =
+    → still ≡ told → KeepsTies link.number new old pipes told still
+handed_ties {E} {S} link new d n bytes failures old pipes told still t live is then changes begun =
     let count : ℕ = saturated (counted link d + n) in
     let out : Link E S = with_counted link d count in
     record {
@@ -70,7 +71,8 @@ handed_ties {E} {S} link new d n bytes failures old pipes told still t live is t
         holds = λ uncut. subst (λ (p : Option Pipe). Holds out.to_server out.to_client p) (sym changes.here) (holds_more link d n (old link.number) bytes failures is (t.holds live));
       });
       others = changes.others;
-      tells = tells;
+      begun = begun;
+      faithful = λ f. sent_faithful (old link.number) d bytes failures (no_more_came link.to_server link.to_client (old link.number) (t.holds live)) (subst IsFaithful changes.here f);
     }
 
 recounts : {E S : Type 0} (link : Link E S) (d : Direction) (n : ℕ) → with_counted link d n ≡ recounted (with_counted link d n).to_server (with_counted link d n).to_client link
@@ -118,19 +120,29 @@ cancelled_number a link new is = ap (λ l. l.number) is ∙ (cancelled_keeps a l
 pub cancelled_live : {E S : Type 0} (a : Cancelled) (link new : Link E S) → new ≡ cancelled_as a link → new.is_cut ≡ link.is_cut
 cancelled_live a link new is = ap (λ l. l.is_cut) is ∙ (cancelled_keeps a link).1
 
+-- Where what came then is the first of what was handed over, it was so before, under the number that the
+-- connection then had.
+pub faithful_before : {E S : Type 0} (conn k : ℕ) (new : Link E S) (pipes last : ℕ → Option Pipe) (told still : List Begun) → k ≡ conn → KeepsTies k new pipes last told still → IsFaithful (last conn) → IsFaithful (pipes conn)
+faithful_before conn k new pipes last told still is ties f =
+    subst (λ (n : ℕ). IsFaithful (pipes n)) is (ties.faithful (subst (λ (n : ℕ). IsFaithful (last n)) (sym is) f))
+
 -- ---- The end of an event
 
 -- Bytes were handed over and the event ended, each under the number that the connection then had.
-pub ties_handed : {E S : Type 0} (conn m k : ℕ) (out new : Link E S) (old pipes last : ℕ → Option Pipe) (told mid still : Type 0) → m ≡ conn → k ≡ m
-    → KeepsTies m out old pipes told mid → KeepsTies k new pipes last mid still → KeepsTies conn new old last told still
-ties_handed conn m k out new old pipes last told mid still put handed hands ends = record {
+pub ties_handed : {E S : Type 0} (conn m k : ℕ) (out new : Link E S) (old pipes last : ℕ → Option Pipe) (told between still : List Begun) → m ≡ conn → k ≡ m
+    → KeepsTies m out old pipes told between → KeepsTies k new pipes last between still → KeepsTies conn new old last told still
+ties_handed conn m k out new old pipes last told between still put handed hands ends = record {
   tied = subst (λ (n : ℕ). IsTied new (last n)) (handed ∙ put) ends.tied;
   others = λ other differs. ends.others other (λ is. differs (is ∙ handed ∙ put)) ∙ hands.others other (λ is. differs (is ∙ put));
-  tells = λ t. ends.tells (hands.tells t);
+  begun = ends.begun ∙ hands.begun;
+  faithful = λ f.
+      let after : IsFaithful (last k) = subst (λ (n : ℕ). IsFaithful (last n)) (sym (handed ∙ put)) f in
+      let mid : IsFaithful (pipes m) = subst (λ (n : ℕ). IsFaithful (pipes n)) handed (ends.faithful after) in
+      subst (λ (n : ℕ). IsFaithful (old n)) put (hands.faithful mid);
 }
 
 -- One that was handed bytes alone.
-pub ties_numbered : {E S : Type 0} (conn m : ℕ) (out : Link E S) (old pipes : ℕ → Option Pipe) (told still : Type 0) → m ≡ conn → KeepsTies m out old pipes told still → KeepsTies conn out old pipes told still
+pub ties_numbered : {E S : Type 0} (conn m : ℕ) (out : Link E S) (old pipes : ℕ → Option Pipe) (told still : List Begun) → m ≡ conn → KeepsTies m out old pipes told still → KeepsTies conn out old pipes told still
 ties_numbered {E} {S} conn m out old pipes told still put hands = subst (λ (n : ℕ). KeepsTies n out old pipes told still) put hands
 
 by_end : {E S : Type 0} (lost : Bool) (mid out new : Link E S) → new ≡ cond lost (cut_of out) out → out ≡ recounted out.to_server out.to_client mid → new ≡ unless_lost lost (recounted new.to_server new.to_client mid)

@@ -5,3 +5,5 @@ pub mod Brought
 pub mod Answered
 pub mod Given
 pub mod Places
+pub mod Faithful
+pub mod Told

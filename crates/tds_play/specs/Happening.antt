@@ -1,5 +1,5 @@
 -- An event of a play: what it made of the player and of its carrier, and what it came to in the model.
-use Rattle.std.specs.Prelude.{ℕ, ◌≡◌, length, Option}
+use Rattle.std.specs.Prelude.{List, ℕ, ◌≡◌, length, Option}
 use Rattle.tds_ends.specs.ModelGives.{IsCountable}
 use Rattle.tds_session.specs.Answer.{Answers}
 use Rattle.tds_world.specs.declared.event.Event.{Event}
@@ -11,20 +11,22 @@ use Rattle.tds_world.specs.World.{World}
 use Rattle.tds_play.specs.declared.link.EventDone.{EventDone}
 use Rattle.tds_play.specs.declared.player.Player.{Player}
 use Rattle.tds_play.specs.Failures.{FailsOn, LiveAreSound, all_known}
-use Rattle.tds_play.specs.Pipe.{Pipe}
+use Rattle.tds_play.specs.Pipe.{AreFaithfulTo, AreSameBeyond, Begun, Pipe}
 use Rattle.tds_play.specs.Player.{AreHeld, ModelGivesEach, RefinesEvent, RepresentsWorld, all_of}
 use Rattle.tds_play.specs.Reads.{AllRead, Answers as Answered, answers_then}
 use Rattle.tds_play.specs.Steps.{GrowsByOne}
 use Rattle.tds_play.specs.Ties.{AreTied}
 
--- What an event came to in a play, over a carrier that told what it was handed, or not, and does still. It keeps
--- what each event needs of the player.
+-- What an event came to in a play, over a carrier that was told of these events, and is of no other one. It
+-- keeps what each event needs of the player.
 pub record HappensAs {E S : Type 0} (answers : E → Answers) (e : Event) (old new : Player E S)
-    (pipes pipes' : ℕ → Option Pipe) (told still : Type 0) (done : EventDone) : Type 0 where
+    (pipes pipes' : ℕ → Option Pipe) (told still : List Begun) (done : EventDone) : Type 0 where
   pub tied : AreTied (all_of new) pipes'
   pub held : AreHeld new
   pub grows : GrowsByOne old new
-  pub tells : told → still
+  pub begun : still ≡ told
+  pub others : AreSameBeyond (length new.links.items) pipes pipes'
+  pub faithful : AreFaithfulTo (length new.links.items) pipes' → AreFaithfulTo (length old.links.items) pipes
   pub sound : LiveAreSound (all_of old) pipes → LiveAreSound (all_of new) pipes'
   pub size : new.size ≡ old.size
   -- Both ends of each connection read what comes, whatever it is.
@@ -36,7 +38,7 @@ pub record HappensAs {E S : Type 0} (answers : E → Answers) (e : Event) (old n
       → FailsOn e done.lost (link_of setup w e) (all_known (length old.links.items) pipes)
       (all_known (length new.links.items) pipes')
   -- What stands for a world of the model stands for the world after it.
-  pub refines : (setup : Setup) (engine : E) (w : World) → told
+  pub refines : (setup : Setup) (engine : E) (w : World) → AreFaithfulTo (length new.links.items) pipes'
       → RepresentsWorld setup engine old pipes w → ModelGivesEach E (answers engine) setup w
       → ((k : ℕ) → OfEachConnection IsCountable (happens setup (answers engine) (bringing k e) w).1)
       → RefinesEvent setup engine (answers engine) done new pipes' e w

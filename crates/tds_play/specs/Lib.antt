@@ -23,3 +23,4 @@ pub mod Happening
 pub mod AnyBytes
 pub mod Reads
 pub mod WholePlay
+pub mod Calls

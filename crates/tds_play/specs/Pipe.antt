@@ -1,5 +1,5 @@
 -- What a carrier was handed on a connection, what came of it, and what failed.
-use Rattle.std.specs.Prelude.{ℕ, ◌+◌, ◌≡◌, ◌≢◌, List, [], ◌++◌, length, take, drop, Option, Some, None, Bool, true, false}
+use Rattle.std.specs.Prelude.{ℕ, suc, ◌+◌, ◌<◌, ◌≡◌, ◌≢◌, List, [], ◌++◌, length, take, drop, Option, Some, None, Bool, true, false}
 use Rattle.tds_packet.specs.declared.kind.Direction.{Direction}
 use Rattle.tds_packet.specs.declared.kind.Direction.TheVariants.{ToServer, ToClient}
 
@@ -16,6 +16,11 @@ pub record Pipe : Type 0 where
   pub to_client : Traffic
   pub open_failures : ℕ
   pub is_cut : Bool
+
+-- An event of which a carrier was told: its number, and what there was of each connection then.
+pub record Begun : Type 0 where
+  pub event : ℕ
+  pub pipes : ℕ → Option Pipe
 
 abbrev pub no_traffic : Traffic
 no_traffic = record { handed = []; came = []; send_failures = 0; carry_failures = 0 }
@@ -88,9 +93,28 @@ abbrev pub cut_pipe : Option Pipe → Option Pipe
 cut_pipe None = None
 cut_pipe (Some p) = Some (record p { is_cut = true })
 
+-- Each way, what came out is the first of what was handed over.
+abbrev pub IsFaithful : Option Pipe → Type 0
+IsFaithful p = (d : Direction) → (traffic p d).came ≡ take (length (traffic p d).came) (traffic p d).handed
+
+abbrev pub AreFaithful : (ℕ → Option Pipe) → Type 0
+AreFaithful pipes = (n : ℕ) → IsFaithful (pipes n)
+
+-- So it is on each of the first so many connections, which are numbered from 1.
+abbrev pub AreFaithfulTo : ℕ → (ℕ → Option Pipe) → Type 0
+AreFaithfulTo count pipes = (place : ℕ) → place < count → IsFaithful (pipes (suc place))
+
 -- Every connection but this one is as it was.
 abbrev pub AreSame : (ℕ → Option Pipe) → (ℕ → Option Pipe) → ℕ → Type 0
 AreSame old new conn = (other : ℕ) → other ≢ conn → new other ≡ old other
+
+-- None of the first so many connections has this number.
+abbrev pub IsBeyond : ℕ → ℕ → Type 0
+IsBeyond count n = (place : ℕ) → place < count → n ≢ suc place
+
+-- No connection changes but the first so many.
+abbrev pub AreSameBeyond : ℕ → (ℕ → Option Pipe) → (ℕ → Option Pipe) → Type 0
+AreSameBeyond count old new = (n : ℕ) → IsBeyond count n → new n ≡ old n
 
 -- One connection changes, and no other.
 pub record Changes (old new : ℕ → Option Pipe) (conn : ℕ) (pipe : Option Pipe) : Type 0 where

@@ -26,13 +26,13 @@ use Rattle.tds_play.specs.declared.player.Player.{Player}
 use Rattle.tds_play.specs.declared.seat.Held.{Held}
 use Rattle.tds_play.specs.Failures.{Fails, FailsAs, FailsNoMore, HasNoFailure, LiveAreSound, Open, calls_of}
 use Rattle.tds_play.specs.Noted.{asked_after, leases_after, tickets_after}
-use Rattle.tds_play.specs.Pipe.{Pipe, traffic}
+use Rattle.tds_play.specs.Pipe.{AreFaithfulTo, AreSameBeyond, Begun, IsFaithful, Pipe, traffic}
 use Rattle.tds_play.specs.Player.{AreHeld, ModelGivesEach, RepresentsWorld, all_of}
 use Rattle.tds_play.specs.Plays.{IsReady, MayLose, RefinesAct, RepresentsConnection, acts_on, after, cut_where, loss_of}
 use Rattle.tds_play.specs.Pooled.{IsGone, numbers_kept, numbers_leased, seat_in}
 use Rattle.tds_play.specs.Reads.{AllRead, Answers as Answered, IsReading, ReadsOn}
 use Rattle.tds_play.specs.Seats.{seated}
-use Rattle.tds_play.specs.Ties.{AreTied, KeepsTies}
+use Rattle.tds_play.specs.Ties.{AreTied, KeepsTies, OpensTies}
 use Rattle.tds_play.specs.WholePlay.{IsReportOfPlay}
 
 -- ---- What isn't of one connection
@@ -79,10 +79,10 @@ pub record IsNoted {E S : Type 0} (e : Event) (conn : ℕ) (old new : Player E S
 
 -- ---- The connection
 
--- What an event came to on the connection at a place, over a carrier that told what it was handed, or not, and
--- does still. The connection was the one, and is the other.
+-- What an event came to on the connection at a place, over a carrier that was told of these events, and is of
+-- no other one. The connection was the one, and is the other.
 pub record StepsAt {E S : Type 0} (answers : E → Answers) (e : Event) (place : ℕ) (old new : Player E S)
-    (pipes pipes' : ℕ → Option Pipe) (told still : Type 0) (done : EventDone) : Type 0 where
+    (pipes pipes' : ℕ → Option Pipe) (told still : List Begun) (done : EventDone) : Type 0 where
   pub was : Held E S
   pub now : Held E S
   pub at : slice_get old.links.items place ≡ Some was
@@ -103,7 +103,8 @@ pub record StepsAt {E S : Type 0} (answers : E → Answers) (e : Event) (place :
   pub setup : SameSetup old new
   pub grows : GrowsByOne old new
   pub noted : IsNoted e (suc place) old new done.outcome
-  pub refines : (setup : Setup) (engine : E) (w : World) (c : Connection) → told
+  pub refines : (setup : Setup) (engine : E) (w : World) (c : Connection)
+      → IsFaithful (pipes' was.link.number)
       → RepresentsWorld setup engine old pipes w → ModelGivesEach E (answers engine) setup w
       → ModelGives E (answers engine) setup.packet_size c
       → RepresentsConnection was.link.number setup.packet_size engine was.link (seat_in was old.pool)
@@ -127,7 +128,7 @@ pub record ReusesAs {E S : Type 0} (conn lease : ℕ) (old new : Player E S) : T
 -- A connection of this number was opened, which the pool has, and whose holder is this lease. Where the carrier
 -- failed, the pool has lost it.
 pub record OpensAs {E S : Type 0} (conn lease : ℕ) (old new : Player E S) (pipes pipes' : ℕ → Option Pipe)
-    (told still : Type 0) (done : EventDone) : Type 0 where
+    (told still : List Begun) (done : EventDone) : Type 0 where
   pub link : Link E S
   pub links : new.links.items ≡ old.links.items ++ record { link = link; holder = lease } ∷ []
   pub rest : new ≡ record old { links = new.links; pool = new.pool }
@@ -136,7 +137,7 @@ pub record OpensAs {E S : Type 0} (conn lease : ℕ) (old new : Player E S) (pip
   pub outcome : done.outcome ≡ outcome.Leased lease conn opened.New
   pub number : link.number ≡ conn
   pub uncut : link.is_cut ≡ done.lost
-  pub ties : KeepsTies conn link pipes pipes' told still
+  pub ties : OpensTies conn link pipes pipes' told still
   pub failed : Fails (Open ∷ []) done.lost (pipes' conn)
   pub reading : IsReading old.size link None (pipes' conn)
   pub nothing : (d : Direction) → (traffic (pipes' conn) d).came ≡ []
@@ -144,14 +145,17 @@ pub record OpensAs {E S : Type 0} (conn lease : ℕ) (old new : Player E S) (pip
       (seated (Leased lease) (new_session old.size)) (pipes' conn)
       (cut_where done.lost (new_connection old.on_attention (Leased lease)))
 
--- Connections were cut, over a carrier that told what it was handed, or not, and does still: what each cut keeps.
-pub record CutsSome {E S : Type 0} (old new : Player E S) (pipes pipes' : ℕ → Option Pipe) (told still : Type 0)
+-- Connections were cut, over a carrier that was told of these events, and is of no other one: what each cut
+-- keeps.
+pub record CutsSome {E S : Type 0} (old new : Player E S) (pipes pipes' : ℕ → Option Pipe) (told still : List Begun)
     : Type 0 where
   pub tied : AreTied (all_of new) pipes'
   pub held : AreHeld new
   pub count : length new.links.items ≡ length old.links.items
   pub rest : new ≡ record old { links = new.links; pool = new.pool }
-  pub tells : told → still
+  pub begun : still ≡ told
+  pub others : AreSameBeyond (length new.links.items) pipes pipes'
+  pub faithful : (count : ℕ) → AreFaithfulTo count pipes' → AreFaithfulTo count pipes
   pub sound : LiveAreSound (all_of old) pipes → LiveAreSound (all_of new) pipes'
   pub reads : (size : ℕ) (so_far : Answered) → AllRead size (all_of old) pipes so_far
       → AllRead size (all_of new) pipes' so_far

@@ -3,7 +3,7 @@
 use Rattle.std.specs.Prelude.{ℕ, suc, ◌+◌, ◌≡◌, ◌≤◌, ◌<◌, List, length, Option, false, min, slice_index_or}
 use Rattle.tds_packet.specs.declared.kind.Direction.{Direction}
 use Rattle.tds_packet.specs.declared.kind.Direction.TheVariants.{ToServer, ToClient}
-use Rattle.tds_play.specs.Pipe.{Pipe, AreSame, traffic, IsOpen}
+use Rattle.tds_play.specs.Pipe.{Begun, Pipe, AreSame, traffic, IsFaithful, IsOpen}
 use Rattle.tds_play.specs.declared.link.Link.{Link}
 use Rattle.tds_play.specs.Seats.{Seated}
 
@@ -20,13 +20,21 @@ pub record IsTied {E S : Type 0} (link : Link E S) (pipe : Option Pipe) : Type 0
   pub holds : link.is_cut ≡ false → Holds link.to_server link.to_client pipe
 
 -- What each event on the connection of this number keeps: the connection stays tied to what the carrier
--- knows of it, nothing changes at the carrier on the other ones, and a carrier that told what it was
--- handed still does.
+-- knows of it, nothing changes at the carrier on the other ones, and it is told of no other event. Where what
+-- came then is the first of what was handed over, it was so before.
 pub record KeepsTies {E S : Type 0} (number : ℕ) (link : Link E S) (before after : ℕ → Option Pipe)
-    (told still : Type 0) : Type 0 where
+    (told still : List Begun) : Type 0 where
   pub tied : IsTied link (after number)
   pub others : AreSame before after number
-  pub tells : told → still
+  pub begun : still ≡ told
+  pub faithful : IsFaithful (after number) → IsFaithful (before number)
+
+-- The connection of this number was opened: what it was before is forgotten.
+pub record OpensTies {E S : Type 0} (number : ℕ) (link : Link E S) (before after : ℕ → Option Pipe)
+    (told still : List Begun) : Type 0 where
+  pub tied : IsTied link (after number)
+  pub others : AreSame before after number
+  pub begun : still ≡ told
 
 -- The bytes that a connection counts as underway one way.
 abbrev pub counted : {E S : Type 0} → Link E S → Direction → ℕ

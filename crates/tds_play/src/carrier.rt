@@ -1,9 +1,10 @@
 //! What carries the bytes of each connection.
-ghost use Rattle.std.specs.Prelude.{◌≡◌, ◌≢◌, ◌++◌, ◌≤◌, ◌<◌, ◌+◌, ℕ, List, length, drop, take, Option, Some, Err, IfOk, OnOk};
+ghost use Rattle.std.specs.Prelude.{[], ◌∷◌, ◌≡◌, ◌≢◌, ◌++◌, ◌≤◌, ◌<◌, ◌+◌, ℕ, List, length, drop, take, Option, Some, Err, IfOk, OnOk};
 ghost use Rattle.tds_packet.specs.declared.kind.Direction.{Direction};
-ghost use Rattle.tds_play.specs.Pipe.{Pipe, Changes, new_pipe, sent_on, carried_on, stuck_on, cut_pipe, traffic, IsOpen, IsUncut};
+ghost use Rattle.tds_play.specs.Pipe.{Begun, Pipe, Changes, new_pipe, sent_on, carried_on, stuck_on, cut_pipe, traffic, IsOpen, IsUncut};
 ghost use Rattle.tds_play.specs.declared.carrier.CarrierError.TheVariants.{Lost, Memory};
 
+use std::alloc::AllocError;
 use tds_packet::Direction;
 
 /// Why a carrier did not do what was asked.
@@ -15,13 +16,21 @@ pub enum CarrierError {
     Memory,
 }
 
-/// Carries the bytes of connections, each of which has a number, in both directions.
+/// Carries the bytes of connections, each of which has a number, in both directions. It is told of
+/// each event before the calls that the event makes.
 pub trait Carrier {
     /// What each connection was handed, what came of it, and what failed.
     ghost pipes: { Self → ℕ → Option Pipe };
 
-    /// The bytes that come are those that were handed over.
-    ghost tells: { Self → Type 0 };
+    /// Each event of which it was told, in order, with what there was of each connection then. What
+    /// an event did at the carrier is what lies between it and the next one.
+    ghost began: { Self → List Begun };
+
+    /// Is told that the event of this number begins. Nothing else changes.
+    fn begin(&mut self, event: u32) -> Result<(), AllocError>
+        ensures told { OnOk result (began self.new ≡ began self.old
+            ++ record { event = event; pipes = pipes self.old } ∷ []) }
+        ensures still { OnOk result (pipes self.new ≡ pipes self.old) };
 
     /// Opens this connection.
     fn open(&mut self, conn: u32) -> Result<(), CarrierError>
@@ -29,7 +38,7 @@ pub trait Carrier {
             (Changes (pipes self.old) (pipes self.new) conn (Some (new_pipe 0))) }
         ensures lost { result ≡ Err Lost
             → Changes (pipes self.old) (pipes self.new) conn (Some (new_pipe 1)) }
-        ensures tells { result ≢ Err Memory → tells self.old → tells self.new };
+        ensures began { result ≢ Err Memory → began self.new ≡ began self.old };
 
     /// Hands bytes over. They are underway then, also where the connection failed.
     fn send(&mut self, conn: u32, direction: Direction, bytes: &[u8]) -> Result<(), CarrierError>
@@ -39,7 +48,7 @@ pub trait Carrier {
             (sent_on (pipes self.old conn) direction bytes.now 0)) }
         ensures lost { result ≡ Err Lost → Changes (pipes self.old) (pipes self.new) conn
             (sent_on (pipes self.old conn) direction bytes.now 1) }
-        ensures tells { result ≢ Err Memory → tells self.old → tells self.new };
+        ensures began { result ≢ Err Memory → began self.new ≡ began self.old };
 
     /// Takes bytes out, at least one and `most` at most, and appends them to `out`. It answers how
     /// many. So many must be underway.
@@ -61,18 +70,15 @@ pub trait Carrier {
         ensures ok { OnOk result (Changes (pipes self.old) (pipes self.new) conn
             (carried_on (pipes self.old conn) direction
             (drop (length out.old.items) out.new.items))) }
-        ensures bytes { IfOk result (λ n. tells self.old → out.new.items ≡ out.old.items
-            ++ take n (drop (length (traffic (pipes self.old conn) direction).came)
-            (traffic (pipes self.old conn) direction).handed)) }
         ensures lost { result ≡ Err Lost → Changes (pipes self.old) (pipes self.new) conn
             (stuck_on (pipes self.old conn) direction) }
         ensures nothing { result ≡ Err Lost → out.new.items ≡ out.old.items }
-        ensures tells { result ≢ Err Memory → tells self.old → tells self.new };
+        ensures began { result ≢ Err Memory → began self.new ≡ began self.old };
 
     /// Cuts this connection.
     fn cut(&mut self, conn: u32)
         requires { IsUncut (pipes self.old conn) }
         ensures cut { Changes (pipes self.old) (pipes self.new) conn
             (cut_pipe (pipes self.old conn)) }
-        ensures tells { tells self.old → tells self.new };
+        ensures began { began self.new ≡ began self.old };
 }

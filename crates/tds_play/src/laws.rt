@@ -1,8 +1,9 @@
 //! The pool and the model: the connection that the next lease gets. The carrier in memory: it never
-//! fails. The functions do nothing when they run: their contracts are the laws.
+//! fails, and what comes is what was handed over. The functions do nothing when they run: their contracts are the laws.
 ghost use Rattle.std.specs.Prelude.{map};
 ghost use Rattle.tds_play.specs.Failures.{FailNowhere};
 ghost use Rattle.tds_play.specs.Lending.{RefinesFound, lent};
+ghost use Rattle.tds_play.specs.Pipe.{AreFaithful};
 ghost use Rattle.tds_play.specs.declared.memory.MemoryCarrier.{MemoryCarrier};
 ghost use Rattle.tds_world.specs.Pool.{to_lend};
 ghost use Rattle.tds_world.specs.World.{World};
@@ -21,4 +22,11 @@ pub fn lends_alike()
 /// No call of a carrier in memory has failed on any connection, whatever it was asked.
 pub fn memory_never_fails()
     ensures { (carrier : MemoryCarrier) → FailNowhere (⟦<MemoryCarrier as Carrier>⟧.pipes carrier) }
+{}
+
+/// What came of a carrier in memory, on each connection and each way, is the first of what was handed
+/// over there, whatever it was asked.
+pub fn memory_is_faithful()
+    ensures { (carrier : MemoryCarrier)
+        → AreFaithful (⟦<MemoryCarrier as Carrier>⟧.pipes carrier) }
 {}

@@ -11,7 +11,7 @@ ghost use Rattle.tds_packet.specs.declared.kind.Direction.{Direction};
 ghost use Rattle.tds_packet.specs.declared.kind.Direction.TheVariants.{ToClient, ToServer};
 ghost use Rattle.tds_play.specs.Pipe.{new_pipe, traffic};
 ghost use Rattle.tds_play.specs.Reads.{IsReading};
-ghost use Rattle.tds_play.specs.Ties.{IsTied, KeepsTies};
+ghost use Rattle.tds_play.specs.Ties.{IsTied, OpensTies};
 ghost use Rattle.tds_world.specs.Connection.{new_connection};
 ghost use Rattle.tds_world.specs.declared.report.Place.TheVariants.{Leased};
 
@@ -107,8 +107,8 @@ impl<E: Engine + Drop> Link<E> {
         on_attention: OnAttention,
     ) -> Result<(Link<E>, bool), NoMemory>
         ensures number { IfOk result (λ opened. opened.0.number ≡ number) }
-        ensures ties { IfOk result (λ opened. KeepsTies number opened.0 (C.pipes carrier.old)
-            (C.pipes carrier.new) (C.tells carrier.old) (C.tells carrier.new)) }
+        ensures ties { IfOk result (λ opened. OpensTies number opened.0 (C.pipes carrier.old)
+            (C.pipes carrier.new) (C.began carrier.old) (C.began carrier.new)) }
         ensures failed { IfOk result (λ opened. Fails (Open ∷ []) opened.1
             (C.pipes carrier.new number)) }
         ensures uncut { IfOk result (λ opened. opened.0.is_cut ≡ opened.1) }

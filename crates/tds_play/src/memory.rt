@@ -1,22 +1,18 @@
 //! A carrier in memory.
 ghost use Rattle.std.specs.Prelude.{[], ◌≡◌, ◌≤◌, ◌<◌, ◌+◌, ◌++◌, ◌≢◌, ℕ, List, length, take, drop, None, Some, Ok, Err, IfOk, OnOk, OnErr};
 ghost use Rattle.tds_play.specs.Kept.{kept_after, kept_with, nothing_kept};
-ghost use Rattle.tds_play.specs.Memory.{pipe_at};
+ghost use Rattle.tds_play.specs.Memory.{begun_in, kept_in, pipe_at};
 ghost use Rattle.tds_play.specs.Pipe.{Pipe, Changes, new_pipe, sent_on, carried_on, stuck_on, cut_pipe, traffic, IsOpen, IsUncut};
 ghost use Rattle.tds_play.specs.declared.carrier.CarrierError.TheVariants.{Lost, Memory};
 
+mod queue;
+
 use crate::carrier::{Carrier, CarrierError};
+use queue::Queue;
 use std::alloc::{AllocError, Global};
 use std::collections::BTreeMap;
-use std::marker::Model;
+use std::snapshot::Snapshot;
 use tds_packet::Direction;
-
-/// The bytes of one direction, and how many of them came out.
-#[derive(Drop)]
-struct Queue {
-    bytes: Vec<u8>,
-    place: usize,
-}
 
 #[derive(Drop)]
 struct MemoryPipe {
@@ -25,41 +21,39 @@ struct MemoryPipe {
     is_cut: bool,
 }
 
-/// Carries bytes in memory. It tells the bytes that it was handed, and fails only where a growth is
+/// What there was of each connection when an event began. It has no bytes: clauses alone read it.
+#[derive(Drop)]
+struct Telling {
+    event: Snapshot<u32>,
+    pipes: Snapshot<BTreeMap<u32, MemoryPipe>>,
+}
+
+/// Carries bytes in memory. What comes is what was handed over, and it fails only where a growth is
 /// refused.
 #[derive(Drop)]
 pub struct MemoryCarrier {
     alloc: Global,
     pipes: BTreeMap<u32, MemoryPipe>,
+    began: Vec<Telling>,
 }
 
 impl MemoryCarrier {
     /// A carrier without a connection. It takes no memory.
     pub fn new(alloc: Global) -> MemoryCarrier
-        ensures { (conn : ℕ) → ⟦<MemoryCarrier as Carrier>⟧.pipes result conn ≡ None }
+        ensures empty { (conn : ℕ) → ⟦<MemoryCarrier as Carrier>⟧.pipes result conn ≡ None }
+        ensures untold { ⟦<MemoryCarrier as Carrier>⟧.began result ≡ [] }
     {
         MemoryCarrier {
             alloc,
             pipes: BTreeMap::new(alloc),
+            began: Vec::new(alloc),
         }
     }
 }
 
-impl Model for Queue {
-    ghost use Rattle.tds_play.specs.Kept.{Kept};
-
-    ghost Value = { Kept };
-
-    ghost use Rattle.tds_play.specs.Memory.{kept_in, IsQueue};
-
-    ghost view = { kept_in };
-
-    ghost invariant = { IsQueue };
-}
-
 impl Queue {
     fn new(alloc: Global) -> Queue
-        ensures { result ≡ nothing_kept }
+        ensures { kept_in result ≡ nothing_kept }
     {
         Queue {
             bytes: Vec::new(alloc),
@@ -69,7 +63,7 @@ impl Queue {
 
     /// Puts bytes behind the others.
     fn put(&mut self, bytes: &[u8]) -> Result<(), AllocError>
-        ensures { OnOk result (self.new ≡ kept_with self.old bytes.now) }
+        ensures { OnOk result (kept_in self.new ≡ kept_with (kept_in self.old) bytes.now) }
     {
         self.bytes.extend_from_slice(bytes)?;
         Ok(())
@@ -77,13 +71,11 @@ impl Queue {
 
     /// Takes so many bytes out.
     fn take(&mut self, count: usize, out: &mut Vec<u8>) -> Result<(), AllocError>
-        requires { length self.old.came + count ≤ length self.old.handed }
+        requires { length (kept_in self.old).came + count ≤ length (kept_in self.old).handed }
         ensures count { OnOk result (length out.new.items ≡ length out.old.items + count) }
         ensures kept { OnOk result (take (length out.old.items) out.new.items ≡ out.old.items) }
-        ensures bytes { OnOk result (out.new.items
-            ≡ out.old.items ++ take count (drop (length self.old.came) self.old.handed)) }
-        ensures queue { OnOk result (self.new
-            ≡ kept_after self.old (drop (length out.old.items) out.new.items)) }
+        ensures queue { OnOk result (kept_in self.new
+            ≡ kept_after (kept_in self.old) (drop (length out.old.items) out.new.items)) }
     {
         let end = self.place + count;
         out.extend_from_slice(&self.bytes[self.place..end])?;
@@ -105,7 +97,15 @@ impl From<AllocError> for CarrierError {
 impl Carrier for MemoryCarrier {
     ghost pipes = { λ m. pipe_at m.pipes };
 
-    ghost tells = { λ _. Unit {0} };
+    ghost began = { λ m. begun_in m.began.items };
+
+    fn begin(&mut self, event: u32) -> Result<(), AllocError> {
+        self.began.push(Telling {
+            event: Snapshot::of(&event),
+            pipes: Snapshot::of(&self.pipes),
+        })?;
+        Ok(())
+    }
 
     fn open(&mut self, conn: u32) -> Result<(), CarrierError> {
         let pipe = MemoryPipe {

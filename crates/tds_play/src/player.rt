@@ -95,7 +95,7 @@ impl<E: Engine + Copy> Player<E> {
         ensures { IfOk result (λ done. HappensAs
             (λ engine. answer_of (E.statements_of engine) (E.step_of engine)) event.now
             self.old self.new (C.pipes carrier.old) (C.pipes carrier.new)
-            (C.tells carrier.old) (C.tells carrier.new) done) }
+            (C.began carrier.old) (C.began carrier.new) done) }
     {
         match event {
             Event::RestartServer => {

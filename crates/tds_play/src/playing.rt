@@ -1,8 +1,10 @@
 //! A whole play.
 ghost use Rattle.std.specs.Prelude.{ℕ, ◌≡◌, ◌≢◌, ◌≤◌, List, [], ◌++◌, length, None, Some, Err, IfErr, IfOk, OnOk};
 ghost use Rattle.tds_play.specs.AnyBytes.{ReadsBytes};
+ghost use Rattle.tds_play.specs.Calls.{MakesCalls};
 ghost use Rattle.tds_play.specs.Failures.{FailNowhere, TellFailures};
 ghost use Rattle.tds_play.specs.Player.{AreHeld, RepresentsWorld, all_of};
+ghost use Rattle.tds_play.specs.Pipe.{AreFaithful};
 ghost use Rattle.tds_play.specs.Reads.{TellsGiven};
 ghost use Rattle.tds_play.specs.Refused.{first_refusal, play_refusal_number};
 ghost use Rattle.tds_play.specs.WholePlay.{CarriesBytesOf, CutsThoseOf, HandsBytesOf, IsReportOfPlay, IsWholePlayOf, world_of};
@@ -29,6 +31,7 @@ ghost use Rattle.tds_world.specs.declared.report.RequestReport.{RequestReport};
 use crate::NoMemory;
 use crate::carrier::Carrier;
 use crate::player::Player;
+use crate::pool::next_number;
 use crate::worlds::worlds_hold;
 use std::alloc::{AllocError, AllocFailed, Global};
 use tds_packet::PacketSize;
@@ -96,7 +99,8 @@ impl<T: Drop> From<AllocFailed<T>> for PlayRefusal {
 /// time. It answers what each event came to, with what is seen of the connections after it, and
 /// what came of each request in the end. An event that doesn't apply is told as refused, and the
 /// play goes on. Where the carrier fails in an event, the event is marked lost: its connection is
-/// cut, and the report is that of the schedule with a cut there.
+/// cut, and the report is that of the schedule with a cut there. The carrier is told where each event
+/// begins, by its place in the schedule, from 1.
 ///
 /// Where it is refused for its events or its setup, the carrier is as it was. Where memory was
 /// refused, the carrier may have been used, and nothing is said of it. A carrier that was used
@@ -120,64 +124,72 @@ pub fn play<C: Carrier>(
     // given some of the tokens that come.
     ensures reads { IfOk result (λ report. ReadsBytes setup.now.packet_size events.now report
         (C.pipes carrier.new)) }
-    // Where the carrier brings the bytes that it was handed, the report is the model's of the events
-    // with the losses that it marks, and so are the bytes that were handed over, the bytes that
-    // came, and what is cut.
-    ensures report { C.tells carrier.old
+    // From here on: where what came in the end, on each connection and each way, is the first of what
+    // was handed over. Then the report is the model's of the events with the losses that it marks,
+    // and so are the bytes that were handed over, the bytes that came, and what is cut.
+    ensures report { AreFaithful (C.pipes carrier.new)
         → IfOk result (IsReportWith setup.now script_answers events.now) }
-    ensures bytes { C.tells carrier.old → IfOk result (λ report.
+    ensures bytes { AreFaithful (C.pipes carrier.new) → IfOk result (λ report.
         HandsBytesOf (world_of setup.now events.now report.events) (C.pipes carrier.new)) }
-    ensures carried { C.tells carrier.old → IfOk result (λ report.
+    ensures carried { AreFaithful (C.pipes carrier.new) → IfOk result (λ report.
         CarriesBytesOf (world_of setup.now events.now report.events) (C.pipes carrier.new)) }
-    ensures cuts { C.tells carrier.old → IfOk result (λ report.
+    ensures cuts { AreFaithful (C.pipes carrier.new) → IfOk result (λ report.
         CutsThoseOf (world_of setup.now events.now report.events) (C.pipes carrier.new)) }
     // Where no event is lost both are the model's of the events as they are.
-    ensures whole { C.tells carrier.old → IfOk result (λ report. MarksNothing report
+    ensures whole { AreFaithful (C.pipes carrier.new) → IfOk result (λ report. MarksNothing report
         → IsWholePlayOf setup.now script_answers events.now report) }
-    // The calls that failed on a connection, over the whole run, are of the kinds that its one lost
+    // The carrier was told of each event in order, and what each event hands over, lets come and cuts
+    // before the next is told of is what it does in the model; calls fail in those that are marked
+    // lost, on the connection that each uses, and in no other.
+    ensures calls { AreFaithful (C.pipes carrier.new) → IfOk result (λ report. MakesCalls setup.now
+        script_answers (marked events.now report.events) (C.began carrier.old)
+        (C.began carrier.new) (C.pipes carrier.new)) }
+    // So the calls that failed on a connection, over the whole run, are of the kinds that its one lost
     // event makes. Where no call failed, none is marked.
-    ensures lost { C.tells carrier.old → IfOk result (λ report. TellFailures setup.now
+    ensures lost { AreFaithful (C.pipes carrier.new) → IfOk result (λ report. TellFailures setup.now
         script_answers (marked events.now report.events) (C.pipes carrier.new)) }
-    ensures unfailing { C.tells carrier.old → FailNowhere (C.pipes carrier.new)
+    ensures unfailing { AreFaithful (C.pipes carrier.new) → FailNowhere (C.pipes carrier.new)
         → IfOk result MarksNothing }
     // Each caller gets the answer to its own request, run in the transaction that it was in, and
     // nothing of it after a cancel.
-    ensures own_answers { C.tells carrier.old
+    ensures own_answers { AreFaithful (C.pipes carrier.new)
         → IfOk result (ShowsOwnAnswers script_answers events.now) }
-    ensures own_transaction { C.tells carrier.old → IfOk result (ShowsOwnTransaction events.now) }
+    ensures own_transaction { AreFaithful (C.pipes carrier.new)
+        → IfOk result (ShowsOwnTransaction events.now) }
     ensures after_cancel { (front later : List Event) → events.now ≡ front ++ later
-        → C.tells carrier.old → IfOk result (GivesNoMoreWith setup.now script_answers front) }
+        → AreFaithful (C.pipes carrier.new)
+        → IfOk result (GivesNoMoreWith setup.now script_answers front) }
     // What one lease did doesn't show in the next, but for the transaction that a ticket keeps.
-    ensures fresh_start { C.tells carrier.old → IfOk result ShowsFreshStart }
-    ensures kept_transaction { C.tells carrier.old
+    ensures fresh_start { AreFaithful (C.pipes carrier.new) → IfOk result ShowsFreshStart }
+    ensures kept_transaction { AreFaithful (C.pipes carrier.new)
         → IfOk result (ShowsKeptTransaction events.now) }
-    ensures lends_idle { C.tells carrier.old → IfOk result ShowsLendsIdle }
+    ensures lends_idle { AreFaithful (C.pipes carrier.new) → IfOk result ShowsLendsIdle }
     // What is cleaned is lent fresh: no transaction and no setting is left on its server.
-    ensures left_clean { C.tells carrier.old → IfOk result (ShowsLeftClean events.now) }
+    ensures left_clean { AreFaithful (C.pipes carrier.new) → IfOk result (ShowsLeftClean events.now) }
     // Where nobody waits nothing is underway, and at no time much is. No outcome is an end's
     // fault.
-    ensures idle_is_quiet { C.tells carrier.old → IfOk result ShowsIdleQuiet }
-    ensures few_underway { C.tells carrier.old → IfOk result ShowsFewUnderway }
-    ensures no_fault { C.tells carrier.old → IfOk result ShowsNoEndFaults }
+    ensures idle_is_quiet { AreFaithful (C.pipes carrier.new) → IfOk result ShowsIdleQuiet }
+    ensures few_underway { AreFaithful (C.pipes carrier.new) → IfOk result ShowsFewUnderway }
+    ensures no_fault { AreFaithful (C.pipes carrier.new) → IfOk result ShowsNoEndFaults }
     // Facts of the model's world of that play, whose bytes were handed over: at most one attention
     // of a connection is without an acknowledgement that came, and no transaction of a connection
     // begins twice.
-    ensures one_attention { C.tells carrier.old → IfOk result (λ report.
+    ensures one_attention { AreFaithful (C.pipes carrier.new) → IfOk result (λ report.
         OneAttention (world_of setup.now events.now report.events)) }
-    ensures begins_once { C.tells carrier.old → IfOk result (λ report.
+    ensures begins_once { AreFaithful (C.pipes carrier.new) → IfOk result (λ report.
         BeginsOnce (world_of setup.now events.now report.events)) }
     // In that world no connection that isn't cut is stuck, and no lease can tell that it shares: so
     // the report shows it too, whatever is lost.
-    ensures never_stuck { C.tells carrier.old → IfOk result (λ report.
+    ensures never_stuck { AreFaithful (C.pipes carrier.new) → IfOk result (λ report.
         NeverStuck setup.now script_answers (world_of setup.now events.now report.events)) }
-    ensures as_if_alone { C.tells carrier.old → IfOk result (λ report.
+    ensures as_if_alone { AreFaithful (C.pipes carrier.new) → IfOk result (λ report.
         AsIfAlone setup.now.on_attention script_answers
         (world_of setup.now events.now report.events)) }
-    ensures told_alone { C.tells carrier.old → IfOk result (λ report.
+    ensures told_alone { AreFaithful (C.pipes carrier.new) → IfOk result (λ report.
         ShowsAsIfAlone setup.now.on_attention script_answers
         (far_in (world_of setup.now events.now report.events)) events.now report) }
     // With the events behind it that bring a connection to rest, the report shows it at rest.
-    ensures comes_to_rest { C.tells carrier.old
+    ensures comes_to_rest { AreFaithful (C.pipes carrier.new)
         → IfOk result (ShowsNeverStuckWith setup.now script_answers events.now) }
 {
     // The laws of the model, whose report it is.
@@ -214,28 +226,32 @@ pub fn play_with<E: Engine + Copy, C: Carrier>(
     // given some of the tokens that come.
     ensures reads { IfOk result (λ report. ReadsBytes setup.now.packet_size events.now report
         (C.pipes carrier.new)) }
-    // Where the carrier brings the bytes that it was handed, the play is the model's with the losses
-    // that its report marks: what is told, what was handed over, what came, and what is cut.
-    ensures refines { C.tells carrier.old → IfOk result (λ report. IsReportOfPlay setup.now
+    // Where what came in the end is the first of what was handed over, the play is the model's with the
+    // losses that its report marks: what is told, what was handed over, what came, and what is cut.
+    ensures refines { AreFaithful (C.pipes carrier.new) → IfOk result (λ report. IsReportOfPlay setup.now
         (answer_of (E.statements_of engine) (E.step_of engine)) events.now report
         (C.pipes carrier.new)) }
-    // The calls that failed on a connection, over the whole run, are of the kinds that its one lost
+    // The carrier was told of each event in order, and each does there what it does in the model.
+    ensures calls { AreFaithful (C.pipes carrier.new) → IfOk result (λ report. MakesCalls setup.now
+        (answer_of (E.statements_of engine) (E.step_of engine)) (marked events.now report.events)
+        (C.began carrier.old) (C.began carrier.new) (C.pipes carrier.new)) }
+    // So the calls that failed on a connection, over the whole run, are of the kinds that its one lost
     // event makes. Where no call failed, none is marked.
-    ensures lost { C.tells carrier.old → IfOk result (λ report. TellFailures setup.now
+    ensures lost { AreFaithful (C.pipes carrier.new) → IfOk result (λ report. TellFailures setup.now
         (answer_of (E.statements_of engine) (E.step_of engine)) (marked events.now report.events)
         (C.pipes carrier.new)) }
-    ensures unfailing { C.tells carrier.old → FailNowhere (C.pipes carrier.new)
+    ensures unfailing { AreFaithful (C.pipes carrier.new) → FailNowhere (C.pipes carrier.new)
         → IfOk result MarksNothing }
     // No lease can tell that it shares, where what the engine answers doesn't depend on the numbers
     // of transactions and uses few of them.
-    ensures as_if_alone { C.tells carrier.old
+    ensures as_if_alone { AreFaithful (C.pipes carrier.new)
         → BlindToNumbers (answer_of (E.statements_of engine) (E.step_of engine))
         → UseFewDescriptors (answer_of (E.statements_of engine) (E.step_of engine))
         → IfOk result (λ report. AsIfAlone setup.now.on_attention
         (answer_of (E.statements_of engine) (E.step_of engine))
         (world_with setup.now (answer_of (E.statements_of engine) (E.step_of engine))
         (marked events.now report.events) new_world)) }
-    ensures told_alone { C.tells carrier.old
+    ensures told_alone { AreFaithful (C.pipes carrier.new)
         → BlindToNumbers (answer_of (E.statements_of engine) (E.step_of engine))
         → UseFewDescriptors (answer_of (E.statements_of engine) (E.step_of engine))
         → IfOk result (λ report. ShowsAsIfAlone setup.now.on_attention
@@ -243,7 +259,7 @@ pub fn play_with<E: Engine + Copy, C: Carrier>(
         (far_in (world_with setup.now (answer_of (E.statements_of engine) (E.step_of engine))
         (marked events.now report.events) new_world)) events.now report) }
     // What is cleaned is lent fresh, where the engine's answer to a cleaning leaves a fresh session.
-    ensures left_clean { C.tells carrier.old
+    ensures left_clean { AreFaithful (C.pipes carrier.new)
         → AnswersClean (answer_of (E.statements_of engine) (E.step_of engine))
         → IfOk result (ShowsLeftClean events.now) }
 {
@@ -315,17 +331,23 @@ fn play_events<E: Engine + Copy, C: Carrier>(
     requires held { AreHeld player }
     requires few { length events.now ≤ 10000 }
     ensures memory { IfErr result (λ why. why ≡ Memory) }
-    ensures unfailing { (setup : Setup) → IsSetup setup → C.tells carrier.old
+    ensures calls { (setup : Setup) → IsSetup setup → AreFaithful (C.pipes carrier.new)
+        → RepresentsWorld setup player.engine player (C.pipes carrier.old) new_world
+        → IfOk result (λ report. MakesCalls setup
+        (answer_of (E.statements_of player.engine) (E.step_of player.engine))
+        (marked events.now report.events) (C.began carrier.old) (C.began carrier.new)
+        (C.pipes carrier.new)) }
+    ensures unfailing { (setup : Setup) → IsSetup setup → AreFaithful (C.pipes carrier.new)
         → RepresentsWorld setup player.engine player (C.pipes carrier.old) new_world
         → FailNowhere (C.pipes carrier.new) → IfOk result MarksNothing }
-    ensures lost { (setup : Setup) → IsSetup setup → C.tells carrier.old
+    ensures lost { (setup : Setup) → IsSetup setup → AreFaithful (C.pipes carrier.new)
         → RepresentsWorld setup player.engine player (C.pipes carrier.old) new_world
         → IfOk result (λ report. TellFailures setup
         (answer_of (E.statements_of player.engine) (E.step_of player.engine))
         (marked events.now report.events) (C.pipes carrier.new)) }
     ensures reads { IfOk result (λ report. ReadsBytes player.size events.now report
         (C.pipes carrier.new)) }
-    ensures refines { (setup : Setup) → IsSetup setup → C.tells carrier.old
+    ensures refines { (setup : Setup) → IsSetup setup → AreFaithful (C.pipes carrier.new)
         → RepresentsWorld setup player.engine player (C.pipes carrier.old) new_world
         → IfOk result (λ report. IsReportOfPlay setup
         (answer_of (E.statements_of player.engine) (E.step_of player.engine)) events.now report
@@ -351,21 +373,27 @@ fn run<E: Engine + Copy, C: Carrier>(
     requires held { AreHeld player.old }
     requires few { length events.now ≤ 10000 }
     ensures unfailing { (setup : Setup) (requests : List RequestReport) → IsSetup setup
-        → C.tells carrier.old
+        → AreFaithful (C.pipes carrier.new)
         → RepresentsWorld setup player.old.engine player.old (C.pipes carrier.old) new_world
         → FailNowhere (C.pipes carrier.new) → IfOk result (λ reports.
         MarksNothing (record { events = reports.items; requests = requests })) }
-    ensures lost { (setup : Setup) → IsSetup setup → C.tells carrier.old
+    ensures lost { (setup : Setup) → IsSetup setup → AreFaithful (C.pipes carrier.new)
         → RepresentsWorld setup player.old.engine player.old (C.pipes carrier.old) new_world
         → IfOk result (λ reports. TellFailures setup
         (answer_of (E.statements_of player.old.engine) (E.step_of player.old.engine))
         (marked events.now reports.items) (C.pipes carrier.new)) }
+    ensures calls { (setup : Setup) → IsSetup setup → AreFaithful (C.pipes carrier.new)
+        → RepresentsWorld setup player.old.engine player.old (C.pipes carrier.old) new_world
+        → IfOk result (λ reports. MakesCalls setup
+        (answer_of (E.statements_of player.old.engine) (E.step_of player.old.engine))
+        (marked events.now reports.items) (C.began carrier.old) (C.began carrier.new)
+        (C.pipes carrier.new)) }
     // With what is told of the requests.
     ensures reads { (requests : List RequestReport)
         → ((n : ℕ) → TellsGiven (all_of player.new) requests n)
         → IfOk result (λ reports. ReadsBytes player.old.size events.now
         (record { events = reports.items; requests = requests }) (C.pipes carrier.new)) }
-    ensures stands { (setup : Setup) → IsSetup setup → C.tells carrier.old
+    ensures stands { (setup : Setup) → IsSetup setup → AreFaithful (C.pipes carrier.new)
         → RepresentsWorld setup player.old.engine player.old (C.pipes carrier.old) new_world
         → IfOk result (λ reports. StandsThen setup player.old.engine
         (answer_of (E.statements_of player.old.engine) (E.step_of player.old.engine))
@@ -376,6 +404,7 @@ fn run<E: Engine + Copy, C: Carrier>(
     let mut reports = Vec::new(alloc);
     'events: for event in events {
         known(event);
+        carrier.begin(next_number(reports.len()))?;
         let done = player.happen(carrier, event)?;
         reports.push(EventReport {
             outcome: done.outcome,

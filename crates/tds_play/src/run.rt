@@ -3,6 +3,7 @@ ghost use Rattle.std.specs.Prelude.{◌≡◌, ◌++◌, ◌⊎◌, ℕ, List, O
 ghost use Rattle.std.specs.Io.KnownBytes.{Appends, Keeps};
 ghost use Rattle.tds_text.specs.Lines.{text_of};
 ghost use Rattle.tds_text.specs.Written.{WritesBeginning};
+ghost use Rattle.tds_play.specs.Pipe.{AreFaithful};
 ghost use Rattle.tds_play.specs.Runs.{AreLeft, IsReportOf, IsFaultOf, IsBeforeOutput, IsUnread, EndsBy, Reports, TellsFault, fault_line, FitsFile, of_schedule, of_refusal};
 ghost use Rattle.tds_play.specs.declared.run.RunFault.{RunFault};
 ghost use Rattle.tds_play.specs.declared.run.RunFault.TheVariants.{Output, Memory};
@@ -90,12 +91,13 @@ pub fn run_play<R: Read, C: Carrier, W: Write, F: Write>(
 ) -> u8
     ensures status { (result ≡ 0) ⊎ (result ≡ 1) }
     ensures fits { result ≡ 0 → FitsFile (R.remaining reader.old) }
-    // Where the carrier brings what it was handed, what is printed is the report of a play of the
-    // schedule that was read.
-    ensures report { C.tells carrier.old → result ≡ 0 → Reports (C.pipes carrier.new)
-        (R.remaining reader.old) (W.contents output.old) (W.contents output.new) }
+    // Where what came in the end is the first of what was handed over, what is printed is the report
+    // of a play of the schedule that was read.
+    ensures report { AreFaithful (C.pipes carrier.new) → result ≡ 0 → Reports
+        (C.pipes carrier.new) (R.remaining reader.old) (W.contents output.old)
+        (W.contents output.new) }
     ensures silent { result ≡ 0 → F.contents errors.new ≡ F.contents errors.old }
-    ensures fault { C.tells carrier.old → result ≡ 1 → (fault : RunFault)
+    ensures fault { AreFaithful (C.pipes carrier.new) → result ≡ 1 → (fault : RunFault)
         × EndsBy (C.pipes carrier.new) fault (R.remaining reader.old) (W.contents output.old)
         (W.contents output.new)
         × TellsFault (F.contents errors.old) (F.contents errors.new) fault }
@@ -138,10 +140,10 @@ fn report_file<R: Read, C: Carrier, W: Write>(
     output: &mut W,
 ) -> Result<(), RunFault>
     ensures fits { OnOk result (FitsFile (R.remaining reader.old)) }
-    ensures report { C.tells carrier.old → OnOk result (Reports (C.pipes carrier.new)
+    ensures report { AreFaithful (C.pipes carrier.new) → OnOk result (Reports (C.pipes carrier.new)
         (R.remaining reader.old) (W.contents output.old) (W.contents output.new)) }
-    ensures fault { C.tells carrier.old → IfErr result (λ fault. EndsBy (C.pipes carrier.new) fault
-        (R.remaining reader.old) (W.contents output.old) (W.contents output.new)) }
+    ensures fault { AreFaithful (C.pipes carrier.new) → IfErr result (λ fault. EndsBy
+        (C.pipes carrier.new) fault (R.remaining reader.old) (W.contents output.old) (W.contents output.new)) }
 {
     let bytes = read_file(alloc, reader)?;
     let report = play_file(alloc, bytes.as_slice(), carrier)?;
@@ -167,7 +169,7 @@ fn read_file<R: Read>(alloc: Global, reader: &mut R) -> Result<Vec<u8>, RunFault
 }
 
 fn play_file<C: Carrier>(alloc: Global, bytes: &[u8], carrier: &mut C) -> Result<Report, RunFault>
-    ensures played { C.tells carrier.old
+    ensures played { AreFaithful (C.pipes carrier.new)
         → IfOk result (λ report. IsReportOf (C.pipes carrier.new) bytes.now report) }
     ensures fault { IfErr result (λ fault. IsFaultOf fault bytes.now × IsBeforeOutput fault) }
 {

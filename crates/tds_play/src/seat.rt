@@ -3,6 +3,7 @@ ghost use Rattle.std.specs.Prelude.{◌≡◌, ℕ, false, true, IfOk, IsSome, O
 ghost use Rattle.tds_ends.specs.ModelGives.{IsCountable, ModelGives};
 ghost use Rattle.tds_play.specs.Failures.{FailsAs, FailsNoMore, HasNoFailure, calls_of};
 ghost use Rattle.tds_play.specs.Plays.{MayLose, RefinesAct, RepresentsConnection, acts_on, after, loss_of};
+ghost use Rattle.tds_play.specs.Pipe.{IsFaithful};
 ghost use Rattle.tds_play.specs.Pooled.{ChangesOne, IsThere, place_by, seat_in};
 ghost use Rattle.tds_play.specs.Reads.{IsReading, ReadsNoMore, ReadsOn};
 ghost use Rattle.tds_play.specs.Seats.{IsOfEnds, behind_event, drained, is_of_caller};
@@ -71,8 +72,8 @@ impl<E: Engine + Drop> Held<E> {
             pool.new) }
         ensures there { OnOk result (IsThere self.new pool.new) }
         ensures ties { OnOk result (KeepsTies self.old.link.number self.new.link
-            (C.pipes carrier.old) (C.pipes carrier.new) (C.tells carrier.old)
-            (C.tells carrier.new)) }
+            (C.pipes carrier.old) (C.pipes carrier.new) (C.began carrier.old)
+            (C.began carrier.new)) }
         // Where the connection had no failure, one call of this event failed, or more, exactly where
         // it was lost, and no other one. Where it was cut, nothing changes at the carrier.
         ensures failed { HasNoFailure (C.pipes carrier.old self.old.link.number)
@@ -91,7 +92,7 @@ impl<E: Engine + Drop> Held<E> {
             (C.pipes carrier.old self.old.link.number)
             (C.pipes carrier.new self.old.link.number)) }
         ensures refines { (setup : Setup) (w : World) (c : Connection) (engine : E)
-            → C.tells carrier.old
+            → IsFaithful (C.pipes carrier.new self.old.link.number)
             → RepresentsConnection self.old.link.number setup.packet_size engine self.old.link
             (seat_in self.old pool.old) (C.pipes carrier.old self.old.link.number) c
             → ModelGives E (answer_of (E.statements_of engine)
@@ -129,7 +130,7 @@ impl<E: Engine + Drop> Held<E> {
             (ChangesOne self.old.link.number self.new.link.is_cut pool.old pool.new) }
         ensures there { OnOk result (IsThere self.new pool.new) }
         ensures ties { KeepsTies self.old.link.number self.new.link (C.pipes carrier.old)
-            (C.pipes carrier.new) (C.tells carrier.old) (C.tells carrier.new) }
+            (C.pipes carrier.new) (C.began carrier.old) (C.began carrier.new) }
         ensures failed { FailsNoMore (C.pipes carrier.old self.old.link.number)
             (C.pipes carrier.new self.old.link.number) }
         ensures still { ReadsNoMore self.old.link self.new.link
@@ -170,7 +171,7 @@ impl<E: Engine + Drop> Held<E> {
         ensures pool { ChangesOne self.old.link.number self.new.link.is_cut pool.old pool.new }
         ensures there { IsThere self.new pool.new }
         ensures ties { KeepsTies self.old.link.number self.new.link (C.pipes carrier.old)
-            (C.pipes carrier.new) (C.tells carrier.old) (C.tells carrier.new) }
+            (C.pipes carrier.new) (C.began carrier.old) (C.began carrier.new) }
         ensures failed { FailsNoMore (C.pipes carrier.old self.old.link.number)
             (C.pipes carrier.new self.old.link.number) }
         ensures still { ReadsNoMore self.old.link self.new.link

@@ -43,5 +43,6 @@ fn report_or_line(alloc: Global, schedule: &[u8]) -> Result<Vec<u8>, Vec<u8>>
     let mut line = Vec::new(alloc);
     let status = run_play(alloc, &mut reader, &mut carrier, &mut report, &mut line);
     laws::memory_never_fails();
+    laws::memory_is_faithful();
     if status == 0 { Ok(report) } else { Err(line) }
 }

@@ -1,8 +1,9 @@
 -- What a carrier holds whose links fail.
-use Rattle.std.specs.Prelude.{ℕ, Option, option_map}
+use Rattle.std.specs.Prelude.{ℕ, List, map, Option, option_map}
 use Rattle.std.specs.Ordering.{nat_cmp}
 use Rattle.std.specs.BTreeMap.{BTreeMap, get}
-use Rattle.tds_play.specs.Pipe.{Pipe, Traffic}
+use Rattle.tds_play.specs.Pipe.{Begun, Pipe, Traffic}
+use Rattle.test_calls.specs.declared.carrier.Telling.{Telling}
 use Rattle.test_calls.specs.declared.lane.Lane.TheInside.{Inside}
 use Rattle.test_calls.specs.declared.link.Link.{Link}
 
@@ -24,3 +25,9 @@ pipe_of l = record {
 
 abbrev pub pipe_at : BTreeMap ℕ Link → ℕ → Option Pipe
 pipe_at links conn = option_map pipe_of (get nat_cmp links conn)
+
+abbrev pub begun_by : Telling → Begun
+begun_by t = record { event = t.event.value; pipes = pipe_at t.links.value }
+
+abbrev pub begun_in : List Telling → List Begun
+begun_in tellings = map begun_by tellings

@@ -1,5 +1,5 @@
 //! A carrier that keeps what it was handed.
-ghost use Rattle.std.specs.Prelude.{◌≡◌, ◌≢◌, ◌++◌, ◌≤◌, ◌<◌, ◌+◌, ℕ, List, length, drop, take, Option, Some, Err, None, IfOk, OnOk};
+ghost use Rattle.std.specs.Prelude.{[], ◌∷◌, ◌≡◌, ◌≢◌, ◌++◌, ◌≤◌, ◌<◌, ◌+◌, ℕ, List, length, drop, take, Option, Some, Err, None, IfOk, OnOk};
 ghost use Rattle.tds_play.specs.Pipe.{Changes, new_pipe, sent_on, carried_on, stuck_on, cut_pipe, traffic, IsOpen, IsUncut};
 ghost use Rattle.tds_play.specs.declared.carrier.CarrierError.TheVariants.{Lost, Memory};
 
@@ -57,7 +57,11 @@ impl KeepingCarrier {
 impl Carrier for KeepingCarrier {
     ghost pipes = { λ c. ⟦<MemoryCarrier as Carrier>⟧.pipes c.inner };
 
-    ghost tells = { λ c. ⟦<MemoryCarrier as Carrier>⟧.tells c.inner };
+    ghost began = { λ c. ⟦<MemoryCarrier as Carrier>⟧.began c.inner };
+
+    fn begin(&mut self, event: u32) -> Result<(), AllocError> {
+        self.inner.begin(event)
+    }
 
     fn open(&mut self, conn: u32) -> Result<(), CarrierError> {
         self.inner.open(conn)

@@ -14,7 +14,7 @@ use Rattle.tds_play.specs.declared.player.Player.{Player}
 use Rattle.tds_play.specs.declared.seat.Held.{Held}
 use Rattle.tds_play.specs.Failures.{FailsNoMore, LiveAreSound}
 use Rattle.tds_play.specs.Links.{cut_of}
-use Rattle.tds_play.specs.Pipe.{Pipe, IsOpen, IsUncut}
+use Rattle.tds_play.specs.Pipe.{Begun, IsBeyond, Pipe, IsOpen, IsUncut}
 use Rattle.tds_play.specs.Player.{AreHeld, all_of}
 use Rattle.tds_play.specs.Plays.{RepresentConnections, RepresentsConnection}
 use Rattle.tds_play.specs.Pooled.{AreKnown, ArePooled, number_unless, numbers_in, seat_in, seated_from, seated_in}
@@ -26,6 +26,7 @@ use Rattle.tds_play.proofs.Accounts.{all_no_more, sound_set}
 use Rattle.tds_play.proofs.AllCut.{put_changed, stays_cut}
 use Rattle.tds_play.proofs.Listed.{by_test, changed, is_at, is_other}
 use Rattle.tds_play.proofs.any_bytes.Answered.{cut_reads}
+use Rattle.tds_play.proofs.any_bytes.Faithful.{faithful_to}
 use Rattle.tds_play.proofs.pooled.Kept.{known_lost, pooled_lost}
 use Rattle.tds_play.proofs.pooled.Moves.{seated_lost, set_again}
 use Rattle.tds_play.proofs.pooled.Unseen.{held_as, number_at, read_at}
@@ -85,7 +86,7 @@ cut_seats {E} {S} place old new h k i =
 
 -- ---- What stays so
 
-pub cut_keeps : {E S : Type 0} (place : ℕ) (old new : Player E S) (h k : Held E S) (pipes pipes' : ℕ → Option Pipe) (told still : Type 0) → IsCutAt place old new h k → KeepsTies h.link.number k.link pipes pipes' told still → ReadsNoMore h.link k.link (pipes h.link.number) (pipes' h.link.number) → FailsNoMore (pipes h.link.number) (pipes' h.link.number)
+pub cut_keeps : {E S : Type 0} (place : ℕ) (old new : Player E S) (h k : Held E S) (pipes pipes' : ℕ → Option Pipe) (told still : List Begun) → IsCutAt place old new h k → KeepsTies h.link.number k.link pipes pipes' told still → ReadsNoMore h.link k.link (pipes h.link.number) (pipes' h.link.number) → FailsNoMore (pipes h.link.number) (pipes' h.link.number)
     → AreTied (all_of old) pipes → AreHeld old → new ≡ record old { links = new.links; pool = new.pool } → CutsSome old new pipes pipes' told still
 cut_keeps {E} {S} place old new h k pipes pipes' told still i ties stays failed tied held rest = record {
   tied = subst (λ (ls : List (Seated E S)). AreTied ls pipes') (sym seats)
@@ -99,7 +100,9 @@ cut_keeps {E} {S} place old new h k pipes pipes' told still i ties stays failed 
       (known_lost old.leases old.tickets (suc place) old.links.items hs (connections old.pool) held.known (held_set old.links.items place k)))));
   count = ap length i.links ∙ length_set old.links.items place k;
   rest = rest;
-  tells = ties.tells;
+  begun = ties.begun;
+  others = λ n beyond. ties.others n (λ e. beyond place within_new (e ∙ i.number));
+  faithful = faithful_to h.link.number pipes pipes' ties.others ties.faithful;
   sound = λ sound. subst (λ (ls : List (Seated E S)). LiveAreSound ls pipes') (sym seats)
       (sound_set (all_of old) place (seated_in k None) pipes pipes' sound (within_all old place h i.at) (λ j other. fail_no_more (suc j)) (λ live. absurd (uncut live)));
   reads = λ size so_far all. subst (λ (ls : List (Seated E S)). AllRead size ls pipes' so_far) (sym seats)
@@ -116,12 +119,15 @@ cut_keeps {E} {S} place old new h k pipes pipes' told still i ties stays failed 
     fail_no_more : (n : ℕ) → FailsNoMore (pipes n) (pipes' n)
     fail_no_more = all_no_more h.link.number pipes pipes' ties.others failed
 
+    within_new : place < length new.links.items
+    within_new = let within : place < length old.links.items = slice_get_within old.links.items place h i.at in omega (arith, within, ap length i.links ∙ length_set old.links.items place k)
+
     uncut : k.link.is_cut ≡ false → ⊥
     uncut live = let bad : true ≡ false = sym (is_cut_then place old new h k i) ∙ live in cc
 
 -- ---- What it stands for
 
-pub cut_played : {E S : Type 0} (place : ℕ) (old new : Player E S) (h k : Held E S) (pipes pipes' : ℕ → Option Pipe) (told still : Type 0) → IsCutAt place old new h k → KeepsTies h.link.number k.link pipes pipes' told still → (size : ℕ) (engine : E) (cs : List Connection) (c : Connection)
+pub cut_played : {E S : Type 0} (place : ℕ) (old new : Player E S) (h k : Held E S) (pipes pipes' : ℕ → Option Pipe) (told still : List Begun) → IsCutAt place old new h k → KeepsTies h.link.number k.link pipes pipes' told still → (size : ℕ) (engine : E) (cs : List Connection) (c : Connection)
     → (RepresentsConnection h.link.number size engine h.link (seat_in h old.pool) (pipes h.link.number) c → RepresentsConnection h.link.number size engine k.link (seat_in h old.pool) (pipes' h.link.number) (cut c))
     → slice_get cs place ≡ Some c → RepresentConnections 1 size engine (all_of old) pipes cs → RepresentConnections 1 size engine (all_of new) pipes' (put place (cut c) cs)
 cut_played {E} {S} place old new h k pipes pipes' told still i ties size engine cs c cuts there all =
@@ -137,7 +143,7 @@ unmoved {E} {S} place old new h there is links pool =
     ap (λ (hs : List (Held E S)). seated_from 1 hs (connections new.pool)) (links ∙ set_again old.links.items place h (read_at old.links.items place h there is))
     ∙ ap (λ (p : PoolState). seated_from 1 old.links.items (connections p)) pool
 
-pub unmoved_keeps : {E S : Type 0} (place : ℕ) (old new : Player E S) (h : Held E S) (pipes : ℕ → Option Pipe) (told : Type 0) → AreTied (all_of old) pipes → AreHeld old → place < length old.links.items → h ≡ get_or old.links.items place h
+pub unmoved_keeps : {E S : Type 0} (place : ℕ) (old new : Player E S) (h : Held E S) (pipes : ℕ → Option Pipe) (told : List Begun) → AreTied (all_of old) pipes → AreHeld old → place < length old.links.items → h ≡ get_or old.links.items place h
     → new.links.items ≡ slice_set old.links.items place h → new.pool ≡ old.pool → new ≡ record old { links = new.links; pool = new.pool } → CutsSome old new pipes pipes told told
 unmoved_keeps {E} {S} place old new h pipes told tied held there is links pool rest = record {
   tied = subst (λ (ls : List (Seated E S)). AreTied ls pipes) (sym same) tied;
@@ -148,7 +154,9 @@ unmoved_keeps {E} {S} place old new h pipes told tied held there is links pool r
       (subst (λ (p : PoolState). AreKnown old.leases old.tickets old.links.items (connections p)) (sym pool) held.known)));
   count = ap length again;
   rest = rest;
-  tells = λ t. t;
+  begun = refl;
+  others = λ n beyond. refl;
+  faithful = λ count all. all;
   sound = λ sound. subst (λ (ls : List (Seated E S)). LiveAreSound ls pipes) (sym same) sound;
   reads = λ size so_far all. subst (λ (ls : List (Seated E S)). AllRead size ls pipes so_far) (sym same) all;
   failed = λ n call. refl;
@@ -172,26 +180,30 @@ still_cut {E} {S} place player h pipes tied there is cut_there size engine cs c 
 -- ---- All of them are cut
 
 -- Some are, and then others.
-pub cuts_more : {E S : Type 0} (old mid new : Player E S) (pipes between pipes' : ℕ → Option Pipe) (told so_far still : Type 0) → CutsSome old mid pipes between told so_far → CutsSome mid new between pipes' so_far still → CutsSome old new pipes pipes' told still
+pub cuts_more : {E S : Type 0} (old mid new : Player E S) (pipes between pipes' : ℕ → Option Pipe) (told so_far still : List Begun) → CutsSome old mid pipes between told so_far → CutsSome mid new between pipes' so_far still → CutsSome old new pipes pipes' told still
 cuts_more {E} {S} old mid new pipes between pipes' told so_far still some more = record {
   tied = more.tied;
   held = more.held;
   count = more.count ∙ some.count;
   rest = more.rest ∙ ap (λ (p : Player E S). record p { links = new.links; pool = new.pool }) some.rest;
-  tells = λ t. more.tells (some.tells t);
+  begun = more.begun ∙ some.begun;
+  others = λ n beyond. more.others n beyond ∙ some.others n (subst (λ (count : ℕ). IsBeyond count n) more.count beyond);
+  faithful = λ count all. some.faithful count (more.faithful count all);
   sound = λ sound. more.sound (some.sound sound);
   reads = λ size answers all. more.reads size answers (some.reads size answers all);
   failed = λ n call. more.failed n call ∙ some.failed n call;
 }
 
 -- None is.
-pub cuts_none : {E S : Type 0} (player : Player E S) (pipes : ℕ → Option Pipe) (told : Type 0) → AreTied (all_of player) pipes → AreHeld player → CutsSome player player pipes pipes told told
+pub cuts_none : {E S : Type 0} (player : Player E S) (pipes : ℕ → Option Pipe) (told : List Begun) → AreTied (all_of player) pipes → AreHeld player → CutsSome player player pipes pipes told told
 cuts_none player pipes told tied held = record {
   tied = tied;
   held = held;
   count = refl;
   rest = refl;
-  tells = λ t. t;
+  begun = refl;
+  others = λ n beyond. refl;
+  faithful = λ count all. all;
   sound = λ sound. sound;
   reads = λ size answers all. all;
   failed = λ n call. refl;

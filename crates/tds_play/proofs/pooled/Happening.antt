@@ -1,5 +1,5 @@
 -- An event of a play: what it made of the player and what it came to in the model, by what it did.
-use Rattle.std.proofs.Common.{◌≡◌, ◌∙◌, ℕ, suc, min, List, [], ◌∷◌, ◌++◌, length, length-append, map, Option, Some, Bool, refl, sym, ap, subst, arith}
+use Rattle.std.proofs.Common.{◌≡◌, ◌≢◌, ◌<◌, ◌∙◌, ℕ, suc, min, List, [], ◌∷◌, ◌++◌, length, length-append, map, Option, Some, Bool, refl, sym, ap, subst, arith}
 use Rattle.std.specs.Prelude.{Err, IfOk, Ok, Result}
 use Rattle.tds_packet.specs.declared.kind.Direction.{Direction}
 use Rattle.tds_pool.specs.Connections.{PoolState}
@@ -21,7 +21,7 @@ use Rattle.tds_play.specs.Failures.{Fails, FailsOn, HasNoFailure, LiveAreSound, 
 use Rattle.tds_play.specs.Happening.{HappensAs}
 use Rattle.tds_play.specs.Lending.{Found, Here, Missing, standing_of}
 use Rattle.tds_play.specs.Noted.{about_of}
-use Rattle.tds_play.specs.Pipe.{AreSame, Pipe, traffic}
+use Rattle.tds_play.specs.Pipe.{AreFaithfulTo, AreSameBeyond, Begun, IsFaithful, AreSame, Pipe, traffic}
 use Rattle.tds_play.specs.Player.{AreHeld, ModelGivesEach, RefinesEvent, RepresentsWorld, all_of}
 use Rattle.tds_play.specs.Plays.{RepresentConnections}
 use Rattle.tds_play.specs.Pooled.{numbers_kept, numbers_leased}
@@ -41,12 +41,12 @@ use Rattle.tds_play.proofs.pooled.InPlace.{next_lease}
 use Rattle.tds_play.proofs.pooled.Leasing.{new_opens, new_played, new_reading}
 use Rattle.tds_play.proofs.pooled.Opening.{IsOpened, LentNew, OpenedBy, is_opened, opened_by}
 use Rattle.tds_play.proofs.pooled.Restarting.{EndsAs, ends_all, ends_few, ends_held, ends_holds, ends_setup, few_by, holds_by, setup_by}
-use Rattle.tds_play.proofs.pooled.Steps.{many_of, steps_lost, steps_reads, steps_refine, steps_sound, steps_tied}
+use Rattle.tds_play.proofs.pooled.Steps.{many_of, steps_lost, steps_reads, steps_refine, steps_sound, steps_tied, steps_beyond, steps_faithful, steps_here}
 
 -- ---- Which event it is
 
 -- It is of the event that it is.
-pub happens_for : {E S B : Type 0} (answers : E → Answers) (e kind : Event) (old new : Player E S) (pipes pipes' : ℕ → Option Pipe) (told still : Type 0) (r : Result EventDone B) → e ≡ kind → IfOk r (λ done. HappensAs answers kind old new pipes pipes' told still done) → IfOk r (λ done. HappensAs answers e old new pipes pipes' told still done)
+pub happens_for : {E S B : Type 0} (answers : E → Answers) (e kind : Event) (old new : Player E S) (pipes pipes' : ℕ → Option Pipe) (told still : List Begun) (r : Result EventDone B) → e ≡ kind → IfOk r (λ done. HappensAs answers kind old new pipes pipes' told still done) → IfOk r (λ done. HappensAs answers e old new pipes pipes' told still done)
 happens_for answers e kind old new pipes pipes' told still r is s = subst (λ (x : Event). IfOk r (λ done. HappensAs answers x old new pipes pipes' told still done)) (sym is) s
 
 -- What a play finds for an event, in each world that it stands for.
@@ -57,29 +57,31 @@ Finds {E} {S} e player pipes found =
 
 -- ---- On one connection
 
-pub steps_happen : {E S : Type 0} (answers : E → Answers) (e : Event) (place : ℕ) (old new : Player E S) (pipes pipes' : ℕ → Option Pipe) (told still : Type 0) (done : EventDone)
+pub steps_happen : {E S : Type 0} (answers : E → Answers) (e : Event) (place : ℕ) (old new : Player E S) (pipes pipes' : ℕ → Option Pipe) (told still : List Begun) (done : EventDone)
     → AreTied (all_of old) pipes → IsAboutOne e → IsAbout e place → Finds e old pipes (Here place)
     → StepsAt answers e place old new pipes pipes' told still done → HappensAs answers e old new pipes pipes' told still done
 steps_happen {E} {S} answers e place old new pipes pipes' told still done tied one about found s = record {
   tied = steps_tied answers e place old new pipes pipes' told still done s tied;
   held = s.held;
   grows = s.grows;
-  tells = s.ties.tells;
+  begun = s.ties.begun;
+  others = steps_beyond answers e place old new pipes pipes' told still done s;
+  faithful = steps_faithful answers e place old new pipes pipes' told still done s;
   sound = steps_sound answers e place old new pipes pipes' told still done s tied;
   size = s.setup.size_is;
   reads = λ so_far. steps_reads answers e place old new pipes pipes' told still done s tied old.size so_far about;
   lost = λ setup engine w sound is promised.
       let here : FoundHere setup (answers engine) w e place = there setup engine w is promised in
       steps_lost answers e place old new pipes pipes' told still done s tied setup engine w here.connection sound is here.is;
-  refines = λ setup engine w tells is promised countable.
+  refines = λ setup engine w faithful is promised countable.
       let here : FoundHere setup (answers engine) w e place = there setup engine w is promised in
-      steps_refine answers e place old new pipes pipes' told still done s setup engine w here.connection tells is promised here.is countable;
+      steps_refine answers e place old new pipes pipes' told still done s setup engine w here.connection (steps_here answers e place old new pipes pipes' told still done s faithful) is promised here.is countable;
 }
   where
     there : (setup : Setup) (engine : E) (w : World) → RepresentsWorld setup engine old pipes w → ModelGivesEach E (answers engine) setup w → FoundHere setup (answers engine) w e place
     there setup engine w is promised = found_here setup engine (answers engine) w e old pipes place is promised.idle one (found setup engine w is promised.idle)
 
-pub all_steps_happen : {E S B : Type 0} (answers : E → Answers) (e : Event) (place : ℕ) (old new : Player E S) (pipes pipes' : ℕ → Option Pipe) (told still : Type 0) (r : Result EventDone B)
+pub all_steps_happen : {E S B : Type 0} (answers : E → Answers) (e : Event) (place : ℕ) (old new : Player E S) (pipes pipes' : ℕ → Option Pipe) (told still : List Begun) (r : Result EventDone B)
     → AreTied (all_of old) pipes → IsAboutOne e → IsAbout e place → Finds e old pipes (Here place)
     → IfOk r (λ done. StepsAt answers e place old new pipes pipes' told still done) → IfOk r (λ done. HappensAs answers e old new pipes pipes' told still done)
 all_steps_happen answers e place old new pipes pipes' told still (Ok done) tied one about found s = steps_happen answers e place old new pipes pipes' told still done tied one about found s
@@ -88,7 +90,7 @@ all_steps_happen answers e place old new pipes pipes' told still (Err why) tied 
 -- ---- On none
 
 -- It is refused before it comes to a connection: the player is as it was.
-pub refuses_happen : {E S : Type 0} (answers : E → Answers) (e : Event) (why : Refusal) (old new : Player E S) (pipes : ℕ → Option Pipe) (told : Type 0) (done : EventDone)
+pub refuses_happen : {E S : Type 0} (answers : E → Answers) (e : Event) (why : Refusal) (old new : Player E S) (pipes : ℕ → Option Pipe) (told : List Begun) (done : EventDone)
     → AreTied (all_of old) pipes → IsAboutOne e → Finds e old pipes (Missing why)
     → AreHeld new → all_of new ≡ all_of old → new.links.items ≡ old.links.items → HoldsAs old new → SameSetup old new → GrowsByOne old new
     → done ≡ done_as (outcome.Refused why) → HappensAs answers e old new pipes pipes told told done
@@ -96,7 +98,9 @@ refuses_happen {E} {S} answers e why old new pipes told done tied one found held
   tied = subst (λ (xs : List (Seated E S)). AreTied xs pipes) (sym all) tied;
   held = held;
   grows = grows;
-  tells = λ t. t;
+  begun = refl;
+  others = λ n beyond. refl;
+  faithful = subst (λ (n : ℕ). AreFaithfulTo n pipes) (ap length links);
   sound = λ sound. subst (λ (xs : List (Seated E S)). LiveAreSound xs pipes) (sym all) sound;
   size = setup_same.size_is;
   reads = λ so_far read.
@@ -104,7 +108,7 @@ refuses_happen {E} {S} answers e why old new pipes told done tied one found held
       (subst (λ (xs : List (Seated E S)). AllRead old.size xs pipes so_far) (sym all) read);
   lost = λ setup engine w sound is promised.
       none_lost e done (link_of setup w e) (length old.links.items) (length new.links.items) pipes pipes (ap (λ (d : EventDone). d.lost) refused) (ap length links) (λ n call. refl);
-  refines = λ setup engine w tells is promised countable.
+  refines = λ setup engine w faithful is promised countable.
       missing_alike setup engine (answers engine) w e new pipes done why
       (record {
         connections = subst (λ (xs : List (Seated E S)). RepresentConnections 1 setup.packet_size engine xs pipes w.connections) (sym all) is.connections;
@@ -122,7 +126,7 @@ refuses_happen {E} {S} answers e why old new pipes told done tied one found held
 
 -- ---- On a new one
 
-pub opens_happen : {E S : Type 0} (answers : E → Answers) (next conn : ℕ) (lease : Lease) (old mid new : Player E S) (p : PoolState) (pipes pipes' : ℕ → Option Pipe) (told still : Type 0) (done : EventDone)
+pub opens_happen : {E S : Type 0} (answers : E → Answers) (next conn : ℕ) (lease : Lease) (old mid new : Player E S) (p : PoolState) (pipes pipes' : ℕ → Option Pipe) (told still : List Begun) (done : EventDone)
     → AreTied (all_of old) pipes → AreHeld old → AreFew 9999 old → LentNew conn lease old.pool p → next ≡ min (suc (length old.leases)) 4294967295
     → mid ≡ record old { pool = p; leases = mid.leases } → mid.leases ≡ old.leases ++ Some lease ∷ []
     → OpensAs conn next mid new pipes pipes' told still done → HappensAs answers event.Lease old new pipes pipes' told still done
@@ -130,7 +134,11 @@ opens_happen {E} {S} answers next conn lease old mid new p pipes pipes' told sti
   tied = opened (all_of old) (all_of new) x pipes pipes' is.all tied (o.number ∙ at) (subst (λ (n : ℕ). IsTied o.link (pipes' n)) at o.ties.tied) same;
   held = is.held;
   grows = is.grows;
-  tells = o.ties.tells;
+  begun = o.ties.begun;
+  others = λ n beyond. o.ties.others n (λ e. beyond count (omega (arith, more)) (e ∙ here));
+  faithful = λ all place less.
+      let other : suc place ≢ conn = (λ e. let same : suc place ≡ suc count = e ∙ here in omega (arith, same, less)) in
+      subst IsFaithful (o.ties.others (suc place) other) (all place (omega (arith, less, more)));
   sound = λ sound.
       subst (λ (xs : List (Seated E S)). LiveAreSound xs pipes') (sym is.all)
       (sound_push (all_of old) x pipes pipes' sound same
@@ -149,7 +157,7 @@ opens_happen {E} {S} answers next conn lease old mid new p pipes pipes' told sti
       (ap number_of (new_opens setup w engine conn lease old p pipes held world promised.idle lent)
       ∙ ap (λ (n : ℕ). Some (suc n)) (sym (sym (many_of old) ∙ as_many 1 setup.packet_size engine (all_of old) pipes w.connections world.connections)))
       (subst (λ (n : ℕ). Fails (Open ∷ []) done.lost (pipes' n)) here o.failed));
-  refines = λ setup engine w tells world promised countable.
+  refines = λ setup engine w faithful world promised countable.
       subst (λ (said : Outcome). RefinesEvent setup engine (answers engine) (record { outcome = said; lost = done.lost }) new pipes' event.Lease w) (sym o.outcome)
       (opens_alike setup engine (answers engine) w old new pipes pipes' x next conn done.lost world
       (new_opens setup w engine conn lease old p pipes held world promised.idle lent)
@@ -186,7 +194,7 @@ opens_happen {E} {S} answers next conn lease old mid new p pipes pipes' told sti
 -- ---- On all of them
 
 -- The server is restarted: every connection is cut.
-pub server_happens : {E S : Type 0} (answers : E → Answers) (e : Event) (old new : Player E S) (pipes pipes' : ℕ → Option Pipe) (told still : Type 0)
+pub server_happens : {E S : Type 0} (answers : E → Answers) (e : Event) (old new : Player E S) (pipes pipes' : ℕ → Option Pipe) (told still : List Begun)
     → e ≡ event.RestartServer → CutsSome old new pipes pipes' told still
     → ((size : ℕ) (engine : E) (cs : List Connection) → RepresentConnections 1 size engine (all_of old) pipes cs → RepresentConnections 1 size engine (all_of new) pipes' (map cut cs))
     → HappensAs answers e old new pipes pipes' told still (done_as outcome.RestartedServer)
@@ -194,18 +202,20 @@ server_happens answers e old new pipes pipes' told still same cuts refines = sub
   tied = cuts.tied;
   held = cuts.held;
   grows = few_by old new cuts.rest cuts.count;
-  tells = cuts.tells;
+  begun = cuts.begun;
+  others = cuts.others;
+  faithful = λ all. cuts.faithful (length old.links.items) (subst (λ (n : ℕ). AreFaithfulTo n pipes') cuts.count all);
   sound = cuts.sound;
   size = (setup_by old new cuts.rest).size_is;
   reads = λ so_far all. none_delivered old.size (all_of new) pipes' so_far event.RestartServer outcome.RestartedServer (λ n d. refl) (cuts.reads old.size so_far all);
   lost = λ setup engine w sound is promised.
       none_lost event.RestartServer (done_as outcome.RestartedServer) (link_of setup w event.RestartServer) (length old.links.items) (length new.links.items) pipes pipes' refl cuts.count cuts.failed;
-  refines = λ setup engine w tells is promised countable.
+  refines = λ setup engine w faithful is promised countable.
       server_restarts setup engine (answers engine) w old new pipes pipes' is (refines setup.packet_size engine w.connections is.connections) (setup_by old new cuts.rest) (holds_by old new cuts.rest);
 })
 
 -- The client is restarted: every lease and ticket ends too.
-pub client_happens : {E S : Type 0} (answers : E → Answers) (e : Event) (old mid new : Player E S) (pipes pipes' : ℕ → Option Pipe) (told still : Type 0)
+pub client_happens : {E S : Type 0} (answers : E → Answers) (e : Event) (old mid new : Player E S) (pipes pipes' : ℕ → Option Pipe) (told still : List Begun)
     → e ≡ event.RestartClient → CutsSome old mid pipes pipes' told still → EndsAs mid new
     → ((size : ℕ) (engine : E) (cs : List Connection) → RepresentConnections 1 size engine (all_of old) pipes cs → RepresentConnections 1 size engine (all_of mid) pipes' (map cut cs))
     → HappensAs answers e old new pipes pipes' told still (done_as outcome.RestartedClient)
@@ -213,7 +223,9 @@ client_happens {E} {S} answers e old mid new pipes pipes' told still same cuts e
   tied = subst (λ (xs : List (Seated E S)). AreTied xs pipes') (sym all) cuts.tied;
   held = ends_held mid new ends cuts.held;
   grows = ends_few old mid new cuts.rest cuts.count ends;
-  tells = cuts.tells;
+  begun = cuts.begun;
+  others = subst (λ (n : ℕ). AreSameBeyond n pipes pipes') (sym (ap (λ (p : Player E S). length p.links.items) ends.rest)) cuts.others;
+  faithful = λ all. cuts.faithful (length old.links.items) (subst (λ (n : ℕ). AreFaithfulTo n pipes') (ap (λ (p : Player E S). length p.links.items) ends.rest ∙ cuts.count) all);
   sound = λ sound. subst (λ (xs : List (Seated E S)). LiveAreSound xs pipes') (sym all) (cuts.sound sound);
   size = (ends_setup old mid new cuts.rest ends).size_is;
   reads = λ so_far read.
@@ -222,7 +234,7 @@ client_happens {E} {S} answers e old mid new pipes pipes' told still same cuts e
   lost = λ setup engine w sound is promised.
       none_lost event.RestartClient (done_as outcome.RestartedClient) (link_of setup w event.RestartClient) (length old.links.items) (length new.links.items) pipes pipes' refl
       (ap (λ (p : Player E S). length p.links.items) ends.rest ∙ cuts.count) cuts.failed;
-  refines = λ setup engine w tells is promised countable.
+  refines = λ setup engine w faithful is promised countable.
       client_restarts setup engine (answers engine) w old new pipes pipes' is
       (subst (λ (xs : List (Seated E S)). RepresentConnections 1 setup.packet_size engine xs pipes' (map cut w.connections)) (sym all) (refines setup.packet_size engine w.connections is.connections))
       (ends_setup old mid new cuts.rest ends) (ends_holds old mid new cuts.rest ends);

@@ -25,7 +25,7 @@ use Rattle.tds_play.specs.declared.link.EventDone.{EventDone}
 use Rattle.tds_play.specs.declared.player.Player.{Player}
 use Rattle.tds_play.specs.declared.seat.Held.{Held}
 use Rattle.tds_play.specs.Holdings.{ended_of}
-use Rattle.tds_play.specs.Pipe.{Pipe}
+use Rattle.tds_play.specs.Pipe.{Begun, Pipe}
 use Rattle.tds_play.specs.Player.{AreHeld, ModelGivesEach, RepresentsWorld, all_of}
 use Rattle.tds_play.specs.Plays.{IsReady, RepresentsConnection, acts_on}
 use Rattle.tds_play.specs.Pooled.{AreKnown, keeps_not, lease_stamp, numbers_kept, numbers_leased, seat_by, seat_in, ticket_stamp}
@@ -74,7 +74,7 @@ pub keeps_steps : {E S : Type 0} (answers : E → Answers) → PoolIsUnseen E �
     → SameSetup old new
     → done ≡ done_as (outcome.Kept next)
     → AreTied (all_of old) pipes
-    → StepsAt answers (event.Keep number) place old new pipes pipes (Unit {0}) (Unit {0}) done
+    → StepsAt answers (event.Keep number) place old new pipes pipes [] [] done
 keeps_steps {E} {S} answers unseen waits place number next old new h k lease ticket pipes done held few at slot is_next gives links leases tickets asked setup_same is tied =
     quiet_steps answers (event.Keep number) place old new h k pipes done tied at gives.link (ap (λ (d : EventDone). d.lost) is) (λ d. refl) links changes.others changes.columns
     (held_as old new (slice_set old.links.items place k) links setup_same changes.pooled still_known)
@@ -185,7 +185,7 @@ pub unkept_steps : {E S : Type 0} (answers : E → Answers) → PoolIsUnseen E �
     → new.leases ≡ old.leases → new.tickets ≡ old.tickets → new.asked_on.items ≡ old.asked_on.items
     → SameSetup old new → done ≡ done_as (outcome.Refused why)
     → AreTied (all_of old) pipes
-    → StepsAt answers (event.Keep number) place old new pipes pipes (Unit {0}) (Unit {0}) done
+    → StepsAt answers (event.Keep number) place old new pipes pipes [] [] done
 unkept_steps {E} {S} answers unseen waits place number old new h k lease why pipes done held at slot gives links leases tickets asked setup_same is tied =
     refused_steps answers (event.Keep number) place old new h k pipes done why tied held at gives.same (λ d. refl) links gives.pool leases tickets asked setup_same is
     (λ setup engine w c world promised played ready. by_cut h.link.is_cut refl setup engine w c played)

@@ -13,10 +13,10 @@ use Rattle.tds_world.specs.declared.outcome.Opened.TheVariants as opened
 use Rattle.tds_world.specs.declared.outcome.Outcome.TheVariants as outcome
 use Rattle.tds_play.specs.declared.link.EventDone.{EventDone}
 use Rattle.tds_play.specs.Failures.{Fails, Open}
-use Rattle.tds_play.specs.Pipe.{Pipe, traffic}
+use Rattle.tds_play.specs.Pipe.{Begun, Pipe, traffic}
 use Rattle.tds_play.specs.Plays.{RepresentsConnection, cut_where}
 use Rattle.tds_play.specs.Reads.{IsReading}
-use Rattle.tds_play.specs.Ties.{KeepsTies}
+use Rattle.tds_play.specs.Ties.{OpensTies}
 use Rattle.tds_pool.specs.Connections as pool
 use Rattle.tds_pool.specs.Connections.{PoolState, SameRest, connections, first_turn, numbered, taken_out}
 use Rattle.tds_pool.specs.declared.lease.Lease.{Lease}
@@ -212,10 +212,10 @@ lost_not {E} {S} conn lost old mid is same = record {
   gone = λ e. let bad : true ≡ false = sym e ∙ is in absurd (cc);
 }
 
-pub opens_as : {E S : Type 0} (conn lease : ℕ) (old mid new : Player E S) (link : Link E S) (lost : Bool) (pipes pipes' : ℕ → Option Pipe) (told still : Type 0) (done : EventDone)
+pub opens_as : {E S : Type 0} (conn lease : ℕ) (old mid new : Player E S) (link : Link E S) (lost : Bool) (pipes pipes' : ℕ → Option Pipe) (told still : List Begun) (done : EventDone)
     → LostBy conn lost old mid → new.links.items ≡ mid.links.items ++ record { link = link; holder = lease } ∷ [] → new ≡ record mid { links = new.links }
     → done ≡ record { outcome = outcome.Leased lease conn opened.New; lost = lost }
-    → link.number ≡ conn → link.is_cut ≡ lost → KeepsTies conn link pipes pipes' told still → Fails (Open ∷ []) lost (pipes' conn)
+    → link.number ≡ conn → link.is_cut ≡ lost → OpensTies conn link pipes pipes' told still → Fails (Open ∷ []) lost (pipes' conn)
     → IsReading old.size link None (pipes' conn) → ((d : Direction) → (traffic (pipes' conn) d).came ≡ [])
     → RepresentsConnection conn old.size old.engine link (seated (Leased lease) (new_session old.size)) (pipes' conn) (cut_where lost (model.new_connection old.on_attention (Leased lease)))
     → OpensAs conn lease old new pipes pipes' told still done
@@ -313,7 +313,7 @@ lent_new_of conn lease said old new None at reused fresh first used allowed is =
 
 -- ---- The player that opens it
 
-pub opened_by : {E S : Type 0} (next conn : ℕ) (lease : Lease) (old mid new : Player E S) (p : PoolState) (pipes pipes' : ℕ → Option Pipe) (told still : Type 0) (done : EventDone) → LentNew conn lease old.pool p → next ≡ min (suc (length old.leases)) 4294967295 → mid ≡ record old { pool = p; leases = mid.leases } → mid.leases ≡ old.leases ++ Some lease ∷ [] → (o : OpensAs conn next mid new pipes pipes' told still done) → OpenedBy next conn lease.key lease o.link done.lost old new
+pub opened_by : {E S : Type 0} (next conn : ℕ) (lease : Lease) (old mid new : Player E S) (p : PoolState) (pipes pipes' : ℕ → Option Pipe) (told still : List Begun) (done : EventDone) → LentNew conn lease old.pool p → next ≡ min (suc (length old.leases)) 4294967295 → mid ≡ record old { pool = p; leases = mid.leases } → mid.leases ≡ old.leases ++ Some lease ∷ [] → (o : OpensAs conn next mid new pipes pipes' told still done) → OpenedBy next conn lease.key lease o.link done.lost old new
 opened_by {E} {S} next conn lease old mid new p pipes pipes' told still done lent is_next was begun o =
     let same_pool : mid.pool ≡ p = ap (λ (x : Player E S). x.pool) was in
     record {

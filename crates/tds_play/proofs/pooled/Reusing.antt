@@ -23,7 +23,7 @@ use Rattle.tds_world.specs.World.{World, next_number}
 use Rattle.tds_play.specs.declared.link.EventDone.{EventDone}
 use Rattle.tds_play.specs.declared.player.Player.{Player}
 use Rattle.tds_play.specs.declared.seat.Held.{Held}
-use Rattle.tds_play.specs.Pipe.{Pipe}
+use Rattle.tds_play.specs.Pipe.{Begun, Pipe}
 use Rattle.tds_play.specs.Player.{AreHeld, ModelGivesEach, RepresentsWorld, all_of}
 use Rattle.tds_play.specs.Plays.{IsReady, RepresentsConnection, acts_on}
 use Rattle.tds_play.specs.Pooled.{AreKnown, lease_stamp, numbers_kept, numbers_leased, seat_by, seat_in, stamp_of}
@@ -70,7 +70,7 @@ pub reused_steps : {E S : Type 0} (answers : E → Answers) → PoolIsUnseen E �
     → SameSetup old new
     → done ≡ done_as (outcome.Leased next conn opened.Reused)
     → AreTied (all_of old) pipes
-    → StepsAt answers event.Lease place old new pipes pipes (Unit {0}) (Unit {0}) done
+    → StepsAt answers event.Lease place old new pipes pipes [] [] done
 reused_steps {E} {S} answers unseen waits marks place next conn old new h k c lease pipes done held few at is_place is_next is_conn gives links leases tickets asked setup_same is tied =
     quiet_steps answers event.Lease place old new h k pipes done tied at gives.link (ap (λ (d : EventDone). d.lost) is) (λ d. refl) links changes.others changes.columns
     (held_as old new (slice_set old.links.items place k) links setup_same changes.pooled still_known)

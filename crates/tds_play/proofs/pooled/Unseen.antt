@@ -23,7 +23,7 @@ use Rattle.tds_play.specs.declared.player.Player.{Player}
 use Rattle.tds_play.specs.declared.seat.Held.{Held}
 use Rattle.tds_play.specs.Failures.{FailsAs, HasNoFailure, calls_of}
 use Rattle.tds_play.specs.Holdings.{conn_of}
-use Rattle.tds_play.specs.Pipe.{Pipe}
+use Rattle.tds_play.specs.Pipe.{Begun, IsFaithful, Pipe}
 use Rattle.tds_play.specs.Player.{AreHeld, ModelGivesEach, RepresentsWorld, all_of}
 use Rattle.tds_play.specs.Plays.{IsReady, MayLose, RefinesAct, RepresentsConnection, acts_on, after, loss_of}
 use Rattle.tds_play.specs.Pooled.{AreKnown, ArePooled, numbers_in, numbers_kept, numbers_leased, seat_in, seated_from, seated_in}
@@ -135,7 +135,7 @@ pub quiet_steps : {E S : Type 0} (answers : E → Answers) (e : Event) (place : 
     → RepresentsConnection h.link.number setup.packet_size engine h.link (seat_in h old.pool) (pipes h.link.number) c
     → (h.link.is_cut ≡ false → IsReady e c)
     → DoesWhole h.link.number setup.packet_size engine done h.link (seat_in k new.pool) (pipes h.link.number) (acts_on setup (answers engine) w e h.link.number c) c)
-    → StepsAt answers e place old new pipes pipes (Unit {0}) (Unit {0}) done
+    → StepsAt answers e place old new pipes pipes [] [] done
 quiet_steps {E} {S} answers e place old new h k pipes done tied at same whole silent links others columns held setup_same grows noted acts = record {
   was = h;
   now = k;
@@ -148,7 +148,8 @@ quiet_steps {E} {S} answers e place old new h k pipes done tied at same whole si
   ties = record {
     tied = subst (λ (l : Link E S). IsTied l (pipes h.link.number)) (sym same) (tied_at old place h pipes tied at);
     others = λ n other. refl;
-    tells = λ told. told;
+    begun = refl;
+    faithful = λ f. f;
   };
   failed = λ fine. whole_as (calls_of e) done k.link (pipes h.link.number) whole fine;
   gone = λ cut. (refl, same, whole);
@@ -168,7 +169,7 @@ quiet_steps {E} {S} answers e place old new h k pipes done tied at same whole si
     number = number_at old place h pipes tied at
 
 -- One that it may see: what was told of its link and its seat, for its place.
-pub touched_steps : {E S : Type 0} (answers : E → Answers) (e : Event) (place : ℕ) (old new : Player E S) (h k : Held E S) (pipes pipes' : ℕ → Option Pipe) (told still : Type 0) (done : EventDone)
+pub touched_steps : {E S : Type 0} (answers : E → Answers) (e : Event) (place : ℕ) (old new : Player E S) (h k : Held E S) (pipes pipes' : ℕ → Option Pipe) (told still : List Begun) (done : EventDone)
     → AreTied (all_of old) pipes → slice_get old.links.items place ≡ Some h → k.link.number ≡ h.link.number
     → new.links.items ≡ slice_set old.links.items place k
     → SameBut (suc place) (connections old.pool) (connections new.pool)
@@ -179,7 +180,7 @@ pub touched_steps : {E S : Type 0} (answers : E → Answers) (e : Event) (place 
     → (done.lost ≡ true → MayLose h.link.is_cut e)
     → ((size : ℕ) → IsReading size h.link (seat_in h old.pool).client.columns (pipes h.link.number) → ReadsOn size e done.outcome k.link (seat_in k new.pool).client.columns (pipes h.link.number) (pipes' h.link.number))
     → SameSetup old new → GrowsByOne old new → IsNoted e (suc place) old new done.outcome
-    → ((setup : Setup) (engine : E) (w : World) (c : Connection) → told → RepresentsWorld setup engine old pipes w → ModelGivesEach E (answers engine) setup w → ModelGives E (answers engine) setup.packet_size c
+    → ((setup : Setup) (engine : E) (w : World) (c : Connection) → IsFaithful (pipes' h.link.number) → RepresentsWorld setup engine old pipes w → ModelGivesEach E (answers engine) setup w → ModelGives E (answers engine) setup.packet_size c
     → RepresentsConnection h.link.number setup.packet_size engine h.link (seat_in h old.pool) (pipes h.link.number) c
     → (h.link.is_cut ≡ false → IsReady e c)
     → ((n : ℕ) → IsCountable (after (acts_on setup (answers engine) w (bringing n e) h.link.number c) c))
@@ -218,7 +219,7 @@ pub refused_steps : {E S : Type 0} (answers : E → Answers) (e : Event) (place 
     → RepresentsConnection h.link.number setup.packet_size engine h.link (seat_in h old.pool) (pipes h.link.number) c
     → (h.link.is_cut ≡ false → IsReady e c)
     → DoesWhole h.link.number setup.packet_size engine done h.link (seat_in h old.pool) (pipes h.link.number) (acts_on setup (answers engine) w e h.link.number c) c)
-    → StepsAt answers e place old new pipes pipes (Unit {0}) (Unit {0}) done
+    → StepsAt answers e place old new pipes pipes [] [] done
 refused_steps {E} {S} answers e place old new h k pipes done why tied held at same silent links pool leases tickets asked setup_same is acts =
     quiet_steps answers e place old new h k pipes done tied at (ap (λ (x : Held E S). x.link) same) (ap (λ (d : EventDone). d.lost) is) silent links
     (λ m other. ap (λ (p : PoolState). numbered m (connections p)) pool)

@@ -26,7 +26,7 @@ ghost use Rattle.tds_world.specs.World.{World, next_number};
 ghost use Rattle.tds_pool.specs.Cleaning.{carried, client_at};
 ghost use Rattle.tds_pool.specs.Connections.{connections, numbered};
 ghost use Rattle.tds_session.specs.Answer.{answer_of};
-ghost use Rattle.tds_play.specs.Pipe.{Pipe};
+ghost use Rattle.tds_play.specs.Pipe.{IsFaithful, Pipe};
 ghost use Rattle.tds_play.specs.Reads.{IsReading, ReadsNoMore, ReadsOn};
 ghost use Rattle.tds_play.specs.Ties.{IsTied, KeepsTies};
 
@@ -123,7 +123,7 @@ impl<E: Engine + Drop> Link<E> {
         ensures number { self.new.number ≡ self.old.number }
         ensures client { OnOk result (ChangesClient self.old.number pool.old pool.new) }
         ensures ties { OnOk result (KeepsTies self.old.number self.new (C.pipes carrier.old)
-            (C.pipes carrier.new) (C.tells carrier.old) (C.tells carrier.new)) }
+            (C.pipes carrier.new) (C.began carrier.old) (C.began carrier.new)) }
         // Where the connection had no failure, one call of this event failed, or more, exactly where
         // it was lost, and no other one.
         ensures failed { HasNoFailure (C.pipes carrier.old self.old.number)
@@ -141,7 +141,7 @@ impl<E: Engine + Drop> Link<E> {
         // A connection that stands for one of the model, wherever it is in the pool, stands for what
         // the event, as it was met, makes of it, cut where the carrier failed.
         ensures refines { (setup : Setup) (w : World) (c : Connection) (engine : E) (p : Place)
-            → C.tells carrier.old
+            → IsFaithful (C.pipes carrier.new self.old.number)
             → RepresentsConnection self.old.number setup.packet_size engine self.old
             (seated p (client_at self.old.number (connections pool.old)))
             (C.pipes carrier.old self.old.number) c
@@ -181,7 +181,7 @@ impl<E: Engine + Drop> Link<E> {
         requires tied { IsTied self.old (C.pipes carrier.old self.old.number) }
         ensures number { self.new.number ≡ self.old.number }
         ensures ties { OnOk result (KeepsTies self.old.number self.new (C.pipes carrier.old)
-            (C.pipes carrier.new) (C.tells carrier.old) (C.tells carrier.new)) }
+            (C.pipes carrier.new) (C.began carrier.old) (C.began carrier.new)) }
         ensures failed { HasNoFailure (C.pipes carrier.old self.old.number)
             → IfOk result (λ done. FailsAs (calls_of event.now) done self.new
             (C.pipes carrier.new self.old.number)) }
@@ -192,7 +192,7 @@ impl<E: Engine + Drop> Link<E> {
             client.new.columns (C.pipes carrier.old self.old.number)
             (C.pipes carrier.new self.old.number)) }
         ensures refines { (setup : Setup) (w : World) (c : Connection) (engine : E) (p : Place)
-            → C.tells carrier.old
+            → IsFaithful (C.pipes carrier.new self.old.number)
             → RepresentsConnection self.old.number setup.packet_size engine self.old
             (seated p client.old) (C.pipes carrier.old self.old.number) c
             → ModelGives E (answer_of (E.statements_of engine)
@@ -245,7 +245,7 @@ impl<E: Engine + Drop> Link<E> {
         ensures number { self.new.number ≡ self.old.number }
         ensures client { OnOk result (ChangesClient self.old.number pool.old pool.new) }
         ensures ties { OnOk result (KeepsTies self.old.number self.new (C.pipes carrier.old)
-            (C.pipes carrier.new) (C.tells carrier.old) (C.tells carrier.new)) }
+            (C.pipes carrier.new) (C.began carrier.old) (C.began carrier.new)) }
         ensures failed { HasNoFailure (C.pipes carrier.old self.old.number)
             → IfOk result (λ done. FailsAs (calls_of event.now) done self.new
             (C.pipes carrier.new self.old.number)) }
@@ -257,7 +257,7 @@ impl<E: Engine + Drop> Link<E> {
             (client_at self.old.number (connections pool.new)).columns
             (C.pipes carrier.old self.old.number) (C.pipes carrier.new self.old.number)) }
         ensures refines { (setup : Setup) (w : World) (c : Connection) (engine : E) (p : Place)
-            → C.tells carrier.old
+            → IsFaithful (C.pipes carrier.new self.old.number)
             → RepresentsConnection self.old.number setup.packet_size engine self.old
             (seated p (client_at self.old.number (connections pool.old)))
             (C.pipes carrier.old self.old.number) c
@@ -337,7 +337,7 @@ impl<E: Engine + Drop> Link<E> {
         requires tied { IsTied self.old (C.pipes carrier.old self.old.number) }
         ensures number { self.new.number ≡ self.old.number }
         ensures ties { OnOk result (KeepsTies self.old.number self.new (C.pipes carrier.old)
-            (C.pipes carrier.new) (C.tells carrier.old) (C.tells carrier.new)) }
+            (C.pipes carrier.new) (C.began carrier.old) (C.began carrier.new)) }
         ensures still { OnOk result (ReadsNoMore self.old self.new
             (C.pipes carrier.old self.old.number) (C.pipes carrier.new self.old.number)) }
         ensures worked { IfOk result (λ done.

@@ -144,7 +144,7 @@ impl<E: Engine + Drop> Link<E> {
         requires tied { IsTied self.old (C.pipes carrier.old self.old.number) }
         ensures number { self.new.number ≡ self.old.number }
         ensures ties { OnOk result (KeepsTies self.old.number self.new (C.pipes carrier.old)
-            (C.pipes carrier.new) (C.tells carrier.old) (C.tells carrier.new)) }
+            (C.pipes carrier.new) (C.began carrier.old) (C.began carrier.new)) }
         ensures still { OnOk result (ReadsNoMore self.old self.new
             (C.pipes carrier.old self.old.number) (C.pipes carrier.new self.old.number)) }
         ensures columns { client.new.columns ≡ client.old.columns }
@@ -227,7 +227,7 @@ impl<E: Engine + Drop> Link<E> {
         requires tied { IsTied self.old (C.pipes carrier.old self.old.number) }
         ensures number { self.new.number ≡ self.old.number }
         ensures ties { OnOk result (KeepsTies self.old.number self.new (C.pipes carrier.old)
-            (C.pipes carrier.new) (C.tells carrier.old) (C.tells carrier.new)) }
+            (C.pipes carrier.new) (C.began carrier.old) (C.began carrier.new)) }
         ensures still { OnOk result (ReadsNoMore self.old self.new
             (C.pipes carrier.old self.old.number) (C.pipes carrier.new self.old.number)) }
         ensures columns { client.new.columns ≡ client.old.columns }

@@ -3,7 +3,7 @@ ghost use Rattle.std.specs.Prelude.{◌≡◌, ◌≢◌, ◌<◌, ◌≤◌, �
 ghost use Rattle.tds_packet.specs.declared.kind.Direction.TheVariants.{ToServer, ToClient};
 ghost use Rattle.tds_play.specs.Failures.{Call, Carry, Fails, FailsAs, FailsNoMore, HasNoFailure, Send};
 ghost use Rattle.tds_play.specs.Links.{cut_of, recounted};
-ghost use Rattle.tds_play.specs.Pipe.{Brings, Changes, IsOpen, IsUncut, cut_pipe, sent_on};
+ghost use Rattle.tds_play.specs.Pipe.{Brings, Changes, IsFaithful, IsOpen, IsUncut, cut_pipe, sent_on};
 ghost use Rattle.tds_play.specs.Plays.{RepresentsConnection, cut_where};
 ghost use Rattle.tds_play.specs.Reads.{BringsAny, ReadsNoMore};
 ghost use Rattle.tds_play.specs.Seen.{outcome_of};
@@ -39,7 +39,7 @@ fn hand_bytes<C: Carrier>(
     requires there { IsOpen (C.pipes carrier.old number) }
     ensures handed { IfOk result (λ lost. Changes (C.pipes carrier.old) (C.pipes carrier.new) number
         (sent_on (C.pipes carrier.old number) direction bytes.now (if lost then 1 else 0))) }
-    ensures tells { OnOk result (C.tells carrier.old → C.tells carrier.new) }
+    ensures begun { OnOk result (C.began carrier.new ≡ C.began carrier.old) }
 {
     match carrier.send(number, direction, bytes) {
         Ok(()) => Ok(false),
@@ -62,7 +62,7 @@ impl<E: Engine + Drop> Link<E> {
         ensures number { self.new.number ≡ self.old.number }
         ensures live { self.new.is_cut ≡ false }
         ensures ties { OnOk result (KeepsTies self.old.number self.new (C.pipes carrier.old)
-            (C.pipes carrier.new) (C.tells carrier.old) (C.tells carrier.new)) }
+            (C.pipes carrier.new) (C.began carrier.old) (C.began carrier.new)) }
         ensures rest { self.new ≡ recounted self.new.to_server self.new.to_client self.old }
         ensures nothing { bytes.now ≡ []
             → (result ≡ Ok false) × (self.new ≡ self.old) × (carrier.new ≡ carrier.old) }
@@ -124,12 +124,12 @@ impl<E: Engine + Drop> Link<E> {
         ensures number { self.new.number ≡ self.old.number }
         ensures live { self.new.is_cut ≡ false }
         ensures ties { OnOk result (KeepsTies self.old.number self.new (C.pipes carrier.old)
-            (C.pipes carrier.new) (C.tells carrier.old) (C.tells carrier.new)) }
+            (C.pipes carrier.new) (C.began carrier.old) (C.began carrier.new)) }
         ensures counted { IfOk result (λ carried. self.new
             ≡ with_counted self.old direction (counted self.old direction - carried.count)) }
         ensures within { IfOk result (λ carried. carried.count ≤ count) }
         ensures all { IfOk result (λ carried. carried.lost ≡ false → carried.count ≡ count) }
-        ensures brought { IfOk result (λ carried. C.tells carrier.old
+        ensures brought { IfOk result (λ carried. IsFaithful (C.pipes carrier.new self.old.number)
             → Brings (C.pipes carrier.old self.old.number) direction carried.count out.old.items
             out.new.items (C.pipes carrier.new self.old.number) carried.lost) }
         ensures any { IfOk result (λ carried. BringsAny direction carried.count out.old.items
@@ -166,7 +166,7 @@ impl<E: Engine + Drop> Link<E> {
         requires client_reads { self.old.client_reader.direction ≡ ToClient }
         ensures number { self.new.number ≡ self.old.number }
         ensures ties { KeepsTies self.old.number self.new (C.pipes carrier.old)
-            (C.pipes carrier.new) (C.tells carrier.old) (C.tells carrier.new) }
+            (C.pipes carrier.new) (C.began carrier.old) (C.began carrier.new) }
         ensures value { self.new ≡ cut_of self.old }
         ensures still { ReadsNoMore self.old self.new (C.pipes carrier.old self.old.number)
             (C.pipes carrier.new self.old.number) }
@@ -201,7 +201,7 @@ impl<E: Engine + Drop> Link<E> {
         requires tied { IsTied self.old (C.pipes carrier.old self.old.number) }
         ensures number { self.new.number ≡ self.old.number }
         ensures ties { KeepsTies self.old.number self.new (C.pipes carrier.old)
-            (C.pipes carrier.new) (C.tells carrier.old) (C.tells carrier.new) }
+            (C.pipes carrier.new) (C.began carrier.old) (C.began carrier.new) }
         ensures value { self.new ≡ (if lost then cut_of self.old else self.old) }
         ensures still { ReadsNoMore self.old self.new (C.pipes carrier.old self.old.number)
             (C.pipes carrier.new self.old.number) }
@@ -235,7 +235,7 @@ impl<E: Engine + Drop> Link<E> {
         requires tied { IsTied self.old (C.pipes carrier.old self.old.number) }
         ensures number { self.new.number ≡ self.old.number }
         ensures ties { KeepsTies self.old.number self.new (C.pipes carrier.old)
-            (C.pipes carrier.new) (C.tells carrier.old) (C.tells carrier.new) }
+            (C.pipes carrier.new) (C.began carrier.old) (C.began carrier.new) }
         ensures value { self.new ≡ cut_of self.old }
         ensures still { ReadsNoMore self.old self.new (C.pipes carrier.old self.old.number)
             (C.pipes carrier.new self.old.number) }

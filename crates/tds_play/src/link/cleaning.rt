@@ -78,7 +78,7 @@ impl<E: Engine + Drop> Link<E> {
         ensures columns { OnOk result ((client_at self.old.number (connections pool.new)).columns
             ≡ (client_at self.old.number (connections pool.old)).columns) }
         ensures ties { OnOk result (KeepsTies self.old.number self.new (C.pipes carrier.old)
-            (C.pipes carrier.new) (C.tells carrier.old) (C.tells carrier.new)) }
+            (C.pipes carrier.new) (C.began carrier.old) (C.began carrier.new)) }
         ensures still { OnOk result (ReadsNoMore self.old self.new
             (C.pipes carrier.old self.old.number) (C.pipes carrier.new self.old.number)) }
         ensures failed { HasNoFailure (C.pipes carrier.old self.old.number)

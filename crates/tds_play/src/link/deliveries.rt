@@ -6,7 +6,7 @@ ghost use Rattle.tds_play.specs.Between.{RepresentsEnds};
 ghost use Rattle.tds_ends.specs.Deliveries.{AllArrive};
 ghost use Rattle.tds_ends.specs.Feeding.{Comes, Coming, Listened, listened};
 ghost use Rattle.tds_play.specs.Listening.{HasListened, told_in};
-ghost use Rattle.tds_play.specs.Pipe.{Pipe};
+ghost use Rattle.tds_play.specs.Pipe.{IsFaithful, Pipe};
 ghost use Rattle.tds_play.specs.Plays.{RefinesAct, RepresentsConnection, count_of, delivers_down, delivers_up};
 ghost use Rattle.tds_ends.specs.ModelGives.{IsCountable, ModelGives};
 ghost use Rattle.tds_play.specs.Seats.{Seat, drained, seated};
@@ -66,7 +66,7 @@ impl<E: Engine + Drop> Link<E> {
         requires tied { IsTied self.old (C.pipes carrier.old self.old.number) }
         ensures number { self.new.number ≡ self.old.number }
         ensures ties { OnOk result (KeepsTies self.old.number self.new (C.pipes carrier.old)
-            (C.pipes carrier.new) (C.tells carrier.old) (C.tells carrier.new)) }
+            (C.pipes carrier.new) (C.began carrier.old) (C.began carrier.new)) }
         ensures failed { HasNoFailure (C.pipes carrier.old self.old.number)
             → IfOk result (λ done. FailsAs (Carry ToServer ∷ Send ToClient ∷ []) done self.new
             (C.pipes carrier.new self.old.number)) }
@@ -78,7 +78,7 @@ impl<E: Engine + Drop> Link<E> {
         // A connection that stands for one of the model stands for what the delivery of as many
         // bytes as came makes of it, cut where the carrier failed.
         ensures refines { (size : ℕ) (engine : E) (seat : Seat) (c : Connection)
-            → C.tells carrier.old
+            → IsFaithful (C.pipes carrier.new self.old.number)
             → RepresentsConnection self.old.number size engine self.old seat
             (C.pipes carrier.old self.old.number) c
             → ModelGives E (answer_of (E.statements_of engine) (E.step_of engine)) size c
@@ -122,7 +122,7 @@ impl<E: Engine + Drop> Link<E> {
         ensures client { OnOk result (ChangesClient self.old.number pool.old pool.new) }
         ensures number { self.new.number ≡ self.old.number }
         ensures ties { OnOk result (KeepsTies self.old.number self.new (C.pipes carrier.old)
-            (C.pipes carrier.new) (C.tells carrier.old) (C.tells carrier.new)) }
+            (C.pipes carrier.new) (C.began carrier.old) (C.began carrier.new)) }
         ensures failed { HasNoFailure (C.pipes carrier.old self.old.number)
             → IfOk result (λ done. FailsAs (Carry ToClient ∷ []) done self.new
             (C.pipes carrier.new self.old.number)) }
@@ -134,7 +134,7 @@ impl<E: Engine + Drop> Link<E> {
             (client_at self.old.number (connections pool.new)).columns
             (C.pipes carrier.old self.old.number) (C.pipes carrier.new self.old.number)) }
         ensures refines { (answers : Answers) (size : ℕ) (engine : E) (p : Place) (c : Connection)
-            → C.tells carrier.old
+            → IsFaithful (C.pipes carrier.new self.old.number)
             → RepresentsConnection self.old.number size engine self.old
             (seated p (client_at self.old.number (connections pool.old)))
             (C.pipes carrier.old self.old.number) c

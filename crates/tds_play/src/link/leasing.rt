@@ -34,7 +34,7 @@ impl<E: Engine + Drop> Link<E> {
         ensures number { self.new.number ≡ self.old.number }
         ensures live { self.new.is_cut ≡ false }
         ensures ties { OnOk result (KeepsTies self.old.number self.new (C.pipes carrier.old)
-            (C.pipes carrier.new) (C.tells carrier.old) (C.tells carrier.new)) }
+            (C.pipes carrier.new) (C.began carrier.old) (C.began carrier.new)) }
         ensures still { OnOk result (ReadsNoMore self.old self.new
             (C.pipes carrier.old self.old.number) (C.pipes carrier.new self.old.number)) }
         ensures columns { client.new.columns ≡ client.old.columns }

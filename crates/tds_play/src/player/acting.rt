@@ -1,5 +1,5 @@
 //! What an event does on the connection that it is about, and to its lease or ticket.
-ghost use Rattle.std.specs.Prelude.{◌≡◌, ◌<◌, ℕ, suc, length, map, Option, Some, IfOk, OnOk};
+ghost use Rattle.std.specs.Prelude.{[], ◌≡◌, ◌<◌, ℕ, suc, length, map, Option, Some, IfOk, OnOk};
 ghost use Rattle.tds_play.specs.Holdings.{conn_of};
 ghost use Rattle.tds_play.specs.Lending.{standing_of, Here};
 ghost use Rattle.tds_play.specs.Noted.{about_of};
@@ -43,7 +43,7 @@ impl<E: Engine + Copy> Player<E> {
         ensures { IfOk result (λ done. StepsAt
             (λ engine. answer_of (E.statements_of engine) (E.step_of engine)) event.now place
             self.old self.new (C.pipes carrier.old) (C.pipes carrier.new)
-            (C.tells carrier.old) (C.tells carrier.new) done) }
+            (C.began carrier.old) (C.began carrier.new) done) }
     {
         match event {
             Event::Resume(ticket) => self.resume(place, *ticket),
@@ -72,7 +72,7 @@ impl<E: Engine + Copy> Player<E> {
         ensures { IfOk result (λ done. StepsAt
             (λ engine. answer_of (E.statements_of engine) (E.step_of engine)) event.now place
             self.old self.new (C.pipes carrier.old) (C.pipes carrier.new)
-            (C.tells carrier.old) (C.tells carrier.new) done) }
+            (C.began carrier.old) (C.began carrier.new) done) }
     {
         let number = next_number(self.asked_on.len());
         let done = self.links[place].act(self.alloc, carrier, &mut self.pool, number, event)?;
@@ -116,7 +116,7 @@ impl<E: Engine + Copy> Player<E> {
             (λ engine. answer_of (E.statements_of engine) (E.step_of engine))
             (events.GiveBack number) place
             self.old self.new (C.pipes carrier.old) (C.pipes carrier.new)
-            (C.tells carrier.old) (C.tells carrier.new) done) }
+            (C.began carrier.old) (C.began carrier.new) done) }
     {
         let Some(lease) = self.leases.take(number) else {
             unreachable!()
@@ -139,7 +139,7 @@ impl<E: Engine + Copy> Player<E> {
         ensures { (pipes : ℕ → Option Pipe) → AreTied (all_of self.old) pipes
             → IfOk result (λ done. StepsAt
             (λ engine. answer_of (E.statements_of engine) (E.step_of engine))
-            (events.Keep number) place self.old self.new pipes pipes (Unit {0}) (Unit {0}) done) }
+            (events.Keep number) place self.old self.new pipes pipes [] [] done) }
     {
         idle_alike();
         pool_is_unseen::<E>();
@@ -171,7 +171,7 @@ impl<E: Engine + Copy> Player<E> {
         ensures { (pipes : ℕ → Option Pipe) → AreTied (all_of self.old) pipes
             → IfOk result (λ done. StepsAt
             (λ engine. answer_of (E.statements_of engine) (E.step_of engine))
-            (events.Resume number) place self.old self.new pipes pipes (Unit {0}) (Unit {0}) done) }
+            (events.Resume number) place self.old self.new pipes pipes [] [] done) }
     {
         idle_alike();
         lends_matching::<E>();
@@ -212,7 +212,7 @@ impl<E: Engine + Copy> Player<E> {
             (λ engine. answer_of (E.statements_of engine) (E.step_of engine))
             (events.Abandon number) place
             self.old self.new (C.pipes carrier.old) (C.pipes carrier.new)
-            (C.tells carrier.old) (C.tells carrier.new) done) }
+            (C.began carrier.old) (C.began carrier.new) done) }
     {
         let Some(ticket) = self.tickets.take(number) else {
             unreachable!()

@@ -30,7 +30,7 @@ impl<E: Engine + Copy> Player<E> {
             (λ engine. answer_of (E.statements_of engine) (E.step_of engine))
             (events.Clean conn) place
             self.old self.new (C.pipes carrier.old) (C.pipes carrier.new)
-            (C.tells carrier.old) (C.tells carrier.new) done) }
+            (C.began carrier.old) (C.began carrier.new) done) }
     {
         let lease = self.leases.next();
         let request = next_number(self.asked_on.len());

@@ -34,7 +34,7 @@ impl<E: Engine + Copy> Player<E> {
         requires tied { AreTied (all_of self.old) (C.pipes carrier.old) }
         requires held { AreHeld self.old }
         ensures keeps { CutsSome self.old self.new (C.pipes carrier.old) (C.pipes carrier.new)
-            (C.tells carrier.old) (C.tells carrier.new) }
+            (C.began carrier.old) (C.began carrier.new) }
         ensures none { connections self.new.pool ≡ [] }
         // What stands for connections of the model stands for them, all cut.
         ensures refines { (size : ℕ) (engine : E) (cs : List Connection)
@@ -53,7 +53,7 @@ impl<E: Engine + Copy> Player<E> {
         requires held { AreHeld self.old }
         requires there { place < length self.old.links.items }
         ensures keeps { CutsSome self.old self.new (C.pipes carrier.old) (C.pipes carrier.new)
-            (C.tells carrier.old) (C.tells carrier.new) }
+            (C.began carrier.old) (C.began carrier.new) }
         ensures cuts { CutsAt place self.old self.new }
         ensures refines { (size : ℕ) (engine : E) (cs : List Connection) (c : Connection)
             → slice_get cs place ≡ Some c

@@ -48,7 +48,7 @@ impl<E: Engine + Copy> Player<E> {
         ensures { IfOk result (λ done. HappensAs
             (λ engine. answer_of (E.statements_of engine) (E.step_of engine)) events.Lease
             self.old self.new (C.pipes carrier.old) (C.pipes carrier.new)
-            (C.tells carrier.old) (C.tells carrier.new) done) }
+            (C.began carrier.old) (C.began carrier.new) done) }
     {
         idle_alike();
         lends_matching::<E>();
@@ -95,7 +95,7 @@ impl<E: Engine + Copy> Player<E> {
     ) -> Result<EventDone, NoMemory>
         ensures { IfOk result (λ done. OpensAs conn lease self.old self.new
             (C.pipes carrier.old) (C.pipes carrier.new)
-            (C.tells carrier.old) (C.tells carrier.new) done) }
+            (C.began carrier.old) (C.began carrier.new) done) }
     {
         let (link, lost) = Link::open(
             self.alloc,

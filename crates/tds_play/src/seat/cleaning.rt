@@ -90,8 +90,8 @@ impl<E: Engine + Drop> Held<E> {
             pool.new) }
         ensures there { OnOk result (IsThere self.new pool.new) }
         ensures ties { OnOk result (KeepsTies self.old.link.number self.new.link
-            (C.pipes carrier.old) (C.pipes carrier.new) (C.tells carrier.old)
-            (C.tells carrier.new)) }
+            (C.pipes carrier.old) (C.pipes carrier.new) (C.began carrier.old)
+            (C.began carrier.new)) }
         ensures failed { (n : ℕ) → HasNoFailure (C.pipes carrier.old self.old.link.number)
             → IfOk result (λ done. FailsAs (calls_of (event.Clean n)) done self.new.link
             (C.pipes carrier.new self.old.link.number)) }

@@ -56,8 +56,8 @@ impl<E: Engine + Drop> Held<E> {
             pool.new) }
         ensures there { OnOk result (IsThere self.new pool.new) }
         ensures ties { OnOk result (KeepsTies self.old.link.number self.new.link
-            (C.pipes carrier.old) (C.pipes carrier.new) (C.tells carrier.old)
-            (C.tells carrier.new)) }
+            (C.pipes carrier.old) (C.pipes carrier.new) (C.began carrier.old)
+            (C.began carrier.new)) }
         ensures failed { (k : ℕ) → HasNoFailure (C.pipes carrier.old self.old.link.number)
             → IfOk result (λ done. FailsAs (calls_of (event.GiveBack k)) done self.new.link
             (C.pipes carrier.new self.old.link.number)) }
@@ -117,7 +117,7 @@ impl<E: Engine + Drop> Held<E> {
         ensures number { self.new.link.number ≡ self.old.link.number }
         ensures holder { self.new.holder ≡ self.old.holder }
         ensures ties { KeepsTies self.old.link.number self.new.link (C.pipes carrier.old)
-            (C.pipes carrier.new) (C.tells carrier.old) (C.tells carrier.new) }
+            (C.pipes carrier.new) (C.began carrier.old) (C.began carrier.new) }
         ensures failed { FailsNoMore (C.pipes carrier.old self.old.link.number)
             (C.pipes carrier.new self.old.link.number) }
         ensures still { ReadsNoMore self.old.link self.new.link
@@ -165,7 +165,7 @@ impl<E: Engine + Drop> Held<E> {
         ensures link { self.new.link ≡ cut_of self.old.link }
         ensures gone { IsGone self.old.link.number pool.old pool.new }
         ensures ties { KeepsTies self.old.link.number self.new.link (C.pipes carrier.old)
-            (C.pipes carrier.new) (C.tells carrier.old) (C.tells carrier.new) }
+            (C.pipes carrier.new) (C.began carrier.old) (C.began carrier.new) }
         ensures failed { FailsNoMore (C.pipes carrier.old self.old.link.number)
             (C.pipes carrier.new self.old.link.number) }
         ensures still { ReadsNoMore self.old.link self.new.link
@@ -198,7 +198,7 @@ impl<E: Engine + Drop> Held<E> {
         ensures pool { Spares self.old.link.number self.new.link.is_cut pool.old pool.new }
         ensures there { IsThere self.new pool.new }
         ensures ties { KeepsTies self.old.link.number self.new.link (C.pipes carrier.old)
-            (C.pipes carrier.new) (C.tells carrier.old) (C.tells carrier.new) }
+            (C.pipes carrier.new) (C.began carrier.old) (C.began carrier.new) }
         ensures failed { FailsNoMore (C.pipes carrier.old self.old.link.number)
             (C.pipes carrier.new self.old.link.number) }
         ensures whole { result.lost ≡ false }

@@ -1,7 +1,7 @@
 use Rattle.std.proofs.Common.{◌≡◌, ◌≤◌, ℕ, List, [], length, ap, subst, sym, refl, ◌∙◌, arith}
 use Rattle.std.proofs.lemmas.Result.{IfOk-weaker}
 use Rattle.std.specs.List.{AllByRecursion}
-use Rattle.std.specs.Prelude.{IfOk, Option}
+use Rattle.std.specs.Prelude.{Err, IfErr, IfOk, Ok, OnOk, Option, Result}
 use Rattle.tds_play.specs.Failures.{TellFailures}
 use Rattle.tds_play.specs.Pipe.{Pipe}
 use Rattle.tds_play.specs.Player.{RepresentsWorld}
@@ -21,6 +21,7 @@ use Rattle.tds_world.specs.Losses.{marked, world_with}
 use Rattle.tds_world.specs.World.{new_world}
 use Rattle.tds_world.specs.declared.event.Event.{Event}
 use Rattle.tds_world.specs.declared.event.Setup.{Setup}
+use Rattle.tds_play.specs.Calls.{MakesCalls}
 use Rattle.tds_play.specs.AnyBytes.{ReadsBytes}
 use Rattle.tds_play.proofs.playing.play_with.Goals as goal
 
@@ -42,26 +43,49 @@ begins {E} {S} setup player pipes links leases tickets asked max size told = rec
   told = told;
 }
 
+told_always : {A B : Type 0} (r : Result A B) (P : Type 0) → P → OnOk r P
+told_always (Ok x) P p = p
+told_always (Err e) P p = tt
+
+if_err : {A B : Type 0} (r : Result A B) (P Q : B → Type 0) → ((e : B) → P e → Q e) → IfErr r P → IfErr r Q
+if_err (Ok x) P Q goes h = tt
+if_err (Err e) P Q goes h = goes e h
+
+pub returns-in-Ok-clause-played : goal.returns-in-Ok-clause-played
+returns-in-Ok-clause-played g c = told_always c.play_events.result _ c.in-Ok.ensures.ok
+
+pub returns-in-Ok-clause-named : goal.returns-in-Ok-clause-named
+returns-in-Ok-clause-named g c = if_err c.play_events.result _ _ (λ why is differs. absurd (differs is)) c.play_events.ensures.memory
+
 pub returns-in-Ok-clause-refines : goal.returns-in-Ok-clause-refines
-returns-in-Ok-clause-refines g c = λ tells.
+returns-in-Ok-clause-refines g c = λ faithful.
     let new = c.new-player.ensures in
     subst (λ engine. IfOk c.play_events.result (λ report. IsReportOfPlay c.args.setup.now (answer_of (g.E.Engine.statements_of engine) (g.E.Engine.step_of engine)) c.args.events.now report (g.C.Carrier.pipes c.play_events.new.carrier)))
     new.engine
-    (c.play_events.ensures.refines c.args.setup.now c.in-Ok.ensures.setup tells
+    (c.play_events.ensures.refines c.args.setup.now c.in-Ok.ensures.setup faithful
     (begins c.args.setup.now c.new-player.result (g.C.Carrier.pipes c.args.carrier.now) new.links new.leases new.tickets new.asked new.max (new.size ∙ c.in-Ok.ensures.size) new.told))
 
 pub returns-in-Ok-clause-lost : goal.returns-in-Ok-clause-lost
-returns-in-Ok-clause-lost g c = λ tells.
+returns-in-Ok-clause-lost g c = λ faithful.
     let new = c.new-player.ensures in
     subst (λ engine. IfOk c.play_events.result (λ report. TellFailures c.args.setup.now (answer_of (g.E.Engine.statements_of engine) (g.E.Engine.step_of engine)) (marked c.args.events.now report.events) (g.C.Carrier.pipes c.play_events.new.carrier)))
     new.engine
-    (c.play_events.ensures.lost c.args.setup.now c.in-Ok.ensures.setup tells
+    (c.play_events.ensures.lost c.args.setup.now c.in-Ok.ensures.setup faithful
+    (begins c.args.setup.now c.new-player.result (g.C.Carrier.pipes c.args.carrier.now) new.links new.leases new.tickets new.asked new.max (new.size ∙ c.in-Ok.ensures.size) new.told))
+
+pub returns-in-Ok-clause-calls : goal.returns-in-Ok-clause-calls
+returns-in-Ok-clause-calls g c = λ faithful.
+    let new = c.new-player.ensures in
+    subst (λ engine. IfOk c.play_events.result (λ report. MakesCalls c.args.setup.now (answer_of (g.E.Engine.statements_of engine) (g.E.Engine.step_of engine)) (marked c.args.events.now report.events)
+    (g.C.Carrier.began c.args.carrier.now) (g.C.Carrier.began c.play_events.new.carrier) (g.C.Carrier.pipes c.play_events.new.carrier)))
+    new.engine
+    (c.play_events.ensures.calls c.args.setup.now c.in-Ok.ensures.setup faithful
     (begins c.args.setup.now c.new-player.result (g.C.Carrier.pipes c.args.carrier.now) new.links new.leases new.tickets new.asked new.max (new.size ∙ c.in-Ok.ensures.size) new.told))
 
 pub returns-in-Ok-clause-unfailing : goal.returns-in-Ok-clause-unfailing
-returns-in-Ok-clause-unfailing g c = λ tells fine.
+returns-in-Ok-clause-unfailing g c = λ faithful fine.
     let new = c.new-player.ensures in
-    c.play_events.ensures.unfailing c.args.setup.now c.in-Ok.ensures.setup tells
+    c.play_events.ensures.unfailing c.args.setup.now c.in-Ok.ensures.setup faithful
     (begins c.args.setup.now c.new-player.result (g.C.Carrier.pipes c.args.carrier.now) new.links new.leases new.tickets new.asked new.max (new.size ∙ c.in-Ok.ensures.size) new.told)
     fine
 
@@ -71,26 +95,26 @@ returns-in-Ok-clause-reads g c =
     c.play_events.ensures.reads
 
 pub returns-in-Ok-clause-as_if_alone : goal.returns-in-Ok-clause-as_if_alone
-returns-in-Ok-clause-as_if_alone g c = λ tells blind uses.
+returns-in-Ok-clause-as_if_alone g c = λ faithful blind uses.
     let answers = answer_of (g.E.Engine.statements_of c.args.engine) (g.E.Engine.step_of c.args.engine) in
     IfOk-weaker c.play_events.result (λ report. IsReportOfPlay c.args.setup.now answers c.args.events.now report (g.C.Carrier.pipes c.play_events.new.carrier))
     (λ report. AsIfAlone c.args.setup.now.on_attention answers (world_with c.args.setup.now answers (marked c.args.events.now report.events) new_world))
     (λ report is. c.as_if_alone.ensures c.args.setup.now answers c.engine_is_lawful.ensures blind uses (marked c.args.events.now report.events)
     (subst AreFewEvents (sym (c.marks_of_a_report.ensures.events c.args.events.now report.events)) (few_events is.known is.few)))
-    (returns-in-Ok-clause-refines g c tells)
+    (returns-in-Ok-clause-refines g c faithful)
 
 pub returns-in-Ok-clause-told_alone : goal.returns-in-Ok-clause-told_alone
-returns-in-Ok-clause-told_alone g c = λ tells blind uses.
+returns-in-Ok-clause-told_alone g c = λ faithful blind uses.
     let answers = answer_of (g.E.Engine.statements_of c.args.engine) (g.E.Engine.step_of c.args.engine) in
     IfOk-weaker c.play_events.result (λ report. IsReportOfPlay c.args.setup.now answers c.args.events.now report (g.C.Carrier.pipes c.play_events.new.carrier))
     (λ report. ShowsAsIfAlone c.args.setup.now.on_attention answers (far_in (world_with c.args.setup.now answers (marked c.args.events.now report.events) new_world)) c.args.events.now report)
     (λ report is. c.of_marked_report.ensures.told_alone c.args.setup.now answers c.args.events.now report c.engine_is_lawful.ensures blind uses (few_events is.known is.few) is.told)
-    (returns-in-Ok-clause-refines g c tells)
+    (returns-in-Ok-clause-refines g c faithful)
 
 pub returns-in-Ok-clause-left_clean : goal.returns-in-Ok-clause-left_clean
-returns-in-Ok-clause-left_clean g c = λ tells clean.
+returns-in-Ok-clause-left_clean g c = λ faithful clean.
     let answers = answer_of (g.E.Engine.statements_of c.args.engine) (g.E.Engine.step_of c.args.engine) in
     IfOk-weaker c.play_events.result (λ report. IsReportOfPlay c.args.setup.now answers c.args.events.now report (g.C.Carrier.pipes c.play_events.new.carrier))
     (λ report. ShowsLeftClean c.args.events.now report)
     (λ report is. c.of_marked_report.ensures.left_clean c.args.setup.now answers c.args.events.now report c.engine_is_lawful.ensures clean is.told)
-    (returns-in-Ok-clause-refines g c tells)
+    (returns-in-Ok-clause-refines g c faithful)

@@ -40,7 +40,7 @@ returns-then-is_of_caller-clause-reads g c = λ size reads.
     (c.act_by_caller.ensures.reads size (subst (λ (x : ClientSession). IsReading size c.args.self.now x.columns old) before reads))
 
 pub returns-then-is_of_caller-clause-refines : goal.returns-then-is_of_caller-clause-refines
-returns-then-is_of_caller-clause-refines g c = λ setup w m engine p tells played promises few next.
+returns-then-is_of_caller-clause-refines g c = λ setup w m engine p faithful played promises few next.
     let n : ℕ = c.args.self.now.number in
     let pcs = connections c.args.pool.now in
     let s : ClientSession = c.act_by_caller.new.client in
@@ -52,4 +52,4 @@ returns-then-is_of_caller-clause-refines g c = λ setup w m engine p tells playe
     (ap (numbered n) (c.at.ensures.writes s (lent_there n pcs c.in-Some.client.now c.in-Some.ensures.value)) ∙ client_found n s pcs it.connection it.there) in
     let old : Option Pipe = g.C.Carrier.pipes c.args.carrier.now n in
     subst (λ (x : ClientSession). IfOk c.act_by_caller.result (λ done. RefinesAct n setup.packet_size engine done c.act_by_caller.new.self (seated (placed_behind c.args.event.now x p) x) (g.C.Carrier.pipes c.act_by_caller.new.carrier n) (acts_on setup (answer_of (g.E.Engine.statements_of engine) (g.E.Engine.step_of engine)) w (met (loss_of done) c.args.event.now) n m) m)) (sym after)
-    (c.act_by_caller.ensures.refines setup w m engine p tells (subst (λ (x : ClientSession). RepresentsConnection n setup.packet_size engine c.args.self.now (seated p x) old m) before played) promises few next)
+    (c.act_by_caller.ensures.refines setup w m engine p faithful (subst (λ (x : ClientSession). RepresentsConnection n setup.packet_size engine c.args.self.now (seated p x) old m) before played) promises few next)

@@ -15,25 +15,25 @@ use Rattle.tds_play.proofs.pooled.Clients.{no_change, on_any}
 use Rattle.tds_play.proofs.link.Link.act_alone.Goals as goal
 
 pub returns-in-Work-clause-refines : goal.returns-in-Work-clause-refines
-returns-in-Work-clause-refines g c = λ setup w m engine p tells played promises few.
+returns-in-Work-clause-refines g c = λ setup w m engine p faithful played promises few.
     let answers : Answers = answer_of (g.E.Engine.statements_of engine) (g.E.Engine.step_of engine) in
     plain_act setup answers w c.args.event.now c.work.new.self (client_at c.args.self.now.number (connections c.args.pool.now)) (g.C.Carrier.pipes c.work.new.carrier c.args.self.now.number) c.work.result played c.requires.live _ c.in-Work.is (λ k. refl) few
     (λ most. c.work.ensures.refines setup.packet_size engine (seated p (client_at c.args.self.now.number (connections c.args.pool.now))) m played promises.ends promises.newest promises.works_past most.1)
 
 pub returns-in-ToServer-clause-refines : goal.returns-in-ToServer-clause-refines
-returns-in-ToServer-clause-refines g c = λ setup w m engine p tells played promises few.
+returns-in-ToServer-clause-refines g c = λ setup w m engine p faithful played promises few.
     let answers : Answers = answer_of (g.E.Engine.statements_of engine) (g.E.Engine.step_of engine) in
     up_act setup answers w c.args.event.now c.deliver_to_server.new.self (client_at c.args.self.now.number (connections c.args.pool.now)) (g.C.Carrier.pipes c.deliver_to_server.new.carrier c.args.self.now.number) c.deliver_to_server.result played c.requires.live _ _ c.in-ToServer.is few
-    (c.deliver_to_server.ensures.refines setup.packet_size engine (seated p (client_at c.args.self.now.number (connections c.args.pool.now))) m tells played promises)
+    (c.deliver_to_server.ensures.refines setup.packet_size engine (seated p (client_at c.args.self.now.number (connections c.args.pool.now))) m faithful played promises)
 
 pub returns-in-ToClient-clause-refines : goal.returns-in-ToClient-clause-refines
-returns-in-ToClient-clause-refines g c = λ setup w m engine p tells played promises few.
+returns-in-ToClient-clause-refines g c = λ setup w m engine p faithful played promises few.
     let answers : Answers = answer_of (g.E.Engine.statements_of engine) (g.E.Engine.step_of engine) in
     down_act setup answers w c.args.event.now c.deliver_to_client.new.self (client_at c.args.self.now.number (connections c.deliver_to_client.new.pool)) (g.C.Carrier.pipes c.deliver_to_client.new.carrier c.args.self.now.number) c.deliver_to_client.result played c.requires.live _ _ c.in-ToClient.is
-    (c.deliver_to_client.ensures.refines answers setup.packet_size engine p m tells played promises)
+    (c.deliver_to_client.ensures.refines answers setup.packet_size engine p m faithful played promises)
 
 pub returns-in-Cut-clause-refines : goal.returns-in-Cut-clause-refines
-returns-in-Cut-clause-refines g c = λ setup w m engine p tells played promises few.
+returns-in-Cut-clause-refines g c = λ setup w m engine p faithful played promises few.
     let answers : Answers = answer_of (g.E.Engine.statements_of engine) (g.E.Engine.step_of engine) in
     whole_act {B = ⊥} setup answers w c.args.event.now c.cut.new.self (client_at c.args.self.now.number (connections c.args.pool.now)) (g.C.Carrier.pipes c.cut.new.carrier c.args.self.now.number) (Ok c.done.result) played c.requires.live (event.Cut _) c.in-Cut.is
     (c.done.ensures, c.cut.ensures.refines setup.packet_size engine (seated p (client_at c.args.self.now.number (connections c.args.pool.now))) m played c.requires.live)

@@ -14,19 +14,19 @@ use Rattle.tds_play.proofs.any_bytes.Brought.{still_ok}
 use Rattle.tds_play.proofs.link.Link.act_by_caller.Goals as goal
 
 pub returns-in-Ask-clause-refines : goal.returns-in-Ask-clause-refines
-returns-in-Ask-clause-refines g c = λ setup w m engine p tells played promises few next.
+returns-in-Ask-clause-refines g c = λ setup w m engine p faithful played promises few next.
     let answers : Answers = answer_of (g.E.Engine.statements_of engine) (g.E.Engine.step_of engine) in
     whole_act setup answers w c.args.event.now c.ask.new.self c.ask.new.client (g.C.Carrier.pipes c.args.carrier.now c.args.self.now.number) c.ask.result played c.requires.live _ c.in-Ask.is
     (asked_ok (record { waits = c.idle_alike.ensures; takes = c.asks_alike.ensures; stays = c.the_other_stays.ensures.asks }) c.args.self.now.number setup.packet_size c.args.number (next_number w.asked_on) _ engine _ c.args.self.now c.ask.new.self (seated p c.args.client.now) (seated p c.ask.new.client) (g.C.Carrier.pipes c.args.carrier.now c.args.self.now.number) m c.ask.result played c.requires.live promises.rests next (λ e. let h = c.ask.ensures.refused e in (h.0, h.1, ap (seated p) h.2)) (λ e. if_ok c.ask.result _ _ (λ done h. (h.0, ap (seated p) h.1, h.2)) (c.ask.ensures.asked e)))
 
 pub returns-in-Send-clause-refines : goal.returns-in-Send-clause-refines
-returns-in-Send-clause-refines g c = λ setup w m engine p tells played promises few next.
+returns-in-Send-clause-refines g c = λ setup w m engine p faithful played promises few next.
     let answers : Answers = answer_of (g.E.Engine.statements_of engine) (g.E.Engine.step_of engine) in
     plain_act setup answers w c.args.event.now c.send.new.self c.send.new.client (g.C.Carrier.pipes c.send.new.carrier c.args.self.now.number) c.send.result played c.requires.live _ c.in-Send.is (λ k. refl) few
     (λ most. c.send.ensures.refines setup.packet_size engine p m played most.0)
 
 pub returns-in-Cancel-clause-refines : goal.returns-in-Cancel-clause-refines
-returns-in-Cancel-clause-refines g c = λ setup w m engine p tells played promises few next.
+returns-in-Cancel-clause-refines g c = λ setup w m engine p faithful played promises few next.
     let answers : Answers = answer_of (g.E.Engine.statements_of engine) (g.E.Engine.step_of engine) in
     plain_act setup answers w c.args.event.now c.cancel.new.self c.cancel.new.client (g.C.Carrier.pipes c.cancel.new.carrier c.args.self.now.number) c.cancel.result played c.requires.live _ c.in-Cancel.is (λ k. refl) few
     (λ most. c.cancel.ensures.refines setup.packet_size engine p m played most.0)

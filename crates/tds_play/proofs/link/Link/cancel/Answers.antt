@@ -60,7 +60,7 @@ returns-clause-ties g c =
     let out = c.in_ok-lost.ensures in
     ties_handed c.args.self.now.number c.cancel_request.new.self.number c.hand_over.new.self.number c.hand_over.new.self c.end.new.self
     (g.C.Carrier.pipes c.args.carrier.now) (g.C.Carrier.pipes c.hand_over.new.carrier) (g.C.Carrier.pipes c.end.new.carrier)
-    (g.C.Carrier.tells c.args.carrier.now) (g.C.Carrier.tells c.hand_over.new.carrier) (g.C.Carrier.tells c.end.new.carrier)
+    (g.C.Carrier.began c.args.carrier.now) (g.C.Carrier.began c.hand_over.new.carrier) (g.C.Carrier.began c.end.new.carrier)
     c.in_ok-cancelled.ensures.number out.number out.ties c.end.ensures.ties
 
 pub returns-clause-cancelled : goal.returns-clause-cancelled

@@ -1,14 +1,15 @@
 use Rattle.std.proofs.Common.{Err, ◌≡◌, ◌∙◌, ◌+◌, ◌-◌, ◌≤◌, ◌++◌, ◌∷◌, [], ℕ, List, Option, false, sym, ap, arith, subst, length, take, drop}
 use Rattle.tds_play.specs.Failures.{Carry, HasFailed, failures}
 use Rattle.tds_play.proofs.Failing.{carried_no_more, fails_no_more, stuck_fails}
-use Rattle.tds_play.specs.Pipe.{Pipe, Brings, Changes, carried_on, stuck_on, traffic}
+use Rattle.tds_play.specs.Pipe.{IsFaithful, Pipe, Brings, Changes, carried_on, stuck_on, traffic}
 use Rattle.tds_play.specs.declared.carrier.CarrierError.TheVariants.{Memory}
 use Rattle.tds_play.specs.Ties.{counted, with_counted}
-use Rattle.tds_play.proofs.Carrying.{count_is, count_twice, number_same, cut_same, tied_after, brought_more, long_tail, no_error}
+use Rattle.tds_play.proofs.Carrying.{count_is, count_twice, number_same, cut_same, tied_after, brought_more, long_tail, no_error, stuck_tied}
 use Rattle.std.proofs.Common.{refl}
 use Rattle.std.proofs.lemmas.List.{take-append-drop}
 use Rattle.tds_play.specs.Reads.{BringsAny}
 use Rattle.tds_play.proofs.any_bytes.Stays.{brings_more, brings_nothing, brings_still, brought_at_first, counted_at_first, open_came, stuck_came}
+use Rattle.tds_play.proofs.any_bytes.Faithful.{carried_faithful, next_came, stuck_faithful}
 use Rattle.tds_play.proofs.link.Link.carry.Goals as goal
 
 pub pieces-preserved : goal.pieces-preserved
@@ -24,7 +25,11 @@ pieces-preserved g c =
     let done = c.came.ensures in
     let brings = c.in-Ok.ensures in
     let ok : Changes old new conn (carried_on (old conn) d (drop (length before) after)) = subst (λ (k : ℕ). Changes old new k (carried_on (old k) d (drop (length before) after))) i.number brings.ok in
-    let bytes : g.C.Carrier.tells c.pieces.carrier → after ≡ before ++ take piece (drop (length (traffic (old conn) d).came) (traffic (old conn) d).handed) = subst (λ (k : ℕ). g.C.Carrier.tells c.pieces.carrier → after ≡ before ++ take piece (drop (length (traffic (old k) d).came) (traffic (old k) d).handed)) i.number brings.bytes in
+    let back : IsFaithful (new conn) → IsFaithful (old conn) = (λ f. carried_faithful (old conn) d (drop (length before) after) (subst IsFaithful ok.here f)) in
+    let next : IsFaithful (new conn) → drop (length before) after ≡ take (length (drop (length before) after)) (drop (length (traffic (old conn) d).came) (traffic (old conn) d).handed) = (λ f. next_came c.pieces.self.to_server c.pieces.self.to_client (old conn) d (drop (length before) after) (i.tied.holds i.live) (subst IsFaithful ok.here f)) in
+    let bytes : IsFaithful (new conn) → after ≡ before ++ take piece (drop (length (traffic (old conn) d).came) (traffic (old conn) d).handed) = (λ f.
+    sym (take-append-drop (length before) after) ∙ ap (λ (xs : List ℕ). xs ++ drop (length before) after) brings.kept ∙ ap (λ (xs : List ℕ). before ++ xs) (next f)
+    ∙ ap (λ (n : ℕ). before ++ take n (drop (length (traffic (old conn) d).came) (traffic (old conn) d).handed)) (long_tail before after piece brings.count)) in
     let most : piece ≤ c.pieces.left = brings.most in
     let under : piece ≤ counted c.pieces.self d = omega (arith, most, i.underway) in
     let left : c.args.count - (c.pieces.left - piece) ≡ (c.args.count - c.pieces.left) + piece = omega (arith, most, i.within) in
@@ -41,9 +46,10 @@ pieces-preserved g c =
           done ∙ ap (λ (n : ℕ). with_counted c.pieces.self d n) less
           ∙ ap (λ l. with_counted l d (counted c.args.self.now d - (c.args.count - (c.pieces.left - piece)))) i.counted
           ∙ count_twice c.args.self.now d _ _;
-      tells = λ told. brings.tells (λ e. no_error piece Memory c.carry.result c.in-Ok.is (c.in-Ok.is ∙ e)) (i.tells told);
-      brought = λ told. subst (λ (n : ℕ). Brings (g.C.Carrier.pipes c.args.carrier.now conn) d n c.args.out.now.items after (new conn) false) (sym left)
-          (brought_more c.args.self.now _ (old conn) (new conn) d (c.args.count - c.pieces.left) piece c.args.out.now.items before after (c.requires.tied.holds c.requires.live) (omega (arith, c.requires.underway)) (i.brought told) (bytes (i.tells told)) ok.here);
+      begun = brings.began (λ e. no_error piece Memory c.carry.result c.in-Ok.is (c.in-Ok.is ∙ e)) ∙ i.begun;
+      faithful = λ f. i.faithful (back f);
+      brought = λ f. subst (λ (n : ℕ). Brings (g.C.Carrier.pipes c.args.carrier.now conn) d n c.args.out.now.items after (new conn) false) (sym left)
+          (brought_more c.args.self.now _ (old conn) (new conn) d (c.args.count - c.pieces.left) piece c.args.out.now.items before after (c.requires.tied.holds c.requires.live) (omega (arith, c.requires.underway)) (i.brought (back f)) (bytes f) ok.here);
       any = subst (λ (n : ℕ). BringsAny d n c.args.out.now.items after (g.C.Carrier.pipes c.args.carrier.now conn) (new conn)) (sym left)
           (brings_more d (c.args.count - c.pieces.left) piece c.args.out.now.items before after (drop (length before) after) (g.C.Carrier.pipes c.args.carrier.now conn) (old conn) (new conn) i.any
           (sym (take-append-drop (length before) after) ∙ ap (λ (xs : List ℕ). xs ++ drop (length before) after) brings.kept) (long_tail before after piece brings.count)
@@ -75,8 +81,9 @@ pieces-init g c = record {
   within = omega arith;
   underway = c.requires.underway;
   counted = counted_at_first c.args.self.now c.args.direction c.args.count;
-  tells = λ told. told;
-  brought = λ told. brought_at_first (g.C.Carrier.pipes c.args.carrier.now c.args.self.now.number) c.args.direction c.args.count c.args.out.now.items;
+  begun = refl;
+  faithful = λ f. f;
+  brought = λ f. brought_at_first (g.C.Carrier.pipes c.args.carrier.now c.args.self.now.number) c.args.direction c.args.count c.args.out.now.items;
   any =
       let none : 0 ≡ c.args.count - c.args.count = omega arith in
       let pipe : Option Pipe = g.C.Carrier.pipes c.args.carrier.now c.args.self.now.number in
@@ -101,3 +108,34 @@ returns-in-Err-Lost-clause-any g c =
     let lost : Changes old new conn (stuck_on (old conn) d) = subst (λ (k : ℕ). Changes old new k (stuck_on (old k) d)) i.number (c.carry.ensures.lost failed) in
     brings_still d (c.args.count - c.pieces.left) c.args.out.now.items c.pieces.out.items c.carry.new.out.items (g.C.Carrier.pipes c.args.carrier.now conn) (old conn) (new conn) i.any (c.carry.ensures.nothing failed)
     (λ e. ap (λ p. (traffic p e).came) lost.here ∙ stuck_came (old conn) d e)
+
+pub returns-in-Err-Lost-clause-ties : goal.returns-in-Err-Lost-clause-ties
+returns-in-Err-Lost-clause-ties g c =
+    let i = c.pieces.invariant in
+    let d = c.args.direction in
+    let conn : ℕ = c.args.self.now.number in
+    let old : ℕ → Option Pipe = g.C.Carrier.pipes c.pieces.carrier in
+    let new : ℕ → Option Pipe = g.C.Carrier.pipes c.carry.new.self in
+    let failed = c.in-Err-Lost.is ∙ ap Err c.in-Err-Lost.field-0-is in
+    let lost : Changes old new conn (stuck_on (old conn) d) = subst (λ (k : ℕ). Changes old new k (stuck_on (old k) d)) i.number (c.carry.ensures.lost failed) in
+    record {
+      tied = stuck_tied c.pieces.self (old conn) (new conn) d lost.here i.tied;
+      others = λ other differs. lost.others other differs ∙ i.others other differs;
+      begun = c.carry.ensures.began (λ e. let bad = sym failed ∙ e in absurd (cc)) ∙ i.begun;
+      faithful = λ f. i.faithful (stuck_faithful (old conn) d (subst IsFaithful lost.here f));
+    }
+
+pub returns-in-Err-Lost-clause-brought : goal.returns-in-Err-Lost-clause-brought
+returns-in-Err-Lost-clause-brought g c = λ f.
+    let i = c.pieces.invariant in
+    let d = c.args.direction in
+    let conn : ℕ = c.args.self.now.number in
+    let old : ℕ → Option Pipe = g.C.Carrier.pipes c.pieces.carrier in
+    let new : ℕ → Option Pipe = g.C.Carrier.pipes c.carry.new.self in
+    let failed = c.in-Err-Lost.is ∙ ap Err c.in-Err-Lost.field-0-is in
+    let lost : Changes old new conn (stuck_on (old conn) d) = subst (λ (k : ℕ). Changes old new k (stuck_on (old k) d)) i.number (c.carry.ensures.lost failed) in
+    let so_far = i.brought (stuck_faithful (old conn) d (subst IsFaithful lost.here f)) in
+    record {
+      bytes = c.carry.ensures.nothing failed ∙ so_far.bytes;
+      pipe = lost.here ∙ ap (λ (p : Option Pipe). stuck_on p d) so_far.pipe;
+    }

@@ -79,5 +79,5 @@ returns-clause-ties g c =
     let out = c.in_ok-lost.ensures in
     ties_handed c.args.self.now.number c.ask_cleaning.new.self.number c.hand_over.new.self.number c.hand_over.new.self c.end.new.self
     (g.C.Carrier.pipes c.args.carrier.now) (g.C.Carrier.pipes c.hand_over.new.carrier) (g.C.Carrier.pipes c.end.new.carrier)
-    (g.C.Carrier.tells c.args.carrier.now) (g.C.Carrier.tells c.hand_over.new.carrier) (g.C.Carrier.tells c.end.new.carrier)
+    (g.C.Carrier.began c.args.carrier.now) (g.C.Carrier.began c.hand_over.new.carrier) (g.C.Carrier.began c.end.new.carrier)
     c.in_ok-ask_cleaning.ensures.number out.number out.ties c.end.ensures.ties

@@ -1,7 +1,9 @@
-use Rattle.std.proofs.Common.{◌∙◌, sym, ap, refl, Some, option_map}
+use Rattle.std.proofs.Common.{◌∙◌, sym, ap, refl, subst, Some, option_map}
 use Rattle.tds_play.specs.Links.{lost_record}
 use Rattle.tds_play.proofs.CutOff.{cut_played}
 use Rattle.tds_play.specs.Failures.{failures}
+use Rattle.tds_play.specs.Pipe.{IsFaithful}
+use Rattle.tds_play.proofs.any_bytes.Faithful.{cut_faithful}
 use Rattle.tds_play.proofs.Failing.{cut_no_more}
 use Rattle.tds_play.proofs.link.Link.cut.Goals as goal
 
@@ -22,3 +24,19 @@ returns-in-Some-clause-failed g c = λ call.
 pub returns-in_default-clause-failed : goal.returns-in_default-clause-failed
 returns-in_default-clause-failed g c = λ call.
     ap (λ p. failures p call) c.cut.ensures.cut.here ∙ cut_no_more (g.C.Carrier.pipes c.args.carrier.now c.args.self.now.number) call
+
+pub returns-in-Some-clause-ties : goal.returns-in-Some-clause-ties
+returns-in-Some-clause-ties g c = record {
+  tied = record { server_reads = c.requires.server_reads; client_reads = c.requires.client_reads; holds = λ uncut. absurd (cc) };
+  others = c.cut.ensures.cut.others;
+  begun = c.cut.ensures.began;
+  faithful = λ f. cut_faithful (g.C.Carrier.pipes c.args.carrier.now c.args.self.now.number) (subst IsFaithful c.cut.ensures.cut.here f);
+}
+
+pub returns-in_default-clause-ties : goal.returns-in_default-clause-ties
+returns-in_default-clause-ties g c = record {
+  tied = record { server_reads = c.requires.server_reads; client_reads = c.requires.client_reads; holds = λ uncut. absurd (cc) };
+  others = c.cut.ensures.cut.others;
+  begun = c.cut.ensures.began;
+  faithful = λ f. cut_faithful (g.C.Carrier.pipes c.args.carrier.now c.args.self.now.number) (subst IsFaithful c.cut.ensures.cut.here f);
+}

@@ -18,19 +18,21 @@ use Rattle.tds_play.specs.Reads.{ClientIsFed, given_by}
 use Rattle.tds_play.proofs.any_bytes.Brought.{faulty_heard, heard_reads}
 use Rattle.tds_play.specs.Seats.{drained, seated}
 use Rattle.tds_play.specs.Ties.{IsTied}
-use Rattle.tds_play.proofs.Tying.{ties_handed}
+use Rattle.tds_play.proofs.Tying.{faithful_before, ties_handed}
 use Rattle.tds_play.proofs.any_bytes.Stays.{stays_numbered}
 use Rattle.tds_play.proofs.link.Link.deliver_to_client.Goals as goal
 
 -- The client takes all that came, so it finds no fault.
 pub returns-in-Some-clause-refines : goal.returns-in-Some-clause-refines
-returns-in-Some-clause-refines g c = λ answers size engine p m tells played promises.
+returns-in-Some-clause-refines g c = λ answers size engine p m faithful played promises.
     let live = played.lives c.requires.live in
     let pipe : Option Pipe = g.C.Carrier.pipes c.args.carrier.now c.args.self.now.number in
     let k : ℕ = c.in_ok-carried.carried.count in
     let exact : k ≡ min k c.args.self.now.to_client = omega (arith, c.in_ok-carried.ensures.within, c.at_most-count.ensures.within) in
     let a = come_heard c.listens_alike.ensures c.args.self.now (seated p (client_at c.args.self.now.number (connections c.args.pool.now))) pipe m k k live.stands exact (promises.heard c.args.self.now.client_reader live.client_reads live.client_size) in
-    let brought = c.in_ok-carried.ensures.brought tells in
+    let came = faithful_before c.args.self.now.number c.hear.new.self.number c.end_by_fault.new.self (g.C.Carrier.pipes c.carry.new.carrier) (g.C.Carrier.pipes c.end_by_fault.new.carrier)
+    (g.C.Carrier.began c.carry.new.carrier) (g.C.Carrier.began c.end_by_fault.new.carrier) (c.in_ok-heard.ensures.number ∙ c.in_ok-carried.ensures.number) c.end_by_fault.ensures.ties faithful in
+    let brought = c.in_ok-carried.ensures.brought came in
     let counted = c.in_ok-carried.ensures.counted in
     let piece : c.as_slice.result.now ≡ next_of (traffic pipe ToClient) k = c.as_slice.ensures.value ∙ brought.bytes ∙ ap (λ xs. xs ++ next_of (traffic pipe ToClient) k) c.new-piece.ensures.items in
     let reader = ap (λ l. l.client_reader) counted in
@@ -40,7 +42,7 @@ returns-in-Some-clause-refines g c = λ answers size engine p m tells played pro
     absurd (cc)
 
 pub returns-clause-refines : goal.returns-clause-refines
-returns-clause-refines g c = λ answers size engine p m tells played promises.
+returns-clause-refines g c = λ answers size engine p m faithful played promises.
     let live = played.lives c.requires.live in
     let conn : ℕ = c.args.self.now.number in
     let pipe : Option Pipe = g.C.Carrier.pipes c.args.carrier.now conn in
@@ -49,7 +51,9 @@ returns-clause-refines g c = λ answers size engine p m tells played promises.
     let here = live.stands.down.counts in
     let exact : k ≡ min k c.args.self.now.to_client = omega (arith, c.in_ok-carried.ensures.within, c.at_most-count.ensures.within) in
     let a = come_heard c.listens_alike.ensures c.args.self.now (seated p (client_at c.args.self.now.number (connections c.args.pool.now))) pipe m k k live.stands exact (promises.heard c.args.self.now.client_reader live.client_reads live.client_size) in
-    let brought = c.in_ok-carried.ensures.brought tells in
+    let came = faithful_before c.args.self.now.number c.hear.new.self.number c.end.new.self (g.C.Carrier.pipes c.carry.new.carrier) (g.C.Carrier.pipes c.end.new.carrier)
+    (g.C.Carrier.began c.carry.new.carrier) (g.C.Carrier.began c.end.new.carrier) (c.in_ok-heard.ensures.number ∙ c.in_ok-carried.ensures.number) c.end.ensures.ties faithful in
+    let brought = c.in_ok-carried.ensures.brought came in
     let counted = c.in_ok-carried.ensures.counted in
     let piece : c.as_slice.result.now ≡ next_of (traffic pipe ToClient) k = c.as_slice.ensures.value ∙ brought.bytes ∙ ap (λ xs. xs ++ next_of (traffic pipe ToClient) k) c.new-piece.ensures.items in
     let reader = ap (λ l. l.client_reader) counted in
@@ -134,7 +138,7 @@ pub returns-in-Some-clause-ties : goal.returns-in-Some-clause-ties
 returns-in-Some-clause-ties g c =
     ties_handed c.args.self.now.number c.args.self.now.number c.hear.new.self.number c.carry.new.self c.end_by_fault.new.self
     (g.C.Carrier.pipes c.args.carrier.now) (g.C.Carrier.pipes c.carry.new.carrier) (g.C.Carrier.pipes c.end_by_fault.new.carrier)
-    (g.C.Carrier.tells c.args.carrier.now) (g.C.Carrier.tells c.carry.new.carrier) (g.C.Carrier.tells c.end_by_fault.new.carrier)
+    (g.C.Carrier.began c.args.carrier.now) (g.C.Carrier.began c.carry.new.carrier) (g.C.Carrier.began c.end_by_fault.new.carrier)
     refl (c.in_ok-heard.ensures.number ∙ c.in_ok-carried.ensures.number) c.in_ok-carried.ensures.ties c.end_by_fault.ensures.ties
 
 pub returns-clause-number : goal.returns-clause-number
@@ -144,5 +148,5 @@ pub returns-clause-ties : goal.returns-clause-ties
 returns-clause-ties g c =
     ties_handed c.args.self.now.number c.args.self.now.number c.hear.new.self.number c.carry.new.self c.end.new.self
     (g.C.Carrier.pipes c.args.carrier.now) (g.C.Carrier.pipes c.carry.new.carrier) (g.C.Carrier.pipes c.end.new.carrier)
-    (g.C.Carrier.tells c.args.carrier.now) (g.C.Carrier.tells c.carry.new.carrier) (g.C.Carrier.tells c.end.new.carrier)
+    (g.C.Carrier.began c.args.carrier.now) (g.C.Carrier.began c.carry.new.carrier) (g.C.Carrier.began c.end.new.carrier)
     refl (c.in_ok-heard.ensures.number ∙ c.in_ok-carried.ensures.number) c.in_ok-carried.ensures.ties c.end.ensures.ties

@@ -20,13 +20,13 @@ use Rattle.tds_play.specs.declared.link.EventDone.{EventDone}
 use Rattle.tds_play.specs.Reads.{ServerIsFed, given_by}
 use Rattle.tds_play.proofs.any_bytes.Brought.{faulty_served, fed_so, served_reads}
 use Rattle.tds_play.specs.Ties.{IsTied}
-use Rattle.tds_play.proofs.Tying.{retied_reader, ties_handed}
+use Rattle.tds_play.proofs.Tying.{faithful_before, retied_reader, ties_handed}
 use Rattle.tds_play.proofs.any_bytes.Stays.{stays, stays_handed, stays_numbered}
 use Rattle.tds_play.proofs.link.Link.deliver_to_server.Goals as goal
 
 -- The server takes all that came, so it finds no fault.
 pub returns-clause-refines : goal.returns-clause-refines
-returns-clause-refines g c = λ size engine seat m tells played promises few.
+returns-clause-refines g c = λ size engine seat m faithful played promises few.
     let live = played.lives c.requires.live in
     let at = sym live.engine_is in
     let answers : Answers = answer_of (g.E.Engine.statements_of c.args.self.now.server.engine) (g.E.Engine.step_of c.args.self.now.server.engine) in
@@ -35,7 +35,9 @@ returns-clause-refines g c = λ size engine seat m tells played promises few.
     let exact : k ≡ min k c.args.self.now.to_server = omega (arith, c.in_ok-carried.ensures.within, c.at_most-count.ensures.within) in
     let all = subst (λ e. AllArrive g.row.E.Denot (answer_of (g.E.Engine.statements_of e) (g.E.Engine.step_of e)) c.args.self.now.server_reader m m.to_server.waiting) at (promises.arrive c.args.self.now.server_reader live.server_reads live.server_size) in
     let a = come_served c.serves_alike.ensures answers c.args.self.now seat pipe m k k live.stands exact all in
-    let brought = c.in_ok-carried.ensures.brought tells in
+    let came = faithful_before c.args.self.now.number c.carry.new.self.number c.end_by_fault.new.self (g.C.Carrier.pipes c.carry.new.carrier) (g.C.Carrier.pipes c.end_by_fault.new.carrier)
+    (g.C.Carrier.began c.carry.new.carrier) (g.C.Carrier.began c.end_by_fault.new.carrier) c.in_ok-carried.ensures.number c.end_by_fault.ensures.ties faithful in
+    let brought = c.in_ok-carried.ensures.brought came in
     let counted = c.in_ok-carried.ensures.counted in
     let piece : c.as_slice-piece.result.now ≡ next_of (traffic pipe ToServer) k = c.as_slice-piece.ensures.value ∙ brought.bytes ∙ ap (λ xs. xs ++ next_of (traffic pipe ToServer) k) c.new-piece.ensures.items in
     let reader = ap (λ l. l.server_reader) counted in
@@ -44,7 +46,7 @@ returns-clause-refines g c = λ size engine seat m tells played promises few.
     absurd (none_told c.in-Some.fault c.in_ok-feed_server.field-0 c.feed_server.result c.in-Some.is c.in_ok-feed_server.was (c.in_ok-feed_server.was ∙ fed.0))
 
 pub returns-in-None-clause-refines : goal.returns-in-None-clause-refines
-returns-in-None-clause-refines g c = λ size engine seat m tells played promises few.
+returns-in-None-clause-refines g c = λ size engine seat m faithful played promises few.
     let conn : ℕ = c.args.self.now.number in
     let live = played.lives c.requires.live in
     let at = sym live.engine_is in
@@ -58,14 +60,18 @@ returns-in-None-clause-refines g c = λ size engine seat m tells played promises
     let exact : k ≡ min k c.args.self.now.to_server = omega (arith, c.in_ok-carried.ensures.within, c.at_most-count.ensures.within) in
     let all = subst (λ e. AllArrive g.row.E.Denot (answer_of (g.E.Engine.statements_of e) (g.E.Engine.step_of e)) c.args.self.now.server_reader m m.to_server.waiting) at (promises.arrive c.args.self.now.server_reader live.server_reads live.server_size) in
     let a = come_served c.serves_alike.ensures answers c.args.self.now seat pipe m k k live.stands exact all in
-    let brought = c.in_ok-carried.ensures.brought tells in
+    let out = c.in_ok-lost-in-None.ensures in
+    let handed = faithful_before conn c.hand_over.new.self.number c.end.new.self (g.C.Carrier.pipes c.hand_over.new.carrier) (g.C.Carrier.pipes c.end.new.carrier)
+    (g.C.Carrier.began c.hand_over.new.carrier) (g.C.Carrier.began c.end.new.carrier) (out.number ∙ c.in_ok-carried.ensures.number) c.end.ensures.ties faithful in
+    let came = faithful_before conn c.carry.new.self.number c.hand_over.new.self (g.C.Carrier.pipes c.carry.new.carrier) (g.C.Carrier.pipes c.hand_over.new.carrier)
+    (g.C.Carrier.began c.carry.new.carrier) (g.C.Carrier.began c.hand_over.new.carrier) c.in_ok-carried.ensures.number out.ties handed in
+    let brought = c.in_ok-carried.ensures.brought came in
     let counted = c.in_ok-carried.ensures.counted in
     let piece : c.as_slice-piece.result.now ≡ next_of (traffic pipe ToServer) k = c.as_slice-piece.ensures.value ∙ brought.bytes ∙ ap (λ xs. xs ++ next_of (traffic pipe ToServer) k) c.new-piece.ensures.items in
     let reader = ap (λ l. l.server_reader) counted in
     let server = ap (λ l. l.server) counted in
     let fed = c.in_ok-feed_server.ensures.served a.packets a.rest a.then (rw (reader, piece) a.comes) (rw (server, c.new-reply.ensures.items) a.serves) in
     let turned = record c.carry.new.self { server = c.feed_server.new.server; server_reader = c.feed_server.new.reader } in
-    let out = c.in_ok-lost-in-None.ensures in
     let by = delivered_by c.args.self.now c.carry.new.self turned c.hand_over.new.self pipe mid after k a.rest c.as_slice.result.now c.in_ok-carried.carried.lost (cond c.in_ok-lost-in-None.lost 1 0)
     (c.requires.tied.holds c.requires.live).is_open counted refl (ap (λ r. r.taken) fed.2) brought.pipe
     (λ empty. let h = c.hand_over.ensures.nothing empty in (h.1, ap (λ k. g.C.Carrier.pipes k conn) h.2))
@@ -186,7 +192,7 @@ pub returns-clause-ties : goal.returns-clause-ties
 returns-clause-ties g c =
     ties_handed c.args.self.now.number c.args.self.now.number c.carry.new.self.number c.carry.new.self c.end_by_fault.new.self
     (g.C.Carrier.pipes c.args.carrier.now) (g.C.Carrier.pipes c.carry.new.carrier) (g.C.Carrier.pipes c.end_by_fault.new.carrier)
-    (g.C.Carrier.tells c.args.carrier.now) (g.C.Carrier.tells c.carry.new.carrier) (g.C.Carrier.tells c.end_by_fault.new.carrier)
+    (g.C.Carrier.began c.args.carrier.now) (g.C.Carrier.began c.carry.new.carrier) (g.C.Carrier.began c.end_by_fault.new.carrier)
     refl c.in_ok-carried.ensures.number c.in_ok-carried.ensures.ties c.end_by_fault.ensures.ties
 
 pub returns-in-None-clause-number : goal.returns-in-None-clause-number
@@ -199,10 +205,10 @@ returns-in-None-clause-ties g c =
     let out = c.in_ok-lost-in-None.ensures in
     ties_handed conn conn c.hand_over.new.self.number c.hand_over.new.self c.end.new.self
     (g.C.Carrier.pipes c.args.carrier.now) (g.C.Carrier.pipes c.hand_over.new.carrier) (g.C.Carrier.pipes c.end.new.carrier)
-    (g.C.Carrier.tells c.args.carrier.now) (g.C.Carrier.tells c.hand_over.new.carrier) (g.C.Carrier.tells c.end.new.carrier)
+    (g.C.Carrier.began c.args.carrier.now) (g.C.Carrier.began c.hand_over.new.carrier) (g.C.Carrier.began c.end.new.carrier)
     refl (out.number ∙ here)
     (ties_handed conn conn c.carry.new.self.number c.carry.new.self c.hand_over.new.self
     (g.C.Carrier.pipes c.args.carrier.now) (g.C.Carrier.pipes c.carry.new.carrier) (g.C.Carrier.pipes c.hand_over.new.carrier)
-    (g.C.Carrier.tells c.args.carrier.now) (g.C.Carrier.tells c.carry.new.carrier) (g.C.Carrier.tells c.hand_over.new.carrier)
+    (g.C.Carrier.began c.args.carrier.now) (g.C.Carrier.began c.carry.new.carrier) (g.C.Carrier.began c.hand_over.new.carrier)
     refl here c.in_ok-carried.ensures.ties out.ties)
     c.end.ensures.ties

@@ -64,7 +64,7 @@ returns-clause-columns g c = c.in_ok-cancel_request.ensures.columns
 pub returns-clause-ties : goal.returns-clause-ties
 returns-clause-ties g c =
     ties_numbered c.args.self.now.number c.cancel_request.new.self.number c.hand_over.new.self
-    (g.C.Carrier.pipes c.args.carrier.now) (g.C.Carrier.pipes c.hand_over.new.carrier) (g.C.Carrier.tells c.args.carrier.now) (g.C.Carrier.tells c.hand_over.new.carrier)
+    (g.C.Carrier.pipes c.args.carrier.now) (g.C.Carrier.pipes c.hand_over.new.carrier) (g.C.Carrier.began c.args.carrier.now) (g.C.Carrier.began c.hand_over.new.carrier)
     c.in_ok-cancel_request.ensures.number c.in_ok-lost.ensures.ties
 
 pub returns-clause-session : goal.returns-clause-session

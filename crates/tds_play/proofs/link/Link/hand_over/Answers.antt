@@ -8,7 +8,7 @@ use Rattle.tds_play.proofs.link.Link.hand_over.Goals as goal
 -- ---- Nothing
 
 pub returns-then-is_empty-clause-ties : goal.returns-then-is_empty-clause-ties
-returns-then-is_empty-clause-ties g c = record { tied = c.requires.tied; others = λ other differs. refl; tells = λ told. told }
+returns-then-is_empty-clause-ties g c = record { tied = c.requires.tied; others = λ other differs. refl; begun = refl; faithful = λ f. f }
 
 pub returns-then-is_empty-clause-still : goal.returns-then-is_empty-clause-still
 returns-then-is_empty-clause-still g c = stays c.args.self.now (g.C.Carrier.pipes c.args.carrier.now c.args.self.now.number)
@@ -31,8 +31,8 @@ returns-clause-rest g c = recounted_so c.args.self.now c.went.new.self c.args.di
 pub returns-clause-ties : goal.returns-clause-ties
 returns-clause-ties g c =
     handed_ties c.args.self.now c.went.new.self c.args.direction _ c.args.bytes.now (cond c.in_ok-lost.lost 1 0)
-    (g.C.Carrier.pipes c.args.carrier.now) (g.C.Carrier.pipes c.hand_bytes.new.carrier) (g.C.Carrier.tells c.args.carrier.now) (g.C.Carrier.tells c.hand_bytes.new.carrier)
-    c.requires.tied c.requires.live refl c.went.ensures c.in_ok-lost.ensures.handed c.in_ok-lost.ensures.tells
+    (g.C.Carrier.pipes c.args.carrier.now) (g.C.Carrier.pipes c.hand_bytes.new.carrier) (g.C.Carrier.began c.args.carrier.now) (g.C.Carrier.began c.hand_bytes.new.carrier)
+    c.requires.tied c.requires.live refl c.went.ensures c.in_ok-lost.ensures.handed c.in_ok-lost.ensures.begun
 
 pub returns-clause-handed : goal.returns-clause-handed
 returns-clause-handed g c = λ full. c.in_ok-lost.ensures.handed.here

@@ -73,7 +73,7 @@ returns-clause-ties g c =
     let out = c.in_ok-lost.ensures in
     ties_handed c.args.self.now.number c.args.self.now.number c.hand_over.new.self.number c.hand_over.new.self c.end.new.self
     (g.C.Carrier.pipes c.args.carrier.now) (g.C.Carrier.pipes c.hand_over.new.carrier) (g.C.Carrier.pipes c.end.new.carrier)
-    (g.C.Carrier.tells c.args.carrier.now) (g.C.Carrier.tells c.hand_over.new.carrier) (g.C.Carrier.tells c.end.new.carrier)
+    (g.C.Carrier.began c.args.carrier.now) (g.C.Carrier.began c.hand_over.new.carrier) (g.C.Carrier.began c.end.new.carrier)
     refl out.number out.ties c.end.ensures.ties
 
 pub returns-clause-sent : goal.returns-clause-sent

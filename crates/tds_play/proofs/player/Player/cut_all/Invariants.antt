@@ -10,7 +10,7 @@ abbrev pub invariant-links : goal.invariant-links
 invariant-links g l =
     let pipes = g.C.Carrier.pipes in
     record {
-      keeps : CutsSome l.fn.self l.self (pipes l.fn.carrier) (pipes l.carrier) (g.C.Carrier.tells l.fn.carrier) (g.C.Carrier.tells l.carrier);
+      keeps : CutsSome l.fn.self l.self (pipes l.fn.carrier) (pipes l.carrier) (g.C.Carrier.began l.fn.carrier) (g.C.Carrier.began l.carrier);
       cut : AreCutTo l.place l.self.links.items;
       refines : (size : ℕ) (engine : g.row.E.Denot) (cs : List Connection) → RepresentConnections 1 size engine (all_of l.fn.self) (pipes l.fn.carrier) cs
           → RepresentConnections 1 size engine (all_of l.self) (pipes l.carrier) (cut_front l.place cs);

@@ -4,12 +4,12 @@ use Rattle.tds_play.proofs.player.Player.step_at.Goals as goal
 
 pub returns-in-Resume : goal.returns-in-Resume
 returns-in-Resume g c =
-    of_quiet (λ x. answer_of (g.E.Engine.statements_of x) (g.E.Engine.step_of x)) c.args.event.now _ c.args.place c.args.self.now c.resume.new.self (g.C.Carrier.pipes c.args.carrier.now) (g.C.Carrier.tells c.args.carrier.now) c.resume.result c.in-Resume.is
+    of_quiet (λ x. answer_of (g.E.Engine.statements_of x) (g.E.Engine.step_of x)) c.args.event.now _ c.args.place c.args.self.now c.resume.new.self (g.C.Carrier.pipes c.args.carrier.now) (g.C.Carrier.began c.args.carrier.now) c.resume.result c.in-Resume.is
     (c.resume.ensures (g.C.Carrier.pipes c.args.carrier.now) c.requires.tied)
 
 pub returns-in-Keep : goal.returns-in-Keep
 returns-in-Keep g c =
-    of_quiet (λ x. answer_of (g.E.Engine.statements_of x) (g.E.Engine.step_of x)) c.args.event.now _ c.args.place c.args.self.now c.keep.new.self (g.C.Carrier.pipes c.args.carrier.now) (g.C.Carrier.tells c.args.carrier.now) c.keep.result c.in-Keep.is
+    of_quiet (λ x. answer_of (g.E.Engine.statements_of x) (g.E.Engine.step_of x)) c.args.event.now _ c.args.place c.args.self.now c.keep.new.self (g.C.Carrier.pipes c.args.carrier.now) (g.C.Carrier.began c.args.carrier.now) c.keep.result c.in-Keep.is
     (c.keep.ensures (g.C.Carrier.pipes c.args.carrier.now) c.requires.tied)
 
 pub returns-in-GiveBack : goal.returns-in-GiveBack

@@ -17,7 +17,7 @@ use Rattle.tds_play.specs.Reads.{IsReading}
 use Rattle.tds_play.specs.Seats.{Seat, behind_event, placed_behind, seated}
 use Rattle.tds_play.specs.declared.seat.Held.{Held}
 use Rattle.tds_play.proofs.Failing.{settled_as}
-use Rattle.tds_play.proofs.Tying.{ties_handed}
+use Rattle.tds_play.proofs.Tying.{faithful_before, ties_handed}
 use Rattle.tds_play.proofs.any_bytes.Brought.{gone_on}
 use Rattle.tds_play.proofs.any_bytes.Stays.{stays_numbered}
 use Rattle.tds_play.proofs.pooled.Numbers.{IsIn}
@@ -68,7 +68,7 @@ returns-clause-reads g c = λ size reads.
     (λ live. ap (λ (x : ClientSession). x.columns) (c.in_ok-settle.ensures.client live) ∙ ap (λ o. (seat_by h o).client.columns) seat)
 
 pub returns-clause-refines : goal.returns-clause-refines
-returns-clause-refines g c = λ setup w m engine tells played gives few next.
+returns-clause-refines g c = λ setup w m engine faithful played gives few next.
     let n : ℕ = c.args.self.now.link.number in
     let h : ℕ = c.args.self.now.holder in
     let mid : PoolState = c.act.new.pool in
@@ -81,7 +81,9 @@ returns-clause-refines g c = λ setup w m engine tells played gives few next.
     let old : Option Pipe = g.C.Carrier.pipes c.args.carrier.now n in
     let seat : seat_in c.args.self.now c.args.pool.now ≡ seated p (client_at n (connections c.args.pool.now)) =
     ap (seat_by h) it.there ∙ sym (ap (seated p) lent) in
-    let acted = c.in_ok-done.ensures.refines setup w m engine p tells (subst (λ (x : Seat). RepresentsConnection n size engine c.args.self.now.link x old m) seat played) gives few next in
+    let before = faithful_before n c.act.new.self.number c.settle.new.self.link (g.C.Carrier.pipes c.act.new.carrier) (g.C.Carrier.pipes c.settle.new.carrier)
+    (g.C.Carrier.began c.act.new.carrier) (g.C.Carrier.began c.settle.new.carrier) c.in_ok-done.ensures.number c.in_ok-settle.ensures.ties faithful in
+    let acted = c.in_ok-done.ensures.refines setup w m engine p before (subst (λ (x : Seat). RepresentsConnection n size engine c.args.self.now.link x old m) seat played) gives few next in
     let found : numbered c.act.new.self.number (connections mid) ≡ Some (with s it.connection) =
     ap (λ (k : ℕ). numbered k (connections mid)) c.in_ok-done.ensures.number
     ∙ c.in_ok-done.ensures.client.here ∙ ap (option_map (with s)) it.there in
@@ -110,7 +112,7 @@ returns-clause-ties g c =
     let n : ℕ = c.args.self.now.link.number in
     ties_handed n n c.act.new.self.number c.act.new.self c.settle.new.self.link
     (g.C.Carrier.pipes c.args.carrier.now) (g.C.Carrier.pipes c.act.new.carrier) (g.C.Carrier.pipes c.settle.new.carrier)
-    (g.C.Carrier.tells c.args.carrier.now) (g.C.Carrier.tells c.act.new.carrier) (g.C.Carrier.tells c.settle.new.carrier)
+    (g.C.Carrier.began c.args.carrier.now) (g.C.Carrier.began c.act.new.carrier) (g.C.Carrier.began c.settle.new.carrier)
     refl c.in_ok-done.ensures.number c.in_ok-done.ensures.ties c.in_ok-settle.ensures.ties
 
 pub returns-clause-failed : goal.returns-clause-failed

@@ -188,7 +188,7 @@ returns-in-Ok-give_back-clause-ties g c =
     let n : ℕ = c.args.self.now.link.number in
     ties_handed n n c.give_up.new.self.number c.give_up.new.self c.come_back.new.self.link
     (g.C.Carrier.pipes c.args.carrier.now) (g.C.Carrier.pipes c.give_up.new.carrier) (g.C.Carrier.pipes c.come_back.new.carrier)
-    (g.C.Carrier.tells c.args.carrier.now) (g.C.Carrier.tells c.give_up.new.carrier) (g.C.Carrier.tells c.come_back.new.carrier)
+    (g.C.Carrier.began c.args.carrier.now) (g.C.Carrier.began c.give_up.new.carrier) (g.C.Carrier.began c.come_back.new.carrier)
     refl c.in-Ok-give_up.ensures.number c.in-Ok-give_up.ensures.ties c.come_back.ensures.ties
 
 pub returns-in-Ok-give_back-clause-failed : goal.returns-in-Ok-give_back-clause-failed

@@ -1,6 +1,6 @@
 use Rattle.std.proofs.Common.{◌≡◌, ◌∙◌, ◌+◌, ◌++◌, ℕ, List, length, take, drop, sym, ap, rules}
 use Rattle.std.proofs.Math.Seq.{take-add, drop-append_seam}
-use Rattle.tds_play.proofs.memory.Queue.take.Goals as goal
+use Rattle.tds_play.proofs.memory.queue.Queue.take.Goals as goal
 
 -- The bytes up to the new place are those up to the old one, and then those that were appended.
 taken_next : (items out new : List ℕ) (place count : ℕ) → new ≡ out ++ take count (drop place items) → take (place + count) items ≡ take place items ++ drop (length out) new
@@ -10,6 +10,7 @@ taken_next items out new place count e =
 
 pub returns-clause-queue : goal.returns-clause-queue
 returns-clause-queue c =
-    let next : c.extend_from_slice.new.self.items ≡ c.args.out.now.items ++ take c.args.count (drop c.self.inside.place c.self.inside.bytes.items) = search rules in
-    let came = taken_next c.self.inside.bytes.items c.args.out.now.items c.extend_from_slice.new.self.items c.self.inside.place c.args.count next in
+    let q = c.args.self.now in
+    let next : c.extend_from_slice.new.self.items ≡ c.args.out.now.items ++ take c.args.count (drop q.place q.bytes.items) = search rules in
+    let came = taken_next q.bytes.items c.args.out.now.items c.extend_from_slice.new.self.items q.place c.args.count next in
     search rules

@@ -1,0 +1,49 @@
+-- What each event of a play does at its carrier: the calls that it makes there, by what they leave.
+use Rattle.std.specs.Prelude.{ℕ, suc, ◌≡◌, List, [], ◌∷◌, ◌++◌, length, Option}
+use Rattle.tds_session.specs.Answer.{Answers}
+use Rattle.tds_world.specs.declared.event.Setup.{Setup}
+use Rattle.tds_world.specs.Losses.{Played, is_lost, link_of, world_then}
+use Rattle.tds_world.specs.World.{World, new_world}
+use Rattle.tds_play.specs.Failures.{FailsOn, all_known}
+use Rattle.tds_play.specs.Pipe.{AreSameBeyond, Begun, Pipe}
+use Rattle.tds_play.specs.WholePlay.{CarriesBytesOf, CutsThoseOf, HandsBytesOf}
+
+-- What was handed over on each connection, what came there, and whether it is cut, is the world's.
+pub record StandsAs (w : World) (pipes : ℕ → Option Pipe) : Type 0 where
+  pub handed : HandsBytesOf w pipes
+  pub came : CarriesBytesOf w pipes
+  pub cut : CutsThoseOf w pipes
+
+-- What an event does at a carrier, between being told of and the next one: it hands over, lets come and cuts
+-- what takes the world before it to the world after it, on those connections and on no other. Where it is
+-- marked lost, calls that it makes fail, on the connection whose link it uses; where it isn't, none fails.
+pub record Does (setup : Setup) (answers : Answers) (w : World) (p : Played) (before after : ℕ → Option Pipe)
+    : Type 0 where
+  pub begins : StandsAs w before
+  pub ends : StandsAs (world_then setup answers w p) after
+  pub others : AreSameBeyond (length (world_then setup answers w p).connections) before after
+  pub fails : FailsOn p.event (is_lost p.loss) (link_of setup w p.event)
+      (all_known (length w.connections) before)
+      (all_known (length (world_then setup answers w p).connections) after)
+
+-- What there is when the next event begins, or in the end.
+abbrev pub next_there : List Begun → (ℕ → Option Pipe) → ℕ → Option Pipe
+next_there [] last = last
+next_there (b ∷ bs) last = b.pipes
+
+-- The carrier was told of each of these events in order, the first of which has this number, and each does
+-- what it does in the model before the next one is told of.
+abbrev pub DoInTurn : Setup → Answers → ℕ → List Played → List Begun → (ℕ → Option Pipe) → World → Type 0
+DoInTurn setup answers n [] [] last w = Unit {0}
+DoInTurn setup answers n [] (b ∷ bs) last w = ⊥
+DoInTurn setup answers n (p ∷ ps) [] last w = ⊥
+DoInTurn setup answers n (p ∷ ps) (b ∷ bs) last w =
+    (b.event ≡ n) × Does setup answers w p b.pipes (next_there bs last)
+    × DoInTurn setup answers (suc n) ps bs last (world_then setup answers w p)
+
+-- The calls of a play from nothing: what its carrier was told of, and what each event did there.
+pub record MakesCalls (setup : Setup) (answers : Answers) (ps : List Played) (old new : List Begun)
+    (pipes : ℕ → Option Pipe) : Type 0 where
+  pub told : List Begun
+  pub since : new ≡ old ++ told
+  pub calls : DoInTurn setup answers 1 ps told pipes new_world
