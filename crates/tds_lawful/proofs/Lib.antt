@@ -1,0 +1,9 @@
+pub mod Hears
+pub mod Chains
+pub mod Flow
+pub mod Coming
+pub mod Keeps
+pub mod Plans
+pub mod Agrees
+pub mod Past
+pub mod Runs

@@ -1,0 +1,46 @@
+-- A run from the login, as a plan; and the laws of it.
+use Rattle.std.proofs.Common.{◌≡◌, ◌∙◌, ℕ, Bool, true, false, List, [], ◌∷◌, refl, sym, ap, subst}
+use Rattle.tds_service.specs.Line.{Line, Act, Idle, new_line}
+use Rattle.tds_service.specs.History.{Done, history, line_after}
+use Rattle.tds_lawful.specs.Lawful.{Engine, IsLawful}
+use Rattle.tds_lawful.specs.Link.{IsRun, Link, Move, Runs, here, link_after, new_link}
+use Rattle.tds_lawful.specs.Answering.{NoFault}
+use Rattle.tds_lawful.specs.Agreeing.{AllInNamed, IsQuiet}
+use Rattle.tds_lawful.proofs.Flow.{Quiet, FlowOn}
+use Rattle.tds_lawful.proofs.Plans.{Follows, Planned, acts_in, flow_after, follows, moves_by}
+use Rattle.tds_lawful.proofs.Agrees.{all_named, no_fault, quiet_on}
+
+-- Behind a login all is quiet.
+pub new_flow : {V T : Type 0} (engine : Engine V T) → FlowOn engine new_line (new_link engine)
+new_flow engine = record { up = refl; still = record { down = refl; due = refl; transaction = refl; done = refl } }
+
+run_of : {V T : Type 0} (engine : Engine V T) (acts : List (Act T)) (moves : List (Move T)) → IsRun engine moves (history new_line acts) → Follows new_line acts moves
+run_of engine acts moves run = follows new_line acts moves run.ours
+
+planned : {V T : Type 0} (engine : Engine V T) (acts : List (Act T)) (moves : List (Move T)) (run : IsRun engine moves (history new_line acts)) (f : Follows new_line acts moves)
+    → Runs engine (new_link engine) (moves_by new_line f.plan)
+planned {V} {T} engine acts moves run f = subst (λ (ms : List (Move T)). Runs engine (new_link engine) ms) f.moves_are run.runs
+
+pub never_faults : {V T : Type 0} (engine : Engine V T) (acts : List (Act T)) (moves : List (Move T)) → IsLawful engine
+    → IsRun engine moves (history new_line acts) → NoFault (history new_line acts)
+never_faults {V} {T} engine acts moves lawful run =
+    let f = run_of engine acts moves run in
+    subst (λ (ds : List (Done T)). NoFault ds) (ap here (sym f.moves_are) ∙ run.ours)
+      (no_fault engine lawful new_line (new_link engine) f.plan tt (new_flow engine) (planned engine acts moves run f))
+
+pub idle_quiet : {V T : Type 0} (engine : Engine V T) (acts : List (Act T)) (moves : List (Move T)) → IsLawful engine
+    → IsRun engine moves (history new_line acts) → (line_after new_line acts).stage ≡ Idle
+    → IsQuiet (line_after new_line acts) (link_after engine (new_link engine) moves)
+idle_quiet {V} {T} engine acts moves lawful run e =
+    let f = run_of engine acts moves run in
+    quiet_on engine (line_after new_line acts) (link_after engine (new_link engine) moves) e
+      (subst (λ (xs : List (Act T)). FlowOn engine (line_after new_line xs) (link_after engine (new_link engine) moves)) (sym f.acts_are)
+        (subst (λ (ms : List (Move T)). FlowOn engine (line_after new_line (acts_in f.plan)) (link_after engine (new_link engine) ms)) (sym f.moves_are)
+          (flow_after engine lawful new_line (new_link engine) f.plan (new_flow engine) (planned engine acts moves run f))))
+
+pub runs_in_named : {V T : Type 0} (engine : Engine V T) (acts : List (Act T)) (moves : List (Move T)) → IsLawful engine
+    → IsRun engine moves (history new_line acts) → AllInNamed engine (new_link engine) moves
+runs_in_named {V} {T} engine acts moves lawful run =
+    let f = run_of engine acts moves run in
+    subst (λ (ms : List (Move T)). AllInNamed engine (new_link engine) ms) (sym f.moves_are)
+      (all_named engine lawful new_line (new_link engine) f.plan tt (new_flow engine) (planned engine acts moves run f))

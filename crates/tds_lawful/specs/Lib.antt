@@ -1,0 +1,4 @@
+pub mod Lawful
+pub mod Link
+pub mod Answering
+pub mod Agreeing

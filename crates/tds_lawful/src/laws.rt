@@ -1,0 +1,35 @@
+//! What holds of one connection in front of a server that keeps the rules, whatever it answers, and
+//! whatever is called, in whatever order. Each function does nothing when it runs: its contract is the
+//! law.
+
+ghost use Rattle.std.specs.Prelude.{◌≡◌, ℕ, List, Bool, true};
+ghost use Rattle.tds_service.specs.Line.{Act, Idle, new_line};
+ghost use Rattle.tds_service.specs.History.{history, line_after};
+ghost use Rattle.tds_lawful.specs.Lawful.{Engine, IsLawful};
+ghost use Rattle.tds_lawful.specs.Link.{IsRun, Move, link_after, new_link};
+ghost use Rattle.tds_lawful.specs.Answering.{NoFault};
+ghost use Rattle.tds_lawful.specs.Agreeing.{AllInNamed, IsQuiet};
+
+/// Nothing that comes is a fault, until the connection is lost.
+pub fn no_fault<V, T>()
+    ensures { (engine : Engine V T) (acts : List (Act T)) (moves : List (Move T))
+        → IsLawful engine → IsRun engine moves (history new_line acts)
+        → NoFault (history new_line acts) }
+{}
+
+/// Where a connection is idle nothing is on its way, the server has nothing to say, and both ends are
+/// in one transaction.
+pub fn idle_is_quiet<V, T>()
+    ensures { (engine : Engine V T) (acts : List (Act T)) (moves : List (Move T))
+        → IsLawful engine → IsRun engine moves (history new_line acts)
+        → (line_after new_line acts).stage ≡ Idle
+        → IsQuiet (line_after new_line acts) (link_after engine (new_link engine) moves) }
+{}
+
+/// A request runs in the transaction that its header names, the one heard last when it was asked, or in
+/// none behind its full reset (MS-TDS 2.2.5.3.2).
+pub fn own_transaction<V, T>()
+    ensures { (engine : Engine V T) (acts : List (Act T)) (moves : List (Move T))
+        → IsLawful engine → IsRun engine moves (history new_line acts)
+        → AllInNamed engine (new_link engine) moves }
+{}

@@ -1,0 +1,4 @@
+//! What holds of the connections of `tds_service` in front of a server that keeps the rules.
+#![tactic(auto)]
+
+pub mod laws;
