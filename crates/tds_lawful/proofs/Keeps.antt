@@ -20,10 +20,10 @@ use Rattle.tds_lawful.proofs.Coming.{line, came, append_nothing, nothing_comes, 
 -- ---- The server takes a packet
 
 -- no packet is on its way
-none_taken : {V T : Type 0} (link : Link V T) → link.up ≡ [] → TakesNext link.up link.server.due → ⊥
+pub none_taken : {V T : Type 0} (link : Link V T) → link.up ≡ [] → TakesNext link.up link.server.due → ⊥
 none_taken link e t = subst (λ (u : List Up). TakesNext u link.server.due) e t
 
-takes_part : {V T : Type 0} (engine : Engine V T) (n : ℕ) (h : Heard) (link : Link V T) (u : Uploads n h link (AreParts n h.mark)) (packets : List Packet)
+pub takes_part : {V T : Type 0} (engine : Engine V T) (n : ℕ) (h : Heard) (link : Link V T) (u : Uploads n h link (AreParts n h.mark)) (packets : List Packet)
     → link.up ≡ ups link.asking packets → AreParts n h.mark link.server.reset packets → TakesNext (ups link.asking packets) link.server.due
     → Uploads n h (taken engine link (ups link.asking packets)) (AreParts n h.mark)
 takes_part engine n h link u [] e are t = absurd t
@@ -37,7 +37,7 @@ takes_part engine n h link u (Ignore request ∷ packets) e are t = absurd are
 takes_part engine n h link u (Attention ∷ packets) e are t = absurd are
 
 -- the answer to the request that is there now
-answers_it : {V T : Type 0} (engine : Engine V T) (lawful : IsLawful engine) (h : Heard) (link : Link V T) (s : Still h link) (request : ℕ) (reset : Option Reset)
+pub answers_it : {V T : Type 0} (engine : Engine V T) (lawful : IsLawful engine) (h : Heard) (link : Link V T) (s : Still h link) (request : ℕ) (reset : Option Reset)
     → reset ≡ h.mark
     → IsAnswer engine.settings h.mark link.server.session false (link.down ++ engine.answers request link.server.session reset link.asking.named)
 answers_it {V} {T} engine lawful h link s request reset e =
@@ -45,7 +45,7 @@ answers_it {V} {T} engine lawful h link s request reset e =
       (subst (λ (m : Option Reset). IsAnswer engine.settings m link.server.session false (engine.answers request link.server.session reset link.asking.named)) e
         (lawful.answers request link.server.session reset link.asking.named))
 
-no_down : {V T : Type 0} (h : Heard) (link : Link V T) → Still h link → link.server.session ≡ behind link.server.session link.down
+pub no_down : {V T : Type 0} (h : Heard) (link : Link V T) → Still h link → link.server.session ≡ behind link.server.session link.down
 no_down {V} {T} h link s = ap (behind link.server.session) (sym s.down)
 
 takes_whole : {V T : Type 0} (engine : Engine V T) (lawful : IsLawful engine) (n : ℕ) (h : Heard) (link : Link V T) (named : Named n h link) (s : Still h link) (packets : List Packet)
@@ -179,13 +179,13 @@ pub moves_down : {V T : Type 0} (down due : List (Step V T)) (step : Step V T) �
 moves_down [] due step = refl
 moves_down {V} {T} (x ∷ down) due step = ap (λ (xs : List (Step V T)). x ∷ xs) (moves_down down due step)
 
-none_due : {V T : Type 0} (due : List (Step V T)) → due ≡ [] → HasSome due → ⊥
+pub none_due : {V T : Type 0} (due : List (Step V T)) → due ≡ [] → HasSome due → ⊥
 none_due {V} {T} due e t = subst (λ (d : List (Step V T)). HasSome d) e t
 
 said_behind : {V T : Type 0} (now s : Session V) (down : List (Step V T)) (step : Step V T) → now ≡ behind s down → session_behind now step ≡ behind s (down ++ step ∷ [])
 said_behind {V} {T} now s down step e = ap (λ (x : Session V). session_behind x step) e ∙ sym (behind_append s down (step ∷ []))
 
-speaks_answer : {V T : Type 0} (engine : Engine V T) (h : Heard) (link : Link V T) (due : List (Step V T)) → link.server.due ≡ due → HasSome due
+pub speaks_answer : {V T : Type 0} (engine : Engine V T) (h : Heard) (link : Link V T) (due : List (Step V T)) → link.server.due ≡ due → HasSome due
     → Answers engine h link → Answers engine h (spoken link due)
 speaks_answer engine h link [] e t a = absurd t
 speaks_answer {V} {T} engine h link (step ∷ due) e t a = record {
@@ -296,7 +296,7 @@ quiet_before h after link d e f = record {
   still = record { down = f.still.down; due = f.still.due; transaction = d ∙ f.still.transaction; done = e ∙ f.still.done };
 }
 
-still_after : {V T : Type 0} (h : Heard) (link : Link V T) (u : List Up) → Still h link → Still h (record { up = u; server = link.server; down = link.down; asking = link.asking })
+pub still_after : {V T : Type 0} (h : Heard) (link : Link V T) (u : List Up) → Still h link → Still h (record { up = u; server = link.server; down = link.down; asking = link.asking })
 still_after h link u s = record { down = s.down; due = s.due; transaction = s.transaction; done = s.done }
 
 plain : (final : Bool) → acknowledged (done_of final) ≡ false

@@ -6,4 +6,6 @@ pub mod Keeps
 pub mod Plans
 pub mod Agrees
 pub mod Past
+pub mod Own
+pub mod Later
 pub mod Runs

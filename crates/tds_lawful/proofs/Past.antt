@@ -77,7 +77,7 @@ IsPastOn l r = IsPast l.stage l.asked r
 abbrev pub StaysPast : {T : Type 0} → ℕ → Act T → Turn T → Type 0
 StaysPast r a t = Untold r (done_by a t) × IsPastOn t.line r
 
-to_other : {T : Type 0} (n r : ℕ) (tokens : List T) → (n == r) ≡ false → (if n == r then tokens else []) ≡ []
+pub to_other : {T : Type 0} (n r : ℕ) (tokens : List T) → (n == r) ≡ false → (if n == r then tokens else []) ≡ []
 to_other {T} n r tokens e = ap (λ (b : Bool). if b then tokens else []) e
 
 past_reads : {T : Type 0} (n r : ℕ) (h : Heard) (part : Part T) (ends : Bool) (u : Heard) (result : Result Heard ListenFault) → r < n

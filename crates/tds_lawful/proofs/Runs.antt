@@ -1,13 +1,16 @@
 -- A run from the login, as a plan; and the laws of it.
-use Rattle.std.proofs.Common.{◌≡◌, ◌∙◌, ℕ, Bool, true, false, List, [], ◌∷◌, refl, sym, ap, subst}
+use Rattle.std.proofs.Common.{◌≡◌, ◌∙◌, ℕ, zero, suc, Bool, true, false, List, [], ◌∷◌, refl, sym, ap, subst, arith}
 use Rattle.tds_service.specs.Line.{Line, Act, Idle, new_line}
-use Rattle.tds_service.specs.History.{Done, history, line_after}
-use Rattle.tds_lawful.specs.Lawful.{Engine, IsLawful}
+use Rattle.tds_service.specs.History.{Done, given, history, line_after}
+use Rattle.tds_lawful.specs.Lawful.{Engine, IsLawful, told_of}
 use Rattle.tds_lawful.specs.Link.{IsRun, Link, Move, Runs, here, link_after, new_link}
-use Rattle.tds_lawful.specs.Answering.{NoFault}
+use Rattle.tds_lawful.specs.Answering.{Begins, NoFault, answered, finishes}
 use Rattle.tds_lawful.specs.Agreeing.{AllInNamed, IsQuiet}
 use Rattle.tds_lawful.proofs.Flow.{Quiet, FlowOn}
 use Rattle.tds_lawful.proofs.Plans.{Follows, Planned, acts_in, flow_after, follows, moves_by}
+use Rattle.tds_lawful.proofs.Past.{IsOwn, own_silent, past}
+use Rattle.tds_lawful.proofs.Own.{OwnOf, ds_by}
+use Rattle.tds_lawful.proofs.Later.{own_later}
 use Rattle.tds_lawful.proofs.Agrees.{all_named, no_fault, quiet_on}
 
 -- Behind a login all is quiet.
@@ -44,3 +47,20 @@ runs_in_named {V} {T} engine acts moves lawful run =
     let f = run_of engine acts moves run in
     subst (λ (ms : List (Move T)). AllInNamed engine (new_link engine) ms) (sym f.moves_are)
       (all_named engine lawful new_line (new_link engine) f.plan tt (new_flow engine) (planned engine acts moves run f))
+
+-- What each request is told is of its own answer. There is no request 0.
+own_zero : {V T : Type 0} (engine : Engine V T) (plan : List (Planned T)) → OwnOf engine 0 new_line (new_link engine) plan
+own_zero engine plan = own_silent 0 (ds_by new_line plan) _ (past 0 new_line plan (omega arith))
+
+own_planned : {V T : Type 0} (engine : Engine V T) (lawful : IsLawful engine) (r : ℕ) (plan : List (Planned T)) → Runs engine (new_link engine) (moves_by new_line plan)
+    → OwnOf engine r new_line (new_link engine) plan
+own_planned engine lawful zero plan runs = own_zero engine plan
+own_planned engine lawful (suc r) plan runs = own_later engine lawful (suc r) 0 Idle new_line.heard (new_link engine) plan (new_flow engine) (omega arith) runs
+
+pub own_answer : {V T : Type 0} (engine : Engine V T) (acts : List (Act T)) (moves : List (Move T)) (r : ℕ) → IsLawful engine
+    → IsRun engine moves (history new_line acts) → IsOwn r (history new_line acts) (answered engine (new_link engine) r moves)
+own_answer {V} {T} engine acts moves r lawful run =
+    let f = run_of engine acts moves run in
+    subst (λ (ds : List (Done T)). IsOwn r ds (answered engine (new_link engine) r moves)) run.ours
+      (subst (λ (ms : List (Move T)). IsOwn r (here ms) (answered engine (new_link engine) r ms)) (sym f.moves_are)
+        (own_planned engine lawful r f.plan (planned engine acts moves run f)))

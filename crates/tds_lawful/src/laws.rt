@@ -4,11 +4,23 @@
 
 ghost use Rattle.std.specs.Prelude.{◌≡◌, ℕ, List, Bool, true};
 ghost use Rattle.tds_service.specs.Line.{Act, Idle, new_line};
-ghost use Rattle.tds_service.specs.History.{history, line_after};
-ghost use Rattle.tds_lawful.specs.Lawful.{Engine, IsLawful};
+ghost use Rattle.tds_service.specs.History.{given, history, line_after};
+ghost use Rattle.tds_lawful.specs.Lawful.{Engine, IsLawful, told_of};
 ghost use Rattle.tds_lawful.specs.Link.{IsRun, Move, link_after, new_link};
-ghost use Rattle.tds_lawful.specs.Answering.{NoFault};
+ghost use Rattle.tds_lawful.specs.Answering.{Begins, NoFault, answered, finishes};
 ghost use Rattle.tds_lawful.specs.Agreeing.{AllInNamed, IsQuiet};
+
+/// What a request is told is a beginning of what the server answers to it, and all of that where it is
+/// finished; whatever was asked before, cancelled, reset, or cut.
+pub fn own_answers<V, T>()
+    ensures begins { (engine : Engine V T) (acts : List (Act T)) (moves : List (Move T)) (r : ℕ)
+        → IsLawful engine → IsRun engine moves (history new_line acts)
+        → Begins (given r (history new_line acts)) (told_of (answered engine (new_link engine) r moves)) }
+    ensures whole { (engine : Engine V T) (acts : List (Act T)) (moves : List (Move T)) (r : ℕ)
+        → IsLawful engine → IsRun engine moves (history new_line acts)
+        → finishes r (history new_line acts) ≡ true
+        → given r (history new_line acts) ≡ told_of (answered engine (new_link engine) r moves) }
+{}
 
 /// Nothing that comes is a fault, until the connection is lost.
 pub fn no_fault<V, T>()
