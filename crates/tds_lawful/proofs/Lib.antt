@@ -9,3 +9,4 @@ pub mod Past
 pub mod Own
 pub mod Later
 pub mod Runs
+pub mod Lifted

@@ -1,0 +1,61 @@
+//! What holds of each connection of a table in front of a server that keeps the rules, whatever the
+//! other connections do, and whatever their servers send. Each function does nothing when it runs: its
+//! contract is the law.
+
+ghost use Rattle.std.specs.Prelude.{◌≡◌, ℕ, List, Bool, true};
+ghost use Rattle.tds_service.specs.Line.{Idle, new_line};
+ghost use Rattle.tds_service.specs.History.{acts_of, given, line_after};
+ghost use Rattle.tds_service.specs.Service.{Call, new_service, on, steps};
+ghost use Rattle.tds_lawful.specs.Lawful.{Engine, IsLawful, told_of};
+ghost use Rattle.tds_lawful.specs.Link.{IsRun, Move, link_after, new_link};
+ghost use Rattle.tds_lawful.specs.Answering.{Begins, NoFault, answered, finishes};
+ghost use Rattle.tds_lawful.specs.Agreeing.{AllInNamed, IsQuiet};
+
+use tds_service::table_laws::each_alone;
+
+/// What a request is told is a beginning of what the server answers to it, and all of that where it is
+/// finished.
+pub fn own_answers<V, T>()
+    ensures begins { (engine : Engine V T) (max n : ℕ) (calls : List (Call T)) (moves : List (Move T)) (r : ℕ)
+        → IsLawful engine → IsRun engine moves (on n (steps (new_service max) calls))
+        → Begins (given r (on n (steps (new_service max) calls)))
+        (told_of (answered engine (new_link engine) r moves)) }
+    ensures whole { (engine : Engine V T) (max n : ℕ) (calls : List (Call T)) (moves : List (Move T)) (r : ℕ)
+        → IsLawful engine → IsRun engine moves (on n (steps (new_service max) calls))
+        → finishes r (on n (steps (new_service max) calls)) ≡ true
+        → given r (on n (steps (new_service max) calls))
+        ≡ told_of (answered engine (new_link engine) r moves) }
+{
+    each_alone::<T>();
+}
+
+/// Nothing that comes is a fault, until the connection is lost.
+pub fn no_fault<V, T>()
+    ensures { (engine : Engine V T) (max n : ℕ) (calls : List (Call T)) (moves : List (Move T))
+        → IsLawful engine → IsRun engine moves (on n (steps (new_service max) calls))
+        → NoFault (on n (steps (new_service max) calls)) }
+{
+    each_alone::<T>();
+}
+
+/// Where a connection is idle nothing is on its way, its server has nothing to say, and both ends are in
+/// one transaction.
+pub fn idle_is_quiet<V, T>()
+    ensures { (engine : Engine V T) (max n : ℕ) (calls : List (Call T)) (moves : List (Move T))
+        → IsLawful engine → IsRun engine moves (on n (steps (new_service max) calls))
+        → (line_after new_line (acts_of (on n (steps (new_service max) calls)))).stage ≡ Idle
+        → IsQuiet (line_after new_line (acts_of (on n (steps (new_service max) calls))))
+        (link_after engine (new_link engine) moves) }
+{
+    each_alone::<T>();
+}
+
+/// A request runs in the transaction that its header names, the one heard last when it was asked, or in
+/// none behind its full reset (MS-TDS 2.2.5.3.2).
+pub fn own_transaction<V, T>()
+    ensures { (engine : Engine V T) (max n : ℕ) (calls : List (Call T)) (moves : List (Move T))
+        → IsLawful engine → IsRun engine moves (on n (steps (new_service max) calls))
+        → AllInNamed engine (new_link engine) moves }
+{
+    each_alone::<T>();
+}
