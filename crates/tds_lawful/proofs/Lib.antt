@@ -10,3 +10,4 @@ pub mod Own
 pub mod Later
 pub mod Runs
 pub mod Lifted
+pub mod Examples
