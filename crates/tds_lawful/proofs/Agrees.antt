@@ -80,7 +80,7 @@ sound engine n Cancelling h link Lose b f c = (tt, tt)
 sound engine n (Broken fault) h link a b f c = absurd b
 
 -- Behind an answer that isn't a loss the rest may be looked at.
-then_rest : (answer : Answer) (x y : Type 0) → UnlessLost answer x → (x → y) → UnlessLost answer y
+pub then_rest : (answer : Answer) (x y : Type 0) → UnlessLost answer x → (x → y) → UnlessLost answer y
 then_rest (lines.Refused why) x y u f = f u
 then_rest lines.Marked x y u f = f u
 then_rest (lines.Asked request descriptor) x y u f = f u

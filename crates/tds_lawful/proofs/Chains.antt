@@ -11,12 +11,18 @@ use Rattle.tds_client.specs.Acts.{is_acknowledgement}
 use Rattle.tds_client.specs.Hearing.{◌>>=◌}
 use Rattle.tds_service.specs.Parts.{Item, Close, hear_items, told, told_by}
 use Rattle.tds_lawful.specs.Lawful.{Session, Step, Says, Ends, Breaks, IsAnswer, IsStop, UnlessAcknowledged, final_by, reset_left, told_of}
+use Rattle.tds_lawful.specs.Starting.{owed_behind}
 use Rattle.tds_lawful.specs.Link.{IsEnd, IsNext, without, without_end, session_behind}
 use Rattle.tds_lawful.proofs.Hears.{heard, placed, leads_placed, leads_out_placed, done_of, done_sign, acknowledged, reading_heard, cancelling_heard, acknowledged_by}
 
 abbrev pub behind : {V T : Type 0} → Session V → List (Step V T) → Session V
 behind s [] = s
 behind s (step ∷ steps) = behind (session_behind s step) steps
+
+-- The reset that is still to be done behind these.
+abbrev pub marks : {V T : Type 0} → Option Reset → List (Step V T) → Option Reset
+marks mark [] = mark
+marks mark (step ∷ steps) = marks (owed_behind mark step) steps
 
 told_by_append : {T : Type 0} (sign : Sign) (token : T) (xs ys : List T) → told_by sign token (xs ++ ys) ≡ told_by sign token xs ++ ys
 told_by_append signs.Nothing token xs ys = refl
@@ -39,6 +45,7 @@ pub record ReadTo {V T : Type 0} (settings : V) (mark : Option Reset) (s : Sessi
   pub end : IsEnd close middle
   pub left : without items close down ≡ without_end close middle
   pub session : behind s down ≡ behind now middle
+  pub owes : marks mark down ≡ marks left_mark middle
   pub tells : told_of (down ++ due) ≡ told items ++ told_of (middle ++ due)
 
 read_more : {V T : Type 0} (settings : V) (mark : Option Reset) (s : Session V) (final : Bool) (item : Item T) (items : List (Item T)) (close : Close) (after : Session V) (down due : List (Step V T))
@@ -55,6 +62,7 @@ read_more settings mark s final item items close after down due p q ih = record 
   end = ih.end;
   left = ih.left;
   session = ih.session;
+  owes = ih.owes;
   tells = ap (told_by item.sign item.token) ih.tells ∙ told_by_append item.sign item.token (told items) (told_of (ih.middle ++ due));
 }
 
@@ -62,7 +70,7 @@ pub reads_to : {V T : Type 0} (settings : V) (mark : Option Reset) (s : Session 
     → IsAnswer settings mark s final (down ++ due) → IsNext items close down → ReadTo settings mark s final items close down due
 reads_to settings mark s final [] close down due a n = record {
   now = s; left_mark = mark; now_final = final; middle = down;
-  hears = refl; answer = a; end = n; left = refl; session = refl; tells = refl;
+  hears = refl; answer = a; end = n; left = refl; session = refl; owes = refl; tells = refl;
 }
 reads_to settings mark s final (item ∷ items) close [] due a n = absurd n
 reads_to settings mark s final (item ∷ items) close (Ends ∷ down) due a n = absurd n
@@ -139,6 +147,7 @@ pub record SkippedTo {V T : Type 0} (stopped : Bool) (mark : Option Reset) (s : 
   pub end : IsEnd close middle
   pub left : without items close down ≡ without_end close middle
   pub session : behind s down ≡ behind now middle
+  pub owes : marks mark down ≡ marks left_mark middle
 
 skip_more : {V T : Type 0} (stopped : Bool) (mark : Option Reset) (s : Session V) (done : FinalDone) (item : Item T) (items : List (Item T)) (close : Close) (after : Session V) (down due : List (Step V T))
     → (placed mark s.transaction item.sign ≡ Some after.transaction)
@@ -154,13 +163,14 @@ skip_more stopped mark s done item items close after down due p ih = record {
   end = ih.end;
   left = ih.left;
   session = ih.session;
+  owes = ih.owes;
 }
 
 pub skips_to : {V T : Type 0} (stopped : Bool) (mark : Option Reset) (s : Session V) (done : FinalDone) (items : List (Item T)) (close : Close) (down due : List (Step V T))
     → Cancels stopped mark s (acknowledged done) (down ++ due) → IsNext items close down → SkippedTo stopped mark s done items close down due
 skips_to stopped mark s done [] close down due a n = record {
   now = s; left_mark = mark; now_done = done; middle = down;
-  hears = refl; cancels = a; end = n; left = refl; session = refl;
+  hears = refl; cancels = a; end = n; left = refl; session = refl; owes = refl;
 }
 skips_to stopped mark s done (item ∷ items) close [] due a n = absurd n
 skips_to stopped mark s done (item ∷ items) close (Ends ∷ down) due a n = absurd n

@@ -16,7 +16,7 @@ use Rattle.tds_service.specs.Line.{Line, Stage, Idle, Sending, Reading, Cancelli
 use Rattle.tds_lawful.specs.Lawful.{Session, Step, Says, Ends, Breaks, Engine, IsAnswer, told_of}
 use Rattle.tds_lawful.specs.Link.{Server, Asking, Up, ups, Link, Comes, HasSome, IsEnd, IsNext, without, without_end}
 use Rattle.tds_lawful.proofs.Hears.{heard, done_of, acknowledged}
-use Rattle.tds_lawful.proofs.Chains.{behind, Cancels, SettledBy, ReadTo, reads_to, SkippedTo, skips_to}
+use Rattle.tds_lawful.proofs.Chains.{behind, marks, Cancels, SettledBy, ReadTo, reads_to, SkippedTo, skips_to}
 use Rattle.tds_lawful.proofs.Flow.{Still, Quiet, Uploads, Answers, Stops, Flow, attention_left}
 
 abbrev pub line : ℕ → Stage → Heard → Line
@@ -50,12 +50,14 @@ pub record ReadsOn {V T : Type 0} (engine : Engine V T) (n : ℕ) (h : Heard) (l
   pub after : Heard
   pub is : turn (line n Reading h) (Come part) ≡ read_on n after part
   pub answers : Answers engine after (came link part)
+  pub owes : marks h.mark link.down ≡ marks after.mark (without part.items part.close link.down)
   pub tells : told_of (link.down ++ link.server.due) ≡ told part.items ++ told_of (without part.items part.close link.down ++ link.server.due)
 
 pub record ReadsOut {V T : Type 0} (n : ℕ) (h : Heard) (link : Link V T) (part : Part T) : Type 0 where
   pub after : Heard
   pub is : turn (line n Reading h) (Come part) ≡ read_out n after part
   pub still : Quiet after (came link part)
+  pub owes : marks h.mark link.down ≡ after.mark
   pub tells : told_of (link.down ++ link.server.due) ≡ told part.items
 
 same_heard : {V : Type 0} (h : Heard) (s : Session V) (done : FinalDone) → h.descriptor ≡ s.transaction → h.done ≡ done → h ≡ heard s h.mark done
@@ -90,6 +92,7 @@ read_goes {V} {T} engine n h link items a rd hears = record {
     answer = subst (λ (m : List (Step V T)). IsAnswer engine.settings rd.left_mark rd.now rd.now_final (m ++ link.server.due)) (sym rd.left) rd.answer;
     server = a.server ∙ rd.session ∙ ap (behind rd.now) (sym rd.left);
   };
+  owes = rd.owes ∙ ap (marks rd.left_mark) (sym rd.left);
   tells = rd.tells ∙ ap (λ (m : List (Step V T)). told items ++ told_of (m ++ link.server.due)) (sym rd.left);
 }
 
@@ -100,9 +103,10 @@ read_ends : {V T : Type 0} (engine : Engine V T) (n : ℕ) (h : Heard) (link : L
     → (mark ≡ None) → (final ≡ true) → (middle ++ link.server.due ≡ [])
     → (without items parts.Ends link.down ≡ middle)
     → (behind a.session link.down ≡ behind now middle)
+    → (marks h.mark link.down ≡ marks mark middle)
     → (told_of (link.down ++ link.server.due) ≡ told items ++ told_of (middle ++ link.server.due))
     → ReadsOut n h link (part_of items parts.Ends)
-read_ends {V} {T} engine n h link items a now mark final middle hears p q e left session tells =
+read_ends {V} {T} engine n h link items a now mark final middle hears p q e left session owes tells =
     let none : middle ≡ [] = (nothing_left middle link.server.due e).0 in
     let all : hear_items false h items ≡ Ok (heard now None Answered) =
         hears ∙ ap (λ (m : Option Reset). fine (heard now m (done_of final))) p ∙ ap (λ (f : Bool). fine (heard now None (done_of f))) q in
@@ -118,6 +122,7 @@ read_ends {V} {T} engine n h link items a now mark final middle hears p q e left
           done = refl;
         };
       };
+      owes = owes ∙ ap (marks mark) none ∙ p;
       tells = tells ∙ ap (λ (m : List (Step V T)). told items ++ told_of m) e ∙ append_nothing (told items);
     }
 
@@ -128,24 +133,25 @@ read_closed : {V T : Type 0} (engine : Engine V T) (n : ℕ) (h : Heard) (link :
     → IsEnd close middle
     → (without items close link.down ≡ without_end close middle)
     → (behind a.session link.down ≡ behind now middle)
+    → (marks h.mark link.down ≡ marks mark middle)
     → (told_of (link.down ++ link.server.due) ≡ told items ++ told_of (middle ++ link.server.due))
     → ReadsOn engine n h link (part_of items close) ⊎ ReadsOut n h link (part_of items close)
-read_closed engine n h link items parts.Goes a now mark final middle hears answer end left session tells =
+read_closed engine n h link items parts.Goes a now mark final middle hears answer end left session owes tells =
     inl (read_goes engine n h link items a
       (record { now = now; left_mark = mark; now_final = final; middle = middle;
         hears = ap (λ (x : Heard). hear_items false x items) (sym (same_heard h a.session (done_of a.final) a.transaction a.done)) ∙ hears;
-        answer = answer; end = end; left = left; session = session; tells = tells })
+        answer = answer; end = end; left = left; session = session; owes = owes; tells = tells })
       hears)
-read_closed engine n h link items parts.Ends a now mark final [] hears answer end left session tells = absurd end
-read_closed engine n h link items parts.Ends a now mark final (Says item after ∷ middle) hears answer end left session tells = absurd end
-read_closed engine n h link items parts.Ends a now mark final (Breaks ∷ middle) hears answer end left session tells = absurd end
-read_closed engine n h link items parts.Ends a now mark final (Ends ∷ middle) hears answer end left session tells =
-    inr (read_ends engine n h link items a now mark final middle hears answer.0 answer.1 answer.2 left session tells)
-read_closed engine n h link items parts.Cut a now mark final [] hears answer end left session tells = absurd end
-read_closed engine n h link items parts.Cut a now mark final (Says item after ∷ middle) hears answer end left session tells = absurd end
-read_closed engine n h link items parts.Cut a now mark final (Ends ∷ middle) hears answer end left session tells = absurd end
-read_closed engine n h link items parts.Cut a now mark final (Breaks ∷ middle) hears answer end left session tells = absurd answer
-read_closed engine n h link items (parts.Fails refusal) a now mark final middle hears answer end left session tells = absurd end
+read_closed engine n h link items parts.Ends a now mark final [] hears answer end left session owes tells = absurd end
+read_closed engine n h link items parts.Ends a now mark final (Says item after ∷ middle) hears answer end left session owes tells = absurd end
+read_closed engine n h link items parts.Ends a now mark final (Breaks ∷ middle) hears answer end left session owes tells = absurd end
+read_closed engine n h link items parts.Ends a now mark final (Ends ∷ middle) hears answer end left session owes tells =
+    inr (read_ends engine n h link items a now mark final middle hears answer.0 answer.1 answer.2 left session owes tells)
+read_closed engine n h link items parts.Cut a now mark final [] hears answer end left session owes tells = absurd end
+read_closed engine n h link items parts.Cut a now mark final (Says item after ∷ middle) hears answer end left session owes tells = absurd end
+read_closed engine n h link items parts.Cut a now mark final (Ends ∷ middle) hears answer end left session owes tells = absurd end
+read_closed engine n h link items parts.Cut a now mark final (Breaks ∷ middle) hears answer end left session owes tells = absurd answer
+read_closed engine n h link items (parts.Fails refusal) a now mark final middle hears answer end left session owes tells = absurd end
 
 pub read_comes : {V T : Type 0} (engine : Engine V T) (n : ℕ) (h : Heard) (link : Link V T) (part : Part T) → Answers engine h link
     → Comes (Come part) link.down link.server.due → ReadsOn engine n h link part ⊎ ReadsOut n h link part
@@ -153,7 +159,7 @@ read_comes engine n h link part a c =
     let rd = reads_to engine.settings h.mark a.session a.final part.items part.close link.down link.server.due a.answer c.1 in
     read_closed engine n h link part.items part.close a rd.now rd.left_mark rd.now_final rd.middle
       (ap (λ (x : Heard). hear_items false x part.items) (same_heard h a.session (done_of a.final) a.transaction a.done) ∙ rd.hears)
-      rd.answer rd.end rd.left rd.session rd.tells
+      rd.answer rd.end rd.left rd.session rd.owes rd.tells
 
 -- ---- What comes behind a cancel
 
@@ -161,11 +167,13 @@ pub record SkipsOn {V T : Type 0} (n : ℕ) (h : Heard) (stopped : Bool) (link :
   pub after : Heard
   pub is : turn (line n Cancelling h) (Come part) ≡ quiet (line n Cancelling after) More
   pub stops : Stops stopped after (came link part)
+  pub owes : marks h.mark link.down ≡ marks after.mark (without part.items part.close link.down)
 
 pub record SkipsOut {V T : Type 0} (n : ℕ) (h : Heard) (link : Link V T) (part : Part T) : Type 0 where
   pub after : Heard
   pub is : turn (line n Cancelling h) (Come part) ≡ quiet (line n Idle after) (Acked n)
   pub still : Quiet after (came link part)
+  pub owes : marks h.mark link.down ≡ after.mark
 
 -- what is on its way to the server stays so
 still_up : (asking : Asking) (u : List Up) (stopped : Bool) → u ≡ ups asking (attention_left stopped) → u ++ [] ≡ ups asking (attention_left stopped)
@@ -177,8 +185,9 @@ skip_goes : {V T : Type 0} (n : ℕ) (h : Heard) (stopped : Bool) (link : Link V
     → Cancels stopped mark now (acknowledged done) (middle ++ link.server.due)
     → (without items parts.Goes link.down ≡ middle)
     → (behind a.session link.down ≡ behind now middle)
+    → (marks h.mark link.down ≡ marks mark middle)
     → SkipsOn n h stopped link (part_of items parts.Goes)
-skip_goes {V} {T} n h stopped link items a now mark done middle hears cancels left session = record {
+skip_goes {V} {T} n h stopped link items a now mark done middle hears cancels left session owes = record {
   after = heard now mark done;
   is = ap (λ (r : Result Heard ListenFault). skips (line n Cancelling h) false (heard_until true h items) r) (ap (then_close true parts.Goes) hears);
   stops = record {
@@ -188,6 +197,7 @@ skip_goes {V} {T} n h stopped link items a now mark done middle hears cancels le
     cancels = subst (λ (m : List (Step V T)). Cancels stopped mark now (acknowledged done) (m ++ link.server.due)) (sym left) cancels;
     server = a.server ∙ session ∙ ap (behind now) (sym left);
   };
+  owes = owes ∙ ap (marks mark) (sym left);
 }
 
 abbrev pub end_of : {T : Type 0} → ℕ → Heard → Part T → Heard → Turn T
@@ -215,8 +225,9 @@ skip_end : {V T : Type 0} (n : ℕ) (h : Heard) (stopped : Bool) (link : Link V 
     → Cancels stopped mark now false (middle ++ link.server.due)
     → (without part.items part.close link.down ≡ middle)
     → (behind a.session link.down ≡ behind now middle)
+    → (marks h.mark link.down ≡ marks mark middle)
     → SkipsOn n h stopped link part
-skip_end {V} {T} n h stopped link part a now mark middle is cancels left session = record {
+skip_end {V} {T} n h stopped link part a now mark middle is cancels left session owes = record {
   after = heard now mark Awaited;
   is = is;
   stops = record {
@@ -226,6 +237,7 @@ skip_end {V} {T} n h stopped link part a now mark middle is cancels left session
     cancels = subst (λ (m : List (Step V T)). Cancels stopped mark now false (m ++ link.server.due)) (sym left) cancels;
     server = a.server ∙ session ∙ ap (behind now) (sym left);
   };
+  owes = owes ∙ ap (marks mark) (sym left);
 }
 
 -- It is.
@@ -235,8 +247,9 @@ skip_out : {V T : Type 0} (n : ℕ) (h : Heard) (link : Link V T) (part : Part T
     → (middle ++ link.server.due ≡ [])
     → (without part.items part.close link.down ≡ middle)
     → (behind a.session link.down ≡ behind now middle)
+    → (marks h.mark link.down ≡ marks mark middle)
     → SkipsOut n h link part
-skip_out {V} {T} n h link part a now mark middle is e left session = record {
+skip_out {V} {T} n h link part a now mark middle is e left session owes = record {
   after = heard now mark Awaited;
   is = is;
   still = record {
@@ -248,6 +261,7 @@ skip_out {V} {T} n h link part a now mark middle is e left session = record {
       done = refl;
     };
   };
+  owes = owes ∙ ap (marks mark) (nothing_left middle link.server.due e).0;
 }
 
 skip_ends : {V T : Type 0} (n : ℕ) (h : Heard) (stopped : Bool) (link : Link V T) (part : Part T) (a : Stops stopped h link)
@@ -256,13 +270,14 @@ skip_ends : {V T : Type 0} (n : ℕ) (h : Heard) (stopped : Bool) (link : Link V
     → SettledBy stopped (acknowledged done) (middle ++ link.server.due) (Cancels stopped mark now false (middle ++ link.server.due))
     → (without part.items part.close link.down ≡ middle)
     → (behind a.session link.down ≡ behind now middle)
+    → (marks h.mark link.down ≡ marks mark middle)
     → SkipsOn n h stopped link part ⊎ SkipsOut n h link part
-skip_ends n h stopped link part a now mark Awaited middle is c left session =
-    inl (skip_end n h stopped link part a now mark middle is (settled_open stopped (middle ++ link.server.due) (Cancels stopped mark now false (middle ++ link.server.due)) c) left session)
-skip_ends n h stopped link part a now mark Answered middle is c left session =
-    inl (skip_end n h stopped link part a now mark middle is (settled_open stopped (middle ++ link.server.due) (Cancels stopped mark now false (middle ++ link.server.due)) c) left session)
-skip_ends n h true link part a now mark Acknowledged middle is c left session = inr (skip_out n h link part a now mark middle is c left session)
-skip_ends n h false link part a now mark Acknowledged middle is c left session = absurd c
+skip_ends n h stopped link part a now mark Awaited middle is c left session owes =
+    inl (skip_end n h stopped link part a now mark middle is (settled_open stopped (middle ++ link.server.due) (Cancels stopped mark now false (middle ++ link.server.due)) c) left session owes)
+skip_ends n h stopped link part a now mark Answered middle is c left session owes =
+    inl (skip_end n h stopped link part a now mark middle is (settled_open stopped (middle ++ link.server.due) (Cancels stopped mark now false (middle ++ link.server.due)) c) left session owes)
+skip_ends n h true link part a now mark Acknowledged middle is c left session owes = inr (skip_out n h link part a now mark middle is c left session owes)
+skip_ends n h false link part a now mark Acknowledged middle is c left session owes = absurd c
 
 skip_closed : {V T : Type 0} (n : ℕ) (h : Heard) (stopped : Bool) (link : Link V T) (items : List (Item T)) (close : Close) (a : Stops stopped h link)
     (now : Session V) (mark : Option Reset) (done : FinalDone) (middle : List (Step V T))
@@ -271,22 +286,23 @@ skip_closed : {V T : Type 0} (n : ℕ) (h : Heard) (stopped : Bool) (link : Link
     → IsEnd close middle
     → (without items close link.down ≡ without_end close middle)
     → (behind a.session link.down ≡ behind now middle)
+    → (marks h.mark link.down ≡ marks mark middle)
     → SkipsOn n h stopped link (part_of items close) ⊎ SkipsOut n h link (part_of items close)
-skip_closed n h stopped link items parts.Goes a now mark done middle hears c end left session =
-    inl (skip_goes n h stopped link items a now mark done middle hears c left session)
-skip_closed n h stopped link items parts.Ends a now mark done [] hears c end left session = absurd end
-skip_closed n h stopped link items parts.Ends a now mark done (Says item after ∷ middle) hears c end left session = absurd end
-skip_closed n h stopped link items parts.Ends a now mark done (Breaks ∷ middle) hears c end left session = absurd end
-skip_closed n h stopped link items parts.Ends a now mark done (Ends ∷ middle) hears c end left session =
+skip_closed n h stopped link items parts.Goes a now mark done middle hears c end left session owes =
+    inl (skip_goes n h stopped link items a now mark done middle hears c left session owes)
+skip_closed n h stopped link items parts.Ends a now mark done [] hears c end left session owes = absurd end
+skip_closed n h stopped link items parts.Ends a now mark done (Says item after ∷ middle) hears c end left session owes = absurd end
+skip_closed n h stopped link items parts.Ends a now mark done (Breaks ∷ middle) hears c end left session owes = absurd end
+skip_closed n h stopped link items parts.Ends a now mark done (Ends ∷ middle) hears c end left session owes =
     skip_ends n h stopped link (part_of items parts.Ends) a now mark done middle
-      (end_turn n h (part_of items parts.Ends) (heard now mark done) refl (ap (then_close true parts.Ends) hears ∙ may_close (heard now mark done) done)) c left session
-skip_closed n h stopped link items parts.Cut a now mark done [] hears c end left session = absurd end
-skip_closed n h stopped link items parts.Cut a now mark done (Says item after ∷ middle) hears c end left session = absurd end
-skip_closed n h stopped link items parts.Cut a now mark done (Ends ∷ middle) hears c end left session = absurd end
-skip_closed n h stopped link items parts.Cut a now mark done (Breaks ∷ middle) hears c end left session =
+      (end_turn n h (part_of items parts.Ends) (heard now mark done) refl (ap (then_close true parts.Ends) hears ∙ may_close (heard now mark done) done)) c left session owes
+skip_closed n h stopped link items parts.Cut a now mark done [] hears c end left session owes = absurd end
+skip_closed n h stopped link items parts.Cut a now mark done (Says item after ∷ middle) hears c end left session owes = absurd end
+skip_closed n h stopped link items parts.Cut a now mark done (Ends ∷ middle) hears c end left session owes = absurd end
+skip_closed n h stopped link items parts.Cut a now mark done (Breaks ∷ middle) hears c end left session owes =
     skip_ends n h stopped link (part_of items parts.Cut) a now mark done middle
-      (end_turn n h (part_of items parts.Cut) (heard now mark done) refl (ap (then_close true parts.Cut) hears ∙ may_close (heard now mark done) done)) c left session
-skip_closed n h stopped link items (parts.Fails refusal) a now mark done middle hears c end left session = absurd end
+      (end_turn n h (part_of items parts.Cut) (heard now mark done) refl (ap (then_close true parts.Cut) hears ∙ may_close (heard now mark done) done)) c left session owes
+skip_closed n h stopped link items (parts.Fails refusal) a now mark done middle hears c end left session owes = absurd end
 
 pub skip_comes : {V T : Type 0} (n : ℕ) (h : Heard) (stopped : Bool) (link : Link V T) (part : Part T) → Stops stopped h link
     → Comes (Come part) link.down link.server.due → SkipsOn n h stopped link part ⊎ SkipsOut n h link part
@@ -294,7 +310,7 @@ skip_comes {V} {T} n h stopped link part a c =
     let sk = skips_to stopped h.mark a.session h.done part.items part.close link.down link.server.due a.cancels c.1 in
     skip_closed n h stopped link part.items part.close a sk.now sk.left_mark sk.now_done sk.middle
       (ap (λ (x : Heard). hear_items true x part.items) (same_heard h a.session h.done a.transaction refl) ∙ sk.hears)
-      sk.cancels sk.end sk.left sk.session
+      sk.cancels sk.end sk.left sk.session sk.owes
 
 -- ---- Where nothing is said nothing comes
 

@@ -8,6 +8,7 @@ pub mod Agrees
 pub mod Past
 pub mod Own
 pub mod Later
+pub mod Examples
+pub mod Starts
 pub mod Runs
 pub mod Lifted
-pub mod Examples

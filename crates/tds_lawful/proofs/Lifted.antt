@@ -1,13 +1,15 @@
 -- On each connection of a table all comes out as if it were the only one: so the laws of one hold there.
 use Rattle.std.proofs.Common.{◌≡◌, ◌∙◌, ℕ, List, [], ◌∷◌, refl, sym, ap, subst}
+use Rattle.std.specs.Prelude.{None}
 use Rattle.tds_service.specs.Line.{Act, Idle, new_line}
 use Rattle.tds_service.specs.History.{Done, acts_of, history, line_after}
 use Rattle.tds_lawful.specs.Lawful.{Engine, IsLawful}
 use Rattle.tds_lawful.specs.Link.{IsRun, Move, link_after, new_link}
 use Rattle.tds_lawful.specs.Answering.{NoFault, answered}
+use Rattle.tds_lawful.specs.Starting.{StartsFresh}
 use Rattle.tds_lawful.specs.Agreeing.{AllInNamed, IsQuiet}
 use Rattle.tds_lawful.proofs.Past.{IsOwn}
-use Rattle.tds_lawful.proofs.Runs.{idle_quiet, never_faults, own_answer, runs_in_named}
+use Rattle.tds_lawful.proofs.Runs.{idle_quiet, never_faults, own_answer, runs_fresh, runs_in_named}
 
 -- What was done there is a history of a connection by itself.
 abbrev pub Alone : {T : Type 0} → List (Done T) → Type 0
@@ -33,3 +35,7 @@ quiet_there engine moves ds a lawful run = idle_quiet engine (acts_of ds) moves 
 pub named_there : {V T : Type 0} (engine : Engine V T) (moves : List (Move T)) (ds : List (Done T)) → Alone ds → IsLawful engine → IsRun engine moves ds
     → AllInNamed engine (new_link engine) moves
 named_there engine moves ds a lawful run = runs_in_named engine (acts_of ds) moves lawful (alone_run engine moves ds a run)
+
+pub fresh_there : {V T : Type 0} (engine : Engine V T) (moves : List (Move T)) (ds : List (Done T)) → Alone ds → IsLawful engine → IsRun engine moves ds
+    → StartsFresh engine None (new_link engine) moves
+fresh_there engine moves ds a lawful run = runs_fresh engine (acts_of ds) moves lawful (alone_run engine moves ds a run)

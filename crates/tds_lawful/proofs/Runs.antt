@@ -1,16 +1,19 @@
 -- A run from the login, as a plan; and the laws of it.
-use Rattle.std.proofs.Common.{◌≡◌, ◌∙◌, ℕ, zero, suc, Bool, true, false, List, [], ◌∷◌, refl, sym, ap, subst, arith}
+use Rattle.std.proofs.Common.{◌≡◌, ◌∙◌, ℕ, zero, suc, Bool, true, false, List, [], ◌∷◌, refl, sym, ap, subst, arith, inl}
+use Rattle.std.specs.Prelude.{None}
 use Rattle.tds_service.specs.Line.{Line, Act, Idle, new_line}
 use Rattle.tds_service.specs.History.{Done, given, history, line_after}
 use Rattle.tds_lawful.specs.Lawful.{Engine, IsLawful, told_of}
 use Rattle.tds_lawful.specs.Link.{IsRun, Link, Move, Runs, here, link_after, new_link}
 use Rattle.tds_lawful.specs.Answering.{Begins, NoFault, answered, finishes}
+use Rattle.tds_lawful.specs.Starting.{StartsFresh}
 use Rattle.tds_lawful.specs.Agreeing.{AllInNamed, IsQuiet}
 use Rattle.tds_lawful.proofs.Flow.{Quiet, FlowOn}
 use Rattle.tds_lawful.proofs.Plans.{Follows, Planned, acts_in, flow_after, follows, moves_by}
 use Rattle.tds_lawful.proofs.Past.{IsOwn, own_silent, past}
 use Rattle.tds_lawful.proofs.Own.{OwnOf, ds_by}
 use Rattle.tds_lawful.proofs.Later.{own_later}
+use Rattle.tds_lawful.proofs.Starts.{starts_fresh}
 use Rattle.tds_lawful.proofs.Agrees.{all_named, no_fault, quiet_on}
 
 -- Behind a login all is quiet.
@@ -64,3 +67,11 @@ own_answer {V} {T} engine acts moves r lawful run =
     subst (λ (ds : List (Done T)). IsOwn r ds (answered engine (new_link engine) r moves)) run.ours
       (subst (λ (ms : List (Move T)). IsOwn r (here ms) (answered engine (new_link engine) r ms)) (sym f.moves_are)
         (own_planned engine lawful r f.plan (planned engine acts moves run f)))
+
+-- Nothing is owed behind a login.
+pub runs_fresh : {V T : Type 0} (engine : Engine V T) (acts : List (Act T)) (moves : List (Move T)) → IsLawful engine
+    → IsRun engine moves (history new_line acts) → StartsFresh engine None (new_link engine) moves
+runs_fresh {V} {T} engine acts moves lawful run =
+    let f = run_of engine acts moves run in
+    subst (λ (ms : List (Move T)). StartsFresh engine None (new_link engine) ms) (sym f.moves_are)
+      (starts_fresh engine lawful None new_line (new_link engine) f.plan tt (new_flow engine) refl (inl (inl refl)) (planned engine acts moves run f))

@@ -2,3 +2,4 @@ pub mod Lawful
 pub mod Link
 pub mod Answering
 pub mod Agreeing
+pub mod Starting

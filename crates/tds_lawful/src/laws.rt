@@ -2,13 +2,14 @@
 //! whatever is called, in whatever order. Each function does nothing when it runs: its contract is the
 //! law.
 
-ghost use Rattle.std.specs.Prelude.{◌≡◌, ℕ, List, Bool, true};
+ghost use Rattle.std.specs.Prelude.{◌≡◌, ℕ, List, Bool, None, true};
 ghost use Rattle.tds_service.specs.Line.{Act, Idle, new_line};
 ghost use Rattle.tds_service.specs.History.{given, history, line_after};
 ghost use Rattle.tds_lawful.specs.Lawful.{Engine, IsLawful, told_of};
 ghost use Rattle.tds_lawful.specs.Link.{IsRun, Move, link_after, new_link};
 ghost use Rattle.tds_lawful.specs.Answering.{Begins, NoFault, answered, finishes};
 ghost use Rattle.tds_lawful.specs.Agreeing.{AllInNamed, IsQuiet};
+ghost use Rattle.tds_lawful.specs.Starting.{StartsFresh};
 
 /// What a request is told is a beginning of what the server answers to it, and all of that where it is
 /// finished; whatever was asked before, cancelled, reset, or cut.
@@ -44,4 +45,12 @@ pub fn own_transaction<V, T>()
     ensures { (engine : Engine V T) (acts : List (Act T)) (moves : List (Move T))
         → IsLawful engine → IsRun engine moves (history new_line acts)
         → AllInNamed engine (new_link engine) moves }
+{}
+
+/// From a mark on each request that runs asks for that reset, and the server runs nothing before it is
+/// done: the first that runs finds a fresh session, or the transaction that was kept, without settings.
+pub fn fresh_start<V, T>()
+    ensures { (engine : Engine V T) (acts : List (Act T)) (moves : List (Move T))
+        → IsLawful engine → IsRun engine moves (history new_line acts)
+        → StartsFresh engine None (new_link engine) moves }
 {}

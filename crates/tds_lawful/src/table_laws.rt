@@ -2,7 +2,7 @@
 //! other connections do, and whatever their servers send. Each function does nothing when it runs: its
 //! contract is the law.
 
-ghost use Rattle.std.specs.Prelude.{◌≡◌, ℕ, List, Bool, true};
+ghost use Rattle.std.specs.Prelude.{◌≡◌, ℕ, List, Bool, None, true};
 ghost use Rattle.tds_service.specs.Line.{Idle, new_line};
 ghost use Rattle.tds_service.specs.History.{acts_of, given, line_after};
 ghost use Rattle.tds_service.specs.Service.{Call, new_service, on, steps};
@@ -10,6 +10,7 @@ ghost use Rattle.tds_lawful.specs.Lawful.{Engine, IsLawful, told_of};
 ghost use Rattle.tds_lawful.specs.Link.{IsRun, Move, link_after, new_link};
 ghost use Rattle.tds_lawful.specs.Answering.{Begins, NoFault, answered, finishes};
 ghost use Rattle.tds_lawful.specs.Agreeing.{AllInNamed, IsQuiet};
+ghost use Rattle.tds_lawful.specs.Starting.{StartsFresh};
 
 use tds_service::table_laws::each_alone;
 
@@ -56,6 +57,18 @@ pub fn own_transaction<V, T>()
     ensures { (engine : Engine V T) (max n : ℕ) (calls : List (Call T)) (moves : List (Move T))
         → IsLawful engine → IsRun engine moves (on n (steps (new_service max) calls))
         → AllInNamed engine (new_link engine) moves }
+{
+    each_alone::<T>();
+}
+
+/// From a mark on, which each lease of a used connection sets and each ticket's
+/// (`tds_service::table_laws::asks_for_reset`), each request that runs asks for that reset, and the
+/// server runs nothing before it is done: the first that runs finds a fresh session, or the transaction
+/// that was kept, without settings.
+pub fn fresh_start<V, T>()
+    ensures { (engine : Engine V T) (max n : ℕ) (calls : List (Call T)) (moves : List (Move T))
+        → IsLawful engine → IsRun engine moves (on n (steps (new_service max) calls))
+        → StartsFresh engine None (new_link engine) moves }
 {
     each_alone::<T>();
 }
