@@ -10,5 +10,6 @@ pub mod Own
 pub mod Later
 pub mod Examples
 pub mod Starts
+pub mod Works
 pub mod Runs
 pub mod Lifted

@@ -6,10 +6,11 @@ use Rattle.tds_service.specs.History.{Done, acts_of, history, line_after}
 use Rattle.tds_lawful.specs.Lawful.{Engine, IsLawful}
 use Rattle.tds_lawful.specs.Link.{IsRun, Move, link_after, new_link}
 use Rattle.tds_lawful.specs.Answering.{NoFault, answered}
+use Rattle.tds_lawful.specs.Working.{CanGo, Waits}
 use Rattle.tds_lawful.specs.Starting.{StartsFresh}
 use Rattle.tds_lawful.specs.Agreeing.{AllInNamed, IsQuiet}
 use Rattle.tds_lawful.proofs.Past.{IsOwn}
-use Rattle.tds_lawful.proofs.Runs.{idle_quiet, never_faults, own_answer, runs_fresh, runs_in_named}
+use Rattle.tds_lawful.proofs.Runs.{goes_on, idle_quiet, never_faults, own_answer, runs_fresh, runs_in_named}
 
 -- What was done there is a history of a connection by itself.
 abbrev pub Alone : {T : Type 0} → List (Done T) → Type 0
@@ -39,3 +40,7 @@ named_there engine moves ds a lawful run = runs_in_named engine (acts_of ds) mov
 pub fresh_there : {V T : Type 0} (engine : Engine V T) (moves : List (Move T)) (ds : List (Done T)) → Alone ds → IsLawful engine → IsRun engine moves ds
     → StartsFresh engine None (new_link engine) moves
 fresh_there engine moves ds a lawful run = runs_fresh engine (acts_of ds) moves lawful (alone_run engine moves ds a run)
+
+pub goes_on_there : {V T : Type 0} (engine : Engine V T) (moves : List (Move T)) (ds : List (Done T)) → Alone ds → IsLawful engine → IsRun engine moves ds
+    → Waits (line_after new_line (acts_of ds)).stage → CanGo (link_after engine (new_link engine) moves)
+goes_on_there engine moves ds a lawful run = goes_on engine (acts_of ds) moves lawful (alone_run engine moves ds a run)

@@ -6,6 +6,7 @@ use Rattle.tds_service.specs.History.{Done, given, history, line_after}
 use Rattle.tds_lawful.specs.Lawful.{Engine, IsLawful, told_of}
 use Rattle.tds_lawful.specs.Link.{IsRun, Link, Move, Runs, here, link_after, new_link}
 use Rattle.tds_lawful.specs.Answering.{Begins, NoFault, answered, finishes}
+use Rattle.tds_lawful.specs.Working.{CanGo, Waits}
 use Rattle.tds_lawful.specs.Starting.{StartsFresh}
 use Rattle.tds_lawful.specs.Agreeing.{AllInNamed, IsQuiet}
 use Rattle.tds_lawful.proofs.Flow.{Quiet, FlowOn}
@@ -14,6 +15,7 @@ use Rattle.tds_lawful.proofs.Past.{IsOwn, own_silent, past}
 use Rattle.tds_lawful.proofs.Own.{OwnOf, ds_by}
 use Rattle.tds_lawful.proofs.Later.{own_later}
 use Rattle.tds_lawful.proofs.Starts.{starts_fresh}
+use Rattle.tds_lawful.proofs.Works.{can_go}
 use Rattle.tds_lawful.proofs.Agrees.{all_named, no_fault, quiet_on}
 
 -- Behind a login all is quiet.
@@ -34,15 +36,25 @@ never_faults {V} {T} engine acts moves lawful run =
     subst (λ (ds : List (Done T)). NoFault ds) (ap here (sym f.moves_are) ∙ run.ours)
       (no_fault engine lawful new_line (new_link engine) f.plan tt (new_flow engine) (planned engine acts moves run f))
 
+flow_of : {V T : Type 0} (engine : Engine V T) (acts : List (Act T)) (moves : List (Move T)) → IsLawful engine
+    → IsRun engine moves (history new_line acts) → FlowOn engine (line_after new_line acts) (link_after engine (new_link engine) moves)
+flow_of {V} {T} engine acts moves lawful run =
+    let f = run_of engine acts moves run in
+    subst (λ (xs : List (Act T)). FlowOn engine (line_after new_line xs) (link_after engine (new_link engine) moves)) (sym f.acts_are)
+      (subst (λ (ms : List (Move T)). FlowOn engine (line_after new_line (acts_in f.plan)) (link_after engine (new_link engine) ms)) (sym f.moves_are)
+        (flow_after engine lawful new_line (new_link engine) f.plan (new_flow engine) (planned engine acts moves run f)))
+
 pub idle_quiet : {V T : Type 0} (engine : Engine V T) (acts : List (Act T)) (moves : List (Move T)) → IsLawful engine
     → IsRun engine moves (history new_line acts) → (line_after new_line acts).stage ≡ Idle
     → IsQuiet (line_after new_line acts) (link_after engine (new_link engine) moves)
-idle_quiet {V} {T} engine acts moves lawful run e =
-    let f = run_of engine acts moves run in
-    quiet_on engine (line_after new_line acts) (link_after engine (new_link engine) moves) e
-      (subst (λ (xs : List (Act T)). FlowOn engine (line_after new_line xs) (link_after engine (new_link engine) moves)) (sym f.acts_are)
-        (subst (λ (ms : List (Move T)). FlowOn engine (line_after new_line (acts_in f.plan)) (link_after engine (new_link engine) ms)) (sym f.moves_are)
-          (flow_after engine lawful new_line (new_link engine) f.plan (new_flow engine) (planned engine acts moves run f))))
+idle_quiet engine acts moves lawful run e =
+    quiet_on engine (line_after new_line acts) (link_after engine (new_link engine) moves) e (flow_of engine acts moves lawful run)
+
+pub goes_on : {V T : Type 0} (engine : Engine V T) (acts : List (Act T)) (moves : List (Move T)) → IsLawful engine
+    → IsRun engine moves (history new_line acts) → Waits (line_after new_line acts).stage → CanGo (link_after engine (new_link engine) moves)
+goes_on engine acts moves lawful run w =
+    let l : Line = line_after new_line acts in
+    can_go engine l.asked l.stage l.heard (link_after engine (new_link engine) moves) w (flow_of engine acts moves lawful run)
 
 pub runs_in_named : {V T : Type 0} (engine : Engine V T) (acts : List (Act T)) (moves : List (Move T)) → IsLawful engine
     → IsRun engine moves (history new_line acts) → AllInNamed engine (new_link engine) moves

@@ -3,3 +3,4 @@ pub mod Link
 pub mod Answering
 pub mod Agreeing
 pub mod Starting
+pub mod Working

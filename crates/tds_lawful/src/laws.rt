@@ -2,14 +2,15 @@
 //! whatever is called, in whatever order. Each function does nothing when it runs: its contract is the
 //! law.
 
-ghost use Rattle.std.specs.Prelude.{◌≡◌, ℕ, List, Bool, None, true};
+ghost use Rattle.std.specs.Prelude.{◌≡◌, ◌<◌, ℕ, List, Bool, None, true};
 ghost use Rattle.tds_service.specs.Line.{Act, Idle, new_line};
 ghost use Rattle.tds_service.specs.History.{given, history, line_after};
 ghost use Rattle.tds_lawful.specs.Lawful.{Engine, IsLawful, told_of};
-ghost use Rattle.tds_lawful.specs.Link.{IsRun, Move, link_after, new_link};
+ghost use Rattle.tds_lawful.specs.Link.{IsRun, Link, May, Move, goes, link_after, new_link};
 ghost use Rattle.tds_lawful.specs.Answering.{Begins, NoFault, answered, finishes};
 ghost use Rattle.tds_lawful.specs.Agreeing.{AllInNamed, IsQuiet};
 ghost use Rattle.tds_lawful.specs.Starting.{StartsFresh};
+ghost use Rattle.tds_lawful.specs.Working.{CanGo, Waits, Works, left_to_do};
 
 /// What a request is told is a beginning of what the server answers to it, and all of that where it is
 /// finished; whatever was asked before, cancelled, reset, or cut.
@@ -53,4 +54,16 @@ pub fn fresh_start<V, T>()
     ensures { (engine : Engine V T) (acts : List (Act T)) (moves : List (Move T))
         → IsLawful engine → IsRun engine moves (history new_line acts)
         → StartsFresh engine None (new_link engine) moves }
+{}
+
+/// While an answer or an acknowledgement is awaited there is a packet that the server may take, a thing
+/// that it may say, or something on its way to the client; and each of these leaves less to do.
+pub fn never_stuck<V, T>()
+    ensures waits { (engine : Engine V T) (acts : List (Act T)) (moves : List (Move T))
+        → IsLawful engine → IsRun engine moves (history new_line acts)
+        → Waits (line_after new_line acts).stage
+        → CanGo (link_after engine (new_link engine) moves) }
+    ensures lowers { (engine : Engine V T) (link : Link V T) (move : Move T)
+        → May link move → Works move
+        → left_to_do engine (goes engine link move) < left_to_do engine link }
 {}

@@ -11,6 +11,7 @@ ghost use Rattle.tds_lawful.specs.Link.{IsRun, Move, link_after, new_link};
 ghost use Rattle.tds_lawful.specs.Answering.{Begins, NoFault, answered, finishes};
 ghost use Rattle.tds_lawful.specs.Agreeing.{AllInNamed, IsQuiet};
 ghost use Rattle.tds_lawful.specs.Starting.{StartsFresh};
+ghost use Rattle.tds_lawful.specs.Working.{CanGo, Waits};
 
 use tds_service::table_laws::each_alone;
 
@@ -69,6 +70,17 @@ pub fn fresh_start<V, T>()
     ensures { (engine : Engine V T) (max n : ℕ) (calls : List (Call T)) (moves : List (Move T))
         → IsLawful engine → IsRun engine moves (on n (steps (new_service max) calls))
         → StartsFresh engine None (new_link engine) moves }
+{
+    each_alone::<T>();
+}
+
+/// While an answer or an acknowledgement is awaited there is a packet that the server may take, a thing
+/// that it may say, or something on its way to the client (each of which leaves less to do: `laws`).
+pub fn never_stuck<V, T>()
+    ensures { (engine : Engine V T) (max n : ℕ) (calls : List (Call T)) (moves : List (Move T))
+        → IsLawful engine → IsRun engine moves (on n (steps (new_service max) calls))
+        → Waits (line_after new_line (acts_of (on n (steps (new_service max) calls)))).stage
+        → CanGo (link_after engine (new_link engine) moves) }
 {
     each_alone::<T>();
 }
