@@ -99,10 +99,12 @@ pub no_fault : {V T : Type 0} (engine : Engine V T) (lawful : IsLawful engine) (
     → NotBroken l.stage → FlowOn engine l link → Runs engine link (moves_by l plan) → NoFault (here (moves_by l plan))
 no_fault engine lawful l link [] b f runs = tt
 no_fault engine lawful l link (Does a ∷ plan) b f runs =
-    let s : Sound (turn l a) = sound engine l.asked l.stage l.heard link a b f runs.0 in
-    (s.0, then_rest (turn l a).answer (NotBroken (turn l a).line.stage) (NoFault (here (moves_by (turn l a).line plan))) s.1
-      (λ (c : NotBroken (turn l a).line.stage). no_fault engine lawful (turn l a).line (goes engine link (links.Here (done_by a (turn l a)))) plan c
-        (keeps_act engine l.asked l.stage l.heard link a f runs.0) runs.1))
+    let s : Sound (turn l a) = sound engine l.asked l.stage l.heard link a b f runs.0 in (
+      s.0,
+      then_rest (turn l a).answer (NotBroken (turn l a).line.stage) (NoFault (here (moves_by (turn l a).line plan))) s.1
+          (λ (c : NotBroken (turn l a).line.stage). no_fault engine lawful (turn l a).line (goes engine link (links.Here (done_by a (turn l a)))) plan c
+          (keeps_act engine l.asked l.stage l.heard link a f runs.0) runs.1),
+    )
 no_fault engine lawful l link (Takes ∷ plan) b f runs =
     no_fault engine lawful l (goes engine link links.Takes) plan b (keeps_takes engine lawful l.asked l.stage l.heard link f runs.0) runs.1
 no_fault engine lawful l link (Speaks ∷ plan) b f runs =
@@ -114,9 +116,10 @@ whole_named : {V T : Type 0} (n : ℕ) (h : Heard) (link : Link V T) (others pac
     → IsWhole n h.mark others link.server.reset packets → NextInNamed link.server (ups link.asking packets)
 whole_named n h link others [] s named are = tt
 whole_named n h link others (OfRequest request first own false ∷ packets) s named are = tt
-whole_named n h link others (OfRequest request first own true ∷ packets) s named are =
-    (named.0 ∙ sym are.0,
-      named.1 ∙ ap (header_descriptor h.mark) s.transaction ∙ ap (λ (m : Option Reset). header_descriptor m link.server.session.transaction) (sym are.1))
+whole_named n h link others (OfRequest request first own true ∷ packets) s named are = (
+  named.0 ∙ sym are.0,
+  named.1 ∙ ap (header_descriptor h.mark) s.transaction ∙ ap (λ (m : Option Reset). header_descriptor m link.server.session.transaction) (sym are.1),
+)
 whole_named n h link others (Ignore request ∷ packets) s named are = tt
 whole_named n h link others (Attention ∷ packets) s named are = tt
 
@@ -162,10 +165,11 @@ all_named engine lawful l link (Does a ∷ plan) b f runs =
     let s : Sound (turn l a) = sound engine l.asked l.stage l.heard link a b f runs.0 in
     let next = goes engine link (links.Here (done_by a (turn l a))) in
     then_rest (turn l a).answer (NotBroken (turn l a).line.stage) (AllInNamed engine next (moves_by (turn l a).line plan)) s.1
-      (λ (c : NotBroken (turn l a).line.stage). all_named engine lawful (turn l a).line next plan c
-        (keeps_act engine l.asked l.stage l.heard link a f runs.0) runs.1)
-all_named engine lawful l link (Takes ∷ plan) b f runs =
-    (next_named engine l.asked l.stage l.heard link b f,
-      all_named engine lawful l (goes engine link links.Takes) plan b (keeps_takes engine lawful l.asked l.stage l.heard link f runs.0) runs.1)
+    (λ (c : NotBroken (turn l a).line.stage). all_named engine lawful (turn l a).line next plan c
+    (keeps_act engine l.asked l.stage l.heard link a f runs.0) runs.1)
+all_named engine lawful l link (Takes ∷ plan) b f runs = (
+  next_named engine l.asked l.stage l.heard link b f,
+  all_named engine lawful l (goes engine link links.Takes) plan b (keeps_takes engine lawful l.asked l.stage l.heard link f runs.0) runs.1,
+)
 all_named engine lawful l link (Speaks ∷ plan) b f runs =
     all_named engine lawful l (goes engine link links.Speaks) plan b (keeps_speaks engine l.asked l.stage l.heard link f runs.0) runs.1

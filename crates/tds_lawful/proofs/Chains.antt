@@ -69,16 +69,25 @@ read_more settings mark s final item items close after down due p q ih = record 
 pub reads_to : {V T : Type 0} (settings : V) (mark : Option Reset) (s : Session V) (final : Bool) (items : List (Item T)) (close : Close) (down due : List (Step V T))
     → IsAnswer settings mark s final (down ++ due) → IsNext items close down → ReadTo settings mark s final items close down due
 reads_to settings mark s final [] close down due a n = record {
-  now = s; left_mark = mark; now_final = final; middle = down;
-  hears = refl; answer = a; end = n; left = refl; session = refl; owes = refl; tells = refl;
+  now = s;
+  left_mark = mark;
+  now_final = final;
+  middle = down;
+  hears = refl;
+  answer = a;
+  end = n;
+  left = refl;
+  session = refl;
+  owes = refl;
+  tells = refl;
 }
 reads_to settings mark s final (item ∷ items) close [] due a n = absurd n
 reads_to settings mark s final (item ∷ items) close (Ends ∷ down) due a n = absurd n
 reads_to settings mark s final (item ∷ items) close (Breaks ∷ down) due a n = absurd n
 reads_to {V} {T} settings mark s final (item ∷ items) close (Says said after ∷ down) due a n =
     subst (λ (it : Item T). ReadTo settings mark s final (it ∷ items) close (Says said after ∷ down) due) (sym n.0)
-      (read_more settings mark s final said items close after down due (leads_placed settings mark s said.sign after a.0) a.1
-        (reads_to settings (reset_left mark said.sign) after (final_by final said.sign) items close down due a.2 n.1))
+    (read_more settings mark s final said items close after down due (leads_placed settings mark s said.sign after a.0) a.1
+    (reads_to settings (reset_left mark said.sign) after (final_by final said.sign) items close down due a.2 n.1))
 
 -- ---- What comes behind a cancel
 
@@ -104,10 +113,12 @@ Cancels stopped mark s acked (Breaks ∷ steps) = SettledBy stopped acked steps 
 pub answer_cancels : {V T : Type 0} (settings : V) (mark : Option Reset) (s : Session V) (final : Bool) (steps : List (Step V T))
     → IsAnswer settings mark s final steps → Cancels false mark s false steps
 answer_cancels settings mark s final [] a = absurd a
-answer_cancels settings mark s final (Says item after ∷ steps) a =
-    (leads_placed settings mark s item.sign after a.0, a.1,
-      subst (λ (b : Bool). Cancels false (reset_left mark item.sign) after (false || b) steps) (sym a.1)
-        (answer_cancels settings (reset_left mark item.sign) after (final_by final item.sign) steps a.2))
+answer_cancels settings mark s final (Says item after ∷ steps) a = (
+  leads_placed settings mark s item.sign after a.0,
+  a.1,
+  subst (λ (b : Bool). Cancels false (reset_left mark item.sign) after (false || b) steps) (sym a.1)
+      (answer_cancels settings (reset_left mark item.sign) after (final_by final item.sign) steps a.2),
+)
 answer_cancels {V} {T} settings mark s final (Ends ∷ steps) a = subst (λ (ts : List (Step V T)). Cancels false mark s false ts) (sym a.2) refl
 answer_cancels settings mark s final (Breaks ∷ steps) a = absurd a
 
@@ -116,9 +127,11 @@ answer_cancels settings mark s final (Breaks ∷ steps) a = absurd a
 pub stop_cancels : {V T : Type 0} (mark : Option Reset) (s : Session V) (acked : Bool) (steps : List (Step V T))
     → IsStop s acked steps → Cancels true mark s acked steps
 stop_cancels mark s acked [] a = absurd a
-stop_cancels mark s acked (Says item after ∷ steps) a =
-    (leads_out_placed mark s item.sign after a.0, tt,
-      stop_cancels (reset_left mark item.sign) after (acked || is_acknowledgement item.sign) steps a.1)
+stop_cancels mark s acked (Says item after ∷ steps) a = (
+  leads_out_placed mark s item.sign after a.0,
+  tt,
+  stop_cancels (reset_left mark item.sign) after (acked || is_acknowledgement item.sign) steps a.1,
+)
 stop_cancels mark s true (Ends ∷ steps) a = a
 stop_cancels mark s false (Ends ∷ steps) a = stop_cancels mark s false steps a
 stop_cancels mark s true (Breaks ∷ steps) a = a
@@ -127,11 +140,13 @@ stop_cancels mark s false (Breaks ∷ steps) a = stop_cancels mark s false steps
 pub stops_behind : {V T : Type 0} (mark : Option Reset) (s : Session V) (down due stop : List (Step V T))
     → Cancels false mark s false (down ++ due) → IsStop (behind s down) false stop → Cancels true mark s false (down ++ stop)
 stops_behind mark s [] due stop a b = stop_cancels mark s false stop b
-stops_behind mark s (Says item after ∷ down) due stop a b =
-    (a.0, tt,
-      subst (λ (c : Bool). Cancels true (reset_left mark item.sign) after (false || c) (down ++ stop)) (sym a.1)
-        (stops_behind (reset_left mark item.sign) after down due stop
-          (subst (λ (c : Bool). Cancels false (reset_left mark item.sign) after (false || c) (down ++ due)) a.1 a.2) b))
+stops_behind mark s (Says item after ∷ down) due stop a b = (
+  a.0,
+  tt,
+  subst (λ (c : Bool). Cancels true (reset_left mark item.sign) after (false || c) (down ++ stop)) (sym a.1)
+      (stops_behind (reset_left mark item.sign) after down due stop
+      (subst (λ (c : Bool). Cancels false (reset_left mark item.sign) after (false || c) (down ++ due)) a.1 a.2) b),
+)
 stops_behind mark s (Ends ∷ down) due stop a b = stops_behind mark s down due stop a b
 stops_behind mark s (Breaks ∷ down) due stop a b = stops_behind mark s down due stop a b
 
@@ -169,14 +184,22 @@ skip_more stopped mark s done item items close after down due p ih = record {
 pub skips_to : {V T : Type 0} (stopped : Bool) (mark : Option Reset) (s : Session V) (done : FinalDone) (items : List (Item T)) (close : Close) (down due : List (Step V T))
     → Cancels stopped mark s (acknowledged done) (down ++ due) → IsNext items close down → SkippedTo stopped mark s done items close down due
 skips_to stopped mark s done [] close down due a n = record {
-  now = s; left_mark = mark; now_done = done; middle = down;
-  hears = refl; cancels = a; end = n; left = refl; session = refl; owes = refl;
+  now = s;
+  left_mark = mark;
+  now_done = done;
+  middle = down;
+  hears = refl;
+  cancels = a;
+  end = n;
+  left = refl;
+  session = refl;
+  owes = refl;
 }
 skips_to stopped mark s done (item ∷ items) close [] due a n = absurd n
 skips_to stopped mark s done (item ∷ items) close (Ends ∷ down) due a n = absurd n
 skips_to stopped mark s done (item ∷ items) close (Breaks ∷ down) due a n = absurd n
 skips_to {V} {T} stopped mark s done (item ∷ items) close (Says said after ∷ down) due a n =
     subst (λ (it : Item T). SkippedTo stopped mark s done (it ∷ items) close (Says said after ∷ down) due) (sym n.0)
-      (skip_more stopped mark s done said items close after down due a.0
-        (skips_to stopped (reset_left mark said.sign) after (done_sign done said.sign) items close down due
-          (subst (λ (b : Bool). Cancels stopped (reset_left mark said.sign) after b (down ++ due)) (sym (acknowledged_by done said.sign)) a.2) n.1))
+    (skip_more stopped mark s done said items close after down due a.0
+    (skips_to stopped (reset_left mark said.sign) after (done_sign done said.sign) items close down due
+    (subst (λ (b : Bool). Cancels stopped (reset_left mark said.sign) after b (down ++ due)) (sym (acknowledged_by done said.sign)) a.2) n.1))

@@ -109,7 +109,7 @@ read_ends : {V T : Type 0} (engine : Engine V T) (n : ℕ) (h : Heard) (link : L
 read_ends {V} {T} engine n h link items a now mark final middle hears p q e left session owes tells =
     let none : middle ≡ [] = (nothing_left middle link.server.due e).0 in
     let all : hear_items false h items ≡ Ok (heard now None Answered) =
-        hears ∙ ap (λ (m : Option Reset). fine (heard now m (done_of final))) p ∙ ap (λ (f : Bool). fine (heard now None (done_of f))) q in
+    hears ∙ ap (λ (m : Option Reset). fine (heard now m (done_of final))) p ∙ ap (λ (f : Bool). fine (heard now None (done_of f))) q in
     record {
       after = heard now None Awaited;
       is = ap (λ (r : Result Heard ListenFault). reads (line n Reading h) (part_of items parts.Ends) true (heard_until false h items) r) (ap (then_close false parts.Ends) all);
@@ -138,10 +138,20 @@ read_closed : {V T : Type 0} (engine : Engine V T) (n : ℕ) (h : Heard) (link :
     → ReadsOn engine n h link (part_of items close) ⊎ ReadsOut n h link (part_of items close)
 read_closed engine n h link items parts.Goes a now mark final middle hears answer end left session owes tells =
     inl (read_goes engine n h link items a
-      (record { now = now; left_mark = mark; now_final = final; middle = middle;
-        hears = ap (λ (x : Heard). hear_items false x items) (sym (same_heard h a.session (done_of a.final) a.transaction a.done)) ∙ hears;
-        answer = answer; end = end; left = left; session = session; owes = owes; tells = tells })
-      hears)
+    (record {
+      now = now;
+      left_mark = mark;
+      now_final = final;
+      middle = middle;
+      hears = ap (λ (x : Heard). hear_items false x items) (sym (same_heard h a.session (done_of a.final) a.transaction a.done)) ∙ hears;
+      answer = answer;
+      end = end;
+      left = left;
+      session = session;
+      owes = owes;
+      tells = tells;
+    })
+    hears)
 read_closed engine n h link items parts.Ends a now mark final [] hears answer end left session owes tells = absurd end
 read_closed engine n h link items parts.Ends a now mark final (Says item after ∷ middle) hears answer end left session owes tells = absurd end
 read_closed engine n h link items parts.Ends a now mark final (Breaks ∷ middle) hears answer end left session owes tells = absurd end
@@ -158,8 +168,8 @@ pub read_comes : {V T : Type 0} (engine : Engine V T) (n : ℕ) (h : Heard) (lin
 read_comes engine n h link part a c =
     let rd = reads_to engine.settings h.mark a.session a.final part.items part.close link.down link.server.due a.answer c.1 in
     read_closed engine n h link part.items part.close a rd.now rd.left_mark rd.now_final rd.middle
-      (ap (λ (x : Heard). hear_items false x part.items) (same_heard h a.session (done_of a.final) a.transaction a.done) ∙ rd.hears)
-      rd.answer rd.end rd.left rd.session rd.owes rd.tells
+    (ap (λ (x : Heard). hear_items false x part.items) (same_heard h a.session (done_of a.final) a.transaction a.done) ∙ rd.hears)
+    rd.answer rd.end rd.left rd.session rd.owes rd.tells
 
 -- ---- What comes behind a cancel
 
@@ -295,13 +305,13 @@ skip_closed n h stopped link items parts.Ends a now mark done (Says item after �
 skip_closed n h stopped link items parts.Ends a now mark done (Breaks ∷ middle) hears c end left session owes = absurd end
 skip_closed n h stopped link items parts.Ends a now mark done (Ends ∷ middle) hears c end left session owes =
     skip_ends n h stopped link (part_of items parts.Ends) a now mark done middle
-      (end_turn n h (part_of items parts.Ends) (heard now mark done) refl (ap (then_close true parts.Ends) hears ∙ may_close (heard now mark done) done)) c left session owes
+    (end_turn n h (part_of items parts.Ends) (heard now mark done) refl (ap (then_close true parts.Ends) hears ∙ may_close (heard now mark done) done)) c left session owes
 skip_closed n h stopped link items parts.Cut a now mark done [] hears c end left session owes = absurd end
 skip_closed n h stopped link items parts.Cut a now mark done (Says item after ∷ middle) hears c end left session owes = absurd end
 skip_closed n h stopped link items parts.Cut a now mark done (Ends ∷ middle) hears c end left session owes = absurd end
 skip_closed n h stopped link items parts.Cut a now mark done (Breaks ∷ middle) hears c end left session owes =
     skip_ends n h stopped link (part_of items parts.Cut) a now mark done middle
-      (end_turn n h (part_of items parts.Cut) (heard now mark done) refl (ap (then_close true parts.Cut) hears ∙ may_close (heard now mark done) done)) c left session owes
+    (end_turn n h (part_of items parts.Cut) (heard now mark done) refl (ap (then_close true parts.Cut) hears ∙ may_close (heard now mark done) done)) c left session owes
 skip_closed n h stopped link items (parts.Fails refusal) a now mark done middle hears c end left session owes = absurd end
 
 pub skip_comes : {V T : Type 0} (n : ℕ) (h : Heard) (stopped : Bool) (link : Link V T) (part : Part T) → Stops stopped h link
@@ -309,8 +319,8 @@ pub skip_comes : {V T : Type 0} (n : ℕ) (h : Heard) (stopped : Bool) (link : L
 skip_comes {V} {T} n h stopped link part a c =
     let sk = skips_to stopped h.mark a.session h.done part.items part.close link.down link.server.due a.cancels c.1 in
     skip_closed n h stopped link part.items part.close a sk.now sk.left_mark sk.now_done sk.middle
-      (ap (λ (x : Heard). hear_items true x part.items) (same_heard h a.session h.done a.transaction refl) ∙ sk.hears)
-      sk.cancels sk.end sk.left sk.session sk.owes
+    (ap (λ (x : Heard). hear_items true x part.items) (same_heard h a.session h.done a.transaction refl) ∙ sk.hears)
+    sk.cancels sk.end sk.left sk.session sk.owes
 
 -- ---- Where nothing is said nothing comes
 

@@ -88,8 +88,8 @@ piece items = record { items = items; close = parts.Goes }
 
 abbrev crossing : List (Planned ℕ)
 crossing = Does line.Ask ∷ Does (line.Send true) ∷ Takes ∷ Speaks ∷ Speaks ∷ Speaks ∷ Speaks ∷ Does line.Cancel
-  ∷ Does (line.Come (piece (begun ∷ row ∷ []))) ∷ Takes ∷ Speaks ∷ Does (line.Come (whole (done ∷ []))) ∷ Speaks
-  ∷ Does (line.Come (whole (acknowledged ∷ []))) ∷ Does line.Ask ∷ []
+    ∷ Does (line.Come (piece (begun ∷ row ∷ []))) ∷ Takes ∷ Speaks ∷ Does (line.Come (whole (done ∷ []))) ∷ Speaks
+    ∷ Does (line.Come (whole (acknowledged ∷ []))) ∷ Does line.Ask ∷ []
 
 crossing_runs : IsRun small (moves_by new_line crossing) (history new_line (acts_in crossing))
 crossing_runs = record {
@@ -111,7 +111,7 @@ crossing_ends = refl
 
 abbrev resetting : List (Planned ℕ)
 resetting = Does (line.Mark Full) ∷ Does line.Ask ∷ Does (line.Send false) ∷ Takes ∷ Does (line.Send true) ∷ Takes ∷ Speaks ∷ Speaks
-  ∷ Does (line.Come (piece (reset ∷ begun ∷ []))) ∷ Speaks ∷ Speaks ∷ Speaks ∷ Does (line.Come (whole (row ∷ done ∷ []))) ∷ []
+    ∷ Does (line.Come (piece (reset ∷ begun ∷ []))) ∷ Speaks ∷ Speaks ∷ Speaks ∷ Does (line.Come (whole (row ∷ done ∷ []))) ∷ []
 
 resetting_runs : IsRun small (moves_by new_line resetting) (history new_line (acts_in resetting))
 resetting_runs = record {
@@ -135,7 +135,7 @@ resetting_owns = refl
 
 abbrev ignoring : List (Planned ℕ)
 ignoring = Does line.Ask ∷ Does (line.Send false) ∷ Does line.Cancel ∷ Takes ∷ Takes ∷ Takes ∷ Speaks ∷ Speaks
-  ∷ Does (line.Come (whole (acknowledged ∷ []))) ∷ []
+    ∷ Does (line.Come (whole (acknowledged ∷ []))) ∷ []
 
 ignoring_runs : IsRun small (moves_by new_line ignoring) (history new_line (acts_in ignoring))
 ignoring_runs = record {

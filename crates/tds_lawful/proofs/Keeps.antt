@@ -28,7 +28,9 @@ pub takes_part : {V T : Type 0} (engine : Engine V T) (n : ℕ) (h : Heard) (lin
     → Uploads n h (taken engine link (ups link.asking packets)) (AreParts n h.mark)
 takes_part engine n h link u [] e are t = absurd t
 takes_part engine n h link u (OfRequest request first own false ∷ packets) e are t = record {
-  packets = packets; up = refl; are = are.1;
+  packets = packets;
+  up = refl;
+  are = are.1;
   still = record { down = u.still.down; due = u.still.due; transaction = u.still.transaction; done = u.still.done };
   named = u.named;
 }
@@ -42,8 +44,8 @@ pub answers_it : {V T : Type 0} (engine : Engine V T) (lawful : IsLawful engine)
     → IsAnswer engine.settings h.mark link.server.session false (link.down ++ engine.answers request link.server.session reset link.asking.named)
 answers_it {V} {T} engine lawful h link s request reset e =
     subst (λ (d : List (Step V T)). IsAnswer engine.settings h.mark link.server.session false (d ++ engine.answers request link.server.session reset link.asking.named)) (sym s.down)
-      (subst (λ (m : Option Reset). IsAnswer engine.settings m link.server.session false (engine.answers request link.server.session reset link.asking.named)) e
-        (lawful.answers request link.server.session reset link.asking.named))
+    (subst (λ (m : Option Reset). IsAnswer engine.settings m link.server.session false (engine.answers request link.server.session reset link.asking.named)) e
+    (lawful.answers request link.server.session reset link.asking.named))
 
 pub no_down : {V T : Type 0} (h : Heard) (link : Link V T) → Still h link → link.server.session ≡ behind link.server.session link.down
 no_down {V} {T} h link s = ap (behind link.server.session) (sym s.down)
@@ -53,7 +55,9 @@ takes_whole : {V T : Type 0} (engine : Engine V T) (lawful : IsLawful engine) (n
     → Flow engine n Reading h (taken engine link (ups link.asking packets))
 takes_whole engine lawful n h link named s [] are t = absurd are
 takes_whole engine lawful n h link named s (OfRequest request first own false ∷ packets) are t = inl (record {
-  packets = packets; up = refl; are = are.1;
+  packets = packets;
+  up = refl;
+  are = are.1;
   still = record { down = s.down; due = s.due; transaction = s.transaction; done = s.done };
   named = named;
 })
@@ -74,21 +78,26 @@ takes_whole_left : {V T : Type 0} (engine : Engine V T) (lawful : IsLawful engin
     → Flow engine n Cancelling h (taken engine link (ups link.asking packets))
 takes_whole_left engine lawful n h link named s [] are t = absurd are
 takes_whole_left engine lawful n h link named s (OfRequest request first own false ∷ packets) are t = inl (record {
-  packets = packets; up = refl; are = inl are.1;
+  packets = packets;
+  up = refl;
+  are = inl are.1;
   still = record { down = s.down; due = s.due; transaction = s.transaction; done = s.done };
   named = named;
 })
 takes_whole_left {V} {T} engine lawful n h link named s (OfRequest request first own true ∷ packets) are t =
     let steps : List (Step V T) = link.down ++ engine.answers request link.server.session (if first then own else link.server.reset) link.asking.named in
-    inr (false, record {
-      up = ap (ups link.asking) are.2;
-      session = link.server.session;
-      transaction = s.transaction;
-      cancels = subst (λ (d : FinalDone). Cancels false h.mark link.server.session (acknowledged d) steps) (sym s.done)
-        (answer_cancels engine.settings h.mark link.server.session false steps
-          (answers_it engine lawful h link s request (if first then own else link.server.reset) are.1));
-      server = no_down h link s;
-    })
+    inr (
+      false,
+      record {
+        up = ap (ups link.asking) are.2;
+        session = link.server.session;
+        transaction = s.transaction;
+        cancels = subst (λ (d : FinalDone). Cancels false h.mark link.server.session (acknowledged d) steps) (sym s.done)
+            (answer_cancels engine.settings h.mark link.server.session false steps
+            (answers_it engine lawful h link s request (if first then own else link.server.reset) are.1));
+        server = no_down h link s;
+      },
+    )
 takes_whole_left engine lawful n h link named s (Ignore request ∷ packets) are t = absurd are
 takes_whole_left engine lawful n h link named s (Attention ∷ packets) are t = absurd are
 
@@ -97,20 +106,25 @@ takes_ignored : {V T : Type 0} (engine : Engine V T) (n : ℕ) (h : Heard) (link
     → Flow engine n Cancelling h (taken engine link (ups link.asking packets))
 takes_ignored engine n h link named s [] are t = absurd are
 takes_ignored engine n h link named s (OfRequest request first own false ∷ packets) are t = inl (record {
-  packets = packets; up = refl; are = inr are;
+  packets = packets;
+  up = refl;
+  are = inr are;
   still = record { down = s.down; due = s.due; transaction = s.transaction; done = s.done };
   named = named;
 })
 takes_ignored engine n h link named s (OfRequest request first own true ∷ packets) are t = absurd are
-takes_ignored {V} {T} engine n h link named s (Ignore request ∷ packets) are t = inr (false, record {
-  up = ap (ups link.asking) are;
-  session = link.server.session;
-  transaction = s.transaction;
-  cancels = subst (λ (d : FinalDone). Cancels false h.mark link.server.session (acknowledged d) (link.down ++ link.server.due)) (sym s.done)
-    (subst (λ (xs : List (Step V T)). Cancels false h.mark link.server.session false (xs ++ link.server.due)) (sym s.down)
-      (subst (λ (xs : List (Step V T)). Cancels false h.mark link.server.session false xs) (sym s.due) refl));
-  server = no_down h link s;
-})
+takes_ignored {V} {T} engine n h link named s (Ignore request ∷ packets) are t = inr (
+  false,
+  record {
+    up = ap (ups link.asking) are;
+    session = link.server.session;
+    transaction = s.transaction;
+    cancels = subst (λ (d : FinalDone). Cancels false h.mark link.server.session (acknowledged d) (link.down ++ link.server.due)) (sym s.done)
+        (subst (λ (xs : List (Step V T)). Cancels false h.mark link.server.session false (xs ++ link.server.due)) (sym s.down)
+        (subst (λ (xs : List (Step V T)). Cancels false h.mark link.server.session false xs) (sym s.due) refl));
+    server = no_down h link s;
+  },
+)
 takes_ignored engine n h link named s (Attention ∷ packets) are t = absurd are
 
 takes_left : {V T : Type 0} (engine : Engine V T) (lawful : IsLawful engine) (n : ℕ) (h : Heard) (link : Link V T) (named : Named n h link) (s : Still h link) (packets : List Packet)
@@ -144,7 +158,7 @@ takes_attention {V} {T} engine lawful h link a =
       session = a.session;
       transaction = a.transaction;
       cancels = subst (λ (b : Bool). Cancels true h.mark a.session b (link.down ++ stop)) (sym none)
-        (stops_behind h.mark a.session link.down link.server.due stop
+          (stops_behind h.mark a.session link.down link.server.due stop
           (subst (λ (b : Bool). Cancels false h.mark a.session b (link.down ++ link.server.due)) none a.cancels)
           (subst (λ (s : Session V). IsStop s false stop) a.server (lawful.stops link.asking.request link.server.session)));
       server = a.server;
@@ -156,14 +170,14 @@ keeps_takes engine lawful n Idle h link f t = absurd (none_taken link f.up t)
 keeps_takes engine lawful n (Sending false) h link f t = absurd (none_taken link f.0.up t)
 keeps_takes engine lawful n (Sending true) h link f t =
     subst (λ (u : List Up). Flow engine n (Sending true) h (taken engine link u)) (sym f.up)
-      (takes_part engine n h link f f.packets f.up f.are (subst (λ (u : List Up). TakesNext u link.server.due) f.up t))
+    (takes_part engine n h link f f.packets f.up f.are (subst (λ (u : List Up). TakesNext u link.server.due) f.up t))
 keeps_takes engine lawful n Reading h link (inl f) t =
     subst (λ (u : List Up). Flow engine n Reading h (taken engine link u)) (sym f.up)
-      (takes_whole engine lawful n h link f.named f.still f.packets f.are (subst (λ (u : List Up). TakesNext u link.server.due) f.up t))
+    (takes_whole engine lawful n h link f.named f.still f.packets f.are (subst (λ (u : List Up). TakesNext u link.server.due) f.up t))
 keeps_takes engine lawful n Reading h link (inr f) t = absurd (none_taken link f.up t)
 keeps_takes engine lawful n Cancelling h link (inl f) t =
     subst (λ (u : List Up). Flow engine n Cancelling h (taken engine link u)) (sym f.up)
-      (takes_left engine lawful n h link f.named f.still f.packets f.are (subst (λ (u : List Up). TakesNext u link.server.due) f.up t))
+    (takes_left engine lawful n h link f.named f.still f.packets f.are (subst (λ (u : List Up). TakesNext u link.server.due) f.up t))
 keeps_takes engine lawful n Cancelling h link (inr (true, f)) t = absurd (none_taken link f.up t)
 keeps_takes engine lawful n Cancelling h link (inr (false, f)) t =
     subst (λ (u : List Up). Flow engine n Cancelling h (taken engine link u)) (sym f.up) (inr (true, takes_attention engine lawful h link f))
@@ -195,7 +209,7 @@ speaks_answer {V} {T} engine h link (step ∷ due) e t a = record {
   final = a.final;
   done = a.done;
   answer = subst (λ (xs : List (Step V T)). IsAnswer engine.settings h.mark a.session a.final xs)
-    (ap (λ (d : List (Step V T)). link.down ++ d) e ∙ moves_down link.down due step) a.answer;
+      (ap (λ (d : List (Step V T)). link.down ++ d) e ∙ moves_down link.down due step) a.answer;
   server = said_behind link.server.session a.session link.down step a.server;
 }
 
@@ -207,7 +221,7 @@ speaks_stop {V} {T} stopped h link (step ∷ due) e t a = record {
   session = a.session;
   transaction = a.transaction;
   cancels = subst (λ (xs : List (Step V T)). Cancels stopped h.mark a.session (acknowledged h.done) xs)
-    (ap (λ (d : List (Step V T)). link.down ++ d) e ∙ moves_down link.down due step) a.cancels;
+      (ap (λ (d : List (Step V T)). link.down ++ d) e ∙ moves_down link.down due step) a.cancels;
   server = said_behind link.server.session a.session link.down step a.server;
 }
 
@@ -350,10 +364,13 @@ sends_whole n h link f = record {
 pub keeps_act : {V T : Type 0} (engine : Engine V T) (n : ℕ) (stage : Stage) (h : Heard) (link : Link V T) (a : Act T)
     → Flow engine n stage h link → Comes a link.down link.server.due → Kept engine link a (turn (line n stage h) a)
 keeps_act engine n Idle h link (Mark reset) f c = quiet_before h (with_mark h reset) link refl refl f
-keeps_act engine n Idle h link Ask f c = (record {
-  up = ap (λ (u : List Up). u ++ []) f.up;
-  still = record { down = f.still.down; due = f.still.due; transaction = f.still.transaction; done = f.still.done };
-}, (refl, refl))
+keeps_act engine n Idle h link Ask f c = (
+  record {
+    up = ap (λ (u : List Up). u ++ []) f.up;
+    still = record { down = f.still.down; due = f.still.due; transaction = f.still.transaction; done = f.still.done };
+  },
+  (refl, refl),
+)
 keeps_act engine n Idle h link (Send last) f c = stays engine n Idle h link f
 keeps_act engine n Idle h link Cancel f c = stays engine n Idle h link f
 keeps_act engine n Idle h link (Come part) f c = absurd (nothing_comes h link part f.still c)
@@ -388,14 +405,17 @@ keeps_act engine n Reading h link Cancel (inl f) c = inl (record {
   still = still_after h link _ f.still;
   named = f.named;
 })
-keeps_act engine n Reading h link Cancel (inr f) c = inr (false, record {
-  up = ap (λ (u : List Up). u ++ ups link.asking (Attention ∷ [])) f.up;
-  session = f.session;
-  transaction = f.transaction;
-  cancels = subst (λ (b : Bool). Cancels false h.mark f.session b (link.down ++ link.server.due)) (sym (ap acknowledged f.done ∙ plain f.final))
-    (answer_cancels engine.settings h.mark f.session f.final (link.down ++ link.server.due) f.answer);
-  server = f.server;
-})
+keeps_act engine n Reading h link Cancel (inr f) c = inr (
+  false,
+  record {
+    up = ap (λ (u : List Up). u ++ ups link.asking (Attention ∷ [])) f.up;
+    session = f.session;
+    transaction = f.transaction;
+    cancels = subst (λ (b : Bool). Cancels false h.mark f.session b (link.down ++ link.server.due)) (sym (ap acknowledged f.done ∙ plain f.final))
+        (answer_cancels engine.settings h.mark f.session f.final (link.down ++ link.server.due) f.answer);
+    server = f.server;
+  },
+)
 keeps_act engine n Reading h link (Come part) (inl f) c = absurd (nothing_comes h link part f.still c)
 keeps_act engine n Reading h link (Come part) (inr f) c = keeps_read engine n h link part (read_comes engine n h link part f c)
 keeps_act engine n Reading h link Lose f c = tt

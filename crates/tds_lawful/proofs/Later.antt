@@ -126,7 +126,7 @@ begins_stage : {V T : Type 0} (engine : Engine V T) (lawful : IsLawful engine) (
     → OwnOf engine l.asked (line l.asked stage l.heard) link plan
 begins_stage {V} {T} engine lawful l link plan stage e =
     subst (λ (s : Stage). Flow engine l.asked s l.heard link → Runs engine link (moves_by (line l.asked s l.heard) plan) → OwnOf engine l.asked (line l.asked s l.heard) link plan) (sym e)
-      (λ f runs. own_now engine lawful l.asked (Sending false) l.heard link plan f runs)
+    (λ f runs. own_now engine lawful l.asked (Sending false) l.heard link plan f runs)
 
 own_begins : {V T : Type 0} (engine : Engine V T) (lawful : IsLawful engine) (r : ℕ) (l : Line) (link : Link V T) (plan : List (Planned T)) → Reaches r l
     → FlowOn engine l link → Runs engine link (moves_by l plan) → OwnOf engine r l link plan
@@ -149,32 +149,32 @@ own_later engine lawful r n stage h link (Does a ∷ plan) f p runs =
     let next = done_here link (done_by a (turn (line n stage h) a)) in
     let g : FlowOn engine l next = keeps_act engine n stage h link a f runs.0 in
     own_untold r (done_by a (turn (line n stage h) a)) (ds_by l plan) (answered engine next r (moves_by l plan)) s.0
-      (own_behind engine lawful r l next plan s.1 g runs.1 (λ (q : l.asked < r). own_later engine lawful r l.asked l.stage l.heard next plan g q runs.1))
+    (own_behind engine lawful r l next plan s.1 g runs.1 (λ (q : l.asked < r). own_later engine lawful r l.asked l.stage l.heard next plan g q runs.1))
 own_later engine lawful r n stage h link (Speaks ∷ plan) f p runs =
     own_later engine lawful r n stage h (goes engine link links.Speaks) plan (keeps_speaks engine n stage h link f runs.0) p runs.1
 own_later engine lawful r n Idle h link (Takes ∷ plan) f p runs =
     own_waits engine n r Idle h link plan (none_up engine r link [] f.up refl)
-      (own_later engine lawful r n Idle h (goes engine link links.Takes) plan (keeps_takes engine lawful n Idle h link f runs.0) p runs.1)
+    (own_later engine lawful r n Idle h (goes engine link links.Takes) plan (keeps_takes engine lawful n Idle h link f runs.0) p runs.1)
 own_later engine lawful r n (Sending false) h link (Takes ∷ plan) f p runs =
     own_waits engine n r (Sending false) h link plan (none_up engine r link [] f.0.up refl)
-      (own_later engine lawful r n (Sending false) h (goes engine link links.Takes) plan (keeps_takes engine lawful n (Sending false) h link f runs.0) p runs.1)
+    (own_later engine lawful r n (Sending false) h (goes engine link links.Takes) plan (keeps_takes engine lawful n (Sending false) h link f runs.0) p runs.1)
 own_later engine lawful r n (Sending true) h link (Takes ∷ plan) f p runs =
     own_waits engine n r (Sending true) h link plan (none_up engine r link (ups link.asking f.packets) f.up (none_in_parts engine n r h.mark link f.packets f.are))
-      (own_later engine lawful r n (Sending true) h (goes engine link links.Takes) plan (keeps_takes engine lawful n (Sending true) h link f runs.0) p runs.1)
+    (own_later engine lawful r n (Sending true) h (goes engine link links.Takes) plan (keeps_takes engine lawful n (Sending true) h link f runs.0) p runs.1)
 own_later engine lawful r n Reading h link (Takes ∷ plan) (inl f) p runs =
     own_waits engine n r Reading h link plan (none_up engine r link (ups link.asking f.packets) f.up (none_in_whole engine n r h.mark [] link f.packets p f.are))
-      (own_later engine lawful r n Reading h (goes engine link links.Takes) plan (keeps_takes engine lawful n Reading h link (inl f) runs.0) p runs.1)
+    (own_later engine lawful r n Reading h (goes engine link links.Takes) plan (keeps_takes engine lawful n Reading h link (inl f) runs.0) p runs.1)
 own_later engine lawful r n Reading h link (Takes ∷ plan) (inr f) p runs =
     own_waits engine n r Reading h link plan (none_up engine r link [] f.up refl)
-      (own_later engine lawful r n Reading h (goes engine link links.Takes) plan (keeps_takes engine lawful n Reading h link (inr f) runs.0) p runs.1)
+    (own_later engine lawful r n Reading h (goes engine link links.Takes) plan (keeps_takes engine lawful n Reading h link (inr f) runs.0) p runs.1)
 own_later engine lawful r n Cancelling h link (Takes ∷ plan) (inl f) p runs =
     own_waits engine n r Cancelling h link plan (none_up engine r link (ups link.asking f.packets) f.up (none_in_left engine n r h.mark link f.packets p f.are))
-      (own_later engine lawful r n Cancelling h (goes engine link links.Takes) plan (keeps_takes engine lawful n Cancelling h link (inl f) runs.0) p runs.1)
+    (own_later engine lawful r n Cancelling h (goes engine link links.Takes) plan (keeps_takes engine lawful n Cancelling h link (inl f) runs.0) p runs.1)
 own_later engine lawful r n Cancelling h link (Takes ∷ plan) (inr (true, f)) p runs =
     own_waits engine n r Cancelling h link plan (none_up engine r link [] f.up refl)
-      (own_later engine lawful r n Cancelling h (goes engine link links.Takes) plan (keeps_takes engine lawful n Cancelling h link (inr (true, f)) runs.0) p runs.1)
+    (own_later engine lawful r n Cancelling h (goes engine link links.Takes) plan (keeps_takes engine lawful n Cancelling h link (inr (true, f)) runs.0) p runs.1)
 own_later engine lawful r n Cancelling h link (Takes ∷ plan) (inr (false, f)) p runs =
     own_waits engine n r Cancelling h link plan (none_up engine r link (ups link.asking (Attention ∷ [])) f.up refl)
-      (own_later engine lawful r n Cancelling h (goes engine link links.Takes) plan (keeps_takes engine lawful n Cancelling h link (inr (false, f)) runs.0) p runs.1)
+    (own_later engine lawful r n Cancelling h (goes engine link links.Takes) plan (keeps_takes engine lawful n Cancelling h link (inr (false, f)) runs.0) p runs.1)
 own_later engine lawful r n (Broken fault) h link (Takes ∷ plan) f p runs =
     own_silent r (ds_by (line n (Broken fault) h) plan) _ (past r (line n (Broken fault) h) plan tt)

@@ -23,7 +23,7 @@ pub own_there : {V T : Type 0} (engine : Engine V T) (moves : List (Move T)) (ds
     → IsOwn r ds (answered engine (new_link engine) r moves)
 own_there {V} {T} engine moves ds r a lawful run =
     subst (λ (xs : List (Done T)). IsOwn r xs (answered engine (new_link engine) r moves)) (sym a)
-      (own_answer engine (acts_of ds) moves r lawful (alone_run engine moves ds a run))
+    (own_answer engine (acts_of ds) moves r lawful (alone_run engine moves ds a run))
 
 pub no_fault_there : {V T : Type 0} (engine : Engine V T) (moves : List (Move T)) (ds : List (Done T)) → Alone ds → IsLawful engine → IsRun engine moves ds → NoFault ds
 no_fault_there {V} {T} engine moves ds a lawful run =

@@ -32,10 +32,12 @@ own_told : {V T : Type 0} (n : ℕ) (d : Done T) (ds : List (Done T)) (tokens : 
 own_told {V} {T} n d ds tokens steps rest e f g o =
     let h : given n (d ∷ ds) ≡ tokens ++ given n ds = ap (λ (xs : List T). xs ++ given n ds) e in
     record {
-      begins = (o.begins.0,
-        ap (λ (xs : List T). xs ++ o.begins.0) h ∙ append_assoc tokens (given n ds) o.begins.0 ∙ ap (λ (xs : List T). tokens ++ xs) o.begins.1 ∙ sym g);
+      begins = (
+        o.begins.0,
+        ap (λ (xs : List T). xs ++ o.begins.0) h ∙ append_assoc tokens (given n ds) o.begins.0 ∙ ap (λ (xs : List T). tokens ++ xs) o.begins.1 ∙ sym g,
+      );
       whole = λ (w : finishes n (d ∷ ds) ≡ true).
-        h ∙ ap (λ (xs : List T). tokens ++ xs) (o.whole (sym (ap (λ (b : Bool). b || finishes n ds) f) ∙ w)) ∙ sym g;
+          h ∙ ap (λ (xs : List T). tokens ++ xs) (o.whole (sym (ap (λ (b : Bool). b || finishes n ds) f) ∙ w)) ∙ sym g;
     }
 
 -- the last ones are told
@@ -43,7 +45,7 @@ own_last : {V T : Type 0} (n : ℕ) (d : Done T) (ds : List (Done T)) (tokens : 
     → told_to n d.told ≡ tokens → told_of steps ≡ tokens → Silent n ds → IsOwn n (d ∷ ds) steps
 own_last {V} {T} n d ds tokens steps e g s =
     let h : given n (d ∷ ds) ≡ told_of steps =
-        ap (λ (xs : List T). xs ++ given n ds) e ∙ ap (λ (xs : List T). tokens ++ xs) s.given_nothing ∙ append_nothing tokens ∙ sym g in
+    ap (λ (xs : List T). xs ++ given n ds) e ∙ ap (λ (xs : List T). tokens ++ xs) s.given_nothing ∙ append_nothing tokens ∙ sym g in
     record {
       begins = ([], ap (λ (xs : List T). xs ++ []) h ∙ append_nothing (told_of steps));
       whole = λ (w : finishes n (d ∷ ds) ≡ true). h;
@@ -69,12 +71,12 @@ own_reads : {V T : Type 0} (engine : Engine V T) (n : ℕ) (h : Heard) (link : L
     → OwnNext n (Come part) (turn (line n Reading h) (Come part)) plan (left_of link)
 own_reads {V} {T} engine n h link part plan (inl r) runs ih =
     subst (λ (t : Turn T). OwnNext n (Come part) t plan (left_of link)) (sym r.is)
-      (own_told n _ (ds_by (line n Reading r.after) plan) (told part.items) (left_of link) (left_of (came link part)) (to_self n (told part.items)) refl r.tells
-        (ih r.after (came link part) r.answers (subst (λ (t : Turn T). RunsNext engine link (Come part) t plan) r.is runs)))
+    (own_told n _ (ds_by (line n Reading r.after) plan) (told part.items) (left_of link) (left_of (came link part)) (to_self n (told part.items)) refl r.tells
+    (ih r.after (came link part) r.answers (subst (λ (t : Turn T). RunsNext engine link (Come part) t plan) r.is runs)))
 own_reads {V} {T} engine n h link part plan (inr r) runs ih =
     subst (λ (t : Turn T). OwnNext n (Come part) t plan (left_of link)) (sym r.is)
-      (own_last n _ (ds_by (line n Idle r.after) plan) (told part.items) (left_of link) (to_self n (told part.items)) r.tells
-        (past n (line n Idle r.after) plan (omega arith)))
+    (own_last n _ (ds_by (line n Idle r.after) plan) (told part.items) (left_of link) (to_self n (told part.items)) r.tells
+    (past n (line n Idle r.after) plan (omega arith)))
 
 own_same : {V T : Type 0} (engine : Engine V T) (n : ℕ) (h : Heard) (link : Link V T) (plan : List (Planned T)) (d : Done T) → Untold n d
     → Answers engine h link
@@ -83,7 +85,7 @@ own_same : {V T : Type 0} (engine : Engine V T) (n : ℕ) (h : Heard) (link : Li
     → IsOwn n (d ∷ ds_by (line n Reading h) plan) (left_of link)
 own_same {V} {T} engine n h link plan d u a runs ih =
     own_untold n d (ds_by (line n Reading h) plan) (left_of link) u
-      (ih link a (subst (λ (k : Link V T). Runs engine k (moves_by (line n Reading h) plan)) (same_link link) runs))
+    (ih link a (subst (λ (k : Link V T). Runs engine k (moves_by (line n Reading h) plan)) (same_link link) runs))
 
 told_on : {V T : Type 0} (n : ℕ) (ds : List (Done T)) (xs ys : List (Step V T)) → xs ≡ ys → IsOwn n ds xs → IsOwn n ds ys
 told_on {V} {T} n ds xs ys e o = subst (λ (zs : List (Step V T)). IsOwn n ds zs) e o
@@ -98,7 +100,7 @@ own_reading engine n h link [] a runs = own_silent n [] (left_of link) (record {
 own_reading engine n h link (Takes ∷ plan) a runs = absurd (none_taken link a.up runs.0)
 own_reading engine n h link (Speaks ∷ plan) a runs =
     told_on n (ds_by (line n Reading h) plan) (left_of (spoken link link.server.due)) (left_of link) (spoken_left link link.server.due refl runs.0)
-      (own_reading engine n h (spoken link link.server.due) plan (speaks_answer engine h link link.server.due refl runs.0 a) runs.1)
+    (own_reading engine n h (spoken link link.server.due) plan (speaks_answer engine h link link.server.due refl runs.0 a) runs.1)
 own_reading engine n h link (Does (Mark reset) ∷ plan) a runs =
     own_same engine n h link plan _ (record { told = refl; finished = refl }) a runs.1 (λ k b r. own_reading engine n h k plan b r)
 own_reading engine n h link (Does Ask ∷ plan) a runs =
@@ -107,12 +109,12 @@ own_reading engine n h link (Does (Send last) ∷ plan) a runs =
     own_same engine n h link plan _ (record { told = refl; finished = refl }) a runs.1 (λ k b r. own_reading engine n h k plan b r)
 own_reading engine n h link (Does Cancel ∷ plan) a runs =
     own_untold n _ (ds_by (line n Cancelling h) plan) (left_of link) (record { told = refl; finished = refl })
-      (own_silent n (ds_by (line n Cancelling h) plan) (left_of link) (past n (line n Cancelling h) plan (omega arith)))
+    (own_silent n (ds_by (line n Cancelling h) plan) (left_of link) (past n (line n Cancelling h) plan (omega arith)))
 own_reading engine n h link (Does (Come part) ∷ plan) a runs =
     own_reads engine n h link part plan (read_comes engine n h link part a runs.0) runs.1 (λ g k b r. own_reading engine n g k plan b r)
 own_reading engine n h link (Does Lose ∷ plan) a runs =
     own_untold n _ (ds_by (line n (Broken faults.Lost) h) plan) (left_of link) (record { told = refl; finished = refl })
-      (own_silent n (ds_by (line n (Broken faults.Lost) h) plan) (left_of link) (past n (line n (Broken faults.Lost) h) plan tt))
+    (own_silent n (ds_by (line n (Broken faults.Lost) h) plan) (left_of link) (past n (line n (Broken faults.Lost) h) plan tt))
 
 -- ---- It is asked, and its last packet isn't taken yet
 
@@ -146,12 +148,14 @@ chosen {A} request n x e = ap (λ (b : Bool). if b then Some x else None) (ap (�
 starts_by : {V T : Type 0} (engine : Engine V T) (lawful : IsLawful engine) (n : ℕ) (h : Heard) (link : Link V T) (named : Named n h link) (s : Still h link) (packets : List Packet)
     → IsWhole n h.mark [] link.server.reset packets
     → Waits engine n h link (taken engine link (ups link.asking packets)) (ups link.asking packets)
-      ⊎ Starts engine n h link (taken engine link (ups link.asking packets)) (ups link.asking packets)
+    ⊎ Starts engine n h link (taken engine link (ups link.asking packets)) (ups link.asking packets)
 starts_by engine lawful n h link named s [] are = absurd are
 starts_by engine lawful n h link named s (OfRequest request first own false ∷ packets) are = inl (record {
   now = refl;
   uploads = record {
-    packets = packets; up = refl; are = are.1;
+    packets = packets;
+    up = refl;
+    are = are.1;
     still = record { down = s.down; due = s.due; transaction = s.transaction; done = s.done };
     named = named;
   };
@@ -195,9 +199,9 @@ own_starts : {V T : Type 0} (engine : Engine V T) (n : ℕ) (h : Heard) (link : 
 own_starts {V} {T} engine n h link plan s runs =
     let next : Link V T = goes engine link links.Takes in
     told_on n (ds_by (line n Reading h) plan) (left_of next) (answered engine link n (links.Takes ∷ moves_by (line n Reading h) plan))
-      (ap (λ (d : List (Step V T)). d ++ next.server.due) s.none
-        ∙ sym (later engine n link (moves_by (line n Reading h) plan) (Some next.server.due) s.now))
-      (own_reading engine n h next plan s.answers runs)
+    (ap (λ (d : List (Step V T)). d ++ next.server.due) s.none
+    ∙ sym (later engine n link (moves_by (line n Reading h) plan) (Some next.server.due) s.now))
+    (own_reading engine n h next plan s.answers runs)
 
 pub own_waits : {V T : Type 0} (engine : Engine V T) (n r : ℕ) (stage : Stage) (h : Heard) (link : Link V T) (plan : List (Planned T))
     → answer_now engine link r link.up ≡ None
@@ -205,7 +209,7 @@ pub own_waits : {V T : Type 0} (engine : Engine V T) (n r : ℕ) (stage : Stage)
     → OwnOf engine r (line n stage h) link (Takes ∷ plan)
 own_waits engine n r stage h link plan e o =
     told_on r (ds_by (line n stage h) plan) (answered engine (goes engine link links.Takes) r (moves_by (line n stage h) plan)) _
-      (sym (later engine r link (moves_by (line n stage h) plan) None e)) o
+    (sym (later engine r link (moves_by (line n stage h) plan) None e)) o
 
 -- nothing is done there
 own_before : {V T : Type 0} (engine : Engine V T) (n : ℕ) (stage : Stage) (h : Heard) (link : Link V T) (plan : List (Planned T)) (d : Done T) → Untold n d
@@ -214,7 +218,7 @@ own_before : {V T : Type 0} (engine : Engine V T) (n : ℕ) (stage : Stage) (h :
     → IsOwn n (d ∷ ds_by (line n stage h) plan) (answered engine (as_before link) n (moves_by (line n stage h) plan))
 own_before {V} {T} engine n stage h link plan d u o runs ih =
     own_untold n d (ds_by (line n stage h) plan) (answered engine (as_before link) n (moves_by (line n stage h) plan)) u
-      (ih (as_before link) (subst (λ (k : Link V T). Out n stage h k) (sym (same_link link)) o) runs)
+    (ih (as_before link) (subst (λ (k : Link V T). Out n stage h k) (sym (same_link link)) o) runs)
 
 -- it is done with
 own_past : {V T : Type 0} (n : ℕ) (d : Done T) (l : Line) (plan : List (Planned T)) (steps : List (Step V T)) → Untold n d → IsPastOn l n
@@ -225,7 +229,7 @@ taken_whole : {V T : Type 0} (engine : Engine V T) (lawful : IsLawful engine) (n
     → Waits engine n h link (goes engine link links.Takes) link.up ⊎ Starts engine n h link (goes engine link links.Takes) link.up
 taken_whole engine lawful n h link f =
     subst (λ (u : List Up). Waits engine n h link (taken engine link u) u ⊎ Starts engine n h link (taken engine link u) u) (sym f.up)
-      (starts_by engine lawful n h link f.named f.still f.packets f.are)
+    (starts_by engine lawful n h link f.named f.still f.packets f.are)
 
 own_takes : {V T : Type 0} (engine : Engine V T) (n : ℕ) (h : Heard) (link : Link V T) (plan : List (Planned T))
     → Waits engine n h link (goes engine link links.Takes) link.up ⊎ Starts engine n h link (goes engine link links.Takes) link.up
@@ -256,10 +260,10 @@ own_now engine lawful n (Sending false) h link (Does Ask ∷ plan) o runs =
     own_before engine n (Sending false) h link plan _ (record { told = refl; finished = refl }) o runs.1 (λ k p r. own_now engine lawful n (Sending false) h k plan p r)
 own_now engine lawful n (Sending false) h link (Does (Send false) ∷ plan) o runs =
     own_untold n _ (ds_by (line n (Sending true) h) plan) _ (record { told = refl; finished = refl })
-      (own_now engine lawful n (Sending true) h _ plan (begins_part n h link o) runs.1)
+    (own_now engine lawful n (Sending true) h _ plan (begins_part n h link o) runs.1)
 own_now engine lawful n (Sending false) h link (Does (Send true) ∷ plan) o runs =
     own_untold n _ (ds_by (line n Reading h) plan) _ (record { told = refl; finished = refl })
-      (own_now engine lawful n Reading h _ plan (begins_whole n h link o) runs.1)
+    (own_now engine lawful n Reading h _ plan (begins_whole n h link o) runs.1)
 own_now engine lawful n (Sending false) h link (Does Cancel ∷ plan) o runs =
     own_past n _ (line n Idle h) plan _ (record { told = refl; finished = refl }) (omega arith)
 own_now engine lawful n (Sending false) h link (Does (Come part) ∷ plan) o runs = absurd (nothing_comes h link part o.0.still runs.0)
@@ -267,7 +271,7 @@ own_now engine lawful n (Sending false) h link (Does Lose ∷ plan) o runs =
     own_past n _ (line n (Broken faults.Lost) h) plan _ (record { told = refl; finished = refl }) tt
 own_now engine lawful n (Sending true) h link (Takes ∷ plan) o runs =
     own_waits engine n n (Sending true) h link plan (no_last engine n n h link o)
-      (own_now engine lawful n (Sending true) h (goes engine link links.Takes) plan (keeps_takes engine lawful n (Sending true) h link o runs.0) runs.1)
+    (own_now engine lawful n (Sending true) h (goes engine link links.Takes) plan (keeps_takes engine lawful n (Sending true) h link o runs.0) runs.1)
 own_now engine lawful n (Sending true) h link (Speaks ∷ plan) o runs = absurd (none_due link.server.due o.still.due runs.0)
 own_now engine lawful n (Sending true) h link (Does (Mark reset) ∷ plan) o runs =
     own_before engine n (Sending true) h link plan _ (record { told = refl; finished = refl }) o runs.1 (λ k p r. own_now engine lawful n (Sending true) h k plan p r)
@@ -275,10 +279,10 @@ own_now engine lawful n (Sending true) h link (Does Ask ∷ plan) o runs =
     own_before engine n (Sending true) h link plan _ (record { told = refl; finished = refl }) o runs.1 (λ k p r. own_now engine lawful n (Sending true) h k plan p r)
 own_now engine lawful n (Sending true) h link (Does (Send false) ∷ plan) o runs =
     own_untold n _ (ds_by (line n (Sending true) h) plan) _ (record { told = refl; finished = refl })
-      (own_now engine lawful n (Sending true) h _ plan (sends_part n h link o) runs.1)
+    (own_now engine lawful n (Sending true) h _ plan (sends_part n h link o) runs.1)
 own_now engine lawful n (Sending true) h link (Does (Send true) ∷ plan) o runs =
     own_untold n _ (ds_by (line n Reading h) plan) _ (record { told = refl; finished = refl })
-      (own_now engine lawful n Reading h _ plan (sends_whole n h link o) runs.1)
+    (own_now engine lawful n Reading h _ plan (sends_whole n h link o) runs.1)
 own_now engine lawful n (Sending true) h link (Does Cancel ∷ plan) o runs =
     own_past n _ (line n Cancelling h) plan _ (record { told = refl; finished = refl }) (omega arith)
 own_now engine lawful n (Sending true) h link (Does (Come part) ∷ plan) o runs = absurd (nothing_comes h link part o.still runs.0)

@@ -62,7 +62,7 @@ pub flow_after : {V T : Type 0} (engine : Engine V T) (lawful : IsLawful engine)
 flow_after engine lawful l link [] f runs = f
 flow_after engine lawful l link (Does a ∷ plan) f runs =
     flow_after engine lawful (turn l a).line (goes engine link (links.Here (done_by a (turn l a)))) plan
-      (keeps_act engine l.asked l.stage l.heard link a f runs.0) runs.1
+    (keeps_act engine l.asked l.stage l.heard link a f runs.0) runs.1
 flow_after engine lawful l link (Takes ∷ plan) f runs =
     flow_after engine lawful l (goes engine link links.Takes) plan (keeps_takes engine lawful l.asked l.stage l.heard link f runs.0) runs.1
 flow_after engine lawful l link (Speaks ∷ plan) f runs =

@@ -34,15 +34,15 @@ pub never_faults : {V T : Type 0} (engine : Engine V T) (acts : List (Act T)) (m
 never_faults {V} {T} engine acts moves lawful run =
     let f = run_of engine acts moves run in
     subst (λ (ds : List (Done T)). NoFault ds) (ap here (sym f.moves_are) ∙ run.ours)
-      (no_fault engine lawful new_line (new_link engine) f.plan tt (new_flow engine) (planned engine acts moves run f))
+    (no_fault engine lawful new_line (new_link engine) f.plan tt (new_flow engine) (planned engine acts moves run f))
 
 flow_of : {V T : Type 0} (engine : Engine V T) (acts : List (Act T)) (moves : List (Move T)) → IsLawful engine
     → IsRun engine moves (history new_line acts) → FlowOn engine (line_after new_line acts) (link_after engine (new_link engine) moves)
 flow_of {V} {T} engine acts moves lawful run =
     let f = run_of engine acts moves run in
     subst (λ (xs : List (Act T)). FlowOn engine (line_after new_line xs) (link_after engine (new_link engine) moves)) (sym f.acts_are)
-      (subst (λ (ms : List (Move T)). FlowOn engine (line_after new_line (acts_in f.plan)) (link_after engine (new_link engine) ms)) (sym f.moves_are)
-        (flow_after engine lawful new_line (new_link engine) f.plan (new_flow engine) (planned engine acts moves run f)))
+    (subst (λ (ms : List (Move T)). FlowOn engine (line_after new_line (acts_in f.plan)) (link_after engine (new_link engine) ms)) (sym f.moves_are)
+    (flow_after engine lawful new_line (new_link engine) f.plan (new_flow engine) (planned engine acts moves run f)))
 
 pub idle_quiet : {V T : Type 0} (engine : Engine V T) (acts : List (Act T)) (moves : List (Move T)) → IsLawful engine
     → IsRun engine moves (history new_line acts) → (line_after new_line acts).stage ≡ Idle
@@ -61,7 +61,7 @@ pub runs_in_named : {V T : Type 0} (engine : Engine V T) (acts : List (Act T)) (
 runs_in_named {V} {T} engine acts moves lawful run =
     let f = run_of engine acts moves run in
     subst (λ (ms : List (Move T)). AllInNamed engine (new_link engine) ms) (sym f.moves_are)
-      (all_named engine lawful new_line (new_link engine) f.plan tt (new_flow engine) (planned engine acts moves run f))
+    (all_named engine lawful new_line (new_link engine) f.plan tt (new_flow engine) (planned engine acts moves run f))
 
 -- What each request is told is of its own answer. There is no request 0.
 own_zero : {V T : Type 0} (engine : Engine V T) (plan : List (Planned T)) → OwnOf engine 0 new_line (new_link engine) plan
@@ -77,8 +77,8 @@ pub own_answer : {V T : Type 0} (engine : Engine V T) (acts : List (Act T)) (mov
 own_answer {V} {T} engine acts moves r lawful run =
     let f = run_of engine acts moves run in
     subst (λ (ds : List (Done T)). IsOwn r ds (answered engine (new_link engine) r moves)) run.ours
-      (subst (λ (ms : List (Move T)). IsOwn r (here ms) (answered engine (new_link engine) r ms)) (sym f.moves_are)
-        (own_planned engine lawful r f.plan (planned engine acts moves run f)))
+    (subst (λ (ms : List (Move T)). IsOwn r (here ms) (answered engine (new_link engine) r ms)) (sym f.moves_are)
+    (own_planned engine lawful r f.plan (planned engine acts moves run f)))
 
 -- Nothing is owed behind a login.
 pub runs_fresh : {V T : Type 0} (engine : Engine V T) (acts : List (Act T)) (moves : List (Move T)) → IsLawful engine
@@ -86,4 +86,4 @@ pub runs_fresh : {V T : Type 0} (engine : Engine V T) (acts : List (Act T)) (mov
 runs_fresh {V} {T} engine acts moves lawful run =
     let f = run_of engine acts moves run in
     subst (λ (ms : List (Move T)). StartsFresh engine None (new_link engine) ms) (sym f.moves_are)
-      (starts_fresh engine lawful None new_line (new_link engine) f.plan tt (new_flow engine) refl (inl (inl refl)) (planned engine acts moves run f))
+    (starts_fresh engine lawful None new_line (new_link engine) f.plan tt (new_flow engine) refl (inl (inl refl)) (planned engine acts moves run f))

@@ -97,8 +97,11 @@ due_packet : {V T : Type 0} (engine : Engine V T) (lawful : IsLawful engine) (ow
     → DueAs engine owed (takes engine server asking packet).session (takes engine server asking packet).due
 due_packet engine lawful owed server asking (OfRequest request first own false) r d = d
 due_packet {V} {T} engine lawful owed server asking (OfRequest request first own true) r d =
-    inr (false, subst (λ (m : Option Reset). IsAnswer engine.settings m server.session false (engine.answers request server.session (if first then own else server.reset) asking.named)) r
-      (lawful.answers request server.session (if first then own else server.reset) asking.named))
+    inr (
+      false,
+      subst (λ (m : Option Reset). IsAnswer engine.settings m server.session false (engine.answers request server.session (if first then own else server.reset) asking.named)) r
+          (lawful.answers request server.session (if first then own else server.reset) asking.named),
+    )
 due_packet engine lawful owed server asking (Ignore request) r d = d
 due_packet engine lawful owed server asking Attention r d = inl (inr (false, lawful.stops asking.request server.session))
 
@@ -251,19 +254,22 @@ starts_fresh engine lawful owed l link (Does a ∷ plan) b f o d runs =
     let next = goes engine link (links.Here (done_by a (turn l a))) in
     let now : Option Reset = owed_here owed a (turn l a).answer in
     then_rest (turn l a).answer (NotBroken (turn l a).line.stage) (StartsFresh engine now next (moves_by (turn l a).line plan)) s.1
-      (λ (c : NotBroken (turn l a).line.stage). starts_fresh engine lawful now (turn l a).line next plan c
-        (keeps_act engine l.asked l.stage l.heard link a f runs.0)
-        (owes_act engine owed l.asked l.stage l.heard link a b f runs.0 o)
-        (due_act engine owed l.asked l.stage l.heard link a b f d) runs.1)
+    (λ (c : NotBroken (turn l a).line.stage). starts_fresh engine lawful now (turn l a).line next plan c
+    (keeps_act engine l.asked l.stage l.heard link a f runs.0)
+    (owes_act engine owed l.asked l.stage l.heard link a b f runs.0 o)
+    (due_act engine owed l.asked l.stage l.heard link a b f d) runs.1)
 starts_fresh engine lawful owed l link (Takes ∷ plan) b f o d runs =
-    let r : NextAsOwed owed link.server link.up = next_owed engine owed l.asked l.stage l.heard link b f o in
-    (r, starts_fresh engine lawful owed l (goes engine link links.Takes) plan b
-      (keeps_takes engine lawful l.asked l.stage l.heard link f runs.0)
-      (owes_taken engine owed l.heard link link.up o)
-      (due_taken engine lawful owed link link.up r d) runs.1)
-starts_fresh engine lawful owed l link (Speaks ∷ plan) b f o d runs =
-    (said engine owed link.server.session link.server.due d,
-      starts_fresh engine lawful (owed_next owed link.server.due) l (goes engine link links.Speaks) plan b
-        (keeps_speaks engine l.asked l.stage l.heard link f runs.0)
-        (owes_spoken owed l.heard link link.server.due runs.0 o)
-        (due_spoken engine owed link link.server.due refl runs.0 d) runs.1)
+    let r : NextAsOwed owed link.server link.up = next_owed engine owed l.asked l.stage l.heard link b f o in (
+      r,
+      starts_fresh engine lawful owed l (goes engine link links.Takes) plan b
+          (keeps_takes engine lawful l.asked l.stage l.heard link f runs.0)
+          (owes_taken engine owed l.heard link link.up o)
+          (due_taken engine lawful owed link link.up r d) runs.1,
+    )
+starts_fresh engine lawful owed l link (Speaks ∷ plan) b f o d runs = (
+  said engine owed link.server.session link.server.due d,
+  starts_fresh engine lawful (owed_next owed link.server.due) l (goes engine link links.Speaks) plan b
+      (keeps_speaks engine l.asked l.stage l.heard link f runs.0)
+      (owes_spoken owed l.heard link link.server.due runs.0 o)
+      (due_spoken engine owed link link.server.due refl runs.0 d) runs.1,
+)

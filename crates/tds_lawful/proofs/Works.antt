@@ -29,7 +29,7 @@ said_one server step due = record { session = session_behind server.session step
 
 less_by : {V T : Type 0} (engine : Engine V T) (behind : Server V T → ℕ) (s : Session V) (reset : Option Reset) (step : Step V T) (due : List (Step V T)) (asking : Asking) (packet : Packet)
     → 2 + left_by engine behind (record { session = session_behind s step; reset = reset; due = due }) asking packet
-      ≤ left_by engine behind (record { session = s; reset = reset; due = step ∷ due }) asking packet
+    ≤ left_by engine behind (record { session = s; reset = reset; due = step ∷ due }) asking packet
 less_by engine behind s reset step due asking (OfRequest request first own last) = omega arith
 less_by engine behind s reset step due asking (Ignore request) = omega arith
 less_by engine behind s reset step due asking Attention =
@@ -37,7 +37,7 @@ less_by engine behind s reset step due asking Attention =
 
 less_for : {V T : Type 0} (engine : Engine V T) (up : List Up) (s : Session V) (reset : Option Reset) (step : Step V T) (due : List (Step V T))
     → 2 + left_for engine up (record { session = session_behind s step; reset = reset; due = due })
-      ≤ left_for engine up (record { session = s; reset = reset; due = step ∷ due })
+    ≤ left_for engine up (record { session = s; reset = reset; due = step ∷ due })
 less_for engine [] s reset step due = omega arith
 less_for engine (next ∷ others) s reset step due = less_by engine (λ x. left_for engine others x) s reset step due next.asking next.packet
 
@@ -52,9 +52,9 @@ speaks_less {V} {T} engine link (step ∷ due) e t =
     let s = link.server.session in
     let r = link.server.reset in
     let a : 2 + left_for engine link.up (record { session = session_behind s step; reset = r; due = due }) ≤ left_for engine link.up (record { session = s; reset = r; due = step ∷ due }) =
-        less_for engine link.up s r step due in
+    less_for engine link.up s r step due in
     let b : left_for engine link.up link.server ≡ left_for engine link.up (record { session = s; reset = r; due = step ∷ due }) =
-        ap (λ (d : List (Step V T)). left_for engine link.up (record { session = s; reset = r; due = d })) e in
+    ap (λ (d : List (Step V T)). left_for engine link.up (record { session = s; reset = r; due = d })) e in
     let c : length (link.down ++ step ∷ []) ≡ suc (length link.down) = one_more link.down step in
     omega (arith, a, b, c)
 
@@ -70,22 +70,22 @@ takes_by : {V T : Type 0} (engine : Engine V T) (behind : Server V T → ℕ) (s
     → server.due ≡ due → links.MayTake packet server.due → behind (takes engine server asking packet) < left_by engine behind server asking packet
 takes_by {V} {T} engine behind server asking (OfRequest request first own last) due e m =
     subst (λ (d : List (Step V T)). behind (takes engine (record { session = server.session; reset = server.reset; due = d }) asking (OfRequest request first own last))
-        < left_by engine behind (record { session = server.session; reset = server.reset; due = d }) asking (OfRequest request first own last)) (sym m) (omega arith)
+    < left_by engine behind (record { session = server.session; reset = server.reset; due = d }) asking (OfRequest request first own last)) (sym m) (omega arith)
 takes_by {V} {T} engine behind server asking (Ignore request) due e m =
     subst (λ (d : List (Step V T)). behind (takes engine (record { session = server.session; reset = server.reset; due = d }) asking (Ignore request))
-        < left_by engine behind (record { session = server.session; reset = server.reset; due = d }) asking (Ignore request)) (sym m) (omega arith)
+    < left_by engine behind (record { session = server.session; reset = server.reset; due = d }) asking (Ignore request)) (sym m) (omega arith)
 takes_by {V} {T} engine behind server asking Attention due e m =
     subst (λ (d : List (Step V T)). behind (stopped engine asking server.session) < left_at_attention (λ s. behind (stopped engine asking s)) server.session d) (sym e)
-      (attention_less (λ (s : Session V). behind (stopped engine asking s)) server.session due)
+    (attention_less (λ (s : Session V). behind (stopped engine asking s)) server.session due)
 
 takes_less : {V T : Type 0} (engine : Engine V T) (link : Link V T) (u : List Up) → link.up ≡ u → TakesNext u link.server.due
     → left_to_do engine (taken engine link u) < left_to_do engine link
 takes_less engine link [] e t = absurd t
 takes_less {V} {T} engine link (next ∷ others) e t =
     let a : left_for engine others (takes engine link.server next.asking next.packet) < left_by engine (λ x. left_for engine others x) link.server next.asking next.packet =
-        takes_by engine (λ x. left_for engine others x) link.server next.asking next.packet link.server.due refl t in
+    takes_by engine (λ x. left_for engine others x) link.server next.asking next.packet link.server.due refl t in
     let b : left_for engine link.up link.server ≡ left_by engine (λ x. left_for engine others x) link.server next.asking next.packet =
-        ap (λ (u : List Up). left_for engine u link.server) e in
+    ap (λ (u : List Up). left_for engine u link.server) e in
     omega (arith, a, b)
 
 -- ---- A part comes
@@ -137,9 +137,9 @@ comes_less engine link d Lose e c w n = absurd w
 comes_less {V} {T} engine link d (Come part) e c w n =
     let a : length (without part.items part.close link.down) < length link.down = part_less part.items part.close link.down w c.1 in
     let b : left_for engine (link.up ++ ups link.asking d.sent) link.server ≡ left_for engine link.up link.server =
-        ap (λ (u : List Up). left_for engine u link.server) (sent_nothing link d.sent n) in
+    ap (λ (u : List Up). left_for engine u link.server) (sent_nothing link d.sent n) in
     let f : length (links.behind_act d.act link.down) ≡ length (without part.items part.close link.down) =
-        ap (λ (x : Act T). length (links.behind_act x link.down)) e in
+    ap (λ (x : Act T). length (links.behind_act x link.down)) e in
     omega (arith, a, b, f)
 
 pub lowers : {V T : Type 0} (engine : Engine V T) (link : Link V T) (move : Move T) → links.May link move → Works move

@@ -17,11 +17,13 @@ ghost use Rattle.tds_lawful.specs.Working.{CanGo, Waits, Works, left_to_do};
 pub fn own_answers<V, T>()
     ensures begins { (engine : Engine V T) (acts : List (Act T)) (moves : List (Move T)) (r : ℕ)
         → IsLawful engine → IsRun engine moves (history new_line acts)
-        → Begins (given r (history new_line acts)) (told_of (answered engine (new_link engine) r moves)) }
+        → Begins (given r (history new_line acts))
+        (told_of (answered engine (new_link engine) r moves)) }
     ensures whole { (engine : Engine V T) (acts : List (Act T)) (moves : List (Move T)) (r : ℕ)
         → IsLawful engine → IsRun engine moves (history new_line acts)
         → finishes r (history new_line acts) ≡ true
-        → given r (history new_line acts) ≡ told_of (answered engine (new_link engine) r moves) }
+        → given r (history new_line acts)
+        ≡ told_of (answered engine (new_link engine) r moves) }
 {}
 
 /// Nothing that comes is a fault, until the connection is lost.

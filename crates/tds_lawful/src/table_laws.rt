@@ -18,11 +18,13 @@ use tds_service::table_laws::each_alone;
 /// What a request is told is a beginning of what the server answers to it, and all of that where it is
 /// finished.
 pub fn own_answers<V, T>()
-    ensures begins { (engine : Engine V T) (max n : ℕ) (calls : List (Call T)) (moves : List (Move T)) (r : ℕ)
+    ensures begins { (engine : Engine V T) (max n : ℕ) (calls : List (Call T))
+        (moves : List (Move T)) (r : ℕ)
         → IsLawful engine → IsRun engine moves (on n (steps (new_service max) calls))
         → Begins (given r (on n (steps (new_service max) calls)))
         (told_of (answered engine (new_link engine) r moves)) }
-    ensures whole { (engine : Engine V T) (max n : ℕ) (calls : List (Call T)) (moves : List (Move T)) (r : ℕ)
+    ensures whole { (engine : Engine V T) (max n : ℕ) (calls : List (Call T))
+        (moves : List (Move T)) (r : ℕ)
         → IsLawful engine → IsRun engine moves (on n (steps (new_service max) calls))
         → finishes r (on n (steps (new_service max) calls)) ≡ true
         → given r (on n (steps (new_service max) calls))
@@ -33,7 +35,8 @@ pub fn own_answers<V, T>()
 
 /// Nothing that comes is a fault, until the connection is lost.
 pub fn no_fault<V, T>()
-    ensures { (engine : Engine V T) (max n : ℕ) (calls : List (Call T)) (moves : List (Move T))
+    ensures { (engine : Engine V T) (max n : ℕ) (calls : List (Call T))
+        (moves : List (Move T))
         → IsLawful engine → IsRun engine moves (on n (steps (new_service max) calls))
         → NoFault (on n (steps (new_service max) calls)) }
 {
@@ -43,7 +46,8 @@ pub fn no_fault<V, T>()
 /// Where a connection is idle nothing is on its way, its server has nothing to say, and both ends are in
 /// one transaction.
 pub fn idle_is_quiet<V, T>()
-    ensures { (engine : Engine V T) (max n : ℕ) (calls : List (Call T)) (moves : List (Move T))
+    ensures { (engine : Engine V T) (max n : ℕ) (calls : List (Call T))
+        (moves : List (Move T))
         → IsLawful engine → IsRun engine moves (on n (steps (new_service max) calls))
         → (line_after new_line (acts_of (on n (steps (new_service max) calls)))).stage ≡ Idle
         → IsQuiet (line_after new_line (acts_of (on n (steps (new_service max) calls))))
@@ -55,7 +59,8 @@ pub fn idle_is_quiet<V, T>()
 /// A request runs in the transaction that its header names, the one heard last when it was asked, or in
 /// none behind its full reset (MS-TDS 2.2.5.3.2).
 pub fn own_transaction<V, T>()
-    ensures { (engine : Engine V T) (max n : ℕ) (calls : List (Call T)) (moves : List (Move T))
+    ensures { (engine : Engine V T) (max n : ℕ) (calls : List (Call T))
+        (moves : List (Move T))
         → IsLawful engine → IsRun engine moves (on n (steps (new_service max) calls))
         → AllInNamed engine (new_link engine) moves }
 {
@@ -67,7 +72,8 @@ pub fn own_transaction<V, T>()
 /// server runs nothing before it is done: the first that runs finds a fresh session, or the transaction
 /// that was kept, without settings.
 pub fn fresh_start<V, T>()
-    ensures { (engine : Engine V T) (max n : ℕ) (calls : List (Call T)) (moves : List (Move T))
+    ensures { (engine : Engine V T) (max n : ℕ) (calls : List (Call T))
+        (moves : List (Move T))
         → IsLawful engine → IsRun engine moves (on n (steps (new_service max) calls))
         → StartsFresh engine None (new_link engine) moves }
 {
@@ -77,7 +83,8 @@ pub fn fresh_start<V, T>()
 /// While an answer or an acknowledgement is awaited there is a packet that the server may take, a thing
 /// that it may say, or something on its way to the client (each of which leaves less to do: `laws`).
 pub fn never_stuck<V, T>()
-    ensures { (engine : Engine V T) (max n : ℕ) (calls : List (Call T)) (moves : List (Move T))
+    ensures { (engine : Engine V T) (max n : ℕ) (calls : List (Call T))
+        (moves : List (Move T))
         → IsLawful engine → IsRun engine moves (on n (steps (new_service max) calls))
         → Waits (line_after new_line (acts_of (on n (steps (new_service max) calls)))).stage
         → CanGo (link_after engine (new_link engine) moves) }
