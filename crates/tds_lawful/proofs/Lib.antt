@@ -11,5 +11,6 @@ pub mod Later
 pub mod Examples
 pub mod Starts
 pub mod Works
+pub mod Leaves
 pub mod Runs
 pub mod Lifted

@@ -119,14 +119,14 @@ marks_append : {V T : Type 0} (mark : Option Reset) (xs ys : List (Step V T)) �
 marks_append mark [] ys = refl
 marks_append mark (x ∷ xs) ys = marks_append (owed_behind mark x) xs ys
 
-owes_still : {V T : Type 0} (owed : Option Reset) (h : Heard) (link : Link V T) → Still h link → Owes owed h link → owed ≡ h.mark
+pub owes_still : {V T : Type 0} (owed : Option Reset) (h : Heard) (link : Link V T) → Still h link → Owes owed h link → owed ≡ h.mark
 owes_still owed h link s o = o ∙ ap (marks h.mark) s.down
 
-owes_spoken : {V T : Type 0} (owed : Option Reset) (h : Heard) (link : Link V T) (due : List (Step V T)) → HasSome due → Owes owed h link → Owes (owed_next owed due) h (spoken link due)
+pub owes_spoken : {V T : Type 0} (owed : Option Reset) (h : Heard) (link : Link V T) (due : List (Step V T)) → HasSome due → Owes owed h link → Owes (owed_next owed due) h (spoken link due)
 owes_spoken owed h link [] t o = absurd t
 owes_spoken owed h link (step ∷ due) t o = ap (λ (m : Option Reset). owed_behind m step) o ∙ sym (marks_append h.mark link.down (step ∷ []))
 
-owes_taken : {V T : Type 0} (engine : Engine V T) (owed : Option Reset) (h : Heard) (link : Link V T) (u : List Up) → Owes owed h link → Owes owed h (taken engine link u)
+pub owes_taken : {V T : Type 0} (engine : Engine V T) (owed : Option Reset) (h : Heard) (link : Link V T) (u : List Up) → Owes owed h link → Owes owed h (taken engine link u)
 owes_taken engine owed h link [] o = o
 owes_taken engine owed h link (next ∷ others) o = o
 
@@ -150,7 +150,7 @@ owes_mark : {V T : Type 0} (owed : Option Reset) (h : Heard) (link : Link V T) (
 owes_mark {V} {T} owed h link reset s o =
     ap (λ (m : Option Reset). strongest (Some reset) m) (owes_still owed h link s o) ∙ sym (ap (λ (d : List (Step V T)). marks (strongest (Some reset) h.mark) d) s.down)
 
-owes_act : {V T : Type 0} (engine : Engine V T) (owed : Option Reset) (n : ℕ) (stage : Stage) (h : Heard) (link : Link V T) (a : Act T)
+pub owes_act : {V T : Type 0} (engine : Engine V T) (owed : Option Reset) (n : ℕ) (stage : Stage) (h : Heard) (link : Link V T) (a : Act T)
     → NotBroken stage → Flow engine n stage h link → Comes a link.down link.server.due → Owes owed h link → OwesBehind owed link a (turn (line n stage h) a)
 owes_act engine owed n Idle h link (Mark reset) b f c o = owes_mark owed h link reset f.still o
 owes_act engine owed n Idle h link Ask b f c o = o

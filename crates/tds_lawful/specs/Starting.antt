@@ -45,3 +45,17 @@ StartsFresh engine owed link (Takes ∷ moves) = NextAsOwed owed link.server lin
 StartsFresh engine owed link (Speaks ∷ moves) =
     SaidAsOwed engine.settings owed link.server.session link.server.due
     × StartsFresh engine (owed_next owed link.server.due) (goes engine link Speaks) moves
+
+-- ---- What is left behind
+
+-- The reset that is owed behind these moves.
+abbrev pub owed_after : {V T : Type 0} → Engine V T → Option Reset → Link V T → List (Move T) → Option Reset
+owed_after engine owed link [] = owed
+owed_after engine owed link (Here d ∷ moves) = owed_after engine (owed_here owed d.act d.answer) (goes engine link (Here d)) moves
+owed_after engine owed link (Takes ∷ moves) = owed_after engine owed (goes engine link Takes) moves
+owed_after engine owed link (Speaks ∷ moves) = owed_after engine (owed_next owed link.server.due) (goes engine link Speaks) moves
+
+-- The server has done the reset that was marked last, and is in no transaction.
+pub record IsLeftClean {V T : Type 0} (owed : Option Reset) (link : Link V T) : Type 0 where
+  pub reset : owed ≡ None
+  pub transaction : link.server.session.transaction ≡ 0

@@ -5,11 +5,12 @@
 ghost use Rattle.std.specs.Prelude.{◌≡◌, ◌<◌, ℕ, List, Bool, None, true};
 ghost use Rattle.tds_service.specs.Line.{Act, Idle, new_line};
 ghost use Rattle.tds_service.specs.History.{given, history, line_after};
+ghost use Rattle.tds_service.specs.Service.{is_clean};
 ghost use Rattle.tds_lawful.specs.Lawful.{Engine, IsLawful, told_of};
 ghost use Rattle.tds_lawful.specs.Link.{IsRun, Link, May, Move, goes, link_after, new_link};
 ghost use Rattle.tds_lawful.specs.Answering.{Begins, NoFault, answered, finishes};
 ghost use Rattle.tds_lawful.specs.Agreeing.{AllInNamed, IsQuiet};
-ghost use Rattle.tds_lawful.specs.Starting.{StartsFresh};
+ghost use Rattle.tds_lawful.specs.Starting.{IsLeftClean, StartsFresh, owed_after};
 ghost use Rattle.tds_lawful.specs.Working.{CanGo, Waits, Works, left_to_do};
 
 /// What a request is told is a beginning of what the server answers to it, and all of that where it is
@@ -56,6 +57,18 @@ pub fn fresh_start<V, T>()
     ensures { (engine : Engine V T) (acts : List (Act T)) (moves : List (Move T))
         → IsLawful engine → IsRun engine moves (history new_line acts)
         → StartsFresh engine None (new_link engine) moves }
+{}
+
+/// Where an idle connection is found clean, which is when a cleaning frees it, its server has done the
+/// reset that was marked last, and is in no transaction.
+pub fn left_clean<V, T>()
+    ensures { (engine : Engine V T) (acts : List (Act T)) (moves : List (Move T))
+        → IsLawful engine → IsRun engine moves (history new_line acts)
+        → (line_after new_line acts).stage ≡ Idle
+        → is_clean (line_after new_line acts).heard.mark
+        (line_after new_line acts).heard.descriptor ≡ true
+        → IsLeftClean (owed_after engine None (new_link engine) moves)
+        (link_after engine (new_link engine) moves) }
 {}
 
 /// While an answer or an acknowledgement is awaited there is a packet that the server may take, a thing

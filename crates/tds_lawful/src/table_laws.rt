@@ -5,12 +5,12 @@
 ghost use Rattle.std.specs.Prelude.{◌≡◌, ℕ, List, Bool, None, true};
 ghost use Rattle.tds_service.specs.Line.{Idle, new_line};
 ghost use Rattle.tds_service.specs.History.{acts_of, given, line_after};
-ghost use Rattle.tds_service.specs.Service.{Call, new_service, on, steps};
+ghost use Rattle.tds_service.specs.Service.{Call, is_clean, new_service, on, steps};
 ghost use Rattle.tds_lawful.specs.Lawful.{Engine, IsLawful, told_of};
 ghost use Rattle.tds_lawful.specs.Link.{IsRun, Move, link_after, new_link};
 ghost use Rattle.tds_lawful.specs.Answering.{Begins, NoFault, answered, finishes};
 ghost use Rattle.tds_lawful.specs.Agreeing.{AllInNamed, IsQuiet};
-ghost use Rattle.tds_lawful.specs.Starting.{StartsFresh};
+ghost use Rattle.tds_lawful.specs.Starting.{IsLeftClean, StartsFresh, owed_after};
 ghost use Rattle.tds_lawful.specs.Working.{CanGo, Waits};
 
 use tds_service::table_laws::each_alone;
@@ -76,6 +76,22 @@ pub fn fresh_start<V, T>()
         (moves : List (Move T))
         → IsLawful engine → IsRun engine moves (on n (steps (new_service max) calls))
         → StartsFresh engine None (new_link engine) moves }
+{
+    each_alone::<T>();
+}
+
+/// Where an idle connection is found clean, which is when a cleaning frees it, its server has done the
+/// reset that was marked last, and is in no transaction.
+pub fn left_clean<V, T>()
+    ensures { (engine : Engine V T) (max n : ℕ) (calls : List (Call T))
+        (moves : List (Move T))
+        → IsLawful engine → IsRun engine moves (on n (steps (new_service max) calls))
+        → (line_after new_line (acts_of (on n (steps (new_service max) calls)))).stage ≡ Idle
+        → is_clean (line_after new_line (acts_of (on n (steps (new_service max) calls)))).heard.mark
+        (line_after new_line (acts_of (on n (steps (new_service max) calls)))).heard.descriptor
+        ≡ true
+        → IsLeftClean (owed_after engine None (new_link engine) moves)
+        (link_after engine (new_link engine) moves) }
 {
     each_alone::<T>();
 }
