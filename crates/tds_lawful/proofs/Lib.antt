@@ -13,4 +13,5 @@ pub mod Starts
 pub mod Works
 pub mod Leaves
 pub mod Runs
+pub mod Lends
 pub mod Lifted

@@ -5,7 +5,8 @@
 ghost use Rattle.std.specs.Prelude.{◌≡◌, ℕ, List, Bool, None, true};
 ghost use Rattle.tds_service.specs.Line.{Idle, new_line};
 ghost use Rattle.tds_service.specs.History.{acts_of, given, line_after};
-ghost use Rattle.tds_service.specs.Service.{Call, is_clean, new_service, on, steps};
+ghost use Rattle.tds_service.specs.Service.{Call, Lent, is_clean, new_service};
+ghost use Rattle.tds_service.specs.Service.{on, service_after, step, steps};
 ghost use Rattle.tds_lawful.specs.Lawful.{Engine, IsLawful, told_of};
 ghost use Rattle.tds_lawful.specs.Link.{IsRun, Move, link_after, new_link};
 ghost use Rattle.tds_lawful.specs.Answering.{Begins, NoFault, answered, finishes};
@@ -13,7 +14,7 @@ ghost use Rattle.tds_lawful.specs.Agreeing.{AllInNamed, IsQuiet};
 ghost use Rattle.tds_lawful.specs.Starting.{IsLeftClean, StartsFresh, owed_after};
 ghost use Rattle.tds_lawful.specs.Working.{CanGo, Waits};
 
-use tds_service::table_laws::each_alone;
+use tds_service::table_laws::{asks_for_reset, each_alone};
 
 /// What a request is told is a beginning of what the server answers to it, and all of that where it is
 /// finished.
@@ -54,6 +55,20 @@ pub fn idle_is_quiet<V, T>()
         (link_after engine (new_link engine) moves) }
 {
     each_alone::<T>();
+}
+
+/// Where a connection is lent again all is quiet: nothing is on its way, its server has nothing to say,
+/// and both ends are in one transaction.
+pub fn lends_quiet<V, T>()
+    ensures { (engine : Engine V T) (max lease n : ℕ) (calls : List (Call T)) (call : Call T)
+        (moves : List (Move T))
+        → IsLawful engine → IsRun engine moves (on n (steps (new_service max) calls))
+        → (step (service_after (new_service max) calls) call).reply ≡ Lent lease n true
+        → IsQuiet (line_after new_line (acts_of (on n (steps (new_service max) calls))))
+        (link_after engine (new_link engine) moves) }
+{
+    each_alone::<T>();
+    asks_for_reset::<T>();
 }
 
 /// A request runs in the transaction that its header names, the one heard last when it was asked, or in
