@@ -1,0 +1,17 @@
+pub mod Hears
+pub mod Chains
+pub mod Flow
+pub mod Coming
+pub mod Keeps
+pub mod Plans
+pub mod Agrees
+pub mod Past
+pub mod Own
+pub mod Later
+pub mod Examples
+pub mod Starts
+pub mod Works
+pub mod Leaves
+pub mod Runs
+pub mod Lends
+pub mod Lifted
