@@ -5,4 +5,6 @@ pub mod Telling
 pub mod Appended
 pub mod Walks
 pub mod InRuns
+pub mod Behind
+pub mod Notes
 pub mod SomeRuns

@@ -1,13 +1,13 @@
 -- A run of bytes does what its bytes do, where there is a byte at least.
-use Rattle.std.proofs.Common.{◌≡◌, ◌∙◌, ◌≤◌, ◌<◌, ℕ, zero, suc, ◌+◌, Bool, true, false, List, [], ◌∷◌, length, take, drop, get_or, Option, Some, None, refl, sym, ap, arith}
+use Rattle.std.proofs.Common.{◌≡◌, ◌∙◌, ◌≤◌, ◌<◌, ℕ, zero, suc, ◌+◌, true, false, List, [], ◌∷◌, length, take, drop, get_or, Option, Some, None, refl, sym, ap, arith}
 use Rattle.std.proofs.Math.Seq.{take-length}
 use Rattle.std.proofs.lemmas.List.{length-take-le}
 use Rattle.tds_wire.specs.declared.fault.WireFault.{WireFault}
 use Rattle.tds_wire.specs.declared.told.Token.{Token}
 use Rattle.tds_wire.specs.Faults.{fault_number}
-use Rattle.tds_wire.specs.Reading.{Reading, Sees, Inside as Amid, Refuses, next_token}
+use Rattle.tds_wire.specs.Reading.{Reading, Sees, Inside as Amid, next_token}
 use Rattle.tds_judge.specs.declared.finding.Direction.{Direction}
-use Rattle.tds_judge.specs.declared.finding.Direction.TheVariants.{ToServer, ToClient}
+use Rattle.tds_judge.specs.declared.finding.Direction.TheVariants.{ToClient}
 use Rattle.tds_judge.specs.declared.finding.Finding.{Finding}
 use Rattle.tds_judge.specs.declared.frame.Due.TheVariants as due
 use Rattle.tds_judge.specs.declared.frame.Inside.TheVariants as inside

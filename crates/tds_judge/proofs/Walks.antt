@@ -1,6 +1,5 @@
 -- What a walker's byte does, and how many bytes are left behind a token or a fault.
-use Rattle.std.proofs.Common.{◌≡◌, ◌∙◌, ◌≤◌, ◌<◌, ℕ, suc, ◌+◌, ◌-◌, List, [], ◌∷◌, ◌++◌, length, take, drop, Option, Some, None, refl, sym, ap, arith}
-use Rattle.std.proofs.lemmas.List.{length-append, length-drop}
+use Rattle.std.proofs.Common.{◌≡◌, ◌≤◌, ◌<◌, ℕ, suc, List, [], ◌∷◌, ◌++◌, length, Option, Some, None, refl, sym, ap, arith}
 use Rattle.tds_wire.specs.declared.fault.Refusal.{Refusal}
 use Rattle.tds_wire.specs.declared.fault.WireFault.{WireFault}
 use Rattle.tds_wire.specs.declared.due.Standing.{Standing}
@@ -8,7 +7,7 @@ use Rattle.tds_wire.specs.declared.due.Standing.TheVariants.{Between, Going, Fai
 use Rattle.tds_wire.specs.declared.told.Token.{Token}
 use Rattle.tds_wire.specs.Walking.{Walk}
 use Rattle.tds_wire.specs.Bytes.{Went, Over, Within, Failed, onward, standing, step, then_piece, to_end, went_by, went_on}
-use Rattle.tds_wire.specs.Reading.{Reading, Found, Sees, Inside, Refuses, found_by, found_on, next_token}
+use Rattle.tds_wire.specs.Reading.{Reading, Sees, found_by, found_on, next_token}
 
 -- ---- How many bytes are left
 
