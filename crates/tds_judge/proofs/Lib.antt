@@ -7,4 +7,5 @@ pub mod Walks
 pub mod InRuns
 pub mod Behind
 pub mod Notes
+pub mod Breaking
 pub mod SomeRuns

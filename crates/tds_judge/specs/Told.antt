@@ -1,5 +1,5 @@
 -- Where each finding stands: what is so of the event that it stands at, by what was said before, the newest first.
-use Rattle.std.specs.Prelude.{ℕ, ◌-◌, ◌%◌, ◌==◌, ◌&&◌, ◌||◌, not, nat_lt, Bool, true, false, List, [], ◌∷◌}
+use Rattle.std.specs.Prelude.{◌≡◌, ℕ, ◌-◌, ◌%◌, ◌==◌, ◌&&◌, ◌||◌, not, nat_lt, Bool, true, false, List, [], ◌∷◌, ◌++◌}
 use Rattle.tds_judge.specs.declared.finding.Finding.{Finding}
 use Rattle.tds_judge.specs.declared.finding.Spot.{Spot}
 use Rattle.tds_judge.specs.declared.talk.Ending.{Ending}
@@ -9,8 +9,9 @@ use Rattle.tds_judge.specs.declared.talk.Event.TheVariants as events
 use Rattle.tds_judge.specs.declared.talk.Limits.{Limits}
 use Rattle.tds_wire.specs.declared.told.Token.{Token}
 use Rattle.tds_judge.specs.Breaches.{asked_last, gone_last, has_asked_since, has_ended, idle_since, is_cleared, is_lent, is_over, is_twice, is_unheard, size_told}
+use Rattle.tds_judge.specs.Framing.{Run}
 use Rattle.tds_judge.specs.Findings.{is_note, is_risk, number_of}
-use Rattle.tds_judge.specs.History.{Said, asks_of, is_acknowledged, is_another, is_attention_unanswered, is_both_resets, is_out, is_request_while_answering, is_second_attention, is_underway, is_wrong_descriptor, last_told, of_names, of_request}
+use Rattle.tds_judge.specs.History.{Said, Tells, asks_of, is_acknowledged, is_another, is_attention_unanswered, is_both_resets, is_out, is_request_while_answering, is_second_attention, is_underway, is_wrong_descriptor, last_told, of_names, of_request}
 use Rattle.tds_judge.specs.Talking.{acknowledges, descriptor_of, is_asked, is_full, is_request, is_unclear, reset_of}
 
 -- ---- What is so of one kind of event, and of nothing else
@@ -165,3 +166,15 @@ is_breach_number n = not (is_risk n) && not (is_note n)
 abbrev pub has_breach : List Finding → Bool
 has_breach [] = false
 has_breach (finding ∷ others) = is_breach_number (number_of finding.name) || has_breach others
+
+-- ---- Over a whole run
+
+-- one of these events, the newest first, is a breach by what was said before it
+unfoldable pub is_broken : List Said → List Said → Bool
+is_broken past [] = false
+is_broken past (x ∷ later) = is_broken past later || is_breach (later ++ past) x.event
+
+-- From one run to another events were said behind this history, and a breach is found where one of them is one, or where one was found before.
+pub record Breaks (past : List Said) (before after : Run) : Type 0 where
+  pub tells : Tells before after
+  pub found : has_breach after.told ≡ has_breach before.told || is_broken past tells.events

@@ -8,7 +8,7 @@ ghost use Rattle.tds_judge.specs.History.{is_request_while_answering, is_second_
 ghost use Rattle.tds_judge.specs.History.{Tells, is_wrong_descriptor, talk_behind};
 ghost use Rattle.tds_judge.specs.Talking.{told_by};
 ghost use Rattle.tds_judge.specs.Told as told;
-ghost use Rattle.tds_judge.specs.Told.{has_breach, is_breach};
+ghost use Rattle.tds_judge.specs.Told.{Breaks, has_breach, is_breach};
 ghost use Rattle.tds_judge.specs.declared.finding.Direction.{Direction};
 ghost use Rattle.tds_judge.specs.declared.finding.Finding.{Finding};
 ghost use Rattle.tds_judge.specs.declared.finding.Spot.{Spot};
@@ -154,4 +154,12 @@ pub fn alarms_are_exact()
     ensures { (limits : Limits) (past : List Said) (spot : Spot) (event : Event)
         → has_breach (told_by [] limits (talk_behind past) spot event)
         ≡ is_breach past event }
+{}
+
+/// The same of any bytes, behind any history: a breach is found exactly where one of the events that
+/// they say is one. So bytes that say no breach give no finding of that level.
+pub fn runs_are_exact()
+    ensures { (direction : Direction) (time : ℕ) (bytes : List ℕ) (past : List Said) (run : Run)
+        → run.judge.talk ≡ talk_behind past
+        → Breaks past run (steps direction time bytes run) }
 {}
