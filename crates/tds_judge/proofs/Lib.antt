@@ -3,3 +3,9 @@ pub mod Kept
 pub mod Found
 pub mod Telling
 pub mod Appended
+pub mod Walks
+pub mod InRuns
+pub mod Behind
+pub mod Notes
+pub mod Breaking
+pub mod SomeRuns

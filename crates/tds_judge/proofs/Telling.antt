@@ -1,5 +1,5 @@
 -- Whatever bytes come, something is said in some order, and what is found is found at what is said.
-use Rattle.std.proofs.Common.{◌≡◌, ◌∙◌, ◌+◌, ◌-◌, ◌/◌, ◌%◌, ◌==◌, ◌&&◌, not, nat_lt, Bool, true, false, ℕ, List, [], ◌∷◌, ◌++◌, Option, Some, None, refl, sym, ap, if◌then◌else◌}
+use Rattle.std.proofs.Common.{◌≡◌, ◌∙◌, ◌+◌, ◌-◌, ◌/◌, ◌%◌, ◌==◌, ◌&&◌, not, nat_lt, Bool, true, false, ℕ, List, [], ◌∷◌, ◌++◌, Option, Some, None, refl, ap, if◌then◌else◌}
 use Rattle.tds_judge.specs.declared.finding.Direction.{Direction}
 use Rattle.tds_judge.specs.declared.finding.Direction.TheVariants.{ToServer, ToClient}
 use Rattle.tds_judge.specs.declared.finding.Finding.{Finding}
@@ -20,7 +20,7 @@ use Rattle.tds_judge.specs.declared.talk.Talk.{Talk}
 use Rattle.tds_wire.specs.Faults.{fault_number}
 use Rattle.tds_wire.specs.Reading.{Reading, Found, Sees, Inside as Amid, Refuses, next_token}
 use Rattle.tds_judge.specs.Talking.{talk_by, told_by}
-use Rattle.tds_judge.specs.Framing.{Run, begins, begun_by, counted, counted_by, due_by, event_of, fault_of, fits_prefix, frame_of, framed, goes_on, head_of, head_taken, headed, headed_by, inside_by, inside_of, is_plausible, is_tls, is_walked, later_by, lost, message_over, moved, named_if, named_with, opened, opened_frame, over, over_by, prefixed, read_by, restarted_by, said, shifted, slid, slid_frame, spot_of, step, step_by, steps, stops, taken_up, walked, walked_by, with_frame}
+use Rattle.tds_judge.specs.Framing.{Run, begins, begun_by, counted, counted_by, due_by, event_of, fault_of, fits_prefix, frame_of, framed, goes_on, head_of, head_taken, headed, headed_by, inside_by, inside_of, is_plausible, is_tls, is_walked, later_by, lost, message_over, moved, named_if, named_with, opened, opened_frame, over, over_by, prefixed, read_by, restarted_by, said, shifted, slid, slid_frame, spot_of, step, step_by, steps, stops, taken_up, walked, walked_by}
 use Rattle.tds_judge.specs.History.{Said, Tells, found_in, further}
 
 further_more : (later earlier : List Said) (t : Talk) → further later (further earlier t) ≡ further (later ++ earlier) t

@@ -10,8 +10,8 @@ use crate::NoMemory;
 use crate::finding::{Direction, Finding, Spot};
 use crate::frame::{Frame, Inside, Part};
 use crate::talk::{Ending, Event, Limits, Talk};
+use crate::walker::Walker;
 use std::alloc::Global;
-use tds_wire::Walker;
 
 /// What is left of a piece.
 #[derive(Clone, Copy)]
@@ -75,31 +75,33 @@ impl Judge {
     {
         let mut done = 0;
         'bytes: while done < bytes.len() {
-            match self.take_one(direction, time, bytes[done], findings) {
-                Ok(()) => done += 1,
+            match self.take_run(direction, time, &bytes[done..], findings) {
+                Ok(count) => done += count,
                 Err(_) => return Err(Unfinished { done }),
             }
         }
         Ok(())
     }
 
-    /// Takes a byte.
-    fn take_one(
+    /// Takes bytes: at least one, and at most so many as are one step.
+    fn take_run(
         &mut self,
         direction: Direction,
         time: u64,
-        byte: u8,
+        bytes: &[u8],
         findings: &mut Vec<Finding>,
-    ) -> Result<(), NoMemory>
-        ensures ok { OnOk result ((run_of self.new findings.new.items)
-            ≡ framing.step direction time byte
+    ) -> Result<usize, NoMemory>
+        requires { 0 < length bytes.now }
+        ensures ok { IfOk result (λ count. (run_of self.new findings.new.items)
+            ≡ framing.steps direction time (take count bytes.now)
             (run_of self.old findings.old.items)) }
+        ensures some { IfOk result (λ count. 0 < count) }
+        ensures within { IfOk result (λ count. count ≤ length bytes.now) }
         ensures err { OnErr result ((run_of self.new findings.new.items)
             ≡ (run_of self.old findings.old.items)) }
     {
         findings.reserve(32)?;
-        self.step(findings, direction, time, byte);
-        Ok(())
+        Ok(self.take_some(findings, direction, time, bytes))
     }
 
     /// Where the client is, at a time.

@@ -7,6 +7,8 @@ ghost use Rattle.tds_judge.specs.History.{Said, is_attention_unanswered, is_both
 ghost use Rattle.tds_judge.specs.History.{is_request_while_answering, is_second_attention};
 ghost use Rattle.tds_judge.specs.History.{Tells, is_wrong_descriptor, talk_behind};
 ghost use Rattle.tds_judge.specs.Talking.{told_by};
+ghost use Rattle.tds_judge.specs.Told as told;
+ghost use Rattle.tds_judge.specs.Told.{Breaks, has_breach, is_breach};
 ghost use Rattle.tds_judge.specs.declared.finding.Direction.{Direction};
 ghost use Rattle.tds_judge.specs.declared.finding.Finding.{Finding};
 ghost use Rattle.tds_judge.specs.declared.finding.Spot.{Spot};
@@ -53,4 +55,111 @@ pub fn breaches_are_told()
     ensures both { (limits : Limits) (past : List Said) (spot : Spot) (event : Event)
         → is_found 14 (told_by [] limits (talk_behind past) spot event)
         ≡ is_both_resets past event }
+{}
+
+/// Behind any history, these stand exactly where `specs/Told` says: an attention that is ignored, an
+/// acknowledgement that nobody asked for, and an attention that isn't one packet without data.
+pub fn attentions_are_told()
+    ensures ignored { (limits : Limits) (past : List Said) (spot : Spot) (event : Event)
+        → is_found 3 (told_by [] limits (talk_behind past) spot event)
+        ≡ told.is_attention_ignored past event }
+    ensures unasked { (limits : Limits) (past : List Said) (spot : Spot) (event : Event)
+        → is_found 4 (told_by [] limits (talk_behind past) spot event)
+        ≡ told.is_acknowledgement_unasked past event }
+    ensures wrong { (limits : Limits) (past : List Said) (spot : Spot) (event : Event)
+        → is_found 24 (told_by [] limits (talk_behind past) spot event)
+        ≡ told.is_wrong_attention event }
+{}
+
+/// And these: a request that doesn't name the transaction that a cancelled answer began, one that names a
+/// transaction that has ended, a reset in a transaction, an idle one, and one that is left by the close.
+pub fn transactions_are_told()
+    ensures kept { (limits : Limits) (past : List Said) (spot : Spot) (event : Event)
+        → is_found 7 (told_by [] limits (talk_behind past) spot event)
+        ≡ told.is_cancelled_begin_kept past event }
+    ensures ended { (limits : Limits) (past : List Said) (spot : Spot) (event : Event)
+        → is_found 9 (told_by [] limits (talk_behind past) spot event)
+        ≡ told.is_ended_unheard past event }
+    ensures open_reset { (limits : Limits) (past : List Said) (spot : Spot) (event : Event)
+        → is_found 10 (told_by [] limits (talk_behind past) spot event)
+        ≡ told.is_reset_in_transaction past event }
+    ensures idle { (limits : Limits) (past : List Said) (spot : Spot) (event : Event)
+        → is_found 11 (told_by [] limits (talk_behind past) spot event)
+        ≡ told.is_idle limits past spot event }
+    ensures left { (limits : Limits) (past : List Said) (spot : Spot) (event : Event)
+        → is_found 12 (told_by [] limits (talk_behind past) spot event)
+        ≡ told.is_transaction_left past event }
+{}
+
+/// And these: a reset bit on a later packet, a reset that isn't answered, one behind another, and a new
+/// borrower that asks for none.
+pub fn resets_are_told()
+    ensures later { (limits : Limits) (past : List Said) (spot : Spot) (event : Event)
+        → is_found 13 (told_by [] limits (talk_behind past) spot event)
+        ≡ told.is_late_reset event }
+    ensures unanswered { (limits : Limits) (past : List Said) (spot : Spot) (event : Event)
+        → is_found 15 (told_by [] limits (talk_behind past) spot event)
+        ≡ told.is_reset_unanswered past event }
+    ensures twice { (limits : Limits) (past : List Said) (spot : Spot) (event : Event)
+        → is_found 16 (told_by [] limits (talk_behind past) spot event)
+        ≡ told.is_reset_twice past event }
+    ensures reused { (limits : Limits) (past : List Said) (spot : Spot) (event : Event)
+        → is_found 17 (told_by [] limits (talk_behind past) spot event)
+        ≡ told.is_reused past event }
+{}
+
+/// And these: an answer that isn't read, a token behind the final DONE, an answer without one, one that
+/// ends inside a token, and an ENVCHANGE that can't be read.
+pub fn answers_are_told()
+    ensures unread { (limits : Limits) (past : List Said) (spot : Spot) (event : Event)
+        → is_found 6 (told_by [] limits (talk_behind past) spot event)
+        ≡ told.is_answer_unread past event }
+    ensures behind { (limits : Limits) (past : List Said) (spot : Spot) (event : Event)
+        → is_found 18 (told_by [] limits (talk_behind past) spot event)
+        ≡ told.is_behind_end past event }
+    ensures endless { (limits : Limits) (past : List Said) (spot : Spot) (event : Event)
+        → is_found 19 (told_by [] limits (talk_behind past) spot event)
+        ≡ told.is_without_end past event }
+    ensures cut { (limits : Limits) (past : List Said) (spot : Spot) (event : Event)
+        → is_found 20 (told_by [] limits (talk_behind past) spot event)
+        ≡ told.is_cut_token past event }
+    ensures unclear { (limits : Limits) (past : List Said) (spot : Spot) (event : Event)
+        → is_found 26 (told_by [] limits (talk_behind past) spot event)
+        ≡ told.is_unclear_change event }
+{}
+
+/// And these: bytes that are no token, a packet above the size, a Length that none can have, a message
+/// that begins inside another one, and where a direction is judged from.
+pub fn packets_are_told()
+    ensures token { (limits : Limits) (past : List Said) (spot : Spot) (event : Event)
+        → is_found 21 (told_by [] limits (talk_behind past) spot event)
+        ≡ told.is_wrong_token event }
+    ensures size { (limits : Limits) (past : List Said) (spot : Spot) (event : Event)
+        → is_found 22 (told_by [] limits (talk_behind past) spot event)
+        ≡ told.is_wrong_size past event }
+    ensures length { (limits : Limits) (past : List Said) (spot : Spot) (event : Event)
+        → is_found 23 (told_by [] limits (talk_behind past) spot event)
+        ≡ told.is_wrong_length event }
+    ensures unfinished { (limits : Limits) (past : List Said) (spot : Spot) (event : Event)
+        → is_found 25 (told_by [] limits (talk_behind past) spot event)
+        ≡ told.is_unfinished_message event }
+    ensures taken_up { (limits : Limits) (past : List Said) (spot : Spot) (event : Event)
+        → is_found 27 (told_by [] limits (talk_behind past) spot event)
+        ≡ told.is_taken_up event }
+{}
+
+/// Behind any history, an event gives a finding of level breach exactly where it is one of the eighteen
+/// breaches by what was said before: no other alarm, and no silence.
+pub fn alarms_are_exact()
+    ensures { (limits : Limits) (past : List Said) (spot : Spot) (event : Event)
+        → has_breach (told_by [] limits (talk_behind past) spot event)
+        ≡ is_breach past event }
+{}
+
+/// The same of any bytes, behind any history: a breach is found exactly where one of the events that
+/// they say is one. So bytes that say no breach give no finding of that level.
+pub fn runs_are_exact()
+    ensures { (direction : Direction) (time : ℕ) (bytes : List ℕ) (past : List Said) (run : Run)
+        → run.judge.talk ≡ talk_behind past
+        → Breaks past run (steps direction time bytes run) }
 {}

@@ -1,0 +1,136 @@
+-- Where a judge is behind a history, field by field.
+use Rattle.std.proofs.Common.{◌≡◌, ◌∙◌, ◌==◌, ◌&&◌, ◌||◌, not, Bool, true, false, ℕ, List, [], ◌∷◌, refl, sym, ap}
+use Rattle.std.specs.Prelude.{if◌then◌else◌}
+use Rattle.std.proofs.Math.Bool.{or-false}
+use Rattle.tds_judge.specs.declared.finding.Spot.{Spot}
+use Rattle.tds_judge.specs.declared.talk.Event.{Event}
+use Rattle.tds_judge.specs.declared.talk.Event.TheVariants as events
+use Rattle.tds_judge.specs.declared.talk.Talk.{Talk}
+use Rattle.tds_judge.specs.declared.talk.Transaction.TheVariants as transactions
+use Rattle.tds_wire.specs.declared.told.ChangeValue.{ChangeValue}
+use Rattle.tds_wire.specs.declared.told.ChangeValue.TheVariants as changes
+use Rattle.tds_wire.specs.declared.told.Told.{Told}
+use Rattle.tds_wire.specs.declared.told.Told.TheVariants as told
+use Rattle.tds_judge.specs.Breaches.{asked_last, gone_last, has_asked_since, has_begun, has_ended, idle_since, is_cleared, is_lent, is_over, is_twice, is_unheard, size_told}
+use Rattle.tds_judge.specs.History.{Said, asks_of, further, is_acknowledged, is_out, is_underway, last_told, talk_behind}
+use Rattle.tds_judge.specs.Talking.{descriptor_of, has_begun as begun_at, has_ended as ended_at, is_full, talk_by}
+
+-- the talk that a history makes
+abbrev pub talk_as : List Said → Talk
+talk_as past = record {
+  asked = asked_last past;
+  underway = is_underway past;
+  attention = is_out past;
+  doubled = is_twice past;
+  late = has_asked_since past;
+  ended_since = has_ended past;
+  reset = asks_of past;
+  reset_done = is_cleared past;
+  transaction = last_told past;
+  begun = has_begun past;
+  begun_unheard = is_unheard past;
+  ended = gone_last past;
+  is_final = is_over past;
+  acknowledges = is_acknowledged past;
+  borrowed = is_lent past;
+  since = idle_since past;
+  most = size_told past;
+}
+
+abbrev behind_of : List Said → Spot → Event → Talk
+behind_of past spot event = talk_as ((record { spot = spot; event = event }) ∷ past)
+
+and_true : (b : Bool) → b && true ≡ b
+and_true true = refl
+and_true false = refl
+
+and_false : (b : Bool) → b && false ≡ false
+and_false true = refl
+and_false false = refl
+
+-- ---- Changes
+
+changed : (b : Bool) (t : Talk) (time new : ℕ)
+    → (if b then begun_at t time new else ended_at t time)
+    ≡ record t { transaction = if b then transactions.Told new else transactions.Told 0; begun = b; begun_unheard = b && t.attention; ended = if b then 0 else descriptor_of t.transaction; since = time }
+changed true t time new = refl
+changed false t time new = refl
+
+cleared : (b : Bool) (t : Talk)
+    → (if b then record t { reset_done = true; transaction = transactions.Told 0; begun_unheard = false } else record t { reset_done = true })
+    ≡ record t { reset_done = true; transaction = if b then transactions.Told 0 else t.transaction; begun_unheard = if b then false else t.begun_unheard }
+cleared true t = refl
+cleared false t = refl
+
+unclear : (b : Bool) (t : Talk) → (if b then record t { transaction = transactions.Unknown } else t) ≡ record t { transaction = if b then transactions.Unknown else t.transaction }
+unclear true t = refl
+unclear false t = refl
+
+-- ---- Tokens
+
+abbrev said_token : ℕ → ℕ → ℕ → Told → Event
+said_token kind start length x = events.Says (record { kind = kind; start = start; length = length; told = x })
+
+-- what acknowledges nothing
+plainly : (t : Talk) → t ≡ record t { acknowledges = t.acknowledges || false }
+plainly t = ap (λ (b : Bool). record t { acknowledges = b }) (sym (or-false t.acknowledges))
+
+by_change : (past : List Said) (spot : Spot) (kind start length type : ℕ) (value : ChangeValue)
+    → talk_by (talk_as past) spot.time (said_token kind start length (told.Change (record { kind = type; value = value })))
+    ≡ behind_of past spot (said_token kind start length (told.Change (record { kind = type; value = value })))
+unfolding talk_by asked_last is_underway is_out is_twice has_asked_since has_ended asks_of is_cleared last_told has_begun is_unheard gone_last is_over is_acknowledged is_lent idle_since size_told
+by_change past spot kind start length type (changes.Transaction new old) =
+    changed ((type == 8) || (type == 11)) (talk_as past) spot.time new
+    ∙ plainly (record (talk_as past) {
+      transaction = if (type == 8) || (type == 11) then transactions.Told new else transactions.Told 0;
+      begun = (type == 8) || (type == 11);
+      begun_unheard = ((type == 8) || (type == 11)) && is_out past;
+      ended = if (type == 8) || (type == 11) then 0 else descriptor_of (last_told past);
+      since = spot.time;
+    })
+by_change past spot kind start length type changes.ResetDone =
+    cleared (is_full (asks_of past)) (talk_as past)
+    ∙ plainly (record (talk_as past) {
+      reset_done = true;
+      transaction = if is_full (asks_of past) then transactions.Told 0 else last_told past;
+      begun_unheard = if is_full (asks_of past) then false else is_unheard past;
+    })
+by_change past spot kind start length type (changes.PacketSize size) = plainly (record (talk_as past) { most = size })
+by_change past spot kind start length type (changes.Values new old) = plainly (talk_as past)
+by_change past spot kind start length type changes.Other = plainly (talk_as past)
+
+by_token : (past : List Said) (spot : Spot) (kind start length : ℕ) (x : Told)
+    → talk_by (talk_as past) spot.time (said_token kind start length x) ≡ behind_of past spot (said_token kind start length x)
+unfolding talk_by asked_last is_underway is_out is_twice has_asked_since has_ended asks_of is_cleared last_told has_begun is_unheard gone_last is_over is_acknowledged is_lent idle_since size_told
+by_token past spot kind start length (told.Done done) = refl
+by_token past spot kind start length (told.Change change) = by_change past spot kind start length change.kind change.value
+by_token past spot kind start length (told.Message message) = plainly (talk_as past)
+by_token past spot kind start length (told.ReturnStatus value) = plainly (talk_as past)
+by_token past spot kind start length (told.SessionState state) = plainly (talk_as past)
+by_token past spot kind start length told.Unclear =
+    unclear (kind == 0xE3) (talk_as past) ∙ plainly (record (talk_as past) { transaction = if kind == 0xE3 then transactions.Unknown else last_told past })
+by_token past spot kind start length told.Other = plainly (talk_as past)
+
+-- ---- The end of an answer
+
+ends : (b : Bool) (t : Talk) (time : ℕ)
+    → (if b then record t { underway = false; attention = false; doubled = t.doubled && t.attention; late = false; ended_since = false; since = time }
+    else record t { underway = false; late = t.late && not t.ended_since; ended_since = true; since = time })
+    ≡ record t { underway = false; attention = t.attention && not b; doubled = if b then t.doubled && t.attention else t.doubled; late = not b && (t.late && not t.ended_since); ended_since = not b; since = time }
+ends true t time =
+    ap (λ (a : Bool). record t { underway = false; attention = a; doubled = t.doubled && t.attention; late = false; ended_since = false; since = time }) (sym (and_false t.attention))
+ends false t time =
+    ap (λ (a : Bool). record t { underway = false; attention = a; late = t.late && not t.ended_since; ended_since = true; since = time }) (sym (and_true t.attention))
+
+-- ---- An event
+
+said_next : (past : List Said) (spot : Spot) (event : Event) → talk_by (talk_as past) spot.time event ≡ behind_of past spot event
+unfolding talk_by asked_last is_underway is_out is_twice has_asked_since has_ended asks_of is_cleared last_told has_begun is_unheard gone_last is_over is_acknowledged is_lent idle_since size_told
+said_next past spot (events.Says token) = by_token past spot token.kind token.start token.length token.told
+said_next past spot (events.Answered whole) = ends (is_acknowledged past) (talk_as past) spot.time
+said_next past spot _ = refl
+
+pub talk_is : (past : List Said) → talk_behind past ≡ talk_as past
+unfolding further asked_last is_underway is_out is_twice has_asked_since has_ended asks_of is_cleared last_told has_begun is_unheard gone_last is_over is_acknowledged is_lent idle_since size_told
+talk_is [] = refl
+talk_is (x ∷ past) = ap (λ (t : Talk). talk_by t x.spot.time x.event) (talk_is past) ∙ said_next past x.spot x.event

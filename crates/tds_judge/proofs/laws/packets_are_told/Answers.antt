@@ -1,0 +1,17 @@
+use Rattle.tds_judge.proofs.Notes.{length_told, size_told, taken_up_told, token_told, unfinished_told}
+use Rattle.tds_judge.proofs.laws.packets_are_told.Goals as goal
+
+pub returns-clause-token : goal.returns-clause-token
+returns-clause-token c limits past spot event = token_told limits past spot event
+
+pub returns-clause-size : goal.returns-clause-size
+returns-clause-size c limits past spot event = size_told limits past spot event
+
+pub returns-clause-length : goal.returns-clause-length
+returns-clause-length c limits past spot event = length_told limits past spot event
+
+pub returns-clause-unfinished : goal.returns-clause-unfinished
+returns-clause-unfinished c limits past spot event = unfinished_told limits past spot event
+
+pub returns-clause-taken_up : goal.returns-clause-taken_up
+returns-clause-taken_up c limits past spot event = taken_up_told limits past spot event

@@ -1,0 +1,164 @@
+//! Runs of a packet's data, as one step whatever their length.
+
+ghost use Rattle.std.specs.Prelude.{◌≡◌, ◌≤◌, ◌<◌, ◌+◌, vec_len, vec_capacity, length, take, IfSome};
+ghost use Rattle.tds_judge.specs.Framing as framing;
+ghost use Rattle.tds_judge.specs.Framing.{run_of};
+ghost use Rattle.tds_judge.specs.Runs as runs;
+ghost use Rattle.tds_judge.specs.declared.finding.Direction.TheVariants.{ToClient};
+ghost use Rattle.tds_judge.specs.declared.frame.Due.TheVariants as dues;
+ghost use Rattle.tds_judge.specs.declared.frame.Inside.TheVariants as insides;
+ghost use Rattle.tds_judge.specs.declared.talk.Event.TheVariants as events;
+ghost use Rattle.tds_judge.specs.declared.talk.Ending.TheVariants as endings;
+ghost use Rattle.tds_wire.specs.Faults.{fault_number};
+
+use crate::finding::{Direction, Finding, Spot};
+use crate::frame::{Due, Inside};
+use crate::judge::Judge;
+use crate::talk::{Ending, Event};
+use crate::walker::Went;
+use tds_wire::{Token, WireFault, cuts_do_not_matter};
+
+impl Judge {
+    /// So many bytes of data have gone by, fewer than are left.
+    fn pass(&mut self, direction: Direction, left: u16, count: u16)
+        requires { count < left }
+        ensures { self.new ≡ runs.passed direction left count self.old }
+    {
+        let mut frame = self.frame(direction);
+        frame.due = Due::Data { left: left - count };
+        frame.offset = frame.offset.saturating_add(u64::from(count));
+        self.put_frame(direction, frame);
+    }
+
+    /// A token has ended with the last of so many bytes.
+    fn end_run(&mut self, out: &mut Vec<Finding>, spot: Spot, left: u16, count: u16, token: Token)
+        requires few { count < left }
+        requires room { vec_len out.old + 8 ≤ vec_capacity out.old }
+        ensures run { (run_of self.new out.new.items)
+            ≡ framing.said spot (events.Says token)
+            (run_of (runs.passed ToClient left count self.old) out.old.items) }
+        ensures few { vec_len out.new ≤ vec_len out.old + 8 }
+        ensures capacity { vec_capacity out.new ≡ vec_capacity out.old }
+    {
+        self.pass(Direction::ToClient, left, count);
+        self.say(out, spot, Event::Says(token));
+    }
+
+    /// The last of so many bytes was refused.
+    fn fail_run(
+        &mut self,
+        out: &mut Vec<Finding>,
+        spot: Spot,
+        left: u16,
+        count: u16,
+        fault: WireFault,
+    )
+        requires some { 0 < count }
+        requires few { count < left }
+        requires room { vec_len out.old + 8 ≤ vec_capacity out.old }
+        ensures run { (run_of self.new out.new.items)
+            ≡ framing.stops spot (events.Stops endings.WrongToken (fault_number fault))
+            (run_of (runs.failed left count self.old) out.old.items) }
+        ensures few { vec_len out.new ≤ vec_len out.old + 8 }
+        ensures capacity { vec_capacity out.new ≡ vec_capacity out.old }
+    {
+        self.server.due = Due::Data {
+            left: left - (count - 1),
+        };
+        self.server.offset = self.server.offset.saturating_add(u64::from(count));
+        let number = u64::from(fault.number());
+        self.stop(out, spot, Event::Stops(Ending::WrongToken, number));
+    }
+
+    /// The walker reads a run of data, up to the end of one token: how many bytes of it.
+    fn walk_run(&mut self, out: &mut Vec<Finding>, time: u64, left: u16, run: &[u8]) -> usize
+        requires some { 0 < length run.now }
+        requires few { length run.now < left }
+        requires room { vec_len out.old + 32 ≤ vec_capacity out.old }
+        requires due { self.old.server.due ≡ dues.Data left }
+        requires inside { self.old.server.inside ≡ insides.Walked }
+        ensures some { 0 < result }
+        ensures within { result ≤ length run.now }
+        ensures run { (run_of self.new out.new.items)
+            ≡ framing.steps ToClient time (take result run.now) (run_of self.old out.old.items) }
+        ensures few { vec_len out.new ≤ vec_len out.old + 32 }
+        ensures capacity { vec_capacity out.new ≡ vec_capacity out.old }
+    {
+        let Some(walker) = &mut self.walker else {
+            return run.len();
+        };
+        if !walker.takes_runs() {
+            self.step(out, Direction::ToClient, time, run[0]);
+            return 1;
+        }
+        cuts_do_not_matter();
+        match walker.walk(run) {
+            Went::Inside => {
+                self.pass(Direction::ToClient, left, run.len() as u16);
+                run.len()
+            }
+            Went::Ends(count, token) => {
+                let spot = self.spot_of_last(time, count as u16);
+                self.end_run(out, spot, left, count as u16, token);
+                count
+            }
+            Went::Fails(count, fault) => {
+                let spot = self.spot_of_last(time, count as u16);
+                self.fail_run(out, spot, left, count as u16, fault);
+                count
+            }
+        }
+    }
+
+    /// Where the last of so many bytes to the client stands.
+    fn spot_of_last(&self, time: u64, count: u16) -> Spot
+        ensures { result ≡ runs.spot_at (runs.place self.now.server.offset count) time }
+    {
+        let offset = if count > 1 {
+            self.server.offset.saturating_add(u64::from(count - 1))
+        } else {
+            self.server.offset
+        };
+        Spot {
+            direction: Direction::ToClient,
+            offset,
+            time,
+        }
+    }
+
+    /// Takes bytes of a direction: at least one, and at most so many as are one step.
+    pub fn take_some(
+        &mut self,
+        out: &mut Vec<Finding>,
+        direction: Direction,
+        time: u64,
+        bytes: &[u8],
+    ) -> usize
+        requires some { 0 < length bytes.now }
+        requires room { vec_len out.old + 32 ≤ vec_capacity out.old }
+        ensures some { 0 < result }
+        ensures within { result ≤ length bytes.now }
+        ensures run { (run_of self.new out.new.items)
+            ≡ framing.steps direction time (take result bytes.now) (run_of self.old out.old.items) }
+    {
+        if self.has_stopped() {
+            return bytes.len();
+        }
+        let frame = self.frame(direction);
+        match (frame.due, frame.inside, direction) {
+            (Due::Data { left }, Inside::Skipped, _) if left > 1 => {
+                let count = bytes.len().min(usize::from(left) - 1);
+                self.pass(direction, left, count as u16);
+                count
+            }
+            (Due::Data { left }, Inside::Walked, Direction::ToClient) if left > 1 => {
+                let count = bytes.len().min(usize::from(left) - 1);
+                self.walk_run(out, time, left, &bytes[..count])
+            }
+            _ => {
+                self.step(out, direction, time, bytes[0]);
+                1
+            }
+        }
+    }
+}
