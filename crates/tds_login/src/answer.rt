@@ -163,16 +163,16 @@ fn put_database(alloc: Global, data: &mut Vec<u8>, database: &[u16]) -> Result<(
         ≡ «data».old.items ++ spelled.database_change database.now) }
 {
     let mut body = Vec::new(alloc);
-    put_database_body(&mut body, short_name(database))?;
+    put_database_body(&mut body, first_units(database, 128))?;
     put_counted(data, 0xe3, body.as_slice())
 }
 
-/// The first 128 units of a name, or all.
-fn short_name(name: &[u16]) -> &[u16]
-    ensures front { result.now ≡ take 128 name.now }
-    ensures most { length result.now ≤ 128 }
+/// As many units as these at most, the first ones.
+fn first_units(units: &[u16], most: usize) -> &[u16]
+    ensures front { result.now ≡ take most units.now }
+    ensures most { length result.now ≤ most }
 {
-    &name[..name.len().min(128)]
+    &units[..most.min(units.len())]
 }
 
 /// Appends what stands behind the count of that ENVCHANGE.
