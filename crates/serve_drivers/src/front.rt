@@ -166,7 +166,7 @@ impl Front {
                 return Ok(Took::Forgotten);
             }
             self.answering = None;
-            return took(Took::Attention, server.take(attention(), out));
+            return came_of(Took::Attention, server.take(attention(), out));
         }
         if self.answering.is_some() {
             return Ok(Took::Fault);
@@ -217,7 +217,7 @@ impl Front {
     {
         self.text.clear();
         let packet = transaction(reset, self.reader.data());
-        let took = took(Took::Transaction, server.take(packet, out))?;
+        let took = came_of(Took::Transaction, server.take(packet, out))?;
         if took == Took::Transaction {
             self.answer(Plan::same(self.alloc))?;
         }
@@ -243,7 +243,7 @@ impl Front {
         let Some(message) = message_of(self.alloc, &planned.plan, planned.descriptor)? else {
             return Ok(Took::Fault);
         };
-        let took = took(kind, server.take(batch(reset, message.as_slice()), out))?;
+        let took = came_of(kind, server.take(batch(reset, message.as_slice()), out))?;
         if took == kind {
             self.answer(planned.plan)?;
         }
@@ -384,7 +384,7 @@ fn refused_call(alloc: Global, fault: CallFault) -> Result<Plan, AllocError> {
 }
 
 /// What the server took, as this.
-fn took(kind: Took, answer: Result<ServerTook, ServerFault>) -> Result<Took, AllocError> {
+fn came_of(kind: Took, answer: Result<ServerTook, ServerFault>) -> Result<Took, AllocError> {
     match answer {
         Ok(ServerTook::NoMemory) => Err(AllocError),
         Ok(ServerTook::More | ServerTook::Dropped) => Ok(Took::Part),

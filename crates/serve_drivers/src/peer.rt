@@ -227,13 +227,14 @@ impl Peer {
     fn let_in(&mut self, script: &Script, terms: Terms, out: &mut Vec<u8>) -> Result<(), AllocError>
         ensures { vec_len out.new ≤ vec_len out.old + 4096 }
     {
-        let database = database_in(self.alloc, self.login.as_slice())?;
-        self.login = Vec::new(self.alloc);
-        put_let_in(self.alloc, out, terms, database.as_slice())?;
+        let alloc = self.alloc;
+        let database = database_in(alloc, self.login.as_slice())?;
+        let size = terms.size;
+        let front = Front::new(alloc, size, database.as_slice(), self.is_real)?;
+        let server = Server::with_attention(alloc, ScriptEngine, size, self.on_attention);
+        put_let_in(alloc, out, terms, database.as_slice())?;
+        self.login.clear();
         self.orders = script.orders(0, &[]);
-        let front = Front::new(self.alloc, terms.size, database.as_slice(), self.is_real)?;
-        let on_attention = self.on_attention;
-        let server = Server::with_attention(self.alloc, ScriptEngine, terms.size, on_attention);
         self.stage = Stage::Session { front, server };
         Ok(())
     }

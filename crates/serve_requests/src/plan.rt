@@ -36,6 +36,20 @@ pub struct Plan {
     pub text: Vec<u16>,
     pub deeds: Vec<Deed>,
     pub end: End,
+    /// How many bytes are told in the place of what the language tells.
+    pub(crate) told: usize,
+}
+
+impl Deed {
+    /// How many bytes it tells of its own.
+    fn told(&self) -> usize {
+        match self {
+            Deed::Same => 0,
+            Deed::Tokens(tokens) => tokens.len(),
+            Deed::Whole(tokens) => tokens.len(),
+            Deed::Failed { text, .. } => text.len().saturating_mul(2),
+        }
+    }
 }
 
 impl Plan {
@@ -45,6 +59,7 @@ impl Plan {
             text: Vec::new(alloc),
             deeds: Vec::new(alloc),
             end,
+            told: 0,
         }
     }
 
@@ -87,8 +102,8 @@ impl Plan {
             self.text.push(59)?;
         }
         self.text.extend_from_slice(statement)?;
-        self.deeds.push(deed)?;
-        Ok(())
+        self.told = self.told.saturating_add(deed.told());
+        self.deeds.push(deed)
     }
 
     /// Adds a statement that changes nothing.
