@@ -36,20 +36,6 @@ pub struct Plan {
     pub text: Vec<u16>,
     pub deeds: Vec<Deed>,
     pub end: End,
-    /// How many bytes are told in the place of what the language tells.
-    pub(crate) told: usize,
-}
-
-impl Deed {
-    /// How many bytes it tells of its own.
-    fn told(&self) -> usize {
-        match self {
-            Deed::Same => 0,
-            Deed::Tokens(tokens) => tokens.len(),
-            Deed::Whole(tokens) => tokens.len(),
-            Deed::Failed { text, .. } => text.len().saturating_mul(2),
-        }
-    }
 }
 
 impl Plan {
@@ -59,7 +45,6 @@ impl Plan {
             text: Vec::new(alloc),
             deeds: Vec::new(alloc),
             end,
-            told: 0,
         }
     }
 
@@ -102,8 +87,8 @@ impl Plan {
             self.text.push(59)?;
         }
         self.text.extend_from_slice(statement)?;
-        self.told = self.told.saturating_add(deed.told());
-        self.deeds.push(deed)
+        self.deeds.push(deed)?;
+        Ok(())
     }
 
     /// Adds a statement that changes nothing.

@@ -19,15 +19,6 @@ pub const LONGEST: usize = 2000;
 /// The most savepoints and prepared texts of a session. Of more, the oldest are forgotten.
 const MOST: usize = 32;
 
-/// How many units the prepared texts of a session have before the oldest are forgotten.
-const ROOM: usize = 16_384;
-
-/// The most bytes that are told of a text in the place of what the language tells.
-const MOST_TOLD: usize = 32_768;
-
-/// How many units of a savepoint's name count.
-const NAME: usize = 32;
-
 /// A text that was prepared.
 #[derive(Drop)]
 struct Prepared {
@@ -101,12 +92,6 @@ impl Habits {
         for statement in &statements {
             let is_of_drivers = self.add(&mut plan, statement, parameters, &mut is_open)?;
             is_known = is_known || is_of_drivers;
-            if plan.told > MOST_TOLD {
-                return self.too_much(end);
-            }
-            if plan.text.len() > LONGEST {
-                return self.too_long(plan.text.len(), end);
-            }
         }
         if statements.is_empty() {
             plan.add_silent(self.alloc, Deed::Tokens(Vec::new(self.alloc)))?;
@@ -121,14 +106,6 @@ impl Habits {
     fn too_long(&self, count: usize, end: End) -> Result<Plan, AllocError> {
         let alloc = self.alloc;
         let text = format!(in alloc; "This text has {count} units, and may have {LONGEST}.")?;
-        let text = units_in(alloc, text.as_bytes())?;
-        Plan::failed(alloc, end, 50_005, text)
-    }
-
-    /// The plan of a text that too much would be told of.
-    fn too_much(&self, end: End) -> Result<Plan, AllocError> {
-        let alloc = self.alloc;
-        let text = format!(in alloc; "The answer has more than {MOST_TOLD} bytes.")?;
         let text = units_in(alloc, text.as_bytes())?;
         Plan::failed(alloc, end, 50_005, text)
     }
@@ -235,7 +212,7 @@ impl Habits {
     /// Whether a savepoint has this name.
     fn is_saved(&self, name: &[u16]) -> bool {
         for saved in &self.saved {
-            if is_same(saved.as_slice(), short_name(name)) {
+            if is_same(saved.as_slice(), name) {
                 return true;
             }
         }
@@ -251,7 +228,7 @@ impl Habits {
         if self.saved.len() >= MOST {
             let _ = self.saved.remove(0);
         }
-        self.saved.push(own(self.alloc, short_name(name))?)?;
+        self.saved.push(own(self.alloc, name)?)?;
         self.add_done(plan)
     }
 
@@ -276,11 +253,6 @@ impl Habits {
         plan.add_silent(self.alloc, Deed::Tokens(tokens))?;
         Ok(true)
     }
-}
-
-/// What counts of a savepoint's name.
-fn short_name(name: &[u16]) -> &[u16] {
-    name.get(..NAME).unwrap_or(name)
 }
 
 /// The tokens of one row with these columns.
