@@ -10,9 +10,9 @@ use std::alloc::{AllocError, Global};
 use std::io::{self, ErrorKind, Read, Write};
 use tds_session::OnAttention;
 
-/// How many seconds a peer may take nothing while something waits for it, and how many its login may
+/// How many milliseconds a peer may take nothing while something waits for it, and how many its login may
 /// take.
-const PATIENCE: u64 = 10;
+const PATIENCE: u64 = 10_000;
 
 /// The steps of a turn.
 const TURN: u32 = 32;
@@ -39,9 +39,12 @@ pub struct Connection {
     closing: bool,
     /// Whether it is to have a turn.
     pub listed: bool,
-    /// The second in which something of `out` was last taken, or in which nothing waited for it last
-    /// though it had something to do; in the login also the second in which it came.
+    /// The millisecond in which something of `out` was last taken, or in which nothing waited for it last
+    /// though it had something to do; in the login also the one in which it came.
     since: u64,
+    /// The millisecond in which its newest request came, and the one before which nothing is answered.
+    asked: u64,
+    late: u64,
     ghost kept: { vec_len rest ≤ MOST_READ },
     ghost waiting: { vec_len out ≤ MOST_WAITING },
 }
@@ -53,6 +56,8 @@ pub enum Then {
     Wait,
     /// It is to have another turn.
     Again,
+    /// The same, but for a while it has nothing to do.
+    Later,
     Close,
     /// The same: its script cuts it.
     Cut,
@@ -67,21 +72,24 @@ pub enum Late {
     Taking,
     /// Nothing came of it, and nothing waits for it.
     Silent,
+    /// The same, and its script closes it.
+    Idle,
 }
 
 impl Connection {
-    /// A connection that has come in this second. It has room for all that may ever wait for its peer,
+    /// A connection that has come in this millisecond. It has room for all that may ever wait for its peer,
     /// so that what is kept for a peer that reads nothing is this much memory and no more.
     pub fn new(
         alloc: Global,
         stream: Link,
         number: u64,
         on_attention: OnAttention,
+        is_real: bool,
         now: u64,
     ) -> Result<Connection, AllocError> {
         Ok(Connection {
             stream,
-            peer: Peer::new(alloc, on_attention),
+            peer: Peer::new(alloc, on_attention, is_real),
             number,
             rest: Vec::with_capacity(alloc, MOST_READ)?,
             out: Vec::with_capacity(alloc, MOST_WAITING)?,
@@ -91,17 +99,29 @@ impl Connection {
             closing: false,
             listed: false,
             since: now,
+            asked: now,
+            late: 0,
         })
     }
 
-    /// Why it is to be cut now, if it is. A logged-in peer may be silent for so many seconds; for as long
-    /// as it likes where they are 0.
-    pub fn lateness(&self, silence: u64, now: u64) -> Option<Late> {
+    /// How many milliseconds ago its newest request came.
+    pub fn elapsed(&self, now: u64) -> u64 {
+        now.saturating_sub(self.asked)
+    }
+
+    /// Why it is to be cut now, if it is. A logged-in peer may be silent for so many milliseconds; for as
+    /// long as it likes where they are 0. `idle` is the same as its script says it.
+    pub fn lateness(&self, silence: u64, idle: Option<u32>, now: u64) -> Option<Late> {
         if self.peer.is_in_login() {
             return late_where(is_too_long(PATIENCE, self.since, now), Late::Login);
         }
         if self.sent < self.out.len() {
             return late_where(is_too_long(PATIENCE, self.since, now), Late::Taking);
+        }
+        if let Some(most) = idle {
+            if !self.peer.is_busy() && is_too_long(u64::from(most), self.since, now) {
+                return Some(Late::Idle);
+            }
         }
         late_where(
             silence > 0 && is_too_long(silence, self.since, now),
@@ -121,10 +141,14 @@ impl Connection {
         if self.out.is_empty() && !self.peer.is_in_login() {
             self.since = now;
         }
-        if self.can_take() && !self.read(script, notes)? {
+        if self.can_take() && !self.read(script, now, notes)? {
             return Ok(Then::Close);
         }
-        if self.peer.is_busy() {
+        let is_late = now < self.late;
+        if is_late && self.peer.request() == 0 {
+            return Ok(Then::Later);
+        }
+        if self.peer.is_busy() && !is_late {
             let steps = if paced { 1 } else { TURN };
             let next = self.peer.work(script, steps, &mut self.out, notes)?;
             self.closing = self.closing || next == Next::Close;
@@ -138,8 +162,10 @@ impl Connection {
         }
         let can_send = !self.out.is_empty() && !is_stuck;
         let can_work = self.peer.is_busy() && self.out.len() < FULL;
-        if self.can_go_on() || can_work || can_send {
+        if self.can_go_on() || (can_work && !is_late) || can_send {
             Ok(Then::Again)
+        } else if can_work {
+            Ok(Then::Later)
         } else {
             Ok(Then::Wait)
         }
@@ -156,7 +182,7 @@ impl Connection {
     }
 
     /// Takes what is kept; where nothing is, it reads once. False where the peer has gone.
-    fn read(&mut self, script: &Script, notes: &mut Vec<Note>) -> io::Result<bool> {
+    fn read(&mut self, script: &Script, now: u64, notes: &mut Vec<Note>) -> io::Result<bool> {
         let mut buffer = [0u8; MOST_READ];
         let count = if !self.rest.is_empty() {
             let count = self.rest.len().min(MOST_READ);
@@ -176,7 +202,7 @@ impl Connection {
         } else {
             return Ok(true);
         };
-        self.take(script, &buffer[..count], notes)?;
+        self.take(script, &buffer[..count], now, notes)?;
         Ok(true)
     }
 
@@ -185,23 +211,36 @@ impl Connection {
         &mut self,
         script: &Script,
         piece: &[u8],
+        now: u64,
         notes: &mut Vec<Note>,
     ) -> Result<(), AllocError>
         requires { length piece.now ≤ MOST_READ }
     {
         let before = self.peer.request();
+        let was_in_login = self.peer.is_in_login();
         let (count, next) = self.peer.take(script, piece, &mut self.out, notes)?;
         self.closing = next == Next::Close;
         self.rest.clear();
         self.rest.extend_from_slice(&piece[count..])?;
-        let request = self.peer.request();
-        if request != before {
+        if self.peer.request() != before {
             let waiting = self.out.len().saturating_sub(self.sent);
-            self.left = script
-                .cut_of(request)
-                .map(|bytes| waiting.saturating_add(bytes as usize));
+            self.begin(waiting, now);
+        } else if was_in_login && !self.peer.is_in_login() {
+            self.begin(0, now);
         }
         Ok(())
+    }
+
+    /// A request has come, or the login is answered, while so many bytes waited: the script may say when
+    /// its answer is cut, and how late it goes out.
+    fn begin(&mut self, waiting: usize, now: u64) {
+        let orders = self.peer.orders();
+        self.left = match orders.cut {
+            Some(bytes) => Some(waiting.saturating_add(bytes as usize)),
+            None => None,
+        };
+        self.asked = now;
+        self.late = now.saturating_add(u64::from(orders.late));
     }
 
     /// Sends what the system takes, or one piece where the script splits. True where the system takes no more.
@@ -238,7 +277,7 @@ impl Connection {
     }
 }
 
-/// Whether more seconds than these lie between two.
+/// Whether more milliseconds than these lie between two.
 fn is_too_long(most: u64, since: u64, now: u64) -> bool
     ensures { IsTrue result ↔ (most < now - since) }
 {

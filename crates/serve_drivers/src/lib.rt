@@ -4,6 +4,8 @@
 //! with answers, to put a driver where it hurts.
 #![tactic(auto)]
 
+mod answering;
+mod asked;
 mod connection;
 mod front;
 mod keeping;
@@ -12,9 +14,10 @@ mod peer;
 mod place;
 mod script;
 mod serving;
+mod shaping;
 
-pub use log::Log;
-pub use peer::{Next, Note, Peer};
+pub use log::{Log, Style};
+pub use peer::{Asked, Next, Note, Peer};
 pub use place::{Link, Listener, Place};
 pub use script::{Event, Script, ScriptFault, read_script};
 pub use serving::{House, Manner};

@@ -1,11 +1,15 @@
 //! One connection: its login, then its requests. No input or output happens here.
 ghost use Rattle.std.specs.Prelude.{◌+◌, ◌*◌, ◌≤◌, length, vec_len, IfOk};
 
-use crate::front::{Front, Took};
-use crate::script::Script;
+mod notes;
+
+use crate::asked::{database_in, keep};
+use crate::front::{Front, Hears, Took};
+use crate::script::{Orders, Script};
+use notes::{put_login_failed, put_not_spoken, put_reset_failed, refused};
+pub use notes::{Asked, Note};
 use std::alloc::{AllocError, Global};
-use tds_login::{Login, LoginAnswer, Refusal, put_answer, put_error};
-use tds_packet::PacketSize;
+use tds_login::{Login, LoginAnswer, Terms, put_answer, put_let_in};
 use tds_server::{Server, Worked};
 use tds_session::{OnAttention, ScriptEngine};
 
@@ -51,23 +55,6 @@ pub enum Next {
     Close,
 }
 
-/// What happened on a connection, for the log.
-#[derive(Clone, Copy, Debug, PartialEq, Eq)]
-pub enum Note {
-    /// It is logged in, with packets of this many bytes.
-    LoggedIn(u16),
-    /// It was refused: TDS before 7.2.
-    OldVersion,
-    /// It was refused: encryption was demanded.
-    Encryption,
-    /// A request has come, of this kind.
-    Request(Took),
-    /// It sent what is not spoken here.
-    Rubbish,
-    /// The script holds the answer behind so many steps.
-    Holds(u32),
-}
-
 /// The server's end of one connection.
 #[derive(Drop)]
 pub struct Peer {
@@ -79,11 +66,17 @@ pub struct Peer {
     request: u32,
     /// How many steps of the newest one's answer were done.
     steps: u32,
+    /// What the script says of the newest one; of the login before the first.
+    orders: Orders,
+    /// The bytes of the login's message, as far as they are kept.
+    login: Vec<u8>,
+    is_real: bool,
 }
 
 impl Peer {
-    /// A connection as it begins, whose server does this with its transaction at an attention.
-    pub fn new(alloc: Global, on_attention: OnAttention) -> Peer {
+    /// A connection as it begins, whose server does this with its transaction at an attention, and answers
+    /// in the shapes of a SQL Server or not.
+    pub fn new(alloc: Global, on_attention: OnAttention, is_real: bool) -> Peer {
         Peer {
             alloc,
             on_attention,
@@ -91,6 +84,9 @@ impl Peer {
             answering: Answering::No,
             request: 0,
             steps: 0,
+            orders: Orders::none(),
+            login: Vec::new(alloc),
+            is_real,
         }
     }
 
@@ -112,6 +108,11 @@ impl Peer {
     /// How many requests have come.
     pub fn request(&self) -> u32 {
         self.request
+    }
+
+    /// What the script says of the newest request; of the login before the first.
+    pub fn orders(&self) -> Orders {
+        self.orders
     }
 
     /// Takes bytes, and answers how many: all, but where an attention is to wait, or too much waits to be
@@ -153,7 +154,7 @@ impl Peer {
         ensures within { IfOk result (λ x. x.0 ≤ length piece.now) }
         ensures adds { vec_len out.new ≤ vec_len out.old + 4608 }
     {
-        let waits = self.answering != Answering::No && script.is_crossed(self.request);
+        let hears = self.hears();
         match &mut self.stage {
             Stage::Login(login) => {
                 let Ok(fed) = login.feed(piece) else {
@@ -161,46 +162,87 @@ impl Peer {
                     return Ok((0, Next::Close));
                 };
                 let count = fed.count;
+                keep(&mut self.login, &piece[..count])?;
                 let Some(answer) = fed.answer else {
                     return Ok((count, Next::Stay));
                 };
-                Ok((count, self.answer(&answer, out, notes)?))
+                Ok((count, self.answer(script, &answer, out, notes)?))
             }
             Stage::Session { front, server } => {
-                let (count, took) = front.take(self.alloc, server, waits, piece, out)?;
-                Ok((count, self.note(took, out, notes)?))
+                let (count, took) = front.take(server, script, hears, piece, out)?;
+                Ok((count, self.note(script, took, out, notes)?))
             }
             Stage::Over => Ok((0, Next::Close)),
+        }
+    }
+
+    /// What becomes of an attention that comes now.
+    fn hears(&self) -> Hears {
+        if self.answering == Answering::No {
+            Hears::Takes
+        } else if self.orders.is_deaf {
+            Hears::Forgets
+        } else if self.orders.is_crossed {
+            Hears::Waits
+        } else {
+            Hears::Takes
         }
     }
 
     /// Answers a message of the login.
     fn answer(
         &mut self,
+        script: &Script,
         answer: &LoginAnswer,
         out: &mut Vec<u8>,
         notes: &mut Vec<Note>,
     ) -> Result<Next, AllocError>
         ensures { vec_len out.new ≤ vec_len out.old + 4096 }
     {
-        put_answer(self.alloc, out, *answer)?;
         match answer {
-            LoginAnswer::Prepare => Ok(Next::Stay),
+            LoginAnswer::Prepare => {
+                self.login.clear();
+                put_answer(self.alloc, out, *answer)?;
+                Ok(Next::Stay)
+            }
             LoginAnswer::LetIn(terms) => {
+                if script.refuses() {
+                    notes.push(Note::Refused)?;
+                    put_login_failed(self.alloc, out)?;
+                    return Ok(Next::Close);
+                }
                 notes.push(Note::LoggedIn(terms.size.get()))?;
-                self.stage = session(self.alloc, terms.size, self.on_attention)?;
+                self.let_in(script, *terms, out)?;
                 Ok(Next::Stay)
             }
             LoginAnswer::Refuse(refusal) => {
+                put_answer(self.alloc, out, *answer)?;
                 notes.push(refused(*refusal))?;
                 Ok(Next::Close)
             }
         }
     }
 
+    /// Lets a peer in, and begins its session.
+    fn let_in(&mut self, script: &Script, terms: Terms, out: &mut Vec<u8>) -> Result<(), AllocError>
+        ensures { vec_len out.new ≤ vec_len out.old + 4096 }
+    {
+        let alloc = self.alloc;
+        let database = database_in(alloc, self.login.as_slice())?;
+        let size = terms.size;
+        let front = Front::new(alloc, size, database.as_slice(), self.is_real)?;
+        let server = Server::with_attention(alloc, ScriptEngine, size, self.on_attention);
+        put_let_in(alloc, out, terms, database.as_slice())?;
+        self.login.clear();
+        self.orders = script.orders(0, &[]);
+        self.stage = Stage::Session { front, server };
+        Ok(())
+    }
+
     /// Notes what came of a packet.
     fn note(
         &mut self,
+        script: &Script,
         took: Took,
         out: &mut Vec<u8>,
         notes: &mut Vec<Note>,
@@ -209,22 +251,53 @@ impl Peer {
     {
         match took {
             Took::Part => return Ok(Next::Stay),
-            Took::Batch | Took::Transaction => {
-                self.answering = Answering::Works;
-                self.request = self.request.saturating_add(1);
-                self.steps = 0;
+            Took::Batch | Took::Call | Took::Rows | Took::Transaction => {
+                self.begin(script, took, notes)?;
+                return Ok(Next::Stay);
             }
             Took::Attention => self.answering = Answering::No,
             Took::Held => self.answering = Answering::Crosses,
-            Took::Setting => {}
+            Took::Forgotten => {}
+            Took::FailedReset => {
+                notes.push(Note::FailedReset)?;
+                put_reset_failed(self.alloc, out)?;
+                return Ok(Next::Close);
+            }
             Took::Fault => {
                 notes.push(Note::Rubbish)?;
                 put_not_spoken(self.alloc, out)?;
                 return Ok(Next::Close);
             }
         }
-        notes.push(Note::Request(took))?;
+        notes.push(Note::Came(took))?;
         Ok(Next::Stay)
+    }
+
+    /// A request has come, and its answer begins.
+    fn begin(
+        &mut self,
+        script: &Script,
+        kind: Took,
+        notes: &mut Vec<Note>,
+    ) -> Result<(), AllocError> {
+        self.answering = Answering::Works;
+        self.request = self.request.saturating_add(1);
+        self.steps = 0;
+        let Stage::Session { front, server } = &mut self.stage else {
+            return Ok(());
+        };
+        let orders = script.orders(self.request, front.text());
+        front.set_breach(orders.breach);
+        self.orders = orders;
+        let mut text = Vec::new(self.alloc);
+        text.extend_from_slice(front.text().get(..60).unwrap_or(front.text()))?;
+        notes.push(Note::Request(Asked {
+            request: self.request,
+            kind,
+            text,
+            descriptor: server.session().descriptor(),
+        }))?;
+        Ok(())
     }
 
     /// Does so many steps at most, while there is room in `out` and the script lets it. An attention that
@@ -244,35 +317,35 @@ impl Peer {
             if !self.is_busy() || out.len() >= FULL {
                 break;
             }
-            if self.is_held(script) {
+            if self.is_held() {
                 self.answering = Answering::Waits;
                 notes.push(Note::Holds(self.steps))?;
                 break;
             }
-            if self.step(out)? {
-                return self.take_held(out, notes);
+            if self.step(out, notes)? {
+                return self.take_held(script, out, notes);
             }
         }
         Ok(Next::Stay)
     }
 
     /// Whether the script lets no further step be done.
-    fn is_held(&self, script: &Script) -> bool {
-        match script.steps_of(self.request) {
+    fn is_held(&self) -> bool {
+        match self.orders.steps {
             Some(most) => self.answering == Answering::Works && self.steps >= most,
             None => false,
         }
     }
 
     /// Does a step of the answer, and says whether an attention that waited for its end is due.
-    fn step(&mut self, out: &mut Vec<u8>) -> Result<bool, AllocError>
+    fn step(&mut self, out: &mut Vec<u8>, notes: &mut Vec<Note>) -> Result<bool, AllocError>
         ensures { vec_len out.new ≤ vec_len out.old + 512 }
     {
-        let Stage::Session { server, .. } = &mut self.stage else {
+        let Stage::Session { front, server } = &mut self.stage else {
             self.answering = Answering::No;
             return Ok(false);
         };
-        match server.work(out)? {
+        match front.step(server, out)? {
             Worked::Step => {
                 self.steps = self.steps.saturating_add(1);
                 Ok(false)
@@ -280,54 +353,32 @@ impl Peer {
             Worked::Idle | Worked::Finished => {
                 let is_due = self.answering == Answering::Crosses;
                 self.answering = Answering::No;
+                notes.push(Note::Answered {
+                    request: self.request,
+                    has_failed: front.has_failed(),
+                })?;
                 Ok(is_due)
             }
         }
     }
 
     /// Takes an attention that waited.
-    fn take_held(&mut self, out: &mut Vec<u8>, notes: &mut Vec<Note>) -> Result<Next, AllocError>
+    fn take_held(
+        &mut self,
+        script: &Script,
+        out: &mut Vec<u8>,
+        notes: &mut Vec<Note>,
+    ) -> Result<Next, AllocError>
         ensures { vec_len out.new ≤ vec_len out.old + 4608 }
     {
         let Stage::Session { front, server } = &mut self.stage else {
             return Ok(Next::Stay);
         };
-        let (_, took) = front.take(self.alloc, server, false, &[], out)?;
-        let next = self.note(took, out, notes)?;
+        let (_, took) = front.take(server, script, Hears::Takes, &[], out)?;
+        let next = self.note(script, took, out, notes)?;
         if next == Next::Close {
             self.stage = Stage::Over;
         }
         Ok(next)
     }
-}
-
-/// A session as it begins.
-fn session(
-    alloc: Global,
-    size: PacketSize,
-    on_attention: OnAttention,
-) -> Result<Stage, AllocError> {
-    Ok(Stage::Session {
-        front: Front::new(alloc, size)?,
-        server: Server::with_attention(alloc, ScriptEngine, size, on_attention),
-    })
-}
-
-fn refused(refusal: Refusal) -> Note {
-    match refusal {
-        Refusal::OldVersion => Note::OldVersion,
-        Refusal::Encryption => Note::Encryption,
-    }
-}
-
-/// Says that what came is not spoken here.
-fn put_not_spoken(alloc: Global, out: &mut Vec<u8>) -> Result<(), AllocError>
-    ensures { vec_len out.new ≤ vec_len out.old + 4096 }
-{
-    put_error(
-        alloc,
-        out,
-        17_836,
-        b"This server does not speak what came, and closes the connection.",
-    )
 }

@@ -28,6 +28,9 @@ const MOST: usize = 1024;
 /// The most reports of the system that are taken in a round.
 pub const ROUND: usize = 256;
 
+/// The milliseconds between two looks at a connection whose answer the script lets wait.
+const LATE_TIME: u64 = 5;
+
 /// How a server serves.
 #[derive(Clone, Copy, Debug)]
 pub struct Manner {
@@ -36,6 +39,8 @@ pub struct Manner {
     pub pace: u64,
     /// How many seconds a logged-in peer may be silent before it is cut; 0 for as long as it likes.
     pub silence: u64,
+    /// Whether answers have the shapes of a SQL Server's.
+    pub is_real: bool,
 }
 
 /// A server with all its connections.
@@ -52,8 +57,10 @@ pub struct House<W: Write + Drop> {
     waiting: Vec<usize>,
     /// How many connections have come.
     opened: u64,
-    /// The second in which it was last looked who is late.
+    /// The millisecond in which it was last looked who is late.
     swept: u64,
+    /// Whether one of those that are to have a turn has something to do at once.
+    is_busy: bool,
     /// Whether standard input has ended, with which it ends.
     is_ending: bool,
     log: Log<W>,
@@ -82,6 +89,7 @@ impl<W: Write + Drop> House<W> {
             waiting: Vec::new(alloc),
             opened: 0,
             swept: 0,
+            is_busy: false,
             is_ending: false,
             log,
         })
@@ -101,7 +109,7 @@ impl<W: Write + Drop> House<W> {
     pub fn serve<R: Clock>(&mut self, rt: &R) -> io::Result<usize> {
         let mut events = Events::with_capacity(self.alloc, ROUND)?;
         for _ in 0..u64::MAX {
-            self.round(rt, &mut events, 1000)?;
+            self.round(rt, &mut events, self.sweep_time())?;
             if self.is_ending {
                 break;
             }
@@ -138,15 +146,25 @@ impl<W: Write + Drop> House<W> {
     ) -> io::Result<()> {
         let timeout = Duration::from_millis(self.timeout(longest));
         self.poll.poll(events, Some(timeout))?;
-        let now = self.start.elapsed(rt)?.as_secs();
+        let now = self.start.elapsed(rt)?.as_millis();
+        let now = u64::try_from(now).unwrap_or(u64::MAX);
         self.hear(events, now)?;
         self.give_turns(now)?;
-        if now > self.swept {
+        if now >= self.swept.saturating_add(self.sweep_time()) {
             self.swept = now;
             self.accept(now);
             self.cut_late(now);
         }
         Ok(())
+    }
+
+    /// The milliseconds from one look at who is late to the next.
+    fn sweep_time(&self) -> u64 {
+        if self.script.idle().is_some() {
+            50
+        } else {
+            1000
+        }
     }
 
     /// Does what the system reported asks for.
@@ -169,8 +187,10 @@ impl<W: Write + Drop> House<W> {
     fn timeout(&self, longest: u64) -> u64 {
         if self.waiting.is_empty() {
             longest
-        } else {
+        } else if self.is_busy {
             self.manner.pace
+        } else {
+            self.manner.pace.max(LATE_TIME)
         }
     }
 
@@ -184,6 +204,7 @@ impl<W: Write + Drop> House<W> {
                 connection.listed = true;
                 self.waiting.push(key)?;
             }
+            self.is_busy = self.is_busy || readable;
         }
         Ok(())
     }
@@ -191,6 +212,7 @@ impl<W: Write + Drop> House<W> {
     /// Gives a turn to each connection that is to have one.
     fn give_turns(&mut self, now: u64) -> io::Result<()> {
         let turns = mem::replace(&mut self.waiting, Vec::new(self.alloc));
+        self.is_busy = false;
         for key in turns.iter() {
             self.give_turn(*key, now)?;
         }
@@ -200,7 +222,11 @@ impl<W: Write + Drop> House<W> {
     fn give_turn(&mut self, key: usize, now: u64) -> io::Result<()> {
         match self.turn_of(key, now) {
             Ok(Then::Wait) => {}
-            Ok(Then::Again) => return self.reported(key, false),
+            Ok(Then::Again) => {
+                self.is_busy = true;
+                return self.reported(key, false);
+            }
+            Ok(Then::Later) => return self.reported(key, false),
             Ok(Then::Close) => self.close(key, "its end"),
             Ok(Then::Cut) => self.close(key, "its script cuts it"),
             Err(_) => self.close(key, "its link failed"),
@@ -218,8 +244,9 @@ impl<W: Write + Drop> House<W> {
         let mut notes = Vec::new(self.alloc);
         let paced = self.manner.pace > 0;
         let then = connection.turn(&self.script, paced, now, &mut notes);
+        let elapsed = connection.elapsed(now);
         for note in notes.iter() {
-            self.log.noted(number, *note);
+            self.log.noted(number, note, elapsed);
         }
         then
     }
@@ -232,15 +259,18 @@ impl<W: Write + Drop> House<W> {
 
     /// Cuts those that are late.
     fn cut_late(&mut self, now: u64) {
+        let silence = self.manner.silence.saturating_mul(1000);
+        let idle = self.script.idle();
         for key in 0..MOST {
             let late = match self.connections.get(key) {
-                Some(connection) => connection.lateness(self.manner.silence, now),
+                Some(connection) => connection.lateness(silence, idle, now),
                 None => None,
             };
             match late {
                 Some(Late::Login) => self.close(key, "its login took too long"),
                 Some(Late::Taking) => self.close(key, "it took nothing for too long"),
                 Some(Late::Silent) => self.close(key, "it was silent for too long"),
+                Some(Late::Idle) => self.close(key, "its script closes it"),
                 None => {}
             }
         }
@@ -271,7 +301,9 @@ impl<W: Write + Drop> House<W> {
         self.opened = self.opened.saturating_add(1);
         let number = self.opened;
         let on_attention = self.manner.on_attention;
-        let Ok(connection) = Connection::new(self.alloc, link, number, on_attention, now) else {
+        let is_real = self.manner.is_real;
+        let made = Connection::new(self.alloc, link, number, on_attention, is_real, now);
+        let Ok(connection) = made else {
             return false;
         };
         let is_in = self.connections.insert(connection).is_ok();

@@ -83,18 +83,33 @@ login_ack version = counted 173 (acknowledged version)
 abbrev pub size_change : PacketSize → List ℕ
 size_change size = env_change 4 (decimal size) (codes "4096")
 
+-- units of two bytes
+abbrev pub wide : List ℕ → List ℕ
+wide units = flat_map (λ unit. to_le_bytes w16 unit) units
+
+-- ENVCHANGE 1 behind its count: the database's name, and the one that it was, `master`
+abbrev pub database_body : List ℕ → List ℕ
+database_body name = 1 ∷ length name ∷ (wide name ++ short_text (codes "master"))
+
+-- ENVCHANGE of the database, of whose name 128 units count
+abbrev pub database_change : List ℕ → List ℕ
+database_change name = counted 227 (database_body (take 128 name))
+
 -- who is let in is told the database, the collation, LOGINACK, the packet size, and DONE
-abbrev pub let_in : Terms → List ℕ
-let_in terms =
-    env_change 1 (codes "main") (codes "master")
+abbrev pub let_in : Terms → List ℕ → List ℕ
+let_in terms database =
+    database_change database
     ++ (counted 227 (7 ∷ 5 ∷ 9 ∷ 4 ∷ 208 ∷ 0 ∷ 52 ∷ 0 ∷ [])
     ++ (login_ack terms.version
     ++ (size_change terms.size ++ done Wide 0)))
 
--- PRELOGIN is answered by two options, VERSION and ENCRYPTION: where their data stand and how many they are;
--- then the version 11.0, and that encryption is not supported
+-- PRELOGIN is answered by five options, VERSION, ENCRYPTION, INSTOPT, THREADID and MARS: where their data
+-- stand and how many they are; then the version 11.0, that encryption is not supported, that the instance is
+-- the right one, no thread, and no MARS
 abbrev pub prepared : List ℕ
-prepared = 0 ∷ 0 ∷ 11 ∷ 0 ∷ 6 ∷ 1 ∷ 0 ∷ 17 ∷ 0 ∷ 1 ∷ 255 ∷ 11 ∷ 0 ∷ 0 ∷ 0 ∷ 0 ∷ 0 ∷ 2 ∷ []
+prepared =
+    0 ∷ 0 ∷ 26 ∷ 0 ∷ 6 ∷ 1 ∷ 0 ∷ 32 ∷ 0 ∷ 1 ∷ 2 ∷ 0 ∷ 33 ∷ 0 ∷ 1 ∷ 3 ∷ 0 ∷ 34 ∷ 0 ∷ 0 ∷ 4 ∷ 0 ∷ 34 ∷ 0 ∷ 1
+    ∷ 255 ∷ 11 ∷ 0 ∷ 0 ∷ 0 ∷ 0 ∷ 0 ∷ 2 ∷ 0 ∷ 0 ∷ []
 
 abbrev pub old_version_text : List ℕ
 old_version_text = codes "This server speaks TDS 7.2 to 7.4, and the client asked for an older version."
@@ -105,6 +120,6 @@ encryption_text = codes "This server does not encrypt, and the client demanded e
 -- the data of each answer
 abbrev pub data_of : LoginAnswer → List ℕ
 data_of Prepare = prepared
-data_of (LetIn terms) = let_in terms
+data_of (LetIn terms) = let_in terms (codes "main")
 data_of (Refuse OldVersion) = refusal Narrow 17832 old_version_text
 data_of (Refuse Encryption) = refusal Wide 17835 encryption_text

@@ -38,8 +38,15 @@ pub enum Refusal {
 /// The name of this server in LOGINACK and in errors.
 const NAME: &[u8] = b"tdsserve";
 
-/// The answer to PRELOGIN (MS-TDS 2.2.6.5): version 11.0, and encryption is not supported.
-const PREPARED: [u8; 18] = [0, 0, 11, 0, 6, 1, 0, 17, 0, 1, 0xff, 11, 0, 0, 0, 0, 0, 2];
+/// The answer to PRELOGIN (MS-TDS 2.2.6.5): version 11.0, encryption is not supported, the instance is the
+/// right one, no thread is told, and there is one request at a time on a connection.
+const PREPARED: [u8; 35] = [
+    0, 0, 26, 0, 6, 1, 0, 32, 0, 1, 2, 0, 33, 0, 1, 3, 0, 34, 0, 0, 4, 0, 34, 0, 1, 0xff, //
+    11, 0, 0, 0, 0, 0, 2, 0, 0,
+];
+
+/// The database of a client that asks for none, as units.
+const MAIN: [u16; 4] = [109, 97, 105, 110];
 
 /// The layout of tokens from TDS 7.2 on, or before it.
 #[derive(Clone, Copy)]
@@ -59,7 +66,7 @@ pub fn put_answer(alloc: Global, out: &mut Vec<u8>, answer: LoginAnswer) -> Resu
 {
     match answer {
         LoginAnswer::Prepare => put_packet(out, &PREPARED),
-        LoginAnswer::LetIn(terms) => put_let_in(alloc, out, terms),
+        LoginAnswer::LetIn(terms) => put_let_in(alloc, out, terms, &MAIN),
         LoginAnswer::Refuse(Refusal::OldVersion) => put_error_as(
             alloc,
             out,
@@ -115,27 +122,77 @@ fn put_packet(out: &mut Vec<u8>, data: &[u8]) -> Result<(), NoMemory>
     )
 }
 
-/// Appends the answer to a login that is let in: database, collation, LOGINACK, packet size, DONE.
-fn put_let_in(alloc: Global, out: &mut Vec<u8>, terms: Terms) -> Result<(), NoMemory>
+/// Appends the answer to a login that is let in: its database, collation, LOGINACK, packet size, DONE. Of
+/// the database's name, 128 units count. At want of memory nothing is appended.
+pub fn put_let_in(
+    alloc: Global,
+    out: &mut Vec<u8>,
+    terms: Terms,
+    database: &[u16],
+) -> Result<(), NoMemory>
     ensures short { vec_len out.new ≤ vec_len out.old + 4096 }
     ensures ok { OnOk result (out.new.items
-        ≡ out.old.items ++ spelled.answer_packet (spelled.let_in terms)) }
+        ≡ out.old.items ++ spelled.answer_packet (spelled.let_in terms database.now)) }
     ensures err { OnErr result (out.new.items ≡ out.old.items) }
 {
     let mut data = Vec::new(alloc);
-    put_terms(alloc, &mut data, terms)?;
+    put_terms(alloc, &mut data, terms, database)?;
     put_packet(out, data.as_slice())
 }
 
 /// Appends the tokens of that answer.
-fn put_terms(alloc: Global, data: &mut Vec<u8>, terms: Terms) -> Result<(), NoMemory>
-    ensures { OnOk result («data».new.items ≡ «data».old.items ++ spelled.let_in terms) }
+fn put_terms(
+    alloc: Global,
+    data: &mut Vec<u8>,
+    terms: Terms,
+    database: &[u16],
+) -> Result<(), NoMemory>
+    ensures { OnOk result («data».new.items
+        ≡ «data».old.items ++ spelled.let_in terms database.now) }
 {
-    put_env_change(alloc, data, 1, b"main", b"master")?;
+    put_database(alloc, data, database)?;
     put_counted(data, 0xe3, &[7, 5, 0x09, 0x04, 0xd0, 0, 0x34, 0])?;
     put_acknowledgement(alloc, data, terms.version)?;
     put_size(alloc, data, terms.size)?;
     put_done_token(data, Layout::Wide, 0)
+}
+
+/// Appends ENVCHANGE of the database, which was `master`. Of its name, 128 units count.
+fn put_database(alloc: Global, data: &mut Vec<u8>, database: &[u16]) -> Result<(), NoMemory>
+    ensures { OnOk result («data».new.items
+        ≡ «data».old.items ++ spelled.database_change database.now) }
+{
+    let mut body = Vec::new(alloc);
+    put_database_body(&mut body, first_units(database, 128))?;
+    put_counted(data, 0xe3, body.as_slice())
+}
+
+/// As many units as these at most, the first ones.
+fn first_units(units: &[u16], most: usize) -> &[u16]
+    ensures front { result.now ≡ take most units.now }
+    ensures most { length result.now ≤ most }
+{
+    &units[..most.min(units.len())]
+}
+
+/// Appends what stands behind the count of that ENVCHANGE.
+fn put_database_body(body: &mut Vec<u8>, database: &[u16]) -> Result<(), NoMemory>
+    requires { length database.now ≤ 128 }
+    ensures { OnOk result (body.new.items ≡ body.old.items ++ spelled.database_body database.now) }
+{
+    body.extend_from_slice(&[1, database.len() as u8])?;
+    put_wide(body, database)?;
+    put_text(body, b"master")
+}
+
+/// Appends units.
+fn put_wide(data: &mut Vec<u8>, units: &[u16]) -> Result<(), NoMemory>
+    ensures { OnOk result («data».new.items ≡ «data».old.items ++ spelled.wide units.now) }
+{
+    for unit in units {
+        put_u16(data, *unit)?;
+    }
+    Ok(())
 }
 
 /// Appends ENVCHANGE of the packet size.

@@ -13,7 +13,7 @@ mod batch;
 mod laws;
 mod login;
 
-pub use answer::{LoginAnswer, Refusal, Terms, put_answer, put_done, put_error};
+pub use answer::{LoginAnswer, Refusal, Terms, put_answer, put_done, put_error, put_let_in};
 pub use asking::{is_let_in, put_login};
 pub use batch::{is_own_setting, without_line_ends};
 pub use laws::cuts_do_not_matter;

@@ -3,7 +3,7 @@
 use crate::address::find_place;
 use crate::fault::ServeFault;
 use crate::words::Asked;
-use serve_drivers::{House, Log, Manner, Place, Script, ScriptFault, read_script};
+use serve_drivers::{House, Log, Manner, Place, Script, ScriptFault, Style, read_script};
 use std::fs;
 use std::io::{ErrorKind, Read, Stderr};
 
@@ -17,12 +17,13 @@ pub fn begin(rt: &HostRuntime, asked: &Asked) -> Result<(House<Stderr>, Place), 
         on_attention: asked.on_attention,
         pace: asked.pace,
         silence: asked.silence,
+        is_real: asked.is_real,
     };
     let script = match &asked.script {
         Some(path) => given_script(rt, path.as_str())?,
         None => Script::none(rt.alloc()),
     };
-    let log = Log::new(rt.stderr(), asked.is_logged);
+    let log = Log::new(rt.stderr(), asked.style);
     let mut house = match House::new(rt, rt.alloc(), &place, manner, script, log) {
         Ok(house) => house,
         Err(error) => return Err(ServeFault::Listen(place, error)),

@@ -2,6 +2,7 @@
 
 use crate::fault::ServeFault;
 use clap::{Arg, ArgAction, ArgMatches, Command};
+use serve_drivers::Style;
 use std::alloc::{AllocError, Global};
 use tds_session::OnAttention;
 
@@ -24,8 +25,10 @@ pub struct Asked {
     pub ends_with_input: bool,
     /// The file of the script, if there is one.
     pub script: Option<String>,
-    /// Whether each connection and each request has a line on standard error.
-    pub is_logged: bool,
+    /// Whether answers have the shapes of a SQL Server's.
+    pub is_real: bool,
+    /// How each connection and each request has a line on standard error.
+    pub style: Style,
 }
 
 /// Reads the words, the program's name too.
@@ -39,7 +42,8 @@ pub fn read_words(alloc: Global, words: &[String]) -> Result<Asked, ServeFault> 
         on_attention: on_attention_of(&matches),
         lets_others_in: matches.get_flag("let-others-in"),
         ends_with_input: matches.get_flag("until-input-ends"),
-        is_logged: matches.get_flag("log"),
+        is_real: matches.get_flag("real"),
+        style: style_of(&matches),
         address: String::from_str(alloc, matches.get_str("ADDRESS").unwrap_or(""))?,
         script: script_of(alloc, &matches)?,
     })
@@ -62,6 +66,16 @@ fn on_attention_of(matches: &ArgMatches<'_>) -> OnAttention {
         OnAttention::RollBack
     } else {
         OnAttention::Keep
+    }
+}
+
+fn style_of(matches: &ArgMatches<'_>) -> Style {
+    if matches.get_flag("log-json") {
+        Style::Json
+    } else if matches.get_flag("log") {
+        Style::Words
+    } else {
+        Style::Off
     }
 }
 
@@ -90,6 +104,14 @@ fn parser<'a>(alloc: Global) -> Result<Command<'a>, AllocError> {
         "a line for each connection and each request, on standard error",
     );
     let parser = parser.arg(log)?;
+    let log_json = flag(alloc, "log-json", "the same, each line a JSON object");
+    let parser = parser.arg(log_json)?;
+    let real = flag(
+        alloc,
+        "real",
+        "answers have the shapes of a SQL Server's: more types, null values, orders",
+    );
+    let parser = parser.arg(real)?;
     let until = flag(
         alloc,
         "until-input-ends",

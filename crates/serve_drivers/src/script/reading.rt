@@ -1,6 +1,8 @@
 //! Script files: a JSON object with the keys `version` and `events`, each event an array that begins with
 //! its word.
 
+use crate::script::fields::{Field, event_of, fields_of};
+use crate::script::tokens::{bytes_of, fault_of};
 use crate::script::{Event, Script, ScriptFault};
 use json_places::{
     Key, Outline, Page, Takes, parts_of, put_doubled, put_json_fault, put_place, put_standing,
@@ -25,13 +27,11 @@ const KEYS: [Key; 2] = [
 ];
 
 /// The words of events.
-const WORDS: &str = "hold, cross, cut and split";
+const WORDS: &str = "hold, cross, cut, split, answer, answer_hex, broken_hex, deaf, late, close, \
+     refuse, fail_reset and break";
 
 /// The most events of a script.
 const MOST: usize = 1000;
-
-/// The most that a number in a script may be.
-const LARGEST: u64 = 1_000_000;
 
 /// Reads a script file of this name.
 pub fn read_script(alloc: Global, name: &str, bytes: &[u8]) -> Result<Script, ScriptFault> {
@@ -200,7 +200,7 @@ impl Spot<'_> {
         if self.put_field_fault(text, word, wanted, fields)? {
             return Ok(None);
         }
-        Ok(event_of(word, fields))
+        event_of(self.alloc, word, fields)
     }
 
     /// Where a part of it begins.
@@ -239,10 +239,47 @@ impl Spot<'_> {
                 return Ok(true);
             }
         }
-        Ok(false)
+        self.put_tokens_fault(text, word, wanted.last(), fields.last())
     }
 
-    /// Appends how many numbers stand behind its word, and how many stand there.
+    /// Appends what is wrong with tokens in hexadecimal digits that stand last, and answers whether
+    /// something is.
+    fn put_tokens_fault(
+        &self,
+        text: &mut String,
+        word: &str,
+        wanted: Option<&Field>,
+        value: Option<&Value>,
+    ) -> Result<bool, AllocError> {
+        let (Some(Field::Tokens | Field::AnyTokens), Some(value)) = (wanted, value) else {
+            return Ok(false);
+        };
+        let tokens = match bytes_of(self.alloc, value.as_str().unwrap_or(""))? {
+            Ok(tokens) => tokens,
+            Err(place) => {
+                self.put_front(text, self.part(2))?;
+                writeln!(
+                    text,
+                    "value 2 behind \"{word}\" has no digit at character {place}"
+                )?;
+                return Ok(true);
+            }
+        };
+        if matches!(wanted, Some(Field::AnyTokens)) {
+            return Ok(false);
+        }
+        let Some((at, why)) = fault_of(self.alloc, tokens.as_slice())? else {
+            return Ok(false);
+        };
+        self.put_front(text, self.part(2))?;
+        writeln!(
+            text,
+            "value 2 behind \"{word}\" is no answer at byte {at}: {why}"
+        )?;
+        Ok(true)
+    }
+
+    /// Appends how many values stand behind its word, and how many stand there.
     fn put_count(
         &self,
         text: &mut String,
@@ -253,7 +290,7 @@ impl Spot<'_> {
         self.put_front(text, self.part(0))?;
         writeln!(
             text,
-            "behind \"{word}\" stand {count} numbers; here stand {stand}"
+            "behind \"{word}\" stand {count} values; here stand {stand}"
         )
     }
 
@@ -270,73 +307,4 @@ impl Spot<'_> {
         write!(text, "value {nth} behind \"{word}\" is {wanted}; ")?;
         put_standing(self.alloc, text, value)
     }
-}
-
-/// What stands behind an event's word.
-#[derive(Clone, Copy)]
-enum Field {
-    Request,
-    Steps,
-    Bytes,
-    Piece,
-}
-
-impl Field {
-    /// What it is, in words.
-    fn wanted(self) -> &'static str {
-        match self {
-            Field::Request => "a request's number on its connection, 1 to 1000000",
-            Field::Steps => "a count of steps, 0 to 1000000",
-            Field::Bytes => "a count of bytes, 0 to 1000000",
-            Field::Piece => "a count of bytes, 1 to 1000000",
-        }
-    }
-
-    /// Whether a value can stand there.
-    fn takes(self, value: &Value) -> bool {
-        let least = match self {
-            Field::Request | Field::Piece => 1,
-            Field::Steps | Field::Bytes => 0,
-        };
-        value
-            .as_u64()
-            .is_some_and(|number| number >= least && number <= LARGEST)
-    }
-}
-
-/// What stands behind a word; none where there is no such word.
-fn fields_of(word: &str) -> Option<&'static [Field]> {
-    match word {
-        "hold" | "cross" => Some(&[Field::Request, Field::Steps]),
-        "cut" => Some(&[Field::Request, Field::Bytes]),
-        "split" => Some(&[Field::Piece]),
-        _ => None,
-    }
-}
-
-/// The event of this word with these values, each of which can stand there.
-fn event_of(word: &str, fields: &[Value]) -> Option<Event> {
-    let first = number_of(fields.first())?;
-    if word == "split" {
-        return Some(Event::Split { bytes: first });
-    }
-    let second = number_of(fields.get(1))?;
-    match word {
-        "hold" => Some(Event::Hold {
-            request: first,
-            steps: second,
-        }),
-        "cross" => Some(Event::Cross {
-            request: first,
-            steps: second,
-        }),
-        _ => Some(Event::Cut {
-            request: first,
-            bytes: second,
-        }),
-    }
-}
-
-fn number_of(value: Option<&Value>) -> Option<u32> {
-    u32::try_from(value?.as_u64()?).ok()
 }

@@ -1,0 +1,111 @@
+//! What is run for a request, and what is told in the place of what that tells.
+
+use crate::text::units_in;
+use serve_answers::{Done, put_done};
+use std::alloc::{AllocError, Global};
+
+/// A statement of the batch language that changes nothing: it stands in for one that is answered otherwise.
+const SILENT: &[u8] = b"get a";
+
+/// What is told of a statement.
+#[derive(Debug, Drop)]
+pub enum Deed {
+    /// What the batch language tells of it.
+    Same,
+    /// These tokens.
+    Tokens(Vec<u8>),
+    /// An ERROR of this number and text.
+    Failed { number: u32, text: Vec<u16> },
+    /// These tokens, and nothing behind them: they are the whole answer.
+    Whole(Vec<u8>),
+}
+
+/// How an answer ends.
+#[derive(Clone, Copy, Debug, PartialEq, Eq)]
+pub enum End {
+    /// As that of a batch: DONE.
+    Batch,
+    /// As that of a procedure: RETURNSTATUS, a handle where it gives one, DONEPROC.
+    Procedure { handle: Option<u32> },
+}
+
+/// What is run for a request: a text of the batch language, and what is told of each of its statements; of
+/// those behind the last deed, the same as the language tells.
+#[derive(Debug, Drop)]
+pub struct Plan {
+    pub text: Vec<u16>,
+    pub deeds: Vec<Deed>,
+    pub end: End,
+}
+
+impl Plan {
+    /// A plan of no statement yet.
+    pub(crate) fn new(alloc: Global, end: End) -> Plan {
+        Plan {
+            text: Vec::new(alloc),
+            deeds: Vec::new(alloc),
+            end,
+        }
+    }
+
+    /// The plan of a request that is handed on as it is, and of which all is told.
+    pub fn same(alloc: Global) -> Plan {
+        Plan::new(alloc, End::Batch)
+    }
+
+    /// The plan of an answer that is these tokens.
+    pub fn whole(alloc: Global, tokens: Vec<u8>) -> Result<Plan, AllocError> {
+        let mut plan = Plan::new(alloc, End::Batch);
+        plan.add_silent(alloc, Deed::Whole(tokens))?;
+        Ok(plan)
+    }
+
+    /// The plan of a request that fails with this error.
+    pub fn failed(
+        alloc: Global,
+        end: End,
+        number: u32,
+        text: Vec<u16>,
+    ) -> Result<Plan, AllocError> {
+        let mut plan = Plan::new(alloc, end);
+        plan.add_failed(alloc, number, text)?;
+        Ok(plan)
+    }
+
+    /// The plan of a batch whose rows were counted.
+    pub fn counted(alloc: Global, rows: u64) -> Result<Plan, AllocError> {
+        let mut plan = Plan::new(alloc, End::Batch);
+        let mut tokens = Vec::new(alloc);
+        put_done(&mut tokens, Done::Statement, 0x11, rows)?;
+        plan.add_silent(alloc, Deed::Tokens(tokens))?;
+        Ok(plan)
+    }
+
+    /// Adds a statement of the language, with what is told of it.
+    pub(crate) fn add(&mut self, statement: &[u16], deed: Deed) -> Result<(), AllocError> {
+        if !self.deeds.is_empty() {
+            self.text.push(59)?;
+        }
+        self.text.extend_from_slice(statement)?;
+        self.deeds.push(deed)?;
+        Ok(())
+    }
+
+    /// Adds a statement that changes nothing.
+    pub(crate) fn add_silent(&mut self, alloc: Global, deed: Deed) -> Result<(), AllocError> {
+        let statement = units_in(alloc, SILENT)?;
+        self.add(statement.as_slice(), deed)
+    }
+
+    /// Adds a statement that fails.
+    pub(crate) fn add_failed(
+        &mut self,
+        alloc: Global,
+        number: u32,
+        text: Vec<u16>,
+    ) -> Result<(), AllocError> {
+        let statement = format!(in alloc; "fail {number}")?;
+        let statement = units_in(alloc, statement.as_bytes())?;
+        self.add(statement.as_slice(), Deed::Failed { number, text })
+    }
+}

@@ -1,0 +1,273 @@
+//! What a session keeps beside the server's own: its database, savepoints, prepared texts.
+
+mod calls;
+
+use crate::call::Parameter;
+use crate::items::{Own, columns_of};
+use crate::plan::{Deed, End, Plan};
+use crate::statements::{Known, statements_of, what_is};
+use crate::substituting::substituted;
+use crate::text::{is_same, is_word, own, trimmed, units_in};
+use serve_answers::{
+    Column, Done, put_collation_change, put_columns, put_done, put_info, put_row, put_text_change,
+};
+use std::alloc::{AllocError, Global};
+
+/// The most units of a text (the batch language's limit).
+pub const LONGEST: usize = 2000;
+
+/// The most savepoints and prepared texts of a session. Of more, the oldest are forgotten.
+const MOST: usize = 32;
+
+/// A text that was prepared.
+#[derive(Drop)]
+struct Prepared {
+    handle: u32,
+    text: Vec<u16>,
+    declarations: Vec<u16>,
+}
+
+/// What a session keeps beside the server's own.
+#[derive(Drop)]
+pub struct Habits {
+    alloc: Global,
+    /// The database that the login asked for.
+    first_database: Vec<u16>,
+    database: Vec<u16>,
+    saved: Vec<Vec<u16>>,
+    prepared: Vec<Prepared>,
+    handles: u32,
+}
+
+impl Habits {
+    /// Those of a session in this database.
+    pub fn new(alloc: Global, database: &[u16]) -> Result<Habits, AllocError> {
+        Ok(Habits {
+            alloc,
+            first_database: own(alloc, database)?,
+            database: own(alloc, database)?,
+            saved: Vec::new(alloc),
+            prepared: Vec::new(alloc),
+            handles: 0,
+        })
+    }
+
+    /// A reset: all is as the login left it.
+    pub fn reset(&mut self) -> Result<(), AllocError> {
+        self.database = own(self.alloc, self.first_database.as_slice())?;
+        self.saved.clear();
+        self.prepared.clear();
+        Ok(())
+    }
+
+    /// What a SQL Server tells with a reset that is done: the database and the collation.
+    pub fn tokens(&self, alloc: Global) -> Result<Vec<u8>, AllocError> {
+        let mut tokens = Vec::new(alloc);
+        let database = self.database.as_slice();
+        put_text_change(alloc, &mut tokens, 1, database, database)?;
+        put_collation_change(&mut tokens)?;
+        Ok(tokens)
+    }
+
+    /// The plan of a batch.
+    pub fn plan_batch(&mut self, text: &[u16], is_open: bool) -> Result<Plan, AllocError> {
+        self.plan_text(text, &[], is_open, End::Batch)
+    }
+
+    /// The plan of a text with these parameters.
+    fn plan_text(
+        &mut self,
+        text: &[u16],
+        parameters: &[Parameter<'_>],
+        is_open: bool,
+        end: End,
+    ) -> Result<Plan, AllocError> {
+        if text.len() > LONGEST {
+            return self.too_long(text.len(), end);
+        }
+        let mut plan = Plan::new(self.alloc, end);
+        let mut is_open = is_open;
+        let mut is_known = !parameters.is_empty();
+        let statements = statements_of(self.alloc, text)?;
+        for statement in &statements {
+            let is_of_drivers = self.add(&mut plan, statement, parameters, &mut is_open)?;
+            is_known = is_known || is_of_drivers;
+        }
+        if statements.is_empty() {
+            plan.add_silent(self.alloc, Deed::Tokens(Vec::new(self.alloc)))?;
+        } else if !is_known {
+            plan.text = own(self.alloc, trimmed(text))?;
+            plan.deeds = Vec::new(self.alloc);
+        }
+        Ok(plan)
+    }
+
+    /// The plan of a text that is too long.
+    fn too_long(&self, count: usize, end: End) -> Result<Plan, AllocError> {
+        let alloc = self.alloc;
+        let text = format!(in alloc; "This text has {count} units, and may have {LONGEST}.")?;
+        let text = units_in(alloc, text.as_bytes())?;
+        Plan::failed(alloc, end, 50_005, text)
+    }
+
+    /// Adds a statement, and answers whether it is one that drivers send.
+    fn add(
+        &mut self,
+        plan: &mut Plan,
+        statement: &[u16],
+        parameters: &[Parameter<'_>],
+        is_open: &mut bool,
+    ) -> Result<bool, AllocError> {
+        match what_is(statement) {
+            Some(Known::IfOpen(then)) if *is_open => {
+                let _ = self.add_known(plan, then, what_is(then), parameters, is_open)?;
+                Ok(true)
+            }
+            Some(Known::IfOpen(_)) => {
+                self.add_done(plan)?;
+                Ok(true)
+            }
+            found => self.add_known(plan, statement, found, parameters, is_open),
+        }
+    }
+
+    /// The same of a statement without a condition, and of what it is.
+    fn add_known(
+        &mut self,
+        plan: &mut Plan,
+        statement: &[u16],
+        found: Option<Known<'_>>,
+        parameters: &[Parameter<'_>],
+        is_open: &mut bool,
+    ) -> Result<bool, AllocError> {
+        match found {
+            Some(Known::Silent) => self.add_done(plan)?,
+            Some(Known::Use(name)) => self.add_use(plan, name)?,
+            Some(Known::Begin) => self.add_word(plan, b"begin", is_open, true)?,
+            Some(Known::Commit) => self.add_word(plan, b"commit", is_open, false)?,
+            Some(Known::Rollback(name)) if self.is_saved(name) => self.add_done(plan)?,
+            Some(Known::Rollback(_)) => self.add_word(plan, b"rollback", is_open, false)?,
+            Some(Known::Save(name)) => self.add_save(plan, name, *is_open)?,
+            Some(Known::Select(items)) => {
+                return self.add_select(plan, statement, items, parameters, *is_open);
+            }
+            Some(Known::IfOpen(_)) | None => {
+                self.add_same(plan, statement, parameters, is_open)?;
+                return Ok(false);
+            }
+        }
+        Ok(true)
+    }
+
+    /// Adds a statement of the language, or of no language at all.
+    fn add_same(
+        &mut self,
+        plan: &mut Plan,
+        statement: &[u16],
+        parameters: &[Parameter<'_>],
+        is_open: &mut bool,
+    ) -> Result<(), AllocError> {
+        if is_word(statement, b"begin") {
+            *is_open = true;
+        } else if is_word(statement, b"commit") || is_word(statement, b"rollback") {
+            *is_open = false;
+            self.saved.clear();
+        }
+        let statement = substituted(self.alloc, statement, parameters)?;
+        plan.add(statement.as_slice(), Deed::Same)
+    }
+
+    /// Adds a statement of which nothing but its end is told.
+    fn add_done(&self, plan: &mut Plan) -> Result<(), AllocError> {
+        let mut tokens = Vec::new(self.alloc);
+        put_done(&mut tokens, Done::Statement, 1, 0)?;
+        plan.add_silent(self.alloc, Deed::Tokens(tokens))
+    }
+
+    /// Adds a statement of the language that begins or ends the transaction.
+    fn add_word(
+        &mut self,
+        plan: &mut Plan,
+        word: &[u8],
+        is_open: &mut bool,
+        opens: bool,
+    ) -> Result<(), AllocError> {
+        *is_open = opens;
+        self.saved.clear();
+        let statement = units_in(self.alloc, word)?;
+        plan.add(statement.as_slice(), Deed::Same)
+    }
+
+    /// Adds the choice of a database: ENVCHANGE 1 and INFO 5701.
+    fn add_use(&mut self, plan: &mut Plan, name: &[u16]) -> Result<(), AllocError> {
+        let alloc = self.alloc;
+        let mut tokens = Vec::new(alloc);
+        put_text_change(alloc, &mut tokens, 1, name, self.database.as_slice())?;
+        put_database_info(alloc, &mut tokens, name)?;
+        put_done(&mut tokens, Done::Statement, 1, 0)?;
+        self.database = own(alloc, name)?;
+        plan.add_silent(alloc, Deed::Tokens(tokens))
+    }
+
+    /// Whether a savepoint has this name.
+    fn is_saved(&self, name: &[u16]) -> bool {
+        for saved in &self.saved {
+            if is_same(saved.as_slice(), name) {
+                return true;
+            }
+        }
+        false
+    }
+
+    /// Adds a savepoint, which only a transaction has.
+    fn add_save(&mut self, plan: &mut Plan, name: &[u16], is_open: bool) -> Result<(), AllocError> {
+        if !is_open {
+            let text = units_in(self.alloc, b"There is no active transaction to save.")?;
+            return plan.add_failed(self.alloc, 628, text);
+        }
+        if self.saved.len() >= MOST {
+            let _ = self.saved.remove(0);
+        }
+        self.saved.push(own(self.alloc, name)?)?;
+        self.add_done(plan)
+    }
+
+    /// Adds a query, whose items may be known.
+    fn add_select(
+        &mut self,
+        plan: &mut Plan,
+        statement: &[u16],
+        items: &[u16],
+        parameters: &[Parameter<'_>],
+        is_open: bool,
+    ) -> Result<bool, AllocError> {
+        let own_values = Own {
+            database: self.database.as_slice(),
+            is_open,
+        };
+        let Some(columns) = columns_of(self.alloc, items, own_values, parameters)? else {
+            plan.add(statement, Deed::Same)?;
+            return Ok(false);
+        };
+        let tokens = tokens_of(self.alloc, columns.as_slice())?;
+        plan.add_silent(self.alloc, Deed::Tokens(tokens))?;
+        Ok(true)
+    }
+}
+
+/// The tokens of one row with these columns.
+fn tokens_of(alloc: Global, columns: &[Column]) -> Result<Vec<u8>, AllocError> {
+    let mut tokens = Vec::new(alloc);
+    put_columns(&mut tokens, columns)?;
+    put_row(&mut tokens, columns)?;
+    put_done(&mut tokens, Done::Statement, 0x11, 1)?;
+    Ok(tokens)
+}
+
+/// Appends the INFO that a session is in this database.
+fn put_database_info(alloc: Global, out: &mut Vec<u8>, name: &[u16]) -> Result<(), AllocError> {
+    let mut text = units_in(alloc, b"Changed database context to '")?;
+    text.extend_from_slice(name.get(..128).unwrap_or(name))?;
+    text.extend_from_slice(&[39, 46])?;
+    put_info(alloc, out, 5701, text.as_slice())
+}

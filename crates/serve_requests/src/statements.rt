@@ -1,0 +1,181 @@
+//! The statements of a batch, and those that drivers send first.
+
+use crate::text::{Piece, is_among, is_word, next_piece, trimmed};
+use std::alloc::{AllocError, Global};
+
+/// The words behind which a new statement of its own begins, where the one before is a setting, a choice of
+/// a database or a query.
+const BEGINNINGS: [&[u8]; 8] = [
+    b"set",
+    b"use",
+    b"select",
+    b"begin",
+    b"commit",
+    b"rollback",
+    b"save",
+    b"if",
+];
+
+/// A statement that drivers send, as far as it matters here.
+#[derive(Clone, Copy, Debug)]
+pub enum Known<'a> {
+    /// A setting, or rows of a bulk load that are announced: nothing is to be told.
+    Silent,
+    /// A database is chosen.
+    Use(&'a [u16]),
+    Begin,
+    Commit,
+    /// A rollback, of the transaction or savepoint of this name; of the transaction where it is empty.
+    Rollback(&'a [u16]),
+    /// A savepoint of this name.
+    Save(&'a [u16]),
+    /// A query of these items.
+    Select(&'a [u16]),
+    /// What is done if a transaction is open.
+    IfOpen(&'a [u16]),
+}
+
+/// The statements of a batch, none of them empty.
+pub fn statements_of(alloc: Global, text: &[u16]) -> Result<Vec<&[u16]>, AllocError> {
+    let mut found = Vec::new(alloc);
+    let mut rest = trimmed(text);
+    for _ in 0..text.len() {
+        if rest.is_empty() {
+            break;
+        }
+        let (statement, behind) = first_statement(rest);
+        if !statement.is_empty() {
+            found.push(statement)?;
+        }
+        rest = behind;
+    }
+    Ok(found)
+}
+
+/// The first statement of a text, and what stands behind it.
+fn first_statement(text: &[u16]) -> (&[u16], &[u16]) {
+    let (first, mut rest) = next_piece(text);
+    if let Piece::Sign(59) = first {
+        return (&[], rest);
+    }
+    let ends_early = is_early(first);
+    for _ in 0..text.len() {
+        let (piece, behind) = next_piece(rest);
+        match piece {
+            Piece::End => return (trimmed(text), &[]),
+            Piece::Sign(59) => return (before(text, rest), behind),
+            Piece::Word(word) if ends_early && is_among(word, &BEGINNINGS) => {
+                return (before(text, rest), rest);
+            }
+            _ => rest = behind,
+        }
+    }
+    (trimmed(text), &[])
+}
+
+/// Whether a statement that begins with this ends where the next one begins, without a semicolon.
+fn is_early(first: Piece<'_>) -> bool {
+    match first {
+        Piece::Word(word) => is_among(word, &[b"set", b"use", b"select"]),
+        _ => false,
+    }
+}
+
+/// What of a text stands before its rest.
+fn before<'a>(text: &'a [u16], rest: &[u16]) -> &'a [u16] {
+    let count = text.len().saturating_sub(rest.len());
+    trimmed(&text[..count])
+}
+
+/// What a statement is, if drivers send it.
+pub fn what_is(statement: &[u16]) -> Option<Known<'_>> {
+    let (first, rest) = next_piece(statement);
+    let Piece::Word(word) = first else {
+        return None;
+    };
+    if is_word(word, b"set") {
+        return setting(rest);
+    }
+    if is_word(word, b"use") {
+        return database(rest);
+    }
+    if is_word(word, b"select") {
+        return Some(Known::Select(rest));
+    }
+    if is_word(word, b"insert") {
+        return announced(rest);
+    }
+    if is_word(word, b"if") {
+        return condition(rest);
+    }
+    transaction(word, rest)
+}
+
+/// `set KEY V` with a key of one letter is of the batch language; anything else is a setting.
+fn setting(rest: &[u16]) -> Option<Known<'_>> {
+    match next_piece(rest) {
+        (Piece::Word([_]), _) | (Piece::End, _) => None,
+        _ => Some(Known::Silent),
+    }
+}
+
+fn database(rest: &[u16]) -> Option<Known<'_>> {
+    match next_piece(rest) {
+        (Piece::Word(name) | Piece::Name(name), _) => Some(Known::Use(name)),
+        _ => None,
+    }
+}
+
+/// `insert bulk ..`
+fn announced(rest: &[u16]) -> Option<Known<'_>> {
+    match next_piece(rest) {
+        (Piece::Word(word), _) if is_word(word, b"bulk") => Some(Known::Silent),
+        _ => None,
+    }
+}
+
+/// `if @@trancount > 0 ..`
+fn condition(rest: &[u16]) -> Option<Known<'_>> {
+    let (count, rest) = next_piece(rest);
+    let (sign, rest) = next_piece(rest);
+    let (number, rest) = next_piece(rest);
+    match (count, sign, number) {
+        (Piece::Word(count), Piece::Sign(62), Piece::Word([48]))
+            if is_word(count, b"@@trancount") => { Some(Known::IfOpen(rest)) }
+        _ => None,
+    }
+}
+
+/// `begin tran`, `commit`, `rollback`, `save tran NAME`. `begin`, `commit` and `rollback` alone are of the
+/// batch language.
+fn transaction<'a>(word: &[u16], rest: &'a [u16]) -> Option<Known<'a>> {
+    let (second, behind) = next_piece(rest);
+    let Piece::Word(second) = second else {
+        return None;
+    };
+    let is_named = is_among(second, &[b"tran", b"transaction"]);
+    if !is_named && !is_word(second, b"work") {
+        return None;
+    }
+    if is_word(word, b"commit") {
+        return Some(Known::Commit);
+    }
+    if is_word(word, b"rollback") {
+        return Some(Known::Rollback(name_in(behind)));
+    }
+    if is_named && is_word(word, b"begin") {
+        return Some(Known::Begin);
+    }
+    if is_named && is_word(word, b"save") {
+        return Some(Known::Save(name_in(behind)));
+    }
+    None
+}
+
+/// The name that a text begins with, or nothing.
+fn name_in(text: &[u16]) -> &[u16] {
+    match next_piece(text) {
+        (Piece::Word(name) | Piece::Name(name), _) => name,
+        _ => &[],
+    }
+}
