@@ -19,7 +19,10 @@ class Server:
     """A tdsserve on a free port, with these words behind its address."""
 
     def __init__(self, program, *words):
-        self.child = subprocess.Popen([program, "127.0.0.1:0", *words], stderr=subprocess.DEVNULL)
+        self.start(program, "127.0.0.1:0", *words)
+
+    def start(self, program, *words):
+        self.child = subprocess.Popen([program, *words], stderr=subprocess.DEVNULL)
         until = time.monotonic() + PATIENCE
         while not (port := self.listens_on()):
             if self.child.poll() is not None or time.monotonic() > until:
@@ -77,6 +80,13 @@ class Server:
         """The most memory that it had, in KB."""
         with open(f"/proc/{self.child.pid}/status", encoding="ascii") as status:
             return next(int(line.split()[1]) for line in status if line.startswith("VmHWM"))
+
+
+class Relay(Server):
+    """A tdsrelay on a free port before a server, with so many connections at most."""
+
+    def __init__(self, program, server, most):
+        self.start(program, "127.0.0.1:0", f"127.0.0.1:{server.port}", "--most", str(most))
 
 
 def packet(kind, data, status=1):

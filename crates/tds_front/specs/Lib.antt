@@ -1,0 +1,4 @@
+pub mod Faults
+pub mod Rules
+pub mod Bytes
+pub mod Promises

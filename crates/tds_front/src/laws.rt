@@ -1,0 +1,52 @@
+//! What an application's end promises whoever connects, over any list of packets and of what is heard
+//! of the server. Each function does nothing when it runs: its contract is the law.
+ghost use Rattle.std.specs.Prelude.{◌≡◌, ◌≤◌, ◌+◌, List, true, false, Ok, Err};
+ghost use Rattle.tds_packet.specs.Layout.{bits_of, has_bit};
+ghost use Rattle.tds_front.specs.declared.fault.FrontFault.{FrontFault};
+ghost use Rattle.tds_front.specs.declared.stage.Head.{Head};
+ghost use Rattle.tds_front.specs.declared.stage.Stage.{Stage};
+ghost use Rattle.tds_front.specs.declared.stage.Stage.TheVariants as stages;
+ghost use Rattle.tds_front.specs.declared.stage.Deed.TheVariants as deeds;
+ghost use Rattle.tds_front.specs.Promises.{Event, count, handed_in, here_in, is_gone, is_passed, is_whole};
+ghost use Rattle.tds_front.specs.Promises.{settled_in, taken_in};
+ghost use Rattle.tds_front.specs.Rules.{taken};
+
+/// Each attention that is taken has one acknowledgement: the relay's, or the server's, which is handed
+/// it. And of those that were handed on no second one is before the first one's acknowledgement.
+pub fn one_acknowledgement()
+    ensures one { (stage : Stage) (events : List Event)
+        → count taken_in stage events ≡ count here_in stage events + count handed_in stage events }
+    ensures settled { (events : List Event) → count settled_in stages.Quiet events
+        ≤ count handed_in stages.Quiet events }
+    ensures at_once { (events : List Event) → count handed_in stages.Quiet events
+        ≤ count settled_in stages.Quiet events + 1 }
+{}
+
+/// Who has something of the request acknowledges its attention: the relay does so where nothing of it
+/// has gone on, and only then.
+pub fn whose_acknowledgement()
+    ensures here { (stage : Stage) (head : Head)
+        → (taken stage head).does ≡ Ok deeds.Acknowledge → is_gone stage ≡ false }
+    ensures handed_on { (stage : Stage) (head : Head)
+        → (taken stage head).does ≡ Ok deeds.HandOn → is_gone stage ≡ true }
+{}
+
+/// Behind a request's end nothing goes on until it is answered, or its attention acknowledged.
+pub fn nothing_behind_the_end()
+    ensures { (stage : Stage) (head : Head) → is_whole stage ≡ true
+        → is_passed (taken stage head).does ≡ false }
+{}
+
+/// A packet that says to ignore its message isn't handed on (MS-TDS 2.2.3.1.2).
+pub fn ignored_is_not_handed_on()
+    ensures { (stage : Stage) (head : Head) → has_bit (bits_of head.status) 2 ≡ true
+        → is_passed (taken stage head).does ≡ false }
+{}
+
+/// Behind a fault everything is that fault.
+pub fn a_fault_stays()
+    ensures stage { (fault : FrontFault) (head : Head)
+        → (taken (stages.Broken fault) head).stage ≡ stages.Broken fault }
+    ensures does { (fault : FrontFault) (head : Head)
+        → (taken (stages.Broken fault) head).does ≡ Err fault }
+{}

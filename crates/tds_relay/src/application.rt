@@ -1,0 +1,94 @@
+//! An application, as the relay knows it.
+ghost use Rattle.std.specs.Prelude.{◌≡◌, ◌≤◌, ◌-◌, vec_len};
+ghost use Rattle.tds_relay.specs.declared.application.TheConstants.{MOST_HELD};
+
+use crate::NoMemory;
+use crate::outgoing::Outgoing;
+use std::alloc::Global;
+use tds_client::MessageKind;
+use tds_front::Front;
+use tds_packet::{PacketSize, Reset};
+
+/// The most bytes of a request that are kept while it waits for a connection.
+pub(crate) const MOST_HELD: usize = 16_384;
+
+/// The connection that an application holds.
+#[derive(Clone, Copy, Debug)]
+pub(crate) struct Hold {
+    pub(crate) lease: u64,
+    pub(crate) number: u64,
+}
+
+/// Where its request is.
+#[derive(Clone, Copy, Debug)]
+pub(crate) enum Asking {
+    /// There is none, or all of it has gone on.
+    Nothing,
+    /// It waits for a connection, or until that is open or idle. Whether all of it has come.
+    Waits { kind: MessageKind, whole: bool },
+    /// It goes on to its connection as it comes.
+    Goes,
+}
+
+#[derive(Drop)]
+pub(crate) struct Application {
+    /// What whoever carries its bytes calls it.
+    pub(crate) tag: usize,
+    pub(crate) front: Front,
+    pub(crate) out: Outgoing,
+    pub(crate) hold: Option<Hold>,
+    pub(crate) asking: Asking,
+    /// The reset that its request asks for itself.
+    pub(crate) reset: Option<Reset>,
+    /// What has come of the body of a request that waits.
+    held: Vec<u8>,
+    /// Whether nothing more of it is taken.
+    pub(crate) is_over: bool,
+    ghost bounded: { vec_len held ≤ MOST_HELD },
+}
+
+impl Application {
+    pub(crate) fn new(alloc: Global, tag: usize, size: PacketSize) -> Application {
+        Application {
+            tag,
+            front: Front::new(size),
+            out: Outgoing::new(alloc),
+            hold: None,
+            asking: Asking::Nothing,
+            reset: None,
+            held: Vec::new(alloc),
+            is_over: false,
+        }
+    }
+
+    /// What is kept of its request.
+    pub(crate) fn held(&self) -> &[u8] {
+        self.held.as_slice()
+    }
+
+    /// How many more bytes of it may be kept.
+    pub(crate) fn room(&self) -> usize
+        ensures { result ≡ MOST_HELD - vec_len self.now.held }
+    {
+        MOST_HELD.saturating_sub(self.held.len())
+    }
+
+    /// Keeps these bytes of its request. False where they are too many.
+    pub(crate) fn keep(&mut self, bytes: &[u8]) -> Result<bool, NoMemory> {
+        if bytes.len() > self.room() {
+            return Ok(false);
+        }
+        self.held.extend_from_slice(bytes)?;
+        Ok(true)
+    }
+
+    /// Nothing is kept of its request any more.
+    pub(crate) fn forget(&mut self) {
+        self.held.clear();
+    }
+
+    /// Whether it waits in the line.
+    pub(crate) fn is_waiting(&self) -> bool {
+        self.hold.is_none() && matches!(self.asking, Asking::Waits { .. })
+    }
+}

@@ -1,0 +1,154 @@
+//! A connection to the server, as the relay knows it beside its service.
+ghost use Rattle.std.specs.Prelude.{◌≡◌};
+ghost use Rattle.tds_packet.specs.declared.kind.Direction.TheVariants.{ToClient};
+
+use crate::NoMemory;
+use crate::news::Known;
+use crate::outgoing::Outgoing;
+use std::alloc::Global;
+use tds_packet::{Direction, Header, Kind, PacketReader, PacketSize, Status, put_sent};
+use tds_wire::{Features, Walker};
+
+/// The most columns of a result.
+pub(crate) const COLUMNS: u16 = 4096;
+
+/// Whose what comes on it is.
+#[derive(Clone, Copy, Debug)]
+pub(crate) enum Holder {
+    /// Nobody's.
+    Nobody,
+    /// The application's with this key.
+    Application(usize),
+    /// The relay's, which cleans it by this lease.
+    Cleaning(u64),
+}
+
+#[derive(Drop)]
+pub(crate) struct Link {
+    pub(crate) number: u64,
+    /// What whoever carries its bytes calls it, once there is something.
+    pub(crate) tag: Option<usize>,
+    pub(crate) holder: Holder,
+    /// Whether it is logged in.
+    pub(crate) is_open: bool,
+    /// Whether its application took its request back, so that nothing is handed on until the
+    /// acknowledgement of that.
+    pub(crate) is_muted: bool,
+    /// Whether the news of a reset is cut out, until it was.
+    pub(crate) cuts: bool,
+    pub(crate) out: Outgoing,
+    pub(crate) reader: PacketReader,
+    pub(crate) answer: Answer,
+    ghost reads: { reader.direction ≡ ToClient },
+}
+
+/// The message that comes, as far as news are cut out of it.
+#[derive(Drop)]
+pub(crate) struct Answer {
+    alloc: Global,
+    size: PacketSize,
+    walker: Walker,
+    known: Known,
+    /// Whether the news was met.
+    was_cut: bool,
+}
+
+impl Link {
+    pub(crate) fn new(
+        alloc: Global,
+        number: u64,
+        holder: Holder,
+        size: PacketSize,
+        features: Features,
+    ) -> Result<Link, NoMemory> {
+        let answer = Answer {
+            alloc,
+            size,
+            walker: Walker::new(alloc, COLUMNS, features)?,
+            known: Known::None,
+            was_cut: false,
+        };
+        Ok(Link {
+            number,
+            tag: None,
+            holder,
+            is_open: false,
+            is_muted: false,
+            cuts: false,
+            out: Outgoing::new(alloc),
+            reader: PacketReader::new(alloc, size, Direction::ToClient)?,
+            answer,
+        })
+    }
+}
+
+impl Answer {
+    /// Appends a packet of an answer without the news of a reset. True behind the end of a message by
+    /// which the news was met: no other comes then.
+    pub(crate) fn put_without_news(
+        &mut self,
+        header: Header,
+        bytes: &[u8],
+        on: &mut Vec<u8>,
+    ) -> Result<bool, NoMemory> {
+        let ends = header.status.ends();
+        let mut kept = Vec::new(self.alloc);
+        self.cut(bytes, &mut kept)?;
+        if ends {
+            self.known.end(&mut kept)?;
+            self.walker.restart();
+        }
+        put_data(on, self.size, header.packet_id, ends, &kept)?;
+        let is_over = ends && self.was_cut;
+        if is_over {
+            self.was_cut = false;
+        }
+        Ok(is_over)
+    }
+
+    /// Appends what goes on of these bytes.
+    fn cut(&mut self, bytes: &[u8], kept: &mut Vec<u8>) -> Result<(), NoMemory> {
+        let mut rest = bytes;
+        for _ in 0..bytes.len() {
+            if rest.is_empty() {
+                break;
+            }
+            let Ok(fed) = self.walker.feed(rest) else {
+                // The service has refused this packet, so it isn't handed on at all.
+                break;
+            };
+            let (token, others) = rest.split_at(fed.count);
+            self.known.pass(token, kept)?;
+            rest = others;
+            if fed.token.is_some() {
+                self.was_cut = self.known.end(kept)? || self.was_cut;
+            }
+        }
+        Ok(())
+    }
+}
+
+/// Appends these data in packets, the last of which ends the message or not: none where there are no data
+/// and it doesn't.
+fn put_data(
+    on: &mut Vec<u8>,
+    size: PacketSize,
+    packet_id: u8,
+    ends: bool,
+    data: &[u8],
+) -> Result<(), NoMemory> {
+    let room = usize::from(size.get()) - 8;
+    let mut rest = data;
+    for _ in 0..data.len() {
+        if rest.len() <= room {
+            break;
+        }
+        let (first, others) = rest.split_at(room);
+        put_sent(on, Kind::Answer, Status::of_answer(false), packet_id, first)?;
+        rest = others;
+    }
+    if rest.len() > room || (rest.is_empty() && !ends) {
+        return Ok(());
+    }
+    put_sent(on, Kind::Answer, Status::of_answer(ends), packet_id, rest)
+}

@@ -1,0 +1,108 @@
+//! The news of a reset that no application asked for, cut out of an answer.
+ghost use Rattle.std.specs.Prelude.{◌≡◌, ◌++◌, OnOk};
+ghost use Rattle.tds_relay.specs.News.{goes_on, held, is_news, known_after, known_by, let_on};
+
+use crate::NoMemory;
+
+/// The first byte of ENVCHANGE, and the type of the news (MS-TDS 2.2.7.9).
+const CHANGE: u8 = 0xe3;
+
+const RESET_DONE: u8 = 18;
+
+/// What is known of the token that comes.
+#[derive(Clone, Copy, Debug)]
+pub(crate) enum Known {
+    /// None of its bytes.
+    None,
+    /// It is an ENVCHANGE.
+    One,
+    Two(u8),
+    Three(u8, u8),
+    /// It isn't the news: it goes on.
+    Other,
+    /// It is the news: it is left out.
+    News,
+}
+
+/// What is known behind one more byte of the token.
+fn known_by(known: Known, byte: u8) -> Known
+    ensures { result ≡ known_by known byte }
+{
+    match known {
+        Known::None => {
+            if byte == CHANGE {
+                Known::One
+            } else {
+                Known::Other
+            }
+        }
+        Known::One => Known::Two(byte),
+        Known::Two(low) => Known::Three(low, byte),
+        Known::Three(..) => {
+            if byte == RESET_DONE {
+                Known::News
+            } else {
+                Known::Other
+            }
+        }
+        Known::Other => Known::Other,
+        Known::News => Known::News,
+    }
+}
+
+/// Appends the bytes of a token that were held back.
+fn put_held(known: Known, kept: &mut Vec<u8>) -> Result<(), NoMemory>
+    ensures { OnOk result (kept.new.items ≡ kept.old.items ++ held known) }
+{
+    match known {
+        Known::None => Ok(()),
+        Known::One => kept.extend_from_slice(&[CHANGE]),
+        Known::Two(low) => kept.extend_from_slice(&[CHANGE, low]),
+        Known::Three(low, high) => kept.extend_from_slice(&[CHANGE, low, high]),
+        Known::Other => Ok(()),
+        Known::News => Ok(()),
+    }
+}
+
+/// Appends what goes on with this byte, where this is known behind it.
+fn put_on(before: Known, byte: u8, behind: Known, kept: &mut Vec<u8>) -> Result<(), NoMemory>
+    ensures { OnOk result (kept.new.items ≡ kept.old.items ++ let_on before byte behind) }
+{
+    match behind {
+        Known::None => Ok(()),
+        Known::One => Ok(()),
+        Known::Two(_) => Ok(()),
+        Known::Three(..) => Ok(()),
+        Known::Other => {
+            put_held(before, kept)?;
+            kept.extend_from_slice(&[byte])
+        }
+        Known::News => Ok(()),
+    }
+}
+
+impl Known {
+    /// Appends what goes on of these bytes of one token, the next ones.
+    pub(crate) fn pass(&mut self, bytes: &[u8], kept: &mut Vec<u8>) -> Result<(), NoMemory>
+        ensures goes_on { OnOk result (kept.new.items ≡ kept.old.items ++ goes_on self.old bytes.now) }
+        ensures known { OnOk result (self.new ≡ known_after self.old bytes.now) }
+    {
+        for byte in bytes {
+            let behind = known_by(*self, *byte);
+            put_on(*self, *byte, behind, kept)?;
+            *self = behind;
+        }
+        Ok(())
+    }
+
+    /// The token has ended: appends what was held back of it. Answers whether it was the news.
+    pub(crate) fn end(&mut self, kept: &mut Vec<u8>) -> Result<bool, NoMemory>
+        ensures held { OnOk result (kept.new.items ≡ kept.old.items ++ held self.old) }
+        ensures anew { OnOk result (self.new ≡ Known.None) }
+    {
+        put_held(*self, kept)?;
+        let was_news = matches!(*self, Known::News);
+        *self = Known::None;
+        Ok(was_news)
+    }
+}

@@ -1,0 +1,208 @@
+//! The relay: who is there, and what whoever carries its bytes asks of it.
+mod asking;
+mod coming;
+mod leaving;
+mod lending;
+
+use crate::NoMemory;
+use crate::application::{Application, Asking};
+use crate::link::{COLUMNS, Holder, Link};
+use crate::order::Order;
+use slab::Slab;
+use std::alloc::{AllocError, Global};
+use std::mem;
+use tds_packet::PacketSize;
+use tds_service::Service;
+use tds_wire::{Features, Token};
+
+/// How many bytes may wait for an application or on a connection before the other end isn't read.
+const CROWDED: usize = 65_536;
+
+/// The most bytes of an application or of a connection that are read at once.
+const PIECE: usize = 8_192;
+
+/// What a cleaning asks for: a reset leaves the isolation level as it is.
+const CLEANING: &str = "set transaction isolation level read committed";
+
+/// Many applications, and the connections of one service that they share.
+///
+/// An application is known by a key that `enter` gives, a connection by its number in the service.
+/// What is to be done is taken by `orders` behind each call.
+///
+/// Each call may answer that a growth was refused. Then nothing more is to be called.
+#[derive(Drop)]
+pub struct Relay {
+    alloc: Global,
+    size: PacketSize,
+    features: Features,
+    service: Service,
+    applications: Slab<Application>,
+    links: Vec<Link>,
+    /// The keys of the applications that wait for a connection, the first one first.
+    line: Vec<usize>,
+    orders: Vec<Order>,
+    /// Where what is told of a packet is put: nobody looks at it.
+    told: Vec<Token>,
+    /// The text of a cleaning, of two bytes a unit.
+    cleaning: Vec<u8>,
+}
+
+impl Relay {
+    /// A relay of at most so many connections, with packets of this size. `features` is what the
+    /// connections' logins acknowledge.
+    pub fn new(
+        alloc: Global,
+        most: usize,
+        size: PacketSize,
+        features: Features,
+    ) -> Result<Relay, NoMemory> {
+        let Some(service) = Service::new(alloc, most, size, COLUMNS, features) else {
+            return Err(AllocError);
+        };
+        let mut cleaning = Vec::new(alloc);
+        for byte in CLEANING.as_bytes() {
+            cleaning.extend_from_slice(&[*byte, 0])?;
+        }
+        Ok(Relay {
+            alloc,
+            size,
+            features,
+            service,
+            applications: Slab::new(alloc),
+            links: Vec::new(alloc),
+            line: Vec::new(alloc),
+            orders: Vec::new(alloc),
+            told: Vec::new(alloc),
+            cleaning,
+        })
+    }
+
+    /// An application has come that is logged in, which is called so. Answers its key.
+    pub fn enter(&mut self, tag: usize) -> Result<usize, NoMemory> {
+        let application = Application::new(self.alloc, tag, self.size);
+        match self.applications.insert(application) {
+            Ok(key) => Ok(key),
+            Err(_) => Err(AllocError),
+        }
+    }
+
+    /// What is to be done, in order. It is to be done before the next call.
+    pub fn orders(&mut self) -> Vec<Order> {
+        mem::replace(&mut self.orders, Vec::new(self.alloc))
+    }
+
+    /// How many bytes of an application may be read now, at most 8,192.
+    pub fn room(&self, key: usize) -> usize {
+        let Some(application) = self.applications.get(key) else {
+            return 0;
+        };
+        if application.is_over || application.out.count() >= CROWDED {
+            return 0;
+        }
+        let room = match application.asking {
+            Asking::Nothing => PIECE,
+            Asking::Waits { .. } => PIECE,
+            Asking::Goes => PIECE,
+        };
+        let is_crowded = match application.hold {
+            Some(hold) => self.is_crowded(hold.number),
+            None => false,
+        };
+        if is_crowded {
+            0
+        } else {
+            room.min(application.room())
+        }
+    }
+
+    fn is_crowded(&self, number: u64) -> bool {
+        match self.link(number) {
+            Some(link) => link.out.count() >= CROWDED,
+            None => false,
+        }
+    }
+
+    /// How many bytes of a connection may be read now, at most 8,192.
+    pub fn room_on(&self, number: u64) -> usize {
+        let Some(link) = self.link(number) else {
+            return 0;
+        };
+        let Holder::Application(key) = link.holder else {
+            return PIECE;
+        };
+        match self.applications.get(key) {
+            Some(application) if application.out.count() >= CROWDED => 0,
+            _ => PIECE,
+        }
+    }
+
+    /// What is to be sent to an application.
+    pub fn unsent(&self, key: usize) -> &[u8] {
+        match self.applications.get(key) {
+            Some(application) => application.out.unsent(),
+            None => &[],
+        }
+    }
+
+    /// What is to be sent on a connection.
+    pub fn unsent_on(&self, number: u64) -> &[u8] {
+        match self.link(number) {
+            Some(link) => link.out.unsent(),
+            None => &[],
+        }
+    }
+
+    /// So many bytes of that were sent. Answers the tag of the connection that it holds, which may be read
+    /// again.
+    pub fn sent(&mut self, key: usize, count: usize) -> Option<usize> {
+        let application = self.applications.get_mut(key)?;
+        application.out.sent(count);
+        let hold = application.hold?;
+        self.link(hold.number)?.tag
+    }
+
+    /// So many bytes of that were sent. Answers the tag of the application that holds it, which may be read
+    /// again.
+    pub fn sent_on(&mut self, number: u64, count: usize) -> Option<usize> {
+        let link = self.link_mut(number)?;
+        link.out.sent(count);
+        match link.holder {
+            Holder::Application(key) => Some(self.applications.get(key)?.tag),
+            Holder::Cleaning(_) => None,
+            Holder::Nobody => None,
+        }
+    }
+
+    /// How many applications there are.
+    pub fn applications(&self) -> usize {
+        self.applications.len()
+    }
+
+    /// How many connections there are.
+    pub fn connections(&self) -> usize {
+        self.links.len()
+    }
+
+    /// How many applications wait for a connection.
+    pub fn waiting(&self) -> usize {
+        self.line.len()
+    }
+
+    fn link(&self, number: u64) -> Option<&Link> {
+        for link in self.links.iter() {
+            if link.number == number {
+                return Some(link);
+            }
+        }
+        None
+    }
+
+    fn link_mut(&mut self, number: u64) -> Option<&mut Link> {
+        for link in self.links.iter_mut() {
+            if link.number == number {
+                return Some(link);
+            }
+        }
+        None
+    }
+}

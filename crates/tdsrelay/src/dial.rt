@@ -1,0 +1,190 @@
+//! A connection's login at the server.
+
+use std::alloc::{AllocError, Global};
+use tds_packet::{Direction, PacketReader, PacketSize};
+use tds_wire::{ChangeValue, Features, Told, Walker};
+
+/// PRELOGIN in one packet (MS-TDS 2.2.6.5): version 11.0, encryption isn't supported, no MARS.
+const PREPARE: [u8; 32] = [
+    0x12, 1, 0, 32, 0, 0, 1, 0, // header: type 12, end of message, 32 bytes
+    0, 0, 16, 0, 6, 1, 0, 22, 0, 1, 4, 0, 23, 0, 1, 0xff, // three options
+    11, 0, 0, 0, 0, 0, 2, 0,
+];
+
+/// LOGIN7's packet type, and how many bytes of data a packet has before a size is agreed.
+const LOGIN7: u8 = 0x10;
+
+const ROOM: usize = 4_088;
+
+/// The most bytes of a login's answer.
+const MOST: usize = 65_536;
+
+/// LOGINACK (MS-TDS 2.2.7.14).
+const LOGIN_ACK: u8 = 0xad;
+
+/// What a login acknowledges: no feature is asked for.
+pub const FEATURES: Features = Features {
+    encryption: false,
+    ranks: false,
+};
+
+/// What came of bytes.
+#[derive(Debug, Drop)]
+pub enum Dialed {
+    More,
+    /// It is let in: the packet size, and the data of the answer.
+    In(PacketSize, Vec<u8>),
+    /// It isn't: the data of the answer.
+    Refused(Vec<u8>),
+    /// The server said what isn't spoken here, or demands encryption.
+    Wrong,
+}
+
+/// A connection's login.
+#[derive(Drop)]
+pub struct Dial {
+    alloc: Global,
+    reader: PacketReader,
+    walker: Walker,
+    message: Vec<u8>,
+    answer: Vec<u8>,
+    is_prepared: bool,
+    is_in: bool,
+    size: PacketSize,
+}
+
+impl Dial {
+    /// A login by this LOGIN7. Its first message is appended to `out`.
+    pub fn new(
+        alloc: Global,
+        message: &[u8],
+        out: &mut Vec<u8>,
+    ) -> Result<Option<Dial>, AllocError> {
+        let (Some(most), Some(size)) = (PacketSize::new(32_767), PacketSize::new(4_096)) else {
+            return Ok(None);
+        };
+        out.extend_from_slice(&PREPARE)?;
+        Ok(Some(Dial {
+            alloc,
+            reader: PacketReader::new(alloc, most, Direction::ToClient)?,
+            walker: Walker::new(alloc, 4_096, FEATURES)?,
+            message: message.to_vec(alloc)?,
+            answer: Vec::new(alloc),
+            is_prepared: false,
+            is_in: false,
+            size,
+        }))
+    }
+
+    /// Takes bytes up to the end of a packet, and answers how many. What is to be sent is appended.
+    pub fn take(&mut self, piece: &[u8], out: &mut Vec<u8>) -> Result<(usize, Dialed), AllocError> {
+        let Ok(count) = self.reader.feed(piece) else {
+            return Ok((piece.len(), Dialed::Wrong));
+        };
+        let Some(packet) = self.reader.packet() else {
+            return Ok((count, Dialed::More));
+        };
+        let ends = packet.header.status.ends();
+        if self.answer.len() <= MOST {
+            self.answer.extend_from_slice(packet.data)?;
+        }
+        if self.is_prepared {
+            look(
+                &mut self.walker,
+                packet.data,
+                &mut self.is_in,
+                &mut self.size,
+            );
+        }
+        self.reader.done();
+        if !ends {
+            return Ok((count, Dialed::More));
+        }
+        Ok((count, self.ended(out)?))
+    }
+
+    /// A message has ended.
+    fn ended(&mut self, out: &mut Vec<u8>) -> Result<Dialed, AllocError> {
+        let answer = std::mem::replace(&mut self.answer, Vec::new(self.alloc));
+        if self.is_prepared {
+            return Ok(if answer.len() > MOST {
+                Dialed::Wrong
+            } else if self.is_in {
+                Dialed::In(self.size, answer)
+            } else {
+                Dialed::Refused(answer)
+            });
+        }
+        if demands_encryption(&answer) {
+            return Ok(Dialed::Wrong);
+        }
+        self.is_prepared = true;
+        put_login(out, &self.message)?;
+        Ok(Dialed::More)
+    }
+}
+
+/// Looks for the login's acknowledgement and for the packet size.
+fn look(walker: &mut Walker, data: &[u8], is_in: &mut bool, size: &mut PacketSize) {
+    let mut rest = data;
+    for _ in 0..data.len() {
+        if rest.is_empty() {
+            break;
+        }
+        let Ok(fed) = walker.feed(rest) else {
+            break;
+        };
+        let (_, others) = rest.split_at(fed.count);
+        rest = others;
+        if let Some(token) = fed.token {
+            *is_in = *is_in || token.kind == LOGIN_ACK;
+            if let Some(told) = size_told(token.told) {
+                *size = told;
+            }
+        }
+    }
+}
+
+/// The packet size that a token tells.
+fn size_told(told: Told) -> Option<PacketSize> {
+    let Told::Change(change) = told else {
+        return None;
+    };
+    let ChangeValue::PacketSize(size) = change.value else {
+        return None;
+    };
+    match u16::try_from(size) {
+        Ok(size) => PacketSize::new(size),
+        Err(_) => None,
+    }
+}
+
+/// Whether the answer to PRELOGIN demands that what follows is encrypted.
+fn demands_encryption(answer: &[u8]) -> bool {
+    for option in answer.chunks_exact(5) {
+        if let [1, high, low, _, _] = option {
+            let place = 256 * usize::from(*high) + usize::from(*low);
+            return match answer.get(place) {
+                Some(byte) => *byte == 1 || *byte == 3,
+                None => true,
+            };
+        }
+        if let [0xff, ..] = option {
+            return false;
+        }
+    }
+    false
+}
+
+/// Appends LOGIN7 in packets.
+fn put_login(out: &mut Vec<u8>, message: &[u8]) -> Result<(), AllocError> {
+    let mut left = message.len();
+    for chunk in message.chunks(ROOM) {
+        left = left.saturating_sub(chunk.len());
+        let status = if left == 0 { 1 } else { 0 };
+        let [high, low] = ((chunk.len() + 8) as u16).to_be_bytes();
+        out.extend_from_slice(&[LOGIN7, status, high, low, 0, 0, 1, 0])?;
+        out.extend_from_slice(chunk)?;
+    }
+    Ok(())
+}

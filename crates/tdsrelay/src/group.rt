@@ -1,0 +1,75 @@
+//! Applications whose logins are equal, and their relay.
+
+use crate::dial::FEATURES;
+use std::alloc::{AllocError, Global};
+use tds_packet::{Kind, PacketSize, Status, put_sent};
+use tds_relay::Relay;
+
+/// How far the first login of a group is.
+#[derive(Drop)]
+pub enum Stage {
+    /// The server judges it. Those who wait for that.
+    Judged(Vec<usize>),
+    /// The server let it in: what it answered, for whoever comes later.
+    Open(Relay, Vec<u8>),
+}
+
+/// A group.
+#[derive(Drop)]
+pub struct Group {
+    /// What of LOGIN7 makes the session. Nothing where no other application may join.
+    pub key: Vec<u8>,
+    /// The LOGIN7 of its connections.
+    pub login: Vec<u8>,
+    pub stage: Stage,
+    pub size: PacketSize,
+}
+
+impl Group {
+    /// Its relay, once there is one.
+    pub fn relay(&mut self) -> Option<&mut Relay> {
+        match &mut self.stage {
+            Stage::Judged(_) => None,
+            Stage::Open(relay, _) => Some(relay),
+        }
+    }
+
+    /// Whether nobody is left of it.
+    pub fn is_deserted(&self) -> bool {
+        match &self.stage {
+            Stage::Judged(_) => false,
+            Stage::Open(relay, _) => relay.applications() == 0 && relay.connections() == 0,
+        }
+    }
+
+    /// The server let its first login in.
+    pub fn open(
+        &mut self,
+        alloc: Global,
+        most: usize,
+        size: PacketSize,
+        answer: Vec<u8>,
+    ) -> Result<(), AllocError> {
+        self.size = size;
+        self.stage = Stage::Open(Relay::new(alloc, most, size, FEATURES)?, answer);
+        Ok(())
+    }
+}
+
+/// Appends an answer with these data in packets of 4,096 bytes at most.
+pub fn put_saved(out: &mut Vec<u8>, answer: &[u8]) -> Result<(), AllocError> {
+    let mut left = answer.len();
+    let mut packet_id: u8 = 1;
+    for chunk in answer.chunks(4_088) {
+        left = left.saturating_sub(chunk.len());
+        put_sent(
+            out,
+            Kind::Answer,
+            Status::of_answer(left == 0),
+            packet_id,
+            chunk,
+        )?;
+        packet_id = packet_id.wrapping_add(1);
+    }
+    Ok(())
+}

@@ -1,0 +1,105 @@
+//! LOGIN7 (MS-TDS 2.2.6.4): which logins make equal sessions, and which can't be shared.
+
+ghost use Rattle.std.specs.Prelude.{◌≤◌, length};
+
+use std::alloc::{AllocError, Global};
+
+/// Where the fixed fields end, and the texts may begin.
+const FIXED: usize = 94;
+
+/// The fields that say which application it is and not which session: they may differ. All else from the
+/// version up to the texts' places is the session's.
+const VERSION_TO_PROGRAM: (usize, usize) = (4, 16);
+
+const FLAGS_TO_LANGUAGE: (usize, usize) = (24, 36);
+
+/// The second byte of flags, and its bit for a login by the operating system's user (SSPI).
+const FLAGS_2: usize = 25;
+
+const INTEGRATED: u8 = 0x80;
+
+/// The third, and its bits for a new password and for features.
+const FLAGS_3: usize = 27;
+
+const NEW_PASSWORD: u8 = 0x01;
+
+const FEATURES: u8 = 0x10;
+
+/// The places of the texts that make a session: user, password, application, server, library, language,
+/// database. The host's, at 36, may differ.
+const TEXTS: [usize; 7] = [40, 44, 48, 52, 60, 64, 68];
+
+/// A file that is attached.
+const ATTACHED: usize = 82;
+
+/// What a login is to whoever shares connections.
+#[derive(Debug, Drop)]
+pub enum Kind {
+    /// Those with an equal key may share connections.
+    Shared(Vec<u8>),
+    /// It can't be shared, and this is why.
+    Alone(&'static str),
+}
+
+/// Leaves out what the relay doesn't speak: features.
+pub fn without_features(message: &mut [u8]) {
+    if let Some(flags) = message.get_mut(FLAGS_3) {
+        *flags &= !FEATURES;
+    }
+}
+
+/// What this login is.
+pub fn kind_of(alloc: Global, message: &[u8]) -> Result<Kind, AllocError> {
+    if message.len() < FIXED {
+        return Ok(Kind::Alone("The login is too short."));
+    }
+    if message[FLAGS_2] & INTEGRATED != 0 {
+        return Ok(Kind::Alone(
+            "The relay doesn't share logins of the operating system's users (SSPI).",
+        ));
+    }
+    if message[FLAGS_3] & NEW_PASSWORD != 0 {
+        return Ok(Kind::Alone("The relay doesn't share logins that change a password."));
+    }
+    if number_at(message, ATTACHED + 2) > 0 {
+        return Ok(Kind::Alone("The relay doesn't share logins that attach a file."));
+    }
+    key_of(alloc, message)
+}
+
+/// All of it that makes a session.
+fn key_of(alloc: Global, message: &[u8]) -> Result<Kind, AllocError>
+    requires { 94 ≤ length message.now }
+{
+    let mut key = Vec::new(alloc);
+    let (from, to) = VERSION_TO_PROGRAM;
+    key.extend_from_slice(&message[from..to])?;
+    let (from, to) = FLAGS_TO_LANGUAGE;
+    key.extend_from_slice(&message[from..to])?;
+    for place in TEXTS.iter() {
+        let Some(text) = text_at(message, *place) else {
+            return Ok(Kind::Alone("A text of the login stands outside of it."));
+        };
+        key.extend_from_slice(&text.len().to_le_bytes())?;
+        key.extend_from_slice(text)?;
+    }
+    Ok(Kind::Shared(key))
+}
+
+/// The text whose place and count of units stand here.
+fn text_at(message: &[u8], place: usize) -> Option<&[u8]> {
+    let start = number_at(message, place);
+    let length = number_at(message, place.saturating_add(2)).saturating_mul(2);
+    if length == 0 {
+        return Some(&[]);
+    }
+    message.get(start..start.saturating_add(length))
+}
+
+/// The number of two bytes that stands here, the lower one first.
+fn number_at(message: &[u8], place: usize) -> usize {
+    match message.get(place..place.saturating_add(2)) {
+        Some([low, high]) => usize::from(*low) + 256 * usize::from(*high),
+        _ => 0,
+    }
+}

@@ -1,0 +1,67 @@
+//! A relay before a server of TDS: many applications share few connections, with the drivers that they
+//! have. One thread.
+#![tactic(auto)]
+
+mod dial;
+mod fault;
+mod gate;
+mod group;
+mod house;
+mod link;
+mod login7;
+mod words;
+
+use fault::RelayFault;
+use house::House;
+use std::env;
+use std::io::{self, Stderr};
+use std::process::ExitCode;
+use words::{Asked, read_words};
+
+fn main(rt: HostRuntime) -> ExitCode {
+    match run(&rt) {
+        Ok(()) => ExitCode::from(0),
+        Err(fault) => ExitCode::from(answer(&rt, &fault)),
+    }
+}
+
+/// Prints help or the version, or tells what keeps it from serving, and gives the exit status.
+fn answer(rt: &HostRuntime, fault: &RelayFault) -> u8 {
+    if !fault.is_told() {
+        match print!(rt; "{fault}") {
+            Ok(()) => return 0,
+            Err(_) => {
+                let _ = eprintln!(rt; "error: output");
+                return 1;
+            }
+        }
+    }
+    let _ = eprintln!(rt; "{fault}");
+    fault.status()
+}
+
+fn run(rt: &HostRuntime) -> Result<(), RelayFault> {
+    let words = given_words(rt).map_err(RelayFault::of_words)?;
+    let asked = read_words(rt.alloc(), words.as_slice())?;
+    let house = match House::new(rt, rt.alloc(), asked, rt.stderr()) {
+        Ok(house) => house,
+        Err(error) => return Err(RelayFault::Listen(asked.listen, error)),
+    };
+    serve(rt, house, asked)
+}
+
+/// Says where it serves, and serves until the system refuses to go on.
+fn serve(rt: &HostRuntime, mut house: House<Stderr>, asked: Asked) -> Result<(), RelayFault> {
+    let address = house.address().map_err(RelayFault::Refused)?;
+    let _ = eprintln!(rt; "relaying {address} to {}", asked.server);
+    house.serve(rt).map_err(RelayFault::Refused)
+}
+
+/// The words of the command line, the program's name too.
+fn given_words(rt: &HostRuntime) -> io::Result<Vec<String>> {
+    let mut words = Vec::new(rt.alloc());
+    for word in env::args(rt)? {
+        words.push(word)?;
+    }
+    Ok(words)
+}
