@@ -1,21 +1,20 @@
 -- Each move keeps the invariant.
-use Rattle.std.proofs.Common.{◌≡◌, ◌∙◌, ◌⊎◌, ◌||◌, ℕ, suc, Bool, true, false, List, [], ◌∷◌, ◌++◌, refl, sym, ap, subst, inl, inr, append_assoc}
+use Rattle.std.proofs.Common.{◌≡◌, ◌∙◌, ◌⊎◌, ◌||◌, ℕ, Bool, true, false, List, [], ◌∷◌, ◌++◌, refl, sym, ap, subst, inl, inr}
 use Rattle.std.specs.Prelude.{Option, Some, None, if◌then◌else◌}
 use Rattle.tds_packet.specs.declared.status.Reset.{Reset}
-use Rattle.tds_packet.specs.Resets.{strongest, header_descriptor}
+use Rattle.tds_packet.specs.Resets.{strongest}
 use Rattle.tds_client.specs.declared.heard.Heard.{Heard}
 use Rattle.tds_client.specs.declared.heard.FinalDone.{FinalDone}
-use Rattle.tds_client.specs.declared.heard.FinalDone.TheVariants.{Awaited, Answered, Acknowledged}
 use Rattle.tds_client.specs.Acts.{is_acknowledgement}
 use Rattle.tds_service.specs.Parts.{Part}
-use Rattle.tds_service.specs.Line.{Line, Stage, Idle, Sending, Reading, Cancelling, Broken, Packet, OfRequest, Ignore, Attention, Act, Mark, Ask, Send, Cancel, Come, Lose, Turn, turn}
+use Rattle.tds_service.specs.Line.{Stage, Idle, Sending, Reading, Cancelling, Broken, Packet, OfRequest, Ignore, Attention, Act, Mark, Ask, Send, Cancel, Come, Lose, Turn, turn}
 use Rattle.tds_service.specs.History.{done_by}
 use Rattle.tds_lawful.specs.Lawful.{Session, Step, Says, Ends, Breaks, Engine, IsLawful, IsAnswer, IsStop, reset_left}
-use Rattle.tds_lawful.specs.Link.{Server, Asking, Up, ups, Link, Comes, HasSome, TakesNext, done_here, taken, spoken, session_behind}
+use Rattle.tds_lawful.specs.Link.{Asking, Up, ups, Link, Comes, HasSome, TakesNext, done_here, taken, spoken, session_behind}
 use Rattle.tds_lawful.proofs.Hears.{done_of, acknowledged}
-use Rattle.tds_lawful.proofs.Chains.{behind, Cancels, SettledBy, answer_cancels, stops_behind}
-use Rattle.tds_lawful.proofs.Flow.{AreParts, IsWhole, IsIgnored, Still, Named, Quiet, Uploads, Answers, Stops, Flow, FlowOn, attention_left}
-use Rattle.tds_lawful.proofs.Coming.{line, came, append_nothing, nothing_comes, read_comes, ReadsOn, ReadsOut, skip_comes, SkipsOn, SkipsOut}
+use Rattle.tds_lawful.proofs.Chains.{behind, Cancels, answer_cancels, stops_behind}
+use Rattle.tds_lawful.proofs.Flow.{AreParts, IsWhole, IsIgnored, Still, Named, Quiet, Uploads, Answers, Stops, Flow, FlowOn}
+use Rattle.tds_lawful.proofs.Coming.{line, append_nothing, nothing_comes, read_comes, ReadsOn, ReadsOut, skip_comes, SkipsOn, SkipsOut}
 
 -- ---- The server takes a packet
 

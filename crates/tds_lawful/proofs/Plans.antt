@@ -1,5 +1,5 @@
 -- A run of a connection by itself, with what its client does in the place of what came of it.
-use Rattle.std.proofs.Common.{◌≡◌, ◌∙◌, ◌⊎◌, ℕ, Bool, true, false, List, [], ◌∷◌, ◌++◌, refl, sym, ap, subst, inl, inr}
+use Rattle.std.proofs.Common.{◌≡◌, ◌∙◌, List, [], ◌∷◌, refl, ap}
 use Rattle.tds_service.specs.Line.{Line, Act, turn}
 use Rattle.tds_service.specs.History.{Done, done_by, history, line_after}
 use Rattle.tds_lawful.specs.Lawful.{Engine, IsLawful}
