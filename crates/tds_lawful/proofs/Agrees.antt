@@ -15,7 +15,8 @@ use Rattle.tds_lawful.specs.Answering.{IsNoFault, NoFault, UnlessLost}
 use Rattle.tds_lawful.specs.Agreeing.{IsQuiet, NextInNamed, AllInNamed}
 use Rattle.tds_lawful.proofs.Flow.{AreParts, IsWhole, IsIgnored, Still, Named, Quiet, Flow, FlowOn}
 use Rattle.tds_lawful.proofs.Coming.{line, nothing_comes, read_comes, ReadsOn, ReadsOut, skip_comes, SkipsOn, SkipsOut}
-use Rattle.tds_lawful.proofs.Keeps.{keeps_act, keeps_takes, keeps_speaks}
+use Rattle.tds_lawful.proofs.Taking.{keeps_takes}
+use Rattle.tds_lawful.proofs.Keeps.{keeps_act, keeps_speaks}
 use Rattle.tds_lawful.proofs.Plans.{Planned, Does, Takes, Speaks, moves_by}
 
 -- ---- Idle

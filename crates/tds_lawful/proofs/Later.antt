@@ -16,7 +16,8 @@ use Rattle.tds_lawful.specs.Link.{Link, Move, Runs, Up, ups, Asking, Comes, Take
 use Rattle.tds_lawful.specs.Answering.{answer_now, answered}
 use Rattle.tds_lawful.proofs.Flow.{IsWhole, IsIgnored, Flow, FlowOn}
 use Rattle.tds_lawful.proofs.Coming.{line}
-use Rattle.tds_lawful.proofs.Keeps.{keeps_act, keeps_takes, keeps_speaks}
+use Rattle.tds_lawful.proofs.Taking.{keeps_takes}
+use Rattle.tds_lawful.proofs.Keeps.{keeps_act, keeps_speaks}
 use Rattle.tds_lawful.proofs.Plans.{Planned, Does, Takes, Speaks, moves_by}
 use Rattle.tds_lawful.proofs.Past.{Untold, past, own_silent, own_untold, to_other, above}
 use Rattle.tds_lawful.proofs.Own.{OwnOf, ds_by, none_in_parts, none_told, own_now, own_waits}

@@ -13,7 +13,8 @@ use Rattle.tds_lawful.specs.Link.{Link, Move, Runs, Comes, goes, link_after}
 use Rattle.tds_lawful.specs.Starting.{IsLeftClean, owed_after, owed_here, owed_next}
 use Rattle.tds_lawful.proofs.Flow.{Quiet, Flow, FlowOn}
 use Rattle.tds_lawful.proofs.Coming.{line}
-use Rattle.tds_lawful.proofs.Keeps.{keeps_act, keeps_takes, keeps_speaks}
+use Rattle.tds_lawful.proofs.Taking.{keeps_takes}
+use Rattle.tds_lawful.proofs.Keeps.{keeps_act, keeps_speaks}
 use Rattle.tds_lawful.proofs.Plans.{Planned, Does, Takes, Speaks, moves_by, acts_in}
 use Rattle.tds_lawful.proofs.Agrees.{NotBroken}
 use Rattle.tds_lawful.proofs.Starts.{Owes, OwesBehind, owes_act, owes_spoken, owes_still, owes_taken}

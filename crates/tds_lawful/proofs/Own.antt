@@ -13,7 +13,8 @@ use Rattle.tds_lawful.specs.Link.{Link, Move, Runs, Up, ups, Comes, HasSome, Tak
 use Rattle.tds_lawful.specs.Answering.{answer_now, answered, finishes, is_finished, or_later}
 use Rattle.tds_lawful.proofs.Flow.{AreParts, IsWhole, Still, Named, Quiet, Uploads, Answers}
 use Rattle.tds_lawful.proofs.Coming.{line, came, append_nothing, nothing_comes, read_comes, ReadsOn, ReadsOut}
-use Rattle.tds_lawful.proofs.Keeps.{as_before, same_link, begins_part, begins_whole, sends_part, sends_whole, keeps_takes, moves_down, speaks_answer, none_taken, none_due, answers_it, no_down}
+use Rattle.tds_lawful.proofs.Taking.{keeps_takes, none_taken, answers_it, no_down}
+use Rattle.tds_lawful.proofs.Keeps.{as_before, same_link, begins_part, begins_whole, sends_part, sends_whole, moves_down, speaks_answer, none_due}
 use Rattle.tds_lawful.proofs.Plans.{Planned, Does, Takes, Speaks, moves_by}
 use Rattle.tds_lawful.proofs.Past.{IsOwn, Silent, Untold, IsPastOn, past, own_silent, own_untold, same}
 

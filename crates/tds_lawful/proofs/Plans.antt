@@ -6,7 +6,8 @@ use Rattle.tds_lawful.specs.Lawful.{Engine, IsLawful}
 use Rattle.tds_lawful.specs.Link as links
 use Rattle.tds_lawful.specs.Link.{Link, Move, Runs, goes, here, link_after}
 use Rattle.tds_lawful.proofs.Flow.{FlowOn}
-use Rattle.tds_lawful.proofs.Keeps.{keeps_act, keeps_takes, keeps_speaks}
+use Rattle.tds_lawful.proofs.Taking.{keeps_takes}
+use Rattle.tds_lawful.proofs.Keeps.{keeps_act, keeps_speaks}
 
 pub data Planned (T : Type 0) : Type 0 where
   Does : (act : Act T) → Planned T

@@ -15,7 +15,8 @@ use Rattle.tds_lawful.specs.Starting.{owed_here, owed_behind, owed_next, RunsAsO
 use Rattle.tds_lawful.proofs.Chains.{marks}
 use Rattle.tds_lawful.proofs.Flow.{AreParts, IsWhole, IsIgnored, Still, Flow, FlowOn}
 use Rattle.tds_lawful.proofs.Coming.{line, nothing_comes, read_comes, ReadsOn, ReadsOut, skip_comes, SkipsOn, SkipsOut}
-use Rattle.tds_lawful.proofs.Keeps.{keeps_act, keeps_takes, keeps_speaks}
+use Rattle.tds_lawful.proofs.Taking.{keeps_takes}
+use Rattle.tds_lawful.proofs.Keeps.{keeps_act, keeps_speaks}
 use Rattle.tds_lawful.proofs.Plans.{Planned, Does, Takes, Speaks, moves_by}
 use Rattle.tds_lawful.proofs.Agrees.{NotBroken, Sound, sound, then_rest}
 
