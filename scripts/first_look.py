@@ -34,6 +34,7 @@ WORDS = {
     "tdsplay": "the words are: play FILE, loopback FILE, show HEX, tokens HEX, or vectors",
     "tdsview": "the commands are bytes, draw, snapshots, explain and check, each with a FILE",
     "tdsserve": "the first word is an address, as 127.0.0.1:1433",
+    "tdsrelay": "the words are two addresses, as 127.0.0.1:1434 127.0.0.1:1433",
     "tdsask": "the words are an address, as 127.0.0.1:1433, and what is asked (docs/SERVING.md)",
 }
 

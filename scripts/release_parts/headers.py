@@ -17,12 +17,11 @@ HEADERS = {
     "tds_wire": "where each token of any TDS answer ends",
     "tds_pool": "a pool of TDS connections",
     "tds_service": "pooled TDS sessions as one value",
-    "tds_judge": "findings about both directions of a TDS connection",
     "tds_play": "plays a schedule of pooled TDS sessions",
 }
 
-# Headers of libraries that aren't installed: the page's views.
-ELSEWHERE = {"tds_view"}
+# Headers of libraries that aren't installed: the page's views, and the judge.
+ELSEWHERE = {"tds_view", "tds_judge"}
 
 FIRST = """/* Mouktelf {version}: the client's end of a connection that speaks the Tabular Data Stream (MS-TDS), and the
  * player of schedules. C99 and C++. It is the headers {names},

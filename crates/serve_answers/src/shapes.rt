@@ -8,7 +8,7 @@ use crate::fields::{put_u16, put_u32};
 const TEXT: [u8; 6] = [114, 0, 111, 0, 119, 0];
 
 /// 1 January 2025, at midnight, as DATETIME2(7) has it: five bytes of time, three of days since the year 1.
-const DATE: [u8; 8] = [0, 0, 0, 0, 0, 0xb4, 0x47, 0x0b];
+const DATE: [u8; 8] = [0, 0, 0, 0, 0, 0xb3, 0x47, 0x0b];
 
 /// Appends COLMETADATA (MS-TDS 2.2.7.4) of `n` INTN, `t` NVARCHAR(20), `d` DATETIME2(7) and `m`
 /// DECIMAL(18, 2), and ORDER (2.2.7.16) by the first.

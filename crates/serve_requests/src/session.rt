@@ -19,6 +19,15 @@ pub const LONGEST: usize = 2000;
 /// The most savepoints and prepared texts of a session. Of more, the oldest are forgotten.
 const MOST: usize = 32;
 
+/// How many units the prepared texts of a session have before the oldest are forgotten.
+const ROOM: usize = 16_384;
+
+/// The most bytes that are told of a text in the place of what the language tells.
+const MOST_TOLD: usize = 32_768;
+
+/// How many units of a savepoint's name count.
+const NAME: usize = 32;
+
 /// A text that was prepared.
 #[derive(Drop)]
 struct Prepared {
@@ -88,10 +97,18 @@ impl Habits {
         let mut plan = Plan::new(self.alloc, end);
         let mut is_open = is_open;
         let mut is_known = !parameters.is_empty();
+        let mut told: usize = 0;
         let statements = statements_of(self.alloc, text)?;
         for statement in &statements {
             let is_of_drivers = self.add(&mut plan, statement, parameters, &mut is_open)?;
             is_known = is_known || is_of_drivers;
+            told = told.saturating_add(last_told(plan.deeds.as_slice()));
+            if told > MOST_TOLD {
+                return self.too_much(end);
+            }
+            if plan.text.len() > LONGEST {
+                return self.too_long(plan.text.len(), end);
+            }
         }
         if statements.is_empty() {
             plan.add_silent(self.alloc, Deed::Tokens(Vec::new(self.alloc)))?;
@@ -106,6 +123,14 @@ impl Habits {
     fn too_long(&self, count: usize, end: End) -> Result<Plan, AllocError> {
         let alloc = self.alloc;
         let text = format!(in alloc; "This text has {count} units, and may have {LONGEST}.")?;
+        let text = units_in(alloc, text.as_bytes())?;
+        Plan::failed(alloc, end, 50_005, text)
+    }
+
+    /// The plan of a text that too much would be told of.
+    fn too_much(&self, end: End) -> Result<Plan, AllocError> {
+        let alloc = self.alloc;
+        let text = format!(in alloc; "The answer has more than {MOST_TOLD} bytes.")?;
         let text = units_in(alloc, text.as_bytes())?;
         Plan::failed(alloc, end, 50_005, text)
     }
@@ -212,7 +237,7 @@ impl Habits {
     /// Whether a savepoint has this name.
     fn is_saved(&self, name: &[u16]) -> bool {
         for saved in &self.saved {
-            if is_same(saved.as_slice(), name) {
+            if is_same(saved.as_slice(), short_name(name)) {
                 return true;
             }
         }
@@ -228,7 +253,7 @@ impl Habits {
         if self.saved.len() >= MOST {
             let _ = self.saved.remove(0);
         }
-        self.saved.push(own(self.alloc, name)?)?;
+        self.saved.push(own(self.alloc, short_name(name))?)?;
         self.add_done(plan)
     }
 
@@ -253,6 +278,19 @@ impl Habits {
         plan.add_silent(self.alloc, Deed::Tokens(tokens))?;
         Ok(true)
     }
+}
+
+/// How many bytes the last deed tells in the place of what the language tells.
+fn last_told(deeds: &[Deed]) -> usize {
+    match deeds.last() {
+        Some(Deed::Tokens(tokens)) => tokens.len(),
+        _ => 0,
+    }
+}
+
+/// What counts of a savepoint's name.
+fn short_name(name: &[u16]) -> &[u16] {
+    name.get(..NAME).unwrap_or(name)
 }
 
 /// The tokens of one row with these columns.

@@ -24,7 +24,8 @@ pub extern "C" fn tds_judge(
     findings: &mut [TdsJudgeFinding],
     count: &mut usize,
 ) -> u8
-    ensures judged { result ≡ 0 → Fills limits.now pieces.now bytes.now findings.old findings.new count.new }
+    ensures judged { result ≡ 0
+        → Fills limits.now pieces.now bytes.now findings.old findings.new count.new }
     ensures room { result ≡ 1 → Lacks limits.now pieces.now bytes.now findings.old count.new }
     ensures misfit { result ≡ 2 → is_fit limits.now pieces.now bytes.now ≡ false }
     ensures unfit { is_fit limits.now pieces.now bytes.now ≡ false → result ≡ 2 }

@@ -1,9 +1,8 @@
 -- Where the line is idle all is quiet; no fault; and each request runs where its header says.
-use Rattle.std.proofs.Common.{◌≡◌, ◌∙◌, ◌⊎◌, ℕ, suc, Bool, true, false, List, [], ◌∷◌, ◌++◌, refl, sym, ap, subst, inl, inr}
-use Rattle.std.specs.Prelude.{Option, Some, None, if◌then◌else◌}
+use Rattle.std.proofs.Common.{◌≡◌, ◌∙◌, ◌⊎◌, ℕ, Bool, true, false, List, [], ◌∷◌, sym, ap, subst, inl, inr}
+use Rattle.std.specs.Prelude.{Option}
 use Rattle.tds_packet.specs.declared.status.Reset.{Reset}
 use Rattle.tds_packet.specs.Resets.{header_descriptor}
-use Rattle.tds_client.specs.declared.fault.ClientFault.{ClientFault}
 use Rattle.tds_client.specs.declared.heard.Heard.{Heard}
 use Rattle.tds_service.specs.Parts.{Part}
 use Rattle.tds_service.specs.Line as lines
@@ -13,11 +12,12 @@ use Rattle.tds_lawful.specs.Lawful.{Engine, IsLawful}
 use Rattle.tds_lawful.specs.Link as links
 use Rattle.tds_lawful.specs.Link.{Link, Move, Runs, Server, Asking, Up, ups, Comes, TakesNext, goes, here, link_after, taken}
 use Rattle.tds_lawful.specs.Answering.{IsNoFault, NoFault, UnlessLost}
-use Rattle.tds_lawful.specs.Agreeing.{IsQuiet, RunsInNamed, NextInNamed, AllInNamed}
-use Rattle.tds_lawful.proofs.Flow.{AreParts, IsWhole, IsIgnored, Still, Named, Quiet, Uploads, Answers, Stops, Flow, FlowOn}
+use Rattle.tds_lawful.specs.Agreeing.{IsQuiet, NextInNamed, AllInNamed}
+use Rattle.tds_lawful.proofs.Flow.{AreParts, IsWhole, IsIgnored, Still, Named, Quiet, Flow, FlowOn}
 use Rattle.tds_lawful.proofs.Coming.{line, nothing_comes, read_comes, ReadsOn, ReadsOut, skip_comes, SkipsOn, SkipsOut}
-use Rattle.tds_lawful.proofs.Keeps.{keeps_act, keeps_takes, keeps_speaks}
-use Rattle.tds_lawful.proofs.Plans.{Planned, Does, Takes, Speaks, moves_by, acts_in}
+use Rattle.tds_lawful.proofs.Taking.{keeps_takes}
+use Rattle.tds_lawful.proofs.Keeps.{keeps_act, keeps_speaks}
+use Rattle.tds_lawful.proofs.Plans.{Planned, Does, Takes, Speaks, moves_by}
 
 -- ---- Idle
 

@@ -1,6 +1,6 @@
 -- What is on its way and due, one thing behind the other, is heard.
-use Rattle.std.proofs.Common.{◌≡◌, ◌∙◌, ◌||◌, ℕ, Bool, true, false, List, [], ◌∷◌, ◌++◌, refl, sym, ap, subst, arith}
-use Rattle.std.specs.Prelude.{Option, Some, None, Result, Ok, Err, not, if◌then◌else◌}
+use Rattle.std.proofs.Common.{◌≡◌, ◌∙◌, ◌||◌, Bool, true, false, List, [], ◌∷◌, ◌++◌, refl, sym, ap, subst}
+use Rattle.std.specs.Prelude.{Option, Some, Result, Ok}
 use Rattle.tds_packet.specs.declared.status.Reset.{Reset}
 use Rattle.tds_client.specs.declared.fault.ClientFault.{ClientFault}
 use Rattle.tds_client.specs.declared.heard.Heard.{Heard}
@@ -10,7 +10,7 @@ use Rattle.tds_client.specs.declared.sign.Sign.TheVariants as signs
 use Rattle.tds_client.specs.Acts.{is_acknowledgement}
 use Rattle.tds_client.specs.Hearing.{◌>>=◌}
 use Rattle.tds_service.specs.Parts.{Item, Close, hear_items, told, told_by}
-use Rattle.tds_lawful.specs.Lawful.{Session, Step, Says, Ends, Breaks, IsAnswer, IsStop, UnlessAcknowledged, final_by, reset_left, told_of}
+use Rattle.tds_lawful.specs.Lawful.{Session, Step, Says, Ends, Breaks, IsAnswer, IsStop, final_by, reset_left, told_of}
 use Rattle.tds_lawful.specs.Starting.{owed_behind}
 use Rattle.tds_lawful.specs.Link.{IsEnd, IsNext, without, without_end, session_behind}
 use Rattle.tds_lawful.proofs.Hears.{heard, placed, leads_placed, leads_out_placed, done_of, done_sign, acknowledged, reading_heard, cancelling_heard, acknowledged_by}

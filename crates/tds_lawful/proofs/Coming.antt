@@ -1,23 +1,23 @@
 -- What comes of a part at the client, in front of a lawful server.
-use Rattle.std.proofs.Common.{◌≡◌, ◌∙◌, ◌⊎◌, ◌||◌, ℕ, suc, Bool, true, false, List, [], ◌∷◌, ◌++◌, refl, sym, ap, subst, inl, inr}
-use Rattle.std.specs.Prelude.{Option, Some, None, Result, Ok, Err, not, if◌then◌else◌}
+use Rattle.std.proofs.Common.{◌≡◌, ◌∙◌, ◌⊎◌, ℕ, Bool, true, false, List, [], ◌∷◌, ◌++◌, refl, sym, ap, subst, inl, inr}
+use Rattle.std.specs.Prelude.{Option, None, Result, Ok}
 use Rattle.tds_packet.specs.declared.status.Reset.{Reset}
 use Rattle.tds_client.specs.declared.fault.ClientFault.{ClientFault}
 use Rattle.tds_client.specs.declared.heard.Heard.{Heard}
 use Rattle.tds_client.specs.declared.heard.FinalDone.{FinalDone}
 use Rattle.tds_client.specs.declared.heard.FinalDone.TheVariants.{Awaited, Answered, Acknowledged}
 use Rattle.tds_client.specs.declared.sign.Rules.TheVariants.{Any}
-use Rattle.tds_client.specs.Hearing.{may_end, with_done}
+use Rattle.tds_client.specs.Hearing.{may_end}
 use Rattle.tds_listen.specs.declared.fault.ListenFault.{ListenFault}
 use Rattle.tds_listen.specs.Hearing.{heard_by}
 use Rattle.tds_service.specs.Parts as parts
 use Rattle.tds_service.specs.Parts.{Item, Part, Close, close_by, close_part, hear_items, hear_part, heard_until, is_end, told, unless_owed}
-use Rattle.tds_service.specs.Line.{Line, Stage, Idle, Sending, Reading, Cancelling, Broken, Turn, Come, More, Finished, Acked, Nobody, To, heard_at, quiet, reads, skips, skips_to_end, turn}
+use Rattle.tds_service.specs.Line.{Line, Stage, Idle, Reading, Cancelling, Turn, Come, More, Finished, Acked, To, quiet, reads, skips, skips_to_end, turn}
 use Rattle.tds_lawful.specs.Lawful.{Session, Step, Says, Ends, Breaks, Engine, IsAnswer, told_of}
-use Rattle.tds_lawful.specs.Link.{Server, Asking, Up, ups, Link, Comes, HasSome, IsEnd, IsNext, without, without_end}
+use Rattle.tds_lawful.specs.Link.{Asking, Up, ups, Link, Comes, HasSome, IsEnd, without, without_end}
 use Rattle.tds_lawful.proofs.Hears.{heard, done_of, acknowledged}
-use Rattle.tds_lawful.proofs.Chains.{behind, marks, Cancels, SettledBy, ReadTo, reads_to, SkippedTo, skips_to}
-use Rattle.tds_lawful.proofs.Flow.{Still, Quiet, Uploads, Answers, Stops, Flow, attention_left}
+use Rattle.tds_lawful.proofs.Chains.{behind, marks, Cancels, SettledBy, ReadTo, reads_to, skips_to}
+use Rattle.tds_lawful.proofs.Flow.{Still, Quiet, Answers, Stops, attention_left}
 
 abbrev pub line : ℕ → Stage → Heard → Line
 line n s h = record { asked = n; stage = s; heard = h }

@@ -1,11 +1,10 @@
 -- Runs in front of a small server that keeps the rules, worked out by the checker.
-use Rattle.std.proofs.Common.{◌≡◌, ℕ, zero, suc, Bool, true, false, List, [], ◌∷◌, ◌++◌, refl}
+use Rattle.std.proofs.Common.{◌≡◌, ℕ, zero, suc, true, false, List, [], ◌∷◌, refl}
 use Rattle.std.specs.Prelude.{Option, Some, None}
 use Rattle.tds_packet.specs.declared.status.Reset.{Reset}
 use Rattle.tds_packet.specs.declared.status.Reset.TheVariants.{Full, KeepTransaction}
 use Rattle.tds_token.specs.declared.env_change.EnvChange.TheVariants as changes
 use Rattle.tds_client.specs.declared.sign.DoneKind.TheVariants.{Statement}
-use Rattle.tds_client.specs.declared.sign.Sign.{Sign}
 use Rattle.tds_client.specs.declared.sign.Sign.TheVariants as signs
 use Rattle.tds_client.specs.Hearing.{place_change, place_done}
 use Rattle.tds_service.specs.Parts as parts
@@ -13,8 +12,8 @@ use Rattle.tds_service.specs.Parts.{Item, Part}
 use Rattle.tds_service.specs.Line as line
 use Rattle.tds_service.specs.Line.{Answer, new_line}
 use Rattle.tds_service.specs.History.{Done, given, history}
-use Rattle.tds_lawful.specs.Lawful.{Session, Step, Says, Ends, Engine, IsAnswer, IsStop, IsLawful, reset_by, told_of}
-use Rattle.tds_lawful.specs.Link.{IsRun, Link, link_after, new_link}
+use Rattle.tds_lawful.specs.Lawful.{Session, Step, Says, Ends, Engine, IsAnswer, IsLawful, told_of}
+use Rattle.tds_lawful.specs.Link.{IsRun, link_after, new_link}
 use Rattle.tds_lawful.specs.Answering.{answered}
 use Rattle.tds_lawful.proofs.Plans.{Planned, Does, Takes, Speaks, acts_in, moves_by}
 

@@ -1,15 +1,13 @@
 -- What is on its way, and where a lawful server stands, by what the client does: the invariant of a connection with it.
-use Rattle.std.proofs.Common.{◌≡◌, ◌∙◌, ◌⊎◌, ◌||◌, ℕ, suc, Bool, true, false, List, [], ◌∷◌, ◌++◌, refl, sym, ap, subst, inl, inr}
-use Rattle.std.specs.Prelude.{Option, Some, None, Result, Ok, Err, not, if◌then◌else◌}
+use Rattle.std.proofs.Common.{◌≡◌, ◌⊎◌, ℕ, Bool, true, false, List, [], ◌∷◌, ◌++◌}
+use Rattle.std.specs.Prelude.{Option, if◌then◌else◌}
 use Rattle.tds_packet.specs.declared.status.Reset.{Reset}
 use Rattle.tds_packet.specs.Resets.{header_descriptor}
-use Rattle.tds_client.specs.declared.fault.ClientFault.{ClientFault}
 use Rattle.tds_client.specs.declared.heard.Heard.{Heard}
-use Rattle.tds_client.specs.declared.heard.FinalDone.{FinalDone}
-use Rattle.tds_client.specs.declared.heard.FinalDone.TheVariants.{Awaited, Answered, Acknowledged}
+use Rattle.tds_client.specs.declared.heard.FinalDone.TheVariants.{Awaited}
 use Rattle.tds_service.specs.Line.{Line, Stage, Idle, Sending, Reading, Cancelling, Broken, Packet, OfRequest, Ignore, Attention}
-use Rattle.tds_lawful.specs.Lawful.{Session, Step, Engine, IsAnswer}
-use Rattle.tds_lawful.specs.Link.{Server, Asking, Up, ups, Link}
+use Rattle.tds_lawful.specs.Lawful.{Session, Engine, IsAnswer}
+use Rattle.tds_lawful.specs.Link.{ups, Link}
 use Rattle.tds_lawful.proofs.Hears.{done_of, acknowledged}
 use Rattle.tds_lawful.proofs.Chains.{behind, Cancels}
 

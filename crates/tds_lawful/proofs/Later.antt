@@ -1,5 +1,5 @@
 -- A request that isn't asked yet: what it is told, once it is, is of its own answer.
-use Rattle.std.proofs.Common.{◌≡◌, ◌∙◌, ◌⊎◌, ◌<◌, ◌≤◌, ◌==◌, ◌||◌, ℕ, suc, Bool, true, false, List, [], ◌∷◌, ◌++◌, refl, sym, ap, subst, inl, inr, arith}
+use Rattle.std.proofs.Common.{◌≡◌, ◌∙◌, ◌⊎◌, ◌<◌, ◌==◌, ℕ, suc, Bool, true, false, List, [], ◌∷◌, refl, sym, ap, subst, inl, inr, arith}
 use Rattle.std.specs.Prelude.{Option, Some, None, Result, Ok, Err, if◌then◌else◌}
 use Rattle.std.proofs.lemmas.Bool.Decides.{nat_tests}
 use Rattle.tds_packet.specs.declared.status.Reset.{Reset}
@@ -9,17 +9,18 @@ use Rattle.tds_client.specs.declared.heard.FinalDone.TheVariants.{Awaited, Answe
 use Rattle.tds_listen.specs.declared.fault.ListenFault.{ListenFault}
 use Rattle.tds_service.specs.Parts.{Part, hear_part, heard_until, is_end, told}
 use Rattle.tds_service.specs.Line.{Line, Stage, Idle, Sending, Reading, Cancelling, Broken, Packet, OfRequest, Ignore, Attention, Act, Mark, Ask, Send, Cancel, Come, Lose, Turn, reads, skips, skips_to_end, turn}
-use Rattle.tds_service.specs.History.{Done, done_by, told_to}
-use Rattle.tds_lawful.specs.Lawful.{Session, Step, Engine, IsLawful}
+use Rattle.tds_service.specs.History.{done_by}
+use Rattle.tds_lawful.specs.Lawful.{Engine, IsLawful}
 use Rattle.tds_lawful.specs.Link as links
 use Rattle.tds_lawful.specs.Link.{Link, Move, Runs, Up, ups, Asking, Comes, TakesNext, done_here, goes, here, taken}
-use Rattle.tds_lawful.specs.Answering.{answer_now, answered, is_finished}
-use Rattle.tds_lawful.proofs.Flow.{AreParts, IsWhole, IsIgnored, Still, Named, Quiet, Uploads, Answers, Stops, Flow, FlowOn}
+use Rattle.tds_lawful.specs.Answering.{answer_now, answered}
+use Rattle.tds_lawful.proofs.Flow.{IsWhole, IsIgnored, Flow, FlowOn}
 use Rattle.tds_lawful.proofs.Coming.{line}
-use Rattle.tds_lawful.proofs.Keeps.{keeps_act, keeps_takes, keeps_speaks}
+use Rattle.tds_lawful.proofs.Taking.{keeps_takes}
+use Rattle.tds_lawful.proofs.Keeps.{keeps_act, keeps_speaks}
 use Rattle.tds_lawful.proofs.Plans.{Planned, Does, Takes, Speaks, moves_by}
-use Rattle.tds_lawful.proofs.Past.{IsOwn, Untold, past, own_silent, own_untold, to_other, above}
-use Rattle.tds_lawful.proofs.Own.{Out, OwnOf, ds_by, none_in_parts, none_told, own_now, own_waits}
+use Rattle.tds_lawful.proofs.Past.{Untold, past, own_silent, own_untold, to_other, above}
+use Rattle.tds_lawful.proofs.Own.{OwnOf, ds_by, none_in_parts, none_told, own_now, own_waits}
 
 -- ---- No packet that is on its way is its last one
 

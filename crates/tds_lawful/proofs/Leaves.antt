@@ -1,20 +1,20 @@
 -- What the client knows of resets where it is idle is what the server did of them.
-use Rattle.std.proofs.Common.{◌≡◌, ◌∙◌, ◌==◌, ℕ, suc, zero, Bool, true, false, List, [], ◌∷◌, refl, sym, ap, subst, arith}
+use Rattle.std.proofs.Common.{◌≡◌, ◌∙◌, ◌==◌, ℕ, true, List, [], ◌∷◌, refl, sym, subst, arith}
 use Rattle.std.specs.Prelude.{Option, Some, None}
 use Rattle.std.proofs.lemmas.Bool.Decides.{nat_tests}
 use Rattle.tds_packet.specs.declared.status.Reset.{Reset}
 use Rattle.tds_client.specs.declared.heard.Heard.{Heard}
-use Rattle.tds_service.specs.Line.{Line, Stage, Idle, Sending, Reading, Cancelling, Broken, Act, Mark, Ask, Send, Cancel, Come, Lose, Turn, turn}
+use Rattle.tds_service.specs.Line.{Line, Stage, Idle, Sending, Reading, Cancelling, Broken, Act, Mark, Ask, Send, Cancel, Come, Lose, turn}
 use Rattle.tds_service.specs.History.{done_by, line_after}
 use Rattle.tds_service.specs.Service.{is_clean}
 use Rattle.tds_lawful.specs.Lawful.{Engine, IsLawful}
 use Rattle.tds_lawful.specs.Link as links
 use Rattle.tds_lawful.specs.Link.{Link, Move, Runs, Comes, goes, link_after}
 use Rattle.tds_lawful.specs.Starting.{IsLeftClean, owed_after, owed_here, owed_next}
-use Rattle.tds_lawful.proofs.Chains.{marks}
-use Rattle.tds_lawful.proofs.Flow.{Quiet, Still, Flow, FlowOn}
+use Rattle.tds_lawful.proofs.Flow.{Quiet, Flow, FlowOn}
 use Rattle.tds_lawful.proofs.Coming.{line}
-use Rattle.tds_lawful.proofs.Keeps.{keeps_act, keeps_takes, keeps_speaks}
+use Rattle.tds_lawful.proofs.Taking.{keeps_takes}
+use Rattle.tds_lawful.proofs.Keeps.{keeps_act, keeps_speaks}
 use Rattle.tds_lawful.proofs.Plans.{Planned, Does, Takes, Speaks, moves_by, acts_in}
 use Rattle.tds_lawful.proofs.Agrees.{NotBroken}
 use Rattle.tds_lawful.proofs.Starts.{Owes, OwesBehind, owes_act, owes_spoken, owes_still, owes_taken}
@@ -43,14 +43,14 @@ pub knows_after : {V T : Type 0} (engine : Engine V T) (lawful : IsLawful engine
 knows_after engine lawful owed l link [] f k runs = k
 knows_after engine lawful owed l link (Does a ∷ plan) f k runs =
     knows_after engine lawful (owed_here owed a (turn l a).answer) (turn l a).line (goes engine link (links.Here (done_by a (turn l a)))) plan
-      (keeps_act engine l.asked l.stage l.heard link a f runs.0)
-      (knows_act engine owed l.asked l.stage l.heard link a f runs.0 k) runs.1
+    (keeps_act engine l.asked l.stage l.heard link a f runs.0)
+    (knows_act engine owed l.asked l.stage l.heard link a f runs.0 k) runs.1
 knows_after engine lawful owed l link (Takes ∷ plan) f k runs =
     knows_after engine lawful owed l (goes engine link links.Takes) plan (keeps_takes engine lawful l.asked l.stage l.heard link f runs.0)
-      (λ (b : NotBroken l.stage). owes_taken engine owed l.heard link link.up (k b)) runs.1
+    (λ (b : NotBroken l.stage). owes_taken engine owed l.heard link link.up (k b)) runs.1
 knows_after engine lawful owed l link (Speaks ∷ plan) f k runs =
     knows_after engine lawful (owed_next owed link.server.due) l (goes engine link links.Speaks) plan (keeps_speaks engine l.asked l.stage l.heard link f runs.0)
-      (λ (b : NotBroken l.stage). owes_spoken owed l.heard link link.server.due runs.0 (k b)) runs.1
+    (λ (b : NotBroken l.stage). owes_spoken owed l.heard link link.server.due runs.0 (k b)) runs.1
 
 -- ---- Clean
 
@@ -76,4 +76,4 @@ pub clean_on : {V T : Type 0} (engine : Engine V T) (owed : Option Reset) (l : L
     → is_clean l.heard.mark l.heard.descriptor ≡ true → IsLeftClean owed link
 clean_on engine owed l link e f k c =
     clean_idle owed l.heard link (subst (λ (s : Stage). Flow engine l.asked s l.heard link) e f)
-      (k (subst (λ (s : Stage). NotBroken s) (sym e) tt)) c
+    (k (subst (λ (s : Stage). NotBroken s) (sym e) tt)) c

@@ -9,7 +9,7 @@ use Rattle.tds_service.specs.Line.{Line, Stage, Idle, Sending, Reading, Cancelli
 use Rattle.tds_service.specs.Refusing.{packets, refusal_in}
 use Rattle.tds_service.specs.History.{Done, acts_of, done_by, history, line_after}
 use Rattle.tds_service.specs.Lending.{MarksBy, MarksReused, marking, reset_of}
-use Rattle.tds_service.specs.Service.{Place, Seat, Service, Call, Lease, Resume, Ask, Put, Finish, Cancel, GiveBack, Clean, Cleaned, Keep, Abandon, Came, Lost, Without, Reply, Unknown, AllInUse, NotNow, No, NoMemory, Lent, Ticket, Did, Back, Step, acts, acts_unless, abandons, clean_place, cleaned, cleans, find_by, gives_back, has_lease, has_number, has_ticket, hears, is_idle, is_lendable, keeps_it, lends, loses, may_keep, nothing, on, on_one, opens, rests_cleaned, resumes, service_after, step, steps}
+use Rattle.tds_service.specs.Service.{Place, Seat, Service, Call, Lease, Resume, Ask, Put, Finish, Cancel, GiveBack, Clean, Cleaned, Keep, Abandon, Came, Lost, Without, Reply, NotNow, Lent, Ticket, Step, acts, acts_unless, abandons, clean_place, cleaned, cleans, find_by, gives_back, has_lease, has_number, has_ticket, hears, is_idle, is_lendable, keeps_it, lends, loses, may_keep, nothing, on, on_one, opens, rests_cleaned, resumes, service_after, step, steps}
 use Rattle.tds_lawful.proofs.Past.{same}
 
 -- ---- Which connection it is
@@ -140,14 +140,14 @@ lent_idle {T} l s before call lease n m a e =
     let t : Step T = step (service_after s before) call in
     let ds : List (Done T) = on n (steps s before) in
     let d : t.dones ≡ marking (reset_of call) ∷ [] =
-        subst (λ (r : Reply). MarksBy call r t.dones) e (marks_last s before call m) in
+    subst (λ (r : Reply). MarksBy call r t.dones) e (marks_last s before call m) in
     let k : t.number ≡ n = lent_on lease n (service_after s before) call e in
     let h : on n (t ∷ []) ≡ marking (reset_of call) ∷ [] =
-        ap (λ (b : Bool). on_one b t.dones []) (ap (λ (x : ℕ). x == n) k ∙ same n) ∙ ap (λ (xs : List (Done T)). xs ++ []) d in
+    ap (λ (b : Bool). on_one b t.dones []) (ap (λ (x : ℕ). x == n) k ∙ same n) ∙ ap (λ (xs : List (Done T)). xs ++ []) d in
     let w : on n (steps s (before ++ call ∷ [])) ≡ ds ++ marking (reset_of call) ∷ [] =
-        on_last n s before call ∙ ap (λ (xs : List (Done T)). ds ++ xs) h in
+    on_last n s before call ∙ ap (λ (xs : List (Done T)). ds ++ xs) h in
     let x : ds ++ marking (reset_of call) ∷ [] ≡ history l (acts_of (ds ++ marking (reset_of call) ∷ [])) =
-        sym w ∙ a ∙ ap (λ (xs : List (Done T)). history l (acts_of xs)) w in
+    sym w ∙ a ∙ ap (λ (xs : List (Done T)). history l (acts_of xs)) w in
     let y : lines.Marked ≡ (marks {T = T} (line_after l (acts_of ds)) (reset_of call) (line_after l (acts_of ds)).stage).answer =
-        ap (λ (z : Done T). z.answer) (last_alone l ds (marking (reset_of call)) x) in
+    ap (λ (z : Done T). z.answer) (last_alone l ds (marking (reset_of call)) x) in
     marked_idle T (line_after l (acts_of ds)) (reset_of call) (line_after l (acts_of ds)).stage y

@@ -2,6 +2,7 @@ pub mod Hears
 pub mod Chains
 pub mod Flow
 pub mod Coming
+pub mod Taking
 pub mod Keeps
 pub mod Plans
 pub mod Agrees

@@ -1,8 +1,8 @@
 -- On each connection of a table all comes out as if it were the only one: so the laws of one hold there.
-use Rattle.std.proofs.Common.{◌≡◌, ◌∙◌, ℕ, List, [], ◌∷◌, refl, sym, ap, subst}
+use Rattle.std.proofs.Common.{◌≡◌, ◌∙◌, ℕ, List, sym, subst}
 use Rattle.std.specs.Prelude.{None, true}
 use Rattle.tds_service.specs.Service.{is_clean}
-use Rattle.tds_service.specs.Line.{Act, Idle, new_line}
+use Rattle.tds_service.specs.Line.{Idle, new_line}
 use Rattle.tds_service.specs.History.{Done, acts_of, history, line_after}
 use Rattle.tds_lawful.specs.Lawful.{Engine, IsLawful}
 use Rattle.tds_lawful.specs.Link.{IsRun, Move, link_after, new_link}

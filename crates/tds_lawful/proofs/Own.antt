@@ -1,25 +1,22 @@
 -- What a request is told is a beginning of its own answer, and all of it where it is finished.
-use Rattle.std.proofs.Common.{◌≡◌, ◌∙◌, ◌⊎◌, ◌<◌, ◌≤◌, ◌==◌, ◌||◌, ℕ, suc, Bool, true, false, List, [], ◌∷◌, ◌++◌, refl, sym, ap, subst, inl, inr, arith, append_assoc}
-use Rattle.std.specs.Prelude.{Option, Some, None, Result, Ok, Err, if◌then◌else◌}
+use Rattle.std.proofs.Common.{◌≡◌, ◌∙◌, ◌⊎◌, ◌==◌, ◌||◌, ℕ, Bool, true, false, List, [], ◌∷◌, ◌++◌, refl, sym, ap, subst, inl, inr, arith, append_assoc}
+use Rattle.std.specs.Prelude.{Option, Some, None, if◌then◌else◌}
 use Rattle.tds_packet.specs.declared.status.Reset.{Reset}
-use Rattle.tds_client.specs.declared.fault.ClientFault.{ClientFault}
 use Rattle.tds_client.specs.declared.fault.ClientFault.TheVariants as faults
 use Rattle.tds_client.specs.declared.heard.Heard.{Heard}
-use Rattle.tds_listen.specs.declared.fault.ListenFault.{ListenFault}
-use Rattle.tds_service.specs.Parts.{Part, hear_part, heard_until, is_end, told}
-use Rattle.tds_service.specs.Line.{Line, Stage, Idle, Sending, Reading, Cancelling, Broken, Packet, OfRequest, Ignore, Attention, Act, Mark, Ask, Send, Cancel, Come, Lose, Turn, reads, skips, skips_to_end, turn}
-use Rattle.tds_client.specs.declared.heard.FinalDone.{FinalDone}
-use Rattle.tds_client.specs.declared.heard.FinalDone.TheVariants.{Awaited, Answered, Acknowledged}
-use Rattle.tds_service.specs.History.{Done, done_by, given, history, told_to}
-use Rattle.tds_lawful.specs.Lawful.{Session, Step, Engine, IsLawful, IsAnswer, told_of}
+use Rattle.tds_service.specs.Parts.{Part, told}
+use Rattle.tds_service.specs.Line.{Line, Stage, Idle, Sending, Reading, Cancelling, Broken, Packet, OfRequest, Ignore, Attention, Act, Mark, Ask, Send, Cancel, Come, Lose, Turn, turn}
+use Rattle.tds_service.specs.History.{Done, done_by, given, told_to}
+use Rattle.tds_lawful.specs.Lawful.{Step, Engine, IsLawful, told_of}
 use Rattle.tds_lawful.specs.Link as links
 use Rattle.tds_lawful.specs.Link.{Link, Move, Runs, Up, ups, Comes, HasSome, TakesNext, done_here, goes, here, spoken, taken, without}
-use Rattle.tds_lawful.specs.Answering.{Begins, answer_now, answered, finishes, is_finished, or_later}
-use Rattle.tds_lawful.proofs.Flow.{AreParts, IsWhole, IsIgnored, Still, Named, Quiet, Uploads, Answers, Stops, Flow, FlowOn}
+use Rattle.tds_lawful.specs.Answering.{answer_now, answered, finishes, is_finished, or_later}
+use Rattle.tds_lawful.proofs.Flow.{AreParts, IsWhole, Still, Named, Quiet, Uploads, Answers}
 use Rattle.tds_lawful.proofs.Coming.{line, came, append_nothing, nothing_comes, read_comes, ReadsOn, ReadsOut}
-use Rattle.tds_lawful.proofs.Keeps.{as_before, same_link, begins_part, begins_whole, sends_part, sends_whole, keeps_act, keeps_takes, keeps_speaks, moves_down, speaks_answer, takes_part, none_taken, none_due, answers_it, no_down}
+use Rattle.tds_lawful.proofs.Taking.{keeps_takes, none_taken, answers_it, no_down}
+use Rattle.tds_lawful.proofs.Keeps.{as_before, same_link, begins_part, begins_whole, sends_part, sends_whole, moves_down, speaks_answer, none_due}
 use Rattle.tds_lawful.proofs.Plans.{Planned, Does, Takes, Speaks, moves_by}
-use Rattle.tds_lawful.proofs.Past.{IsOwn, Silent, Untold, IsPastOn, past, own_silent, own_untold, same, below, above}
+use Rattle.tds_lawful.proofs.Past.{IsOwn, Silent, Untold, IsPastOn, past, own_silent, own_untold, same}
 
 -- ---- Its answer is on its way
 

@@ -1,12 +1,13 @@
 -- A run of a connection by itself, with what its client does in the place of what came of it.
-use Rattle.std.proofs.Common.{◌≡◌, ◌∙◌, ◌⊎◌, ℕ, Bool, true, false, List, [], ◌∷◌, ◌++◌, refl, sym, ap, subst, inl, inr}
+use Rattle.std.proofs.Common.{◌≡◌, ◌∙◌, List, [], ◌∷◌, refl, ap}
 use Rattle.tds_service.specs.Line.{Line, Act, turn}
 use Rattle.tds_service.specs.History.{Done, done_by, history, line_after}
 use Rattle.tds_lawful.specs.Lawful.{Engine, IsLawful}
 use Rattle.tds_lawful.specs.Link as links
 use Rattle.tds_lawful.specs.Link.{Link, Move, Runs, goes, here, link_after}
 use Rattle.tds_lawful.proofs.Flow.{FlowOn}
-use Rattle.tds_lawful.proofs.Keeps.{keeps_act, keeps_takes, keeps_speaks}
+use Rattle.tds_lawful.proofs.Taking.{keeps_takes}
+use Rattle.tds_lawful.proofs.Keeps.{keeps_act, keeps_speaks}
 
 pub data Planned (T : Type 0) : Type 0 where
   Does : (act : Act T) → Planned T

@@ -1,16 +1,16 @@
 -- A run from the login, as a plan; and the laws of it.
-use Rattle.std.proofs.Common.{◌≡◌, ◌∙◌, ℕ, zero, suc, Bool, true, false, List, [], ◌∷◌, refl, sym, ap, subst, arith, inl}
+use Rattle.std.proofs.Common.{◌≡◌, ◌∙◌, ℕ, zero, suc, true, List, refl, sym, ap, subst, arith, inl}
 use Rattle.std.specs.Prelude.{None}
 use Rattle.tds_service.specs.Service.{is_clean}
 use Rattle.tds_service.specs.Line.{Line, Act, Idle, new_line}
-use Rattle.tds_service.specs.History.{Done, given, history, line_after}
-use Rattle.tds_lawful.specs.Lawful.{Engine, IsLawful, told_of}
-use Rattle.tds_lawful.specs.Link.{IsRun, Link, Move, Runs, here, link_after, new_link}
-use Rattle.tds_lawful.specs.Answering.{Begins, NoFault, answered, finishes}
+use Rattle.tds_service.specs.History.{Done, history, line_after}
+use Rattle.tds_lawful.specs.Lawful.{Engine, IsLawful}
+use Rattle.tds_lawful.specs.Link.{IsRun, Move, Runs, here, link_after, new_link}
+use Rattle.tds_lawful.specs.Answering.{NoFault, answered}
 use Rattle.tds_lawful.specs.Working.{CanGo, Waits}
 use Rattle.tds_lawful.specs.Starting.{IsLeftClean, StartsFresh, owed_after}
 use Rattle.tds_lawful.specs.Agreeing.{AllInNamed, IsQuiet}
-use Rattle.tds_lawful.proofs.Flow.{Quiet, FlowOn}
+use Rattle.tds_lawful.proofs.Flow.{FlowOn}
 use Rattle.tds_lawful.proofs.Plans.{Follows, Planned, acts_in, flow_after, follows, moves_by}
 use Rattle.tds_lawful.proofs.Past.{IsOwn, own_silent, past}
 use Rattle.tds_lawful.proofs.Own.{OwnOf, ds_by}
@@ -97,7 +97,7 @@ pub leaves_clean : {V T : Type 0} (engine : Engine V T) (acts : List (Act T)) (m
 leaves_clean {V} {T} engine acts moves lawful run e c =
     let f = run_of engine acts moves run in
     clean_on engine (owed_after engine None (new_link engine) moves) (line_after new_line acts) (link_after engine (new_link engine) moves) e
-      (flow_of engine acts moves lawful run)
-      (subst (λ (xs : List (Act T)). Knows (owed_after engine None (new_link engine) moves) (line_after new_line xs) (link_after engine (new_link engine) moves)) (sym f.acts_are)
-        (subst (λ (ms : List (Move T)). Knows (owed_after engine None (new_link engine) ms) (line_after new_line (acts_in f.plan)) (link_after engine (new_link engine) ms)) (sym f.moves_are)
-          (knows_after engine lawful None new_line (new_link engine) f.plan (new_flow engine) (λ _. refl) (planned engine acts moves run f)))) c
+    (flow_of engine acts moves lawful run)
+    (subst (λ (xs : List (Act T)). Knows (owed_after engine None (new_link engine) moves) (line_after new_line xs) (link_after engine (new_link engine) moves)) (sym f.acts_are)
+    (subst (λ (ms : List (Move T)). Knows (owed_after engine None (new_link engine) ms) (line_after new_line (acts_in f.plan)) (link_after engine (new_link engine) ms)) (sym f.moves_are)
+    (knows_after engine lawful None new_line (new_link engine) f.plan (new_flow engine) (λ _. refl) (planned engine acts moves run f)))) c

@@ -1,23 +1,22 @@
 -- Where a reset is owed each request asks for it, and nothing is run before it is done.
-use Rattle.std.proofs.Common.{◌≡◌, ◌∙◌, ◌⊎◌, ◌||◌, ℕ, suc, Bool, true, false, List, [], ◌∷◌, ◌++◌, refl, sym, ap, subst, inl, inr}
+use Rattle.std.proofs.Common.{◌≡◌, ◌∙◌, ◌⊎◌, ◌||◌, ℕ, Bool, true, false, List, [], ◌∷◌, ◌++◌, refl, sym, ap, subst, inl, inr}
 use Rattle.std.specs.Prelude.{Option, Some, None, if◌then◌else◌}
 use Rattle.tds_packet.specs.declared.status.Reset.{Reset}
 use Rattle.tds_packet.specs.Resets.{strongest}
 use Rattle.tds_client.specs.declared.heard.Heard.{Heard}
 use Rattle.tds_client.specs.Acts.{is_acknowledgement}
 use Rattle.tds_service.specs.Parts.{Part}
-use Rattle.tds_service.specs.Line as lines
 use Rattle.tds_service.specs.Line.{Line, Stage, Idle, Sending, Reading, Cancelling, Broken, Packet, OfRequest, Ignore, Attention, Act, Mark, Ask, Send, Cancel, Come, Lose, Turn, turn}
 use Rattle.tds_service.specs.History.{done_by}
-use Rattle.tds_lawful.specs.Lawful.{Session, Step, Says, Ends, Breaks, Engine, IsLawful, IsAnswer, IsStop, UnlessAcknowledged, Leads, LeadsOut, final_by, reset_left}
+use Rattle.tds_lawful.specs.Lawful.{Session, Step, Says, Ends, Breaks, Engine, IsLawful, IsAnswer, IsStop, UnlessAcknowledged, final_by}
 use Rattle.tds_lawful.specs.Link as links
 use Rattle.tds_lawful.specs.Link.{Link, Move, Runs, Server, Asking, Up, ups, Comes, HasSome, TakesNext, behind_act, goes, taken, takes, spoken, session_behind}
-use Rattle.tds_lawful.specs.Answering.{UnlessLost}
 use Rattle.tds_lawful.specs.Starting.{owed_here, owed_behind, owed_next, RunsAsOwed, NextAsOwed, SaidAsOwed, StartsFresh}
 use Rattle.tds_lawful.proofs.Chains.{marks}
-use Rattle.tds_lawful.proofs.Flow.{AreParts, IsWhole, IsIgnored, Still, Quiet, Uploads, Answers, Stops, Flow, FlowOn}
+use Rattle.tds_lawful.proofs.Flow.{AreParts, IsWhole, IsIgnored, Still, Flow, FlowOn}
 use Rattle.tds_lawful.proofs.Coming.{line, nothing_comes, read_comes, ReadsOn, ReadsOut, skip_comes, SkipsOn, SkipsOut}
-use Rattle.tds_lawful.proofs.Keeps.{keeps_act, keeps_takes, keeps_speaks}
+use Rattle.tds_lawful.proofs.Taking.{keeps_takes}
+use Rattle.tds_lawful.proofs.Keeps.{keeps_act, keeps_speaks}
 use Rattle.tds_lawful.proofs.Plans.{Planned, Does, Takes, Speaks, moves_by}
 use Rattle.tds_lawful.proofs.Agrees.{NotBroken, Sound, sound, then_rest}
 

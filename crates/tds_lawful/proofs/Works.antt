@@ -1,18 +1,17 @@
 -- Each delivery and each step of the server lowers what is left to do, and while the client waits there is one to make.
 use Rattle.std.proofs.Common.{◌≡◌, ◌∙◌, ◌⊎◌, ◌+◌, ◌<◌, ◌≤◌, ℕ, suc, Bool, true, false, List, [], ◌∷◌, ◌++◌, length, refl, sym, ap, subst, inl, inr, arith}
-use Rattle.std.specs.Prelude.{Option, Some, None, max, if◌then◌else◌}
-use Rattle.std.proofs.lemmas.Grind.{common_steps}
+use Rattle.std.specs.Prelude.{Option, max}
 use Rattle.tds_packet.specs.declared.status.Reset.{Reset}
 use Rattle.tds_client.specs.declared.heard.Heard.{Heard}
 use Rattle.tds_service.specs.Parts as parts
 use Rattle.tds_service.specs.Parts.{Item, Close, Part}
-use Rattle.tds_service.specs.Line.{Line, Stage, Idle, Sending, Reading, Cancelling, Broken, Packet, OfRequest, Ignore, Attention, Act, Mark, Ask, Send, Cancel, Come, Lose}
+use Rattle.tds_service.specs.Line.{Stage, Idle, Sending, Reading, Cancelling, Broken, Packet, OfRequest, Ignore, Attention, Act, Mark, Ask, Send, Cancel, Come, Lose}
 use Rattle.tds_service.specs.History.{Done}
 use Rattle.tds_lawful.specs.Lawful.{Session, Step, Says, Ends, Breaks, Engine, IsAnswer}
 use Rattle.tds_lawful.specs.Link as links
 use Rattle.tds_lawful.specs.Link.{Link, Move, Server, Asking, Up, ups, Comes, HasSome, IsEnd, IsNext, TakesNext, goes, session_behind, spoken, taken, takes, without, without_end}
-use Rattle.tds_lawful.specs.Working.{twice, all_said, left_at_attention, stopped, with_all_said, left_by, left_for, left_to_do, Brings, Delivers, Works, Waits, CanGo}
-use Rattle.tds_lawful.proofs.Flow.{AreParts, IsWhole, IsIgnored, Still, Uploads, Answers, Stops, Flow}
+use Rattle.tds_lawful.specs.Working.{left_at_attention, stopped, left_by, left_for, left_to_do, Brings, Delivers, Works, Waits, CanGo}
+use Rattle.tds_lawful.proofs.Flow.{IsWhole, IsIgnored, Flow}
 use Rattle.tds_lawful.proofs.Chains.{Cancels}
 use Rattle.tds_lawful.proofs.Coming.{append_nothing}
 

@@ -1,6 +1,5 @@
 -- Where both ends of a connection agree.
-use Rattle.std.specs.Prelude.{◌≡◌, ℕ, Bool, true, false, List, [], ◌∷◌, Option, Some, None, if◌then◌else◌}
-use Rattle.tds_packet.specs.declared.status.Reset.{Reset}
+use Rattle.std.specs.Prelude.{◌≡◌, true, List, [], ◌∷◌, if◌then◌else◌}
 use Rattle.tds_packet.specs.Resets.{header_descriptor}
 use Rattle.tds_service.specs.Line.{Line, Packet, OfRequest}
 use Rattle.tds_lawful.specs.Lawful.{Engine}

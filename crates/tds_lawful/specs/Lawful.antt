@@ -4,7 +4,6 @@ use Rattle.std.specs.Prelude.{◌≡◌, ℕ, ◌||◌, not, Bool, true, false, 
 use Rattle.tds_packet.specs.declared.status.Reset.{Reset}
 use Rattle.tds_packet.specs.Layout.{has_bit}
 use Rattle.tds_packet.specs.Resets.{header_descriptor}
-use Rattle.tds_token.specs.declared.env_change.EnvChange.{EnvChange}
 use Rattle.tds_token.specs.declared.env_change.EnvChange.TheVariants as changes
 use Rattle.tds_token.specs.DoneStatus.{more}
 use Rattle.tds_client.specs.declared.sign.Sign.{Sign}

@@ -1,5 +1,5 @@
 -- What a request finds where a reset is owed.
-use Rattle.std.specs.Prelude.{◌≡◌, ◌⊎◌, ℕ, Bool, true, false, List, [], ◌∷◌, Option, Some, None, if◌then◌else◌}
+use Rattle.std.specs.Prelude.{◌≡◌, ◌⊎◌, true, List, [], ◌∷◌, Option, Some, None, if◌then◌else◌}
 use Rattle.tds_packet.specs.declared.status.Reset.{Reset}
 use Rattle.tds_packet.specs.Resets.{strongest}
 use Rattle.tds_service.specs.Line.{Act, Answer, Mark, Marked, Packet, OfRequest}

@@ -1,9 +1,8 @@
 -- How much is left to do on a connection where nothing more is asked, sent or cancelled.
-use Rattle.std.specs.Prelude.{◌≡◌, ◌⊎◌, ◌+◌, ◌<◌, ℕ, suc, Bool, true, false, List, [], ◌∷◌, length, Option, Some, None, max}
-use Rattle.tds_packet.specs.declared.status.Reset.{Reset}
+use Rattle.std.specs.Prelude.{◌≡◌, ◌⊎◌, ◌+◌, ℕ, suc, List, [], ◌∷◌, length, None, max}
 use Rattle.tds_service.specs.Parts as parts
 use Rattle.tds_service.specs.Parts.{Item, Close, Part}
-use Rattle.tds_service.specs.Line.{Act, Come, Stage, Idle, Sending, Reading, Cancelling, Broken, Packet, OfRequest, Ignore, Attention}
+use Rattle.tds_service.specs.Line.{Act, Come, Stage, Reading, Cancelling, Packet, OfRequest, Ignore, Attention}
 use Rattle.tds_lawful.specs.Lawful.{Session, Step, Engine}
 use Rattle.tds_lawful.specs.Link.{Asking, Server, Up, Link, Move, Here, Takes, Speaks, HasSome, TakesNext, session_behind, takes}
 

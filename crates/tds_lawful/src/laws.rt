@@ -1,6 +1,5 @@
-//! What holds of one connection in front of a server that keeps the rules, whatever it answers, and
-//! whatever is called, in whatever order. Each function does nothing when it runs: its contract is the
-//! law.
+//! What holds of one connection in front of a server that keeps the rules, whatever it answers and
+//! whatever is called. Each function does nothing when it runs: its contract is the law.
 
 ghost use Rattle.std.specs.Prelude.{◌≡◌, ◌<◌, ℕ, List, Bool, None, true};
 ghost use Rattle.tds_service.specs.Line.{Act, Idle, new_line};
@@ -13,8 +12,8 @@ ghost use Rattle.tds_lawful.specs.Agreeing.{AllInNamed, IsQuiet};
 ghost use Rattle.tds_lawful.specs.Starting.{IsLeftClean, StartsFresh, owed_after};
 ghost use Rattle.tds_lawful.specs.Working.{CanGo, Waits, Works, left_to_do};
 
-/// What a request is told is a beginning of what the server answers to it, and all of that where it is
-/// finished; whatever was asked before, cancelled, reset, or cut.
+/// What a request is told is a beginning of what the server answers to it, and all of that where it
+/// is finished; whatever was asked before, cancelled, reset, or cut.
 pub fn own_answers<V, T>()
     ensures begins { (engine : Engine V T) (acts : List (Act T)) (moves : List (Move T)) (r : ℕ)
         → IsLawful engine → IsRun engine moves (history new_line acts)
@@ -34,8 +33,8 @@ pub fn no_fault<V, T>()
         → NoFault (history new_line acts) }
 {}
 
-/// Where a connection is idle nothing is on its way, the server has nothing to say, and both ends are
-/// in one transaction.
+/// Where a connection is idle nothing is on its way, the server has nothing to say, and both ends
+/// are in one transaction.
 pub fn idle_is_quiet<V, T>()
     ensures { (engine : Engine V T) (acts : List (Act T)) (moves : List (Move T))
         → IsLawful engine → IsRun engine moves (history new_line acts)
@@ -43,24 +42,25 @@ pub fn idle_is_quiet<V, T>()
         → IsQuiet (line_after new_line acts) (link_after engine (new_link engine) moves) }
 {}
 
-/// A request runs in the transaction that its header names, the one heard last when it was asked, or in
-/// none behind its full reset (MS-TDS 2.2.5.3.2).
+/// A request runs in the transaction that its header names, the one heard last when it was asked,
+/// or in none behind its full reset (MS-TDS 2.2.5.3.2).
 pub fn own_transaction<V, T>()
     ensures { (engine : Engine V T) (acts : List (Act T)) (moves : List (Move T))
         → IsLawful engine → IsRun engine moves (history new_line acts)
         → AllInNamed engine (new_link engine) moves }
 {}
 
-/// From a mark on each request that runs asks for that reset, and the server runs nothing before it is
-/// done: the first that runs finds a fresh session, or the transaction that was kept, without settings.
+/// From a mark on each request that runs asks for that reset, and the server runs nothing before it
+/// is done: the first that runs finds a fresh session, or the transaction that was kept, without
+/// settings.
 pub fn fresh_start<V, T>()
     ensures { (engine : Engine V T) (acts : List (Act T)) (moves : List (Move T))
         → IsLawful engine → IsRun engine moves (history new_line acts)
         → StartsFresh engine None (new_link engine) moves }
 {}
 
-/// Where an idle connection is found clean, which is when a cleaning frees it, its server has done the
-/// reset that was marked last, and is in no transaction.
+/// Where an idle connection is found clean, which is when a cleaning frees it, its server has done
+/// the reset that was marked last, and is in no transaction.
 pub fn left_clean<V, T>()
     ensures { (engine : Engine V T) (acts : List (Act T)) (moves : List (Move T))
         → IsLawful engine → IsRun engine moves (history new_line acts)
@@ -71,8 +71,9 @@ pub fn left_clean<V, T>()
         (link_after engine (new_link engine) moves) }
 {}
 
-/// While an answer or an acknowledgement is awaited there is a packet that the server may take, a thing
-/// that it may say, or something on its way to the client; and each of these leaves less to do.
+/// While an answer or an acknowledgement is awaited there is a packet that the server may take, a
+/// thing that it may say, or something on its way to the client; and each of these leaves less to
+/// do.
 pub fn never_stuck<V, T>()
     ensures waits { (engine : Engine V T) (acts : List (Act T)) (moves : List (Move T))
         → IsLawful engine → IsRun engine moves (history new_line acts)

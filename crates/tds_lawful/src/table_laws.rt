@@ -1,6 +1,6 @@
 //! What holds of each connection of a table in front of a server that keeps the rules, whatever the
-//! other connections do, and whatever their servers send. Each function does nothing when it runs: its
-//! contract is the law.
+//! other connections do, and whatever their servers send. Each function does nothing when it runs:
+//! its contract is the law.
 
 ghost use Rattle.std.specs.Prelude.{◌≡◌, ℕ, List, Bool, None, true};
 ghost use Rattle.tds_service.specs.Line.{Idle, new_line};
@@ -16,8 +16,8 @@ ghost use Rattle.tds_lawful.specs.Working.{CanGo, Waits};
 
 use tds_service::table_laws::{asks_for_reset, each_alone};
 
-/// What a request is told is a beginning of what the server answers to it, and all of that where it is
-/// finished.
+/// What a request is told is a beginning of what the server answers to it, and all of that where it
+/// is finished.
 pub fn own_answers<V, T>()
     ensures begins { (engine : Engine V T) (max n : ℕ) (calls : List (Call T))
         (moves : List (Move T)) (r : ℕ)
@@ -44,8 +44,8 @@ pub fn no_fault<V, T>()
     each_alone::<T>();
 }
 
-/// Where a connection is idle nothing is on its way, its server has nothing to say, and both ends are in
-/// one transaction.
+/// Where a connection is idle nothing is on its way, its server has nothing to say, and both ends
+/// are in one transaction.
 pub fn idle_is_quiet<V, T>()
     ensures { (engine : Engine V T) (max n : ℕ) (calls : List (Call T))
         (moves : List (Move T))
@@ -57,8 +57,8 @@ pub fn idle_is_quiet<V, T>()
     each_alone::<T>();
 }
 
-/// Where a connection is lent again all is quiet: nothing is on its way, its server has nothing to say,
-/// and both ends are in one transaction.
+/// Where a connection is lent again all is quiet: nothing is on its way, its server has nothing to
+/// say, and both ends are in one transaction.
 pub fn lends_quiet<V, T>()
     ensures { (engine : Engine V T) (max lease n : ℕ) (calls : List (Call T)) (call : Call T)
         (moves : List (Move T))
@@ -71,8 +71,8 @@ pub fn lends_quiet<V, T>()
     asks_for_reset::<T>();
 }
 
-/// A request runs in the transaction that its header names, the one heard last when it was asked, or in
-/// none behind its full reset (MS-TDS 2.2.5.3.2).
+/// A request runs in the transaction that its header names, the one heard last when it was asked,
+/// or in none behind its full reset (MS-TDS 2.2.5.3.2).
 pub fn own_transaction<V, T>()
     ensures { (engine : Engine V T) (max n : ℕ) (calls : List (Call T))
         (moves : List (Move T))
@@ -84,8 +84,8 @@ pub fn own_transaction<V, T>()
 
 /// From a mark on, which each lease of a used connection sets and each ticket's
 /// (`tds_service::table_laws::asks_for_reset`), each request that runs asks for that reset, and the
-/// server runs nothing before it is done: the first that runs finds a fresh session, or the transaction
-/// that was kept, without settings.
+/// server runs nothing before it is done: the first that runs finds a fresh session, or the
+/// transaction that was kept, without settings.
 pub fn fresh_start<V, T>()
     ensures { (engine : Engine V T) (max n : ℕ) (calls : List (Call T))
         (moves : List (Move T))
@@ -95,8 +95,8 @@ pub fn fresh_start<V, T>()
     each_alone::<T>();
 }
 
-/// Where an idle connection is found clean, which is when a cleaning frees it, its server has done the
-/// reset that was marked last, and is in no transaction.
+/// Where an idle connection is found clean, which is when a cleaning frees it, its server has done
+/// the reset that was marked last, and is in no transaction.
 pub fn left_clean<V, T>()
     ensures { (engine : Engine V T) (max n : ℕ) (calls : List (Call T))
         (moves : List (Move T))
@@ -111,8 +111,8 @@ pub fn left_clean<V, T>()
     each_alone::<T>();
 }
 
-/// While an answer or an acknowledgement is awaited there is a packet that the server may take, a thing
-/// that it may say, or something on its way to the client (each of which leaves less to do: `laws`).
+/// While an answer or an acknowledgement is awaited there is a packet that the server may take, a
+/// thing that it may say, or something on its way to the client (each leaves less to do: `laws`).
 pub fn never_stuck<V, T>()
     ensures { (engine : Engine V T) (max n : ℕ) (calls : List (Call T))
         (moves : List (Move T))

@@ -2,7 +2,7 @@
 
 use crate::call::{Call, Parameter, Procedure, declared};
 use crate::plan::{Deed, End, Plan};
-use crate::session::{Habits, LONGEST, MOST, Prepared};
+use crate::session::{Habits, LONGEST, MOST, Prepared, ROOM};
 use crate::text::{own, units_in};
 use std::alloc::AllocError;
 
@@ -130,9 +130,7 @@ impl Habits {
     /// Keeps a text that is prepared, and answers its handle.
     fn prepare(&mut self, call: &Call<'_>, text: &[u16]) -> Result<u32, AllocError> {
         let declarations = self.text_at(call, 1)?;
-        if self.prepared.len() >= MOST {
-            let _ = self.prepared.remove(0);
-        }
+        self.make_room();
         self.handles = self.handles.saturating_add(1);
         let kept = text.get(..LONGEST + 1).unwrap_or(text);
         let text = own(self.alloc, kept)?;
@@ -143,6 +141,31 @@ impl Habits {
             declarations,
         })?;
         Ok(handle)
+    }
+
+    /// Forgets the oldest texts that were prepared until there is room for one more.
+    fn make_room(&mut self) {
+        for _ in 0..MOST {
+            if self.prepared.len() < MOST && self.kept() <= ROOM {
+                return;
+            }
+            if !self.prepared.is_empty() {
+                let _ = self.prepared.remove(0);
+            }
+        }
+    }
+
+    /// How many units the texts that were prepared have.
+    fn kept(&self) -> usize {
+        let mut count: usize = 0;
+        for prepared in &self.prepared {
+            let units = prepared
+                .text
+                .len()
+                .saturating_add(prepared.declarations.len());
+            count = count.saturating_add(units);
+        }
+        count
     }
 
     /// Forgets a text that was prepared.

@@ -155,9 +155,9 @@ impl<E: Engine + Drop> Held<E> {
         }
     }
 
-    /// One that is being cleaned is free once its answer has come. What the pool would close then, no
-    /// play of the batch language comes to: it is where the answer left a transaction, or the reset
-    /// was not done, and the play ends there.
+    /// One that is being cleaned is free once its answer has come. What the pool would close then is
+    /// where the answer left a transaction, or the reset was not done, and the play ends there. Where
+    /// the carrier brings what it was handed, no play of the batch language comes to that.
     pub(super) fn look_at_cleaning(&mut self, pool: &mut Pool) -> Result<(), NoMemory>
         requires live { self.old.link.is_cut ≡ false }
         requires cleans { is_cleaned (numbered self.old.link.number (connections pool.old)) ≡ true }
