@@ -4,6 +4,7 @@ pub mod Joining
 pub mod Packeting
 pub mod Answering
 pub mod Arriving
+pub mod Keeping
 pub mod Pairing
 pub mod Walks
 pub mod Knowing
