@@ -14,6 +14,7 @@ pub mod Alike
 pub mod Coming
 pub mod Alone
 pub mod Naming
+pub mod Others
 pub mod Lifted
 pub mod Lends
 pub mod Idle

@@ -2,7 +2,7 @@
 //! of each connection in the words of `Promises`. Each function does nothing when it runs: its contract
 //! is the law.
 
-ghost use Rattle.std.specs.Prelude.{◌≡◌, ◌≤◌, ◌<◌, ◌+◌, ℕ, List, Bool, None, Some, false};
+ghost use Rattle.std.specs.Prelude.{◌≡◌, ◌≢◌, ◌≤◌, ◌<◌, ◌+◌, ℕ, List, Bool, None, Some, false};
 ghost use Rattle.std.specs.Prelude.{length};
 ghost use Rattle.tds_service.specs.Line.{new_line};
 ghost use Rattle.tds_service.specs.History.{history, acts_of, line_after};
@@ -40,6 +40,12 @@ pub fn a_fault_stays<T>()
         → acts_of (on n (steps (new_service max) calls))
         ≡ acts_of (on n (steps (new_service most) others))
         → on n (steps (new_service max) calls) ≡ on n (steps (new_service most) others) }
+{}
+
+/// A call leaves every connection as it is but the one that it reaches: its line, and who holds it.
+pub fn others_stay<T>()
+    ensures { (s : Service) (call : Call T) (n : ℕ) (c : Seat) → (step s call).number ≢ n
+        → seat_numbered n s.seats ≡ Some c → seat_numbered n (step s call).service.seats ≡ Some c }
 {}
 
 /// What a request is given are the tokens of its own message, in order, and nothing else.
