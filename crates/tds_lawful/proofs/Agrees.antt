@@ -1,8 +1,5 @@
 -- Where the line is idle all is quiet; no fault; and each request runs where its header says.
-use Rattle.std.proofs.Common.{◌≡◌, ◌∙◌, ◌⊎◌, ℕ, Bool, true, false, List, [], ◌∷◌, sym, ap, subst, inl, inr}
-use Rattle.std.specs.Prelude.{Option}
-use Rattle.tds_packet.specs.declared.status.Reset.{Reset}
-use Rattle.tds_packet.specs.Resets.{header_descriptor}
+use Rattle.std.proofs.Common.{◌≡◌, ◌⊎◌, ℕ, Bool, true, false, List, [], ◌∷◌, sym, subst, inl, inr}
 use Rattle.tds_client.specs.declared.heard.Heard.{Heard}
 use Rattle.tds_service.specs.Parts.{Part}
 use Rattle.tds_service.specs.Line as lines
@@ -12,8 +9,8 @@ use Rattle.tds_lawful.specs.Lawful.{Engine, IsLawful}
 use Rattle.tds_lawful.specs.Link as links
 use Rattle.tds_lawful.specs.Link.{Link, Move, Runs, Server, Asking, Up, ups, Comes, TakesNext, goes, here, link_after, taken}
 use Rattle.tds_lawful.specs.Answering.{IsNoFault, NoFault, UnlessLost}
-use Rattle.tds_lawful.specs.Agreeing.{IsQuiet, NextInNamed, AllInNamed}
-use Rattle.tds_lawful.proofs.Flow.{AreParts, IsWhole, IsIgnored, Still, Named, Quiet, Flow, FlowOn}
+use Rattle.tds_lawful.specs.Agreeing.{IsQuiet}
+use Rattle.tds_lawful.proofs.Flow.{Quiet, Flow, FlowOn}
 use Rattle.tds_lawful.proofs.Coming.{line, nothing_comes, read_comes, ReadsOn, ReadsOut, skip_comes, SkipsOn, SkipsOut}
 use Rattle.tds_lawful.proofs.Taking.{keeps_takes}
 use Rattle.tds_lawful.proofs.Keeps.{keeps_act, keeps_speaks}
@@ -32,51 +29,60 @@ abbrev pub NotBroken : Stage → Type 0
 NotBroken (Broken fault) = ⊥
 NotBroken stage = Unit {0}
 
+-- The client isn't broken by an act, unless that loses the connection.
+abbrev pub Unbroken : {T : Type 0} → Act T → Stage → Type 0
+Unbroken (Mark reset) stage = NotBroken stage
+Unbroken Ask stage = NotBroken stage
+Unbroken (Send last) stage = NotBroken stage
+Unbroken Cancel stage = NotBroken stage
+Unbroken (Come part) stage = NotBroken stage
+Unbroken Lose stage = Unit {0}
+
 -- The answer is no fault; and where it isn't a loss, the client isn't broken.
-abbrev pub Sound : {T : Type 0} → Turn T → Type 0
-Sound t = IsNoFault t.answer × UnlessLost t.answer (NotBroken t.line.stage)
+abbrev pub Sound : {T : Type 0} → Act T → Turn T → Type 0
+Sound a t = IsNoFault t.answer × UnlessLost t.answer (NotBroken t.line.stage) × Unbroken a t.line.stage
 
 sound_read : {V T : Type 0} (engine : Engine V T) (n : ℕ) (h : Heard) (link : Link V T) (part : Part T)
-    → ReadsOn engine n h link part ⊎ ReadsOut n h link part → Sound (turn (line n Reading h) (Come part))
-sound_read {V} {T} engine n h link part (inl r) = subst (λ (t : Turn T). Sound t) (sym r.is) (tt, tt)
-sound_read {V} {T} engine n h link part (inr r) = subst (λ (t : Turn T). Sound t) (sym r.is) (tt, tt)
+    → ReadsOn engine n h link part ⊎ ReadsOut n h link part → Sound (Come part) (turn (line n Reading h) (Come part))
+sound_read {V} {T} engine n h link part (inl r) = subst (λ (t : Turn T). Sound (Come part) t) (sym r.is) (tt, tt, tt)
+sound_read {V} {T} engine n h link part (inr r) = subst (λ (t : Turn T). Sound (Come part) t) (sym r.is) (tt, tt, tt)
 
 sound_skip : {V T : Type 0} (n : ℕ) (h : Heard) (stopped : Bool) (link : Link V T) (part : Part T)
-    → SkipsOn n h stopped link part ⊎ SkipsOut n h link part → Sound (turn (line n Cancelling h) (Come part))
-sound_skip {V} {T} n h stopped link part (inl r) = subst (λ (t : Turn T). Sound t) (sym r.is) (tt, tt)
-sound_skip {V} {T} n h stopped link part (inr r) = subst (λ (t : Turn T). Sound t) (sym r.is) (tt, tt)
+    → SkipsOn n h stopped link part ⊎ SkipsOut n h link part → Sound (Come part) (turn (line n Cancelling h) (Come part))
+sound_skip {V} {T} n h stopped link part (inl r) = subst (λ (t : Turn T). Sound (Come part) t) (sym r.is) (tt, tt, tt)
+sound_skip {V} {T} n h stopped link part (inr r) = subst (λ (t : Turn T). Sound (Come part) t) (sym r.is) (tt, tt, tt)
 
 pub sound : {V T : Type 0} (engine : Engine V T) (n : ℕ) (stage : Stage) (h : Heard) (link : Link V T) (a : Act T)
-    → NotBroken stage → Flow engine n stage h link → Comes a link.down link.server.due → Sound (turn (line n stage h) a)
-sound engine n Idle h link (Mark reset) b f c = (tt, tt)
-sound engine n Idle h link Ask b f c = (tt, tt)
-sound engine n Idle h link (Send last) b f c = (tt, tt)
-sound engine n Idle h link Cancel b f c = (tt, tt)
+    → NotBroken stage → Flow engine n stage h link → Comes a link.down link.server.due → Sound a (turn (line n stage h) a)
+sound engine n Idle h link (Mark reset) b f c = (tt, tt, tt)
+sound engine n Idle h link Ask b f c = (tt, tt, tt)
+sound engine n Idle h link (Send last) b f c = (tt, tt, tt)
+sound engine n Idle h link Cancel b f c = (tt, tt, tt)
 sound engine n Idle h link (Come part) b f c = absurd (nothing_comes h link part f.still c)
-sound engine n Idle h link Lose b f c = (tt, tt)
-sound engine n (Sending begun) h link (Mark reset) b f c = (tt, tt)
-sound engine n (Sending begun) h link Ask b f c = (tt, tt)
-sound engine n (Sending begun) h link (Send false) b f c = (tt, tt)
-sound engine n (Sending begun) h link (Send true) b f c = (tt, tt)
-sound engine n (Sending false) h link Cancel b f c = (tt, tt)
-sound engine n (Sending true) h link Cancel b f c = (tt, tt)
+sound engine n Idle h link Lose b f c = (tt, tt, tt)
+sound engine n (Sending begun) h link (Mark reset) b f c = (tt, tt, tt)
+sound engine n (Sending begun) h link Ask b f c = (tt, tt, tt)
+sound engine n (Sending begun) h link (Send false) b f c = (tt, tt, tt)
+sound engine n (Sending begun) h link (Send true) b f c = (tt, tt, tt)
+sound engine n (Sending false) h link Cancel b f c = (tt, tt, tt)
+sound engine n (Sending true) h link Cancel b f c = (tt, tt, tt)
 sound engine n (Sending false) h link (Come part) b f c = absurd (nothing_comes h link part f.0.still c)
 sound engine n (Sending true) h link (Come part) b f c = absurd (nothing_comes h link part f.still c)
-sound engine n (Sending begun) h link Lose b f c = (tt, tt)
-sound engine n Reading h link (Mark reset) b f c = (tt, tt)
-sound engine n Reading h link Ask b f c = (tt, tt)
-sound engine n Reading h link (Send last) b f c = (tt, tt)
-sound engine n Reading h link Cancel b f c = (tt, tt)
+sound engine n (Sending begun) h link Lose b f c = (tt, tt, tt)
+sound engine n Reading h link (Mark reset) b f c = (tt, tt, tt)
+sound engine n Reading h link Ask b f c = (tt, tt, tt)
+sound engine n Reading h link (Send last) b f c = (tt, tt, tt)
+sound engine n Reading h link Cancel b f c = (tt, tt, tt)
 sound engine n Reading h link (Come part) b (inl f) c = absurd (nothing_comes h link part f.still c)
 sound engine n Reading h link (Come part) b (inr f) c = sound_read engine n h link part (read_comes engine n h link part f c)
-sound engine n Reading h link Lose b f c = (tt, tt)
-sound engine n Cancelling h link (Mark reset) b f c = (tt, tt)
-sound engine n Cancelling h link Ask b f c = (tt, tt)
-sound engine n Cancelling h link (Send last) b f c = (tt, tt)
-sound engine n Cancelling h link Cancel b f c = (tt, tt)
+sound engine n Reading h link Lose b f c = (tt, tt, tt)
+sound engine n Cancelling h link (Mark reset) b f c = (tt, tt, tt)
+sound engine n Cancelling h link Ask b f c = (tt, tt, tt)
+sound engine n Cancelling h link (Send last) b f c = (tt, tt, tt)
+sound engine n Cancelling h link Cancel b f c = (tt, tt, tt)
 sound engine n Cancelling h link (Come part) b (inl f) c = absurd (nothing_comes h link part f.still c)
 sound engine n Cancelling h link (Come part) b (inr (stopped, f)) c = sound_skip n h stopped link part (skip_comes n h stopped link part f c)
-sound engine n Cancelling h link Lose b f c = (tt, tt)
+sound engine n Cancelling h link Lose b f c = (tt, tt, tt)
 sound engine n (Broken fault) h link a b f c = absurd b
 
 -- Behind an answer that isn't a loss the rest may be looked at.
@@ -99,7 +105,7 @@ pub no_fault : {V T : Type 0} (engine : Engine V T) (lawful : IsLawful engine) (
     → NotBroken l.stage → FlowOn engine l link → Runs engine link (moves_by l plan) → NoFault (here (moves_by l plan))
 no_fault engine lawful l link [] b f runs = tt
 no_fault engine lawful l link (Does a ∷ plan) b f runs =
-    let s : Sound (turn l a) = sound engine l.asked l.stage l.heard link a b f runs.0 in (
+    let s : Sound a (turn l a) = sound engine l.asked l.stage l.heard link a b f runs.0 in (
       s.0,
       then_rest (turn l a).answer (NotBroken (turn l a).line.stage) (NoFault (here (moves_by (turn l a).line plan))) s.1
           (λ (c : NotBroken (turn l a).line.stage). no_fault engine lawful (turn l a).line (goes engine link (links.Here (done_by a (turn l a)))) plan c
@@ -109,67 +115,3 @@ no_fault engine lawful l link (Takes ∷ plan) b f runs =
     no_fault engine lawful l (goes engine link links.Takes) plan b (keeps_takes engine lawful l.asked l.stage l.heard link f runs.0) runs.1
 no_fault engine lawful l link (Speaks ∷ plan) b f runs =
     no_fault engine lawful l (goes engine link links.Speaks) plan b (keeps_speaks engine l.asked l.stage l.heard link f runs.0) runs.1
-
--- ---- Where a request runs
-
-whole_named : {V T : Type 0} (n : ℕ) (h : Heard) (link : Link V T) (others packets : List Packet) → Still h link → Named n h link
-    → IsWhole n h.mark others link.server.reset packets → NextInNamed link.server (ups link.asking packets)
-whole_named n h link others [] s named are = tt
-whole_named n h link others (OfRequest request first own false ∷ packets) s named are = tt
-whole_named n h link others (OfRequest request first own true ∷ packets) s named are = (
-  named.0 ∙ sym are.0,
-  named.1 ∙ ap (header_descriptor h.mark) s.transaction ∙ ap (λ (m : Option Reset). header_descriptor m link.server.session.transaction) (sym are.1),
-)
-whole_named n h link others (Ignore request ∷ packets) s named are = tt
-whole_named n h link others (Attention ∷ packets) s named are = tt
-
-parts_named : {V T : Type 0} (n : ℕ) (h : Heard) (link : Link V T) (packets : List Packet)
-    → AreParts n h.mark link.server.reset packets → NextInNamed link.server (ups link.asking packets)
-parts_named n h link [] are = tt
-parts_named n h link (OfRequest request first own false ∷ packets) are = tt
-parts_named n h link (OfRequest request first own true ∷ packets) are = absurd are
-parts_named n h link (Ignore request ∷ packets) are = tt
-parts_named n h link (Attention ∷ packets) are = tt
-
-ignored_named : {V T : Type 0} (link : Link V T) (packets : List Packet) → IsIgnored packets → NextInNamed link.server (ups link.asking packets)
-ignored_named link [] are = tt
-ignored_named link (OfRequest request first own false ∷ packets) are = tt
-ignored_named link (OfRequest request first own true ∷ packets) are = absurd are
-ignored_named link (Ignore request ∷ packets) are = tt
-ignored_named link (Attention ∷ packets) are = tt
-
-left_named : {V T : Type 0} (n : ℕ) (h : Heard) (link : Link V T) (packets : List Packet) → Still h link → Named n h link
-    → IsWhole n h.mark (Attention ∷ []) link.server.reset packets ⊎ IsIgnored packets → NextInNamed link.server (ups link.asking packets)
-left_named n h link packets s named (inl are) = whole_named n h link (Attention ∷ []) packets s named are
-left_named n h link packets s named (inr are) = ignored_named link packets are
-
-named_up : {V T : Type 0} (link : Link V T) (u : List Up) → link.up ≡ u → NextInNamed link.server u → NextInNamed link.server link.up
-named_up link u e r = subst (λ (x : List Up). NextInNamed link.server x) (sym e) r
-
-next_named : {V T : Type 0} (engine : Engine V T) (n : ℕ) (stage : Stage) (h : Heard) (link : Link V T)
-    → NotBroken stage → Flow engine n stage h link → NextInNamed link.server link.up
-next_named engine n Idle h link b f = named_up link [] f.up tt
-next_named engine n (Sending false) h link b f = named_up link [] f.0.up tt
-next_named engine n (Sending true) h link b f = named_up link (ups link.asking f.packets) f.up (parts_named n h link f.packets f.are)
-next_named engine n Reading h link b (inl f) = named_up link (ups link.asking f.packets) f.up (whole_named n h link [] f.packets f.still f.named f.are)
-next_named engine n Reading h link b (inr f) = named_up link [] f.up tt
-next_named engine n Cancelling h link b (inl f) = named_up link (ups link.asking f.packets) f.up (left_named n h link f.packets f.still f.named f.are)
-next_named engine n Cancelling h link b (inr (true, f)) = named_up link [] f.up tt
-next_named engine n Cancelling h link b (inr (false, f)) = named_up link (ups link.asking (Attention ∷ [])) f.up tt
-next_named engine n (Broken fault) h link b f = absurd b
-
-pub all_named : {V T : Type 0} (engine : Engine V T) (lawful : IsLawful engine) (l : Line) (link : Link V T) (plan : List (Planned T))
-    → NotBroken l.stage → FlowOn engine l link → Runs engine link (moves_by l plan) → AllInNamed engine link (moves_by l plan)
-all_named engine lawful l link [] b f runs = tt
-all_named engine lawful l link (Does a ∷ plan) b f runs =
-    let s : Sound (turn l a) = sound engine l.asked l.stage l.heard link a b f runs.0 in
-    let next = goes engine link (links.Here (done_by a (turn l a))) in
-    then_rest (turn l a).answer (NotBroken (turn l a).line.stage) (AllInNamed engine next (moves_by (turn l a).line plan)) s.1
-    (λ (c : NotBroken (turn l a).line.stage). all_named engine lawful (turn l a).line next plan c
-    (keeps_act engine l.asked l.stage l.heard link a f runs.0) runs.1)
-all_named engine lawful l link (Takes ∷ plan) b f runs = (
-  next_named engine l.asked l.stage l.heard link b f,
-  all_named engine lawful l (goes engine link links.Takes) plan b (keeps_takes engine lawful l.asked l.stage l.heard link f runs.0) runs.1,
-)
-all_named engine lawful l link (Speaks ∷ plan) b f runs =
-    all_named engine lawful l (goes engine link links.Speaks) plan b (keeps_speaks engine l.asked l.stage l.heard link f runs.0) runs.1

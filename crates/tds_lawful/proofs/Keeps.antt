@@ -79,7 +79,7 @@ as_before link = record { up = link.up ++ []; server = link.server; down = link.
 pub same_link : {V T : Type 0} (link : Link V T) → as_before link ≡ link
 same_link link = ap (λ (u : List Up). record { up = u; server = link.server; down = link.down; asking = link.asking }) (append_nothing link.up)
 
-stays : {V T : Type 0} (engine : Engine V T) (n : ℕ) (stage : Stage) (h : Heard) (link : Link V T)
+pub stays : {V T : Type 0} (engine : Engine V T) (n : ℕ) (stage : Stage) (h : Heard) (link : Link V T)
     → Flow engine n stage h link → Flow engine n stage h (as_before link)
 stays {V} {T} engine n stage h link f = subst (λ (k : Link V T). Flow engine n stage h k) (sym (same_link link)) f
 

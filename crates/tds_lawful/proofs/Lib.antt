@@ -6,11 +6,14 @@ pub mod Taking
 pub mod Keeps
 pub mod Plans
 pub mod Agrees
+pub mod Lost
+pub mod Named
 pub mod Past
 pub mod Own
 pub mod Later
 pub mod Examples
 pub mod Starts
+pub mod Besides
 pub mod Works
 pub mod Leaves
 pub mod Runs

@@ -10,8 +10,9 @@ use Rattle.tds_lawful.specs.Answering.{NoFault, answered}
 use Rattle.tds_lawful.specs.Working.{CanGo, Waits}
 use Rattle.tds_lawful.specs.Starting.{IsLeftClean, StartsFresh, owed_after}
 use Rattle.tds_lawful.specs.Agreeing.{AllInNamed, IsQuiet}
+use Rattle.tds_lawful.specs.Alone.{IsBeside, ResetsFirst, answered_alone, beside_after, new_beside}
 use Rattle.tds_lawful.proofs.Past.{IsOwn}
-use Rattle.tds_lawful.proofs.Runs.{goes_on, idle_quiet, leaves_clean, never_faults, own_answer, runs_fresh, runs_in_named}
+use Rattle.tds_lawful.proofs.Runs.{ends_alone, goes_on, idle_quiet, leaves_clean, never_faults, own_answer, runs_fresh, runs_in_named, told_alone}
 
 -- What was done there is a history of a connection by itself.
 abbrev pub Alone : {T : Type 0} → List (Done T) → Type 0
@@ -51,3 +52,13 @@ pub clean_there : {V T : Type 0} (engine : Engine V T) (moves : List (Move T)) (
     → is_clean (line_after new_line (acts_of ds)).heard.mark (line_after new_line (acts_of ds)).heard.descriptor ≡ true
     → IsLeftClean (owed_after engine None (new_link engine) moves) (link_after engine (new_link engine) moves)
 clean_there engine moves ds a lawful run = leaves_clean engine (acts_of ds) moves lawful (alone_run engine moves ds a run)
+
+pub alone_there : {V T : Type 0} (engine : Engine V T) (moves : List (Move T)) (ds : List (Done T)) (r : ℕ) → Alone ds → IsLawful engine → ResetsFirst engine → IsRun engine moves ds
+    → IsOwn r ds (answered_alone engine (new_beside engine) r moves)
+alone_there {V} {T} engine moves ds r a lawful first run =
+    subst (λ (xs : List (Done T)). IsOwn r xs (answered_alone engine (new_beside engine) r moves)) (sym a)
+    (told_alone engine (acts_of ds) moves r lawful first (alone_run engine moves ds a run))
+
+pub beside_there : {V T : Type 0} (engine : Engine V T) (moves : List (Move T)) (ds : List (Done T)) → Alone ds → IsLawful engine → ResetsFirst engine → IsRun engine moves ds
+    → IsBeside engine.settings (beside_after engine (new_beside engine) moves)
+beside_there engine moves ds a lawful first run = ends_alone engine (acts_of ds) moves lawful first (alone_run engine moves ds a run)

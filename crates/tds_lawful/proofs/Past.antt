@@ -31,6 +31,13 @@ pub record IsOwn {V T : Type 0} (r : ℕ) (ds : List (Done T)) (steps : List (St
   pub begins : Begins (given r ds) (told_of steps)
   pub whole : finishes r ds ≡ true → given r ds ≡ told_of steps
 
+-- It speaks of what is told of them alone.
+pub own_alike : {V T : Type 0} (r : ℕ) (ds : List (Done T)) (xs ys : List (Step V T)) → told_of xs ≡ told_of ys → IsOwn r ds xs → IsOwn r ds ys
+own_alike {V} {T} r ds xs ys e o = record {
+  begins = (o.begins.0, o.begins.1 ∙ e);
+  whole = λ (w : finishes r ds ≡ true). o.whole w ∙ e;
+}
+
 -- It is told nothing.
 pub record Silent {T : Type 0} (r : ℕ) (ds : List (Done T)) : Type 0 where
   pub given_nothing : given r ds ≡ []

@@ -10,15 +10,18 @@ use Rattle.tds_lawful.specs.Answering.{NoFault, answered}
 use Rattle.tds_lawful.specs.Working.{CanGo, Waits}
 use Rattle.tds_lawful.specs.Starting.{IsLeftClean, StartsFresh, owed_after}
 use Rattle.tds_lawful.specs.Agreeing.{AllInNamed, IsQuiet}
+use Rattle.tds_lawful.specs.Alone.{IsBeside, ResetsFirst, answered_alone, beside_after, new_beside}
 use Rattle.tds_lawful.proofs.Flow.{FlowOn}
 use Rattle.tds_lawful.proofs.Plans.{Follows, Planned, acts_in, flow_after, follows, moves_by}
-use Rattle.tds_lawful.proofs.Past.{IsOwn, own_silent, past}
+use Rattle.tds_lawful.proofs.Past.{IsOwn, own_alike, own_silent, past}
 use Rattle.tds_lawful.proofs.Own.{OwnOf, ds_by}
 use Rattle.tds_lawful.proofs.Later.{own_later}
 use Rattle.tds_lawful.proofs.Starts.{starts_fresh}
 use Rattle.tds_lawful.proofs.Leaves.{Knows, clean_on, knows_after}
 use Rattle.tds_lawful.proofs.Works.{can_go}
-use Rattle.tds_lawful.proofs.Agrees.{all_named, no_fault, quiet_on}
+use Rattle.tds_lawful.proofs.Agrees.{no_fault, quiet_on}
+use Rattle.tds_lawful.proofs.Named.{all_named}
+use Rattle.tds_lawful.proofs.Besides.{AsAlone, as_alone, twin_new}
 
 -- Behind a login all is quiet.
 pub new_flow : {V T : Type 0} (engine : Engine V T) → FlowOn engine new_line (new_link engine)
@@ -101,3 +104,27 @@ leaves_clean {V} {T} engine acts moves lawful run e c =
     (subst (λ (xs : List (Act T)). Knows (owed_after engine None (new_link engine) moves) (line_after new_line xs) (link_after engine (new_link engine) moves)) (sym f.acts_are)
     (subst (λ (ms : List (Move T)). Knows (owed_after engine None (new_link engine) ms) (line_after new_line (acts_in f.plan)) (link_after engine (new_link engine) ms)) (sym f.moves_are)
     (knows_after engine lawful None new_line (new_link engine) f.plan (new_flow engine) (λ _. refl) (planned engine acts moves run f)))) c
+
+-- Both servers are the same behind a login.
+runs_alone : {V T : Type 0} (engine : Engine V T) (acts : List (Act T)) (moves : List (Move T)) (r : ℕ) → IsLawful engine → ResetsFirst engine
+    → IsRun engine moves (history new_line acts) → AsAlone engine r (new_beside engine) moves
+runs_alone {V} {T} engine acts moves r lawful first run =
+    let f = run_of engine acts moves run in
+    let fresh = runs_fresh engine acts moves lawful run in
+    let named = runs_in_named engine acts moves lawful run in
+    subst (λ (ms : List (Move T)). AsAlone engine r (new_beside engine) ms) (sym f.moves_are)
+    (as_alone engine lawful first r None (new_beside engine).own new_line (new_link engine) f.plan (new_flow engine)
+    (twin_new T engine.settings None (new_link engine).server.session)
+    (subst (λ (ms : List (Move T)). StartsFresh engine None (new_link engine) ms) f.moves_are fresh)
+    (subst (λ (ms : List (Move T)). AllInNamed engine (new_link engine) ms) f.moves_are named)
+    (planned engine acts moves run f))
+
+pub told_alone : {V T : Type 0} (engine : Engine V T) (acts : List (Act T)) (moves : List (Move T)) (r : ℕ) → IsLawful engine → ResetsFirst engine
+    → IsRun engine moves (history new_line acts) → IsOwn r (history new_line acts) (answered_alone engine (new_beside engine) r moves)
+told_alone engine acts moves r lawful first run =
+    own_alike r (history new_line acts) (answered engine (new_link engine) r moves) (answered_alone engine (new_beside engine) r moves)
+    (runs_alone engine acts moves r lawful first run).told (own_answer engine acts moves r lawful run)
+
+pub ends_alone : {V T : Type 0} (engine : Engine V T) (acts : List (Act T)) (moves : List (Move T)) → IsLawful engine → ResetsFirst engine
+    → IsRun engine moves (history new_line acts) → IsBeside engine.settings (beside_after engine (new_beside engine) moves)
+ends_alone engine acts moves lawful first run = (runs_alone engine acts moves 0 lawful first run).ends

@@ -3,6 +3,8 @@ use Rattle.std.proofs.Common.{◌≡◌, ◌∙◌, ◌⊎◌, ◌||◌, ℕ, Bo
 use Rattle.std.specs.Prelude.{Option, Some, None, if◌then◌else◌}
 use Rattle.tds_packet.specs.declared.status.Reset.{Reset}
 use Rattle.tds_packet.specs.Resets.{strongest}
+use Rattle.tds_client.specs.declared.fault.ClientFault.{ClientFault}
+use Rattle.tds_client.specs.declared.fault.ClientFault.TheVariants as faults
 use Rattle.tds_client.specs.declared.heard.Heard.{Heard}
 use Rattle.tds_client.specs.Acts.{is_acknowledgement}
 use Rattle.tds_service.specs.Parts.{Part}
@@ -10,15 +12,16 @@ use Rattle.tds_service.specs.Line.{Line, Stage, Idle, Sending, Reading, Cancelli
 use Rattle.tds_service.specs.History.{done_by}
 use Rattle.tds_lawful.specs.Lawful.{Session, Step, Says, Ends, Breaks, Engine, IsLawful, IsAnswer, IsStop, UnlessAcknowledged, final_by}
 use Rattle.tds_lawful.specs.Link as links
-use Rattle.tds_lawful.specs.Link.{Link, Move, Runs, Server, Asking, Up, ups, Comes, HasSome, TakesNext, behind_act, goes, taken, takes, spoken, session_behind}
+use Rattle.tds_lawful.specs.Link.{Link, Runs, Server, Asking, Up, ups, Comes, HasSome, behind_act, done_here, goes, taken, takes, spoken, session_behind}
 use Rattle.tds_lawful.specs.Starting.{owed_here, owed_behind, owed_next, RunsAsOwed, NextAsOwed, SaidAsOwed, StartsFresh}
 use Rattle.tds_lawful.proofs.Chains.{marks}
 use Rattle.tds_lawful.proofs.Flow.{AreParts, IsWhole, IsIgnored, Still, Flow, FlowOn}
 use Rattle.tds_lawful.proofs.Coming.{line, nothing_comes, read_comes, ReadsOn, ReadsOut, skip_comes, SkipsOn, SkipsOut}
 use Rattle.tds_lawful.proofs.Taking.{keeps_takes}
-use Rattle.tds_lawful.proofs.Keeps.{keeps_act, keeps_speaks}
+use Rattle.tds_lawful.proofs.Keeps.{keeps_act, keeps_speaks, stays}
 use Rattle.tds_lawful.proofs.Plans.{Planned, Does, Takes, Speaks, moves_by}
-use Rattle.tds_lawful.proofs.Agrees.{NotBroken, Sound, sound, then_rest}
+use Rattle.tds_lawful.proofs.Agrees.{NotBroken, sound}
+use Rattle.tds_lawful.proofs.Lost.{Was, said_down, spoken_down, was_speaks, was_takes, with_down}
 
 -- ---- What is due is the rest of an answer, or of what is said to an attention
 
@@ -244,19 +247,104 @@ next_owed engine owed n (Broken fault) h link b f o = absurd b
 
 -- ---- Along a run
 
+-- behind a loss of the connection
+abbrev pub Lost : {V T : Type 0} → Engine V T → Option Reset → ℕ → Stage → Heard → List (Step V T) → Link V T → Type 0
+Lost engine owed n stage h down link = NotBroken stage × Was engine n stage h down link × Owes owed h (with_down link down) × DueOn engine owed link
+
+owes_lost : {V T : Type 0} (engine : Engine V T) (owed : Option Reset) (h : Heard) (down : List (Step V T)) (link : Link V T) (u : List Up)
+    → Owes owed h (with_down link down) → Owes owed h (with_down (taken engine link u) down)
+owes_lost engine owed h down link [] o = o
+owes_lost engine owed h down link (next ∷ others) o = o
+
+owes_said : {V T : Type 0} (owed : Option Reset) (h : Heard) (down : List (Step V T)) (link : Link V T) (due : List (Step V T)) → HasSome due
+    → Owes owed h (with_down link down) → Owes (owed_next owed due) h (with_down (spoken link due) (said_down down due))
+owes_said {V} {T} owed h down link due t o =
+    subst (λ (k : Link V T). Owes (owed_next owed due) h k) (sym (spoken_down link down due)) (owes_spoken owed h (with_down link down) due t o)
+
+fresh_lost : {V T : Type 0} (engine : Engine V T) (lawful : IsLawful engine) (owed : Option Reset) (n : ℕ) (stage : Stage) (h : Heard) (down : List (Step V T)) (fault : ClientFault) (last : Heard) (link : Link V T) (plan : List (Planned T))
+    → Lost engine owed n stage h down link → Runs engine link (moves_by (line n (Broken fault) last) plan)
+    → StartsFresh engine owed link (moves_by (line n (Broken fault) last) plan)
+fresh_lost engine lawful owed n stage h down fault last link [] w runs = tt
+fresh_lost engine lawful owed n stage h down fault last link (Does (Mark reset) ∷ plan) w runs =
+    fresh_lost engine lawful owed n stage h down fault last _ plan (w.0, stays engine n stage h (with_down link down) w.1, w.2, w.3) runs.1
+fresh_lost engine lawful owed n stage h down fault last link (Does Ask ∷ plan) w runs =
+    fresh_lost engine lawful owed n stage h down fault last _ plan (w.0, stays engine n stage h (with_down link down) w.1, w.2, w.3) runs.1
+fresh_lost engine lawful owed n stage h down fault last link (Does (Send end) ∷ plan) w runs =
+    fresh_lost engine lawful owed n stage h down fault last _ plan (w.0, stays engine n stage h (with_down link down) w.1, w.2, w.3) runs.1
+fresh_lost engine lawful owed n stage h down fault last link (Does Cancel ∷ plan) w runs =
+    fresh_lost engine lawful owed n stage h down fault last _ plan (w.0, stays engine n stage h (with_down link down) w.1, w.2, w.3) runs.1
+fresh_lost engine lawful owed n stage h down fault last link (Does (Come part) ∷ plan) w runs =
+    fresh_lost engine lawful owed n stage h down fault last _ plan (w.0, stays engine n stage h (with_down link down) w.1, w.2, w.3) runs.1
+fresh_lost engine lawful owed n stage h down fault last link (Does Lose ∷ plan) w runs =
+    fresh_lost engine lawful owed n stage h down fault last _ plan (w.0, stays engine n stage h (with_down link down) w.1, w.2, w.3) runs.1
+fresh_lost engine lawful owed n stage h down fault last link (Takes ∷ plan) w runs =
+    let r : NextAsOwed owed link.server link.up = next_owed engine owed n stage h (with_down link down) w.0 w.1 w.2 in (
+      r,
+      fresh_lost engine lawful owed n stage h down fault last (goes engine link links.Takes) plan
+          (w.0, was_takes engine lawful n stage h down link w.1 runs.0, owes_lost engine owed h down link link.up w.2, due_taken engine lawful owed link link.up r w.3)
+          runs.1,
+    )
+fresh_lost engine lawful owed n stage h down fault last link (Speaks ∷ plan) w runs = (
+  said engine owed link.server.session link.server.due w.3,
+  fresh_lost engine lawful (owed_next owed link.server.due) n stage h (said_down down link.server.due) fault last (goes engine link links.Speaks) plan (
+    w.0,
+    was_speaks engine n stage h down link w.1 runs.0,
+    owes_said owed h down link link.server.due runs.0 w.2,
+    due_spoken engine owed link link.server.due refl runs.0 w.3,
+  )
+      runs.1,
+)
+
+-- it is lost now
+fresh_lose : {V T : Type 0} (engine : Engine V T) (lawful : IsLawful engine) (owed : Option Reset) (n : ℕ) (stage : Stage) (h : Heard) (link : Link V T) (plan : List (Planned T))
+    → NotBroken stage → Flow engine n stage h link → Owes owed h link → DueOn engine owed link
+    → Runs engine (done_here link (done_by Lose (turn (line n stage h) Lose))) (moves_by (turn {T = T} (line n stage h) Lose).line plan)
+    → StartsFresh engine owed (done_here link (done_by Lose (turn (line n stage h) Lose))) (moves_by (turn {T = T} (line n stage h) Lose).line plan)
+fresh_lose engine lawful owed n Idle h link plan b f o d runs =
+    fresh_lost engine lawful owed n Idle h link.down faults.Lost h _ plan (tt, stays engine n Idle h link f, o, d) runs
+fresh_lose engine lawful owed n (Sending begun) h link plan b f o d runs =
+    fresh_lost engine lawful owed n (Sending begun) h link.down faults.Lost h _ plan (tt, stays engine n (Sending begun) h link f, o, d) runs
+fresh_lose engine lawful owed n Reading h link plan b f o d runs =
+    fresh_lost engine lawful owed n Reading h link.down faults.Lost h _ plan (tt, stays engine n Reading h link f, o, d) runs
+fresh_lose engine lawful owed n Cancelling h link plan b f o d runs =
+    fresh_lost engine lawful owed n Cancelling h link.down faults.Lost h _ plan (tt, stays engine n Cancelling h link f, o, d) runs
+fresh_lose engine lawful owed n (Broken fault) h link plan b f o d runs = absurd b
+
 pub starts_fresh : {V T : Type 0} (engine : Engine V T) (lawful : IsLawful engine) (owed : Option Reset) (l : Line) (link : Link V T) (plan : List (Planned T))
     → NotBroken l.stage → FlowOn engine l link → Owes owed l.heard link → DueOn engine owed link
     → Runs engine link (moves_by l plan) → StartsFresh engine owed link (moves_by l plan)
 starts_fresh engine lawful owed l link [] b f o d runs = tt
-starts_fresh engine lawful owed l link (Does a ∷ plan) b f o d runs =
-    let s : Sound (turn l a) = sound engine l.asked l.stage l.heard link a b f runs.0 in
-    let next = goes engine link (links.Here (done_by a (turn l a))) in
-    let now : Option Reset = owed_here owed a (turn l a).answer in
-    then_rest (turn l a).answer (NotBroken (turn l a).line.stage) (StartsFresh engine now next (moves_by (turn l a).line plan)) s.1
-    (λ (c : NotBroken (turn l a).line.stage). starts_fresh engine lawful now (turn l a).line next plan c
-    (keeps_act engine l.asked l.stage l.heard link a f runs.0)
-    (owes_act engine owed l.asked l.stage l.heard link a b f runs.0 o)
-    (due_act engine owed l.asked l.stage l.heard link a b f d) runs.1)
+starts_fresh {V} {T} engine lawful owed l link (Does (Mark reset) ∷ plan) b f o d runs =
+    starts_fresh engine lawful (owed_here {T = T} owed (Mark reset) (turn {T = T} l (Mark reset)).answer) (turn l (Mark reset)).line (goes engine link (links.Here (done_by (Mark reset) (turn l (Mark reset))))) plan
+    (sound engine l.asked l.stage l.heard link (Mark reset) b f runs.0).2
+    (keeps_act engine l.asked l.stage l.heard link (Mark reset) f runs.0)
+    (owes_act engine owed l.asked l.stage l.heard link (Mark reset) b f runs.0 o)
+    (due_act engine owed l.asked l.stage l.heard link (Mark reset) b f d) runs.1
+starts_fresh engine lawful owed l link (Does Ask ∷ plan) b f o d runs =
+    starts_fresh engine lawful owed (turn l Ask).line (goes engine link (links.Here (done_by Ask (turn l Ask)))) plan
+    (sound engine l.asked l.stage l.heard link Ask b f runs.0).2
+    (keeps_act engine l.asked l.stage l.heard link Ask f runs.0)
+    (owes_act engine owed l.asked l.stage l.heard link Ask b f runs.0 o)
+    (due_act engine owed l.asked l.stage l.heard link Ask b f d) runs.1
+starts_fresh engine lawful owed l link (Does (Send last) ∷ plan) b f o d runs =
+    starts_fresh engine lawful owed (turn l (Send last)).line (goes engine link (links.Here (done_by (Send last) (turn l (Send last))))) plan
+    (sound engine l.asked l.stage l.heard link (Send last) b f runs.0).2
+    (keeps_act engine l.asked l.stage l.heard link (Send last) f runs.0)
+    (owes_act engine owed l.asked l.stage l.heard link (Send last) b f runs.0 o)
+    (due_act engine owed l.asked l.stage l.heard link (Send last) b f d) runs.1
+starts_fresh engine lawful owed l link (Does Cancel ∷ plan) b f o d runs =
+    starts_fresh engine lawful owed (turn l Cancel).line (goes engine link (links.Here (done_by Cancel (turn l Cancel)))) plan
+    (sound engine l.asked l.stage l.heard link Cancel b f runs.0).2
+    (keeps_act engine l.asked l.stage l.heard link Cancel f runs.0)
+    (owes_act engine owed l.asked l.stage l.heard link Cancel b f runs.0 o)
+    (due_act engine owed l.asked l.stage l.heard link Cancel b f d) runs.1
+starts_fresh engine lawful owed l link (Does (Come part) ∷ plan) b f o d runs =
+    starts_fresh engine lawful owed (turn l (Come part)).line (goes engine link (links.Here (done_by (Come part) (turn l (Come part))))) plan
+    (sound engine l.asked l.stage l.heard link (Come part) b f runs.0).2
+    (keeps_act engine l.asked l.stage l.heard link (Come part) f runs.0)
+    (owes_act engine owed l.asked l.stage l.heard link (Come part) b f runs.0 o)
+    (due_act engine owed l.asked l.stage l.heard link (Come part) b f d) runs.1
+starts_fresh engine lawful owed l link (Does Lose ∷ plan) b f o d runs = fresh_lose engine lawful owed l.asked l.stage l.heard link plan b f o d runs.1
 starts_fresh engine lawful owed l link (Takes ∷ plan) b f o d runs =
     let r : NextAsOwed owed link.server link.up = next_owed engine owed l.asked l.stage l.heard link b f o in (
       r,

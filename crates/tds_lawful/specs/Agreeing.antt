@@ -4,7 +4,6 @@ use Rattle.tds_packet.specs.Resets.{header_descriptor}
 use Rattle.tds_service.specs.Line.{Line, Packet, OfRequest}
 use Rattle.tds_lawful.specs.Lawful.{Engine}
 use Rattle.tds_lawful.specs.Link.{Asking, Server, Up, Link, Move, Here, Takes, Speaks, goes}
-use Rattle.tds_lawful.specs.Answering.{UnlessLost}
 
 -- Nothing is on its way, in neither direction, the server has nothing to say, and both ends are in one transaction, or in none.
 pub record IsQuiet {V T : Type 0} (l : Line) (link : Link V T) : Type 0 where
@@ -24,9 +23,9 @@ abbrev pub NextInNamed : {V T : Type 0} → Server V T → List Up → Type 0
 NextInNamed server [] = Unit {0}
 NextInNamed server (next ∷ others) = RunsInNamed server next.asking next.packet
 
--- So it is of each request that the server takes, until the connection is lost.
+-- So it is of each request that the server takes, also behind a loss of the connection.
 abbrev pub AllInNamed : {V T : Type 0} → Engine V T → Link V T → List (Move T) → Type 0
 AllInNamed engine link [] = Unit {0}
-AllInNamed engine link (Here d ∷ moves) = UnlessLost d.answer (AllInNamed engine (goes engine link (Here d)) moves)
+AllInNamed engine link (Here d ∷ moves) = AllInNamed engine (goes engine link (Here d)) moves
 AllInNamed engine link (Takes ∷ moves) = NextInNamed link.server link.up × AllInNamed engine (goes engine link Takes) moves
 AllInNamed engine link (Speaks ∷ moves) = AllInNamed engine (goes engine link Speaks) moves

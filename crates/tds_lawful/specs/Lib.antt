@@ -4,3 +4,4 @@ pub mod Answering
 pub mod Agreeing
 pub mod Starting
 pub mod Working
+pub mod Alone

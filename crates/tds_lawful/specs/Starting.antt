@@ -5,7 +5,6 @@ use Rattle.tds_packet.specs.Resets.{strongest}
 use Rattle.tds_service.specs.Line.{Act, Answer, Mark, Marked, Packet, OfRequest}
 use Rattle.tds_lawful.specs.Lawful.{Session, Step, Says, Ends, Breaks, Engine, Leads, LeadsOut, reset_left}
 use Rattle.tds_lawful.specs.Link.{Server, Up, Link, Move, Here, Takes, Speaks, goes}
-use Rattle.tds_lawful.specs.Answering.{UnlessLost}
 
 -- A reset is owed from where it is marked up to where the server says its end. Of two the stronger one is.
 abbrev pub owed_here : {T : Type 0} → Option Reset → Act T → Answer → Option Reset
@@ -36,11 +35,10 @@ abbrev pub SaidAsOwed : {V T : Type 0} → V → Option Reset → Session V → 
 SaidAsOwed settings (Some reset) s (Says item after ∷ due) = Leads settings (Some reset) s item.sign after ⊎ LeadsOut s item.sign after
 SaidAsOwed settings owed s due = Unit {0}
 
--- So it is along these moves, until the connection is lost.
+-- So it is along these moves, also behind a loss of the connection.
 abbrev pub StartsFresh : {V T : Type 0} → Engine V T → Option Reset → Link V T → List (Move T) → Type 0
 StartsFresh engine owed link [] = Unit {0}
-StartsFresh engine owed link (Here d ∷ moves) =
-    UnlessLost d.answer (StartsFresh engine (owed_here owed d.act d.answer) (goes engine link (Here d)) moves)
+StartsFresh engine owed link (Here d ∷ moves) = StartsFresh engine (owed_here owed d.act d.answer) (goes engine link (Here d)) moves
 StartsFresh engine owed link (Takes ∷ moves) = NextAsOwed owed link.server link.up × StartsFresh engine owed (goes engine link Takes) moves
 StartsFresh engine owed link (Speaks ∷ moves) =
     SaidAsOwed engine.settings owed link.server.session link.server.due

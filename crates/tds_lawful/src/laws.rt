@@ -10,6 +10,8 @@ ghost use Rattle.tds_lawful.specs.Link.{IsRun, Link, May, Move, goes, link_after
 ghost use Rattle.tds_lawful.specs.Answering.{Begins, NoFault, answered, finishes};
 ghost use Rattle.tds_lawful.specs.Agreeing.{AllInNamed, IsQuiet};
 ghost use Rattle.tds_lawful.specs.Starting.{IsLeftClean, StartsFresh, owed_after};
+ghost use Rattle.tds_lawful.specs.Alone.{IsBeside, ResetsFirst, answered_alone};
+ghost use Rattle.tds_lawful.specs.Alone.{beside_after, new_beside};
 ghost use Rattle.tds_lawful.specs.Working.{CanGo, Waits, Works, left_to_do};
 
 /// What a request is told is a beginning of what the server answers to it, and all of that where it
@@ -82,4 +84,23 @@ pub fn never_stuck<V, T>()
     ensures lowers { (engine : Engine V T) (link : Link V T) (move : Move T)
         → May link move → Works move
         → left_to_do engine (goes engine link move) < left_to_do engine link }
+{}
+
+/// What a request is told is what a server of one's own would tell it: one with the same answers, to
+/// which nobody else's requests came, and of which no reset is asked; a new one where a lease
+/// begins, or one in the transaction that it keeps. Its session is that of the connection's server,
+/// or where a reset is owed what the reset leaves; and it says as much of each answer.
+pub fn as_if_alone<V, T>()
+    ensures begins { (engine : Engine V T) (acts : List (Act T)) (moves : List (Move T)) (r : ℕ)
+        → IsLawful engine → ResetsFirst engine → IsRun engine moves (history new_line acts)
+        → Begins (given r (history new_line acts))
+        (told_of (answered_alone engine (new_beside engine) r moves)) }
+    ensures whole { (engine : Engine V T) (acts : List (Act T)) (moves : List (Move T)) (r : ℕ)
+        → IsLawful engine → ResetsFirst engine → IsRun engine moves (history new_line acts)
+        → finishes r (history new_line acts) ≡ true
+        → given r (history new_line acts)
+        ≡ told_of (answered_alone engine (new_beside engine) r moves) }
+    ensures beside { (engine : Engine V T) (acts : List (Act T)) (moves : List (Move T))
+        → IsLawful engine → ResetsFirst engine → IsRun engine moves (history new_line acts)
+        → IsBeside engine.settings (beside_after engine (new_beside engine) moves) }
 {}

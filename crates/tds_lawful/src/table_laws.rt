@@ -12,6 +12,8 @@ ghost use Rattle.tds_lawful.specs.Link.{IsRun, Move, link_after, new_link};
 ghost use Rattle.tds_lawful.specs.Answering.{Begins, NoFault, answered, finishes};
 ghost use Rattle.tds_lawful.specs.Agreeing.{AllInNamed, IsQuiet};
 ghost use Rattle.tds_lawful.specs.Starting.{IsLeftClean, StartsFresh, owed_after};
+ghost use Rattle.tds_lawful.specs.Alone.{IsBeside, ResetsFirst, answered_alone};
+ghost use Rattle.tds_lawful.specs.Alone.{beside_after, new_beside};
 ghost use Rattle.tds_lawful.specs.Working.{CanGo, Waits};
 
 use tds_service::table_laws::{asks_for_reset, each_alone};
@@ -119,6 +121,33 @@ pub fn never_stuck<V, T>()
         → IsLawful engine → IsRun engine moves (on n (steps (new_service max) calls))
         → Waits (line_after new_line (acts_of (on n (steps (new_service max) calls)))).stage
         → CanGo (link_after engine (new_link engine) moves) }
+{
+    each_alone::<T>();
+}
+
+/// What a request is told is what a server of one's own would tell it: one with the same answers, to
+/// which nobody else's requests came, and of which no reset is asked; a new one with each lease of
+/// a used connection, or one in a ticket's transaction
+/// (`tds_service::table_laws::asks_for_reset`).
+pub fn as_if_alone<V, T>()
+    ensures begins { (engine : Engine V T) (max n : ℕ) (calls : List (Call T))
+        (moves : List (Move T)) (r : ℕ)
+        → IsLawful engine → ResetsFirst engine
+        → IsRun engine moves (on n (steps (new_service max) calls))
+        → Begins (given r (on n (steps (new_service max) calls)))
+        (told_of (answered_alone engine (new_beside engine) r moves)) }
+    ensures whole { (engine : Engine V T) (max n : ℕ) (calls : List (Call T))
+        (moves : List (Move T)) (r : ℕ)
+        → IsLawful engine → ResetsFirst engine
+        → IsRun engine moves (on n (steps (new_service max) calls))
+        → finishes r (on n (steps (new_service max) calls)) ≡ true
+        → given r (on n (steps (new_service max) calls))
+        ≡ told_of (answered_alone engine (new_beside engine) r moves) }
+    ensures beside { (engine : Engine V T) (max n : ℕ) (calls : List (Call T))
+        (moves : List (Move T))
+        → IsLawful engine → ResetsFirst engine
+        → IsRun engine moves (on n (steps (new_service max) calls))
+        → IsBeside engine.settings (beside_after engine (new_beside engine) moves) }
 {
     each_alone::<T>();
 }

@@ -1,0 +1,11 @@
+use Rattle.tds_lawful.proofs.Runs.{told_alone, ends_alone}
+use Rattle.tds_lawful.proofs.laws.as_if_alone.Goals as goal
+
+pub returns-clause-begins : goal.returns-clause-begins
+returns-clause-begins g c = λ engine acts moves r lawful first run. (told_alone engine acts moves r lawful first run).begins
+
+pub returns-clause-whole : goal.returns-clause-whole
+returns-clause-whole g c = λ engine acts moves r lawful first run finished. (told_alone engine acts moves r lawful first run).whole finished
+
+pub returns-clause-beside : goal.returns-clause-beside
+returns-clause-beside g c = ends_alone
