@@ -176,7 +176,8 @@ pub fn pieces_are_events()
 /// whatever is handed to a new judge, where the events that were said are a lawful conversation nothing of
 /// level breach is found.
 pub fn lawful_is_never_blamed()
-    ensures said { (past later : List Said) → IsLawful (later ++ past) → is_broken past later ≡ false }
+    ensures said { (past later : List Said)
+        → IsLawful (later ++ past) → is_broken past later ≡ false }
     ensures found { (limits : Limits) (judge : Judge) (pieces : List Piece)
         (tells : Tells (run_of judge []) (seen pieces (run_of judge [])))
         → IsNew limits judge → IsLawful tells.events
