@@ -39,11 +39,13 @@ broken limits (x ∷ later) past xs =
     ∙ (ap (λ (b : Bool). (has_breach xs || is_broken past later) || b) (breach_told limits (later ++ past) x.spot x.event)
     ∙ sym (or_or (has_breach xs) (is_broken past later) (is_breach (later ++ past) x.event))))))
 
+pub breaks_by : (past : List Said) (before after : Run) → before.judge.talk ≡ talk_behind past → (h : Tells before after)
+    → has_breach after.told ≡ has_breach before.told || is_broken past h.events
+breaks_by past before after so h =
+    ap has_breach (h.told ∙ ap (λ (t : Talk). found_in before.judge.limits h.events t before.told) so) ∙ broken before.judge.limits h.events past before.told
+
 breaks : (past : List Said) (before after : Run) → before.judge.talk ≡ talk_behind past → Tells before after → Breaks past before after
-breaks past before after so h = record {
-  tells = h;
-  found = ap has_breach (h.told ∙ ap (λ (t : Talk). found_in before.judge.limits h.events t before.told) so) ∙ broken before.judge.limits h.events past before.told;
-}
+breaks past before after so h = record { tells = h; found = breaks_by past before after so h }
 
 pub steps_break : (d : Direction) (time : ℕ) (bytes : List ℕ) (past : List Said) (run : Run) → run.judge.talk ≡ talk_behind past → Breaks past run (steps d time bytes run)
 steps_break d time bytes past run so = breaks past run (steps d time bytes run) so (steps_so d time bytes run)

@@ -8,4 +8,6 @@ pub mod InRuns
 pub mod Behind
 pub mod Notes
 pub mod Breaking
+pub mod Lawful
+pub mod Conversations
 pub mod SomeRuns

@@ -42,7 +42,7 @@ unfolding further found_in
 nothing a b talk limits told = record { events = []; talk = talk; limits = limits; told = told }
 
 -- one thing behind the other
-on : (a b c : Run) → Tells a b → Tells b c → Tells a c
+pub on : (a b c : Run) → Tells a b → Tells b c → Tells a c
 on a b c first second = record {
   events = second.events ++ first.events;
   talk = second.talk ∙ (ap (further second.events) first.talk ∙ further_more second.events first.events a.judge.talk);
@@ -59,14 +59,14 @@ either : (a x y : Run) (b : Bool) → Tells a x → Tells a y → Tells a (if b 
 either a x y true p q = p
 either a x y false p q = q
 
-same : (a : Run) → Tells a a
+pub same : (a : Run) → Tells a a
 same a = nothing a a refl refl refl
 
-said_so : (spot : Spot) (event : Event) (a : Run) → Tells a (said spot event a)
+pub said_so : (spot : Spot) (event : Event) (a : Run) → Tells a (said spot event a)
 unfolding further found_in
 said_so spot event a = record { events = record { spot = spot; event = event } ∷ []; talk = refl; limits = refl; told = refl }
 
-stopped_so : (spot : Spot) (event : Event) (a : Run) → Tells a (stops spot event a)
+pub stopped_so : (spot : Spot) (event : Event) (a : Run) → Tells a (stops spot event a)
 unfolding further found_in
 stopped_so spot event a = record { events = record { spot = spot; event = event } ∷ []; talk = refl; limits = refl; told = refl }
 

@@ -4,5 +4,6 @@ pub mod Framing
 pub mod History
 pub mod Breaches
 pub mod Told
+pub mod Conversation
 pub mod Walker
 pub mod Runs

@@ -1,17 +1,19 @@
 //! What follows from the definitions alone. Each function does nothing when it runs: its contract is
 //! the law.
 
-ghost use Rattle.std.specs.Prelude.{◌≡◌, ◌++◌, ℕ, List, []};
-ghost use Rattle.tds_judge.specs.Framing.{Run, steps};
+ghost use Rattle.std.specs.Prelude.{◌≡◌, ◌++◌, ℕ, List, [], false};
+ghost use Rattle.tds_judge.specs.Conversation.{IsLawful, Piece, seen};
+ghost use Rattle.tds_judge.specs.Framing.{IsNew, Run, run_of, steps};
 ghost use Rattle.tds_judge.specs.History.{Said, is_attention_unanswered, is_both_resets, is_found};
 ghost use Rattle.tds_judge.specs.History.{is_request_while_answering, is_second_attention};
 ghost use Rattle.tds_judge.specs.History.{Tells, is_wrong_descriptor, talk_behind};
 ghost use Rattle.tds_judge.specs.Talking.{told_by};
 ghost use Rattle.tds_judge.specs.Told as told;
-ghost use Rattle.tds_judge.specs.Told.{Breaks, has_breach, is_breach};
+ghost use Rattle.tds_judge.specs.Told.{Breaks, has_breach, is_breach, is_broken};
 ghost use Rattle.tds_judge.specs.declared.finding.Direction.{Direction};
 ghost use Rattle.tds_judge.specs.declared.finding.Finding.{Finding};
 ghost use Rattle.tds_judge.specs.declared.finding.Spot.{Spot};
+ghost use Rattle.tds_judge.specs.declared.judge.Judge.{Judge};
 ghost use Rattle.tds_judge.specs.declared.talk.Event.{Event};
 ghost use Rattle.tds_judge.specs.declared.talk.Limits.{Limits};
 ghost use Rattle.tds_judge.specs.declared.talk.Talk.{Talk};
@@ -162,4 +164,22 @@ pub fn runs_are_exact()
     ensures { (direction : Direction) (time : ℕ) (bytes : List ℕ) (past : List Said) (run : Run)
         → run.judge.talk ≡ talk_behind past
         → Breaks past run (steps direction time bytes run) }
+{}
+
+/// The same of all that is handed in of a connection, bytes of both directions in any pieces, and that it
+/// is lent or closed: events were said, and what is found is found at them.
+pub fn pieces_are_events()
+    ensures { (pieces : List Piece) (run : Run) → Tells run (seen pieces run) }
+{}
+
+/// A lawful conversation is never blamed: no event of it is a breach, behind a lawful history; and
+/// whatever is handed to a new judge, where the events that were said are a lawful conversation nothing of
+/// level breach is found.
+pub fn lawful_is_never_blamed()
+    ensures said { (past later : List Said)
+        → IsLawful (later ++ past) → is_broken past later ≡ false }
+    ensures found { (limits : Limits) (judge : Judge) (pieces : List Piece)
+        (tells : Tells (run_of judge []) (seen pieces (run_of judge [])))
+        → IsNew limits judge → IsLawful tells.events
+        → has_breach (seen pieces (run_of judge [])).told ≡ false }
 {}

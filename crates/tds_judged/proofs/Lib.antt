@@ -1,0 +1,4 @@
+pub mod Hears
+pub mod Steps
+pub mod Acts
+pub mod Examples

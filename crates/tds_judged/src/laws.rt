@@ -1,0 +1,47 @@
+//! What the judge finds of a connection of `tds_service`. Each contract is the law.
+
+ghost use Rattle.std.specs.Prelude.{◌≡◌, List, [], false};
+ghost use Rattle.tds_wire.specs.declared.told.Token.{Token};
+ghost use Rattle.tds_service.specs.Line.{Act, new_line};
+ghost use Rattle.tds_service.specs.History.{history};
+ghost use Rattle.tds_judge.specs.Conversation as judging;
+ghost use Rattle.tds_judge.specs.Told.{is_broken};
+ghost use Rattle.tds_lawful.specs.Answering.{NoFault};
+ghost use Rattle.tds_lawful.specs.Lawful.{Engine, IsLawful};
+ghost use Rattle.tds_lawful.specs.Link.{IsRun, Move};
+ghost use Rattle.tds_judged.specs.Seen.{AllBehindLogin, Eye, conversation};
+
+use tds_judge::laws::lawful_is_never_blamed;
+use tds_lawful::laws::no_fault;
+use tds_wire::Token;
+
+/// What is seen at a connection's end of a service, whatever is done there and whatever comes, is a
+/// lawful conversation until something that comes is a fault. So no event of it is a breach. It holds
+/// behind a login, and where bit 0020 acknowledges in a DONE alone.
+pub fn own_conversations_are_lawful()
+    ensures lawful { (eye : Eye) (acts : List (Act Token))
+        → AllBehindLogin acts → NoFault (history new_line acts)
+        → judging.IsLawful (conversation eye (history new_line acts)) }
+    ensures blamed { (eye : Eye) (acts : List (Act Token))
+        → AllBehindLogin acts → NoFault (history new_line acts)
+        → is_broken [] (conversation eye (history new_line acts)) ≡ false }
+{
+    lawful_is_never_blamed();
+}
+
+/// Where the server keeps the rules, what is seen at a connection's end of a service is a lawful
+/// conversation and never blamed: whatever it answers, whatever is asked, cancelled and reset, and
+/// whichever way a cancel crosses an answer.
+pub fn never_blamed_before_a_lawful_server<V>()
+    ensures lawful { (engine : Engine V Token) (acts : List (Act Token)) (moves : List (Move Token))
+        (eye : Eye)
+        → IsLawful engine → IsRun engine moves (history new_line acts) → AllBehindLogin acts
+        → judging.IsLawful (conversation eye (history new_line acts)) }
+    ensures blamed { (engine : Engine V Token) (acts : List (Act Token)) (moves : List (Move Token))
+        (eye : Eye)
+        → IsLawful engine → IsRun engine moves (history new_line acts) → AllBehindLogin acts
+        → is_broken [] (conversation eye (history new_line acts)) ≡ false }
+{
+    no_fault::<V, Token>();
+    lawful_is_never_blamed();
+}

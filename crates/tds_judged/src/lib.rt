@@ -1,0 +1,4 @@
+//! What the judge says of our client.
+#![tactic(auto)]
+
+pub mod laws;
