@@ -27,14 +27,15 @@ FIRST = """/* Mouktelf {version}: {what}.
 #include "mouktelf.h"
 {machines}"""
 
-TAKES_MEMORY = "It wants malloc, realloc and free besides memcpy and the like."
-# Of each crate's file: what it has, and what it wants of C.
+# What each crate's file has.
 PARTS = {
-    "tds_c": ("a client of one connection, and a walk over any answer", "It wants memcpy, memmove, memset and abort."),
-    "tds_service_c": ("pooled sessions as one value", "It wants memcpy, memmove, memset and abort."),
-    "tds_judge_c": ("the judge of recorded connections", TAKES_MEMORY),
-    "tds_play_c": ("the player of schedules", TAKES_MEMORY),
+    "tds_c": "a client of one connection, and a walk over any answer",
+    "tds_service_c": "pooled sessions as one value",
+    "tds_judge_c": "the judge of recorded connections",
+    "tds_play_c": "the player of schedules",
 }
+TAKES_MEMORY = "It wants malloc, realloc and free besides memcpy and the like."
+TAKES_NONE = "It wants memcpy, memmove, memset and abort."
 # Where there are numbers of 128 bits, or constants with addresses in them.
 NARROW = """#if UINTPTR_MAX != UINT64_MAX || !defined(__SIZEOF_INT128__) || __BYTE_ORDER__ == __ORDER_BIG_ENDIAN__
 #error "this file is for machines of 64 bits with the low byte first, and compilers with __int128"
@@ -47,7 +48,6 @@ def said(*words):
 
 
 def main(crate, module, log, text):
-    what, wants = PARTS[crate]
     with open(log, encoding="utf-8") as it:
         proved = re.findall(r"(?m)^logic=.*", it.read())[-1]
     with open(module, "rb") as it:
@@ -63,10 +63,9 @@ def main(crate, module, log, text):
         print(f"print_part: on 64-bit machines with the low byte first alone: {', '.join(left_out)}", file=sys.stderr)
     whole = printer.whole()
     machines = NARROW if printer.is_narrow(whole) else ""
-    if re.search(r"\brattle_(?:re)?alloc\(", whole) and wants != TAKES_MEMORY:
-        sys.exit(f"print_part: {crate} takes memory, and its first lines say that it doesn't")
+    wants = TAKES_MEMORY if re.search(r"\brattle_(?:re)?alloc\(", whole) else TAKES_NONE
     # A release is made of a commit; what isn't committed is said in MADE_OF.
-    print(FIRST.format(version=headers.version(), what=what, file=headers.FILES[crate], proved=proved, module=digest, wants=wants,
+    print(FIRST.format(version=headers.version(), what=PARTS[crate], file=headers.FILES[crate], proved=proved, module=digest, wants=wants,
                        machines=machines, commit=said("git", "rev-parse", "HEAD"), kit=said("rt", "version").split("\n")[0]))
     print(whole)
     print(layer_text, end="")
