@@ -103,8 +103,12 @@ class Browser:
             self.call("Input.dispatchKeyEvent", type=kind, **words)
 
     def longest_task(self, work):
-        """How long the page's main thread worked on one task, while this ran: in milliseconds of a processor, since
-        others may have it meanwhile."""
+        """How long the page's main thread worked on one task, while this ran."""
+        return max(self.tasks(work, "CrRendererMain"))
+
+    def tasks(self, work, thread):
+        """How long threads of this name of the page worked on each task, while this ran: in milliseconds of a processor,
+        since others may have it meanwhile."""
         self.traced = []
         self.call("Tracing.start", traceConfig=CATEGORIES)
         work()
@@ -113,13 +117,13 @@ class Browser:
             pass
         # The browser has other pages: ours is the one with functions of a file.
         ours = {it["pid"] for it in self.traced if it["name"] == "FunctionCall" and address_of(it).startswith("file:")}
-        mains = {(it["pid"], it["tid"]) for it in self.traced
-                 if it["name"] == "thread_name" and it["args"]["name"] == "CrRendererMain" and it["pid"] in ours}
-        tasks = [it["tdur"] for it in self.traced
-                 if (it["pid"], it["tid"]) in mains and it["name"].endswith("RunTask") and "tdur" in it]
+        threads = {(it["pid"], it["tid"]) for it in self.traced
+                   if it["name"] == "thread_name" and it["args"]["name"] == thread and it["pid"] in ours}
+        tasks = [it["tdur"] / 1000 for it in self.traced
+                 if (it["pid"], it["tid"]) in threads and it["name"].endswith("RunTask") and "tdur" in it]
         if not tasks:
-            raise OSError("the trace has no task of the page")
-        return max(tasks) / 1000
+            raise OSError(f"the trace has no task of the page's {thread}")
+        return tasks
 
     def end(self):
         self.session = None

@@ -17,6 +17,11 @@ extern "C" {
  * differs in its patch alone changes none of these. */
 #define MOUKTELF_FITS() (mouktelf_version() / 100 == MOUKTELF_VERSION_NUMBER / 100)
 
+/* What each call of a release answers, in its libraries and its C files, where a pointer is null and a struct is
+ * wanted or its length isn't 0, or where a length is over PTRDIFF_MAX bytes: nothing was done then. Null with a
+ * length of 0 is taken. */
+#define MOUKTELF_MISFIT 27
+
 /* The number of the library that is linked. */
 uint32_t mouktelf_version(void);
 

@@ -2,10 +2,11 @@
  * client, and the tokens of an answer. C99 and C++. The library does no input or output and starts
  * no thread; each call is proved to be the client's call on the value that is handed to it.
  *
- * WHAT A CALLER OWES. The proofs hold where each call is made so; nothing checks it.
- *  - No pointer is null, also where its length is 0: hand over the address of any object then. No
- *    call looks for one, so nothing is promised of it. With length or room 0 the library as it is
- *    built now reads and writes nothing there; a null client ends the process.
+ * WHAT A CALLER OWES. The proofs hold where each call is made so; nothing checks it but what a release
+ * looks at before the call (MOUKTELF_MISFIT): null pointers, and lengths that nothing can have.
+ *  - No pointer is null, also where its length is 0: hand over the address of any object then. The
+ *    library of this crate alone looks for none, so nothing is promised of it. With length or room 0 it
+ *    reads and writes nothing there, as it is built now; a null client ends the process.
  *  - A pointer to a struct has one; a pointer with a length has that many elements, which the call
  *    may read, and write where the pointer isn't const. No length is over PTRDIFF_MAX bytes.
  *    What a call only writes (a count, a packet, a token, a message, bytes that go out, a new

@@ -20,7 +20,8 @@ function call(text, ask) {
   for (let room = 65536n; ; ) {
     const out = exports.room(room);
     if (!out) return {answer: NO_MEMORY, text: ""};
-    const answer = ask(given, size, out, room, count);
+    // The answer is a byte: of a wider number that holds it nothing is said.
+    const answer = ask(given, size, out, room, count) & 255;
     const written = new DataView(exports.memory.buffer).getBigUint64(Number(count), true);
     const part = answer === NO_ROOM ? "" : decoder.decode(new Uint8Array(exports.memory.buffer, Number(out), Number(written)).slice());
     exports.free_room(out);

@@ -2,8 +2,9 @@
 """A module of WebAssembly, as its sections.
 
 usage: wasm_file.py drop-table IN.wasm OUT.wasm    without its table, and it must have no indirect call
-       wasm_file.py check FILE.wasm NAME..         it imports nothing, has no table, no start and a memory
-                                                   with addresses of 32 bits, and exports just these names"""
+       wasm_file.py check [--wide] FILE.wasm NAME..  it imports nothing, has no table, no start and a memory
+                                                   with addresses of 32 bits, or of 64, and exports just these
+                                                   names"""
 
 import sys
 
@@ -48,8 +49,8 @@ def drop_table(data):
     return HEAD + b"".join(whole for kind, _, whole in sections(data) if kind not in (TABLE, ELEMENT))
 
 
-def faults(data, wanted):
-    """What of the module isn't as the page needs it."""
+def faults(data, wanted, is_wide):
+    """What of the module isn't as it is wanted."""
     found = {kind: contents for kind, contents, _ in sections(data)}
     for kind, name in ((IMPORT, "imports"), (TABLE, "a table"), (START, "a start"), (ELEMENT, "elements")):
         if kind in found:
@@ -57,22 +58,24 @@ def faults(data, wanted):
     count, at = number(found.get(MEMORY, b"\0"), 0)
     if count != 1:
         yield f"it has {count} memories"
-    elif found[MEMORY][at] & WITH_64_BITS:
-        yield "its memory has addresses of 64 bits"
+    elif bool(found[MEMORY][at] & WITH_64_BITS) != is_wide:
+        yield f"its memory has addresses of {32 if is_wide else 64} bits"
     names = sorted(exports(found.get(EXPORT, b"\0")))
     if names != sorted(wanted):
         yield f"it exports {' '.join(names)}"
 
 
 def main(words):
-    command, path, *more = words
+    command, *rest = words
+    is_wide = rest[0] == "--wide"
+    path, *more = rest[is_wide:]
     with open(path, "rb") as it:
         data = it.read()
     if command == "drop-table":
         with open(more[0], "wb") as it:
             it.write(drop_table(data))
         return 0
-    wrong = list(faults(data, more))
+    wrong = list(faults(data, more, is_wide))
     for fault in wrong:
         print(f"page: the module isn't right: {fault}")
     return 1 if wrong else 0

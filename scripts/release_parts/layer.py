@@ -1,10 +1,12 @@
-"""The layer of a printed file: the header's calls over the core's.
+"""The layer of a printed file: the header's calls over the core's. layer.py CRATE prints what stands before the calls of a
+crate's library, where they are called inner_NAME.
 
 The core sees memory as the proved build for x86-64 does: a pointer and a length have 8 bytes, a number its low byte
 first. Where a machine has that, the caller's structs are the core's, and each call hands its words on. Elsewhere each
 struct is written to an image of the core's form before the call, and read back behind it."""
 
 import re
+import sys
 
 import headers
 
@@ -44,6 +46,23 @@ BY_HAND = {
     answer = core_tds_client_start_batch(ONE_BYTES(image), ONE_BYTES(low_first), units, ONE_BYTES(message), room, ONE_BYTES(counted));
     one_from_tds_client(client, image);
     *count = (size_t)one_read64(ONE_BYTES(counted));
+    return answer;
+""",
+    # A library that takes memory anyway. One more of each, since of no bytes a block may be none.
+    "tds_judge": """    unsigned char of_limits[16] = {0}, counted[8] = {0};
+    unsigned char *of_pieces = calloc(piece_count + 1, 24), *of_findings = calloc(room + 1, 32);
+    uint8_t answer = TDS_JUDGE_NO_MEMORY;
+    *count = 0;
+    if (of_pieces && of_findings) {
+        one_to_tds_judge_limits(of_limits, limits);
+        for (size_t k = 0; k < piece_count; k++) one_to_tds_judge_piece(of_pieces + 24 * k, &pieces[k]);
+        answer = core_tds_judge(ONE_BYTES(of_limits), ONE_BYTES(of_pieces), piece_count, ONE_BYTES(bytes), length,
+                                ONE_BYTES(of_findings), room, ONE_BYTES(counted));
+        *count = (size_t)one_read64(ONE_BYTES(counted));
+        for (size_t k = 0; answer == TDS_JUDGED && k < *count; k++) one_from_tds_judge_finding(&findings[k], of_findings + 32 * k);
+    }
+    free(of_pieces);
+    free(of_findings);
     return answer;
 """,
 }
@@ -136,6 +155,39 @@ def structs():
     return found
 
 
+def guard(arguments):
+    """What stands before a call: null where an object is wanted or a length isn't 0, and a length that no object has,
+    are answered; null with a length of 0 is the address of something."""
+    misfits, rest = [], []
+    for place, argument in enumerate(arguments):
+        kind, name = parts(argument)
+        if "*" not in kind:
+            continue
+        if not is_array(arguments, place):
+            misfits.append(f"!{name}")
+            continue
+        count = parts(arguments[place + 1])[1]
+        of = re.sub(r"const|\*", "", kind).strip()
+        bound = "PTRDIFF_MAX" if of == "uint8_t" else f"PTRDIFF_MAX / sizeof({of})"
+        misfits.append(f"({name} ? {count} > {bound} : {count} != 0)")
+        rest.append(f"    if (!{name}) {name} = ({kind.strip()})(void *)&none;\n")
+    if not misfits:
+        return ""
+    test = f"    if ({' || '.join(misfits)}) return MOUKTELF_MISFIT;\n"
+    return ("    uint64_t none = 0;\n" if rest else "") + test + "".join(rest)
+
+
+def guards(names):
+    """The C text of what stands in a library before the calls of these names, whose own are called inner_NAME there."""
+    text = '#include "mouktelf.h"\n\n/* Null pointers, and lengths that nothing can have, are answered before the call. */\n'
+    for _, answer, name, arguments in headers.prototypes():
+        if name in names and answer == "uint8_t" and guard(arguments):
+            words = ", ".join(parts(it)[1] for it in arguments)
+            text += f"\n{answer} inner_{name}({', '.join(arguments)});\n{answer} {name}({', '.join(arguments)}) {{\n{guard(arguments)}"
+            text += f"    return inner_{name}({words});\n}}\n"
+    return text
+
+
 def parts(argument):
     """An argument's type and its name."""
     kind, name = re.fullmatch(r"(.*?)(\w+)", argument).groups()
@@ -188,6 +240,7 @@ def layer(names):
         if name not in names:
             continue
         head = f"{answer} {name}({', '.join(arguments) or 'void'}) {{\n"
+        head += guard(arguments) if answer == "uint8_t" else ""
         direct_ones.append(head + direct(answer, name, arguments) + "}\n")
         body = by_images(answer, name, arguments, known)
         if body is None:
@@ -207,3 +260,7 @@ def layer(names):
     in_calls = [it for it in known.values() if re.search(rf"struct {it.name}\b", " ".join(direct_ones))]
     text = OPENING + "\n#if !ONE_IMAGES\n\n" + "\n".join(it.asserts() for it in in_calls) + "\n\n" + "\n".join(direct_ones)
     return text + "\n#else\n\n" + "\n".join(texts.values()) + "\n" + "\n".join(images) + "\n#endif\n", left_out
+
+
+if __name__ == "__main__":
+    print(guards(headers.calls_of(sys.argv[1])), end="")

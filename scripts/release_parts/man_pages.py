@@ -13,6 +13,8 @@ PROGRAMS = {
     "tdsview": "shows the play of a schedule as a picture, as bytes and in words",
     "tdsserve": "a server for TDS drivers to be tried on",
     "tdsask": "a TDS client by words",
+    "tdsrelay": "lets many applications share few connections to a TDS server",
+    "tdswatch": "says what the connections of a capture did wrong",
 }
 
 

@@ -357,8 +357,9 @@ class Printer:
             found.append(form.format(got=self.c_type(gives), number=number))
         return found
 
-    def needs_wide(self, text):
-        return calls(text, "one_wide") or calls(text, "one_signed_wide")
+    def is_narrow(self, text):
+        """Whether the printed text is for few machines: it has numbers of 128 bits, or constants with addresses."""
+        return calls(text, "one_wide") or calls(text, "one_signed_wide") or "union { const unsigned char *p; uint64_t w; }" in text
 
     def whole(self):
         functions, constants = self.module.reached()

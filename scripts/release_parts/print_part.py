@@ -1,4 +1,4 @@
-"""One C file: print_part.py PART MODULE.bc LIBRARY.log MODULE.ll. What it is stands in its first lines."""
+"""One C file: print_part.py CRATE MODULE.bc LIBRARY.log MODULE.ll. What it is stands in its first lines."""
 
 import hashlib
 import os
@@ -27,45 +27,47 @@ FIRST = """/* Mouktelf {version}: {what}.
 #include "mouktelf.h"
 {machines}"""
 
+# What each crate's file has.
 PARTS = {
-    "client": ("all calls of mouktelf.h but the player's", "mouktelf.c", "It wants memcpy, memmove, memset and abort.", ""),
-    "play": ("the player of schedules", "mouktelf_play.c", "It wants malloc, realloc and free besides memcpy and the like.",
-             """#if UINTPTR_MAX != UINT64_MAX || !defined(__SIZEOF_INT128__) || __BYTE_ORDER__ == __ORDER_BIG_ENDIAN__
-#error "the player is for machines of 64 bits with the low byte first, and compilers with __int128"
-#endif
-"""),
+    "tds_c": "a client of one connection, and a walk over any answer",
+    "tds_service_c": "pooled sessions as one value",
+    "tds_judge_c": "the judge of recorded connections",
+    "tds_play_c": "the player of schedules",
 }
+TAKES_MEMORY = "It wants malloc, realloc and free besides memcpy and the like."
+TAKES_NONE = "It wants memcpy, memmove, memset and abort."
+# Where there are numbers of 128 bits, or constants with addresses in them.
+NARROW = """#if UINTPTR_MAX != UINT64_MAX || !defined(__SIZEOF_INT128__) || __BYTE_ORDER__ == __ORDER_BIG_ENDIAN__
+#error "this file is for machines of 64 bits with the low byte first, and compilers with __int128"
+#endif
+"""
 
 
 def said(*words):
     return subprocess.run(words, capture_output=True, text=True, check=True, cwd=headers.TOP).stdout.strip()
 
 
-def calls_of(part):
-    """The calls of a part, by the header that has them."""
-    of_play = [name for header, _, name, _ in headers.prototypes() if header == "tds_play" or name == "mouktelf_play_version"]
-    return of_play if part == "play" else [it[2] for it in headers.prototypes() if it[2] not in of_play]
-
-
-def main(part, module, log, text):
-    what, name, wants, machines = PARTS[part]
+def main(crate, module, log, text):
     with open(log, encoding="utf-8") as it:
         proved = re.findall(r"(?m)^logic=.*", it.read())[-1]
     with open(module, "rb") as it:
         digest = hashlib.sha256(it.read()).hexdigest()
     with open(text, encoding="utf-8") as it:
         printer = Printer(it.read())
-    calls = calls_of(part)
+    calls = headers.calls_of(crate)
     exported = {it[1:] for it in printer.module.exports()}
     if exported != set(calls):
         sys.exit(f"print_part: the headers and the library differ: {sorted(exported ^ set(calls))}")
     layer_text, left_out = layer(calls)
     if left_out:
         print(f"print_part: on 64-bit machines with the low byte first alone: {', '.join(left_out)}", file=sys.stderr)
+    whole = printer.whole()
+    machines = NARROW if printer.is_narrow(whole) else ""
+    wants = TAKES_MEMORY if re.search(r"\brattle_(?:re)?alloc\(", whole) else TAKES_NONE
     # A release is made of a commit; what isn't committed is said in MADE_OF.
-    print(FIRST.format(version=headers.version(), what=what, file=name, proved=proved, module=digest, wants=wants,
+    print(FIRST.format(version=headers.version(), what=PARTS[crate], file=headers.FILES[crate], proved=proved, module=digest, wants=wants,
                        machines=machines, commit=said("git", "rev-parse", "HEAD"), kit=said("rt", "version").split("\n")[0]))
-    print(printer.whole())
+    print(whole)
     print(layer_text, end="")
 
 

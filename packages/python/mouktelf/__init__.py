@@ -1,4 +1,5 @@
-"""The client's end of a connection that speaks the Tabular Data Stream (MS-TDS), and a player of schedules.
+"""The client's end of a connection that speaks the Tabular Data Stream (MS-TDS), a judge of recorded connections, and a player
+of schedules.
 
 Everything here works over the library that lies in this package, which is compiled from proved source. It does no input or
 output: bytes go in, bytes and tokens come out, and the socket is the caller's. A Client has no lock.
@@ -14,12 +15,13 @@ from .client import (
     Acknowledged, Answer, Change, Client, Columns, Done, Fault, Message, MessageKind, Reset, ReturnStatus, Row, Stage,
     Taken, Token, packets_of,
 )
+from .judge import Finding, Level, What, judge
 from .login import is_let_in, login
 from .play import NotPlayed, play
 from .wire import Place, Refused, Tells, Walk, Walked
 
 __all__ = [
-    "Acknowledged", "Answer", "Change", "Client", "Columns", "Done", "Fault", "Message", "MessageKind", "NotPlayed",
-    "Place", "Refused", "Reset", "ReturnStatus", "Row", "Stage", "Taken", "Tells", "Token", "Walk", "Walked", "is_let_in",
-    "login", "packets_of", "play",
+    "Acknowledged", "Answer", "Change", "Client", "Columns", "Done", "Fault", "Finding", "Level", "Message", "MessageKind", "NotPlayed",
+    "Place", "Refused", "Reset", "ReturnStatus", "Row", "Stage", "Taken", "Tells", "Token", "Walk", "Walked", "What", "is_let_in",
+    "judge", "login", "packets_of", "play",
 ]

@@ -75,6 +75,21 @@ class WireToken(Structure):
     ]
 
 
+class JudgeLimits(Structure):
+    _fields_ = [("idle", c_uint64), ("columns", c_uint16), ("encryption", c_uint8), ("ranks", c_uint8)]
+
+
+class JudgePiece(Structure):
+    _fields_ = [("time", c_uint64), ("length", c_size_t), ("what", c_uint8)]
+
+
+class JudgeFinding(Structure):
+    _fields_ = [
+        ("offset", c_uint64), ("time", c_uint64), ("value", c_uint64), ("number", c_uint8), ("level", c_uint8),
+        ("direction", c_uint8),
+    ]
+
+
 _CLIENT, _COUNT, _BYTES = POINTER(ClientValue), POINTER(c_size_t), c_char_p
 _ROOM, _WALK, _MEMORY = POINTER(c_uint8), POINTER(WireWalk), POINTER(WireMemory)
 _CALLS = {
@@ -101,6 +116,9 @@ _CALLS = {
     "tds_wire_is_between": (_WALK, _MEMORY),
     "tds_wire_restart": (_WALK, _MEMORY),
     "tds_tokens_next": (_BYTES, c_size_t, POINTER(Cursor), POINTER(TokenValue), c_size_t, _COUNT),
+    "tds_judge": (
+        POINTER(JudgeLimits), POINTER(JudgePiece), c_size_t, _BYTES, c_size_t, POINTER(JudgeFinding), c_size_t, _COUNT,
+    ),
     "tds_play": (_BYTES, c_size_t, POINTER(c_uint8), c_size_t, _COUNT),
 }
 
