@@ -44,6 +44,8 @@ pub(crate) struct Application {
     held: Vec<u8>,
     /// Whether nothing more of it is taken.
     pub(crate) is_over: bool,
+    /// How many requests it has begun.
+    pub(crate) begun: u64,
     ghost bounded: { vec_len held ≤ MOST_HELD },
 }
 
@@ -58,6 +60,7 @@ impl Application {
             reset: None,
             held: Vec::new(alloc),
             is_over: false,
+            begun: 0,
         }
     }
 

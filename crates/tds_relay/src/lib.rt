@@ -14,7 +14,7 @@ mod outgoing;
 mod relay;
 
 pub use order::Order;
-pub use relay::Relay;
+pub use relay::{Counts, Place, PlaceOn, Relay};
 
 /// The answer of a growth that was refused.
 pub type NoMemory = std::alloc::AllocError;

@@ -34,6 +34,8 @@ pub(crate) struct Link {
     /// Whether its application took its request back, so that nothing is handed on until the
     /// acknowledgement of that.
     pub(crate) is_muted: bool,
+    /// Whether nobody holds it and what was underway was cancelled.
+    pub(crate) drains: bool,
     /// Whether the news of a reset is cut out, until it was.
     pub(crate) cuts: bool,
     pub(crate) out: Outgoing,
@@ -74,6 +76,7 @@ impl Link {
             holder,
             is_open: false,
             is_muted: false,
+            drains: false,
             cuts: false,
             out: Outgoing::new(alloc),
             reader: PacketReader::new(alloc, size, Direction::ToClient)?,

@@ -3,11 +3,13 @@ mod asking;
 mod coming;
 mod leaving;
 mod lending;
+mod places;
 
 use crate::NoMemory;
 use crate::application::{Application, Asking};
 use crate::link::{COLUMNS, Holder, Link};
 use crate::order::Order;
+pub use places::{Counts, Place, PlaceOn};
 use slab::Slab;
 use std::alloc::{AllocError, Global};
 use std::mem;
@@ -45,6 +47,7 @@ pub struct Relay {
     told: Vec<Token>,
     /// The text of a cleaning, of two bytes a unit.
     cleaning: Vec<u8>,
+    counts: Counts,
 }
 
 impl Relay {
@@ -74,6 +77,7 @@ impl Relay {
             orders: Vec::new(alloc),
             told: Vec::new(alloc),
             cleaning,
+            counts: Counts::none(),
         })
     }
 

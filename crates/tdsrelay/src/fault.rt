@@ -19,6 +19,11 @@ pub enum RelayFault {
     Address(String),
     #[error("error: --most takes 1 to 1024 connections")]
     Most,
+    /// The word whose seconds can't be.
+    #[error("error: --{0} takes seconds, 0 to 604800")]
+    Seconds(&'static str),
+    #[error("error: --until-input-ends wants a pipe as standard input: {0}")]
+    Input(io::Error),
     /// The system doesn't let it listen there.
     #[error("error: {0}: {1}")]
     Listen(SocketAddr, io::Error),

@@ -3,7 +3,15 @@
 use crate::dial::FEATURES;
 use std::alloc::{AllocError, Global};
 use tds_packet::{Kind, PacketSize, Status, put_sent};
-use tds_relay::Relay;
+use tds_relay::{Counts, Relay};
+
+/// What has done nothing yet.
+pub const NOTHING: Counts = Counts {
+    requests: 0,
+    cancels: 0,
+    cleanings: 0,
+    failed: 0,
+};
 
 /// How far the first login of a group is.
 #[derive(Drop)]
@@ -31,6 +39,22 @@ impl Group {
         match &mut self.stage {
             Stage::Judged(_) => None,
             Stage::Open(relay, _) => Some(relay),
+        }
+    }
+
+    /// What it has done.
+    pub fn counts(&self) -> Counts {
+        match &self.stage {
+            Stage::Judged(_) => NOTHING,
+            Stage::Open(relay, _) => relay.counts(),
+        }
+    }
+
+    /// The keys of its applications that wait for a connection, the first one first.
+    pub fn line(&self) -> &[usize] {
+        match &self.stage {
+            Stage::Judged(_) => &[],
+            Stage::Open(relay, _) => relay.line(),
         }
     }
 

@@ -1,23 +1,38 @@
 //! The loop over all sockets: applications on the one side, connections to the server on the other.
 mod logins;
 mod orders;
+mod telling;
+mod watching;
 
-use crate::dial::Dial;
+use crate::counts::{Counts, raise};
 use crate::gate::Gate;
 use crate::group::Group;
 use crate::link::{Came, Link};
+use crate::socket::{At, Role, Seen, Socket, Whose};
+use crate::stats::Asker;
 use crate::words::Asked;
 use mio::net::{TcpListener, TcpStream};
+use mio::unix::SourceFd;
 use mio::{Events, Interest, Poll, Token};
 use slab::Slab;
 use std::alloc::Global;
 use std::io::{self, Write};
 use std::mem;
 use std::net::{Net, SocketAddr};
-use std::time::Duration;
+use std::rt::Clock;
+use std::time::{Duration, Instant};
 
 /// The token of the listener.
 const LISTENER: Token = Token(usize::MAX);
+
+/// The token of standard input, where the relay ends with it.
+const INPUT: Token = Token(usize::MAX - 1);
+
+/// The token of the listener for those who ask what the relay does.
+const ASKERS: Token = Token(usize::MAX - 2);
+
+/// The milliseconds from one look at time limits to the next.
+const SWEEP: u64 = 1000;
 
 /// The most applications and connections at a time.
 const MOST: usize = 11_024;
@@ -27,60 +42,6 @@ const PIECE: usize = 8_192;
 
 /// The most reports of the system that are taken in a round.
 const ROUND: usize = 256;
-
-/// What a socket is.
-#[derive(Drop)]
-enum Role {
-    /// An application that logs in.
-    Gate(Gate),
-    /// An application whose login the server judges.
-    Judged(usize),
-    /// The application of this key in a group.
-    Application(usize, usize),
-    /// The first connection of a group, which logs in.
-    First(usize, Dial),
-    /// The connection of this number in a group, which logs in; and which does.
-    Opening(usize, u64, Dial),
-    Connection(usize, u64),
-    /// It is to be closed once what waits for it is sent.
-    Closing,
-}
-
-/// Whose a socket is, without what it keeps.
-#[derive(Clone, Copy)]
-enum Whose {
-    Gate,
-    Judged,
-    Application(usize, usize),
-    First(usize),
-    Opening(usize, u64),
-    Connection(usize, u64),
-    Closing,
-}
-
-/// A socket.
-#[derive(Drop)]
-struct Socket {
-    number: u64,
-    link: Link,
-    role: Role,
-    /// What is to be sent in a login.
-    out: Vec<u8>,
-}
-
-impl Socket {
-    fn whose(&self) -> Whose {
-        match &self.role {
-            Role::Gate(_) => Whose::Gate,
-            Role::Judged(_) => Whose::Judged,
-            Role::Application(group, key) => Whose::Application(*group, *key),
-            Role::First(group, _) => Whose::First(*group),
-            Role::Opening(group, number, _) => Whose::Opening(*group, *number),
-            Role::Connection(group, number) => Whose::Connection(*group, *number),
-            Role::Closing => Whose::Closing,
-        }
-    }
-}
 
 /// All sockets and groups.
 #[derive(Drop)]
@@ -95,12 +56,26 @@ pub struct House<W: Write + Drop> {
     waiting: Vec<usize>,
     /// How many sockets there were.
     opened: u64,
+    counts: Counts,
+    stats: Option<TcpListener>,
+    start: Instant,
+    /// The millisecond of this round, and of the last look at time limits.
+    now: u64,
+    swept: u64,
+    /// The millisecond in which standard input ended, with which it ends.
+    ending: Option<u64>,
     log: W,
 }
 
 impl<W: Write + Drop> House<W> {
     /// A relay that listens and has no application yet.
-    pub fn new<R: Net>(rt: &R, alloc: Global, asked: Asked, log: W) -> io::Result<House<W>> {
+    pub fn new<R: Net + Clock>(
+        rt: &R,
+        alloc: Global,
+        asked: Asked,
+        log: W,
+    ) -> io::Result<House<W>> {
+        let start = Instant::now(rt)?;
         let poll = Poll::new(rt)?;
         let mut listener = TcpListener::bind(rt, asked.listen)?;
         poll.registry()
@@ -114,8 +89,34 @@ impl<W: Write + Drop> House<W> {
             groups: Slab::new(alloc),
             waiting: Vec::new(alloc),
             opened: 0,
+            counts: Counts::none(),
+            stats: None,
+            start,
+            now: 0,
+            swept: 0,
+            ending: None,
             log,
         })
+    }
+
+    /// From now on it tells whoever asks at this address what it does. Answers the address.
+    pub fn tell_at<R: Net>(&mut self, rt: &R, address: SocketAddr) -> io::Result<SocketAddr> {
+        let mut listener = TcpListener::bind(rt, address)?;
+        self.poll
+            .registry()
+            .register(&mut listener, ASKERS, Interest::READABLE)?;
+        let address = listener.local_addr()?;
+        self.stats = Some(listener);
+        Ok(address)
+    }
+
+    /// From now on it ends in order where standard input ends, which is to be a pipe or a socket: the
+    /// system refuses a file. Nothing is read of it.
+    pub fn end_with_input(&mut self) -> io::Result<()> {
+        let mut input = SourceFd(&0);
+        self.poll
+            .registry()
+            .register(&mut input, INPUT, Interest::READABLE)
     }
 
     /// The address at which it listens.
@@ -123,32 +124,55 @@ impl<W: Write + Drop> House<W> {
         self.listener.local_addr()
     }
 
-    /// Relays whoever comes, until the system refuses to go on.
-    pub fn serve<R: Net>(&mut self, rt: &R) -> io::Result<()> {
+    /// Relays whoever comes, until it has ended with its standard input, or the system refuses to go on.
+    /// Answers how many applications were closed in the middle then.
+    pub fn serve<R: Net + Clock>(&mut self, rt: &R) -> io::Result<usize> {
         let mut events = Events::with_capacity(self.alloc, ROUND)?;
         for _ in 0..u64::MAX {
             self.round(rt, &mut events)?;
+            if self.has_ended() {
+                break;
+            }
+        }
+        Ok(self.applications())
+    }
+
+    /// Waits for the system, and not at all where a socket has more to do; then each of them has a turn.
+    fn round<R: Net + Clock>(&mut self, rt: &R, events: &mut Events<Global>) -> io::Result<()> {
+        let longest = if self.waiting.is_empty() { SWEEP } else { 0 };
+        self.poll
+            .poll(events, Some(Duration::from_millis(longest)))?;
+        let now = self.start.elapsed(rt)?.as_millis();
+        self.now = u64::try_from(now).unwrap_or(u64::MAX);
+        self.hear(events)?;
+        let turns = mem::replace(&mut self.waiting, Vec::new(self.alloc));
+        for key in turns.iter() {
+            self.turn(rt, *key)?;
+        }
+        if self.now >= self.swept.saturating_add(SWEEP) {
+            self.swept = self.now;
+            self.accept()?;
+            self.sweep(rt)?;
         }
         Ok(())
     }
 
-    /// Waits for the system, and not at all where a socket has more to do; then each of them has a turn.
-    fn round<R: Net>(&mut self, rt: &R, events: &mut Events<Global>) -> io::Result<()> {
-        let longest = if self.waiting.is_empty() { 1000 } else { 0 };
-        self.poll
-            .poll(events, Some(Duration::from_millis(longest)))?;
+    /// Does what the system reported asks for.
+    fn hear(&mut self, events: &Events<Global>) -> io::Result<()> {
         for event in events.iter() {
             let token = event.token();
             if token == LISTENER {
                 self.accept()?;
+            } else if token == ASKERS {
+                self.accept_askers()?;
+            } else if token == INPUT {
+                if event.is_read_closed() && self.ending.is_none() {
+                    self.ending = Some(self.now);
+                }
             } else {
                 let readable = event.is_readable() || event.is_read_closed() || event.is_error();
                 self.report(token.0, readable)?;
             }
-        }
-        let turns = mem::replace(&mut self.waiting, Vec::new(self.alloc));
-        for key in turns.iter() {
-            self.turn(rt, *key)?;
         }
         Ok(())
     }
@@ -163,16 +187,34 @@ impl<W: Write + Drop> House<W> {
         Ok(())
     }
 
-    /// Accepts all who wait.
+    /// Accepts all who wait, and closes them at once where it is to end.
     fn accept(&mut self) -> io::Result<()> {
         for _ in 0..MOST {
             let Ok((stream, _)) = self.listener.accept() else {
                 return Ok(());
             };
+            if self.ending.is_some() {
+                continue;
+            }
             let gate = Role::Gate(Gate::new(self.alloc));
             if let Some(key) = self.take_in(stream, gate)? {
                 self.say("socket", key, "has come");
             }
+        }
+        Ok(())
+    }
+
+    /// Accepts all who ask what it does.
+    fn accept_askers(&mut self) -> io::Result<()> {
+        for _ in 0..MOST {
+            let Some(listener) = &self.stats else {
+                return Ok(());
+            };
+            let Ok((stream, from)) = listener.accept() else {
+                return Ok(());
+            };
+            let asker = Asker::new(self.alloc, from.ip().is_loopback());
+            let _ = self.take_in(stream, Role::Asker(asker))?;
         }
         Ok(())
     }
@@ -198,6 +240,13 @@ impl<W: Write + Drop> House<W> {
             link: Link::new(stream),
             role,
             out: Vec::new(self.alloc),
+            who: None,
+            born: self.now,
+            seen: Seen {
+                at: At::Other,
+                mark: 0,
+                since: self.now,
+            },
         };
         let _ = self.sockets.insert(socket).is_ok();
         Ok(Some(key))
@@ -242,6 +291,7 @@ impl<W: Write + Drop> House<W> {
         };
         match socket.whose() {
             Whose::Gate | Whose::Judged | Whose::First(_) | Whose::Opening(..) => PIECE,
+            Whose::Asker => PIECE,
             Whose::Application(group, key) => match relay_of(groups, group) {
                 Some(relay) => relay.room(key),
                 None => PIECE,

@@ -29,6 +29,14 @@ const FEATURES: u8 = 0x10;
 /// database. The host's, at 36, may differ.
 const TEXTS: [usize; 7] = [40, 44, 48, 52, 60, 64, 68];
 
+/// The places of the host's name and of the application's.
+const HOST: usize = 36;
+
+const PROGRAM: usize = 48;
+
+/// The most characters of a name that are kept.
+const MOST_NAMED: usize = 48;
+
 /// A file that is attached.
 const ATTACHED: usize = 82;
 
@@ -39,6 +47,45 @@ pub enum Kind {
     Shared(Vec<u8>),
     /// It can't be shared, and this is why.
     Alone(&'static str),
+}
+
+/// Who an application says that it is, in letters that need no escape anywhere.
+#[derive(Debug, Drop)]
+pub struct Who {
+    pub host: String,
+    pub program: String,
+}
+
+/// Who this login says that it is.
+pub fn who_of(alloc: Global, message: &[u8]) -> Result<Who, AllocError> {
+    Ok(Who {
+        host: name_at(alloc, message, HOST)?,
+        program: name_at(alloc, message, PROGRAM)?,
+    })
+}
+
+/// The text whose place stands here, with a `?` in the place of each unit that isn't a plain letter.
+fn name_at(alloc: Global, message: &[u8], place: usize) -> Result<String, AllocError> {
+    let mut name = String::new(alloc);
+    let text = match text_at(message, place) {
+        Some(text) => text,
+        None => &[],
+    };
+    for unit in text.chunks_exact(2).take(MOST_NAMED) {
+        name.push(match unit {
+            [low, 0] => letter(*low),
+            _ => '?',
+        })?;
+    }
+    Ok(name)
+}
+
+fn letter(byte: u8) -> char {
+    match byte {
+        b'a'..=b'z' | b'A'..=b'Z' | b'0'..=b'9' => char::from(byte),
+        b' ' | b'.' | b'-' | b'_' | b'/' | b':' | b'(' | b')' | b'@' | b'+' => char::from(byte),
+        _ => '?',
+    }
 }
 
 /// Leaves out what the relay doesn't speak: features.

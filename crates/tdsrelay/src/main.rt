@@ -2,13 +2,18 @@
 //! have. One thread.
 #![tactic(auto)]
 
+mod counts;
 mod dial;
 mod fault;
+mod figures;
 mod gate;
 mod group;
 mod house;
+mod limits;
 mod link;
 mod login7;
+mod socket;
+mod stats;
 mod words;
 
 use fault::RelayFault;
@@ -43,18 +48,30 @@ fn answer(rt: &HostRuntime, fault: &RelayFault) -> u8 {
 fn run(rt: &HostRuntime) -> Result<(), RelayFault> {
     let words = given_words(rt).map_err(RelayFault::of_words)?;
     let asked = read_words(rt.alloc(), words.as_slice())?;
-    let house = match House::new(rt, rt.alloc(), asked, rt.stderr()) {
+    let mut house = match House::new(rt, rt.alloc(), asked, rt.stderr()) {
         Ok(house) => house,
         Err(error) => return Err(RelayFault::Listen(asked.listen, error)),
     };
+    if asked.ends_with_input {
+        house.end_with_input().map_err(RelayFault::Input)?;
+    }
+    if let Some(stats) = asked.stats {
+        let at = match house.tell_at(rt, stats) {
+            Ok(at) => at,
+            Err(error) => return Err(RelayFault::Listen(stats, error)),
+        };
+        let _ = eprintln!(rt; "telling at {at}");
+    }
     serve(rt, house, asked)
 }
 
-/// Says where it serves, and serves until the system refuses to go on.
+/// Says where it serves, serves, and says how many applications it closed in the middle once it ends.
 fn serve(rt: &HostRuntime, mut house: House<Stderr>, asked: Asked) -> Result<(), RelayFault> {
     let address = house.address().map_err(RelayFault::Refused)?;
     let _ = eprintln!(rt; "relaying {address} to {}", asked.server);
-    house.serve(rt).map_err(RelayFault::Refused)
+    let open = house.serve(rt).map_err(RelayFault::Refused)?;
+    let _ = eprintln!(rt; "ended: applications {open}");
+    Ok(())
 }
 
 /// The words of the command line, the program's name too.

@@ -68,6 +68,7 @@ impl Relay {
         };
         application.asking = Asking::Waits { kind, whole: false };
         application.reset = reset;
+        application.begun = application.begun.saturating_add(1);
         application.forget();
         match (application.hold, reset) {
             (None, _) => {
@@ -200,7 +201,10 @@ impl Relay {
             return self.expel(key);
         };
         match self.cancel(hold)? {
-            Some(Cancelled::Asked) => Ok(()),
+            Some(Cancelled::Asked) => {
+                self.counts.cancels = self.counts.cancels.saturating_add(1);
+                Ok(())
+            }
             _ => self.lose(hold.number),
         }
     }

@@ -63,13 +63,17 @@ impl Relay {
                     Ok((_, rest)) => Some(rest),
                     Err(_) => None,
                 };
+                link.drains = matches!(rest, Some(Rest::Draining));
             }
         }
         self.order_write_on(hold.number)?;
         match rest {
             Some(Rest::Free) if is_open => self.clean(hold.number),
             Some(Rest::Free) => Ok(()),
-            Some(Rest::Draining) => Ok(()),
+            Some(Rest::Draining) => {
+                self.counts.cancels = self.counts.cancels.saturating_add(1);
+                Ok(())
+            }
             Some(Rest::Closed) => self.lose(hold.number),
             None => self.lose(hold.number),
         }
@@ -90,12 +94,14 @@ impl Relay {
                     break;
                 };
                 link.holder = Holder::Cleaning(lent.lease);
+                link.drains = false;
                 is_asked = service.ask(lent.lease, MessageKind::Batch).is_ok()
                     && service.put(lent.lease, cleaning, link.out.bytes()).is_ok()
                     && service.finish(lent.lease, link.out.bytes()).is_ok();
                 break;
             }
         }
+        self.counts.cleanings = self.counts.cleanings.saturating_add(1);
         if is_asked {
             self.order_write_on(number)
         } else {
@@ -112,7 +118,10 @@ impl Relay {
                 }
                 Ok(())
             }
-            _ => self.lose(number),
+            _ => {
+                self.counts.failed = self.counts.failed.saturating_add(1);
+                self.lose(number)
+            }
         }
     }
 

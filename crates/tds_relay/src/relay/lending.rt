@@ -116,7 +116,7 @@ impl Relay {
             return Ok(());
         }
         match self.service.ask(hold.lease, kind) {
-            Ok(_) => {}
+            Ok(_) => self.counts.requests = self.counts.requests.saturating_add(1),
             Err(Refusal::NotIdle) => return Ok(()),
             Err(_) => return self.lose(hold.number),
         }

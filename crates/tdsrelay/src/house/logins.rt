@@ -1,9 +1,11 @@
 //! What comes on sockets: logins on both sides, then what the relay is told.
-use super::{House, Role, Whose, relay_of};
+use super::{House, relay_of};
+use crate::counts::raise;
 use crate::dial::{Dial, Dialed};
 use crate::gate::Passed;
 use crate::group::{Group, Stage, put_saved};
-use crate::login7::{Kind, kind_of, without_features};
+use crate::login7::{Kind, kind_of, who_of, without_features};
+use crate::socket::{Role, Whose};
 use mio::net::TcpStream;
 use std::io::{self, Write};
 use std::mem;
@@ -40,6 +42,7 @@ impl<W: Write + Drop> House<W> {
             Whose::First(group) => self.first_dialed(rt, key, group, piece),
             Whose::Opening(group, number) => self.dialed(rt, key, group, number, piece),
             Whose::Judged => self.closed(rt, key),
+            Whose::Asker => self.asked_for(rt, key, piece),
             Whose::Closing => Ok(()),
         }
     }
@@ -74,6 +77,10 @@ impl<W: Write + Drop> House<W> {
     /// Its LOGIN7 has come.
     fn log_in<R: Net>(&mut self, rt: &R, key: usize, mut message: Vec<u8>) -> io::Result<()> {
         without_features(&mut message);
+        let who = who_of(self.alloc, &message)?;
+        if let Some(socket) = self.sockets.get_mut(key) {
+            socket.who = Some(who);
+        }
         match kind_of(self.alloc, &message)? {
             Kind::Alone(why) => self.refuse(rt, key, why),
             Kind::Shared(login) => match self.group_of(&login) {
@@ -111,6 +118,7 @@ impl<W: Write + Drop> House<W> {
             Stage::Open(relay, answer) => {
                 put_saved(&mut socket.out, answer)?;
                 socket.role = Role::Application(group, relay.enter(key)?);
+                raise(&mut self.counts.let_in);
                 self.say("application", key, "is let in");
                 self.send_or_close(rt, key)
             }
@@ -163,6 +171,7 @@ impl<W: Write + Drop> House<W> {
         if let Some(socket) = self.sockets.get_mut(first) {
             socket.out.extend_from_slice(&out)?;
         }
+        raise(&mut self.counts.opened);
         self.say("connection", first, "is opened");
         Ok(())
     }
@@ -244,6 +253,7 @@ impl<W: Write + Drop> House<W> {
         let number = match (brought, self.sockets.get_mut(key)) {
             (Some(number), Some(socket)) => {
                 socket.role = Role::Connection(group, number);
+                socket.born = self.now;
                 number
             }
             _ => return self.close(key),
@@ -325,6 +335,7 @@ impl<W: Write + Drop> House<W> {
         }
         if let Some(socket) = self.sockets.get_mut(key) {
             socket.role = Role::Connection(group, number);
+            socket.born = self.now;
         }
         if let Some(relay) = relay_of(&mut self.groups, group) {
             relay.opened(number)?;
@@ -356,8 +367,9 @@ impl<W: Write + Drop> House<W> {
         self.send_or_close(rt, key)
     }
 
-    fn put_refusal(&mut self, key: usize, why: &str) -> io::Result<()> {
+    pub(super) fn put_refusal(&mut self, key: usize, why: &str) -> io::Result<()> {
         let alloc = self.alloc;
+        raise(&mut self.counts.refused);
         if let Some(socket) = self.sockets.get_mut(key) {
             put_error(alloc, &mut socket.out, REFUSED, why.as_bytes())?;
             socket.role = Role::Closing;
@@ -366,7 +378,7 @@ impl<W: Write + Drop> House<W> {
     }
 
     /// It is closed behind what waits for it.
-    fn dismiss<R: Net>(&mut self, rt: &R, key: usize) -> io::Result<()> {
+    pub(super) fn dismiss<R: Net>(&mut self, rt: &R, key: usize) -> io::Result<()> {
         if let Some(socket) = self.sockets.get_mut(key) {
             socket.role = Role::Closing;
         }

@@ -1,8 +1,10 @@
 //! What the relay says is to be done: sockets are written to, opened and closed.
-use super::{House, Role, Socket, Whose, relay_of};
+use super::{House, relay_of};
+use crate::counts::{raise, sum};
 use crate::dial::Dial;
 use crate::group::Group;
 use crate::link::Link;
+use crate::socket::{Role, Socket, Whose};
 use mio::net::TcpStream;
 use slab::Slab;
 use std::io::{self, Write};
@@ -43,7 +45,16 @@ impl<W: Write + Drop> House<W> {
             None => false,
         };
         if is_deserted {
-            let _ = self.groups.try_remove(group).is_some();
+            self.forget(group);
+        }
+    }
+
+    /// A group is no longer one. What it has done is counted.
+    pub(super) fn forget(&mut self, group: usize) {
+        if let Some(mut gone) = self.groups.try_remove(group) {
+            if let Some(relay) = gone.relay() {
+                self.counts.gone = sum(self.counts.gone, relay.counts());
+            }
         }
     }
 
@@ -70,6 +81,7 @@ impl<W: Write + Drop> House<W> {
         if let Some(relay) = relay_of(&mut self.groups, group) {
             relay.opening(number, key);
         }
+        raise(&mut self.counts.opened);
         self.say("connection", key, "is opened");
         Ok(())
     }
@@ -89,6 +101,7 @@ impl<W: Write + Drop> House<W> {
         let Some(socket) = self.sockets.try_remove(key) else {
             return Ok(());
         };
+        self.count_end(&socket);
         if let Whose::Application(group, application) = socket.whose() {
             if let Some(relay) = relay_of(&mut self.groups, group) {
                 relay.left(application)?;
@@ -103,8 +116,9 @@ impl<W: Write + Drop> House<W> {
         let Some(socket) = self.sockets.try_remove(key) else {
             return Ok(());
         };
+        self.count_end(&socket);
         match socket.whose() {
-            Whose::Gate | Whose::Judged | Whose::Closing => Ok(()),
+            Whose::Gate | Whose::Judged | Whose::Asker | Whose::Closing => Ok(()),
             Whose::Application(group, application) => {
                 if let Some(relay) = relay_of(&mut self.groups, group) {
                     relay.left(application)?;
@@ -118,6 +132,16 @@ impl<W: Write + Drop> House<W> {
                 }
                 self.obey(rt, group)
             }
+        }
+    }
+
+    fn count_end(&mut self, socket: &Socket) {
+        match socket.whose() {
+            Whose::First(_) | Whose::Opening(..) | Whose::Connection(..) => {
+                raise(&mut self.counts.ended);
+            }
+            Whose::Gate | Whose::Judged | Whose::Application(..) => {}
+            Whose::Asker | Whose::Closing => {}
         }
     }
 
@@ -189,7 +213,9 @@ fn send_to(socket: &mut Socket, groups: &mut Slab<Group>) -> io::Result<Option<u
             Ok(partner)
         }
         Whose::Closing => Err(io::Error::from(io::ErrorKind::BrokenPipe)),
-        Whose::Gate | Whose::Judged | Whose::First(_) | Whose::Opening(..) => Ok(None),
+        Whose::Gate | Whose::Judged | Whose::First(_) | Whose::Opening(..) | Whose::Asker => Ok(
+            None,
+        ),
     }
 }
 

@@ -1,0 +1,57 @@
+//! What the relay has done since it began.
+
+use crate::group::NOTHING;
+
+/// What it has done. Each of them only grows.
+#[derive(Clone, Copy, Debug)]
+pub struct Counts {
+    /// Applications that were let in, and those that were refused.
+    pub let_in: u64,
+    pub refused: u64,
+    /// Connections that were opened, and those of them that ended.
+    pub opened: u64,
+    pub ended: u64,
+    /// What was closed since a time limit ran out.
+    pub late_logins: u64,
+    pub late_waits: u64,
+    pub late_cancels: u64,
+    pub late_holds: u64,
+    /// Connections that were closed as idle or old.
+    pub idle: u64,
+    pub old: u64,
+    /// What groups that are gone had done.
+    pub gone: tds_relay::Counts,
+}
+
+impl Counts {
+    pub fn none() -> Counts {
+        Counts {
+            let_in: 0,
+            refused: 0,
+            opened: 0,
+            ended: 0,
+            late_logins: 0,
+            late_waits: 0,
+            late_cancels: 0,
+            late_holds: 0,
+            idle: 0,
+            old: 0,
+            gone: NOTHING,
+        }
+    }
+}
+
+/// One more.
+pub fn raise(count: &mut u64) {
+    *count = count.saturating_add(1);
+}
+
+/// The sum of what two relays have done.
+pub fn sum(one: tds_relay::Counts, other: tds_relay::Counts) -> tds_relay::Counts {
+    tds_relay::Counts {
+        requests: one.requests.saturating_add(other.requests),
+        cancels: one.cancels.saturating_add(other.cancels),
+        cleanings: one.cleanings.saturating_add(other.cleanings),
+        failed: one.failed.saturating_add(other.failed),
+    }
+}

@@ -1,0 +1,154 @@
+//! What is there and what was done, in numbers that have names.
+
+use crate::counts::Counts;
+use crate::socket::{At, Whose};
+use std::io::{self, Write};
+
+/// The figures of a moment.
+#[derive(Clone, Copy, Debug)]
+pub struct Figures {
+    pub seconds: u64,
+    pub counts: Counts,
+    /// What all groups have done, those that are gone too.
+    pub done: tds_relay::Counts,
+    logging_in: u64,
+    quiet: u64,
+    holding: u64,
+    waiting: u64,
+    asking: u64,
+    cancelling: u64,
+    opening: u64,
+    free: u64,
+    held: u64,
+    draining: u64,
+    cleaning: u64,
+}
+
+/// A figure: what it is of, its name, and how many.
+type Figure = (&'static str, &'static str, u64);
+
+impl Figures {
+    pub fn new(seconds: u64, counts: Counts) -> Figures {
+        Figures {
+            seconds,
+            counts,
+            done: counts.gone,
+            logging_in: 0,
+            quiet: 0,
+            holding: 0,
+            waiting: 0,
+            asking: 0,
+            cancelling: 0,
+            opening: 0,
+            free: 0,
+            held: 0,
+            draining: 0,
+            cleaning: 0,
+        }
+    }
+
+    /// One more socket, which is at this.
+    pub fn add(&mut self, whose: Whose, at: At) {
+        let count = match (whose, at) {
+            (Whose::Gate | Whose::Judged, _) => &mut self.logging_in,
+            (Whose::First(_) | Whose::Opening(..), _) => &mut self.opening,
+            (Whose::Application(..), At::Quiet) => &mut self.quiet,
+            (Whose::Application(..), At::Holding) => &mut self.holding,
+            (Whose::Application(..), At::Waiting | At::Opening) => &mut self.waiting,
+            (Whose::Application(..), At::Asking) => &mut self.asking,
+            (Whose::Application(..), At::Cancelling) => &mut self.cancelling,
+            (Whose::Connection(..), At::Free) => &mut self.free,
+            (Whose::Connection(..), At::Held) => &mut self.held,
+            (Whose::Connection(..), At::Draining) => &mut self.draining,
+            (Whose::Connection(..), At::Cleaning) => &mut self.cleaning,
+            _ => return,
+        };
+        *count = count.saturating_add(1);
+    }
+
+    /// Applications and connections, by where they are.
+    fn there(&self) -> [Figure; 11] {
+        [
+            ("applications", "logging_in", self.logging_in),
+            ("applications", "quiet", self.quiet),
+            ("applications", "holding", self.holding),
+            ("applications", "waiting", self.waiting),
+            ("applications", "asking", self.asking),
+            ("applications", "cancelling", self.cancelling),
+            ("connections", "logging_in", self.opening),
+            ("connections", "free", self.free),
+            ("connections", "held", self.held),
+            ("connections", "draining", self.draining),
+            ("connections", "cleaning", self.cleaning),
+        ]
+    }
+
+    /// What was done since the relay began.
+    fn counted(&self) -> [Figure; 14] {
+        [
+            ("applications", "let_in", self.counts.let_in),
+            ("applications", "refused", self.counts.refused),
+            ("connections", "opened", self.counts.opened),
+            ("connections", "ended", self.counts.ended),
+            ("done", "requests", self.done.requests),
+            ("done", "cancels", self.done.cancels),
+            ("done", "cleanings", self.done.cleanings),
+            ("done", "cleanings_failed", self.done.failed),
+            ("limits", "login", self.counts.late_logins),
+            ("limits", "wait", self.counts.late_waits),
+            ("limits", "cancel", self.counts.late_cancels),
+            ("limits", "hold", self.counts.late_holds),
+            ("limits", "idle", self.counts.idle),
+            ("limits", "life", self.counts.old),
+        ]
+    }
+}
+
+/// Appends them for a reader.
+pub fn put_text_figures(body: &mut Vec<u8>, figures: &Figures) -> io::Result<()> {
+    write!(body, "since {} s\n\nnow\n", figures.seconds)?;
+    for (of, name, count) in figures.there().iter() {
+        write!(body, "  {of} {name} {count}\n")?;
+    }
+    write!(body, "\nsince the beginning\n")?;
+    for (of, name, count) in figures.counted().iter() {
+        write!(body, "  {of} {name} {count}\n")?;
+    }
+    Ok(())
+}
+
+/// Begins an object that has them.
+pub fn put_json_figures(body: &mut Vec<u8>, figures: &Figures) -> io::Result<()> {
+    write!(
+        body,
+        "{{\"version\":\"0.1.0\",\"seconds\":{}",
+        figures.seconds
+    )?;
+    for (of, name, count) in figures.there().iter() {
+        write!(body, ",\"{of}_{name}\":{count}")?;
+    }
+    for (of, name, count) in figures.counted().iter() {
+        write!(body, ",\"total_{of}_{name}\":{count}")?;
+    }
+    Ok(())
+}
+
+/// Appends them in the text form that Prometheus reads.
+pub fn put_metrics(body: &mut Vec<u8>, figures: &Figures) -> io::Result<()> {
+    write!(
+        body,
+        "# TYPE tdsrelay_seconds gauge\ntdsrelay_seconds {}\n",
+        figures.seconds
+    )?;
+    for (of, name, count) in figures.there().iter() {
+        let full = "tdsrelay_now";
+        write!(body, "# TYPE {full}_{of}_{name} gauge\n")?;
+        write!(body, "{full}_{of}_{name} {count}\n")?;
+    }
+    for (of, name, count) in figures.counted().iter() {
+        let full = "tdsrelay";
+        write!(body, "# TYPE {full}_{of}_{name}_total counter\n")?;
+        write!(body, "{full}_{of}_{name}_total {count}\n")?;
+    }
+    Ok(())
+}

@@ -1,0 +1,253 @@
+//! Time limits, and the end: what has lasted too long is closed.
+use super::{House, relay_of};
+use crate::counts::raise;
+use crate::limits::{Limits, is_beyond};
+use crate::socket::{At, Role, Whose};
+use std::io::{self, Write};
+use std::net::Net;
+use tds_login::put_error;
+use tds_relay::{Place, PlaceOn};
+
+/// Why something is closed.
+#[derive(Clone, Copy, Debug)]
+enum Why {
+    Login,
+    Wait,
+    Cancel,
+    Hold,
+    Idle,
+    Old,
+    /// The relay ends.
+    End,
+}
+
+impl Why {
+    /// The log's words.
+    fn words(self) -> &'static str {
+        match self {
+            Why::Login => "has taken too long to log in",
+            Why::Wait => "has waited too long for a connection",
+            Why::Cancel => "has no acknowledgement of a cancel, or of a cleaning",
+            Why::Hold => "has held a connection too long and asked nothing",
+            Why::Idle => "was idle too long",
+            Why::Old => "is old enough",
+            Why::End => "is closed, since the relay ends",
+        }
+    }
+
+    /// What an application is told: an error's number (MS-TDS 2.2.7.10) and its sentence.
+    fn told(self) -> Option<(u32, &'static str)> {
+        match self {
+            Why::Wait => Some((50_101, "The relay had no connection free in time.")),
+            Why::Hold => Some((
+                50_102,
+                "The relay closes who holds a connection for long and asks nothing.",
+            )),
+            Why::End => Some((50_103, "The relay ends.")),
+            Why::Login => Some((50_100, "The server has not judged the login in time.")),
+            Why::Cancel | Why::Idle | Why::Old => None,
+        }
+    }
+}
+
+impl<W: Write + Drop> House<W> {
+    /// Closes what has lasted longer than its limit.
+    pub(super) fn sweep<R: Net>(&mut self, rt: &R) -> io::Result<()> {
+        let mut keys = Vec::new(self.alloc);
+        for (key, _) in self.sockets.iter() {
+            keys.push(key)?;
+        }
+        for key in keys.iter() {
+            if let Some(why) = self.look_at(*key) {
+                self.end(rt, *key, why)?;
+            }
+        }
+        Ok(())
+    }
+
+    /// Whether it is to end, and has no application left or has waited long enough for that.
+    pub(super) fn has_ended(&self) -> bool {
+        match self.ending {
+            Some(since) => {
+                let lasted = self.now.saturating_sub(since);
+                self.applications() == 0 || is_beyond(self.asked.limits.drain, lasted)
+            }
+            None => false,
+        }
+    }
+
+    /// How many applications are logged in.
+    pub(super) fn applications(&self) -> usize {
+        let mut count: usize = 0;
+        for (_, socket) in self.sockets.iter() {
+            if matches!(socket.role, Role::Application(..)) {
+                count = count.saturating_add(1);
+            }
+        }
+        count
+    }
+
+    /// Notes what a socket is at, and answers why it is to be closed, if it is.
+    fn look_at(&mut self, key: usize) -> Option<Why> {
+        let (at, mark) = self.at(key);
+        let (now, limits, is_ending) = (self.now, self.asked.limits, self.ending.is_some());
+        let socket = self.sockets.get_mut(key)?;
+        socket.see(at, mark, now);
+        let lasted = now.saturating_sub(socket.seen.since);
+        let age = now.saturating_sub(socket.born);
+        if is_ending && matches!(at, At::Login | At::Quiet | At::Holding | At::Waiting) {
+            return Some(Why::End);
+        }
+        why_late(at, lasted, age, &limits)
+    }
+
+    /// What a socket is at, and what tells two of that apart.
+    pub(super) fn at(&mut self, key: usize) -> (At, u64) {
+        let House {
+            sockets,
+            groups,
+            ..
+        } = self;
+        let Some(socket) = sockets.get(key) else {
+            return (At::Other, 0);
+        };
+        match socket.whose() {
+            Whose::Gate | Whose::Judged | Whose::First(_) | Whose::Opening(..) => (At::Login, 0),
+            Whose::Asker | Whose::Closing => (At::Other, 0),
+            Whose::Application(group, application) => match relay_of(groups, group) {
+                Some(relay) => (
+                    at_of(relay.place_of(application)),
+                    relay.begun_by(application),
+                ),
+                None => (At::Other, 0),
+            },
+            Whose::Connection(group, number) => match relay_of(groups, group) {
+                Some(relay) => at_on(relay.place_on(number)),
+                None => (At::Other, 0),
+            },
+        }
+    }
+
+    /// Closes it. An application is told why, where nothing else waits for it.
+    fn end<R: Net>(&mut self, rt: &R, key: usize, why: Why) -> io::Result<()> {
+        self.count(why);
+        self.say("socket", key, why.words());
+        let whose = match self.sockets.get(key) {
+            Some(socket) => socket.whose(),
+            None => return Ok(()),
+        };
+        match (whose, why) {
+            (Whose::Application(group, application), Why::Cancel) => {
+                self.give_up(rt, group, application)
+            }
+            (Whose::Application(group, application), _) => {
+                self.dismiss_from(rt, key, group, application, why)
+            }
+            (Whose::Judged, Why::Login) => self.put_refusal(
+                key,
+                "The server gave no answer in time.",
+            ),
+            _ => self.closed(rt, key),
+        }
+    }
+
+    fn count(&mut self, why: Why) {
+        let counts = &mut self.counts;
+        match why {
+            Why::Login => raise(&mut counts.late_logins),
+            Why::Wait => raise(&mut counts.late_waits),
+            Why::Cancel => raise(&mut counts.late_cancels),
+            Why::Hold => raise(&mut counts.late_holds),
+            Why::Idle => raise(&mut counts.idle),
+            Why::Old => raise(&mut counts.old),
+            Why::End => {}
+        }
+    }
+
+    /// The connection on which an application's cancel isn't acknowledged is closed, and the application
+    /// with it.
+    fn give_up<R: Net>(&mut self, rt: &R, group: usize, application: usize) -> io::Result<()> {
+        if let Some(relay) = relay_of(&mut self.groups, group) {
+            if let Some(Place::Cancelling(number)) = relay.place_of(application) {
+                relay.lost(number)?;
+            }
+        }
+        self.obey(rt, group)
+    }
+
+    /// An application is taken out of its group and closed.
+    fn dismiss_from<R: Net>(
+        &mut self,
+        rt: &R,
+        key: usize,
+        group: usize,
+        application: usize,
+        why: Why,
+    ) -> io::Result<()> {
+        let House {
+            sockets,
+            groups,
+            alloc,
+            ..
+        } = self;
+        if let (Some(socket), Some(relay)) = (sockets.get_mut(key), relay_of(groups, group)) {
+            if let (true, Some((number, text))) = (
+                relay.unsent(application).is_empty(),
+                why.told(),
+            ) {
+                put_error(*alloc, &mut socket.out, number, text.as_bytes())?;
+            }
+            socket.role = Role::Closing;
+            relay.left(application)?;
+        }
+        self.obey(rt, group)?;
+        self.dismiss(rt, key)
+    }
+}
+
+fn at_of(place: Option<Place>) -> At {
+    match place {
+        Some(Place::Quiet) => At::Quiet,
+        Some(Place::Holding(_)) => At::Holding,
+        Some(Place::Waiting) => At::Waiting,
+        Some(Place::Opening(_)) => At::Opening,
+        Some(Place::Asking(_)) => At::Asking,
+        Some(Place::Cancelling(_)) => At::Cancelling,
+        Some(Place::Over) => At::Other,
+        None => At::Other,
+    }
+}
+
+fn at_on(place: Option<PlaceOn>) -> (At, u64) {
+    match place {
+        Some(PlaceOn::Opening) => (At::Login, 0),
+        Some(PlaceOn::Free) => (At::Free, 0),
+        Some(PlaceOn::Held(key)) => (At::Held, key as u64),
+        Some(PlaceOn::Draining) => (At::Draining, 0),
+        Some(PlaceOn::Cleaning) => (At::Cleaning, 0),
+        None => (At::Other, 0),
+    }
+}
+
+/// Why what has lasted so many milliseconds is to be closed, if it is.
+fn why_late(at: At, lasted: u64, age: u64, limits: &Limits) -> Option<Why> {
+    match at {
+        At::Login | At::Other => limited(limits.login, lasted, Why::Login),
+        At::Waiting | At::Opening => limited(limits.wait, lasted, Why::Wait),
+        At::Cancelling | At::Draining | At::Cleaning => limited(limits.cancel, lasted, Why::Cancel),
+        At::Holding => limited(limits.hold, lasted, Why::Hold),
+        At::Free => match limited(limits.idle, lasted, Why::Idle) {
+            Some(why) => Some(why),
+            None => limited(limits.life, age, Why::Old),
+        },
+        At::Quiet | At::Asking | At::Held => None,
+    }
+}
+
+fn limited(limit: u64, lasted: u64, why: Why) -> Option<Why> {
+    if is_beyond(limit, lasted) {
+        Some(why)
+    } else {
+        None
+    }
+}

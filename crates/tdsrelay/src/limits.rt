@@ -1,0 +1,39 @@
+//! Time limits, in seconds. 0 is none.
+
+/// How long what may last.
+#[derive(Clone, Copy, Debug)]
+pub struct Limits {
+    /// A login, on either side.
+    pub login: u64,
+    /// The wait for a connection.
+    pub wait: u64,
+    /// A cancel that the server doesn't acknowledge, and a cleaning.
+    pub cancel: u64,
+    /// A connection that nobody holds.
+    pub idle: u64,
+    /// A connection from its login on; it is closed once nobody holds it.
+    pub life: u64,
+    /// An application that holds a connection and asks nothing.
+    pub hold: u64,
+    /// What is still open once the relay is to end.
+    pub drain: u64,
+}
+
+/// The limits where no word says them.
+pub const USUAL: Limits = Limits {
+    login: 10,
+    wait: 120,
+    cancel: 30,
+    idle: 600,
+    life: 3600,
+    hold: 0,
+    drain: 30,
+};
+
+/// The most seconds that a word may say: a week.
+pub const MOST: u64 = 604_800;
+
+/// Whether so many milliseconds are beyond a limit.
+pub fn is_beyond(limit: u64, elapsed: u64) -> bool {
+    limit != 0 && elapsed > limit.saturating_mul(1000)
+}

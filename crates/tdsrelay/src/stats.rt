@@ -1,0 +1,103 @@
+//! Whoever asks what the relay does, over HTTP/1: what he asks for, and the answer's head.
+
+use httparse::Status;
+use httparse::spans::{EMPTY_HEADER_SPAN, parse_request};
+use std::alloc::{AllocError, Global};
+use std::io::{self, Write};
+
+/// The most bytes of a request's head.
+const MOST: usize = 4_096;
+
+/// What is asked for.
+#[derive(Clone, Copy, Debug, PartialEq, Eq)]
+pub enum Page {
+    /// A page of text for a reader.
+    Text,
+    Json,
+    /// The text form that Prometheus reads.
+    Metrics,
+    /// All that is there of the group of this number is to be closed.
+    Kill(u64),
+    /// Nothing that is there.
+    Unknown,
+    /// No request of HTTP.
+    Wrong,
+}
+
+/// Somebody who asks, until his request's head has come.
+#[derive(Drop)]
+pub struct Asker {
+    head: Vec<u8>,
+    /// Whether he asks from this machine: only then is anything changed.
+    is_near: bool,
+}
+
+impl Asker {
+    pub fn new(alloc: Global, is_near: bool) -> Asker {
+        Asker {
+            head: Vec::new(alloc),
+            is_near,
+        }
+    }
+
+    /// Takes bytes, and answers what is asked for, once that is known.
+    pub fn take(&mut self, piece: &[u8]) -> Result<Option<Page>, AllocError> {
+        self.head.extend_from_slice(piece)?;
+        let mut headers = [EMPTY_HEADER_SPAN; 32];
+        let asked = match parse_request(&self.head, &mut headers) {
+            Ok(Status::Complete(head)) => Some(page_of(
+                head.method.of(&self.head),
+                head.path.of(&self.head),
+                self.is_near,
+            )),
+            Ok(Status::Partial) if self.head.len() <= MOST => None,
+            _ => Some(Page::Wrong),
+        };
+        Ok(asked)
+    }
+}
+
+fn page_of(method: &[u8], path: &[u8], is_near: bool) -> Page {
+    match method {
+        b"GET" => match path {
+            b"/" => Page::Text,
+            b"/json" => Page::Json,
+            b"/metrics" => Page::Metrics,
+            _ => Page::Unknown,
+        },
+        b"POST" if is_near => match path.strip_prefix(b"/kill/") {
+            Some(number) => killed(number),
+            None => Page::Unknown,
+        },
+        _ => Page::Unknown,
+    }
+}
+
+/// The number of the group that is to be closed.
+fn killed(digits: &[u8]) -> Page {
+    let mut number: u64 = 0;
+    if digits.is_empty() || digits.len() > 18 {
+        return Page::Unknown;
+    }
+    for digit in digits {
+        if !digit.is_ascii_digit() {
+            return Page::Unknown;
+        }
+        number = number
+            .saturating_mul(10)
+            .saturating_add(u64::from(*digit - b'0'));
+    }
+    Page::Kill(number)
+}
+
+/// Appends an answer with this body.
+pub fn put_answer(out: &mut Vec<u8>, status: &str, kind: &str, body: &[u8]) -> io::Result<()> {
+    let length = body.len();
+    write!(
+        out,
+        "HTTP/1.1 {status}\r\nContent-Type: {kind}; charset=utf-8\r\nContent-Length: {length}\r\n"
+    )?;
+    write!(out, "Connection: close\r\n\r\n")?;
+    out.extend_from_slice(body)?;
+    Ok(())
+}
