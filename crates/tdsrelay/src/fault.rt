@@ -19,6 +19,9 @@ pub enum RelayFault {
     Address(String),
     #[error("error: --most takes 1 to 1024 connections")]
     Most,
+    /// What is wrong with the configuration file.
+    #[error("error: {0}")]
+    Config(String),
     /// The word whose seconds can't be.
     #[error("error: --{0} takes seconds, 0 to 604800")]
     Seconds(&'static str),

@@ -2,6 +2,7 @@
 //! have. One thread.
 #![tactic(auto)]
 
+mod config;
 mod counts;
 mod dial;
 mod fault;
@@ -47,7 +48,7 @@ fn answer(rt: &HostRuntime, fault: &RelayFault) -> u8 {
 
 fn run(rt: &HostRuntime) -> Result<(), RelayFault> {
     let words = given_words(rt).map_err(RelayFault::of_words)?;
-    let asked = read_words(rt.alloc(), words.as_slice())?;
+    let asked = read_words(rt, rt.alloc(), words.as_slice())?;
     let mut house = match House::new(rt, rt.alloc(), asked, rt.stderr()) {
         Ok(house) => house,
         Err(error) => return Err(RelayFault::Listen(asked.listen, error)),

@@ -1,9 +1,11 @@
 //! The words of the command line.
 
+use crate::config::Config;
 use crate::fault::RelayFault;
 use crate::limits::{Limits, MOST as MOST_SECONDS, USUAL as USUAL_LIMITS};
 use clap::{Arg, ArgAction, ArgMatches, Command};
 use std::alloc::{AllocError, Global};
+use std::fs::Files;
 use std::net::SocketAddr;
 
 /// The connections of a group, where no word says it.
@@ -60,46 +62,59 @@ pub struct Asked {
     pub is_logged: bool,
 }
 
-/// Reads the words, the program's name too.
-pub fn read_words(alloc: Global, words: &[String]) -> Result<Asked, RelayFault> {
+/// Reads the words, the program's name too, and the file that they name. A word stands over the file.
+pub fn read_words<R: Files>(rt: &R, alloc: Global, words: &[String]) -> Result<Asked, RelayFault> {
     let matches = parser(alloc)?.try_get_matches_from(words)?;
+    let config = match matches.get_str("config") {
+        Some(path) => Config::read(rt, alloc, path)?,
+        None => Config::none(alloc),
+    };
     let listen = address_of(alloc, matches.get_str("LISTEN").unwrap_or(""))?;
     let server = address_of(alloc, matches.get_str("SERVER").unwrap_or(""))?;
-    let most = match matches.get_str("most") {
-        None => USUAL,
-        Some(word) => most_of(word)?,
+    let set = config.number("most", 1, MOST as u64)?;
+    let most = match (matches.get_str("most"), set) {
+        (Some(word), _) => most_of(word)?,
+        (None, Some(set)) => set as usize,
+        (None, None) => USUAL,
     };
-    let stats = match matches.get_str("stats") {
-        None => None,
-        Some(word) => Some(address_of(alloc, word)?),
+    let stats = match (matches.get_str("stats"), config.text("stats")?) {
+        (Some(word), _) => Some(address_of(alloc, word)?),
+        (None, Some(text)) => Some(address_in(&config, text)?),
+        (None, None) => None,
     };
     Ok(Asked {
         listen,
         server,
         most,
-        limits: limits_of(&matches)?,
+        limits: limits_of(&matches, &config)?,
         stats,
         ends_with_input: matches.get_flag("until-input-ends"),
-        is_logged: matches.get_flag("log"),
+        is_logged: config.flag("log")? || matches.get_flag("log"),
     })
 }
 
-fn limits_of(matches: &ArgMatches) -> Result<Limits, RelayFault> {
+fn limits_of(matches: &ArgMatches, config: &Config) -> Result<Limits, RelayFault> {
     let usual = USUAL_LIMITS;
     Ok(Limits {
-        login: seconds_of(matches, "login", usual.login)?,
-        wait: seconds_of(matches, "wait", usual.wait)?,
-        cancel: seconds_of(matches, "cancel", usual.cancel)?,
-        idle: seconds_of(matches, "idle", usual.idle)?,
-        life: seconds_of(matches, "life", usual.life)?,
-        hold: seconds_of(matches, "hold", usual.hold)?,
-        drain: seconds_of(matches, "drain", usual.drain)?,
+        login: seconds_of(matches, config, "login", usual.login)?,
+        wait: seconds_of(matches, config, "wait", usual.wait)?,
+        cancel: seconds_of(matches, config, "cancel", usual.cancel)?,
+        idle: seconds_of(matches, config, "idle", usual.idle)?,
+        life: seconds_of(matches, config, "life", usual.life)?,
+        hold: seconds_of(matches, config, "hold", usual.hold)?,
+        drain: seconds_of(matches, config, "drain", usual.drain)?,
     })
 }
 
-fn seconds_of(matches: &ArgMatches, name: &'static str, usual: u64) -> Result<u64, RelayFault> {
+fn seconds_of(
+    matches: &ArgMatches,
+    config: &Config,
+    name: &'static str,
+    usual: u64,
+) -> Result<u64, RelayFault> {
+    let set = config.number(name, 0, MOST_SECONDS)?;
     let Some(word) = matches.get_str(name) else {
-        return Ok(usual);
+        return Ok(set.unwrap_or(usual));
     };
     match word.parse::<u64>() {
         Ok(seconds) if seconds <= MOST_SECONDS => Ok(seconds),
@@ -111,6 +126,14 @@ fn address_of(alloc: Global, word: &str) -> Result<SocketAddr, RelayFault> {
     match word.parse::<SocketAddr>() {
         Ok(address) => Ok(address),
         Err(_) => Err(RelayFault::Address(String::from_str(alloc, word)?)),
+    }
+}
+
+/// The address that the file has for what is told.
+fn address_in(config: &Config, text: &str) -> Result<SocketAddr, RelayFault> {
+    match text.parse::<SocketAddr>() {
+        Ok(address) => Ok(address),
+        Err(_) => Err(config.fault("stats", "an IP address, a colon and a port are wanted")?),
     }
 }
 
@@ -143,6 +166,11 @@ fn parser<'a>(alloc: Global) -> Result<Command<'a>, AllocError> {
     for (name, help) in LIMITS.iter() {
         parser = parser.arg(setting(alloc, name, help))?;
     }
+    let parser = parser.arg(setting(
+        alloc,
+        "config",
+        "FILE in TOML that has these settings; a word stands over it",
+    ))?;
     let parser = parser.arg(setting(
         alloc,
         "stats",

@@ -64,7 +64,7 @@ impl Counts {
 impl Relay {
     /// Where the application of this key is, if there is one.
     pub fn place_of(&self, key: usize) -> Option<Place> {
-        Some(place(self.applications.get(key)?))
+        Some(where_is(self.applications.get(key)?))
     }
 
     /// How many requests the application of this key has begun.
@@ -103,7 +103,7 @@ impl Relay {
     }
 }
 
-fn place(application: &Application) -> Place {
+fn where_is(application: &Application) -> Place {
     if application.is_over {
         return Place::Over;
     }
