@@ -9,7 +9,7 @@ use Rattle.tds_service.specs.Line as line
 use Rattle.tds_client.specs.declared.fault.ClientRefusal.{ClientRefusal}
 use Rattle.tds_service.specs.Refusing.{packets, refusal_in}
 use Rattle.tds_service.specs.History.{Done, done_by, history, line_after, acts_of}
-use Rattle.tds_service.specs.Service.{Place, Leased, Cleaning, Kept, Seat, Service, new_service, Call, Lease, Resume, Ask, Put, Finish, Cancel, GiveBack, Clean, Cleaned, Keep, Abandon, Came, Lost, Without, Reply, Unknown, NotNow, No, NoMemory, AllInUse, Lent, Ticket, Did, Back, Step, nothing, seat_numbered, find_by, change_by, has_lease, has_ticket, has_number, is_lendable, placed, does, rests, drained, is_idle, is_open, acts, acts_unless, cleans, cleaned, clean_place, rests_cleaned, opens, lends, resumes, gives_back, keeps_it, abandons, hears, loses, step, steps, on_one, on}
+use Rattle.tds_service.specs.Service.{Place, Leased, Cleaning, Kept, Seat, Service, new_service, Call, Lease, Resume, Ask, Put, Finish, Cancel, GiveBack, Clean, Cleaned, Keep, Abandon, Came, Lost, Without, Reply, Unknown, NotNow, No, NoMemory, AllInUse, Lent, Ticket, Did, Back, Step, nothing, seat_numbered, find_by, change_by, has_lease, has_ticket, has_number, is_lendable, placed, does, rests, drained, is_idle, is_open, acts, acts_unless, cleans, cleaned, clean_place, rests_cleaned, opens, lends, resumes, gives_back, keeps_it, abandons, hears, loses, step, service_after, steps, on_one, on}
 
 -- ---- Histories joined
 
@@ -403,6 +403,32 @@ alone n l s (call ∷ calls) tidy fits =
     let k = step_alone n l s call tidy fits in
     alone_by n l (step s call) ((step s call).number == n) (on n (steps (step s call).service calls)) refl k
     (λ l f. alone n l (step s call).service calls k.tidy f)
+
+-- ---- What is left
+
+line_after_both : {T : Type 0} (l : Line) (xs ys : List (Act T)) → line_after l (xs ++ ys) ≡ line_after (line_after l xs) ys
+line_after_both l [] ys = refl
+line_after_both l (x ∷ xs) ys = line_after_both (line.turn l x).line xs ys
+
+left_by : {T : Type 0} (n : ℕ) (l : Line) (t : Step T) (b : Bool) (rest : List (Done T)) (found : Line) → (t.number == n) ≡ b → IsAlone n l t
+    → ((k : Line) → FitsIn t.service n k → found ≡ line_after k (acts_of rest)) → found ≡ line_after l (acts_of (on_one b t.dones rest))
+left_by n l t false rest found e k ih = ih l (k.other e)
+left_by n l t true rest found e k ih =
+    let h = k.here e in
+    let acts_are = ap (λ (ds : List (Done _)). acts_of (ds ++ rest)) h.1 ∙ (acts_of_both (history l h.0) rest ∙ ap (λ (ys : List (Act _)). ys ++ acts_of rest) (acts_of_history l h.0)) in
+    ih (line_after l h.0) h.2 ∙ sym (ap (line_after l) acts_are ∙ line_after_both l h.0 (acts_of rest))
+
+left : {T : Type 0} (n : ℕ) (l : Line) (s : Service) (calls : List (Call T)) (c : Seat) → Tidy s → FitsIn s n l
+    → seat_numbered n (service_after s calls).seats ≡ Some c → c.line ≡ line_after l (acts_of (on n (steps s calls)))
+left n l s [] c tidy fits e = fits_here s n c l (seat_numbered n s.seats) e fits
+left n l s (call ∷ calls) c tidy fits e =
+    let k = step_alone n l s call tidy fits in
+    left_by n l (step s call) ((step s call).number == n) (on n (steps (step s call).service calls)) c.line refl k
+    (λ l f. left n l (step s call).service calls c k.tidy f e)
+
+pub line_by_history : {T : Type 0} (max n : ℕ) (calls : List (Call T)) (c : Seat) → seat_numbered n (service_after (new_service max) calls).seats ≡ Some c
+    → c.line ≡ line_after new_line (acts_of (on n (steps (new_service max) calls)))
+line_by_history max n calls c e = left n new_line (new_service max) calls c (record { fresh = λ m lt. refl; unique = tt }) (inr refl) e
 
 pub each_alone : {T : Type 0} (max n : ℕ) (calls : List (Call T))
     → on n (steps (new_service max) calls) ≡ history new_line (acts_of (on n (steps (new_service max) calls)))

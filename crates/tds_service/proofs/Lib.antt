@@ -4,6 +4,7 @@ pub mod Joining
 pub mod Packeting
 pub mod Answering
 pub mod Arriving
+pub mod Keeping
 pub mod Pairing
 pub mod Walks
 pub mod Knowing
@@ -13,6 +14,7 @@ pub mod Alike
 pub mod Coming
 pub mod Alone
 pub mod Naming
+pub mod Others
 pub mod Lifted
 pub mod Lends
 pub mod Idle

@@ -315,7 +315,7 @@ seats_added (d ∷ cs) c = ap (λ ss. seat_in d ∷ ss) (seats_added cs c)
 
 -- ---- Giving back
 
-taken_set : (i : ℕ) (cs : List code.Seat) (y : code.Seat) → i < length cs → take i (set cs i y) ++ drop (i + 1) (set cs i y) ≡ take i cs ++ drop (i + 1) cs
+pub taken_set : (i : ℕ) (cs : List code.Seat) (y : code.Seat) → i < length cs → take i (set cs i y) ++ drop (i + 1) (set cs i y) ≡ take i cs ++ drop (i + 1) cs
 taken_set i [] y lt = absurd (omega arith)
 taken_set zero (c ∷ cs) y lt = refl
 taken_set (suc i) (c ∷ cs) y lt =

@@ -1,9 +1,10 @@
 -- The table of the code, as the machine's service.
-use Rattle.std.specs.Prelude.{◌≡◌, ℕ, zero, suc, ◌<◌, ◌++◌, Bool, true, false, List, [], ◌∷◌, length, Option, Some, None, take, drop, ◌+◌, if◌then◌else◌}
+use Rattle.std.specs.Prelude.{◌≡◌, ◌≢◌, ℕ, zero, suc, ◌<◌, ◌++◌, Bool, true, false, List, [], ◌∷◌, length, Option, Some, None, take, drop, ◌+◌, if◌then◌else◌}
 use Rattle.tds_wire.specs.declared.told.Token.{Token}
 use Rattle.tds_wire.specs.Reading.{Reading}
 use Rattle.tds_client.specs.declared.fault.ClientRefusal.{ClientRefusal}
 use Rattle.tds_client.specs.declared.fault.ClientRefusal.TheVariants as clients
+use Rattle.tds_client.specs.Parts.{left_of}
 use Rattle.tds_client.specs.Sending.{IsRefusal}
 use Rattle.tds_service.specs.declared.place.Place as code
 use Rattle.tds_service.specs.declared.place.Place.TheVariants as places
@@ -21,7 +22,7 @@ use Rattle.tds_service.specs.Line.{Line, Answer}
 use Rattle.tds_service.specs.History.{Done}
 use Rattle.tds_service.specs.Service as calls
 use Rattle.tds_service.specs.Service.{find_by, Place, Leased, Cleaning, Kept, Free, Draining, Seat, Service, Call, Step, Reply, Unknown, AllInUse, NotNow, No, NoMemory, Lent, Ticket, Did, Back, lease_in, lease_at, has_lease, has_ticket, has_number, is_lendable, nothing, opens, step}
-use Rattle.tds_service.specs.Ties.{line_in, sent_in, tokens_in, IsTo, Appends}
+use Rattle.tds_service.specs.Ties.{line_in, full_in, sent_in, tokens_in, IsTo, Appends}
 
 abbrev pub place_of : code.Place → Place
 place_of (places.Leased lease) = Leased lease
@@ -167,6 +168,27 @@ reading_by test (c ∷ cs) = if test (seat_in c) then Some c.connection.walker e
 
 abbrev pub reading_on : ℕ → services.Service → Option Reading
 reading_on number s = reading_by (has_number number) s.seats.items
+
+-- Where each connection's next packet is read from stays.
+abbrev pub Keeps : services.Service → services.Service → Type 0
+Keeps old new = (n : ℕ) (r : Reading) → reading_on n old ≡ Some r → reading_on n new ≡ Some r
+
+-- So it does but for the connection of this number.
+abbrev pub KeepsOthers : ℕ → services.Service → services.Service → Type 0
+KeepsOthers number old new = (n : ℕ) (r : Reading) → n ≢ number → reading_on n old ≡ Some r → reading_on n new ≡ Some r
+
+abbrev pub KeepsBy : Rest → ℕ → services.Service → services.Service → Type 0
+KeepsBy rests.Free number old new = Keeps old new
+KeepsBy rests.Draining number old new = Keeps old new
+KeepsBy rests.Closed number old new = KeepsOthers number old new
+
+-- How many packets go out as these bytes are put: all that are full and have a byte behind them.
+abbrev pub puts_by : (Seat → Bool) → List seats.Seat → List ℕ → ℕ
+puts_by test [] bytes = 0
+puts_by test (c ∷ cs) bytes = if test (seat_in c) then full_in c.connection.client (left_of c.connection.client.stage ++ bytes) else puts_by test cs bytes
+
+abbrev pub puts_on : ℕ → services.Service → List ℕ → ℕ
+puts_on lease s bytes = puts_by (has_lease lease) s.seats.items bytes
 
 -- The answer of a request is being read on the connection of this number.
 abbrev pub ReadsAt : Option Seat → Type 0

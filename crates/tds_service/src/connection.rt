@@ -93,6 +93,7 @@ impl Connection {
         ensures refused { IfErr result (λ refusal.
             answer_to (line_in self.old) (line.Mark reset) ≡ line.Refused refusal) }
         ensures err { OnErr result (self.new ≡ self.old) }
+        ensures walker { self.new.walker ≡ self.old.walker }
     {
         self.client.mark_reset(reset)
     }
@@ -108,6 +109,7 @@ impl Connection {
         ensures refused { IfErr result (IsRefusal
             (refusal_in (answer_to (line_in self.old) line.Ask))) }
         ensures err { OnErr result (self.new ≡ self.old) }
+        ensures walker { self.new.walker ≡ self.old.walker }
     {
         let number = self.next_number()?;
         self.client.start_message(kind)?;
@@ -146,6 +148,7 @@ impl Connection {
             (refusal_in (answer_to (line_in self.old) (line.Send false)))) }
         ensures err { OnErr result (self.new ≡ self.old) }
         ensures nothing { OnErr result (out.new.items ≡ out.old.items) }
+        ensures walker { self.new.walker ≡ self.old.walker }
     {
         self.client.put(bytes, out)
     }
@@ -162,6 +165,7 @@ impl Connection {
             (refusal_in (answer_to (line_in self.old) (line.Send true)))) }
         ensures err { OnErr result (self.new ≡ self.old) }
         ensures nothing { OnErr result (out.new.items ≡ out.old.items) }
+        ensures walker { self.new.walker ≡ self.old.walker }
     {
         self.client.finish(out)
     }
@@ -177,6 +181,7 @@ impl Connection {
             (refusal_in (answer_to (line_in self.old) line.Cancel))) }
         ensures err { OnErr result (self.new ≡ self.old) }
         ensures nothing { OnErr result (out.new.items ≡ out.old.items) }
+        ensures walker { self.new.walker ≡ self.old.walker }
     {
         self.client.cancel(out)
     }
@@ -251,8 +256,9 @@ impl Connection {
 
     /// The connection is lost: it is broken, unless it is broken already.
     pub fn lost(&mut self)
-        ensures { (out : List ℕ)
+        ensures does { (out : List ℕ)
             → Does line.Lose (line_in self.old) (line_in self.new) line.Lost out out }
+        ensures walker { self.new.walker ≡ self.old.walker }
     {
         self.client.lost();
     }

@@ -2,13 +2,13 @@
 //! of each connection in the words of `Promises`. Each function does nothing when it runs: its contract
 //! is the law.
 
-ghost use Rattle.std.specs.Prelude.{◌≡◌, ◌≤◌, ◌<◌, ◌+◌, ℕ, List, Bool, None, Some, false};
+ghost use Rattle.std.specs.Prelude.{◌≡◌, ◌≢◌, ◌≤◌, ◌<◌, ◌+◌, ℕ, List, Bool, None, Some, false};
 ghost use Rattle.std.specs.Prelude.{length};
 ghost use Rattle.tds_service.specs.Line.{new_line};
-ghost use Rattle.tds_service.specs.History.{history, acts_of};
+ghost use Rattle.tds_service.specs.History.{history, acts_of, line_after};
 ghost use Rattle.tds_service.specs.Service.{Call, new_service, on, service_after, step, steps};
 ghost use Rattle.tds_service.specs.Service.{AllInUse, Lent, Seat, Service, Ticket, find_by, has_lease};
-ghost use Rattle.tds_service.specs.Service.{has_ticket, is_lendable};
+ghost use Rattle.tds_service.specs.Service.{has_ticket, is_lendable, seat_numbered};
 ghost use Rattle.tds_service.specs.Acknowledging.{SettlesRight};
 ghost use Rattle.tds_service.specs.Newest.{NamesNewest};
 ghost use Rattle.tds_service.specs.Promises.{AsksUnawaited, FaultsUnawaited, NothingBehindCancel, Paired};
@@ -26,6 +26,13 @@ pub fn each_alone<T>()
         ≡ history new_line (acts_of (on n (steps (new_service max) calls))) }
 {}
 
+/// The line of a connection that is in the table is what everything that was done on it leaves.
+pub fn line_by_history<T>()
+    ensures { (max n : ℕ) (calls : List (Call T)) (c : Seat)
+        → seat_numbered n (service_after (new_service max) calls).seats ≡ Some c
+        → c.line ≡ line_after new_line (acts_of (on n (steps (new_service max) calls))) }
+{}
+
 /// A fault stays on its connection: whatever came on the others, and was done there, a connection
 /// where the same was done answers, sends and tells the same.
 pub fn a_fault_stays<T>()
@@ -33,6 +40,12 @@ pub fn a_fault_stays<T>()
         → acts_of (on n (steps (new_service max) calls))
         ≡ acts_of (on n (steps (new_service most) others))
         → on n (steps (new_service max) calls) ≡ on n (steps (new_service most) others) }
+{}
+
+/// A call leaves every connection as it is but the one that it reaches: its line, and who holds it.
+pub fn others_stay<T>()
+    ensures { (s : Service) (call : Call T) (n : ℕ) (c : Seat) → (step s call).number ≢ n
+        → seat_numbered n s.seats ≡ Some c → seat_numbered n (step s call).service.seats ≡ Some c }
 {}
 
 /// What a request is given are the tokens of its own message, in order, and nothing else.

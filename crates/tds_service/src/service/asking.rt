@@ -4,7 +4,9 @@ ghost use Rattle.tds_service.specs.declared.seat.Seat.{Seat as CodeSeat};
 ghost use Rattle.tds_service.specs.Line as line;
 ghost use Rattle.tds_service.specs.Refusing.{refusal_in};
 ghost use Rattle.tds_service.specs.Service as calls;
-ghost use Rattle.tds_service.specs.Table.{Answers, Refuses, RefusedBy, Steps, service_in};
+ghost use Rattle.tds_service.specs.Service.{has_number};
+ghost use Rattle.tds_service.specs.Table.{Answers, Keeps, Refuses, RefusedBy, Steps};
+ghost use Rattle.tds_service.specs.Table.{puts_on, reading_by, service_in};
 ghost use Rattle.tds_service.specs.Ties.{Does, DoesAll, answer_to, asked_answer, cancel_answer, finishing, line_in, putting};
 
 use crate::place::Wanted;
@@ -31,6 +33,8 @@ fn ask_at(seats: &mut [Seat], index: usize, kind: MessageKind) -> Result<Asked, 
     ensures refused { IfErr result (λ refusal. (c : CodeSeat) → c ≡ slice_index_or seats.old index c
         → RefusedBy (refusal_in (answer_to (line_in c.connection) line.Ask)) refusal) }
     ensures err { OnErr result (seats.new ≡ seats.old) }
+    ensures keeps { (n : ℕ) → reading_by (has_number n) seats.new
+        ≡ reading_by (has_number n) seats.old }
 {
     let seat = &mut seats[index];
     match seat.connection.ask(kind) {
@@ -54,6 +58,8 @@ fn put_at(seats: &mut [Seat], index: usize, bytes: &[u8], out: &mut Vec<u8>) -> 
         → RefusedBy (refusal_in (answer_to (line_in c.connection) (line.Send false))) refusal) }
     ensures err { OnErr result (seats.new ≡ seats.old) }
     ensures nothing { OnErr result (out.new.items ≡ out.old.items) }
+    ensures keeps { (n : ℕ) → reading_by (has_number n) seats.new
+        ≡ reading_by (has_number n) seats.old }
 {
     let seat = &mut seats[index];
     match seat.connection.put(bytes, out) {
@@ -74,6 +80,8 @@ fn finish_at(seats: &mut [Seat], index: usize, out: &mut Vec<u8>) -> Result<u64,
         → RefusedBy (refusal_in (answer_to (line_in c.connection) (line.Send true))) refusal) }
     ensures err { OnErr result (seats.new ≡ seats.old) }
     ensures nothing { OnErr result (out.new.items ≡ out.old.items) }
+    ensures keeps { (n : ℕ) → reading_by (has_number n) seats.new
+        ≡ reading_by (has_number n) seats.old }
 {
     let seat = &mut seats[index];
     match seat.connection.finish(out) {
@@ -97,6 +105,8 @@ fn cancel_at(
         → RefusedBy (refusal_in (answer_to (line_in c.connection) line.Cancel)) refusal) }
     ensures err { OnErr result (seats.new ≡ seats.old) }
     ensures nothing { OnErr result (out.new.items ≡ out.old.items) }
+    ensures keeps { (n : ℕ) → reading_by (has_number n) seats.new
+        ≡ reading_by (has_number n) seats.old }
 {
     let seat = &mut seats[index];
     match seat.connection.cancel(out) {
@@ -114,6 +124,7 @@ impl Service {
             (service_in self.old) (line.Asked done.request descriptor)) }
         ensures refused { IfErr result (Refuses (calls.Ask lease) (service_in self.old)) }
         ensures err { OnErr result (self.new ≡ self.old) }
+        ensures keeps { Keeps self.old self.new }
     {
         match find(&self.seats, Wanted::Lease(lease)) {
             Some(index) => ask_at(&mut self.seats, index, kind),
@@ -124,13 +135,14 @@ impl Service {
     /// Appends these bytes to the request. What goes out of it is appended to `out`, for the
     /// connection of the number that is answered.
     pub fn put(&mut self, lease: u64, bytes: &[u8], out: &mut Vec<u8>) -> Result<u64, Refusal>
-        ensures ok { IfOk result (λ number. (count : ℕ) × Steps (calls.Put lease count)
-            (service_in self.old) (service_in self.new) calls.Did number
-            out.old.items out.new.items) }
+        ensures ok { IfOk result (λ number. Steps
+            (calls.Put lease (puts_on lease self.old bytes.now)) (service_in self.old)
+            (service_in self.new) calls.Did number out.old.items out.new.items) }
         ensures refused { IfErr result (λ refusal. (count : ℕ)
             → Refuses (calls.Put lease count) (service_in self.old) refusal) }
         ensures err { OnErr result (self.new ≡ self.old) }
         ensures nothing { OnErr result (out.new.items ≡ out.old.items) }
+        ensures keeps { Keeps self.old self.new }
     {
         match find(&self.seats, Wanted::Lease(lease)) {
             Some(index) => put_at(&mut self.seats, index, bytes, out),
@@ -140,13 +152,14 @@ impl Service {
 
     /// Ends the request: what is left of it goes out to `out`, and its answer is awaited.
     pub fn finish(&mut self, lease: u64, out: &mut Vec<u8>) -> Result<u64, Refusal>
-        ensures ok { IfOk result (λ number. (count : ℕ) × Steps (calls.Finish lease count)
-            (service_in self.old) (service_in self.new) calls.Did number
-            out.old.items out.new.items) }
+        ensures ok { IfOk result (λ number. Steps
+            (calls.Finish lease (puts_on lease self.old [])) (service_in self.old)
+            (service_in self.new) calls.Did number out.old.items out.new.items) }
         ensures refused { IfErr result (λ refusal. (count : ℕ)
             → Refuses (calls.Finish lease count) (service_in self.old) refusal) }
         ensures err { OnErr result (self.new ≡ self.old) }
         ensures nothing { OnErr result (out.new.items ≡ out.old.items) }
+        ensures keeps { Keeps self.old self.new }
     {
         match find(&self.seats, Wanted::Lease(lease)) {
             Some(index) => finish_at(&mut self.seats, index, out),
@@ -164,6 +177,7 @@ impl Service {
         ensures refused { IfErr result (Refuses (calls.Cancel lease) (service_in self.old)) }
         ensures err { OnErr result (self.new ≡ self.old) }
         ensures nothing { OnErr result (out.new.items ≡ out.old.items) }
+        ensures keeps { Keeps self.old self.new }
     {
         match find(&self.seats, Wanted::Lease(lease)) {
             Some(index) => cancel_at(&mut self.seats, index, out),

@@ -1,5 +1,5 @@
 //! What comes on a connection.
-ghost use Rattle.std.specs.Prelude.{◌≡◌, ◌<◌, ◌≤◌, ◌+◌, ◌++◌, ℕ, length, Some, slice_index_or, slice_set, vec_len};
+ghost use Rattle.std.specs.Prelude.{◌≡◌, ◌≢◌, ◌<◌, ◌≤◌, ◌+◌, ◌++◌, ℕ, length, Some, slice_index_or, slice_set, vec_len};
 ghost use Rattle.std.specs.Prelude.{vec_capacity, IfOk, IfErr, OnOk, OnErr};
 ghost use Rattle.tds_listen.specs.Hearing.{tokens_in};
 ghost use Rattle.tds_wire.specs.Reading.{Reading};
@@ -8,7 +8,8 @@ ghost use Rattle.tds_service.specs.Line as line;
 ghost use Rattle.tds_service.specs.Packets.{Reads, outcome_answer, packet_part, told_of_part};
 ghost use Rattle.tds_service.specs.Service as calls;
 ghost use Rattle.tds_service.specs.Service.{drained, find_by, has_number, lease_in};
-ghost use Rattle.tds_service.specs.Table.{Comes, ReadsAt, Refuses, place_of, reading_on, service_in};
+ghost use Rattle.tds_service.specs.Table.{Comes, KeepsOthers, ReadsAt, Refuses, place_of};
+ghost use Rattle.tds_service.specs.Table.{reading_by, reading_on, service_in};
 ghost use Rattle.tds_service.specs.Ties.{Hears, line_in};
 
 use crate::hearing::hear_packet;
@@ -60,6 +61,8 @@ fn came_at(
         → (d : CodeSeat) × (seats.new ≡ slice_set seats.old index d) × (d.number ≡ c.number)
         × Reads came.outcome ends (tokens_in c.connection.walker bytes.now).stop
         d.connection.walker) }
+    ensures others { (n : ℕ) (c : CodeSeat) → c ≡ slice_index_or seats.old index c → n ≢ c.number
+        → reading_by (has_number n) seats.new ≡ reading_by (has_number n) seats.old }
     ensures refused { IfErr result (λ refusal. (refusal ≡ Refusal.Memory)
         × ((c : CodeSeat) → c ≡ slice_index_or seats.old index c
         → (line_in c.connection).stage ≡ line.Reading)) }
@@ -102,6 +105,7 @@ impl Service {
         ensures reads { IfOk result (λ came. (r : Reading) → reading_on number self.old ≡ Some r
             → (next : Reading) × (reading_on number self.new ≡ Some next)
             × Reads came.outcome ends (tokens_in r bytes.now).stop next) }
+        ensures others { KeepsOthers number self.old self.new }
         ensures refused { IfErr result (λ refusal. (r : Reading)
             → Refuses (calls.Came number (packet_part r bytes.now ends)) (service_in self.old)
             refusal) }

@@ -4,8 +4,9 @@ ghost use Rattle.tds_service.specs.declared.seat.Seat.{Seat as CodeSeat};
 ghost use Rattle.tds_service.specs.Line as line;
 ghost use Rattle.tds_service.specs.Refusing.{refusal_in};
 ghost use Rattle.tds_service.specs.Service as calls;
-ghost use Rattle.tds_service.specs.Service.{clean_place, may_keep, rests};
-ghost use Rattle.tds_service.specs.Table.{IsAt, Refuses, Steps, rest_of, seat_in, service_in, without_closed};
+ghost use Rattle.tds_service.specs.Service.{clean_place, has_number, may_keep, rests};
+ghost use Rattle.tds_service.specs.Table.{IsAt, Keeps, KeepsBy, KeepsOthers, Refuses, Steps};
+ghost use Rattle.tds_service.specs.Table.{reading_by, rest_of, seat_in, service_in, without_closed};
 ghost use Rattle.tds_service.specs.Ties.{DoesAll, answer_to, line_in};
 
 use crate::connection::Connection;
@@ -21,6 +22,7 @@ fn cancel_any(connection: &mut Connection, out: &mut Vec<u8>) -> Result<(), Refu
     ensures ok { OnOk result (DoesAll (line.Cancel ∷ []) (line_in connection.old)
         (line_in connection.new) out.old.items out.new.items) }
     ensures refused { IfErr result (λ refusal. refusal ≡ Refusal.Memory) }
+    ensures walker { connection.new.walker ≡ connection.old.walker }
     ensures err { OnErr result (connection.new ≡ connection.old) }
     ensures nothing { OnErr result (out.new.items ≡ out.old.items) }
 {
@@ -47,12 +49,14 @@ fn resting(rest: Rest, place: Place) -> Place
 /// Puts a connection where it is once nobody holds it. One that is to be closed stays where it is.
 fn rest_at(seats: &mut [Seat], index: usize) -> (u64, Rest)
     requires { index < length seats.old }
-    ensures { (c : CodeSeat) → c ≡ slice_index_or seats.old index c
+    ensures rests { (c : CodeSeat) → c ≡ slice_index_or seats.old index c
         → (d : CodeSeat) × (seats.new ≡ slice_set seats.old index d)
         × (d.number ≡ c.number) × (result.0 ≡ c.number)
         × (line_in d.connection ≡ line_in c.connection)
         × (rest_of result.1 ≡ rests (line_in c.connection).stage)
         × IsAt (rest_of result.1) d.place }
+    ensures keeps { (n : ℕ) → reading_by (has_number n) seats.new
+        ≡ reading_by (has_number n) seats.old }
 {
     let seat = &mut seats[index];
     let rest = seat.rest();
@@ -73,6 +77,8 @@ fn give_back_at(seats: &mut [Seat], index: usize, out: &mut Vec<u8>) -> Result<(
     ensures refused { IfErr result (λ refusal. refusal ≡ Refusal.Memory) }
     ensures err { OnErr result (seats.new ≡ seats.old) }
     ensures nothing { OnErr result (out.new.items ≡ out.old.items) }
+    ensures keeps { (n : ℕ) → reading_by (has_number n) seats.new
+        ≡ reading_by (has_number n) seats.old }
 {
     let seat = &mut seats[index];
     match cancel_any(&mut seat.connection, out) {
@@ -98,6 +104,8 @@ fn cleaned_at(seats: &mut [Seat], index: usize) -> Result<(u64, Rest), Refusal>
         × ((c : CodeSeat) → c ≡ slice_index_or seats.old index c
         → clean_place (seat_in c).place (seat_in c).line ≡ None)) }
     ensures err { OnErr result (seats.new ≡ seats.old) }
+    ensures keeps { (n : ℕ) → reading_by (has_number n) seats.new
+        ≡ reading_by (has_number n) seats.old }
 {
     let seat = &mut seats[index];
     match seat.clean_rest() {
@@ -121,6 +129,8 @@ fn keep_at(seats: &mut [Seat], index: usize, ticket: u64) -> Result<u64, Refusal
         × ((c : CodeSeat) → c ≡ slice_index_or seats.old index c
         → may_keep (seat_in c) ≡ false)) }
     ensures err { OnErr result (seats.new ≡ seats.old) }
+    ensures keeps { (n : ℕ) → reading_by (has_number n) seats.new
+        ≡ reading_by (has_number n) seats.old }
 {
     let seat = &mut seats[index];
     if seat.is_idle() && seat.connection.is_open() {
@@ -155,6 +165,8 @@ impl Service {
         ensures refused { IfErr result (Refuses (calls.GiveBack lease) (service_in self.old)) }
         ensures err { OnErr result (service_in self.new ≡ service_in self.old) }
         ensures nothing { OnErr result (out.new.items ≡ out.old.items) }
+        ensures keeps { IfOk result (λ done. KeepsBy done.1 done.0 self.old self.new) }
+        ensures keeps_all { OnErr result (Keeps self.old self.new) }
     {
         match find(&self.seats, Wanted::Lease(lease)) {
             Some(index) => match give_back_at(&mut self.seats, index, out) {
@@ -176,6 +188,8 @@ impl Service {
             (service_in self.new) (calls.Back (rest_of done.1)) done.0 [] []) }
         ensures refused { IfErr result (Refuses (calls.Cleaned lease) (service_in self.old)) }
         ensures err { OnErr result (service_in self.new ≡ service_in self.old) }
+        ensures keeps { IfOk result (λ done. KeepsBy done.1 done.0 self.old self.new) }
+        ensures keeps_all { OnErr result (Keeps self.old self.new) }
     {
         match find(&self.seats, Wanted::Lease(lease)) {
             Some(index) => match cleaned_at(&mut self.seats, index) {
@@ -195,6 +209,7 @@ impl Service {
             (service_in self.old) (service_in self.new) (calls.Ticket ticket) number [] []) }
         ensures refused { IfErr result (Refuses (calls.Keep lease) (service_in self.old)) }
         ensures err { OnErr result (service_in self.new ≡ service_in self.old) }
+        ensures keeps { Keeps self.old self.new }
     {
         let ticket = self.next_given()?;
         match find(&self.seats, Wanted::Lease(lease)) {
@@ -215,6 +230,8 @@ impl Service {
             (service_in self.new) (calls.Back (rest_of done.1)) done.0 [] []) }
         ensures refused { IfErr result (Refuses (calls.Abandon ticket) (service_in self.old)) }
         ensures err { OnErr result (service_in self.new ≡ service_in self.old) }
+        ensures keeps { IfOk result (λ done. KeepsBy done.1 done.0 self.old self.new) }
+        ensures keeps_all { OnErr result (Keeps self.old self.new) }
     {
         match find(&self.seats, Wanted::Ticket(ticket)) {
             Some(index) => {
@@ -232,6 +249,7 @@ impl Service {
             (service_in self.new) (calls.Back None) number [] []) }
         ensures refused { IfErr result (Refuses (calls.Lost number) (service_in self.old)) }
         ensures err { OnErr result (service_in self.new ≡ service_in self.old) }
+        ensures keeps { KeepsOthers number self.old self.new }
     {
         match find(&self.seats, Wanted::Number(number)) {
             Some(index) => {

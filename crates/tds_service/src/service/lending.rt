@@ -4,8 +4,9 @@ ghost use Rattle.tds_client.specs.declared.fault.ClientRefusal.{ClientRefusal};
 ghost use Rattle.tds_service.specs.declared.seat.Seat.{Seat as CodeSeat};
 ghost use Rattle.tds_service.specs.Line as line;
 ghost use Rattle.tds_service.specs.Service as calls;
-ghost use Rattle.tds_service.specs.Service.{is_lendable, opens};
-ghost use Rattle.tds_service.specs.Table.{Refuses, RefusesIn, Steps, Opened, seat_in, service_in};
+ghost use Rattle.tds_service.specs.Service.{has_number, is_lendable, opens};
+ghost use Rattle.tds_service.specs.Table.{Keeps, Refuses, RefusesIn, Steps, Opened};
+ghost use Rattle.tds_service.specs.Table.{reading_by, seat_in, service_in};
 ghost use Rattle.tds_service.specs.Ties.{Does, answer_to, line_in};
 
 use crate::connection::Connection;
@@ -46,6 +47,8 @@ fn lend_at(seats: &mut [Seat], index: usize, place: Place, reset: Reset) -> Resu
         × ((c : CodeSeat) → c ≡ slice_index_or seats.old index c → (why : ClientRefusal)
         × (answer_to (line_in c.connection) (line.Mark reset) ≡ line.Refused why))) }
     ensures err { OnErr result (seats.new ≡ seats.old) }
+    ensures keeps { (n : ℕ) → reading_by (has_number n) seats.new
+        ≡ reading_by (has_number n) seats.old }
 {
     let seat = &mut seats[index];
     match seat.connection.mark(reset) {
@@ -69,6 +72,8 @@ fn clean_at(seats: &mut [Seat], index: usize, lease: u64) -> Result<u64, Refusal
         × ((c : CodeSeat) → c ≡ slice_index_or seats.old index c
         → is_lendable (seat_in c) ≡ false)) }
     ensures err { OnErr result (seats.new ≡ seats.old) }
+    ensures keeps { (n : ℕ) → reading_by (has_number n) seats.new
+        ≡ reading_by (has_number n) seats.old }
 {
     if seats[index].is_wanted(Wanted::Lendable) {
         lend_at(seats, index, Place::Cleaning(lease), Reset::Full)
@@ -98,6 +103,7 @@ impl Service {
         ensures refused { IfErr result (RefusesIn (service_in self.old) (opens (service_in self.old)
             (nat_lt (length self.old.seats.items) self.old.max))) }
         ensures err { OnErr result (service_in self.new ≡ service_in self.old) }
+        ensures keeps { Keeps self.old self.new }
     {
         if self.seats.len() >= self.max {
             return Err(Refusal::AllInUse);
@@ -136,6 +142,7 @@ impl Service {
             (if lent.had then lent.number else 0) [] []) }
         ensures refused { IfErr result (Refuses calls.Lease (service_in self.old)) }
         ensures err { OnErr result (service_in self.new ≡ service_in self.old) }
+        ensures keeps { Keeps self.old self.new }
     {
         let lease = self.next_given()?;
         match find(&self.seats, Wanted::Lendable) {
@@ -161,6 +168,7 @@ impl Service {
             (service_in self.new) (calls.Lent lent.lease lent.number lent.had) lent.number [] []) }
         ensures refused { IfErr result (Refuses (calls.Resume ticket) (service_in self.old)) }
         ensures err { OnErr result (service_in self.new ≡ service_in self.old) }
+        ensures keeps { Keeps self.old self.new }
     {
         let lease = self.next_given()?;
         match find(&self.seats, Wanted::Ticket(ticket)) {
@@ -185,6 +193,7 @@ impl Service {
             (service_in self.new) (calls.Lent lent.lease lent.number lent.had) lent.number [] []) }
         ensures refused { IfErr result (Refuses (calls.Clean number) (service_in self.old)) }
         ensures err { OnErr result (service_in self.new ≡ service_in self.old) }
+        ensures keeps { Keeps self.old self.new }
     {
         let lease = self.next_given()?;
         match find(&self.seats, Wanted::Number(number)) {

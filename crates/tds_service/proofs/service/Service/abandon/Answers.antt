@@ -4,6 +4,7 @@ use Rattle.std.specs.Prelude.{Option}
 use Rattle.tds_service.specs.Service.{Seat, Place, Back, abandons, does, has_ticket}
 use Rattle.tds_service.specs.Table.{StepsIn, service_in, seat_in, seats_in, rest_of, without_closed}
 use Rattle.tds_service.proofs.Tables.{with_seats, here_in, found_here, rests_here}
+use Rattle.tds_service.proofs.Keeping.{keeps_resting}
 use Rattle.tds_service.proofs.service.Service.abandon.Goals as goal
 
 pub returns-in-Some-clause-ok : goal.returns-in-Some-clause-ok
@@ -13,7 +14,7 @@ returns-in-Some-clause-ok c =
     let index = c.in-Some.index in
     let here = here_in (has_ticket c.args.ticket) items c.deref.result.now c.deref_mut.result.now index c.deref.ensures.value c.deref_mut.ensures.value c.in-Some.ensures.first in
     let found = found_here (has_ticket c.args.ticket) items c.deref_mut.result.now index here in
-    let k = c.rest_at-number.ensures here.seat here.at_lent in
+    let k = c.rest_at-number.ensures.rests here.seat here.at_lent in
     let rest = c.rest_at-number.result.1 in
     let news = c.rest_at-number.new.seats in
     let len : length news ≡ c.args.self.now.seats.len = first_of (omega arith, search rules) in
@@ -23,3 +24,16 @@ returns-in-Some-clause-ok c =
     subst (λ (x : Option Seat). StepsIn (abandons old (has_ticket c.args.ticket) x) new (Back (rest_of rest)) c.rest_at-number.result.0 [] []) (sym found)
     (subst (λ (p : Option Place). StepsIn (does old old.given (has_ticket c.args.ticket) (seat_in here.seat) p [] (Back p)) new (Back (rest_of rest)) c.rest_at-number.result.0 [] []) k.5
     (record { service_is = did; reply_is = refl; number_is = sym k.3; bytes = ([], refl, refl) }))
+
+pub returns-in-Some-clause-keeps : goal.returns-in-Some-clause-keeps
+returns-in-Some-clause-keeps c =
+    let items = c.args.self.now.seats.items in
+    let index = c.in-Some.index in
+    let lent = c.deref_mut.result.now in
+    let here = here_in (has_ticket c.args.ticket) items c.deref.result.now lent index c.deref.ensures.value c.deref_mut.ensures.value c.in-Some.ensures.first in
+    let k = c.rest_at-number.ensures.rests here.seat here.at_lent in
+    let rest = c.rest_at-number.result.1 in
+    let news = c.rest_at-number.new.seats in
+    let len : length news ≡ c.args.self.now.seats.len = first_of (omega arith, search rules) in
+    let closed = c.close.ensures ∙ ap (without_closed rest index) (with_items_is c.args.self.now.seats news len) in
+    keeps_resting rest c.rest_at-number.result.0 c.args.self.now _ (has_ticket c.args.ticket) lent news index here k.0 c.deref_mut.ensures.value k.1 closed k.3 c.rest_at-number.ensures.keeps

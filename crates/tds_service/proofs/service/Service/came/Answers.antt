@@ -8,7 +8,8 @@ use Rattle.tds_listen.specs.Hearing.{tokens_in}
 use Rattle.tds_service.specs.Packets.{Reads, packet_part, outcome_answer}
 use Rattle.tds_service.specs.Service.{Service, has_number, find_by, hears}
 use Rattle.tds_service.specs.Table.{Comes, ReadsAt, RefusesIn, reading_by, service_in, seats_in}
-use Rattle.tds_service.proofs.Tables.{with_seats, here_in, found_here, on_err}
+use Rattle.tds_service.proofs.Alone.{same_number}
+use Rattle.tds_service.proofs.Tables.{with_seats, here_in, found_here, meets_here, on_err}
 use Rattle.tds_service.proofs.Arriving.{comes_here, reading_here, reading_behind, same_reading, wants_memory}
 use Rattle.tds_service.proofs.service.Service.came.Goals as goal
 
@@ -73,3 +74,15 @@ returns-in-Some-clause-memory c =
     on_err c.came_at.result _ _
     (λ refusal h e. subst ReadsAt (sym (found_here (has_number c.args.number) items c.deref_mut.result.now index here)) (h.1 here.seat here.at_lent))
     c.came_at.ensures.refused
+
+pub returns-in-Some-clause-others : goal.returns-in-Some-clause-others
+returns-in-Some-clause-others c = λ n r other e.
+    let items = c.args.self.now.seats.items in
+    let index = c.in-Some.index in
+    let news = c.came_at.new.seats in
+    let lent = c.deref_mut.result.now in
+    let here = here_in (has_number c.args.number) items c.deref.result.now lent index c.deref.ensures.value c.deref_mut.ensures.value c.in-Some.ensures.first in
+    let len : length news ≡ c.args.self.now.seats.len = first_of (omega arith, search rules) in
+    let is = same_number here.seat.number c.args.number (meets_here (has_number c.args.number) items lent index here) in
+    ap (reading_by (has_number n)) (with_items_is c.args.self.now.seats news len)
+    ∙ (c.came_at.ensures.others n here.seat here.at_lent (λ f. other (f ∙ is)) ∙ (ap (reading_by (has_number n)) c.deref_mut.ensures.value ∙ e))

@@ -1,15 +1,17 @@
-use Rattle.std.proofs.Common.{◌≡◌, ◌∙◌, ◌++◌, List, [], ◌∷◌, length, refl, sym, ap, arith, rules, true}
+use Rattle.std.proofs.Common.{◌≡◌, ◌∙◌, ◌++◌, ℕ, List, [], ◌∷◌, length, refl, sym, ap, subst, arith, rules, true}
 use Rattle.std.proofs.Math.ListN.{set}
-use Rattle.std.proofs.lemmas.List.{with_items_is}
+use Rattle.std.proofs.lemmas.List.{append-nil, with_items_is}
 use Rattle.std.proofs.lemmas.Result.{IfOk-weaker}
 use Rattle.tds_client.specs.Parts.{left_of}
 use Rattle.tds_service.specs.declared.seat.Seat.{Seat}
 use Rattle.tds_service.specs.Line as line
 use Rattle.tds_service.specs.Refusing.{packets, refusal_in}
-use Rattle.tds_service.specs.Service.{Service, has_lease}
-use Rattle.tds_service.specs.Table.{service_in, seats_in}
+use Rattle.tds_service.specs.Service.{Service, Did, has_lease}
+use Rattle.tds_service.specs.Service as calls
+use Rattle.tds_service.specs.Table.{Steps, puts_by, service_in, seats_in}
 use Rattle.tds_service.specs.Ties.{line_in, full_in}
-use Rattle.tds_service.proofs.Tables.{here_in, acts_alike, refuses_alike, on_err, send_never}
+use Rattle.tds_service.proofs.Keeping.{puts_here}
+use Rattle.tds_service.proofs.Tables.{with_seats, here_in, acts_alike, refuses_alike, on_err, send_never}
 use Rattle.tds_service.proofs.service.Service.finish.Goals as goal
 
 pub returns-in-Some-clause-ok : goal.returns-in-Some-clause-ok
@@ -26,15 +28,18 @@ returns-in-Some-clause-ok c =
     let table = k.1 ∙ ap (λ (cs : List Seat). set cs index k.0) c.deref_mut.ensures.value in
     let r = acts_alike old (has_lease c.args.lease) (line.Send true) (packets (full_in here.seat.connection.client (left_of here.seat.connection.client.stage)) ++ line.Send true ∷ []) items index here.seat k.0 c.args.out.now.items c.finish_at.new.out.items refl here.first here.at k.2 k.3
     k.5
-    (ap refusal_in k.6) in (
-      full_in here.seat.connection.client (left_of here.seat.connection.client.stage),
-      record {
-        service_is = ap (λ (cs : List Seat). let t : Service = record { max = old.max; last = old.last; given = old.given; seats = seats_in cs } in t) (items_are ∙ table) ∙ r.0;
-        reply_is = r.1;
-        number_is = r.2 ∙ sym k.4;
-        bytes = r.3;
-      },
-    ))
+    (ap refusal_in k.6) in
+    let did = subst (λ (count : ℕ). Steps (calls.Finish c.args.lease count) old (with_seats old (seats_in c.finish_at.new.seats)) Did done c.args.out.now.items c.finish_at.new.out.items)
+    (ap (full_in here.seat.connection.client) (sym (append-nil (left_of here.seat.connection.client.stage)))
+    ∙ sym (puts_here (has_lease c.args.lease) [] items c.deref_mut.result.now index here))
+    (record {
+      service_is = ap (λ (cs : List Seat). with_seats old (seats_in cs)) table ∙ r.0;
+      reply_is = r.1;
+      number_is = r.2 ∙ sym k.4;
+      bytes = r.3;
+    }) in
+    subst (λ (s : Service). Steps (calls.Finish c.args.lease (puts_by (has_lease c.args.lease) items [])) old s Did done c.args.out.now.items c.finish_at.new.out.items)
+    (sym (ap (λ (cs : List Seat). with_seats old (seats_in cs)) items_are)) did)
     c.finish_at.ensures.ok
 
 pub returns-in-Some-clause-refused : goal.returns-in-Some-clause-refused

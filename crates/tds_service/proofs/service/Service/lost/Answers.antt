@@ -4,10 +4,11 @@ use Rattle.tds_service.specs.declared.seat.Seat as code
 use Rattle.tds_service.specs.Line as line
 use Rattle.tds_service.specs.Line.{Line}
 use Rattle.tds_service.specs.Service.{Seat, Back, loses, has_number}
-use Rattle.tds_service.specs.Table.{StepsIn, service_in, seats_in}
+use Rattle.tds_service.specs.Table.{StepsIn, reading_by, service_in, seats_in}
 use Rattle.tds_service.specs.Ties.{line_in}
 use Rattle.tds_service.proofs.Alone.{same_number}
 use Rattle.tds_service.proofs.Tables.{with_seats, here_in, found_here, meets_here, does_gone, lost_bytes}
+use Rattle.tds_service.proofs.Keeping.{keeps_taken}
 use Rattle.tds_service.proofs.service.Service.lost.Goals as goal
 
 pub returns-in-Some-clause-ok : goal.returns-in-Some-clause-ok
@@ -26,3 +27,12 @@ returns-in-Some-clause-ok c =
       number_is = same_number here.seat.number c.args.number (meets_here (has_number c.args.number) items items index here);
       bytes = lost_bytes (line_in here.seat.connection);
     })
+
+pub returns-in-Some-clause-keeps : goal.returns-in-Some-clause-keeps
+returns-in-Some-clause-keeps c = λ n r other e.
+    let items = c.args.self.now.seats.items in
+    let index = c.in-Some.index in
+    let here = here_in (has_number c.args.number) items c.deref.result.now items index c.deref.ensures.value refl c.in-Some.ensures.first in
+    let is = ap (λ (x : code.Seat). x.number) (sym here.at) ∙ same_number here.seat.number c.args.number (meets_here (has_number c.args.number) items items index here) in
+    ap (reading_by (has_number n)) c.remove.ensures.by_index.2
+    ∙ (keeps_taken n here.seat items index here.first.within (λ f. other (f ∙ is)) ∙ e)

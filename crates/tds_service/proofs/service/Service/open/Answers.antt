@@ -2,10 +2,11 @@ use Rattle.std.proofs.Common.{◌≡◌, ◌∙◌, ◌+◌, ◌<◌, ℕ, List,
 use Rattle.tds_service.specs.declared.seat.Seat as code
 use Rattle.tds_service.specs.declared.place.Place.TheVariants as places
 use Rattle.tds_service.specs.Line as line
-use Rattle.tds_service.specs.Service.{Service, Seat, Leased}
-use Rattle.tds_service.specs.Table.{seat_in, seats_in}
+use Rattle.tds_service.specs.Service.{Service, Seat, Leased, has_number}
+use Rattle.tds_service.specs.Table.{reading_by, seat_in, seats_in}
 use Rattle.tds_service.specs.Ties.{line_in}
 use Rattle.tds_service.proofs.Tables.{length_in, seats_added}
+use Rattle.tds_service.proofs.Keeping.{keeps_added}
 use Rattle.tds_service.proofs.service.Service.open.Goals as goal
 
 pub returns-clause-ok : goal.returns-clause-ok
@@ -29,3 +30,11 @@ returns-clause-ok c =
       next,
       refl,
     )
+
+pub returns-clause-keeps : goal.returns-clause-keeps
+returns-clause-keeps c = λ n r e.
+    let s = c.args.self.now in
+    let items = s.seats.items in
+    let new : code.Seat = record { number = s.last + 1; place = places.Leased c.args.lease; connection = c.in-Ok.connection } in
+    ap (reading_by (has_number n)) (c.push_reserved.ensures.items ∙ ap (λ (cs : List code.Seat). cs ++ new ∷ []) c.reserve.ensures.items)
+    ∙ keeps_added (has_number n) r new items e

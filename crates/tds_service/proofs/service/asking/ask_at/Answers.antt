@@ -3,6 +3,7 @@ use Rattle.tds_service.specs.declared.seat.Seat.{Seat}
 use Rattle.tds_service.specs.Line as line
 use Rattle.tds_service.specs.Ties.{Does, line_in, asked_answer}
 use Rattle.tds_service.proofs.Tables.{same_get}
+use Rattle.tds_service.proofs.Keeping.{keeps_set}
 use Rattle.tds_service.proofs.service.asking.ask_at.Goals as goal
 
 pub returns-in-Ok-clause-ok : goal.returns-in-Ok-clause-ok
@@ -15,3 +16,6 @@ returns-in-Ok-clause-ok c = λ s h.
       ap (λ (x : Seat). x.number) same,
       subst (λ (x : Seat). Does line.Ask (line_in x.connection) (line_in c.ask.new.self) (asked_answer x.connection c.in-Ok.request) [] []) same (c.in-Ok.ensures.ok []),
     )
+
+pub returns-in-Ok-clause-keeps : goal.returns-in-Ok-clause-keeps
+returns-in-Ok-clause-keeps c = λ n. keeps_set n c.index-seats-index.result _ c.args.seats.now c.args.index c.requires refl c.ask.ensures.walker

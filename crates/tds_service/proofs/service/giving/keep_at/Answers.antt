@@ -1,0 +1,6 @@
+use Rattle.std.proofs.Common.{refl}
+use Rattle.tds_service.proofs.Keeping.{keeps_set}
+use Rattle.tds_service.proofs.service.giving.keep_at.Goals as goal
+
+pub returns-then-is_open-clause-keeps : goal.returns-then-is_open-clause-keeps
+returns-then-is_open-clause-keeps c = λ n. keeps_set n c.index-seats-index.result _ c.args.seats.now c.args.index c.requires refl refl
