@@ -19,3 +19,4 @@ pub mod Leaves
 pub mod Runs
 pub mod Lends
 pub mod Lifted
+pub mod Cleaned
