@@ -12,6 +12,7 @@ pub mod Past
 pub mod Own
 pub mod Later
 pub mod Examples
+pub mod Shared
 pub mod Starts
 pub mod Besides
 pub mod Works
