@@ -9,3 +9,4 @@ pub mod Stopping
 pub mod Working
 pub mod Hearing
 pub mod Running
+pub mod Refused
