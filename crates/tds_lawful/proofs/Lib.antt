@@ -10,6 +10,7 @@ pub mod Lost
 pub mod Named
 pub mod Past
 pub mod Own
+pub mod Losing
 pub mod Later
 pub mod Examples
 pub mod Shared
