@@ -28,16 +28,16 @@ begun = record { sign = signs.Change (changes.Begin 7); token = 1 }
 abbrev row : Item ℕ
 row = record { sign = signs.Nothing; token = 2 }
 
-abbrev done : Item ℕ
+abbrev pub done : Item ℕ
 done = record { sign = signs.Done Statement 0; token = 3 }
 
-abbrev reset : Item ℕ
+abbrev pub reset : Item ℕ
 reset = record { sign = signs.Change changes.ResetDone; token = 4 }
 
-abbrev acknowledged : Item ℕ
+abbrev pub acknowledged : Item ℕ
 acknowledged = record { sign = signs.Done Statement 32; token = 5 }
 
-abbrev at : ℕ → ℕ → Session ℕ
+abbrev pub at : ℕ → ℕ → Session ℕ
 at transaction settings = record { transaction = transaction; settings = settings }
 
 abbrev runs : ℕ → ℕ → List (Step ℕ ℕ)
@@ -73,11 +73,11 @@ small_is_lawful = record {
 
 -- ---- What was answered
 
-abbrev answers : List (Done ℕ) → List Answer
+abbrev pub answers : List (Done ℕ) → List Answer
 answers [] = []
 answers (d ∷ ds) = d.answer ∷ answers ds
 
-abbrev whole : List (Item ℕ) → Part ℕ
+abbrev pub whole : List (Item ℕ) → Part ℕ
 whole items = record { items = items; close = parts.Ends }
 
 abbrev piece : List (Item ℕ) → Part ℕ

@@ -10,8 +10,10 @@ pub mod Lost
 pub mod Named
 pub mod Past
 pub mod Own
+pub mod Losing
 pub mod Later
 pub mod Examples
+pub mod Shared
 pub mod Starts
 pub mod Besides
 pub mod Works
@@ -19,3 +21,4 @@ pub mod Leaves
 pub mod Runs
 pub mod Lends
 pub mod Lifted
+pub mod Cleaned

@@ -104,7 +104,7 @@ past_skips n r h part ends u (Err fault) p = (record { told = refl; finished = r
 past_skips n r h part false u (Ok heard) p = (record { told = refl; finished = refl }, p)
 past_skips n r h part true u (Ok heard) p = past_skips_to_end n r h heard part heard.done p
 
-past_step : {T : Type 0} (n r : ℕ) (stage : Stage) (h : Heard) (a : Act T) → IsPast stage n r → StaysPast r a (turn (line n stage h) a)
+pub past_step : {T : Type 0} (n r : ℕ) (stage : Stage) (h : Heard) (a : Act T) → IsPast stage n r → StaysPast r a (turn (line n stage h) a)
 past_step n r Idle h (Mark reset) p = (record { told = refl; finished = refl }, p)
 past_step n r Idle h Ask p = (record { told = refl; finished = refl }, omega arith)
 past_step n r Idle h (Send last) p = (record { told = refl; finished = refl }, p)

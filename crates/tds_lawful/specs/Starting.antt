@@ -1,8 +1,10 @@
 -- What a request finds where a reset is owed.
-use Rattle.std.specs.Prelude.{◌≡◌, ◌⊎◌, true, List, [], ◌∷◌, Option, Some, None, if◌then◌else◌}
+use Rattle.std.specs.Prelude.{◌≡◌, ℕ, ◌⊎◌, true, List, [], ◌∷◌, Option, Some, None, if◌then◌else◌}
 use Rattle.tds_packet.specs.declared.status.Reset.{Reset}
 use Rattle.tds_packet.specs.Resets.{strongest}
 use Rattle.tds_service.specs.Line.{Act, Answer, Mark, Marked, Packet, OfRequest}
+use Rattle.tds_service.specs.Service as service
+use Rattle.tds_service.specs.Service.{Service}
 use Rattle.tds_lawful.specs.Lawful.{Session, Step, Says, Ends, Breaks, Engine, Leads, LeadsOut, reset_left}
 use Rattle.tds_lawful.specs.Link.{Server, Up, Link, Move, Here, Takes, Speaks, goes}
 
@@ -57,3 +59,7 @@ owed_after engine owed link (Speaks ∷ moves) = owed_after engine (owed_next ow
 pub record IsLeftClean {V T : Type 0} (owed : Option Reset) (link : Link V T) : Type 0 where
   pub reset : owed ≡ None
   pub transaction : link.server.session.transaction ≡ 0
+
+-- What a table answers where it is told that a cleaning is over.
+abbrev pub cleaning_over : (T : Type 0) → Service → ℕ → service.Step T
+cleaning_over T s lease = service.step s (service.Cleaned lease)

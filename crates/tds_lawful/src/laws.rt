@@ -1,8 +1,8 @@
 //! What holds of one connection in front of a server that keeps the rules, whatever it answers and
 //! whatever is called. Each function does nothing when it runs: its contract is the law.
 
-ghost use Rattle.std.specs.Prelude.{◌≡◌, ◌<◌, ℕ, List, Bool, None, true};
-ghost use Rattle.tds_service.specs.Line.{Act, Idle, new_line};
+ghost use Rattle.std.specs.Prelude.{◌≡◌, ◌<◌, ◌++◌, ◌∷◌, ℕ, List, Bool, None, true};
+ghost use Rattle.tds_service.specs.Line.{Act, Idle, Lose, new_line};
 ghost use Rattle.tds_service.specs.History.{given, history, line_after};
 ghost use Rattle.tds_service.specs.Service.{is_clean};
 ghost use Rattle.tds_lawful.specs.Lawful.{Engine, IsLawful, told_of};
@@ -26,6 +26,21 @@ pub fn own_answers<V, T>()
         → finishes r (history new_line acts) ≡ true
         → given r (history new_line acts)
         ≡ told_of (answered engine (new_link engine) r moves) }
+{}
+
+/// Behind a loss of the connection nothing more is told, and no request is finished; and what was
+/// told before is a beginning of the request's own answer, whatever its server still does.
+pub fn after_loss<V, T>()
+    ensures told { (before after : List (Act T)) (r : ℕ)
+        → given r (history new_line (before ++ Lose ∷ after)) ≡ given r (history new_line before) }
+    ensures finished { (before after : List (Act T)) (r : ℕ)
+        → finishes r (history new_line (before ++ Lose ∷ after))
+        ≡ finishes r (history new_line before) }
+    ensures begins { (engine : Engine V T) (before after : List (Act T)) (moves : List (Move T))
+        (r : ℕ)
+        → IsLawful engine → IsRun engine moves (history new_line (before ++ Lose ∷ after))
+        → Begins (given r (history new_line before))
+        (told_of (answered engine (new_link engine) r moves)) }
 {}
 
 /// Nothing that comes is a fault, until the connection is lost.

@@ -2,21 +2,21 @@
 //! other connections do, and whatever their servers send. Each function does nothing when it runs:
 //! its contract is the law.
 
-ghost use Rattle.std.specs.Prelude.{◌≡◌, ℕ, List, Bool, None, true};
+ghost use Rattle.std.specs.Prelude.{◌≡◌, ℕ, List, Bool, None, Some, true};
 ghost use Rattle.tds_service.specs.Line.{Idle, new_line};
 ghost use Rattle.tds_service.specs.History.{acts_of, given, line_after};
-ghost use Rattle.tds_service.specs.Service.{Call, Lent, is_clean, new_service};
+ghost use Rattle.tds_service.specs.Service.{Back, Call, Free, Lent, is_clean, new_service};
 ghost use Rattle.tds_service.specs.Service.{on, service_after, step, steps};
 ghost use Rattle.tds_lawful.specs.Lawful.{Engine, IsLawful, told_of};
 ghost use Rattle.tds_lawful.specs.Link.{IsRun, Move, link_after, new_link};
 ghost use Rattle.tds_lawful.specs.Answering.{Begins, NoFault, answered, finishes};
 ghost use Rattle.tds_lawful.specs.Agreeing.{AllInNamed, IsQuiet};
-ghost use Rattle.tds_lawful.specs.Starting.{IsLeftClean, StartsFresh, owed_after};
+ghost use Rattle.tds_lawful.specs.Starting.{IsLeftClean, StartsFresh, cleaning_over, owed_after};
 ghost use Rattle.tds_lawful.specs.Alone.{IsBeside, ResetsFirst, answered_alone};
 ghost use Rattle.tds_lawful.specs.Alone.{beside_after, new_beside};
 ghost use Rattle.tds_lawful.specs.Working.{CanGo, Waits};
 
-use tds_service::table_laws::{asks_for_reset, each_alone};
+use tds_service::table_laws::{asks_for_reset, each_alone, line_by_history};
 
 /// What a request is told is a beginning of what the server answers to it, and all of that where it
 /// is finished.
@@ -97,10 +97,21 @@ pub fn fresh_start<V, T>()
     each_alone::<T>();
 }
 
-/// Where an idle connection is found clean, which is when a cleaning frees it, its server has done
-/// the reset that was marked last, and is in no transaction.
+/// Where a cleaning frees a connection, its server has done the reset that was marked last, and is in
+/// no transaction.
 pub fn left_clean<V, T>()
-    ensures { (engine : Engine V T) (max n : ℕ) (calls : List (Call T))
+    ensures freed { (engine : Engine V T) (max lease : ℕ) (calls : List (Call T))
+        (moves : List (Move T))
+        → IsLawful engine
+        → IsRun engine moves
+        (on (cleaning_over T (service_after (new_service max) calls) lease).number
+        (steps (new_service max) calls))
+        → (cleaning_over T (service_after (new_service max) calls) lease).reply
+        ≡ Back (Some Free)
+        → IsLeftClean (owed_after engine None (new_link engine) moves)
+        (link_after engine (new_link engine) moves) }
+    // So it is wherever an idle connection is found clean.
+    ensures idle { (engine : Engine V T) (max n : ℕ) (calls : List (Call T))
         (moves : List (Move T))
         → IsLawful engine → IsRun engine moves (on n (steps (new_service max) calls))
         → (line_after new_line (acts_of (on n (steps (new_service max) calls)))).stage ≡ Idle
@@ -111,6 +122,7 @@ pub fn left_clean<V, T>()
         (link_after engine (new_link engine) moves) }
 {
     each_alone::<T>();
+    line_by_history::<T>();
 }
 
 /// While an answer or an acknowledgement is awaited there is a packet that the server may take, a

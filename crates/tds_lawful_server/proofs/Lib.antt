@@ -1,0 +1,12 @@
+pub mod Saying
+pub mod Speaking
+pub mod Standing
+pub mod Puts
+pub mod Asking
+pub mod Arriving
+pub mod Told
+pub mod Stopping
+pub mod Working
+pub mod Hearing
+pub mod Running
+pub mod Refused

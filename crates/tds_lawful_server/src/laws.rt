@@ -1,0 +1,37 @@
+//! The bench's server is one of those that `tds_lawful` speaks of. Each function does nothing when it
+//! runs: its contract is the law.
+
+ghost use Rattle.tds_session.specs.declared.attention.OnAttention.{OnAttention};
+ghost use Rattle.tds_session.specs.Answer.{Answers};
+ghost use Rattle.tds_world.specs.Begins.{HandsOutNext};
+ghost use Rattle.tds_world.specs.Dones.{HaveDones};
+ghost use Rattle.tds_world.specs.declared.event.Setup.{Setup};
+ghost use Rattle.tds_world.specs.Lawful.{Lawful};
+ghost use Rattle.tds_world.specs.Laws.{Always};
+ghost use Rattle.tds_world.specs.Sessions.{StayInRange};
+ghost use Rattle.tds_lawful.specs.Lawful.{IsLawful};
+ghost use Rattle.tds_lawful.specs.Alone.{ResetsFirst};
+ghost use Rattle.tds_lawful_server.specs.Bench.{Log, bench};
+ghost use Rattle.tds_lawful_server.specs.Runs.{AreRuns};
+
+use tds_world::laws::requests_are_spelled;
+
+/// Whatever was asked, what the bench's server says keeps the rules; and what it says behind a reset
+/// is what it says without one in the session that the reset leaves.
+pub fn bench_is_lawful()
+    ensures lawful { (attention : OnAttention) (answers : Answers) (log : Log)
+        → Lawful answers → HaveDones answers → HandsOutNext answers
+        → IsLawful (bench attention answers log) }
+    ensures resets { (attention : OnAttention) (answers : Answers) (log : Log)
+        → Lawful answers → ResetsFirst (bench attention answers log) }
+{}
+
+/// Each connection of a play is a run of that server, whatever the events: in it just that went out
+/// and came that went out and came on the connection, and the server has the same session and the
+/// same to say.
+pub fn plays_are_runs()
+    ensures { (setup : Setup) (answers : Answers) → Lawful answers → StayInRange answers
+        → Always setup answers (AreRuns answers) }
+{
+    requests_are_spelled();
+}
