@@ -11,3 +11,4 @@ pub mod Breaking
 pub mod Lawful
 pub mod Conversations
 pub mod SomeRuns
+pub mod Mute

@@ -118,6 +118,7 @@ impl Judge {
     }
 
     /// Takes a byte of a direction. Nothing is done once the judging has ended.
+    #[inline(never)]
     #[tactic(auto, unfolding(crate::specs::Framing::step))]
     pub fn step(&mut self, out: &mut Vec<Finding>, direction: Direction, time: u64, byte: u8)
         requires { vec_len out.old + 32 ≤ vec_capacity out.old }

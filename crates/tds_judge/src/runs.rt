@@ -16,10 +16,11 @@ use crate::frame::{Due, Inside};
 use crate::judge::Judge;
 use crate::talk::{Ending, Event};
 use crate::walker::Went;
-use tds_wire::{Token, WireFault, cuts_do_not_matter};
+use tds_wire::{Token, Told, WireFault, cuts_do_not_matter};
 
 impl Judge {
     /// So many bytes of data have gone by, fewer than are left.
+    #[inline(always)]
     fn pass(&mut self, direction: Direction, left: u16, count: u16)
         requires { count < left }
         ensures { self.new ≡ runs.passed direction left count self.old }
@@ -31,6 +32,7 @@ impl Judge {
     }
 
     /// A token has ended with the last of so many bytes.
+    #[inline(always)]
     fn end_run(&mut self, out: &mut Vec<Finding>, spot: Spot, left: u16, count: u16, token: Token)
         requires few { count < left }
         requires room { vec_len out.old + 8 ≤ vec_capacity out.old }
@@ -41,10 +43,27 @@ impl Judge {
         ensures capacity { vec_capacity out.new ≡ vec_capacity out.old }
     {
         self.pass(Direction::ToClient, left, count);
-        self.say(out, spot, Event::Says(token));
+        self.say_token(out, spot, token);
+    }
+
+    /// A token is said. Rows, most of an answer, say nothing of the connection unless a final DONE came
+    /// before them: that is seen here, where it costs little.
+    #[inline(always)]
+    fn say_token(&mut self, out: &mut Vec<Finding>, spot: Spot, token: Token)
+        requires { vec_len out.old + 8 ≤ vec_capacity out.old }
+        ensures run { (run_of self.new out.new.items)
+            ≡ framing.said spot (events.Says token) (run_of self.old out.old.items) }
+        ensures few { vec_len out.new ≤ vec_len out.old + 8 }
+        ensures capacity { vec_capacity out.new ≡ vec_capacity out.old }
+    {
+        match token.told {
+            Told::Other if !self.talk.is_final => {}
+            _ => self.say(out, spot, Event::Says(token)),
+        }
     }
 
     /// The last of so many bytes was refused.
+    #[inline(never)]
     fn fail_run(
         &mut self,
         out: &mut Vec<Finding>,
@@ -71,6 +90,7 @@ impl Judge {
     }
 
     /// The walker reads a run of data, up to the end of one token: how many bytes of it.
+    #[inline(always)]
     fn walk_run(&mut self, out: &mut Vec<Finding>, time: u64, left: u16, run: &[u8]) -> usize
         requires some { 0 < length run.now }
         requires few { length run.now < left }
@@ -127,6 +147,7 @@ impl Judge {
     }
 
     /// Takes bytes of a direction: at least one, and at most so many as are one step.
+    #[inline(always)]
     pub fn take_some(
         &mut self,
         out: &mut Vec<Finding>,

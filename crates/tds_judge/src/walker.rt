@@ -71,6 +71,7 @@ impl Walker {
     /// # Errors
     ///
     /// At the first byte that no answer has there, what is wrong. Each later call answers it again.
+    #[inline(always)]
     pub fn feed(&mut self, piece: &[u8]) -> Result<Fed, Refusal>
         ensures within { IfOk result (λ fed. fed.count ≤ length piece.now) }
         ensures all { IfOk result (λ fed. fed.token ≡ None → fed.count ≡ length piece.now) }
@@ -81,6 +82,7 @@ impl Walker {
     }
 
     /// Walks over bytes, up to the end of one token.
+    #[inline(always)]
     pub fn walk(&mut self, piece: &[u8]) -> Went
         requires some { 0 < length piece.now }
         requires few { length piece.now ≤ 65535 }

@@ -3,10 +3,12 @@
 #![tactic(auto)]
 
 mod player;
+mod timing;
 
 use player::Player;
 use std::process::ExitCode;
 use std::{env, fs, io};
+use timing::time_judging;
 
 /// How many bytes a piece has.
 const SIZES: [usize; 4] = [1, 3, 7, 4096];
@@ -23,11 +25,19 @@ fn main(rt: HostRuntime) -> ExitCode {
 }
 
 /// Judges the captures of the file that the first word names, with each size. Whether all came out as
-/// they are written.
+/// they are written. Or runs `time FILE PIECE TIMES`.
 fn run(rt: &HostRuntime) -> io::Result<bool> {
-    let Some(file) = env::args(rt)?.nth(1) else {
+    let mut words = Vec::new(rt.alloc());
+    for word in env::args(rt)?.skip(1) {
+        words.push(word)?;
+    }
+    let [file, others @ ..] = words.as_slice() else {
         return Err(io::Error::from(io::ErrorKind::InvalidInput));
     };
+    if file.as_str() == "time" {
+        time_judging(rt, others)?;
+        return Ok(true);
+    }
     let text = fs::read_to_string(rt, file.as_str())?;
     let mut is_well = true;
     for size in SIZES.iter() {

@@ -1,5 +1,7 @@
 //! A capture.
 
+ghost use Rattle.std.specs.Prelude.{◌≡◌};
+
 use std::alloc::Global;
 use std::fmt::Write;
 use std::io;
@@ -12,17 +14,23 @@ pub struct Player {
     found: Vec<Finding>,
 }
 
+/// What the judges here go by.
+pub(crate) fn limits() -> Limits
+    ensures { result.columns ≡ 16 }
+{
+    Limits {
+        idle: 5_000_000,
+        columns: 16,
+        features: Features {
+            encryption: false,
+            ranks: false,
+        },
+    }
+}
+
 impl Player {
     pub fn new(alloc: Global) -> io::Result<Player> {
-        let limits = Limits {
-            idle: 5_000_000,
-            columns: 16,
-            features: Features {
-                encryption: false,
-                ranks: false,
-            },
-        };
-        let judge = Judge::new(alloc, limits)?;
+        let judge = Judge::new(alloc, limits())?;
         Ok(Player {
             judge,
             found: Vec::new(alloc),

@@ -1,0 +1,28 @@
+-- A token that says nothing, before the final DONE, changes nothing.
+use Rattle.std.proofs.Common.{◌≡◌, ◌&&◌, not, Bool, true, false, ℕ, List, sym, ap, subst}
+use Rattle.tds_judge.specs.declared.finding.Finding.{Finding}
+use Rattle.tds_judge.specs.declared.finding.Name.TheVariants as names
+use Rattle.tds_judge.specs.declared.finding.Spot.{Spot}
+use Rattle.tds_judge.specs.declared.judge.Judge.{Judge}
+use Rattle.tds_judge.specs.declared.talk.Event.TheVariants as events
+use Rattle.tds_wire.specs.declared.told.Told.{Told}
+use Rattle.tds_wire.specs.declared.told.Told.TheVariants as told
+use Rattle.tds_wire.specs.declared.told.Token.{Token}
+use Rattle.tds_judge.specs.Findings.{noted}
+use Rattle.tds_judge.specs.Framing.{run_of, said}
+use Rattle.tds_judge.specs.Talking.{is_request, talk_by, told_by}
+
+abbrev token_of : ℕ → ℕ → ℕ → Told → Token
+token_of kind start length x = record { kind = kind; start = start; length = length; told = x }
+
+other_mute : (spot : Spot) (kind start length : ℕ) (j : Judge) (xs : List Finding) → j.talk.is_final ≡ false
+    → run_of j xs ≡ said spot (events.Says (token_of kind start length told.Other)) (run_of j xs)
+unfolding told_by talk_by
+other_mute spot kind start length j xs final =
+    ap (λ (b : Bool). run_of j (noted xs spot (b && (is_request j.talk.asked && (not j.talk.attention && true))) names.TokenAfterFinalDone kind)) (sym final)
+
+pub mute : (spot : Spot) (token : Token) (j : Judge) (xs : List Finding) → token.told ≡ told.Other → j.talk.is_final ≡ false
+    → run_of j xs ≡ said spot (events.Says token) (run_of j xs)
+mute spot token j xs other final =
+    subst (λ (x : Told). run_of j xs ≡ said spot (events.Says (token_of token.kind token.start token.length x)) (run_of j xs)) (sym other)
+    (other_mute spot token.kind token.start token.length j xs final)
