@@ -16,12 +16,11 @@ HEADERS = {
     "tds": "the client's end of a TDS connection",
     "tds_wire": "where each token of any TDS answer ends",
     "tds_pool": "a pool of TDS connections",
-    "tds_service": "pooled TDS sessions as one value",
     "tds_play": "plays a schedule of pooled TDS sessions",
 }
 
-# Headers of libraries that aren't installed: the page's views, and the judge.
-ELSEWHERE = {"tds_view", "tds_judge"}
+# Headers of libraries that aren't installed: the page's views, the judge, and the table of connections.
+ELSEWHERE = {"tds_view", "tds_judge", "tds_service"}
 
 FIRST = """/* Mouktelf {version}: the client's end of a connection that speaks the Tabular Data Stream (MS-TDS), and the
  * player of schedules. C99 and C++. It is the headers {names},
