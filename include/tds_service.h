@@ -1,8 +1,8 @@
 /* A table of connections that callers share, in front of any server: who holds each one, and what
  * becomes of it. C99 and C++. It is libtds_service_c.a, a library of its own; the clients in it are
  * those of tds.h. What a caller owes is said there, and beside it:
- *  - `seats` is the same array at every call, with room for `most` connections; it need not be set
- *    before. A table goes with its array: neither is used with another one, and no old copy of either.
+ *  - `seats` is the same array at every call, with room for `most` connections, all of it written once
+ *    (`= {0}`). A table goes with its array: neither is used with another, nor is an old copy of either.
  *  - Of a seat only its client is the caller's, by the calls of tds.h, and `asked`, which he counts.
  *    Any other value in it is taken for what it says: no number is refused, and none is undefined.
  *  - A seat may move when a call answers TDS_SERVICE_CLOSED or tds_service_lost is called. Keep sockets

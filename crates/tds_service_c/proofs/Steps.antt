@@ -4,22 +4,25 @@ use Rattle.std.proofs.Math.ListN.{set}
 use Rattle.std.proofs.lemmas.Bool.Decides.{nat_tests}
 use Rattle.std.proofs.lemmas.List.{append-nil, get_or-take, length-append, length-drop, length-take-le, take-append-le}
 use Rattle.std.specs.Prelude.{Option, Some, None, Result, Ok, Err, IfOk, IfErr, ◌-◌, nat_lt, if◌then◌else◌}
+use Rattle.tds_client.specs.declared.fault.ClientRefusal.{ClientRefusal}
 use Rattle.tds_packet.specs.declared.status.Reset.{Reset}
 use Rattle.tds_packet.specs.declared.status.Reset.TheVariants.{Full, KeepTransaction}
 use Rattle.tds_wire.specs.declared.told.Token.{Token}
 use Rattle.tds_service.specs.declared.place.Rest.{Rest}
 use Rattle.tds_service.specs.History.{line_after}
 use Rattle.tds_service.specs.Line as line
-use Rattle.tds_service.specs.Line.{Line, Act, Mark, Cancel, Lose, Stage, turn}
+use Rattle.tds_service.specs.Line.{Line, Act, Mark, Cancel, Come, Lose, Stage, turn}
+use Rattle.tds_service.specs.Parts.{Part}
+use Rattle.tds_service.specs.Refusing.{refusal_in}
 use Rattle.tds_service.specs.Service as calls
-use Rattle.tds_service.specs.Service.{Place, Leased, Cleaning, Kept, Seat, Service, Step, Reply, Lent, Ticket, Back, NotNow, has_number, is_free, is_idle, is_lendable, may_keep, clean_place, rests, is_open, does, nothing, opens, find_by, change_by}
+use Rattle.tds_service.specs.Service.{Place, Leased, Cleaning, Kept, Seat, Service, Step, Reply, Lent, Ticket, Did, Back, NotNow, drained, has_number, is_free, is_idle, is_lendable, may_keep, clean_place, rests, is_open, does, nothing, opens, find_by, change_by}
 use Rattle.tds_service.specs.Table.{StepsIn, rest_of}
 use Rattle.tds_service.specs.Ties.{Appends, AreBytes}
 use Rattle.tds_service_c.specs.declared.plain.TdsSeat.{TdsSeat}
 use Rattle.tds_service_c.specs.declared.plain.TdsService.{TdsService}
 use Rattle.tds_service_c.specs.Calls.{Held}
 use Rattle.tds_service_c.specs.Plain.{line_of, place_of, seat_of, seats_of, stage_of}
-use Rattle.tds_service_c.specs.Table.{FirstMet}
+use Rattle.tds_service_c.specs.Table.{Becomes, FirstMet}
 use Rattle.tds_service_c.proofs.Tables.{met_at, found_at, does_alike, does_gone, put_in, same_get}
 
 -- ---- The connection that is found
@@ -314,3 +317,46 @@ pub held_same : (s t : TdsService) (seats others : List TdsSeat) → s ≡ t →
     → (let h : Held = record { service = s; seats = seats } in h) ≡ record { service = t; seats = others }
 held_same s t seats others e f =
     ap (λ (x : TdsService). let h : Held = record { service = x; seats = seats } in h) e ∙ ap (λ (cs : List TdsSeat). let h : Held = record { service = t; seats = cs } in h) f
+
+-- ---- What is done on a seat's client
+
+becomes : (c y : TdsSeat) (place : Place) (all : List (Act Token)) → Becomes c y place all
+    → seat_of y ≡ record { number = c.number; place = place; line = line_after (line_of c) all }
+becomes c y place all b =
+    ap (λ (n : ℕ). let t : Seat = record { number = n; place = place_of y; line = line_of y } in t) b.number_is
+    ∙ (ap (λ (p : Place). let t : Seat = record { number = c.number; place = p; line = line_of y } in t) b.place_is
+    ∙ ap (λ (l : Line). let t : Seat = record { number = c.number; place = place; line = l } in t) b.line_is)
+
+pub acts_by_lease : (last given count : ℕ) (seats : List TdsSeat) (i : ℕ) (test : Seat → Bool) (c y : TdsSeat) (first : Act Token) (all : List (Act Token))
+    → count ≤ length seats → FirstMet test (take count seats) i → c ≡ get_or seats i c → refusal_in (turn (line_of c) first).answer ≡ None → Becomes c y (place_of c) all
+    → (let t : Service = record { max = length (set seats i y); last = last; given = given; seats = seats_of (take count (set seats i y)) } in t)
+    ≡ (calls.acts (record { max = length seats; last = last; given = given; seats = seats_of (take count seats) }) test first all (find_by test (seats_of (take count seats)))).service
+acts_by_lease last given count seats i test c y first all le met at may b =
+    let s : Service = record { max = length seats; last = last; given = given; seats = seats_of (take count seats) } in
+    let here = here_in test count seats i le met in
+    let same = at ∙ (same_get seats i c here.seat here.within ∙ sym here.at) in
+    let found = here.found ∙ ap (λ (x : TdsSeat). Some (seat_of x)) (sym same) in
+    let at_used = at ∙ sym (get_or-take count seats i c here.under) in
+    put_in last given count seats i y here.under
+    ∙ (does_alike s given test (place_of c) all Did (take count seats) i c y refl met at_used (becomes c y (place_of c) all b)
+    ∙ (ap (λ (o : Option ClientRefusal). (calls.acts_unless s test (seat_of c) all o).service) (sym may)
+    ∙ ap (λ (o : Option Seat). (calls.acts s test first all o).service) (sym found)))
+
+pub comes_by_number : (last given count : ℕ) (seats : List TdsSeat) (i number : ℕ) (c y : TdsSeat) (part : Part Token)
+    → count ≤ length seats → FirstMet (has_number number) (take count seats) i → c ≡ get_or seats i c → Becomes c y (drained (place_of c) (line_of y).stage) (Come part ∷ [])
+    → (let t : Service = record { max = length (set seats i y); last = last; given = given; seats = seats_of (take count (set seats i y)) } in t)
+    ≡ (calls.hears (record { max = length seats; last = last; given = given; seats = seats_of (take count seats) }) (has_number number) part (find_by (has_number number) (seats_of (take count seats)))).service
+comes_by_number last given count seats i number c y part le met at b =
+    let s : Service = record { max = length seats; last = last; given = given; seats = seats_of (take count seats) } in
+    let test = has_number number in
+    let all = Come part ∷ [] in
+    let here = here_in test count seats i le met in
+    let same = at ∙ (same_get seats i c here.seat here.within ∙ sym here.at) in
+    let found = here.found ∙ ap (λ (x : TdsSeat). Some (seat_of x)) (sym same) in
+    let at_used = at ∙ sym (get_or-take count seats i c here.under) in
+    let place = drained (place_of c) (line_after (line_of c) all).stage in
+    let new = becomes c y (drained (place_of c) (line_of y).stage) all b
+    ∙ ap (λ (l : Line). let t : Seat = record { number = c.number; place = drained (place_of c) l.stage; line = line_after (line_of c) all } in t) b.line_is in
+    put_in last given count seats i y here.under
+    ∙ (does_alike s given test place all Did (take count seats) i c y refl met at_used new
+    ∙ ap (λ (o : Option Seat). (calls.hears s test part o).service) (sym found))

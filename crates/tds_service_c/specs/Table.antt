@@ -1,8 +1,9 @@
 -- The table's calls, in the words of the machine's.
 use Rattle.std.specs.Prelude.{◌≡◌, ◌<◌, ℕ, zero, suc, Bool, true, false, List, [], ◌∷◌, length}
-use Rattle.tds_service.specs.Line.{Stage, Idle, Sending, Reading, Cancelling, Broken}
+use Rattle.tds_service.specs.History.{line_after}
+use Rattle.tds_service.specs.Line.{Act, Stage, Idle, Sending, Reading, Cancelling, Broken}
 use Rattle.tds_wire.specs.declared.told.Token.{Token}
-use Rattle.tds_service.specs.Service.{Call, Seat, Service, has_lease, has_ticket, has_number, is_lendable}
+use Rattle.tds_service.specs.Service.{Call, Place, Seat, Service, has_lease, has_ticket, has_number, is_lendable}
 use Rattle.tds_service_c.specs.declared.plain.TdsSeat.{TdsSeat}
 use Rattle.tds_service_c.specs.declared.seat.Stage as code
 use Rattle.tds_service_c.specs.declared.seat.Stage.TheVariants as stages
@@ -13,7 +14,7 @@ use Rattle.tds_service_c.specs.declared.answers.Stop.{Stop}
 use Rattle.tds_service_c.specs.declared.answers.Stop.TheVariants as stops
 use Rattle.tds_service_c.specs.declared.cancel.Written.{Written}
 use Rattle.tds_service_c.specs.declared.cancel.Written.TheVariants as sends
-use Rattle.tds_service_c.specs.Plain.{seat_of}
+use Rattle.tds_service_c.specs.Plain.{line_of, place_of, seat_of}
 
 -- What is seen of a stage.
 abbrev pub seen : Stage → code.Stage
@@ -56,3 +57,10 @@ abbrev pub StopsAt : Call Token → Service → (room count : ℕ) → Stop → 
 StopsAt call s room count stops.NoTable = ⊥
 StopsAt call s room count stops.NoRoom = room < count
 StopsAt call s room count (stops.Refused refusal) = Refuses call s refusal
+
+-- ---- A seat on whose client something was done
+
+pub record Becomes (c y : TdsSeat) (place : Place) (all : List (Act Token)) : Type 0 where
+  pub number_is : y.number ≡ c.number
+  pub place_is : place_of y ≡ place
+  pub line_is : line_of y ≡ line_after (line_of c) all

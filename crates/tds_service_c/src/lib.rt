@@ -8,6 +8,7 @@ mod cancel;
 mod exports;
 mod giving;
 mod keeping;
+pub mod laws;
 mod lending;
 mod plain;
 mod seat;
