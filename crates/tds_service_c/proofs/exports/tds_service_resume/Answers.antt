@@ -1,0 +1,25 @@
+use Rattle.std.proofs.Common.{refl, sym, subst}
+use Rattle.std.specs.Prelude.{Ok, Err}
+use Rattle.tds_service.specs.Service as calls
+use Rattle.tds_service_c.specs.declared.answers.Stop.{Stop}
+use Rattle.tds_service_c.specs.declared.answers.Stop.TheVariants as stops
+use Rattle.tds_service_c.specs.Calls.{Stops}
+use Rattle.tds_service_c.proofs.Steps.{held_same}
+use Rattle.tds_service_c.proofs.exports.tds_service_resume.Goals as goal
+
+pub returns-in-Err : goal.returns-in-Err
+returns-in-Err c = (Err c.in-Err.stop, c.write_lent.ensures.number, (refl, c.write_lent.ensures.err, subst (λ (stop : Stop). Stops (calls.Resume c.args.ticket) (record { service = c.args.service.now; seats = c.args.seats.now }) 0 0 stop) (sym c.in-Err.ensures.no.0) c.in-Err.ensures.no.1))
+
+pub returns-in-Ok : goal.returns-in-Ok
+returns-in-Ok c = (Ok c.in-Ok.l, c.write_lent-in-Ok.ensures.number, (_, c.write_lent-in-Ok.ensures.ok, (c.in_default.ensures.yes, c.in-Ok.ensures.ok)))
+
+pub returns-in-Err-resume : goal.returns-in-Err-resume
+returns-in-Err-resume c = (
+  Err (stops.Refused c.in-Err-resume.refusal),
+  c.write_lent-in-Err-resume.ensures.number,
+  (
+    held_same c.resume.new.service c.args.service.now c.resume.new.seats c.args.seats.now c.in-Err-resume.ensures.err c.in-Err-resume.ensures.same,
+    c.write_lent-in-Err-resume.ensures.err,
+    (c.in_default.ensures.yes, c.in-Err-resume.ensures.refused),
+  ),
+)

@@ -1,0 +1,30 @@
+use Rattle.std.proofs.Common.{◌∙◌, ℕ, ◌∷◌, [], ◌++◌, length, take, drop, refl, sym, ap}
+use Rattle.std.proofs.Math.Seq.{take-append_seam}
+use Rattle.tds_wire.specs.declared.told.Token.{Token}
+use Rattle.tds_service.specs.Line.{Cancel, turn}
+use Rattle.tds_service.specs.Service.{Back, has_lease}
+use Rattle.tds_service.specs.Table.{rest_of}
+use Rattle.tds_service_c.specs.declared.plain.TdsSeat.{TdsSeat}
+use Rattle.tds_service_c.specs.Plain.{line_of, table_of}
+use Rattle.tds_service_c.specs.Table.{written_bytes}
+use Rattle.tds_service_c.proofs.Steps.{gives_back, here_in, same_seat}
+use Rattle.tds_service_c.proofs.giving.give_back.Goals as goal
+
+pub returns-clause-ok : goal.returns-clause-ok
+returns-clause-ok c =
+    let s = c.args.service.now in
+    let seats = c.args.seats.now in
+    let i = c.in-Some.index in
+    let test = has_lease c.args.lease in
+    let here = here_in test s.count seats i c.requires.fits c.in-Some.ensures.first in
+    let m = c.cancelled-cancelled.result in
+    let rest = c.rest-rest.result in
+    let copied = c.copy_from_slice.new.self in
+    let behind = drop (length c.as_slice-bytes.result.now) c.args.out.now in
+    let is = ap (λ (n : ℕ). take n (copied ++ behind)) (sym (ap length c.copy_from_slice.ensures.after))
+    ∙ (take-append_seam copied behind ∙ (c.copy_from_slice.ensures.after ∙ c.as_slice-bytes.ensures)) in
+    gives_back (table_of s seats) _ test s.count seats i here _ m rest _ (written_bytes c.written-written.result) refl (same_seat test s.count seats i here _)
+    c.cancelled-cancelled.ensures.line c.rest-rest.ensures c.written-written.ensures is
+    (c.settle.ensures test (Cancel ∷ []) (Back (rest_of rest)) here.seat here.at here.first
+    (c.cancelled-cancelled.ensures.number ∙ ap (λ (z : TdsSeat). z.number) (same_seat test s.count seats i here _))
+    (c.cancelled-cancelled.ensures.line ∙ ap (λ (z : TdsSeat). (turn {T = Token} (line_of z) Cancel).line) (same_seat test s.count seats i here _)))

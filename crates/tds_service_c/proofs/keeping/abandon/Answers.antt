@@ -1,0 +1,19 @@
+use Rattle.std.proofs.Common.{[], refl, ap}
+use Rattle.tds_service.specs.Service.{Back, has_ticket}
+use Rattle.tds_service.specs.Table.{rest_of}
+use Rattle.tds_service_c.specs.declared.plain.TdsSeat.{TdsSeat}
+use Rattle.tds_service_c.specs.Plain.{line_of, table_of}
+use Rattle.tds_service_c.proofs.Steps.{abandons, here_in, same_seat}
+use Rattle.tds_service_c.proofs.keeping.abandon.Goals as goal
+
+pub returns-clause-ok : goal.returns-clause-ok
+returns-clause-ok c =
+    let s = c.args.service.now in
+    let seats = c.args.seats.now in
+    let i = c.in-Some.index in
+    let test = has_ticket c.args.ticket in
+    let here = here_in test s.count seats i c.requires.fits c.in-Some.ensures.first in
+    let rest = c.rest-rest.result in
+    abandons (table_of s seats) _ test s.count seats i here _ rest refl (same_seat test s.count seats i here _) c.rest-rest.ensures
+    (c.settle.ensures test [] (Back (rest_of rest)) here.seat here.at here.first
+    (ap (λ (z : TdsSeat). z.number) (same_seat test s.count seats i here _)) (ap line_of (same_seat test s.count seats i here _)))
