@@ -7,12 +7,14 @@
 #![tactic(auto)]
 
 mod application;
+mod desk;
 mod link;
 mod news;
 mod order;
 mod outgoing;
 mod relay;
 
+pub use desk::{Desk, Heard, Hold, Left, Renewed, Served, What};
 pub use order::Order;
 pub use relay::Relay;
 
