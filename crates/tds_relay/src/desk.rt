@@ -1,7 +1,7 @@
 //! Who holds which connection of a service, and whose requests wait for one.
-ghost use Rattle.std.specs.Prelude.{◌≡◌, [], IfOk, IfSome, IfErr, OnOk, OnErr, IfNone};
-ghost use Rattle.tds_relay.specs.Desk.{Serves, Unwaits, Waits, find_key, new_desk};
-ghost use Rattle.tds_relay.specs.Ties.{IsServed, Serving, Turns, desk_in};
+ghost use Rattle.std.specs.Prelude.{◌≡◌, [], IfOk, OnOk, OnErr, length};
+ghost use Rattle.tds_relay.specs.Desk.{Serves, Unwaits, Waits, find_key, find_number, key_of, new_desk};
+ghost use Rattle.tds_relay.specs.Ties.{Serving, Turns, desk_in};
 
 mod asking;
 mod coming;
@@ -12,7 +12,7 @@ use crate::NoMemory;
 use crate::link::COLUMNS;
 pub use coming::{Heard, What};
 pub use leaving::{Left, Renewed};
-use lists::{find_key, remove_key};
+use lists::{find_key, find_number, remove_key};
 use std::alloc::{AllocError, Global};
 use tds_packet::PacketSize;
 use tds_service::{Refusal, Service};
@@ -121,8 +121,20 @@ impl Desk {
         find_key(&self.holds, key)
     }
 
+    /// The application that holds the connection of this number.
+    pub fn key_on(&self, number: u64) -> Option<usize>
+        ensures { result ≡ key_of (find_number number (desk_in self.now).holds) }
+    {
+        match find_number(&self.holds, number) {
+            Some(hold) => Some(hold.key),
+            None => None,
+        }
+    }
+
     /// How many applications wait.
-    pub fn waiting(&self) -> usize {
+    pub fn waiting(&self) -> usize
+        ensures { result ≡ length (desk_in self.now).line }
+    {
         self.line.len()
     }
 }

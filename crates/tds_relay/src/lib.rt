@@ -8,6 +8,7 @@
 
 mod application;
 mod desk;
+pub mod laws;
 mod link;
 mod news;
 mod order;
