@@ -1,1 +1,4 @@
+pub mod Desk
 pub mod News
+pub mod Promises
+pub mod Ties

@@ -12,13 +12,6 @@ use tds_packet::{PacketSize, Reset};
 /// The most bytes of a request that are kept while it waits for a connection.
 pub(crate) const MOST_HELD: usize = 16_384;
 
-/// The connection that an application holds.
-#[derive(Clone, Copy, Debug)]
-pub(crate) struct Hold {
-    pub(crate) lease: u64,
-    pub(crate) number: u64,
-}
-
 /// Where its request is.
 #[derive(Clone, Copy, Debug)]
 pub(crate) enum Asking {
@@ -36,7 +29,6 @@ pub(crate) struct Application {
     pub(crate) tag: usize,
     pub(crate) front: Front,
     pub(crate) out: Outgoing,
-    pub(crate) hold: Option<Hold>,
     pub(crate) asking: Asking,
     /// The reset that its request asks for itself.
     pub(crate) reset: Option<Reset>,
@@ -55,7 +47,6 @@ impl Application {
             tag,
             front: Front::new(size),
             out: Outgoing::new(alloc),
-            hold: None,
             asking: Asking::Nothing,
             reset: None,
             held: Vec::new(alloc),
@@ -88,10 +79,5 @@ impl Application {
     /// Nothing is kept of its request any more.
     pub(crate) fn forget(&mut self) {
         self.held.clear();
-    }
-
-    /// Whether it waits in the line.
-    pub(crate) fn is_waiting(&self) -> bool {
-        self.hold.is_none() && matches!(self.asking, Asking::Waits { .. })
     }
 }

@@ -7,12 +7,15 @@
 #![tactic(auto)]
 
 mod application;
+mod desk;
+pub mod laws;
 mod link;
 mod news;
 mod order;
 mod outgoing;
 mod relay;
 
+pub use desk::{Desk, Heard, Hold, Left, Renewed, Served, What};
 pub use order::Order;
 pub use relay::{Counts, Place, PlaceOn, Relay};
 

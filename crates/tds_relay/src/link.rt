@@ -12,30 +12,16 @@ use tds_wire::{Features, Walker};
 /// The most columns of a result.
 pub(crate) const COLUMNS: u16 = 4096;
 
-/// Whose what comes on it is.
-#[derive(Clone, Copy, Debug)]
-pub(crate) enum Holder {
-    /// Nobody's.
-    Nobody,
-    /// The application's with this key.
-    Application(usize),
-    /// The relay's, which cleans it by this lease.
-    Cleaning(u64),
-}
-
 #[derive(Drop)]
 pub(crate) struct Link {
     pub(crate) number: u64,
     /// What whoever carries its bytes calls it, once there is something.
     pub(crate) tag: Option<usize>,
-    pub(crate) holder: Holder,
     /// Whether it is logged in.
     pub(crate) is_open: bool,
     /// Whether its application took its request back, so that nothing is handed on until the
     /// acknowledgement of that.
     pub(crate) is_muted: bool,
-    /// Whether nobody holds it and what was underway was cancelled.
-    pub(crate) drains: bool,
     /// Whether the news of a reset is cut out, until it was.
     pub(crate) cuts: bool,
     pub(crate) out: Outgoing,
@@ -59,7 +45,6 @@ impl Link {
     pub(crate) fn new(
         alloc: Global,
         number: u64,
-        holder: Holder,
         size: PacketSize,
         features: Features,
     ) -> Result<Link, NoMemory> {
@@ -73,10 +58,8 @@ impl Link {
         Ok(Link {
             number,
             tag: None,
-            holder,
             is_open: false,
             is_muted: false,
-            drains: false,
             cuts: false,
             out: Outgoing::new(alloc),
             reader: PacketReader::new(alloc, size, Direction::ToClient)?,

@@ -7,14 +7,14 @@ mod places;
 
 use crate::NoMemory;
 use crate::application::{Application, Asking};
-use crate::link::{COLUMNS, Holder, Link};
+use crate::desk::Desk;
+use crate::link::Link;
 use crate::order::Order;
 pub use places::{Counts, Place, PlaceOn};
 use slab::Slab;
 use std::alloc::{AllocError, Global};
 use std::mem;
 use tds_packet::PacketSize;
-use tds_service::Service;
 use tds_wire::{Features, Token};
 
 /// How many bytes may wait for an application or on a connection before the other end isn't read.
@@ -22,9 +22,6 @@ const CROWDED: usize = 65_536;
 
 /// The most bytes of an application or of a connection that are read at once.
 const PIECE: usize = 8_192;
-
-/// What a cleaning asks for: a reset leaves the isolation level as it is.
-const CLEANING: &str = "set transaction isolation level read committed";
 
 /// Many applications, and the connections of one service that they share.
 ///
@@ -37,16 +34,14 @@ pub struct Relay {
     alloc: Global,
     size: PacketSize,
     features: Features,
-    service: Service,
+    desk: Desk,
     applications: Slab<Application>,
     links: Vec<Link>,
-    /// The keys of the applications that wait for a connection, the first one first.
-    line: Vec<usize>,
     orders: Vec<Order>,
     /// Where what is told of a packet is put: nobody looks at it.
     told: Vec<Token>,
-    /// The text of a cleaning, of two bytes a unit.
-    cleaning: Vec<u8>,
+    /// Where the desk puts what is to be sent on a connection.
+    outbox: Vec<u8>,
     counts: Counts,
 }
 
@@ -59,24 +54,17 @@ impl Relay {
         size: PacketSize,
         features: Features,
     ) -> Result<Relay, NoMemory> {
-        let Some(service) = Service::new(alloc, most, size, COLUMNS, features) else {
-            return Err(AllocError);
-        };
-        let mut cleaning = Vec::new(alloc);
-        for byte in CLEANING.as_bytes() {
-            cleaning.extend_from_slice(&[*byte, 0])?;
-        }
+        let desk = Desk::new(alloc, most, size, features)?;
         Ok(Relay {
             alloc,
             size,
             features,
-            service,
+            desk,
             applications: Slab::new(alloc),
             links: Vec::new(alloc),
-            line: Vec::new(alloc),
             orders: Vec::new(alloc),
             told: Vec::new(alloc),
-            cleaning,
+            outbox: Vec::new(alloc),
             counts: Counts::none(),
         })
     }
@@ -108,7 +96,7 @@ impl Relay {
             Asking::Waits { .. } => PIECE,
             Asking::Goes => PIECE,
         };
-        let is_crowded = match application.hold {
+        let is_crowded = match self.desk.hold_of(key) {
             Some(hold) => self.is_crowded(hold.number),
             None => false,
         };
@@ -128,10 +116,10 @@ impl Relay {
 
     /// How many bytes of a connection may be read now, at most 8,192.
     pub fn room_on(&self, number: u64) -> usize {
-        let Some(link) = self.link(number) else {
+        if self.link(number).is_none() {
             return 0;
-        };
-        let Holder::Application(key) = link.holder else {
+        }
+        let Some(key) = self.desk.key_on(number) else {
             return PIECE;
         };
         match self.applications.get(key) {
@@ -161,7 +149,7 @@ impl Relay {
     pub fn sent(&mut self, key: usize, count: usize) -> Option<usize> {
         let application = self.applications.get_mut(key)?;
         application.out.sent(count);
-        let hold = application.hold?;
+        let hold = self.desk.hold_of(key)?;
         self.link(hold.number)?.tag
     }
 
@@ -170,11 +158,8 @@ impl Relay {
     pub fn sent_on(&mut self, number: u64, count: usize) -> Option<usize> {
         let link = self.link_mut(number)?;
         link.out.sent(count);
-        match link.holder {
-            Holder::Application(key) => Some(self.applications.get(key)?.tag),
-            Holder::Cleaning(_) => None,
-            Holder::Nobody => None,
-        }
+        let key = self.desk.key_on(number)?;
+        Some(self.applications.get(key)?.tag)
     }
 
     /// How many applications there are.
@@ -189,7 +174,44 @@ impl Relay {
 
     /// How many applications wait for a connection.
     pub fn waiting(&self) -> usize {
-        self.line.len()
+        self.desk.waiting()
+    }
+
+    /// What the desk has to send on a connection waits there.
+    fn send_on(&mut self, number: u64) -> Result<(), NoMemory> {
+        let Relay { links, outbox, .. } = self;
+        for link in links.iter_mut() {
+            if link.number == number {
+                link.out.bytes().extend_from_slice(outbox)?;
+            }
+        }
+        outbox.clear();
+        self.order_write_on(number)
+    }
+
+    /// Something is to be sent to an application.
+    fn order_write(&mut self, key: usize) -> Result<(), NoMemory> {
+        match self.applications.get(key) {
+            Some(application) => {
+                self.orders.push(Order::Write(application.tag))?;
+                Ok(())
+            }
+            None => Ok(()),
+        }
+    }
+
+    /// Something is to be sent on a connection.
+    fn order_write_on(&mut self, number: u64) -> Result<(), NoMemory> {
+        let Some(link) = self.link(number) else {
+            return Ok(());
+        };
+        match link.tag {
+            Some(tag) => {
+                self.orders.push(Order::Write(tag))?;
+                Ok(())
+            }
+            None => Ok(()),
+        }
     }
 
     fn link(&self, number: u64) -> Option<&Link> {

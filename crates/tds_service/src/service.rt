@@ -6,6 +6,7 @@ mod coming;
 mod finding;
 mod giving;
 mod lending;
+mod looking;
 mod making;
 
 use crate::seat::Seat;

@@ -1,8 +1,11 @@
 //! What applications say: requests, and cancels.
+ghost use Rattle.std.specs.Prelude.{OnOk};
+ghost use Rattle.tds_relay.specs.Ties.{NobodyWaits, desk_in};
+
 use super::Relay;
 use crate::NoMemory;
-use crate::application::{Asking, Hold};
-use crate::order::Order;
+use crate::application::Asking;
+use crate::desk::Renewed;
 use tds_client::{Cancelled, MessageKind};
 use tds_front::Said;
 use tds_packet::{Kind, Reset};
@@ -14,7 +17,9 @@ const ACKNOWLEDGED: [u8; 21] = [
 
 impl Relay {
     /// These bytes of an application came. At most as many as `room` says are to be handed in.
-    pub fn said(&mut self, key: usize, piece: &[u8]) -> Result<(), NoMemory> {
+    pub fn said(&mut self, key: usize, piece: &[u8]) -> Result<(), NoMemory>
+        ensures { OnOk result (NobodyWaits (desk_in self.new.desk)) }
+    {
         let mut rest = piece;
         for _ in 0..piece.len() {
             if rest.is_empty() {
@@ -70,44 +75,33 @@ impl Relay {
         application.reset = reset;
         application.begun = application.begun.saturating_add(1);
         application.forget();
-        match (application.hold, reset) {
-            (None, _) => {
-                self.line.push(key)?;
-                Ok(())
-            }
-            (Some(_), None) => self.start(key),
-            (Some(hold), Some(Reset::KeepTransaction)) => self.renew(key, hold),
-            (Some(hold), Some(Reset::Full)) => self.change(key, hold),
+        let holds = self.desk.hold_of(key).is_some();
+        match (holds, reset) {
+            (false, _) => self.desk.wait(key),
+            (true, None) => self.start(key),
+            (true, Some(Reset::KeepTransaction)) => self.renew(key),
+            (true, Some(Reset::Full)) => self.change(key),
         }
     }
 
     /// The application lets its connection go, and waits for one like who has come.
-    fn change(&mut self, key: usize, hold: Hold) -> Result<(), NoMemory> {
-        if let Some(application) = self.applications.get_mut(key) {
-            application.hold = None;
-            self.line.push(key)?;
-        }
-        self.release(hold)
+    fn change(&mut self, key: usize) -> Result<(), NoMemory> {
+        self.release(key)?;
+        self.desk.wait(key)
     }
 
     /// The application keeps its connection with its transaction, and its next request resets the rest.
-    fn renew(&mut self, key: usize, hold: Hold) -> Result<(), NoMemory> {
-        let Ok(ticket) = self.service.keep(hold.lease) else {
-            return self.change(key, hold);
-        };
-        let Ok(lent) = self.service.resume(ticket) else {
-            return self.lose(hold.number);
-        };
-        if let Some(application) = self.applications.get_mut(key) {
-            application.hold = Some(Hold {
-                lease: lent.lease,
-                number: lent.number,
-            });
+    fn renew(&mut self, key: usize) -> Result<(), NoMemory> {
+        match self.desk.renew(key)? {
+            Renewed::Kept(hold) => {
+                if let Some(link) = self.link_mut(hold.number) {
+                    link.cuts = false;
+                }
+                self.start(key)
+            }
+            Renewed::NotKept => self.change(key),
+            Renewed::Closed(number) => self.close(number, Some(key)),
         }
-        if let Some(link) = self.link_mut(lent.number) {
-            link.cuts = false;
-        }
-        self.start(key)
     }
 
     /// The next bytes of its request's body, with which it is whole or not.
@@ -124,42 +118,27 @@ impl Relay {
                 application.asking = Asking::Waits { kind, whole };
                 Ok(())
             }
-            Asking::Goes => match application.hold {
-                Some(hold) => self.put(key, hold, bytes, whole),
-                None => Ok(()),
-            },
+            Asking::Goes => self.put(key, bytes, whole),
         }
     }
 
     /// Puts bytes of a request on its connection, and its end.
-    pub(super) fn put(
-        &mut self,
-        key: usize,
-        hold: Hold,
-        bytes: &[u8],
-        whole: bool,
-    ) -> Result<(), NoMemory> {
-        let Relay { service, links, .. } = self;
-        let mut is_put = false;
-        let mut went_on = false;
-        for link in links.iter_mut() {
-            if link.number == hold.number {
-                let before = link.out.count();
-                is_put = service.put(hold.lease, bytes, link.out.bytes()).is_ok()
-                    && (!whole || service.finish(hold.lease, link.out.bytes()).is_ok());
-                went_on = link.out.count() > before;
-            }
-        }
+    pub(super) fn put(&mut self, key: usize, bytes: &[u8], whole: bool) -> Result<(), NoMemory> {
+        let Some(hold) = self.desk.hold_of(key) else {
+            return Ok(());
+        };
+        self.outbox.clear();
+        let is_put = self.desk.put(key, bytes, &mut self.outbox).is_ok()
+            && (!whole || self.desk.finish(key, &mut self.outbox).is_ok());
         if !is_put {
             return self.lose(hold.number);
         }
-        if went_on {
+        if !self.outbox.is_empty() {
             if let Some(application) = self.applications.get_mut(key) {
                 application.front.went_on();
             }
-            self.order_write_on(hold.number)?;
         }
-        Ok(())
+        self.send_on(hold.number)
     }
 
     /// What has come of its request is forgotten; where something of it has gone on, the server is to
@@ -171,19 +150,22 @@ impl Relay {
         let goes = matches!(application.asking, Asking::Goes);
         application.asking = Asking::Nothing;
         application.forget();
-        self.line.retain(|waits| *waits != key);
-        match self.hold_of(key) {
-            Some(hold) if goes => match self.cancel(hold)? {
-                Some(Cancelled::Asked) => {
-                    if let Some(link) = self.link_mut(hold.number) {
-                        link.is_muted = true;
-                    }
-                    Ok(())
+        self.desk.unwait(key);
+        if !goes {
+            return Ok(());
+        }
+        let Some(hold) = self.desk.hold_of(key) else {
+            return Ok(());
+        };
+        match self.cancel(key)? {
+            Some(Cancelled::Asked) => {
+                if let Some(link) = self.link_mut(hold.number) {
+                    link.is_muted = true;
                 }
-                Some(_) => Ok(()),
-                None => self.lose(hold.number),
-            },
-            _ => Ok(()),
+                Ok(())
+            }
+            Some(_) => Ok(()),
+            None => self.lose(hold.number),
         }
     }
 
@@ -197,10 +179,10 @@ impl Relay {
 
     /// The server acknowledges an attention.
     fn hand_on(&mut self, key: usize) -> Result<(), NoMemory> {
-        let Some(hold) = self.hold_of(key) else {
+        let Some(hold) = self.desk.hold_of(key) else {
             return self.expel(key);
         };
-        match self.cancel(hold)? {
+        match self.cancel(key)? {
             Some(Cancelled::Asked) => {
                 self.counts.cancels = self.counts.cancels.saturating_add(1);
                 Ok(())
@@ -209,49 +191,15 @@ impl Relay {
         }
     }
 
-    /// Cancels what is underway by a lease. None where its connection is of no use any more.
-    fn cancel(&mut self, hold: Hold) -> Result<Option<Cancelled>, NoMemory> {
-        let Relay { service, links, .. } = self;
-        let mut cancelled = None;
-        for link in links.iter_mut() {
-            if link.number == hold.number {
-                cancelled = match service.cancel(hold.lease, link.out.bytes()) {
-                    Ok((_, how)) => Some(how),
-                    Err(_) => None,
-                };
+    /// Cancels what is underway of an application. None where its connection is of no use any more.
+    fn cancel(&mut self, key: usize) -> Result<Option<Cancelled>, NoMemory> {
+        self.outbox.clear();
+        match self.desk.cancel(key, &mut self.outbox) {
+            Ok((hold, how)) => {
+                self.send_on(hold.number)?;
+                Ok(Some(how))
             }
-        }
-        self.order_write_on(hold.number)?;
-        Ok(cancelled)
-    }
-
-    /// The connection that an application holds.
-    pub(super) fn hold_of(&self, key: usize) -> Option<Hold> {
-        self.applications.get(key)?.hold
-    }
-
-    /// Something is to be sent to an application.
-    pub(super) fn order_write(&mut self, key: usize) -> Result<(), NoMemory> {
-        match self.applications.get(key) {
-            Some(application) => {
-                self.orders.push(Order::Write(application.tag))?;
-                Ok(())
-            }
-            None => Ok(()),
-        }
-    }
-
-    /// Something is to be sent on a connection.
-    pub(super) fn order_write_on(&mut self, number: u64) -> Result<(), NoMemory> {
-        let Some(link) = self.link(number) else {
-            return Ok(());
-        };
-        match link.tag {
-            Some(tag) => {
-                self.orders.push(Order::Write(tag))?;
-                Ok(())
-            }
-            None => Ok(()),
+            Err(_) => Ok(None),
         }
     }
 }

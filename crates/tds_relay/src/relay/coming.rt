@@ -1,31 +1,21 @@
 //! What comes on connections.
-ghost use Rattle.std.specs.Prelude.{◌≡◌, ◌+◌, length};
+ghost use Rattle.std.specs.Prelude.{◌≡◌, ◌+◌, length, OnOk};
+ghost use Rattle.tds_relay.specs.Ties.{NobodyWaits, desk_in};
 
 use super::Relay;
 use crate::NoMemory;
 use crate::application::{Application, Asking};
-use crate::link::{Answer, Holder, Link};
+use crate::desk::{Desk, Heard, What};
+use crate::link::{Answer, Link};
 use slab::Slab;
 use tds_packet::{PacketRef, put_packet};
-use tds_service::{Came, Outcome, Service};
 use tds_wire::Token;
-
-/// What came of bytes of a connection.
-#[derive(Clone, Copy, Debug)]
-enum Heard {
-    /// A part of a packet, or of a message.
-    Part,
-    /// A request has its answer.
-    Finished,
-    /// A cancel is acknowledged.
-    Acknowledged,
-    /// The connection is of no use any more.
-    Wrong,
-}
 
 impl Relay {
     /// These bytes came on the connection of this number, behind its login.
-    pub fn came(&mut self, number: u64, piece: &[u8]) -> Result<(), NoMemory> {
+    pub fn came(&mut self, number: u64, piece: &[u8]) -> Result<(), NoMemory>
+        ensures { OnOk result (NobodyWaits (desk_in self.new.desk)) }
+    {
         let mut rest = piece;
         for _ in 0..=piece.len() {
             if rest.is_empty() {
@@ -41,51 +31,61 @@ impl Relay {
         self.serve_line()
     }
 
-    /// Takes bytes up to the end of a packet, and hands on what is an application's.
-    fn hear(&mut self, number: u64, piece: &[u8]) -> Result<(usize, Heard), NoMemory> {
+    /// Takes bytes up to the end of a packet, and hands on what is an application's. None where they
+    /// are no packet of an answer.
+    fn hear(&mut self, number: u64, piece: &[u8]) -> Result<(usize, Option<Heard>), NoMemory> {
         let Relay {
-            service,
+            desk,
             applications,
             links,
             told,
+            outbox,
             ..
         } = self;
+        outbox.clear();
         for link in links.iter_mut() {
             if link.number == number {
-                let Ok(count) = link.reader.feed(piece) else {
-                    return Ok((piece.len(), Heard::Wrong));
-                };
-                let heard = hear_packet(service, applications, link, told)?;
-                link.reader.done();
-                return Ok((count, heard));
+                return hear_on(desk, applications, link, told, outbox, piece);
             }
         }
-        Ok((piece.len(), Heard::Part))
+        Ok((piece.len(), Some(NOTHING)))
     }
 
     /// What came of a packet is done.
-    fn heard(&mut self, number: u64, heard: Heard) -> Result<(), NoMemory> {
-        let Some(link) = self.link_mut(number) else {
-            return Ok(());
+    fn heard(&mut self, number: u64, heard: Option<Heard>) -> Result<(), NoMemory> {
+        self.send_on(number)?;
+        let Some(heard) = heard else {
+            return self.lose(number);
         };
-        let was_muted = link.is_muted;
-        match (heard, link.holder) {
-            (Heard::Part, Holder::Application(key)) => self.order_write(key),
-            (Heard::Part, _) => Ok(()),
-            (Heard::Finished, Holder::Application(key)) => self.settled(key, false),
-            (Heard::Acknowledged, Holder::Application(key)) => {
-                link.is_muted = false;
-                if was_muted {
+        match (heard.what, heard.key) {
+            (What::Goes, Some(key)) => self.order_write(key),
+            (What::Goes, None) => Ok(()),
+            (What::Finished, Some(key)) => self.settled(key, false),
+            (What::Finished, None) => Ok(()),
+            (What::Acknowledged, Some(key)) => {
+                if self.unmute(number) {
                     self.start(key)
                 } else {
                     self.settled(key, true)
                 }
             }
-            (Heard::Finished, Holder::Cleaning(lease)) => self.cleaned(number, lease),
-            (Heard::Finished | Heard::Acknowledged, Holder::Nobody) => self.clean(number),
-            (Heard::Acknowledged, Holder::Cleaning(_)) => self.lose(number),
-            (Heard::Wrong, _) => self.lose(number),
+            (What::Acknowledged, None) => Ok(()),
+            (What::Closed, Some(key)) => self.close(number, Some(key)),
+            (What::Closed, None) => {
+                self.counts.failed = self.counts.failed.saturating_add(1);
+                self.close(number, None)
+            }
         }
+    }
+
+    /// What comes on a connection is handed on again. False where it was.
+    fn unmute(&mut self, number: u64) -> bool {
+        let Some(link) = self.link_mut(number) else {
+            return false;
+        };
+        let was_muted = link.is_muted;
+        link.is_muted = false;
+        was_muted
     }
 
     /// An application's request has its answer, or its attention the acknowledgement.
@@ -102,52 +102,52 @@ impl Relay {
     }
 }
 
-/// The packet that has come, if one has: the service hears it, and whoever asked gets it.
-fn hear_packet(
-    service: &mut Service,
+const NOTHING: Heard = Heard {
+    key: None,
+    what: What::Goes,
+};
+
+/// Takes bytes of this connection up to the end of a packet.
+fn hear_on(
+    desk: &mut Desk,
     applications: &mut Slab<Application>,
     link: &mut Link,
     told: &mut Vec<Token>,
+    outbox: &mut Vec<u8>,
+    piece: &[u8],
+) -> Result<(usize, Option<Heard>), NoMemory> {
+    let Ok(count) = link.reader.feed(piece) else {
+        return Ok((piece.len(), None));
+    };
+    let heard = hear_packet(desk, applications, link, told, outbox)?;
+    link.reader.done();
+    Ok((count, Some(heard)))
+}
+
+/// The packet that has come, if one has: the desk hears it, and whoever holds the connection gets it.
+fn hear_packet(
+    desk: &mut Desk,
+    applications: &mut Slab<Application>,
+    link: &mut Link,
+    told: &mut Vec<Token>,
+    outbox: &mut Vec<u8>,
 ) -> Result<Heard, NoMemory> {
     let Some(packet) = link.reader.packet() else {
-        return Ok(Heard::Part);
+        return Ok(NOTHING);
     };
     told.clear();
     let ends = packet.header.status.ends();
-    let Ok(came) = service.came(link.number, packet.data, ends, told) else {
-        return Ok(Heard::Wrong);
-    };
-    let heard = heard_of(&came);
-    if matches!(heard, Heard::Wrong) || link.is_muted {
+    let heard = desk.came(link.number, packet.data, ends, told, outbox)?;
+    if matches!(heard.what, What::Closed) || link.is_muted {
         return Ok(heard);
     }
-    let Holder::Application(key) = link.holder else {
+    let Some(key) = heard.key else {
         return Ok(heard);
     };
-    let Some(application) = applications.get_mut(key) else {
-        return Ok(heard);
-    };
-    if is_whose(application, &came) {
+    if let Some(application) = applications.get_mut(key) {
         hand_on(&mut link.answer, &mut link.cuts, packet, application)?;
     }
     Ok(heard)
-}
-
-/// Whether what came is of a request that this application asked.
-fn is_whose(application: &Application, came: &Came) -> bool {
-    match (application.hold, came.lease) {
-        (Some(hold), Some(lease)) => hold.lease == lease,
-        _ => false,
-    }
-}
-
-fn heard_of(came: &Came) -> Heard {
-    match &came.outcome {
-        Outcome::More => Heard::Part,
-        Outcome::Finished => Heard::Finished,
-        Outcome::Acknowledged => Heard::Acknowledged,
-        Outcome::Fault(_) => Heard::Wrong,
-    }
 }
 
 /// Hands a packet on as it came, or without the news of a reset.

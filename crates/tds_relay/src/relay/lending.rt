@@ -1,41 +1,44 @@
 //! Connections that are lent to those who wait, opened, and asked.
+ghost use Rattle.std.specs.Prelude.{OnOk};
+ghost use Rattle.tds_relay.specs.Ties.{NobodyWaits, desk_in};
+
 use super::Relay;
 use crate::NoMemory;
-use crate::application::{Asking, Hold};
-use crate::link::{Holder, Link};
+use crate::application::Asking;
+use crate::desk::Served;
+use crate::link::Link;
 use crate::order::Order;
-use tds_service::{Lent, Refusal};
+use std::alloc::AllocError;
+use tds_service::Refusal;
 
 /// The news of a reset that is done, in a packet of its own (MS-TDS 2.2.7.9, type 18).
 const NEWS: [u8; 14] = [4, 0, 0, 14, 0, 0, 1, 0, 0xe3, 3, 0, 18, 0, 0];
 
 impl Relay {
     /// A connection that is open and logged in has come before any application asked: the first one of
-    /// all. Answers its number, or none where it isn't wanted.
+    /// all. It is cleaned first. Answers its number, or none where it isn't wanted.
     pub fn bring(&mut self, tag: usize) -> Result<Option<u64>, NoMemory> {
-        let Ok(lent) = self.service.lease() else {
+        if !self.links.is_empty() {
+            return Ok(None);
+        }
+        self.outbox.clear();
+        let Some(left) = self.desk.bring(&mut self.outbox)? else {
             return Ok(None);
         };
-        if lent.had {
-            let mut nobody = Vec::new(self.alloc);
-            let _ = self.service.give_back(lent.lease, &mut nobody).is_ok();
+        if !left.is_there {
             return Ok(None);
         }
-        let mut link = self.new_link(lent.number, Holder::Nobody)?;
+        let mut link = self.new_link(left.number)?;
         link.tag = Some(tag);
         link.is_open = true;
-        let is_back = self.service.give_back(lent.lease, link.out.bytes()).is_ok();
         self.links.push(link)?;
-        if !is_back {
-            self.lose(lent.number)?;
-            return Ok(None);
-        }
+        self.send_on(left.number)?;
         self.serve_line()?;
-        Ok(Some(lent.number))
+        Ok(Some(left.number))
     }
 
-    fn new_link(&self, number: u64, holder: Holder) -> Result<Link, NoMemory> {
-        Link::new(self.alloc, number, holder, self.size, self.features)
+    fn new_link(&self, number: u64) -> Result<Link, NoMemory> {
+        Link::new(self.alloc, number, self.size, self.features)
     }
 
     /// The connection of this number is being opened, and is called so.
@@ -46,91 +49,99 @@ impl Relay {
     }
 
     /// The connection of this number is open and logged in.
-    pub fn opened(&mut self, number: u64) -> Result<(), NoMemory> {
-        let Some(link) = self.link_mut(number) else {
-            return Ok(());
-        };
-        link.is_open = true;
-        if let Holder::Application(key) = link.holder {
+    pub fn opened(&mut self, number: u64) -> Result<(), NoMemory>
+        ensures { OnOk result (NobodyWaits (desk_in self.new.desk)) }
+    {
+        if let Some(link) = self.link_mut(number) {
+            link.is_open = true;
+        }
+        self.order_write_on(number)?;
+        if let Some(key) = self.desk.key_on(number) {
             self.start(key)?;
         }
         self.serve_line()
     }
 
     /// Lends connections to those who wait, in order, while there are any.
-    pub(super) fn serve_line(&mut self) -> Result<(), NoMemory> {
-        for _ in 0..self.line.len() {
-            let Some(key) = self.line.first().copied() else {
-                break;
-            };
-            let Ok(lent) = self.service.lease() else {
-                break;
-            };
-            self.line.remove(0);
-            self.lend(key, lent)?;
+    pub(super) fn serve_line(&mut self) -> Result<(), NoMemory>
+        ensures { OnOk result (NobodyWaits (desk_in self.new.desk)) }
+    {
+        for _ in 0..u64::MAX {
+            match self.desk.serve()? {
+                Some(served) => self.lend(served)?,
+                None => return Ok(()),
+            }
         }
-        Ok(())
+        Err(AllocError)
     }
 
     /// A connection is lent to an application.
-    fn lend(&mut self, key: usize, lent: Lent) -> Result<(), NoMemory> {
-        let Some(application) = self.applications.get_mut(key) else {
-            return self.lose(lent.number);
+    fn lend(&mut self, served: Served) -> Result<(), NoMemory> {
+        let key = served.hold.key;
+        let number = served.hold.number;
+        let asks_for_reset = match self.applications.get(key) {
+            Some(application) => application.reset.is_some(),
+            None => false,
         };
-        let asks_for_reset = application.reset.is_some();
-        application.hold = Some(Hold {
-            lease: lent.lease,
-            number: lent.number,
-        });
-        if !lent.had {
-            if asks_for_reset {
-                application.out.bytes().extend_from_slice(&NEWS)?;
-                self.order_write(key)?;
+        if served.had {
+            if let Some(link) = self.link_mut(number) {
+                link.cuts = !asks_for_reset;
             }
-            let link = self.new_link(lent.number, Holder::Application(key))?;
-            self.links.push(link)?;
-            self.orders.push(Order::Open(lent.number))?;
-            return Ok(());
+            return self.start(key);
         }
-        if let Some(link) = self.link_mut(lent.number) {
-            link.holder = Holder::Application(key);
-            link.cuts = !asks_for_reset;
+        if asks_for_reset {
+            self.tell_news(key)?;
         }
-        self.start(key)
+        let link = self.new_link(number)?;
+        self.links.push(link)?;
+        self.orders.push(Order::Open(number))?;
+        Ok(())
+    }
+
+    /// The reset that an application asks for is done: nobody had its connection before.
+    fn tell_news(&mut self, key: usize) -> Result<(), NoMemory> {
+        if let Some(application) = self.applications.get_mut(key) {
+            application.out.bytes().extend_from_slice(&NEWS)?;
+        }
+        self.order_write(key)
     }
 
     /// Asks what an application asks, where its connection is open and idle.
     pub(super) fn start(&mut self, key: usize) -> Result<(), NoMemory> {
-        let Some(application) = self.applications.get_mut(key) else {
+        let Some(application) = self.applications.get(key) else {
             return Ok(());
         };
-        let (Some(hold), Asking::Waits { kind, whole }) = (application.hold, application.asking)
-        else {
+        let Asking::Waits { kind, whole } = application.asking else {
             return Ok(());
         };
-        let is_open = match self.link(hold.number) {
+        let Some(hold) = self.desk.hold_of(key) else {
+            return Ok(());
+        };
+        let may_ask = match self.link(hold.number) {
             Some(link) => link.is_open && !link.is_muted,
             None => false,
         };
-        if !is_open {
+        if !may_ask {
             return Ok(());
         }
-        match self.service.ask(hold.lease, kind) {
-            Ok(_) => self.counts.requests = self.counts.requests.saturating_add(1),
-            Err(Refusal::NotIdle) => return Ok(()),
-            Err(_) => return self.lose(hold.number),
+        match self.desk.ask(key, kind) {
+            Ok(_) => {
+                self.counts.requests = self.counts.requests.saturating_add(1);
+                self.put_held(key, whole)
+            }
+            Err(Refusal::NotIdle) => Ok(()),
+            Err(_) => self.lose(hold.number),
         }
-        self.put_held(key, hold, whole)
     }
 
     /// Puts what is kept of a request on its connection.
-    fn put_held(&mut self, key: usize, hold: Hold, whole: bool) -> Result<(), NoMemory> {
+    fn put_held(&mut self, key: usize, whole: bool) -> Result<(), NoMemory> {
         let Some(application) = self.applications.get_mut(key) else {
             return Ok(());
         };
         application.asking = Asking::Goes;
         let held = application.held().to_vec(self.alloc)?;
         application.forget();
-        self.put(key, hold, &held, whole)
+        self.put(key, &held, whole)
     }
 }

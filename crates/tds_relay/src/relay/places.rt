@@ -1,8 +1,8 @@
 //! Where applications and connections are, for whoever tells an operator of it or sets time limits.
 use super::Relay;
 use crate::application::{Application, Asking};
-use crate::link::Holder;
 use tds_front::Stage;
+use tds_service::Place as Seated;
 
 /// Where an application is.
 #[derive(Clone, Copy, Debug, PartialEq, Eq)]
@@ -45,7 +45,7 @@ pub struct Counts {
     pub requests: u64,
     /// Cancels that were handed on to the server: of applications, and of what those that left had underway.
     pub cancels: u64,
-    /// Cleanings that were asked for, and those after which the connection was closed.
+    /// Connections that were let go and are cleaned, and those that nobody held which were closed instead.
     pub cleanings: u64,
     pub failed: u64,
 }
@@ -64,7 +64,12 @@ impl Counts {
 impl Relay {
     /// Where the application of this key is, if there is one.
     pub fn place_of(&self, key: usize) -> Option<Place> {
-        Some(where_is(self.applications.get(key)?))
+        let application = self.applications.get(key)?;
+        let number = match self.desk.hold_of(key) {
+            Some(hold) => Some(hold.number),
+            None => None,
+        };
+        Some(where_is(application, number))
     }
 
     /// How many requests the application of this key has begun.
@@ -78,23 +83,22 @@ impl Relay {
     /// Where the connection of this number is, if there is one.
     pub fn place_on(&self, number: u64) -> Option<PlaceOn> {
         let link = self.link(number)?;
-        Some(match link.holder {
-            _ if !link.is_open => PlaceOn::Opening,
-            Holder::Application(key) => PlaceOn::Held(key),
-            Holder::Cleaning(_) => PlaceOn::Cleaning,
-            Holder::Nobody => {
-                if link.drains {
-                    PlaceOn::Draining
-                } else {
-                    PlaceOn::Free
-                }
-            }
+        if !link.is_open {
+            return Some(PlaceOn::Opening);
+        }
+        if let Some(key) = self.desk.key_on(number) {
+            return Some(PlaceOn::Held(key));
+        }
+        Some(match self.desk.place_on(number)? {
+            Seated::Free => PlaceOn::Free,
+            Seated::Draining => PlaceOn::Draining,
+            Seated::Cleaning(_) | Seated::Leased(_) | Seated::Kept(_) => PlaceOn::Cleaning,
         })
     }
 
     /// The keys of the applications that wait for a connection, the first one first.
     pub fn line(&self) -> &[usize] {
-        self.line.as_slice()
+        self.desk.line()
     }
 
     /// What the relay has done.
@@ -103,20 +107,17 @@ impl Relay {
     }
 }
 
-fn where_is(application: &Application) -> Place {
+/// Where an application is that holds the connection of this number, or none.
+fn where_is(application: &Application, number: Option<u64>) -> Place {
     if application.is_over {
         return Place::Over;
     }
-    match (
-        application.hold,
-        application.asking,
-        application.front.stage(),
-    ) {
+    match (number, application.asking, application.front.stage()) {
         (None, Asking::Waits { .. }, _) => Place::Waiting,
         (None, _, _) => Place::Quiet,
-        (Some(hold), Asking::Waits { .. }, _) => Place::Opening(hold.number),
-        (Some(hold), _, Stage::Stopping) => Place::Cancelling(hold.number),
-        (Some(hold), Asking::Goes, _) => Place::Asking(hold.number),
-        (Some(hold), Asking::Nothing, _) => Place::Holding(hold.number),
+        (Some(number), Asking::Waits { .. }, _) => Place::Opening(number),
+        (Some(number), _, Stage::Stopping) => Place::Cancelling(number),
+        (Some(number), Asking::Goes, _) => Place::Asking(number),
+        (Some(number), Asking::Nothing, _) => Place::Holding(number),
     }
 }

@@ -1,0 +1,11 @@
+pub mod Astray
+pub mod Bringing
+pub mod Caring
+pub mod Hearing
+pub mod Holding
+pub mod Made
+pub mod Phases
+pub mod Promised
+pub mod Renewing
+pub mod Seats
+pub mod Tidy

@@ -1,0 +1,241 @@
+-- Calls that were made, one behind the other, and what goes out by them.
+use Rattle.std.proofs.Common.{◌≡◌, ◌∙◌, inl, inr, ℕ, suc, Bool, true, false, List, [], ◌∷◌, ◌++◌, refl, sym, ap, subst, append_assoc}
+use Rattle.std.proofs.lemmas.List.{append-nil}
+use Rattle.std.specs.Prelude.{Option, Some, None, Result, Ok, Err, IfOk, OnOk, ◌⊎◌, if◌then◌else◌}
+use Rattle.tds_packet.specs.declared.status.Reset.TheVariants.{Full}
+use Rattle.tds_wire.specs.declared.told.Token.{Token}
+use Rattle.tds_service.specs.Line as line
+use Rattle.tds_wire.specs.Reading.{Reading}
+use Rattle.tds_client.specs.declared.fault.ClientRefusal.TheVariants as clients
+use Rattle.tds_service.specs.declared.seat.Seat as code
+use Rattle.tds_service.specs.declared.service.Service as services
+use Rattle.tds_service.specs.Parts.{Part}
+use Rattle.tds_service.specs.Packets.{packet_part}
+use Rattle.tds_service.specs.Line.{Line, Stage, Packet, Answer}
+use Rattle.tds_service.specs.History.{Done}
+use Rattle.tds_service.specs.Service as calls
+use Rattle.tds_service.specs.Service.{Service, Call, Reply, Back, Free, Lent, Seat, Step, step, service_after, find_by, has_number, is_lendable, lease_at, seat_numbered}
+use Rattle.tds_service.specs.Table.{Answers, Refuses, RefusesIn, StepsIn, answers_in, seat_in, seats_in, service_in}
+use Rattle.tds_service.specs.declared.refusal.Refusal.{Refusal}
+use Rattle.tds_service.specs.declared.refusal.Refusal.TheVariants as refusals
+use Rattle.tds_service.specs.Ties.{AreBytes, Appends, IsBytes, sent_in}
+use Rattle.tds_relay.specs.declared.desk.Hold.{Hold}
+use Rattle.tds_relay.specs.Desk as desk
+use Rattle.tds_relay.specs.Desk.{Desk, Event, Turn, Way, find_key, holding, moves, turn, without_lease, cleaning, releasing, frees}
+use Rattle.tds_relay.specs.Ties.{Makes, Settles, Turns, lost_by, sent_along}
+
+both_bytes : (p q : List Packet) (x y : List ℕ) → AreBytes p x → AreBytes q y → AreBytes (p ++ q) (x ++ y)
+both_bytes [] q x y h g = subst (λ (z : List ℕ). AreBytes q (z ++ y)) (sym h) g
+both_bytes (p ∷ ps) q x y h g = (h.0, h.1 ++ y, ap (λ (z : List ℕ). z ++ y) h.2 ∙ append_assoc h.0 h.1 y, h.3, both_bytes ps q h.1 y h.4 g)
+
+pub appends_both : (p q : List Packet) (before between after : List ℕ) → Appends p before between → Appends q between after → Appends (p ++ q) before after
+appends_both p q before between after h g =
+    (h.0 ++ g.0, g.1 ∙ ap (λ (z : List ℕ). z ++ g.0) h.1 ∙ append_assoc before h.0 g.0, both_bytes p q h.0 g.0 h.2 g.2)
+
+pub appends_none : (out : List ℕ) → Appends [] out out
+appends_none out = ([], sym (append-nil out), refl)
+
+-- no call
+pub makes_none : (s : Service) (out : List ℕ) → Makes [] s s out out
+makes_none s out = record { service_is = refl; bytes = appends_none out }
+
+-- one more, before others
+pub makes_more : (call : Call Token) (all : List (Call Token)) (s mid new : Service) (reply : Reply) (number : ℕ) (before between after : List ℕ)
+    → StepsIn (step s call) mid reply number before between → Makes all mid new between after → Makes (call ∷ all) s new before after
+makes_more call all s mid new reply number before between after one others =
+    let later : Makes all (step s call).service new between after = subst (λ (m : Service). Makes all m new between after) one.service_is others in
+    record {
+      service_is = later.service_is;
+      bytes = appends_both (sent_in (step s call).dones) (sent_along (step s call).service all) before between after one.bytes later.bytes;
+    }
+
+pub makes_one : (call : Call Token) (s new : Service) (reply : Reply) (number : ℕ) (before after : List ℕ) → StepsIn (step s call) new reply number before after → Makes (call ∷ []) s new before after
+makes_one call s new reply number before after one = makes_more call [] s new new reply number before after after one (makes_none new after)
+
+-- ---- One is lost
+
+lost_sends : (l : Line) (stage : Stage) → (line.loses {T = Token} l stage).sent ≡ []
+lost_sends l line.Idle = refl
+lost_sends l (line.Sending begun) = refl
+lost_sends l line.Reading = refl
+lost_sends l line.Cancelling = refl
+lost_sends l (line.Broken fault) = refl
+
+lost_quiet : (s : Service) (test : Seat → Bool) (o : Option Seat) → sent_in (calls.loses {T = Token} s test o).dones ≡ []
+lost_quiet s test None = refl
+lost_quiet s test (Some c) = ap (λ (p : List Packet). p ++ []) (lost_sends c.line c.line.stage)
+
+pub makes_lost : (s new : Service) (number : ℕ) (out : List ℕ) → new ≡ lost_by s number → Makes (calls.Lost number ∷ []) s new out out
+makes_lost s new number out is =
+    let none : sent_in (step {T = Token} s (calls.Lost number)).dones ≡ [] = lost_quiet s (has_number number) (find_by (has_number number) s.seats) in
+    record {
+      service_is = is;
+      bytes = subst (λ (p : List Packet). Appends (p ++ []) out out) (sym none) (appends_none out);
+    }
+
+-- ---- What was refused
+
+pub refused_same : (s : Service) (t : Step Token) (refusal : Refusal) → RefusesIn s t refusal → (refusal ≡ refusals.Memory → ⊥) → t.service ≡ s
+refused_same s t refusals.Unknown h never = ap (λ (x : Step Token). x.service) h
+refused_same s t refusals.AllInUse h never = ap (λ (x : Step Token). x.service) h
+refused_same s t refusals.NotNow h never = ap (λ (x : Step Token). x.service) h
+refused_same s t refusals.NotIdle h never = ap (λ (x : Step Token). x.service) h
+refused_same s t refusals.NotSending h never = ap (λ (x : Step Token). x.service) h
+refused_same s t refusals.Broken h never = ap (λ (x : Step Token). x.service) h
+refused_same s t refusals.Memory h never = absurd (never refl)
+
+-- ---- A cleaning
+
+pub appends_at : (p : List Packet) (out : List ℕ) → Appends p [] [] → Appends p out out
+appends_at p out h = (h.0, sym (append-nil out) ∙ ap (λ (z : List ℕ). out ++ z) h.1, h.2)
+
+cleans_next : (s : Service) (test : Seat → Bool) (c : Seat) (b : Bool) (lease number : ℕ) (had : Bool)
+    → (if b then calls.does {T = Token} s (suc s.given) test c (Some (calls.Cleaning (suc s.given))) (line.Mark Full ∷ []) (Lent (suc s.given) c.number true) else calls.nothing s calls.NotNow).reply ≡ Lent lease number had
+    → lease ≡ suc s.given
+cleans_next s test c true lease number had e = let u : lease ≡ suc s.given = cc in u
+cleans_next s test c false lease number had e = absurd (let u : ⊥ = cc in u)
+
+cleans_lease : (s : Service) (test : Seat → Bool) (o : Option Seat) (lease number : ℕ) (had : Bool) → (calls.cleans {T = Token} s test o).reply ≡ Lent lease number had → lease ≡ suc s.given
+cleans_lease s test None lease number had e = absurd (let u : ⊥ = cc in u)
+cleans_lease s test (Some c) lease number had e = cleans_next s test c (is_lendable c) lease number had e
+
+made_at : (call : Call Token) (all : List (Call Token)) (s mid new : Service) (reply : Reply) (number : ℕ) (before after : List ℕ)
+    → StepsIn (step s call) mid reply number [] [] → Makes all mid new before after → Makes (call ∷ all) s new before after
+made_at call all s mid new reply number before after one others =
+    makes_more call all s mid new reply number before before after
+    (record { service_is = one.service_is; reply_is = one.reply_is; number_is = one.number_is; bytes = appends_at (sent_in (step s call).dones) before one.bytes }) others
+
+pub cleaned_whole : (s s1 s2 s3 s4 : Service) (number lease other m n2 n3 n4 : ℕ) (had : Bool) (a b : ℕ) (out mid after : List ℕ)
+    → StepsIn (step {T = Token} s (calls.Clean number)) s1 (Lent lease other had) m [] [] → StepsIn (step {T = Token} s1 (calls.Ask lease)) s2 calls.Did n2 [] []
+    → StepsIn (step {T = Token} s2 (calls.Put lease a)) s3 calls.Did n3 out mid → StepsIn (step {T = Token} s3 (calls.Finish lease b)) s4 calls.Did n4 mid after
+    → Makes (cleaning s number (desk.Sent a b)) s s4 out after
+cleaned_whole s s1 s2 s3 s4 number lease other m n2 n3 n4 had a b out mid after one two three four =
+    let is : lease ≡ suc s.given = cleans_lease s (has_number number) (find_by (has_number number) s.seats) lease other had one.reply_is in
+    let P : ℕ → Type 0 = λ k. Makes (calls.Clean number ∷ calls.Ask k ∷ calls.Put k a ∷ calls.Finish k b ∷ []) s s4 out after in
+    subst P is
+    (made_at (calls.Clean number) (calls.Ask lease ∷ calls.Put lease a ∷ calls.Finish lease b ∷ []) s s1 s4 (Lent lease other had) m out after one
+    (made_at (calls.Ask lease) (calls.Put lease a ∷ calls.Finish lease b ∷ []) s1 s2 s4 calls.Did n2 out after two
+    (makes_more (calls.Put lease a) (calls.Finish lease b ∷ []) s2 s3 s4 calls.Did n3 out mid after three
+    (makes_one (calls.Finish lease b) s3 s4 calls.Did n4 mid after four))))
+
+pub cleaned_unended : (s s1 s2 s3 s4 : Service) (number lease other m n2 n3 : ℕ) (had : Bool) (a : ℕ) (out mid : List ℕ)
+    → StepsIn (step {T = Token} s (calls.Clean number)) s1 (Lent lease other had) m [] [] → StepsIn (step {T = Token} s1 (calls.Ask lease)) s2 calls.Did n2 [] []
+    → StepsIn (step {T = Token} s2 (calls.Put lease a)) s3 calls.Did n3 out mid → s4 ≡ lost_by s3 number → Makes (cleaning s number (desk.NotEnded a)) s s4 out mid
+cleaned_unended s s1 s2 s3 s4 number lease other m n2 n3 had a out mid one two three lost =
+    let is : lease ≡ suc s.given = cleans_lease s (has_number number) (find_by (has_number number) s.seats) lease other had one.reply_is in
+    let P : ℕ → Type 0 = λ k. Makes (calls.Clean number ∷ calls.Ask k ∷ calls.Put k a ∷ calls.Lost number ∷ []) s s4 out mid in
+    subst P is
+    (made_at (calls.Clean number) (calls.Ask lease ∷ calls.Put lease a ∷ calls.Lost number ∷ []) s s1 s4 (Lent lease other had) m out mid one
+    (made_at (calls.Ask lease) (calls.Put lease a ∷ calls.Lost number ∷ []) s1 s2 s4 calls.Did n2 out mid two
+    (makes_more (calls.Put lease a) (calls.Lost number ∷ []) s2 s3 s4 calls.Did n3 out mid mid three (makes_lost s3 s4 number mid lost))))
+
+-- ---- A return
+
+pub released_free : (s s1 new : Service) (lease number n : ℕ) (way : Way) (before between after : List ℕ) → StepsIn (step {T = Token} s (calls.GiveBack lease)) s1 (Back (Some Free)) n before between
+    → Makes (cleaning s1 number way) s1 new between after → Makes (releasing s lease number true way) s new before after
+released_free s s1 new lease number n way before between after one others =
+    let given = step {T = Token} s (calls.GiveBack lease) in
+    let P : Reply → Type 0 = λ reply. Makes (calls.GiveBack lease ∷ (if frees reply then cleaning given.service number way else [])) s new before after in
+    let later : Makes (cleaning given.service number way) s1 new between after = subst (λ (x : Service). Makes (cleaning x number way) s1 new between after) one.service_is others in
+    subst P (sym one.reply_is) (makes_more (calls.GiveBack lease) (cleaning given.service number way) s s1 new (Back (Some Free)) n before between after one later)
+
+-- ---- Turns
+
+pub turns_by : (d : Desk) (event : Event) (s : Service) (held : List Hold) (waiting : List ℕ) (all : List (Call Token)) (before after : List ℕ) → turn d event ≡ moves d held waiting all
+    → Makes all d.service s before after → Turns event d (record { service = s; holds = held; line = waiting }) before after
+turns_by d event s held waiting all before after is made = record {
+  desk_is = ap (λ (x : Service). let y : Desk = record { service = x; holds = held; line = waiting } in y) made.service_is ∙ ap (λ (t : Turn). t.desk) (sym is);
+  bytes = subst (λ (t : Turn). Appends (sent_along d.service t.calls) before after) (sym is) made.bytes;
+}
+
+pub renewed : (d : Desk) (key : ℕ) (h : Hold) (s1 s2 : Service) (ticket lease number n1 n2 : ℕ) (had : Bool) (held : List Hold) → find_key key d.holds ≡ Some h
+    → StepsIn (step {T = Token} d.service (calls.Keep h.lease)) s1 (calls.Ticket ticket) n1 [] [] → StepsIn (step {T = Token} s1 (calls.Resume ticket)) s2 (Lent lease number had) n2 [] []
+    → held ≡ without_lease h.lease d.holds ++ holding h.key lease number ∷ [] → Turns (desk.Renews key true) d (record { service = s2; holds = held; line = d.line }) [] []
+renewed d key h s1 s2 ticket lease number n1 n2 had held found one two is =
+    let kept = step {T = Token} d.service (calls.Keep h.lease) in
+    let lent : (step {T = Token} kept.service (calls.Resume ticket)).reply ≡ Lent lease number had = subst (λ (x : Service). (step {T = Token} x (calls.Resume ticket)).reply ≡ Lent lease number had) one.service_is two.reply_is in
+    let all : List (Call Token) = calls.Keep h.lease ∷ calls.Resume ticket ∷ [] in
+    let more = without_lease h.lease d.holds ++ holding h.key lease number ∷ [] in
+    let goes : turn d (desk.Renews key true) ≡ moves d more d.line all =
+    ap (λ (o : Option Hold). desk.renews d true o) found
+    ∙ (ap (λ (r : Reply). desk.keeps_by d h true kept.service (desk.ticket_in r)) one.reply_is
+    ∙ ap (λ (r : Reply). desk.renews_by d h ticket (desk.lent_in r) true) lent) in
+    subst (λ (hs : List Hold). Turns (desk.Renews key true) d (record { service = s2; holds = hs; line = d.line }) [] []) (sym is)
+    (turns_by d (desk.Renews key true) s2 more d.line all [] [] goes
+    (makes_more (calls.Keep h.lease) (calls.Resume ticket ∷ []) d.service s1 s2 (calls.Ticket ticket) n1 [] [] [] one (makes_one (calls.Resume ticket) s1 s2 (Lent lease number had) n2 [] [] two)))
+
+-- ---- What came
+
+hearing_answers : (a : Answer) (dones : List (Done Token)) → answers_in dones ≡ a ∷ [] → desk.hearing dones ≡ desk.hearing_of a
+hearing_answers a [] e = absurd (let u : ⊥ = cc in u)
+hearing_answers a (x ∷ xs) e = let same : x.answer ≡ a = cc in ap desk.hearing_of same
+
+pub came_settled : (d new : Desk) (n : ℕ) (part : Part Token) (way : Way) (s1 : Service) (lease : Option ℕ) (a : Answer) (out after : List ℕ)
+    → StepsIn (step d.service (calls.Came n part)) s1 calls.Did n [] [] → Answers (calls.Came n part) d.service a → desk.hearing_of a ≡ desk.Settled
+    → lease_at (seat_numbered n d.service.seats) ≡ lease → Settles (desk.settles d.holds s1 n way lease) (record { service = s1; holds = d.holds; line = d.line }) new out after
+    → Turns (desk.Comes n part way) d new out after
+came_settled d new n part way s1 lease a out after one answers is holder settled =
+    let heard = step {T = Token} d.service (calls.Came n part) in
+    let call : Call Token = calls.Came n part in
+    let all = desk.settles d.holds s1 n way lease in
+    let goes : turn d (desk.Comes n part way) ≡ moves d d.holds d.line (call ∷ all) =
+    ap (λ (h : desk.Hearing). desk.comes_by d call heard.service n way (lease_at (seat_numbered n d.service.seats)) h) (hearing_answers a heard.dones answers ∙ is)
+    ∙ (ap (λ (l : Option ℕ). desk.comes_by d call heard.service n way l desk.Settled) holder
+    ∙ ap (λ (x : Service). desk.comes_by d call x n way lease desk.Settled) (sym one.service_is)) in
+    let others : Makes all s1 (service_after s1 all) out after = record { service_is = refl; bytes = settled.bytes } in
+    subst (λ (x : Desk). Turns (desk.Comes n part way) d x out after) (sym settled.desk_is)
+    (turns_by d (desk.Comes n part way) (service_after s1 all) d.holds d.line (call ∷ all) out after goes
+    (made_at call all d.service s1 (service_after s1 all) calls.Did n out after one others))
+
+came_nothing : (d : Desk) (n : ℕ) (part : Part Token) (way : Way) → seat_numbered n d.service.seats ≡ None → turn d (desk.Comes n part way) ≡ moves d d.holds d.line (calls.Came n part ∷ [])
+came_nothing d n part way e = rw e refl
+
+pub came_unknown : (d : Desk) (n : ℕ) (part : Part Token) (way : Way) (out : List ℕ) → seat_numbered n d.service.seats ≡ None → Turns (desk.Comes n part way) d d out out
+came_unknown d n part way out e =
+    let same : d.service ≡ (step d.service (calls.Came n part)).service = rw e refl in
+    let quiet : [] ≡ sent_in (step d.service (calls.Came n part)).dones = rw e refl in
+    turns_by d (desk.Comes n part way) d.service d.holds d.line (calls.Came n part ∷ []) out out (came_nothing d n part way e)
+    (record { service_is = same; bytes = subst (λ (p : List Packet). Appends (p ++ []) out out) quiet (appends_none out) })
+
+-- nobody is found, or something was read there
+read_by : (test : Seat → Bool) (c : code.Seat) (cs : List code.Seat) (b : Bool) → test (seat_in c) ≡ b → (find_by test (seats_in cs) ≡ None) ⊎ Reading
+    → (find_by test (seats_in (c ∷ cs)) ≡ None) ⊎ Reading
+read_by test c cs true e ih = inr c.connection.walker
+read_by test c cs false e (inl h) = inl (rw e h)
+read_by test c cs false e (inr r) = inr r
+
+read_there : (test : Seat → Bool) (cs : List code.Seat) → (find_by test (seats_in cs) ≡ None) ⊎ Reading
+read_there test [] = inl refl
+read_there test (c ∷ cs) = read_by test c cs (test (seat_in c)) refl (read_there test cs)
+
+hears_unless : (s : Service) (test : Seat → Bool) (part : Part Token) (o : Option Seat) (refusal : Refusal) → RefusesIn s (calls.hears s test part o) refusal → (refusal ≡ refusals.Memory → ⊥) → o ≡ None
+hears_unless s test part None refusal h never = refl
+hears_unless s test part (Some c) refusals.Unknown h never = absurd (let u : calls.Did ≡ calls.Unknown = ap (λ (x : Step Token). x.reply) h in let v : ⊥ = cc in v)
+hears_unless s test part (Some c) refusals.AllInUse h never = absurd (let u : calls.Did ≡ calls.AllInUse = ap (λ (x : Step Token). x.reply) h in let v : ⊥ = cc in v)
+hears_unless s test part (Some c) refusals.NotNow h never = absurd (let u : calls.Did ≡ calls.NotNow = ap (λ (x : Step Token). x.reply) h in let v : ⊥ = cc in v)
+hears_unless s test part (Some c) refusals.NotIdle h never = absurd (let u : calls.Did ≡ calls.No clients.NotIdle = ap (λ (x : Step Token). x.reply) h in let v : ⊥ = cc in v)
+hears_unless s test part (Some c) refusals.NotSending h never = absurd (let u : calls.Did ≡ calls.No clients.NotSending = ap (λ (x : Step Token). x.reply) h in let v : ⊥ = cc in v)
+hears_unless s test part (Some c) refusals.Broken h never = absurd (let u : calls.Did ≡ calls.No clients.Broken = ap (λ (x : Step Token). x.reply) h in let v : ⊥ = cc in v)
+hears_unless s test part (Some c) refusals.Memory h never = absurd (never refl)
+
+unread_by : (cs : List code.Seat) (s : Service) (n : ℕ) (bytes : List ℕ) (ends : Bool) (refusal : Refusal) → s.seats ≡ seats_in cs → (find_by (has_number n) (seats_in cs) ≡ None) ⊎ Reading
+    → ((r : Reading) → Refuses (calls.Came n (packet_part r bytes ends)) s refusal) → (refusal ≡ refusals.Memory → ⊥) → seat_numbered n s.seats ≡ None
+unread_by cs s n bytes ends refusal is (inl h) refused never = ap (find_by (has_number n)) is ∙ h
+unread_by cs s n bytes ends refusal is (inr r) refused never = hears_unless s (has_number n) (packet_part r bytes ends) (find_by (has_number n) s.seats) refusal (refused r) never
+
+-- What is refused, but for memory, is of a connection that isn't known.
+pub unread : (s : services.Service) (n : ℕ) (bytes : List ℕ) (ends : Bool) (refusal : Refusal) → ((r : Reading) → Refuses (calls.Came n (packet_part r bytes ends)) (service_in s) refusal)
+    → (refusal ≡ refusals.Memory → ⊥) → seat_numbered n (service_in s).seats ≡ None
+unread s n bytes ends refusal refused never = unread_by s.seats.items (service_in s) n bytes ends refusal refl (read_there (has_number n) s.seats.items) refused never
+
+pub settles_by : (d : Desk) (s : Service) (made all : List (Call Token)) (before after : List ℕ) → all ≡ made → Makes made d.service s before after
+    → Settles all d (record { service = s; holds = d.holds; line = d.line }) before after
+settles_by d s made all before after is h = record {
+  desk_is = ap (λ (x : Service). let y : Desk = record { service = x; holds = d.holds; line = d.line } in y) (h.service_is ∙ ap (service_after d.service) (sym is));
+  bytes = subst (λ (cs : List (Call Token)). Appends (sent_along d.service cs) before after) (sym is) h.bytes;
+}
+
+-- what is known of a value that was answered
+pub ok_both : {A E : Type 0} (r : Result A E) (P : Type 0) (R Q : A → Type 0) → (P → (x : A) → R x → Q x) → OnOk r P → IfOk r R → IfOk r Q
+ok_both (Ok x) P R Q f h g = f h x g
+ok_both (Err e) P R Q f h g = tt

@@ -1,0 +1,7 @@
+use Rattle.tds_relay.specs.Desk.{desk_after, new_desk}
+use Rattle.tds_relay.proofs.Bringing.{always_sound}
+use Rattle.tds_relay.proofs.Promised.{lends_clean}
+use Rattle.tds_relay.proofs.laws.fresh.Goals as goal
+
+pub returns : goal.returns
+returns c = λ max events. lends_clean (desk_after (new_desk max) events) (always_sound max events)

@@ -1,0 +1,7 @@
+use Rattle.tds_relay.specs.Desk.{desk_after, new_desk}
+use Rattle.tds_relay.proofs.Bringing.{always_sound}
+use Rattle.tds_relay.proofs.Promised.{handed_to_holder}
+use Rattle.tds_relay.proofs.laws.handed_to_holder.Goals as goal
+
+pub returns : goal.returns
+returns c = λ max events number key e. handed_to_holder (desk_after (new_desk max) events) number key (always_sound max events) e

@@ -1,0 +1,7 @@
+use Rattle.tds_relay.specs.Desk.{desk_after, new_desk}
+use Rattle.tds_relay.proofs.Bringing.{always_sound}
+use Rattle.tds_relay.proofs.Promised.{none_astray}
+use Rattle.tds_relay.proofs.laws.no_cancel_astray.Goals as goal
+
+pub returns : goal.returns
+returns c = λ max events event. none_astray (desk_after (new_desk max) events) event (always_sound max events)

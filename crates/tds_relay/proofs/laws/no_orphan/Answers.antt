@@ -1,0 +1,5 @@
+use Rattle.tds_relay.proofs.Bringing.{always_sound}
+use Rattle.tds_relay.proofs.laws.no_orphan.Goals as goal
+
+pub returns : goal.returns
+returns c = λ max events. (always_sound max events).cared

@@ -1,0 +1,134 @@
+-- What a desk promises, over any list of events.
+use Rattle.std.specs.Prelude.{◌≡◌, ◌⊎◌, ◌<◌, ℕ, ◌==◌, Bool, true, false, List, [], ◌∷◌, ◌++◌, Option, Some, None}
+use Rattle.tds_relay.specs.declared.desk.Hold.{Hold}
+use Rattle.tds_wire.specs.declared.told.Token.{Token}
+use Rattle.tds_service.specs.Line as line
+use Rattle.tds_service.specs.Line.{Line, Stage}
+use Rattle.tds_service.specs.Promises.{attentions}
+use Rattle.tds_service.specs.Service as calls
+use Rattle.tds_service.specs.Service.{Place, Leased, Cleaning, Kept, Free, Draining, Seat, Reply, Lent, is_clean, seat_numbered, on, step, steps}
+use Rattle.tds_relay.specs.Desk as desk
+use Rattle.tds_relay.specs.Desk.{Desk, Event, Deed, find_key, find_lease, turn, whose}
+
+abbrev pub Each : {X : Type 0} → (X → Type 0) → List X → Type 0
+Each P [] = Unit {0}
+Each P (x ∷ xs) = P x × Each P xs
+
+-- What an application holds by this lease, on this connection.
+pub record IsHeld (holds : List Hold) (lease number : ℕ) : Type 0 where
+  pub hold : Hold
+  pub found : find_lease lease holds ≡ Some hold
+  pub here : hold.number ≡ number
+
+-- A connection by this number, at this place, is an application's; or it is the relay's, whose cleaning is out; or nobody's, and then
+-- its attention is out, or it is idle, with no reset owed and no transaction open.
+pub record IsBeingCleaned (holds : List Hold) (lease : ℕ) (l : Line) : Type 0 where
+  pub unheld : find_lease lease holds ≡ None
+  pub sent : l.stage ≡ line.Reading
+
+pub record IsClean (l : Line) : Type 0 where
+  pub idle : l.stage ≡ line.Idle
+  pub clean : is_clean l.heard.mark l.heard.descriptor ≡ true
+
+abbrev pub IsCaredFor : List Hold → ℕ → Place → Line → Type 0
+IsCaredFor holds number (Leased lease) l = IsHeld holds lease number
+IsCaredFor holds number (Cleaning lease) l = IsBeingCleaned holds lease l
+IsCaredFor holds number (Kept ticket) l = ⊥
+IsCaredFor holds number Free l = IsClean l
+IsCaredFor holds number Draining l = l.stage ≡ line.Cancelling
+
+abbrev pub CaresFor : List Hold → Seat → Type 0
+CaresFor holds c = IsCaredFor holds c.number c.place c.line
+
+-- ---- Whose a connection is
+
+-- An application holds the connection of this number, by a lease.
+pub record Holds (d : Desk) (key number : ℕ) : Type 0 where
+  pub hold : Hold
+  pub its : find_key key d.holds ≡ Some hold
+  pub seat : Seat
+  pub there : seat_numbered number d.service.seats ≡ Some seat
+  pub lent : seat.place ≡ Leased hold.lease
+
+-- Something of a request is out there, and neither its whole answer has come nor was it cancelled.
+abbrev pub IsOut : Stage → Type 0
+IsOut line.Idle = ⊥
+IsOut (line.Sending false) = ⊥
+IsOut (line.Sending true) = Unit {0}
+IsOut line.Reading = Unit {0}
+IsOut line.Cancelling = ⊥
+IsOut (line.Broken fault) = ⊥
+
+pub record Cancels (d : Desk) (key number : ℕ) : Type 0 where
+  pub held : Holds d key number
+  pub out : IsOut held.seat.line.stage
+
+-- An application cancels, or lets its connection go.
+abbrev pub IsStop : Deed → Type 0
+IsStop desk.Asks = ⊥
+IsStop (desk.Puts count) = ⊥
+IsStop (desk.Ends count) = ⊥
+IsStop desk.Stops = Unit {0}
+
+abbrev pub IsOf : ℕ → Event → Type 0
+IsOf key (desk.Waits other) = ⊥
+IsOf key (desk.Unwaits other) = ⊥
+IsOf key desk.Serves = ⊥
+IsOf key (desk.Brings gives way) = ⊥
+IsOf key (desk.Does other deed) = (other ≡ key) × IsStop deed
+IsOf key (desk.Leaves other gives way) = other ≡ key
+IsOf key (desk.Renews other resumes) = ⊥
+IsOf key (desk.Comes number part way) = ⊥
+IsOf key (desk.Loses number) = ⊥
+
+-- the attentions that go out on a connection
+abbrev pub attentions_on : Desk → Event → ℕ → ℕ
+attentions_on d event n = attentions (on n (steps d.service (turn d event).calls))
+
+-- Each is of the application that holds the connection, with a request out.
+abbrev pub NoneAstray : Desk → Event → Type 0
+NoneAstray d event = (n : ℕ) → 0 < attentions_on d event n → (key : ℕ) × IsOf key event × Cancels d key n
+
+-- To whom a packet is handed: the application whose lease the connection is lent by.
+pub record IsHandedTo (d : Desk) (number key : ℕ) : Type 0 where
+  pub hold : Hold
+  pub its : find_lease hold.lease d.holds ≡ Some hold
+  pub key_is : hold.key ≡ key
+  pub seat : Seat
+  pub there : seat_numbered number d.service.seats ≡ Some seat
+  pub lent : seat.place ≡ Leased hold.lease
+
+-- ---- Who is lent one
+
+-- A connection that somebody had before is lent only where it is clean.
+abbrev pub LendsClean : Desk → Reply → Type 0
+LendsClean d reply = (lease number : ℕ) → reply ≡ Lent lease number true → (c : Seat) × (seat_numbered number d.service.seats ≡ Some c) × IsClean c.line
+
+-- These stand in the other list, in this order.
+abbrev pub IsAmong : List ℕ → List ℕ → Type 0
+IsAmong [] ys = Unit {0}
+IsAmong (x ∷ xs) [] = ⊥
+IsAmong (x ∷ xs) (y ∷ ys) = ((x ≡ y) × IsAmong xs ys) ⊎ IsAmong (x ∷ xs) ys
+
+-- who begins to wait
+abbrev pub comes_to_wait : Event → List ℕ
+comes_to_wait (desk.Waits key) = key ∷ []
+comes_to_wait (desk.Unwaits key) = []
+comes_to_wait desk.Serves = []
+comes_to_wait (desk.Brings gives way) = []
+comes_to_wait (desk.Does key deed) = []
+comes_to_wait (desk.Leaves key gives way) = []
+comes_to_wait (desk.Renews key resumes) = []
+comes_to_wait (desk.Comes number part way) = []
+comes_to_wait (desk.Loses number) = []
+
+-- Whoever is lent one has waited longest.
+abbrev pub LendsFirst : Desk → Type 0
+LendsFirst d = (h : Hold) → (turn d desk.Serves).desk.holds ≡ d.holds ++ h ∷ [] → d.line ≡ h.key ∷ (turn d desk.Serves).desk.line
+
+-- ---- One is lost
+
+-- Whoever holds another holds it still, and it is as it was.
+pub record TakesOne (d : Desk) (number : ℕ) : Type 0 where
+  pub holds : (key : ℕ) (h : Hold) → find_key key d.holds ≡ Some h → (h.number == number) ≡ false → find_key key (turn d (desk.Loses number)).desk.holds ≡ Some h
+  pub seats : (n : ℕ) → (n == number) ≡ false → seat_numbered n (turn d (desk.Loses number)).desk.service.seats ≡ seat_numbered n d.service.seats

@@ -1,0 +1,76 @@
+-- The desk of the code, as the machine's.
+use Rattle.std.specs.Prelude.{◌≡◌, ℕ, Bool, true, false, List, [], ◌∷◌, ◌++◌, Option, Some, None}
+use Rattle.tds_wire.specs.declared.told.Token.{Token}
+use Rattle.tds_wire.specs.Reading.{Reading}
+use Rattle.tds_service.specs.Parts as parts
+use Rattle.tds_service.specs.Parts.{Part}
+use Rattle.tds_service.specs.Line.{Packet}
+use Rattle.tds_service.specs.Packets.{packet_part}
+use Rattle.tds_service.specs.Service as calls
+use Rattle.tds_service.specs.Service.{Service, Call, AllInUse, Lent, step, service_after}
+use Rattle.tds_service.specs.Table.{service_in}
+use Rattle.tds_service.specs.Ties.{Appends, sent_in}
+use Rattle.tds_relay.specs.declared.desk.Desk as code
+use Rattle.tds_relay.specs.declared.desk.Hold.{Hold}
+use Rattle.tds_relay.specs.declared.desk.Served.{Served}
+use Rattle.tds_relay.specs.declared.desk.leaving.Left.{Left}
+use Rattle.tds_relay.specs.Desk.{Desk, Event, Way, Sent, NotLent, NotAsked, NotPut, NotEnded, holding, turn}
+
+abbrev pub desk_in : code.Desk → Desk
+desk_in d = record { service = service_in d.service; holds = d.holds.items; line = d.line.items }
+
+-- what goes out by calls, one behind the other
+abbrev pub sent_along : Service → List (Call Token) → List Packet
+sent_along s [] = []
+sent_along s (call ∷ calls) = sent_in (step s call).dones ++ sent_along (step s call).service calls
+
+-- These calls of the service were made, and what goes out by them was appended.
+pub record Makes (all : List (Call Token)) (old new : Service) (before after : List ℕ) : Type 0 where
+  pub service_is : new ≡ service_after old all
+  pub bytes : Appends (sent_along old all) before after
+
+-- What was done is the machine's turn.
+pub record Turns (event : Event) (old new : Desk) (before after : List ℕ) : Type 0 where
+  pub desk_is : new ≡ (turn old event).desk
+  pub bytes : Appends (sent_along old.service (turn old event).calls) before after
+
+-- The calls were made, and nobody's hold or wait has changed.
+pub record Settles (all : List (Call Token)) (old new : Desk) (before after : List ℕ) : Type 0 where
+  pub desk_is : new ≡ record { service = service_after old.service all; holds = old.holds; line = old.line }
+  pub bytes : Appends (sent_along old.service all) before after
+
+-- It is the connection that was held, where one was.
+abbrev pub IsNumberOf : Option Hold → Option Left → Type 0
+IsNumberOf None None = Unit {0}
+IsNumberOf None (Some left) = ⊥
+IsNumberOf (Some hold) None = ⊥
+IsNumberOf (Some hold) (Some left) = left.number ≡ hold.number
+
+abbrev pub lost_by : Service → ℕ → Service
+lost_by s number = (step {T = Token} s (calls.Lost number)).service
+
+abbrev pub is_sent : Way → Bool
+is_sent (Sent put finish) = true
+is_sent NotLent = false
+is_sent NotAsked = false
+is_sent NotPut = false
+is_sent (NotEnded put) = false
+
+-- Whoever waits first was lent a connection; or nobody waits, or as many are in use as may be.
+abbrev pub IsServed : List ℕ → Service → Type 0
+IsServed [] s = Unit {0}
+IsServed (key ∷ others) s = (step {T = Token} s calls.Lease).reply ≡ AllInUse
+
+abbrev pub NobodyWaits : Desk → Type 0
+NobodyWaits d = IsServed d.line d.service
+
+abbrev pub Serving : Desk → Option Served → Type 0
+Serving d None = IsServed d.line d.service
+Serving d (Some served) =
+    (others : List ℕ) × (d.line ≡ served.hold.key ∷ others)
+    × ((step {T = Token} d.service calls.Lease).reply ≡ Lent served.hold.lease served.hold.number served.had)
+
+-- The part that a packet's data are, by where its connection's walker stands.
+abbrev pub part_on : Option Reading → List ℕ → Bool → Part Token
+part_on None bytes ends = record { items = []; close = parts.Goes }
+part_on (Some r) bytes ends = packet_part r bytes ends

@@ -1,0 +1,165 @@
+//! Who holds which connection of a service, and whose requests wait for one.
+ghost use Rattle.std.specs.Prelude.{◌≡◌, [], IfOk, OnOk, OnErr, length, option_map};
+ghost use Rattle.tds_service.specs.Service.{Seat, seat_numbered};
+ghost use Rattle.tds_service.specs.Table.{place_of};
+ghost use Rattle.tds_relay.specs.Desk.{Serves, Unwaits, Waits, find_key, find_number, key_of, new_desk};
+ghost use Rattle.tds_relay.specs.Ties.{Serving, Turns, desk_in};
+
+mod asking;
+mod coming;
+mod leaving;
+mod lists;
+
+use crate::NoMemory;
+use crate::link::COLUMNS;
+pub use coming::{Heard, What};
+pub use leaving::{Left, Renewed};
+use lists::{find_key, find_number, remove_key};
+use std::alloc::{AllocError, Global};
+use tds_packet::PacketSize;
+use tds_service::{Place, Refusal, Service};
+use tds_wire::Features;
+
+/// What a cleaning asks for: a reset leaves the isolation level as it is.
+const CLEANING: &str = "set transaction isolation level read committed";
+
+/// The connection that an application holds, and by which lease.
+#[derive(Clone, Copy, Debug, PartialEq, Eq)]
+pub struct Hold {
+    pub key: usize,
+    pub lease: u64,
+    pub number: u64,
+}
+
+/// Who was lent a connection, and whether somebody had that before. One that nobody had is to be opened.
+#[derive(Clone, Copy, Debug, PartialEq, Eq)]
+pub struct Served {
+    pub hold: Hold,
+    pub had: bool,
+}
+
+/// The connections of a service, the applications that hold them, and those that wait. A connection that
+/// nobody holds is drained and cleaned by itself.
+#[derive(Drop)]
+pub struct Desk {
+    service: Service,
+    holds: Vec<Hold>,
+    /// The first one has waited longest.
+    line: Vec<usize>,
+    /// The text of a cleaning, of two bytes a unit.
+    text: Vec<u8>,
+}
+
+impl Desk {
+    /// At most so many connections, for packets of this size. `features` is what their logins
+    /// acknowledge.
+    pub fn new(
+        alloc: Global,
+        most: usize,
+        size: PacketSize,
+        features: Features,
+    ) -> Result<Desk, NoMemory>
+        ensures { IfOk result (λ desk. desk_in desk ≡ new_desk most) }
+    {
+        let Some(service) = Service::new(alloc, most, size, COLUMNS, features) else {
+            return Err(AllocError);
+        };
+        Ok(Desk {
+            service,
+            holds: Vec::new(alloc),
+            line: Vec::new(alloc),
+            text: cleaning_text(alloc)?,
+        })
+    }
+
+    /// An application's request waits for a connection.
+    pub fn wait(&mut self, key: usize) -> Result<(), NoMemory>
+        ensures ok { OnOk result (Turns (Waits key) (desk_in self.old) (desk_in self.new) [] []) }
+        ensures err { OnErr result (desk_in self.new ≡ desk_in self.old) }
+    {
+        self.line.push(key)?;
+        Ok(())
+    }
+
+    /// It waits no more.
+    pub fn unwait(&mut self, key: usize)
+        ensures { Turns (Unwaits key) (desk_in self.old) (desk_in self.new) [] [] }
+    {
+        remove_key(&mut self.line, key);
+    }
+
+    /// Lends a connection to whoever has waited longest. None where nobody waits, or as many are in use as
+    /// may be.
+    pub fn serve(&mut self) -> Result<Option<Served>, NoMemory>
+        ensures ok { IfOk result (λ served. Turns Serves (desk_in self.old) (desk_in self.new) [] []
+            × Serving (desk_in self.old) served) }
+        ensures err { OnErr result (desk_in self.new ≡ desk_in self.old) }
+    {
+        let Some(key) = self.line.first().copied() else {
+            return Ok(None);
+        };
+        self.holds.reserve(1)?;
+        match self.service.lease() {
+            Ok(lent) => {
+                self.line.remove(0);
+                let hold = Hold {
+                    key,
+                    lease: lent.lease,
+                    number: lent.number,
+                };
+                self.holds.push_reserved(hold);
+                let had = lent.had;
+                Ok(Some(Served { hold, had }))
+            }
+            Err(Refusal::AllInUse) => Ok(None),
+            Err(_) => Err(AllocError),
+        }
+    }
+
+    /// The connection that an application holds.
+    pub fn hold_of(&self, key: usize) -> Option<Hold>
+        ensures { result ≡ find_key key (desk_in self.now).holds }
+    {
+        find_key(&self.holds, key)
+    }
+
+    /// The application that holds the connection of this number.
+    pub fn key_on(&self, number: u64) -> Option<usize>
+        ensures { result ≡ key_of (find_number number (desk_in self.now).holds) }
+    {
+        match find_number(&self.holds, number) {
+            Some(hold) => Some(hold.key),
+            None => None,
+        }
+    }
+
+    /// Who holds the connection of this number in the service, if there is one.
+    pub fn place_on(&self, number: u64) -> Option<Place>
+        ensures { option_map place_of result ≡ option_map (λ (c : Seat). c.place)
+            (seat_numbered number (desk_in self.now).service.seats) }
+    {
+        self.service.place_on(number)
+    }
+
+    /// The applications that wait, the first one first.
+    pub fn line(&self) -> &[usize]
+        ensures { result.now ≡ (desk_in self.now).line }
+    {
+        self.line.as_slice()
+    }
+
+    /// How many applications wait.
+    pub fn waiting(&self) -> usize
+        ensures { result ≡ length (desk_in self.now).line }
+    {
+        self.line.len()
+    }
+}
+
+fn cleaning_text(alloc: Global) -> Result<Vec<u8>, NoMemory> {
+    let mut text = Vec::new(alloc);
+    for byte in CLEANING.as_bytes() {
+        text.extend_from_slice(&[*byte, 0])?;
+    }
+    Ok(text)
+}

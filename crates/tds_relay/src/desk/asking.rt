@@ -1,0 +1,78 @@
+//! What applications do with the connections that they hold.
+ghost use Rattle.std.specs.Prelude.{◌≡◌, ℕ, [], Some, IfOk, OnErr};
+ghost use Rattle.tds_relay.specs.Desk.{Asks, Does, Ends, Puts, Stops, find_key};
+ghost use Rattle.tds_relay.specs.Ties.{Turns, desk_in};
+
+use super::lists::find_key;
+use super::{Desk, Hold};
+use tds_client::{Cancelled, MessageKind};
+use tds_service::Refusal;
+
+impl Desk {
+    /// Begins a request of this kind on the connection that an application holds.
+    pub fn ask(&mut self, key: usize, kind: MessageKind) -> Result<Hold, Refusal>
+        ensures ok { IfOk result (λ hold. Turns (Does key Asks) (desk_in self.old)
+            (desk_in self.new) [] []) }
+        ensures whose { IfOk result (λ hold. find_key key (desk_in self.old).holds ≡ Some hold) }
+        ensures err { OnErr result (desk_in self.new ≡ desk_in self.old) }
+    {
+        let Some(hold) = find_key(&self.holds, key) else {
+            return Err(Refusal::Unknown);
+        };
+        match self.service.ask(hold.lease, kind) {
+            Ok(_) => Ok(hold),
+            Err(refusal) => Err(refusal),
+        }
+    }
+
+    /// Appends these bytes to it. What goes out is appended to `out`, for its connection.
+    pub fn put(&mut self, key: usize, bytes: &[u8], out: &mut Vec<u8>) -> Result<Hold, Refusal>
+        ensures ok { IfOk result (λ hold. (count : ℕ) × Turns (Does key (Puts count))
+            (desk_in self.old) (desk_in self.new) out.old.items out.new.items) }
+        ensures whose { IfOk result (λ hold. find_key key (desk_in self.old).holds ≡ Some hold) }
+        ensures err { OnErr result (desk_in self.new ≡ desk_in self.old) }
+        ensures nothing { OnErr result (out.new.items ≡ out.old.items) }
+    {
+        let Some(hold) = find_key(&self.holds, key) else {
+            return Err(Refusal::Unknown);
+        };
+        match self.service.put(hold.lease, bytes, out) {
+            Ok(_) => Ok(hold),
+            Err(refusal) => Err(refusal),
+        }
+    }
+
+    /// Ends it.
+    pub fn finish(&mut self, key: usize, out: &mut Vec<u8>) -> Result<Hold, Refusal>
+        ensures ok { IfOk result (λ hold. (count : ℕ) × Turns (Does key (Ends count))
+            (desk_in self.old) (desk_in self.new) out.old.items out.new.items) }
+        ensures whose { IfOk result (λ hold. find_key key (desk_in self.old).holds ≡ Some hold) }
+        ensures err { OnErr result (desk_in self.new ≡ desk_in self.old) }
+        ensures nothing { OnErr result (out.new.items ≡ out.old.items) }
+    {
+        let Some(hold) = find_key(&self.holds, key) else {
+            return Err(Refusal::Unknown);
+        };
+        match self.service.finish(hold.lease, out) {
+            Ok(_) => Ok(hold),
+            Err(refusal) => Err(refusal),
+        }
+    }
+
+    /// Cancels it, by an attention where something of it is out.
+    pub fn cancel(&mut self, key: usize, out: &mut Vec<u8>) -> Result<(Hold, Cancelled), Refusal>
+        ensures ok { IfOk result (λ done. Turns (Does key Stops)
+            (desk_in self.old) (desk_in self.new) out.old.items out.new.items) }
+        ensures whose { IfOk result (λ done. find_key key (desk_in self.old).holds ≡ Some done.0) }
+        ensures err { OnErr result (desk_in self.new ≡ desk_in self.old) }
+        ensures nothing { OnErr result (out.new.items ≡ out.old.items) }
+    {
+        let Some(hold) = find_key(&self.holds, key) else {
+            return Err(Refusal::Unknown);
+        };
+        match self.service.cancel(hold.lease, out) {
+            Ok((_, how)) => Ok((hold, how)),
+            Err(refusal) => Err(refusal),
+        }
+    }
+}

@@ -1,0 +1,156 @@
+//! What comes on connections, and whose it is.
+ghost use Rattle.std.specs.Prelude.{◌≡◌, ◌≢◌, ℕ, List, IfOk, OnOk};
+ghost use Rattle.tds_service.specs.Table.{reading_on, service_in};
+ghost use Rattle.tds_relay.specs.Desk.{Comes, Way, cleaned_by, settles, whose, whose_by};
+ghost use Rattle.tds_relay.specs.Ties.{Makes, Settles, Turns, desk_in, part_on};
+
+use super::Desk;
+use super::leaving::{clean, forget};
+use super::lists::{find_lease, remove_number};
+use crate::NoMemory;
+use std::alloc::AllocError;
+use tds_service::{Outcome, Refusal, Rest, Service};
+use tds_wire::Token;
+
+/// What came of a packet.
+#[derive(Clone, Copy, Debug, PartialEq, Eq)]
+pub enum What {
+    /// The message goes on, or it was nobody's.
+    Goes,
+    /// A request has its answer.
+    Finished,
+    /// A cancel is acknowledged.
+    Acknowledged,
+    /// The connection is to be closed.
+    Closed,
+}
+
+/// What came of a packet, and the application that is handed it.
+#[derive(Clone, Copy, Debug, PartialEq, Eq)]
+pub struct Heard {
+    pub key: Option<usize>,
+    pub what: What,
+}
+
+/// A cleaning has its answer. False where the connection is in the service no longer.
+fn cleaned(service: &mut Service, number: u64, lease: u64) -> Result<bool, NoMemory>
+    ensures { OnOk result ((out : List ℕ) → Makes (cleaned_by (service_in service.old) number lease)
+        (service_in service.old) (service_in service.new) out out) }
+{
+    match service.cleaned(lease) {
+        Ok((_, Rest::Free)) => Ok(true),
+        Ok((_, Rest::Draining)) => {
+            forget(service, number)?;
+            Ok(false)
+        }
+        Ok((_, Rest::Closed)) => {
+            forget(service, number)?;
+            Ok(false)
+        }
+        Err(Refusal::Memory) => Err(AllocError),
+        Err(_) => {
+            forget(service, number)?;
+            Ok(false)
+        }
+    }
+}
+
+/// What comes of a connection that isn't known.
+fn unheard(refusal: Refusal) -> Result<Heard, NoMemory>
+    ensures unknown { OnOk result (refusal ≢ Refusal.Memory) }
+    ensures nobody { IfOk result (λ heard. heard.key ≡ None) }
+{
+    let nothing = Heard {
+        key: None,
+        what: What::Goes,
+    };
+    match refusal {
+        Refusal::Memory => Err(AllocError),
+        Refusal::Unknown => Ok(nothing),
+        Refusal::AllInUse => Ok(nothing),
+        Refusal::NotNow => Ok(nothing),
+        Refusal::NotIdle => Ok(nothing),
+        Refusal::NotSending => Ok(nothing),
+        Refusal::Broken => Ok(nothing),
+    }
+}
+
+/// What is left of a connection that was cleaned, or is being cleaned.
+fn what_of(is_there: bool) -> What {
+    if is_there { What::Goes } else { What::Closed }
+}
+
+impl Desk {
+    /// A packet's data came on the connection of this number, which ends its message or not. `told` is
+    /// scratch, and what is to be sent there is appended to `out`.
+    pub fn came(
+        &mut self,
+        number: u64,
+        bytes: &[u8],
+        ends: bool,
+        told: &mut Vec<Token>,
+        out: &mut Vec<u8>,
+    ) -> Result<Heard, NoMemory>
+        ensures ok { IfOk result (λ heard. (way : Way) × Turns
+            (Comes number (part_on (reading_on number self.old.service) bytes.now ends) way)
+            (desk_in self.old) (desk_in self.new) out.old.items out.new.items) }
+        ensures whose { IfOk result (λ heard. heard.key ≡ whose (desk_in self.old) number) }
+    {
+        let came = match self.service.came(number, bytes, ends, told) {
+            Ok(came) => came,
+            Err(refusal) => return unheard(refusal),
+        };
+        let key = self.key_by(came.lease);
+        let what = match came.outcome {
+            Outcome::More => What::Goes,
+            Outcome::Finished => self.settle(number, came.lease, What::Finished, out)?,
+            Outcome::Acknowledged => self.settle(number, came.lease, What::Acknowledged, out)?,
+            Outcome::Fault(_) => {
+                self.lose(number)?;
+                What::Closed
+            }
+        };
+        Ok(Heard { key, what })
+    }
+
+    /// The application that holds a connection by this lease.
+    fn key_by(&self, lease: Option<u64>) -> Option<usize>
+        ensures { result ≡ whose_by lease (desk_in self.now).holds }
+    {
+        match lease {
+            Some(lease) => match find_lease(&self.holds, lease) {
+                Some(hold) => Some(hold.key),
+                None => None,
+            },
+            None => None,
+        }
+    }
+
+    /// A message has ended on a connection that is held by this lease, or by nobody. What that is to its
+    /// application, if it has one; else it is cleaned, or was.
+    fn settle(
+        &mut self,
+        number: u64,
+        lease: Option<u64>,
+        what: What,
+        out: &mut Vec<u8>,
+    ) -> Result<What, NoMemory>
+        ensures { OnOk result ((way : Way) × Settles (settles (desk_in self.old).holds
+            (service_in self.old.service) number way lease) (desk_in self.old) (desk_in self.new)
+            out.old.items out.new.items) }
+    {
+        match lease {
+            Some(lease) => match find_lease(&self.holds, lease) {
+                Some(_) => Ok(what),
+                None => {
+                    let is_there = cleaned(&mut self.service, number, lease)?;
+                    Ok(what_of(is_there))
+                }
+            },
+            None => {
+                let is_there = clean(&mut self.service, number, &self.text, out)?;
+                Ok(what_of(is_there))
+            }
+        }
+    }
+}

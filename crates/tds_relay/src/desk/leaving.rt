@@ -1,0 +1,184 @@
+//! Connections that are let go, and cleaned; that come without being asked for; and that are lost.
+ghost use Rattle.std.specs.Prelude.{◌≡◌, [], Bool, IfOk, OnOk};
+ghost use Rattle.tds_service.specs.Table.{service_in};
+ghost use Rattle.tds_relay.specs.Desk.{Brings, Leaves, Loses, Renews, Way, cleaning, find_key, find_number};
+ghost use Rattle.tds_relay.specs.Desk.{key_of, releasing};
+ghost use Rattle.tds_relay.specs.Ties.{IsNumberOf, Makes, Turns, desk_in, is_sent, lost_by};
+
+use super::lists::{find_key, find_number, remove_key, remove_lease, remove_number};
+use super::{Desk, Hold};
+use crate::NoMemory;
+use std::alloc::AllocError;
+use tds_client::MessageKind;
+use tds_service::{Refusal, Rest, Service};
+
+/// A connection that was let go. Where it is there no more, it is to be closed.
+#[derive(Clone, Copy, Debug, PartialEq, Eq)]
+pub struct Left {
+    pub number: u64,
+    pub is_there: bool,
+}
+
+/// What came of a renewal.
+#[derive(Clone, Copy, Debug, PartialEq, Eq)]
+pub enum Renewed {
+    /// The connection is held by another lease, and its next request resets all but the transaction.
+    Kept(Hold),
+    /// There is no transaction to be kept. Nothing has changed.
+    NotKept,
+    /// The connection of this number is to be closed.
+    Closed(u64),
+}
+
+/// The service has this connection no more.
+pub(super) fn forget(service: &mut Service, number: u64) -> Result<(), NoMemory>
+    ensures { OnOk result (service_in service.new ≡ lost_by (service_in service.old) number) }
+{
+    match service.lost(number) {
+        Ok(()) => Ok(()),
+        Err(Refusal::Memory) => Err(AllocError),
+        Err(_) => Ok(()),
+    }
+}
+
+/// Cleans a connection that is free, by a request that asks for a reset. False where memory was refused:
+/// it is in the service no longer.
+pub(super) fn clean(
+    service: &mut Service,
+    number: u64,
+    text: &[u8],
+    out: &mut Vec<u8>,
+) -> Result<bool, NoMemory>
+    ensures { IfOk result (λ is_there. (way : Way) × (is_there ≡ is_sent way)
+        × Makes (cleaning (service_in service.old) number way) (service_in service.old)
+        (service_in service.new) out.old.items out.new.items) }
+{
+    let Ok(lent) = service.clean(number) else {
+        forget(service, number)?;
+        return Ok(false);
+    };
+    let Ok(_) = service.ask(lent.lease, MessageKind::Batch) else {
+        forget(service, number)?;
+        return Ok(false);
+    };
+    let Ok(_) = service.put(lent.lease, text, out) else {
+        forget(service, number)?;
+        return Ok(false);
+    };
+    let Ok(_) = service.finish(lent.lease, out) else {
+        forget(service, number)?;
+        return Ok(false);
+    };
+    Ok(true)
+}
+
+/// Gives a connection back, and cleans it if it is free. False where it is in the service no longer.
+fn release(
+    service: &mut Service,
+    hold: Hold,
+    text: &[u8],
+    out: &mut Vec<u8>,
+) -> Result<bool, NoMemory>
+    ensures { IfOk result (λ is_there. (gives : Bool) × (way : Way) × Makes
+        (releasing (service_in service.old) hold.lease hold.number gives way)
+        (service_in service.old) (service_in service.new) out.old.items out.new.items) }
+{
+    match service.give_back(hold.lease, out) {
+        Ok((_, Rest::Free)) => clean(service, hold.number, text, out),
+        Ok((_, Rest::Draining)) => Ok(true),
+        Ok((_, Rest::Closed)) => Ok(false),
+        Err(_) => {
+            forget(service, hold.number)?;
+            Ok(false)
+        }
+    }
+}
+
+impl Desk {
+    /// An application lets its connection go, or waits no more for one: what is underway is cancelled,
+    /// and what is free is cleaned. None where it holds none.
+    pub fn leave(&mut self, key: usize, out: &mut Vec<u8>) -> Result<Option<Left>, NoMemory>
+        ensures turns { IfOk result (λ left. (gives : Bool) × (way : Way)
+            × Turns (Leaves key gives way) (desk_in self.old) (desk_in self.new)
+            out.old.items out.new.items) }
+        ensures whose { IfOk result (λ left.
+            IsNumberOf (find_key key (desk_in self.old).holds) left) }
+    {
+        remove_key(&mut self.line, key);
+        let Some(hold) = find_key(&self.holds, key) else {
+            return Ok(None);
+        };
+        remove_lease(&mut self.holds, hold.lease);
+        let is_there = release(&mut self.service, hold, &self.text, out)?;
+        Ok(Some(Left {
+            number: hold.number,
+            is_there,
+        }))
+    }
+
+    /// A connection has come that nobody asked for: its number, where it may be one of the service.
+    pub fn bring(&mut self, out: &mut Vec<u8>) -> Result<Option<Left>, NoMemory>
+        ensures { IfOk result (λ left. (gives : Bool) × (way : Way) × Turns (Brings gives way)
+            (desk_in self.old) (desk_in self.new) out.old.items out.new.items) }
+    {
+        let lent = match self.service.lease() {
+            Ok(lent) => lent,
+            Err(Refusal::Memory) => return Err(AllocError),
+            Err(_) => return Ok(None),
+        };
+        let hold = Hold {
+            key: 0,
+            lease: lent.lease,
+            number: lent.number,
+        };
+        let is_there = release(&mut self.service, hold, &self.text, out)?;
+        Ok(Some(Left {
+            number: lent.number,
+            is_there,
+        }))
+    }
+
+    /// An application keeps its connection with the transaction that is open there.
+    pub fn renew(&mut self, key: usize) -> Result<Renewed, NoMemory>
+        ensures { IfOk result (λ renewed. (resumes : Bool) × Turns (Renews key resumes)
+            (desk_in self.old) (desk_in self.new) [] []) }
+    {
+        let Some(hold) = find_key(&self.holds, key) else {
+            return Ok(Renewed::NotKept);
+        };
+        let ticket = match self.service.keep(hold.lease) {
+            Ok(ticket) => ticket,
+            Err(Refusal::Memory) => return Err(AllocError),
+            Err(_) => return Ok(Renewed::NotKept),
+        };
+        let Ok(lent) = self.service.resume(ticket) else {
+            forget(&mut self.service, hold.number)?;
+            remove_number(&mut self.holds, hold.number);
+            return Ok(Renewed::Closed(hold.number));
+        };
+        let renewed = Hold {
+            key: hold.key,
+            lease: lent.lease,
+            number: lent.number,
+        };
+        remove_lease(&mut self.holds, hold.lease);
+        self.holds.push(renewed)?;
+        Ok(Renewed::Kept(renewed))
+    }
+
+    /// The connection of this number is lost. Answers the application that held it.
+    pub fn lose(&mut self, number: u64) -> Result<Option<usize>, NoMemory>
+        ensures turns { OnOk result (Turns (Loses number) (desk_in self.old) (desk_in self.new)
+            [] []) }
+        ensures whose { IfOk result (λ key.
+            key ≡ key_of (find_number number (desk_in self.old).holds)) }
+    {
+        let hold = find_number(&self.holds, number);
+        forget(&mut self.service, number)?;
+        remove_number(&mut self.holds, number);
+        match hold {
+            Some(hold) => Ok(Some(hold.key)),
+            None => Ok(None),
+        }
+    }
+}

@@ -1,0 +1,50 @@
+//! What a desk promises, over any list of events. Each function does nothing when it runs: its contract
+//! is the law.
+ghost use Rattle.std.specs.Prelude.{◌≡◌, ◌++◌, ℕ, List, Some};
+ghost use Rattle.tds_wire.specs.declared.told.Token.{Token};
+ghost use Rattle.tds_service.specs.Service.{Lease, step};
+ghost use Rattle.tds_relay.specs.Desk.{Desk, Event, desk_after, new_desk, turn, whose};
+ghost use Rattle.tds_relay.specs.Promises.{CaresFor, Each, IsAmong, IsHandedTo, LendsClean, LendsFirst};
+ghost use Rattle.tds_relay.specs.Promises.{NoneAstray, TakesOne, comes_to_wait};
+
+/// An attention goes out on a connection only where the application that holds it cancels or leaves, with
+/// something of a request out there; so none does during a cleaning.
+pub fn no_cancel_astray()
+    ensures { (max : ℕ) (events : List Event) (event : Event)
+        → NoneAstray (desk_after (new_desk max) events) event }
+{}
+
+/// Each connection is held by an application; or is being cleaned, by a request that is out; or has its
+/// attention out; or is idle, with no reset owed and no transaction open.
+pub fn no_orphan()
+    ensures { (max : ℕ) (events : List Event)
+        → Each (CaresFor (desk_after (new_desk max) events).holds)
+        (desk_after (new_desk max) events).service.seats }
+{}
+
+/// What comes on a connection is handed only to the application that it is lent to: during a cleaning,
+/// and behind an application's end, to nobody.
+pub fn handed_to_holder()
+    ensures { (max : ℕ) (events : List Event) (number key : ℕ)
+        → whose (desk_after (new_desk max) events) number ≡ Some key
+        → IsHandedTo (desk_after (new_desk max) events) number key }
+{}
+
+/// A connection that somebody had before is lent only idle, with no reset owed and no transaction open.
+pub fn fresh()
+    ensures { (max : ℕ) (events : List Event) → LendsClean (desk_after (new_desk max) events)
+        (step {T = Token} (desk_after (new_desk max) events).service Lease).reply }
+{}
+
+/// Whoever is lent a connection is the first of those who wait, and nobody passes another in that line:
+/// who comes to wait stands last.
+pub fn first_come()
+    ensures first { (d : Desk) → LendsFirst d }
+    ensures order { (d : Desk) (event : Event)
+        → IsAmong (turn d event).desk.line (d.line ++ comes_to_wait event) }
+{}
+
+/// A connection that is lost leaves the others, and who holds them, as they were.
+pub fn a_cut_takes_one()
+    ensures { (d : Desk) (number : ℕ) → TakesOne d number }
+{}
