@@ -1,0 +1,4 @@
+pub mod Joined
+pub mod Remaining
+pub mod Alone
+pub mod Recorded

@@ -1,6 +1,6 @@
 -- What calls at a carrier handed over, and what they brought.
-use Rattle.std.specs.Prelude.{ℕ, ◌≡◌, ◌≤◌, ◌<◌, ◌==◌, List, [], length, Bool, true, false, Option, Some, if◌then◌else◌}
-use Rattle.std.specs.List.{flat_map}
+use Rattle.std.specs.Prelude.{ℕ, ◌≡◌, ◌≤◌, ◌<◌, ◌==◌, List, [], ◌++◌, length, Bool, true, false, Option, Some, if◌then◌else◌}
+use Rattle.std.specs.List.{fold}
 use Rattle.tds_packet.specs.declared.kind.Direction.{Direction}
 use Rattle.tds_packet.specs.declared.kind.Direction.TheVariants.{ToServer, ToClient}
 use Rattle.tds_play.specs.Pipe.{Pipe, traffic}
@@ -19,30 +19,26 @@ this_way ToClient ToClient bytes = bytes
 this_way ToServer ToClient bytes = []
 this_way ToClient ToServer bytes = []
 
-abbrev pub handed_by : Made → Direction → List ℕ
-handed_by (made.Send way bytes) d = this_way way d bytes.items
-handed_by made.Open d = []
-handed_by (made.Carry way bytes) d = []
-handed_by made.Cut d = []
+-- What was handed over one way on a connection, behind this call on it: opening it anew begins anew.
+abbrev pub handed_after : Made → Direction → List ℕ → List ℕ
+handed_after made.Open d bytes = []
+handed_after (made.Send way more) d bytes = bytes ++ this_way way d more.items
+handed_after (made.Carry way more) d bytes = bytes
+handed_after made.Cut d bytes = bytes
 
-abbrev pub brought_by : Made → Direction → List ℕ
-brought_by (made.Carry way bytes) d = this_way way d bytes.items
-brought_by made.Open d = []
-brought_by (made.Send way bytes) d = []
-brought_by made.Cut d = []
-
-abbrev pub handed_in : ℕ → Direction → Call → List ℕ
-handed_in n d c = if c.conn == n then handed_by c.made d else []
-
-abbrev pub brought_in : ℕ → Direction → Call → List ℕ
-brought_in n d c = if c.conn == n then brought_by c.made d else []
+-- The same of what came.
+abbrev pub brought_after : Made → Direction → List ℕ → List ℕ
+brought_after made.Open d bytes = []
+brought_after (made.Send way more) d bytes = bytes
+brought_after (made.Carry way more) d bytes = bytes ++ this_way way d more.items
+brought_after made.Cut d bytes = bytes
 
 -- What calls handed over on a connection, one way, in order, and what they brought there.
 abbrev pub handed_of : List Call → ℕ → Direction → List ℕ
-handed_of calls n d = flat_map (handed_in n d) calls
+handed_of calls n d = fold (λ bytes c. if c.conn == n then handed_after c.made d bytes else bytes) [] calls
 
 abbrev pub brought_of : List Call → ℕ → Direction → List ℕ
-brought_of calls n d = flat_map (brought_in n d) calls
+brought_of calls n d = fold (λ bytes c. if c.conn == n then brought_after c.made d bytes else bytes) [] calls
 
 -- What a carrier was handed on each connection, each way, and what came there, is that of these calls.
 abbrev pub AreCallsAt : List Call → (ℕ → Option Pipe) → Type 0

@@ -15,6 +15,8 @@ use Rattle.tds_world.specs.declared.event.Setup.{Setup}
 use Rattle.tds_world.specs.declared.report.EventReport.{EventReport}
 use Rattle.tds_world.specs.declared.report.Report.{Report}
 use Rattle.tds_world.specs.declared.report.RequestReport.{RequestReport}
+use Rattle.tds_world.specs.declared.report.Snapshot.{Snapshot}
+use Rattle.tds_token.specs.declared.token.Token.{Token}
 
 -- A character of a report within a text of JSON (RFC 8259, 7). A report has none but those from space to
 -- tilde.
@@ -32,10 +34,6 @@ abbrev pub line_text : ℕ → List ℕ → List ℕ
 line_text from line =
     codes "\"" ++ flat_map json_char (take (length line - 1 - from) (drop from line)) ++ codes "\""
 
--- These as an array.
-abbrev pub array : List (List ℕ) → List ℕ
-array items = codes "[" ++ with_commas items ++ codes "]"
-
 abbrev pub truth : Bool → List ℕ
 truth true = codes "true"
 truth false = codes "false"
@@ -45,28 +43,42 @@ rolls_back attention.Keep = false
 rolls_back attention.RollBack = true
 
 -- What is played.
-unfoldable pub setup_line : Setup → List ℕ
-setup_line s =
+unfoldable pub setup_head : Setup → List ℕ
+setup_head s =
     codes "{\"packet_size\":" ++ decimal s.packet_size ++ codes ",\"max\":" ++ decimal s.max
-    ++ codes ",\"rollback_on_attention\":" ++ truth (rolls_back s.on_attention) ++ codes "}\n"
+    ++ codes ",\"rollback_on_attention\":"
+
+abbrev pub setup_line : Setup → List ℕ
+setup_line s = setup_head s ++ truth (rolls_back s.on_attention) ++ codes "}\n"
 
 -- An event: what it came to, and the connections after it.
-abbrev pub connections : EventReport → List ℕ
-connections e = array (map (λ s. line_text 0 (connection_line s)) e.snapshots)
+unfoldable pub event_words : EventReport → List ℕ
+event_words e = line_text 2 (event_line 1 e)
+
+unfoldable pub snapshot_text : Snapshot → List ℕ
+snapshot_text s = line_text 0 (connection_line s)
+
+abbrev pub snapshots_text : List Snapshot → List ℕ
+snapshots_text snapshots = with_commas (map snapshot_text snapshots)
+
+unfoldable pub event_front : ℕ → List ℕ
+event_front place = codes "{\"event\":" ++ decimal place ++ codes ",\"outcome\":"
 
 abbrev pub event_json : ℕ → EventReport → List ℕ
 event_json place e =
-    codes "{\"event\":" ++ decimal place ++ codes ",\"outcome\":" ++ line_text 2 (event_line 1 e)
-    ++ codes ",\"connections\":" ++ connections e ++ codes "}\n"
+    event_front place ++ event_words e
+    ++ codes ",\"connections\":[" ++ snapshots_text e.snapshots ++ codes "]}\n"
 
 -- A call, with the bytes that it handed over or brought.
 abbrev pub direction_word : Direction → List ℕ
 direction_word ToServer = codes "to_server"
 direction_word ToClient = codes "to_client"
 
-unfoldable pub bytes_text : Direction → List ℕ → List ℕ
-bytes_text d bytes =
-    codes ",\"direction\":\"" ++ direction_word d ++ codes "\",\"bytes\":\"" ++ flat_map hex2 bytes ++ codes "\""
+unfoldable pub bytes_head : Direction → List ℕ
+bytes_head d = codes ",\"direction\":\"" ++ direction_word d ++ codes "\",\"bytes\":\""
+
+abbrev pub bytes_text : Direction → List ℕ → List ℕ
+bytes_text d bytes = bytes_head d ++ flat_map hex2 bytes ++ codes "\""
 
 abbrev pub made_word : Made → List ℕ
 made_word made.Open = codes "open"
@@ -102,13 +114,22 @@ event_lines place (e ∷ es) calls =
     event_json place e ++ calls_of place calls ++ event_lines (place + 1) es calls
 
 -- A request: what became of it, and what its caller was told.
-abbrev pub told : RequestReport → List ℕ
-told q = array (map (λ t. line_text 2 (token_line t)) q.tokens)
+unfoldable pub request_words : RequestReport → List ℕ
+request_words q = line_text 10 (request_line 1 q)
+
+unfoldable pub token_text : Token → List ℕ
+token_text t = line_text 2 (token_line t)
+
+abbrev pub tokens_text : List Token → List ℕ
+tokens_text tokens = with_commas (map token_text tokens)
+
+unfoldable pub request_front : ℕ → List ℕ
+request_front number = codes "{\"request\":" ++ decimal number ++ codes ",\"outcome\":"
 
 abbrev pub request_json : ℕ → RequestReport → List ℕ
 request_json number q =
-    codes "{\"request\":" ++ decimal number ++ codes ",\"outcome\":" ++ line_text 10 (request_line 1 q)
-    ++ codes ",\"told\":" ++ told q ++ codes "}\n"
+    request_front number ++ request_words q
+    ++ codes ",\"told\":[" ++ tokens_text q.tokens ++ codes "]}\n"
 
 abbrev pub request_lines : ℕ → List RequestReport → List ℕ
 request_lines number [] = []

@@ -1,49 +1,61 @@
 //! The lines of a trace.
-ghost use Rattle.std.specs.Prelude.{◌≡◌, ◌++◌, IfOk, OnOk, string_bytes, map, take};
-ghost use Rattle.std.specs.List.{flat_map};
-ghost use Rattle.tds_text.specs.Lines.{connection_line, event_line, request_line};
-ghost use Rattle.tds_trace.specs.Lines.{call_json, calls_of, connections, event_json, event_lines, request_json, request_lines, setup_line, told, trace_text};
+ghost use Rattle.std.specs.Prelude.{◌≡◌, ◌++◌, OnOk, string_bytes};
+ghost use Rattle.tds_text.specs.Texts.{comma_behind};
+ghost use Rattle.tds_trace.specs.Lines.{call_json, calls_of, event_front, event_json, event_lines, request_front, request_json, request_lines, rolls_back, setup_head, setup_line, snapshots_text, tokens_text, trace_text};
 
 mod call;
 mod line;
 
 use crate::call::Call;
-use crate::tracing::Trace;
 use call::{put_call, put_truth};
 use line::{put_event_words, put_request_words, put_snapshot, put_token};
 use std::alloc::{AllocError, Global};
 use std::fmt::Write;
-use tds_play::{EventReport, RequestReport, Setup, Snapshot};
 use tds_session::OnAttention;
 use tds_token::Token;
+use tds_world::{EventReport, Report, RequestReport, Setup, Snapshot};
 
-/// Appends the trace of a play with this setup.
+/// Appends the trace of a play with this setup, of which this is told, and which made these calls.
 pub fn put_trace(
     alloc: Global,
     text: &mut String,
     setup: &Setup,
-    trace: &Trace,
+    report: &Report,
+    calls: &[Call],
 ) -> Result<(), AllocError>
     ensures { OnOk result (string_bytes text.new
-        ≡ string_bytes text.old ++ trace_text setup.now trace.now.report trace.now.calls.items) }
+        ≡ string_bytes text.old ++ trace_text setup.now report.now calls.now) }
 {
     put_setup(text, setup)?;
-    put_events(alloc, text, trace.report.events.as_slice(), trace.calls.as_slice())?;
-    put_requests(alloc, text, trace.report.requests.as_slice())
+    put_events(alloc, text, report.events.as_slice(), calls)?;
+    put_requests(alloc, text, report.requests.as_slice())
 }
 
-#[tactic(auto, unfolding(crate::specs::Lines::setup_line))]
 fn put_setup(text: &mut String, setup: &Setup) -> Result<(), AllocError>
     ensures { OnOk result (string_bytes text.new ≡ string_bytes text.old ++ setup_line setup.now) }
 {
-    let Setup {
-        packet_size,
-        max,
-        on_attention,
-    } = *setup;
-    write!(text, "{{\"packet_size\":{packet_size},\"max\":{max},\"rollback_on_attention\":")?;
-    put_truth(text, on_attention == OnAttention::RollBack)?;
+    put_setup_head(text, setup)?;
+    put_truth(text, rolls_back_of(setup.on_attention))?;
     text.push_str("}\n")
+}
+
+#[tactic(auto, unfolding(crate::specs::Lines::setup_head))]
+fn put_setup_head(text: &mut String, setup: &Setup) -> Result<(), AllocError>
+    ensures { OnOk result (string_bytes text.new ≡ string_bytes text.old ++ setup_head setup.now) }
+{
+    let Setup {
+        packet_size, max, ..
+    } = setup;
+    write!(text, "{{\"packet_size\":{packet_size},\"max\":{max},\"rollback_on_attention\":")
+}
+
+fn rolls_back_of(on_attention: OnAttention) -> bool
+    ensures { result ≡ rolls_back on_attention }
+{
+    match on_attention {
+        OnAttention::Keep => false,
+        OnAttention::RollBack => true,
+    }
 }
 
 fn put_events(
@@ -71,11 +83,18 @@ fn put_event(
     ensures { OnOk result
         (string_bytes text.new ≡ string_bytes text.old ++ event_json place event.now) }
 {
-    write!(text, "{{\"event\":{place},\"outcome\":")?;
+    put_event_front(text, place)?;
     put_event_words(alloc, text, event)?;
     text.push_str(",\"connections\":[")?;
     put_snapshots(alloc, text, event.snapshots.as_slice())?;
     text.push_str("]}\n")
+}
+
+#[tactic(auto, unfolding(crate::specs::Lines::event_front))]
+fn put_event_front(text: &mut String, place: usize) -> Result<(), AllocError>
+    ensures { OnOk result (string_bytes text.new ≡ string_bytes text.old ++ event_front place) }
+{
+    write!(text, "{{\"event\":{place},\"outcome\":")
 }
 
 fn put_snapshots(
@@ -83,14 +102,24 @@ fn put_snapshots(
     text: &mut String,
     snapshots: &[Snapshot],
 ) -> Result<(), AllocError>
+    ensures { OnOk result
+        (string_bytes text.new ≡ string_bytes text.old ++ snapshots_text snapshots.now) }
 {
     for (index, snapshot) in snapshots.iter().enumerate() {
-        if index > 0 {
-            text.push_str(",")?;
-        }
+        put_comma(text, index)?;
         put_snapshot(alloc, text, snapshot)?;
     }
     Ok(())
+}
+
+/// Appends the comma that stands before an item with so many before it.
+fn put_comma(text: &mut String, before: usize) -> Result<(), AllocError>
+    ensures { OnOk result (string_bytes text.new ≡ string_bytes text.old ++ comma_behind before) }
+{
+    match before {
+        0 => Ok(()),
+        _ => text.push_str(","),
+    }
 }
 
 /// Appends those of these calls that the event at a place made.
@@ -129,19 +158,26 @@ fn put_request(
     ensures { OnOk result
         (string_bytes text.new ≡ string_bytes text.old ++ request_json number request.now) }
 {
-    write!(text, "{{\"request\":{number},\"outcome\":")?;
+    put_request_front(text, number)?;
     put_request_words(alloc, text, request)?;
     text.push_str(",\"told\":[")?;
     put_told(alloc, text, request.tokens.as_slice())?;
     text.push_str("]}\n")
 }
 
+#[tactic(auto, unfolding(crate::specs::Lines::request_front))]
+fn put_request_front(text: &mut String, number: usize) -> Result<(), AllocError>
+    ensures { OnOk result (string_bytes text.new ≡ string_bytes text.old ++ request_front number) }
+{
+    write!(text, "{{\"request\":{number},\"outcome\":")
+}
+
 fn put_told(alloc: Global, text: &mut String, tokens: &[Token]) -> Result<(), AllocError>
+    ensures { OnOk result
+        (string_bytes text.new ≡ string_bytes text.old ++ tokens_text tokens.now) }
 {
     for (index, token) in tokens.iter().enumerate() {
-        if index > 0 {
-            text.push_str(",")?;
-        }
+        put_comma(text, index)?;
         put_token(alloc, text, token)?;
     }
     Ok(())

@@ -48,19 +48,29 @@ impl<C: Carrier + Drop> RecordingCarrier<C> {
     }
 }
 
-/// Appends a call, and answers whether one is missing then.
-fn keep(calls: &mut Vec<Call>, call: Call, is_short: bool) -> bool
+/// Appends a call that was answered so, and answers whether one is missing then: for want of memory, or
+/// since it wanted memory itself, and nothing is known of the carrier.
+fn keep<T>(
+    calls: &mut Vec<Call>,
+    call: Call,
+    is_short: bool,
+    answer: &Result<T, CarrierError>,
+) -> bool
     ensures whole { result ≡ false → is_short ≡ false }
+    ensures known { result ≡ false → answer.now ≢ Err Memory }
     ensures calls { result ≡ false → calls.new.items ≡ calls.old.items ++ call ∷ [] }
 {
-    is_short || calls.push(call).is_err()
+    is_short || matches!(answer, Err(CarrierError::Memory)) || calls.push(call).is_err()
 }
 
-/// Whether memory was refused to a call, so that nothing is known of its carrier.
-fn is_memory(answer: &Result<(), CarrierError>) -> bool
-    ensures { result ≡ false → answer.now ≢ Err Memory }
+/// The bytes behind so many.
+fn behind(bytes: &[u8], before: usize) -> &[u8]
+    ensures { result.now ≡ drop before bytes.now }
 {
-    matches!(answer, Err(CarrierError::Memory))
+    match before < bytes.len() {
+        true => &bytes[before..],
+        false => &[],
+    }
 }
 
 impl<C: Carrier + Drop> Carrier for RecordingCarrier<C> {
@@ -70,7 +80,9 @@ impl<C: Carrier + Drop> Carrier for RecordingCarrier<C> {
 
     fn begin(&mut self, event: u32) -> Result<(), AllocError> {
         self.event = event;
-        self.inner.begin(event)
+        let answer = self.inner.begin(event);
+        self.is_short = self.is_short || answer.is_err();
+        answer
     }
 
     fn open(&mut self, conn: u32) -> Result<(), CarrierError> {
@@ -81,7 +93,7 @@ impl<C: Carrier + Drop> Carrier for RecordingCarrier<C> {
             made: Made::Open,
             failed: answer.is_err(),
         };
-        self.is_short = keep(&mut self.calls, call, self.is_short || is_memory(&answer));
+        self.is_short = keep(&mut self.calls, call, self.is_short, &answer);
         answer
     }
 
@@ -94,7 +106,7 @@ impl<C: Carrier + Drop> Carrier for RecordingCarrier<C> {
             made: Made::Send(direction, kept),
             failed: answer.is_err(),
         };
-        self.is_short = keep(&mut self.calls, call, self.is_short || is_memory(&answer));
+        self.is_short = keep(&mut self.calls, call, self.is_short, &answer);
         answer
     }
 
@@ -105,14 +117,9 @@ impl<C: Carrier + Drop> Carrier for RecordingCarrier<C> {
         most: usize,
         out: &mut Vec<u8>,
     ) -> Result<usize, CarrierError> {
-        let before = out.len();
+        let before = out.as_slice().len();
         let answer = self.inner.carry(conn, direction, most, out);
-        let came = match answer {
-            Ok(_) => Vec::from_slice(self.alloc, &out[before..]),
-            Err(CarrierError::Lost) => Ok(Vec::new(self.alloc)),
-            Err(CarrierError::Memory) => Err(AllocError),
-        };
-        match came {
+        match Vec::from_slice(self.alloc, behind(out.as_slice(), before)) {
             Err(_) => self.is_short = true,
             Ok(came) => {
                 let call = Call {
@@ -121,7 +128,7 @@ impl<C: Carrier + Drop> Carrier for RecordingCarrier<C> {
                     made: Made::Carry(direction, came),
                     failed: answer.is_err(),
                 };
-                self.is_short = keep(&mut self.calls, call, self.is_short);
+                self.is_short = keep(&mut self.calls, call, self.is_short, &answer);
             }
         }
         answer
@@ -135,6 +142,6 @@ impl<C: Carrier + Drop> Carrier for RecordingCarrier<C> {
             made: Made::Cut,
             failed: false,
         };
-        self.is_short = keep(&mut self.calls, call, self.is_short);
+        self.is_short = keep::<()>(&mut self.calls, call, self.is_short, &Ok(()));
     }
 }

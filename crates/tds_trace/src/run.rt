@@ -77,7 +77,8 @@ fn trace_of(alloc: Global, bytes: &[u8]) -> Result<String, TraceFault> {
     let (setup, events) = read_schedule(alloc, bytes)?;
     let trace = play_traced(alloc, &setup, events.as_slice())?;
     let mut text = String::new(alloc);
-    put_trace(alloc, &mut text, &setup, &trace)?;
+    let calls = trace.calls.as_slice();
+    put_trace(alloc, &mut text, &setup, &trace.report, calls)?;
     Ok(text)
 }
 

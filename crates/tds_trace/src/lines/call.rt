@@ -2,7 +2,7 @@
 ghost use Rattle.std.specs.Prelude.{◌≡◌, ◌++◌, OnOk, string_bytes};
 ghost use Rattle.std.specs.List.{flat_map};
 ghost use Rattle.tds_text.specs.Texts.{hex2};
-ghost use Rattle.tds_trace.specs.Lines.{bytes_text, call_head, call_json, direction_word, made_bytes, made_word, truth};
+ghost use Rattle.tds_trace.specs.Lines.{bytes_head, bytes_text, call_head, call_json, direction_word, made_bytes, made_word, truth};
 
 use crate::call::{Call, Made};
 use std::alloc::AllocError;
@@ -42,16 +42,22 @@ fn put_made(text: &mut String, made: &Made) -> Result<(), AllocError>
     }
 }
 
-#[tactic(auto, unfolding(crate::specs::Lines::bytes_text))]
 fn put_bytes(text: &mut String, direction: Direction, bytes: &[u8]) -> Result<(), AllocError>
     ensures { OnOk result
         (string_bytes text.new ≡ string_bytes text.old ++ bytes_text direction bytes.now) }
 {
-    text.push_str(",\"direction\":\"")?;
-    text.push_str(direction_word_of(direction))?;
-    text.push_str("\",\"bytes\":\"")?;
+    put_bytes_head(text, direction)?;
     put_digits(text, bytes)?;
     text.push_str("\"")
+}
+
+#[tactic(auto, unfolding(crate::specs::Lines::bytes_head))]
+fn put_bytes_head(text: &mut String, direction: Direction) -> Result<(), AllocError>
+    ensures { OnOk result
+        (string_bytes text.new ≡ string_bytes text.old ++ bytes_head direction) }
+{
+    let word = direction_word_of(direction);
+    write!(text, ",\"direction\":\"{word}\",\"bytes\":\"")
 }
 
 /// Appends two digits for each byte.

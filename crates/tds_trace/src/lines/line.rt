@@ -1,25 +1,23 @@
 //! Lines of a report as texts of JSON.
-ghost use Rattle.std.specs.Prelude.{◌≡◌, ◌++◌, ◌-◌, IfOk, OnOk, string_bytes, length, take, drop};
+ghost use Rattle.std.specs.Prelude.{◌≡◌, ◌++◌, ◌-◌, IfOk, OnOk, string_bytes, length, take, drop, codes};
 ghost use Rattle.std.specs.List.{flat_map};
-ghost use Rattle.tds_text.specs.Lines.{connection_line, event_line, request_line, text_of};
-ghost use Rattle.tds_text.specs.Tokens.{token_line};
-ghost use Rattle.tds_trace.specs.Lines.{json_char, line_text};
+ghost use Rattle.tds_text.specs.Lines.{connection_line, event_line, request_block, text_of};
+ghost use Rattle.tds_trace.specs.Lines.{event_words, json_char, line_text, request_words, snapshot_text, token_text};
 
 use std::alloc::{AllocError, Global};
-use tds_play::{
-    EventReport, Outcome, Report, RequestReport, Sequence, Snapshot, render,
-};
-use tds_text::put_token_line;
+use tds_text::{put_token_line, render};
 use tds_token::Token;
+use tds_world::{EventReport, Outcome, Report, RequestReport, Sequence, Snapshot};
 
 /// Appends what an event came to, as a text of JSON.
+#[tactic(auto, unfolding(crate::specs::Lines::event_words))]
 pub(super) fn put_event_words(
     alloc: Global,
     text: &mut String,
     event: &EventReport,
 ) -> Result<(), AllocError>
     ensures { OnOk result
-        (string_bytes text.new ≡ string_bytes text.old ++ line_text 2 (event_line 1 event.now)) }
+        (string_bytes text.new ≡ string_bytes text.old ++ event_words event.now) }
 {
     let alone = EventReport {
         outcome: event.outcome,
@@ -37,20 +35,10 @@ pub(super) fn put_snapshot(
     snapshot: &Snapshot,
 ) -> Result<(), AllocError>
     ensures { OnOk result
-        (string_bytes text.new ≡ string_bytes text.old ++ line_text 0 (connection_line snapshot.now)) }
+        (string_bytes text.new ≡ string_bytes text.old ++ snapshot_text snapshot.now) }
 {
-    let mut snapshots = Vec::new(alloc);
-    snapshots.push(Snapshot {
-        server: snapshot.server,
-        ..*snapshot
-    })?;
-    let alone = EventReport {
-        outcome: Outcome::Cut,
-        lost: false,
-        snapshots: Sequence::new(snapshots),
-    };
-    // The line of an event of this outcome, `1 cut`, stands before it.
-    let lines = event_alone(alloc, alone)?;
+    let lines = snapshot_alone(alloc, Snapshot { ..*snapshot })?;
+    // The line of an event, `1 cut`, stands before it.
     put_line(text, lines.as_slice(), 6)
 }
 
@@ -61,7 +49,7 @@ pub(super) fn put_request_words(
     request: &RequestReport,
 ) -> Result<(), AllocError>
     ensures { OnOk result
-        (string_bytes text.new ≡ string_bytes text.old ++ line_text 10 (request_line 1 request.now)) }
+        (string_bytes text.new ≡ string_bytes text.old ++ request_words request.now) }
 {
     let RequestReport {
         lease,
@@ -70,26 +58,22 @@ pub(super) fn put_request_words(
         ran,
         ..
     } = request;
-    let mut requests = Vec::new(alloc);
-    requests.push(RequestReport {
+    let alone = RequestReport {
         lease: *lease,
         conn: *conn,
         status: *status,
         ran: *ran,
         tokens: Sequence::new(Vec::new(alloc)),
-    })?;
-    let report = Report {
-        events: Sequence::new(Vec::new(alloc)),
-        requests: Sequence::new(requests),
     };
-    let line = rendered(alloc, &report)?;
+    let line = request_alone(alloc, alone)?;
     put_line(text, line.as_slice(), 10)
 }
 
 /// Appends a token that a caller was given, as a text of JSON.
+#[tactic(auto, unfolding(crate::specs::Lines::token_text))]
 pub(super) fn put_token(alloc: Global, text: &mut String, token: &Token) -> Result<(), AllocError>
     ensures { OnOk result
-        (string_bytes text.new ≡ string_bytes text.old ++ line_text 2 (token_line token.now)) }
+        (string_bytes text.new ≡ string_bytes text.old ++ token_text token.now) }
 {
     let mut line = String::new(alloc);
     put_token_line(&mut line, token)?;
@@ -98,12 +82,41 @@ pub(super) fn put_token(alloc: Global, text: &mut String, token: &Token) -> Resu
 
 /// The text of a report of one event.
 fn event_alone(alloc: Global, event: EventReport) -> Result<Vec<u8>, AllocError>
+    ensures { IfOk result (λ bytes. bytes.items
+        ≡ event_line 1 event ++ flat_map connection_line event.snapshots) }
 {
     let mut events = Vec::new(alloc);
     events.push(event)?;
     let report = Report {
         events: Sequence::new(events),
         requests: Sequence::new(Vec::new(alloc)),
+    };
+    rendered(alloc, &report)
+}
+
+/// The text of a report of one connection, behind the line of an event.
+fn snapshot_alone(alloc: Global, snapshot: Snapshot) -> Result<Vec<u8>, AllocError>
+    ensures { IfOk result (λ bytes. bytes.items ≡ codes "1 cut\n" ++ connection_line snapshot) }
+{
+    let mut snapshots = Vec::new(alloc);
+    snapshots.push(snapshot)?;
+    let event = EventReport {
+        outcome: Outcome::Cut,
+        lost: false,
+        snapshots: Sequence::new(snapshots),
+    };
+    event_alone(alloc, event)
+}
+
+/// The text of a report of one request.
+fn request_alone(alloc: Global, request: RequestReport) -> Result<Vec<u8>, AllocError>
+    ensures { IfOk result (λ bytes. bytes.items ≡ request_block 1 request) }
+{
+    let mut requests = Vec::new(alloc);
+    requests.push(request)?;
+    let report = Report {
+        events: Sequence::new(Vec::new(alloc)),
+        requests: Sequence::new(requests),
     };
     rendered(alloc, &report)
 }
