@@ -2,3 +2,4 @@ pub mod Joined
 pub mod Remaining
 pub mod Alone
 pub mod Recorded
+pub mod Traced

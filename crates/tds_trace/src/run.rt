@@ -1,5 +1,7 @@
 //! A run from a schedule file to the printed trace.
-ghost use Rattle.std.specs.Prelude.{◌≡◌, ◌++◌, ◌⊎◌, ℕ, List, OnOk, IfOk, IfErr, string_bytes};
+ghost use Rattle.std.specs.Prelude.{◌≡◌, ◌⊎◌, IfOk, OnOk, string_bytes};
+ghost use Rattle.tds_play.specs.Runs.{AreLeft, FitsFile};
+ghost use Rattle.tds_trace.specs.Runs.{IsTraceOf, Traces};
 
 use crate::fault::TraceFault;
 use crate::lines::put_trace;
@@ -23,6 +25,9 @@ pub fn run_trace<R: Read, W: Write, F: Write>(
     errors: &mut F,
 ) -> u8
     ensures status { (result ≡ 0) ⊎ (result ≡ 1) }
+    ensures fits { result ≡ 0 → FitsFile (R.remaining reader.old) }
+    ensures trace { result ≡ 0
+        → Traces (R.remaining reader.old) (W.contents output.old) (W.contents output.new) }
     ensures silent { result ≡ 0 → F.contents errors.new ≡ F.contents errors.old }
 {
     match trace_file(alloc, reader, output) {
@@ -62,7 +67,11 @@ fn trace_file<R: Read, W: Write>(
     alloc: Global,
     reader: &mut R,
     output: &mut W,
-) -> Result<(), TraceFault> {
+) -> Result<(), TraceFault>
+    ensures fits { OnOk result (FitsFile (R.remaining reader.old)) }
+    ensures trace { OnOk result
+        (Traces (R.remaining reader.old) (W.contents output.old) (W.contents output.new)) }
+{
     let bytes = read_file(alloc, reader)?;
     let text = trace_of(alloc, bytes.as_slice())?;
     match write_whole(output, text.as_str()) {
@@ -73,7 +82,9 @@ fn trace_file<R: Read, W: Write>(
 }
 
 /// The trace of the play that the bytes of a schedule file spell.
-fn trace_of(alloc: Global, bytes: &[u8]) -> Result<String, TraceFault> {
+fn trace_of(alloc: Global, bytes: &[u8]) -> Result<String, TraceFault>
+    ensures { IfOk result (λ text. IsTraceOf bytes.now (string_bytes text)) }
+{
     let (setup, events) = read_schedule(alloc, bytes)?;
     let trace = play_traced(alloc, &setup, events.as_slice())?;
     let mut text = String::new(alloc);
@@ -83,7 +94,10 @@ fn trace_of(alloc: Global, bytes: &[u8]) -> Result<String, TraceFault> {
 }
 
 /// Reads what is left; of a file that is too long, one byte more than it may have.
-fn read_file<R: Read>(alloc: Global, reader: &mut R) -> Result<Vec<u8>, TraceFault> {
+fn read_file<R: Read>(alloc: Global, reader: &mut R) -> Result<Vec<u8>, TraceFault>
+    ensures bytes { IfOk result (λ bytes. AreLeft (R.remaining reader.old) bytes.items) }
+    ensures fits { OnOk result (FitsFile (R.remaining reader.old)) }
+{
     let mut bytes = Vec::new(alloc);
     let mut front = reader.take(FILE_LIMIT as u64 + 1);
     match front.read_to_end(&mut bytes) {

@@ -1,0 +1,3 @@
+pub mod Joined
+pub mod Remaining
+pub mod Alone
