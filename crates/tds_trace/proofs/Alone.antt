@@ -1,5 +1,5 @@
 -- Reports of one event or one request.
-use Rattle.std.proofs.Common.{◌≡◌, ◌+◌, ◌-◌, ℕ, List, [], ◌∷◌, ◌++◌, length, take, refl, ap, arith, append-nil}
+use Rattle.std.proofs.Common.{◌≡◌, ℕ, List, [], ◌∷◌, ◌++◌, take, ap, arith, append-nil}
 use Rattle.std.specs.List.{flat_map}
 use Rattle.tds_text.specs.Lines.{request_block, request_head, request_line}
 use Rattle.tds_trace.specs.Lines.{json_char, line_text}

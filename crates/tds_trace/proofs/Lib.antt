@@ -3,3 +3,4 @@ pub mod Remaining
 pub mod Alone
 pub mod Recorded
 pub mod Traced
+pub mod Reading

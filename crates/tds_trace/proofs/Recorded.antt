@@ -1,5 +1,5 @@
 -- A call more at a carrier, and what it handed over and brought.
-use Rattle.std.proofs.Common.{◌≡◌, ◌≢◌, ◌==◌, ℕ, List, [], ◌∷◌, ◌++◌, length, drop, Bool, true, false, if◌then◌else◌, Option, Some, None, Result, Ok, Err, OnOk, inl, inr, refl, sym, ap, subst, ◌∙◌, append-nil}
+use Rattle.std.proofs.Common.{◌≡◌, ◌≢◌, ◌==◌, ℕ, List, [], ◌∷◌, ◌++◌, length, drop, true, if◌then◌else◌, Option, Some, None, Result, Ok, Err, OnOk, inl, inr, refl, sym, ap, subst, ◌∙◌, append-nil}
 use Rattle.std.proofs.Math.Seq.{drop-length}
 use Rattle.std.proofs.lemmas.Bool.{eq-eqb}
 use Rattle.std.proofs.lemmas.Bool.Decides.{eqb_tells}
@@ -38,16 +38,16 @@ kept_call calls call old new pipe was changes does n d =
           subst (λ (m : ℕ). ((traffic (new m) d).handed ≡ handed_of (calls ++ call ∷ []) m d) × ((traffic (new m) d).came ≡ brought_of (calls ++ call ∷ []) m d)) same.1
           (let itself : (call.conn == call.conn) ≡ true = eq-eqb call.conn call.conn refl in (
             ap (λ (p : Option Pipe). (traffic p d).handed) changes.here ∙ ((does d).0 ∙ (ap (handed_after call.made d) (was call.conn d).0
-            ∙ sym (handed_more calls call call.conn d ∙ rw itself refl))),
+                ∙ sym (handed_more calls call call.conn d ∙ rw itself refl))),
             ap (λ (p : Option Pipe). (traffic p d).came) changes.here ∙ ((does d).1 ∙ (ap (brought_after call.made d) (was call.conn d).1
-            ∙ sym (brought_more calls call call.conn d ∙ rw itself refl))),
+                ∙ sym (brought_more calls call call.conn d ∙ rw itself refl))),
           ))
       | inr other ↦ (
-          ap (λ (p : Option Pipe). (traffic p d).handed) (changes.others n (λ e. other.1 (sym e))) ∙ ((was n d).0
-          ∙ sym (handed_more calls call n d ∙ rw other.0 refl)),
-          ap (λ (p : Option Pipe). (traffic p d).came) (changes.others n (λ e. other.1 (sym e))) ∙ ((was n d).1
-          ∙ sym (brought_more calls call n d ∙ rw other.0 refl)),
-        )
+        ap (λ (p : Option Pipe). (traffic p d).handed) (changes.others n (λ e. other.1 (sym e))) ∙ ((was n d).0
+            ∙ sym (handed_more calls call n d ∙ rw other.0 refl)),
+        ap (λ (p : Option Pipe). (traffic p d).came) (changes.others n (λ e. other.1 (sym e))) ∙ ((was n d).1
+            ∙ sym (brought_more calls call n d ∙ rw other.0 refl)),
+      )
     ]
 
 -- ---- A call that brings bytes
@@ -86,15 +86,15 @@ brought_call (Ok n) calls call old new way before after came was is_open ok lost
     kept_call calls call old new (carried_on (old call.conn) way (drop (length before) after)) was ok (λ d. (
       (carried_does (old call.conn) way d (drop (length before) after) is_open).0 ∙ sym (brings d (traffic (old call.conn) d).handed).0,
       (carried_does (old call.conn) way d (drop (length before) after) is_open).1
-      ∙ (ap (λ (bytes : List ℕ). (traffic (old call.conn) d).came ++ this_way way d bytes) (sym is)
-      ∙ sym (brings d (traffic (old call.conn) d).came).1),
+          ∙ (ap (λ (bytes : List ℕ). (traffic (old call.conn) d).came ++ this_way way d bytes) (sym is)
+          ∙ sym (brings d (traffic (old call.conn) d).came).1),
     ))
 brought_call (Err Lost) calls call old new way before after came was is_open ok lost nothing known brings is =
     let none : came ≡ [] = is ∙ (ap (drop (length before)) (nothing refl) ∙ drop-length before) in
     kept_call calls call old new (stuck_on (old call.conn) way) was (lost refl) (λ d. (
       (stuck_does (old call.conn) way d is_open).0 ∙ sym (brings d (traffic (old call.conn) d).handed).0,
       (stuck_does (old call.conn) way d is_open).1
-      ∙ (ap (λ (bytes : List ℕ). (traffic (old call.conn) d).came ++ this_way way d bytes) (sym none)
-      ∙ sym (brings d (traffic (old call.conn) d).came).1),
+          ∙ (ap (λ (bytes : List ℕ). (traffic (old call.conn) d).came ++ this_way way d bytes) (sym none)
+          ∙ sym (brings d (traffic (old call.conn) d).came).1),
     ))
 brought_call (Err Memory) calls call old new way before after came was is_open ok lost nothing known brings is = absurd (known refl)

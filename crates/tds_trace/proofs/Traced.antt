@@ -1,5 +1,5 @@
 -- The calls of a play are the model's.
-use Rattle.std.proofs.Common.{◌≡◌, ℕ, List, Option, sym, subst, ◌∙◌}
+use Rattle.std.proofs.Common.{ℕ, List, Option, sym, subst, ◌∙◌}
 use Rattle.tds_play.specs.Pipe.{Pipe}
 use Rattle.tds_play.specs.WholePlay.{CarriesBytesOf, HandsBytesOf, IsWholePlayOf, world_of}
 use Rattle.tds_session.specs.Answer.{script_answers}

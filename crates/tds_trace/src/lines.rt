@@ -44,9 +44,14 @@ fn put_setup_head(text: &mut String, setup: &Setup) -> Result<(), AllocError>
     ensures { OnOk result (string_bytes text.new ≡ string_bytes text.old ++ setup_head setup.now) }
 {
     let Setup {
-        packet_size, max, ..
+        packet_size,
+        max,
+        ..
     } = setup;
-    write!(text, "{{\"packet_size\":{packet_size},\"max\":{max},\"rollback_on_attention\":")
+    write!(
+        text,
+        "{{\"packet_size\":{packet_size},\"max\":{max},\"rollback_on_attention\":"
+    )
 }
 
 fn rolls_back_of(on_attention: OnAttention) -> bool
@@ -97,11 +102,7 @@ fn put_event_front(text: &mut String, place: usize) -> Result<(), AllocError>
     write!(text, "{{\"event\":{place},\"outcome\":")
 }
 
-fn put_snapshots(
-    alloc: Global,
-    text: &mut String,
-    snapshots: &[Snapshot],
-) -> Result<(), AllocError>
+fn put_snapshots(alloc: Global, text: &mut String, snapshots: &[Snapshot]) -> Result<(), AllocError>
     ensures { OnOk result
         (string_bytes text.new ≡ string_bytes text.old ++ snapshots_text snapshots.now) }
 {

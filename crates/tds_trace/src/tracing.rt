@@ -22,11 +22,7 @@ pub struct Trace {
 }
 
 /// Plays a schedule over memory, as [`play`] does, and keeps its calls.
-pub fn play_traced(
-    alloc: Global,
-    setup: &Setup,
-    events: &[Event],
-) -> Result<Trace, PlayRefusal>
+pub fn play_traced(alloc: Global, setup: &Setup, events: &[Event]) -> Result<Trace, PlayRefusal>
     // Which schedules are played.
     ensures played { OnOk result (first_refusal setup.now (length events.now) ≡ None) }
     ensures named { IfErr result (λ why. why ≢ Memory

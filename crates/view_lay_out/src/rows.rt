@@ -1,6 +1,6 @@
 //! The row of an event.
 
-use crate::answers::{Which, is_no_language, told, tokens_of};
+use crate::answers::{Which, is_no_language, tokens_of, told};
 use crate::drawing::{Drawing, Moment, NOTHING, Task};
 use crate::wording::{client_text, mark_text, refusal_text, request_text, session_text};
 use std::alloc::{AllocError, Global};

@@ -33,7 +33,14 @@ pub(crate) fn conn_of(events: &[Event], told: &[EventReport], index: usize) -> O
 fn lent_under(events: &[Event], told: &[EventReport], index: usize, lease: u32) -> Option<u32> {
     for place in (0..index.saturating_add(1)).rev() {
         match (events.get(place)?, told.get(place)?.outcome) {
-            (_, Outcome::Leased { lease: it, conn, .. }) if it == lease => return Some(conn),
+            (
+                _,
+                Outcome::Leased {
+                    lease: it,
+                    conn,
+                    ..
+                },
+            ) if it == lease => return Some(conn),
             (Event::Clean(conn), Outcome::Cleaning { lease: it, .. }) if it == lease => {
                 return Some(*conn);
             }

@@ -39,7 +39,14 @@ pub(crate) fn packets_of(
         if let Made::Send(direction, bytes) = &call.made {
             let mut reader = PacketReader::new(alloc, size, *direction)?;
             let way = *direction;
-            put_packets(alloc, &mut packets, &mut reader, call, way, bytes.as_slice())?;
+            put_packets(
+                alloc,
+                &mut packets,
+                &mut reader,
+                call,
+                way,
+                bytes.as_slice(),
+            )?;
         }
     }
     Ok(packets)

@@ -25,9 +25,17 @@ pub(super) fn put_call(text: &mut String, call: &Call) -> Result<(), AllocError>
 fn put_head(text: &mut String, call: &Call) -> Result<(), AllocError>
     ensures { OnOk result (string_bytes text.new ≡ string_bytes text.old ++ call_head call.now) }
 {
-    let Call { event, conn, made, .. } = call;
+    let Call {
+        event,
+        conn,
+        made,
+        ..
+    } = call;
     let word = made_word_of(made);
-    write!(text, "{{\"event\":{event},\"connection\":{conn},\"call\":\"{word}\"")
+    write!(
+        text,
+        "{{\"event\":{event},\"connection\":{conn},\"call\":\"{word}\""
+    )
 }
 
 /// Appends the bytes of what was asked, where it has bytes.

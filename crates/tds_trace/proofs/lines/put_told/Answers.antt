@@ -1,4 +1,4 @@
-use Rattle.std.proofs.Common.{◌++◌, List, ℕ, string_bytes, ap, ◌∙◌}
+use Rattle.std.proofs.Common.{◌++◌, string_bytes, ap, ◌∙◌}
 use Rattle.tds_token.specs.declared.token.Token.{Token}
 use Rattle.tds_trace.specs.Lines.{token_text}
 use Rattle.tds_trace.proofs.Joined.{told_more}

@@ -1,7 +1,0 @@
-use Rattle.std.proofs.Common.{append_assoc}
-use Rattle.zz_lines.specs.Lines.{bytes_head}
-use Rattle.zz_lines.proofs.lines.call.put_bytes_head.Goals as goal
-
-pub returns : goal.returns
-unfolding bytes_head
-returns c = rw append_assoc (rw c.direction_word_of-word.ensures at c.write.ensures.bytes)

@@ -1,2 +1,0 @@
-pub mod Pipe
-pub mod Calls
