@@ -10,6 +10,8 @@ pub enum ProgramFault {
     Usage,
     #[error("error: file")]
     File,
+    #[error("error: listen")]
+    Listen,
     #[error("error: memory")]
     Memory,
     #[error("error: output")]
@@ -21,7 +23,10 @@ impl ProgramFault {
     pub fn status(&self) -> u8 {
         match self {
             ProgramFault::Usage => 2,
-            ProgramFault::File | ProgramFault::Memory | ProgramFault::Output => 1,
+            ProgramFault::File
+            | ProgramFault::Listen
+            | ProgramFault::Memory
+            | ProgramFault::Output => 1,
         }
     }
 

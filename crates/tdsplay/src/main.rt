@@ -10,7 +10,7 @@ use std::fs::File;
 use std::process::ExitCode;
 use std::{env, fs};
 use tds_play::{Command, MemoryCarrier, read_words, run_play, run_show, run_vectors};
-use tds_tcp::run_loopback;
+use tds_tcp::{TcpCarrier, run_loopback};
 use tds_tokens::run_tokens;
 use tds_trace::run_trace;
 
@@ -79,7 +79,11 @@ fn run_command(rt: &HostRuntime, command: Command) -> Result<u8, ProgramFault> {
         }
         Command::Loopback(name) => {
             let mut file = open(rt, name.as_str())?;
-            Ok(run_loopback(alloc, rt, &mut file, &mut output, &mut errors))
+            let Ok(mut carrier) = TcpCarrier::listen(alloc, rt) else {
+                return Err(ProgramFault::Listen);
+            };
+            let output = &mut output;
+            Ok(run_loopback(alloc, &mut file, &mut carrier, output, &mut errors))
         }
         Command::Show(word) => Ok(run_show(alloc, word.as_str(), &mut output, &mut errors)),
         Command::Tokens(word) => Ok(run_tokens(alloc, word.as_str(), &mut output, &mut errors)),
