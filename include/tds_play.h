@@ -17,9 +17,7 @@ extern "C" {
 
 /* Plays a schedule over links in memory that never fail, and writes its report to `out`, or the line
  * that says why not. Either text ends in a line feed, which `count` counts, with no 0 behind it. Where
- * memory is refused it answers TDS_NOT_PLAYED with the line `error: memory` (`error: output`, where
- * the report's text can't grow) or, where there is none for the line either, a beginning of it, which
- * may be empty. */
+ * memory is refused it answers TDS_NOT_PLAYED with the line `error: memory`. */
 uint8_t tds_play(const uint8_t *schedule, size_t length, uint8_t *out, size_t room, size_t *count);
 
 #ifdef __cplusplus

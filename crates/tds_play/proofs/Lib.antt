@@ -15,6 +15,7 @@ pub mod Doing
 pub mod Carrying
 pub mod Tying
 pub mod Failing
+pub mod Unasked
 pub mod Accounts
 pub mod Marking
 pub mod Between
@@ -36,5 +37,6 @@ pub mod LossWorld
 pub mod Turns
 pub mod PlayerActs
 pub mod PlayerFinds
+pub mod Resting
 pub mod any_bytes
 pub mod pooled

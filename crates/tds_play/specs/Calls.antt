@@ -4,7 +4,7 @@ use Rattle.tds_session.specs.Answer.{Answers}
 use Rattle.tds_world.specs.declared.event.Setup.{Setup}
 use Rattle.tds_world.specs.Losses.{Played, is_lost, link_of, world_then}
 use Rattle.tds_world.specs.World.{World, new_world}
-use Rattle.tds_play.specs.Failures.{FailsOn, all_known}
+use Rattle.tds_play.specs.Failures.{FailsOn, TellFailures, all_known}
 use Rattle.tds_play.specs.Pipe.{AreSameBeyond, Begun, Pipe}
 use Rattle.tds_play.specs.WholePlay.{CarriesBytesOf, CutsThoseOf, HandsBytesOf}
 
@@ -47,3 +47,21 @@ pub record MakesCalls (setup : Setup) (answers : Answers) (ps : List Played) (ol
   pub told : List Begun
   pub since : new ≡ old ++ told
   pub calls : DoInTurn setup answers 1 ps told pipes new_world
+
+-- In which event calls failed: in each that is marked lost, calls that it makes; in any other one, none.
+abbrev pub FailInTurn : Setup → Answers → List Played → List Begun → (ℕ → Option Pipe) → World → Type 0
+FailInTurn setup answers [] [] last w = Unit {0}
+FailInTurn setup answers [] (b ∷ bs) last w = ⊥
+FailInTurn setup answers (p ∷ ps) [] last w = ⊥
+FailInTurn setup answers (p ∷ ps) (b ∷ bs) last w =
+    FailsOn p.event (is_lost p.loss) (link_of setup w p.event) (all_known (length w.connections) b.pipes)
+    (all_known (length (world_then setup answers w p).connections) (next_there bs last))
+    × FailInTurn setup answers ps bs last (world_then setup answers w p)
+
+-- Exactly the events in which calls failed are marked lost: event by event, and over the whole run.
+pub record MarksFailures (setup : Setup) (answers : Answers) (ps : List Played) (old new : List Begun)
+    (pipes : ℕ → Option Pipe) : Type 0 where
+  pub told : List Begun
+  pub since : new ≡ old ++ told
+  pub each : FailInTurn setup answers ps told pipes new_world
+  pub whole : TellFailures setup answers ps pipes

@@ -23,4 +23,5 @@ pub mod Happening
 pub mod AnyBytes
 pub mod Reads
 pub mod WholePlay
+pub mod Stopping
 pub mod Calls

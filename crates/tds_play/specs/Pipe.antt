@@ -1,5 +1,5 @@
 -- What a carrier was handed on a connection, what came of it, and what failed.
-use Rattle.std.specs.Prelude.{ℕ, suc, ◌+◌, ◌<◌, ◌≡◌, ◌≢◌, List, [], ◌++◌, length, take, drop, Option, Some, None, Bool, true, false}
+use Rattle.std.specs.Prelude.{ℕ, suc, ◌+◌, ◌<◌, ◌≡◌, ◌≢◌, List, [], ◌∷◌, ◌++◌, length, take, drop, Option, Some, None, Bool, true, false}
 use Rattle.tds_packet.specs.declared.kind.Direction.{Direction}
 use Rattle.tds_packet.specs.declared.kind.Direction.TheVariants.{ToServer, ToClient}
 
@@ -21,6 +21,14 @@ pub record Pipe : Type 0 where
 pub record Begun : Type 0 where
   pub event : ℕ
   pub pipes : ℕ → Option Pipe
+
+-- What there was of each connection when the newest of these events began: nothing, where none did.
+abbrev pub newest_of : (ℕ → Option Pipe) → List Begun → ℕ → Option Pipe
+newest_of pipes [] = pipes
+newest_of pipes (b ∷ bs) = newest_of b.pipes bs
+
+abbrev pub since : List Begun → ℕ → Option Pipe
+since began = newest_of (λ n. None) began
 
 abbrev pub no_traffic : Traffic
 no_traffic = record { handed = []; came = []; send_failures = 0; carry_failures = 0 }
@@ -65,6 +73,18 @@ IsUncut (Some p) = p.is_cut ≡ false
 abbrev pub IsOpen : Option Pipe → Type 0
 IsOpen None = ⊥
 IsOpen (Some p) = (p.is_cut ≡ false) × (p.open_failures ≡ 0)
+
+-- Since an event began no bytes were handed over on a connection, and no call of `send` ever failed there: what
+-- each call of `send` needs. So an event hands a connection all its bytes by one call.
+pub record MaySend (before now : Option Pipe) : Type 0 where
+  pub first : (d : Direction) → (traffic now d).handed ≡ (traffic before d).handed
+  pub unfailed : (d : Direction) → (traffic now d).send_failures ≡ 0
+
+-- The same, and no call of `carry` ever failed there: what each call of `carry` needs. So it comes before the
+-- event's bytes are handed over, and behind a failure there is none.
+pub record MayCarry (before now : Option Pipe) : Type 0 where
+  pub sends : MaySend before now
+  pub unfailed : (d : Direction) → (traffic now d).carry_failures ≡ 0
 
 -- These bytes were handed over, with so many failures.
 abbrev pub sent : Traffic → List ℕ → ℕ → Traffic

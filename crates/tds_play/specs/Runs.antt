@@ -60,6 +60,15 @@ IsFaultOf (run.Play refusal) bytes = IsRefused bytes (Some refusal)
 IsFaultOf run.Output bytes = IsRefused bytes None
 IsFaultOf run.Memory bytes = ⊤
 
+-- A fault that the bytes themselves show.
+abbrev pub IsShownBy : RunFault → List ℕ → Type 0
+IsShownBy run.File bytes = ⊥
+IsShownBy run.Json bytes = IsNoJson bytes
+IsShownBy (run.Schedule place) bytes = IsWrongAt bytes place
+IsShownBy (run.Play refusal) bytes = IsRefused bytes (Some refusal)
+IsShownBy run.Output bytes = ⊥
+IsShownBy run.Memory bytes = ⊥
+
 -- A fault that comes before anything is printed.
 abbrev pub IsBeforeOutput : RunFault → Type 0
 IsBeforeOutput fault = ¬ (fault ≡ run.Output)
@@ -91,14 +100,18 @@ fault_line (run.Play refusal) = codes "error: play " ++ decimal (play_refusal_nu
 fault_line run.Output = codes "error: output\n"
 fault_line run.Memory = codes "error: memory\n"
 
+-- The whole line of a fault that these bytes show.
+abbrev pub IsLineOf : List ℕ → List ℕ → Type 0
+IsLineOf bytes line = (fault : RunFault) × IsShownBy fault bytes × (line ≡ fault_line fault)
+
+-- The whole text of the report of these bytes.
+abbrev pub IsTextOf : (ℕ → Option Pipe) → List ℕ → List ℕ → Type 0
+IsTextOf pipes bytes text = (report : Report) × IsReportOf pipes bytes report × (text ≡ text_of report)
+
 -- A fault's line went out, or a beginning of it where a write failed. Where memory was refused to
 -- make the line, it is the one of memory.
 abbrev pub TellsFault : Option (List ℕ) → Option (List ℕ) → RunFault → Type 0
 TellsFault old new fault = WritesBeginning old new (fault_line fault) ⊎ WritesBeginning old new (fault_line run.Memory)
-
--- A fault that these bytes may end a run by, and its line went out, as TellsFault says.
-abbrev pub TellsFaultOf : List ℕ → Option (List ℕ) → Option (List ℕ) → Type 0
-TellsFaultOf bytes old new = (fault : RunFault) × IsFaultOf fault bytes × TellsFault old new fault
 
 -- The bytes that were left are a schedule that is played, and the text of its report went out.
 abbrev pub Reports : (ℕ → Option Pipe) → Option (List ℕ) → Option (List ℕ) → Option (List ℕ) → Type 0
@@ -108,6 +121,10 @@ Reports pipes left old new = (bytes : List ℕ) × AreLeft left bytes
 -- A run ended by this fault.
 abbrev pub EndsBy : (ℕ → Option Pipe) → RunFault → Option (List ℕ) → Option (List ℕ) → Option (List ℕ) → Type 0
 EndsBy pipes fault left old new = (bytes : List ℕ) × AreLeft left bytes × IsFaultOf fault bytes × LeavesOutput pipes fault bytes old new
+
+-- A run ended by a fault, and the fault's line went out.
+abbrev pub EndsTold : (ℕ → Option Pipe) → Option (List ℕ) → Option (List ℕ) → Option (List ℕ) → Option (List ℕ) → Option (List ℕ) → Type 0
+EndsTold pipes left old new before after = (fault : RunFault) × EndsBy pipes fault left old new × TellsFault before after fault
 
 -- The fault of a run, by the one of the schedule.
 abbrev pub of_schedule : ScheduleFault → RunFault

@@ -3,7 +3,8 @@
 use Rattle.std.specs.Prelude.{ℕ, suc, ◌+◌, ◌≡◌, ◌≤◌, ◌<◌, List, length, Option, false, min, slice_index_or}
 use Rattle.tds_packet.specs.declared.kind.Direction.{Direction}
 use Rattle.tds_packet.specs.declared.kind.Direction.TheVariants.{ToServer, ToClient}
-use Rattle.tds_play.specs.Pipe.{Begun, Pipe, AreSame, traffic, IsFaithful, IsOpen}
+use Rattle.tds_play.specs.Failures.{HasNoFailure}
+use Rattle.tds_play.specs.Pipe.{Begun, Pipe, AreSame, since, traffic, IsFaithful, IsOpen}
 use Rattle.tds_play.specs.declared.link.Link.{Link}
 use Rattle.tds_play.specs.Seats.{Seated}
 
@@ -35,6 +36,15 @@ pub record OpensTies {E S : Type 0} (number : ℕ) (link : Link E S) (before aft
   pub tied : IsTied link (after number)
   pub others : AreSame before after number
   pub begun : still ≡ told
+
+-- Since a carrier was told of an event nothing was asked of it.
+abbrev pub IsJustTold : List Begun → (ℕ → Option Pipe) → Type 0
+IsJustTold told pipes = (n : ℕ) → since told n ≡ pipes n
+
+-- An event comes to the connection of this number, of which nothing was asked since, and where no call ever failed.
+pub record IsUnasked (told : List Begun) (pipes : ℕ → Option Pipe) (number : ℕ) : Type 0 where
+  pub since_then : since told number ≡ pipes number
+  pub unfailed : HasNoFailure (pipes number)
 
 -- The bytes that a connection counts as underway one way.
 abbrev pub counted : {E S : Type 0} → Link E S → Direction → ℕ

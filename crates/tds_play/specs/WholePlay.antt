@@ -9,13 +9,15 @@ use Rattle.tds_world.specs.declared.event.Setup.{Setup}
 use Rattle.tds_world.specs.declared.report.EventReport.{EventReport}
 use Rattle.tds_world.specs.declared.report.Report.{Report}
 use Rattle.tds_world.specs.Bounds.{IsEvent, IsSetup}
+use Rattle.tds_world.specs.Caller.{cancels}
 use Rattle.tds_world.specs.Connection.{Connection, is_cut}
 use Rattle.tds_world.specs.Entries.{up_bytes, down_bytes}
 use Rattle.tds_world.specs.Events.{world_after}
 use Rattle.tds_world.specs.Losses.{marked, world_with}
 use Rattle.tds_world.specs.Observed.{bytes_of, observed}
 use Rattle.tds_world.specs.WithLosses.{IsReportWith, MarksNothing}
-use Rattle.tds_world.specs.World.{World, new_world, numbered}
+use Rattle.tds_world.specs.rest.Rest.{AreAll, BringsToRest, stopping}
+use Rattle.tds_world.specs.World.{Here, World, by_number, new_world, numbered}
 use Rattle.tds_world.specs.Lane.{come_bytes}
 use Rattle.tds_play.specs.Pipe.{Pipe, traffic}
 
@@ -71,3 +73,10 @@ pub record IsReportOfPlay (setup : Setup) (answers : Answers) (events : List Eve
   pub carried : CarriesBytesOf (world_with setup answers (marked events report.events) new_world) pipes
   pub cuts : CutsThoseOf (world_with setup answers (marked events report.events) new_world) pipes
   pub plain : MarksNothing report → IsWholePlayOf setup answers events report
+
+-- Each connection of a world that isn't cut comes to rest by a cancel and what is underway then, wherever it stands.
+abbrev pub CanAllStop : Setup → Answers → World → Type 0
+CanAllStop setup answers w =
+    (n : ℕ) (c : Connection) (up down : ℕ)
+    → by_number w n ≡ Here n c → AreAll answers (cancels c) up down
+    → BringsToRest setup answers w n c (stopping c.standing n up down)

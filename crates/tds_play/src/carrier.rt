@@ -1,7 +1,7 @@
 //! What carries the bytes of each connection.
 ghost use Rattle.std.specs.Prelude.{[], ◌∷◌, ◌≡◌, ◌≢◌, ◌++◌, ◌≤◌, ◌<◌, ◌+◌, ℕ, List, length, drop, take, Option, Some, Err, IfOk, OnOk};
 ghost use Rattle.tds_packet.specs.declared.kind.Direction.{Direction};
-ghost use Rattle.tds_play.specs.Pipe.{Begun, Pipe, Changes, new_pipe, sent_on, carried_on, stuck_on, cut_pipe, traffic, IsOpen, IsUncut};
+ghost use Rattle.tds_play.specs.Pipe.{Begun, Pipe, Changes, new_pipe, sent_on, carried_on, stuck_on, cut_pipe, since, traffic, IsOpen, IsUncut, MayCarry, MaySend};
 ghost use Rattle.tds_play.specs.declared.carrier.CarrierError.TheVariants.{Lost, Memory};
 
 use std::alloc::AllocError;
@@ -17,7 +17,10 @@ pub enum CarrierError {
 }
 
 /// Carries the bytes of connections, each of which has a number, in both directions. It is told of
-/// each event before the calls that the event makes.
+/// each event before the calls that the event makes. What these require is what a carrier may rely
+/// on: an event opens a connection before all else, carries before it sends, and sends once; behind a
+/// call that failed nothing is asked of its connection but to send the answer to what had come, and
+/// to be cut.
 pub trait Carrier {
     /// What each connection was handed, what came of it, and what failed.
     ghost pipes: { Self → ℕ → Option Pipe };
@@ -34,6 +37,7 @@ pub trait Carrier {
 
     /// Opens this connection.
     fn open(&mut self, conn: u32) -> Result<(), CarrierError>
+        requires first { since (began self.old) conn ≡ pipes self.old conn }
         ensures ok { OnOk result
             (Changes (pipes self.old) (pipes self.new) conn (Some (new_pipe 0))) }
         ensures lost { result ≡ Err Lost
@@ -44,6 +48,7 @@ pub trait Carrier {
     fn send(&mut self, conn: u32, direction: Direction, bytes: &[u8]) -> Result<(), CarrierError>
         requires some { 0 < length bytes.now }
         requires there { IsOpen (pipes self.old conn) }
+        requires once { MaySend (since (began self.old) conn) (pipes self.old conn) }
         ensures ok { OnOk result (Changes (pipes self.old) (pipes self.new) conn
             (sent_on (pipes self.old conn) direction bytes.now 0)) }
         ensures lost { result ≡ Err Lost → Changes (pipes self.old) (pipes self.new) conn
@@ -61,6 +66,7 @@ pub trait Carrier {
     ) -> Result<usize, CarrierError>
         requires some { 0 < most }
         requires there { IsOpen (pipes self.old conn) }
+        requires early { MayCarry (since (began self.old) conn) (pipes self.old conn) }
         requires underway { length (traffic (pipes self.old conn) direction).came + most
             ≤ length (traffic (pipes self.old conn) direction).handed }
         ensures least { IfOk result (λ n. 0 < n) }

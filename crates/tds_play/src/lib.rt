@@ -19,7 +19,7 @@ mod worlds;
 pub use carrier::{Carrier, CarrierError};
 pub use memory::MemoryCarrier;
 pub use playing::{PlayRefusal, play, play_with};
-pub use run::run_play;
+pub use run::{play_text, run_play};
 
 /// The texts of a play.
 pub use tds_text::{

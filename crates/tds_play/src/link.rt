@@ -1,5 +1,5 @@
 //! One connection: both its ends, what is underway between them, and the requests asked on it.
-ghost use Rattle.std.specs.Prelude.{[], ◌∷◌, ◌≡◌, ℕ, reverse, false, Some, IfOk, OnOk, None};
+ghost use Rattle.std.specs.Prelude.{[], ◌∷◌, ◌≡◌, ℕ, reverse, false, Some, IfOk, None};
 ghost use Rattle.tds_client.specs.Session.{new_session};
 ghost use Rattle.tds_ends.specs.AllBytes.{new_reader};
 ghost use Rattle.tds_play.specs.Failures.{Fails, Open};
@@ -9,7 +9,7 @@ ghost use Rattle.tds_play.specs.Seen.{seen_in};
 ghost use Rattle.tds_play.specs.Plays.{RepresentsConnection, cut_where};
 ghost use Rattle.tds_packet.specs.declared.kind.Direction.{Direction};
 ghost use Rattle.tds_packet.specs.declared.kind.Direction.TheVariants.{ToClient, ToServer};
-ghost use Rattle.tds_play.specs.Pipe.{new_pipe, traffic};
+ghost use Rattle.tds_play.specs.Pipe.{new_pipe, since, traffic};
 ghost use Rattle.tds_play.specs.Reads.{IsReading};
 ghost use Rattle.tds_play.specs.Ties.{IsTied, OpensTies};
 ghost use Rattle.tds_world.specs.Connection.{new_connection};
@@ -106,6 +106,7 @@ impl<E: Engine + Drop> Link<E> {
         size: PacketSize,
         on_attention: OnAttention,
     ) -> Result<(Link<E>, bool), NoMemory>
+        requires first { since (C.began carrier.old) number ≡ C.pipes carrier.old number }
         ensures number { IfOk result (λ opened. opened.0.number ≡ number) }
         ensures ties { IfOk result (λ opened. OpensTies number opened.0 (C.pipes carrier.old)
             (C.pipes carrier.new) (C.began carrier.old) (C.began carrier.new)) }

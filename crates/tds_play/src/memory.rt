@@ -1,9 +1,8 @@
 //! A carrier in memory.
-ghost use Rattle.std.specs.Prelude.{[], ◌≡◌, ◌≤◌, ◌<◌, ◌+◌, ◌++◌, ◌≢◌, ℕ, List, length, take, drop, None, Some, Ok, Err, IfOk, OnOk, OnErr};
+ghost use Rattle.std.specs.Prelude.{[], ◌≡◌, ◌≤◌, ◌<◌, ◌+◌, ℕ, length, take, drop, None, Some, Ok, Err, OnOk};
 ghost use Rattle.tds_play.specs.Kept.{kept_after, kept_with, nothing_kept};
 ghost use Rattle.tds_play.specs.Memory.{begun_in, kept_in, pipe_at};
-ghost use Rattle.tds_play.specs.Pipe.{Pipe, Changes, new_pipe, sent_on, carried_on, stuck_on, cut_pipe, traffic, IsOpen, IsUncut};
-ghost use Rattle.tds_play.specs.declared.carrier.CarrierError.TheVariants.{Lost, Memory};
+ghost use Rattle.tds_play.specs.declared.carrier.CarrierError.TheVariants.{Memory};
 
 mod queue;
 

@@ -1,5 +1,6 @@
 //! All connections of a play, and what each event does to them.
 ghost use Rattle.std.specs.Prelude.{◌≡◌, ◌≢◌, ◌≤◌, ◌<◌, [], length, map, false, Option, Some, IfOk};
+ghost use Rattle.tds_play.specs.Failures.{LiveAreSound};
 ghost use Rattle.tds_play.specs.Happening.{HappensAs};
 ghost use Rattle.tds_play.specs.Holdings.{conn_of};
 ghost use Rattle.tds_play.specs.Lending.{standing_of, found_by};
@@ -7,7 +8,7 @@ ghost use Rattle.tds_play.specs.Noted.{about_of, held_of};
 ghost use Rattle.tds_play.specs.Player.{AreHeld, all_of};
 ghost use Rattle.tds_play.specs.Pooled.{numbers_kept, numbers_leased};
 ghost use Rattle.tds_play.specs.Steps.{AreFew};
-ghost use Rattle.tds_play.specs.Ties.{AreTied};
+ghost use Rattle.tds_play.specs.Ties.{AreTied, IsJustTold};
 ghost use Rattle.tds_session.specs.Answer.{answer_of};
 ghost use Rattle.tds_world.specs.declared.event.Event.TheVariants as events;
 ghost use Rattle.tds_world.specs.declared.outcome.Outcome.TheVariants as outcome;
@@ -90,6 +91,8 @@ impl<E: Engine + Copy> Player<E> {
         event: &Event,
     ) -> Result<EventDone, NoMemory>
         requires tied { AreTied (all_of self.old) (C.pipes carrier.old) }
+        requires told { IsJustTold (C.began carrier.old) (C.pipes carrier.old) }
+        requires sound { LiveAreSound (all_of self.old) (C.pipes carrier.old) }
         requires held { AreHeld self.old }
         requires few { AreFew 9999 self.old }
         ensures { IfOk result (λ done. HappensAs

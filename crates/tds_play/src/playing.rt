@@ -1,7 +1,8 @@
 //! A whole play.
+ghost use Rattle.std.specs.List.{AllByRecursion};
 ghost use Rattle.std.specs.Prelude.{ℕ, ◌≡◌, ◌≢◌, ◌≤◌, List, [], ◌++◌, length, None, Some, Err, IfErr, IfOk, OnOk};
 ghost use Rattle.tds_play.specs.AnyBytes.{ReadsBytes};
-ghost use Rattle.tds_play.specs.Calls.{MakesCalls};
+ghost use Rattle.tds_play.specs.Calls.{MakesCalls, MarksFailures};
 ghost use Rattle.tds_play.specs.Failures.{FailNowhere, TellFailures};
 ghost use Rattle.tds_play.specs.Player.{AreHeld, RepresentsWorld, all_of};
 ghost use Rattle.tds_play.specs.Pipe.{AreFaithful};
@@ -9,6 +10,7 @@ ghost use Rattle.tds_play.specs.Reads.{TellsGiven};
 ghost use Rattle.tds_play.specs.Refused.{first_refusal, play_refusal_number};
 ghost use Rattle.tds_play.specs.WholePlay.{CarriesBytesOf, CutsThoseOf, HandsBytesOf, IsReportOfPlay, IsWholePlayOf, world_of};
 ghost use Rattle.tds_play.specs.Steps.{AreFew, StandsThen};
+ghost use Rattle.tds_play.specs.Stopping.{AllStop};
 ghost use Rattle.tds_play.specs.declared.playing.PlayRefusal.TheVariants.{Memory};
 ghost use Rattle.tds_play.specs.declared.playing.PlayRefusal.{PlayRefusal};
 ghost use Rattle.tds_session.specs.Answer.{answer_of, script_answers};
@@ -19,7 +21,7 @@ ghost use Rattle.tds_world.specs.Losses.{marked, world_with};
 ghost use Rattle.tds_world.specs.alone.Alone.{AsIfAlone, BlindToNumbers};
 ghost use Rattle.tds_world.specs.alone.AloneShown.{ShowsAsIfAlone, far_in};
 ghost use Rattle.tds_world.specs.Bounds.{BeginsOnce, IsEvent, IsSetup, OneAttention};
-ghost use Rattle.tds_world.specs.rest.Rest.{NeverStuck};
+ghost use Rattle.tds_world.specs.rest.Rest.{IsNoCleaning, NeverStuck};
 ghost use Rattle.tds_world.specs.rest.RestShown.{ShowsNeverStuckWith};
 ghost use Rattle.tds_world.specs.Reports.{ShowsFewUnderway, ShowsFreshStart, ShowsIdleQuiet, ShowsKeptTransaction, ShowsLendsIdle, ShowsOwnAnswers, ShowsOwnTransaction};
 ghost use Rattle.tds_world.specs.WithLosses.{GivesNoMoreWith, IsReportWith, MarksNothing, ShowsNoEndFaults};
@@ -41,7 +43,9 @@ use tds_world::laws::{
     engine_is_lawful, script_answers_clean, script_hands_out_next, script_is_blind,
     script_is_lawful, script_uses_few,
 };
-use tds_world::losses::{as_if_alone, begins_once, marks_of_a_report, never_stuck, one_attention};
+use tds_world::losses::{
+    all_can_cancel, as_if_alone, begins_once, marks_of_a_report, never_stuck, one_attention,
+};
 use tds_world::report::losses::of_marked_report;
 use tds_world::{Event, EventReport, Report, Sequence, Setup};
 
@@ -144,10 +148,12 @@ pub fn play<C: Carrier>(
     ensures calls { AreFaithful (C.pipes carrier.new) → IfOk result (λ report. MakesCalls setup.now
         script_answers (marked events.now report.events) (C.began carrier.old)
         (C.began carrier.new) (C.pipes carrier.new)) }
-    // So the calls that failed on a connection, over the whole run, are of the kinds that its one lost
-    // event makes. Where no call failed, none is marked.
-    ensures lost { AreFaithful (C.pipes carrier.new) → IfOk result (λ report. TellFailures setup.now
-        script_answers (marked events.now report.events) (C.pipes carrier.new)) }
+    // So exactly the events in which calls failed are marked lost, event by event; and the calls that
+    // failed on a connection, over the whole run, are of the kinds that its one lost event makes. Where
+    // no call failed, none is marked.
+    ensures lost { AreFaithful (C.pipes carrier.new) → IfOk result (λ report. MarksFailures setup.now
+        script_answers (marked events.now report.events) (C.began carrier.old)
+        (C.began carrier.new) (C.pipes carrier.new)) }
     ensures unfailing { AreFaithful (C.pipes carrier.new) → FailNowhere (C.pipes carrier.new)
         → IfOk result MarksNothing }
     // Each caller gets the answer to its own request, run in the transaction that it was in, and
@@ -188,6 +194,11 @@ pub fn play<C: Carrier>(
     ensures told_alone { AreFaithful (C.pipes carrier.new) → IfOk result (λ report.
         ShowsAsIfAlone setup.now.on_attention script_answers
         (far_in (world_of setup.now events.now report.events)) events.now report) }
+    // Where no event cleans, each connection that isn't cut comes to rest by a cancel too, and none
+    // that is shown is being cleaned.
+    ensures all_stop { AreFaithful (C.pipes carrier.new) → AllByRecursion IsNoCleaning events.now
+        → IfOk result (λ report. AllStop setup.now script_answers
+        (world_of setup.now events.now report.events) report) }
     // With the events behind it that bring a connection to rest, the report shows it at rest.
     ensures comes_to_rest { AreFaithful (C.pipes carrier.new)
         → IfOk result (ShowsNeverStuckWith setup.now script_answers events.now) }
@@ -235,11 +246,12 @@ pub fn play_with<E: Engine + Copy, C: Carrier>(
     ensures calls { AreFaithful (C.pipes carrier.new) → IfOk result (λ report. MakesCalls setup.now
         (answer_of (E.statements_of engine) (E.step_of engine)) (marked events.now report.events)
         (C.began carrier.old) (C.began carrier.new) (C.pipes carrier.new)) }
-    // So the calls that failed on a connection, over the whole run, are of the kinds that its one lost
-    // event makes. Where no call failed, none is marked.
-    ensures lost { AreFaithful (C.pipes carrier.new) → IfOk result (λ report. TellFailures setup.now
+    // So exactly the events in which calls failed are marked lost, event by event; and the calls that
+    // failed on a connection, over the whole run, are of the kinds that its one lost event makes. Where
+    // no call failed, none is marked.
+    ensures lost { AreFaithful (C.pipes carrier.new) → IfOk result (λ report. MarksFailures setup.now
         (answer_of (E.statements_of engine) (E.step_of engine)) (marked events.now report.events)
-        (C.pipes carrier.new)) }
+        (C.began carrier.old) (C.began carrier.new) (C.pipes carrier.new)) }
     ensures unfailing { AreFaithful (C.pipes carrier.new) → FailNowhere (C.pipes carrier.new)
         → IfOk result MarksNothing }
     // No lease can tell that it shares, where what the engine answers doesn't depend on the numbers
@@ -258,6 +270,13 @@ pub fn play_with<E: Engine + Copy, C: Carrier>(
         (answer_of (E.statements_of engine) (E.step_of engine))
         (far_in (world_with setup.now (answer_of (E.statements_of engine) (E.step_of engine))
         (marked events.now report.events) new_world)) events.now report) }
+    // Where no event cleans, each connection that isn't cut comes to rest by a cancel too, and none
+    // that is shown is being cleaned.
+    ensures all_stop { AreFaithful (C.pipes carrier.new) → AllByRecursion IsNoCleaning events.now
+        → IfOk result (λ report. AllStop setup.now
+        (answer_of (E.statements_of engine) (E.step_of engine))
+        (world_with setup.now (answer_of (E.statements_of engine) (E.step_of engine))
+        (marked events.now report.events) new_world) report) }
     // What is cleaned is lent fresh, where the engine's answer to a cleaning leaves a fresh session.
     ensures left_clean { AreFaithful (C.pipes carrier.new)
         → AnswersClean (answer_of (E.statements_of engine) (E.step_of engine))
@@ -267,6 +286,8 @@ pub fn play_with<E: Engine + Copy, C: Carrier>(
     of_marked_report();
     marks_of_a_report();
     as_if_alone();
+    never_stuck();
+    all_can_cancel();
     match packet_size(setup, events.len()) {
         Ok(size) => {
             let player = Player::new(alloc, engine, size, setup.max, setup.on_attention);

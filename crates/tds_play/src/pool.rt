@@ -1,5 +1,5 @@
 //! Leases and tickets by their numbers, and the connection that an event is about.
-ghost use Rattle.std.specs.Prelude.{◌≡◌, ◌<◌, ◌++◌, ◌∷◌, ℕ, suc, [], length, min, Option, None, Some, IfErr, IfOk, OnOk};
+ghost use Rattle.std.specs.Prelude.{◌≡◌, ◌<◌, ◌++◌, ◌∷◌, suc, [], length, min, Option, None, Some, IfErr, IfOk, OnOk};
 ghost use Rattle.std.specs.Option.{option_copied};
 ghost use Rattle.tds_play.specs.Lending.{found_by, numbered_of};
 ghost use Rattle.tds_play.specs.Holdings.{all_ended, conn_of, ended_of, put_in};

@@ -1,10 +1,10 @@
 //! A run from a schedule file to the printed report.
-ghost use Rattle.std.specs.Prelude.{◌≡◌, ◌++◌, ◌⊎◌, ℕ, List, OnOk, IfOk, IfErr, string_bytes};
-ghost use Rattle.std.specs.Io.KnownBytes.{Appends, Keeps};
+ghost use Rattle.std.specs.Prelude.{◌≡◌, ◌++◌, ◌⊎◌, OnOk, IfOk, IfErr, IfSome, None, string_bytes};
+ghost use Rattle.std.specs.Io.KnownBytes.{Appends};
 ghost use Rattle.tds_text.specs.Lines.{text_of};
 ghost use Rattle.tds_text.specs.Written.{WritesBeginning};
 ghost use Rattle.tds_play.specs.Pipe.{AreFaithful};
-ghost use Rattle.tds_play.specs.Runs.{AreLeft, IsReportOf, IsFaultOf, IsBeforeOutput, IsUnread, EndsBy, Reports, TellsFault, fault_line, FitsFile, of_schedule, of_refusal};
+ghost use Rattle.tds_play.specs.Runs.{AreLeft, IsReportOf, IsFaultOf, IsBeforeOutput, IsLineOf, IsShownBy, IsTextOf, IsUnread, EndsBy, Reports, TellsFault, fault_line, FitsFile, of_schedule, of_refusal};
 ghost use Rattle.tds_play.specs.declared.run.RunFault.{RunFault};
 ghost use Rattle.tds_play.specs.declared.run.RunFault.TheVariants.{Output, Memory};
 
@@ -168,10 +168,62 @@ fn read_file<R: Read>(alloc: Global, reader: &mut R) -> Result<Vec<u8>, RunFault
     }
 }
 
+/// Plays the schedule in these bytes, and answers the text of its report; or else the whole line of
+/// the fault that they show, or `None` where memory was refused.
+pub fn play_text<C: Carrier>(
+    alloc: Global,
+    bytes: &[u8],
+    carrier: &mut C,
+) -> Result<Vec<u8>, Option<String>>
+    ensures report { AreFaithful (C.pipes carrier.new)
+        → IfOk result (λ text. IsTextOf (C.pipes carrier.new) bytes.now text.items) }
+    ensures line { IfErr result (λ line. IfSome line (λ l. IsLineOf bytes.now (string_bytes l))) }
+{
+    match text_of_play(alloc, bytes, carrier) {
+        Ok(text) => Ok(text),
+        Err(fault) => Err(line_of(alloc, &fault)),
+    }
+}
+
+/// The text of the report of these bytes.
+fn text_of_play<C: Carrier>(
+    alloc: Global,
+    bytes: &[u8],
+    carrier: &mut C,
+) -> Result<Vec<u8>, RunFault>
+    ensures report { AreFaithful (C.pipes carrier.new)
+        → IfOk result (λ text. IsTextOf (C.pipes carrier.new) bytes.now text.items) }
+    ensures fault { IfErr result (λ fault. (fault ≡ Memory) ⊎ IsShownBy fault bytes.now) }
+{
+    let report = play_file(alloc, bytes, carrier)?;
+    let mut text = Vec::new(alloc);
+    match print_report(alloc, &report, &mut text) {
+        Ok(()) => Ok(text),
+        // What is written to a vector fails where memory was refused.
+        Err(_) => Err(RunFault::Memory),
+    }
+}
+
+/// The line of a fault. There is none of memory, nor where memory is refused to make it.
+fn line_of(alloc: Global, fault: &RunFault) -> Option<String>
+    ensures line { IfSome result (λ line. string_bytes line ≡ fault_line fault.now) }
+    ensures memory { fault.now ≡ Memory → result ≡ None }
+{
+    if let RunFault::Memory = fault {
+        return None;
+    }
+    let mut line = String::new(alloc);
+    match fault.put(&mut line) {
+        Ok(()) => Some(line),
+        Err(_) => None,
+    }
+}
+
 fn play_file<C: Carrier>(alloc: Global, bytes: &[u8], carrier: &mut C) -> Result<Report, RunFault>
     ensures played { AreFaithful (C.pipes carrier.new)
         → IfOk result (λ report. IsReportOf (C.pipes carrier.new) bytes.now report) }
     ensures fault { IfErr result (λ fault. IsFaultOf fault bytes.now × IsBeforeOutput fault) }
+    ensures shown { IfErr result (λ fault. (fault ≡ Memory) ⊎ IsShownBy fault bytes.now) }
 {
     let (setup, events) = read_schedule(alloc, bytes)?;
     Ok(play(alloc, &setup, events.as_slice(), carrier)?)

@@ -8,7 +8,7 @@ ghost use Rattle.tds_play.specs.Pooled.{ChangesOne, IsThere, place_by, seat_in};
 ghost use Rattle.tds_play.specs.Reads.{IsReading, ReadsNoMore, ReadsOn};
 ghost use Rattle.tds_play.specs.Seats.{IsOfEnds, behind_event, drained, is_of_caller};
 ghost use Rattle.tds_play.specs.Seen.{seen_in};
-ghost use Rattle.tds_play.specs.Ties.{IsTied, KeepsTies};
+ghost use Rattle.tds_play.specs.Ties.{IsTied, IsUnasked, KeepsTies};
 ghost use Rattle.tds_pool.specs.Calls.{is_broken};
 ghost use Rattle.tds_pool.specs.Cleaning.{carried, is_cleaned};
 ghost use Rattle.tds_pool.specs.Connections.{connections, numbered};
@@ -63,6 +63,8 @@ impl<E: Engine + Drop> Held<E> {
     ) -> Result<EventDone, NoMemory>
         requires ends { IsOfEnds event.now }
         requires tied { IsTied self.old.link (C.pipes carrier.old self.old.link.number) }
+        requires unasked { self.old.link.is_cut ≡ false → IsUnasked (C.began carrier.old)
+            (C.pipes carrier.old) self.old.link.number }
         requires there { IsThere self.old pool.old }
         requires lent { is_of_caller event.now ≡ true → self.old.link.is_cut ≡ false
             → IsSome (carried self.old.link.number (connections pool.old)) }

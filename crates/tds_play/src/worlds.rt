@@ -1,5 +1,5 @@
 //! What holds in every world of the model, with an engine's answers.
-ghost use Rattle.std.specs.Prelude.{◌≡◌, ◌≤◌, ◌<◌, List, length};
+ghost use Rattle.std.specs.Prelude.{◌≤◌, ◌<◌, List, length};
 ghost use Rattle.std.specs.List.{AllByRecursion};
 ghost use Rattle.tds_play.specs.Player.{ModelGivesEach};
 ghost use Rattle.tds_ends.specs.ModelGives.{ModelGives};

@@ -3,14 +3,15 @@
 
 mod version;
 
-ghost use Rattle.std.specs.Prelude.{◌≡◌, ◌<◌, ◌≤◌, ◌⊎◌, length, IfOk, IfErr};
-ghost use Rattle.tds_play_c.specs.Plays.{IsReportText, IsFaultText, WritesReport, WritesFault};
+ghost use Rattle.std.specs.Prelude.{◌≡◌, ◌<◌, ◌≤◌, ◌⊎◌, length, string_bytes, IfOk, IfErr, IfSome};
+ghost use Rattle.tds_play.specs.Runs.{IsLineOf};
+ghost use Rattle.tds_play_c.specs.Plays.{IsReportText, Writes, WritesReport, WritesFault};
 
 use std::alloc::Global;
-use tds_play::{MemoryCarrier, laws, run_play};
+use tds_play::{MemoryCarrier, laws, play_text};
 
 /// Plays a schedule over links in memory that never fail, and writes its report's text to `out`.
-/// 0 where it was played. 1 where not: the line that says why is in `out`. 2 where `out` has no
+/// 0 where it was played. 1 where not: the whole line that says why is in `out`. 2 where `out` has no
 /// room: `count` says how much is wanted.
 #[unsafe(no_mangle)]
 pub extern "C" fn tds_play(alloc: Global, schedule: &[u8], out: &mut [u8], count: &mut usize) -> u8
@@ -20,29 +21,37 @@ pub extern "C" fn tds_play(alloc: Global, schedule: &[u8], out: &mut [u8], count
     ensures room { result ≡ 2 → (out.new ≡ out.old) × (length out.old < count.new) }
     ensures within { (result ≡ 2 → ⊥) → count.new ≤ length out.old }
 {
-    let (status, text) = match report_or_line(alloc, schedule) {
-        Ok(report) => (0, report),
-        Err(line) => (1, line),
-    };
+    match report_or_line(alloc, schedule) {
+        Ok(report) => put(report.as_slice(), 0, out, count),
+        Err(Some(line)) => put(line.as_bytes(), 1, out, count),
+        Err(None) => put(b"error: memory\n", 1, out, count),
+    }
+}
+
+/// Writes a text, and answers this status; or 2 where there is no room for it.
+fn put(text: &[u8], status: u8, out: &mut [u8], count: &mut usize) -> u8
+    ensures room { length out.old < length text.now
+        → (result ≡ 2) × (out.new ≡ out.old) × (count.new ≡ length text.now) }
+    ensures there { length text.now ≤ length out.old
+        → (result ≡ status) × Writes text.now out.old out.new count.new }
+{
     *count = text.len();
     if text.len() > out.len() {
         return 2;
     }
-    out[..text.len()].copy_from_slice(text.as_slice());
+    out[..text.len()].copy_from_slice(text);
     status
 }
 
-/// The text of the report, or else the line that says why the schedule isn't played.
-fn report_or_line(alloc: Global, schedule: &[u8]) -> Result<Vec<u8>, Vec<u8>>
+/// The text of the report, or else the line that says why the schedule isn't played; `None` where
+/// memory was refused.
+fn report_or_line(alloc: Global, schedule: &[u8]) -> Result<Vec<u8>, Option<String>>
     ensures report { IfOk result (λ text. IsReportText schedule.now text.items) }
-    ensures line { IfErr result (λ text. IsFaultText schedule.now text.items) }
+    ensures line { IfErr result (λ line. IfSome line (λ l. IsLineOf schedule.now (string_bytes l))) }
 {
-    let mut reader = schedule;
     let mut carrier = MemoryCarrier::new(alloc);
-    let mut report = Vec::new(alloc);
-    let mut line = Vec::new(alloc);
-    let status = run_play(alloc, &mut reader, &mut carrier, &mut report, &mut line);
+    let text = play_text(alloc, schedule, &mut carrier);
     laws::memory_never_fails();
     laws::memory_is_faithful();
-    if status == 0 { Ok(report) } else { Err(line) }
+    text
 }

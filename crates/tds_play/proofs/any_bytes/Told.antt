@@ -7,7 +7,7 @@ use Rattle.tds_world.specs.declared.event.Event.{Event}
 use Rattle.tds_world.specs.declared.event.Setup.{Setup}
 use Rattle.tds_world.specs.declared.report.EventReport.{EventReport}
 use Rattle.tds_world.specs.declared.report.Snapshot.{Snapshot}
-use Rattle.tds_world.specs.Losses.{Played, is_lost, link_of, marked, world_then, world_with}
+use Rattle.tds_world.specs.Losses.{Played, link_of, marked, world_then, world_with}
 use Rattle.tds_world.specs.World.{World, new_world}
 use Rattle.tds_play.specs.Calls.{Does, DoInTurn, MakesCalls, StandsAs, next_there}
 use Rattle.tds_play.specs.declared.link.EventDone.{EventDone}

@@ -1,5 +1,5 @@
 -- An event of a play: what it made of the player and what it came to in the model, by what it did.
-use Rattle.std.proofs.Common.{◌≡◌, ◌≢◌, ◌<◌, ◌∙◌, ℕ, suc, min, List, [], ◌∷◌, ◌++◌, length, length-append, map, Option, Some, Bool, refl, sym, ap, subst, arith}
+use Rattle.std.proofs.Common.{◌≡◌, ◌≢◌, ◌∙◌, ℕ, suc, min, List, [], ◌∷◌, ◌++◌, length, length-append, map, Option, Some, Bool, refl, sym, ap, subst, arith}
 use Rattle.std.specs.Prelude.{Err, IfOk, Ok, Result}
 use Rattle.tds_packet.specs.declared.kind.Direction.{Direction}
 use Rattle.tds_pool.specs.Connections.{PoolState}

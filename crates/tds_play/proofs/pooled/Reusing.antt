@@ -23,7 +23,7 @@ use Rattle.tds_world.specs.World.{World, next_number}
 use Rattle.tds_play.specs.declared.link.EventDone.{EventDone}
 use Rattle.tds_play.specs.declared.player.Player.{Player}
 use Rattle.tds_play.specs.declared.seat.Held.{Held}
-use Rattle.tds_play.specs.Pipe.{Begun, Pipe}
+use Rattle.tds_play.specs.Pipe.{Pipe}
 use Rattle.tds_play.specs.Player.{AreHeld, ModelGivesEach, RepresentsWorld, all_of}
 use Rattle.tds_play.specs.Plays.{IsReady, RepresentsConnection, acts_on}
 use Rattle.tds_play.specs.Pooled.{AreKnown, lease_stamp, numbers_kept, numbers_leased, seat_by, seat_in, stamp_of}

@@ -28,7 +28,7 @@ ghost use Rattle.tds_pool.specs.Connections.{connections, numbered};
 ghost use Rattle.tds_session.specs.Answer.{answer_of};
 ghost use Rattle.tds_play.specs.Pipe.{IsFaithful, Pipe};
 ghost use Rattle.tds_play.specs.Reads.{IsReading, ReadsNoMore, ReadsOn};
-ghost use Rattle.tds_play.specs.Ties.{IsTied, KeepsTies};
+ghost use Rattle.tds_play.specs.Ties.{IsTied, IsUnasked, KeepsTies};
 
 use super::{EventDone, Link};
 use crate::NoMemory;
@@ -117,6 +117,7 @@ impl<E: Engine + Drop> Link<E> {
         requires ends { IsOfEnds event.now }
         requires live { self.old.is_cut ≡ false }
         requires tied { IsTied self.old (C.pipes carrier.old self.old.number) }
+        requires unasked { IsUnasked (C.began carrier.old) (C.pipes carrier.old) self.old.number }
         requires there { IsSome (numbered self.old.number (connections pool.old)) }
         requires lent { is_of_caller event.now ≡ true
             → IsSome (carried self.old.number (connections pool.old)) }
@@ -179,6 +180,7 @@ impl<E: Engine + Drop> Link<E> {
         requires by { is_of_caller event.now ≡ true }
         requires live { self.old.is_cut ≡ false }
         requires tied { IsTied self.old (C.pipes carrier.old self.old.number) }
+        requires unasked { IsUnasked (C.began carrier.old) (C.pipes carrier.old) self.old.number }
         ensures number { self.new.number ≡ self.old.number }
         ensures ties { OnOk result (KeepsTies self.old.number self.new (C.pipes carrier.old)
             (C.pipes carrier.new) (C.began carrier.old) (C.began carrier.new)) }
@@ -241,6 +243,7 @@ impl<E: Engine + Drop> Link<E> {
         requires alone { is_of_caller event.now ≡ false }
         requires live { self.old.is_cut ≡ false }
         requires tied { IsTied self.old (C.pipes carrier.old self.old.number) }
+        requires unasked { IsUnasked (C.began carrier.old) (C.pipes carrier.old) self.old.number }
         requires there { IsSome (numbered self.old.number (connections pool.old)) }
         ensures number { self.new.number ≡ self.old.number }
         ensures client { OnOk result (ChangesClient self.old.number pool.old pool.new) }
@@ -335,6 +338,7 @@ impl<E: Engine + Drop> Link<E> {
     fn work<C: Carrier>(&mut self, alloc: Global, carrier: &mut C) -> Result<EventDone, NoMemory>
         requires live { self.old.is_cut ≡ false }
         requires tied { IsTied self.old (C.pipes carrier.old self.old.number) }
+        requires unasked { IsUnasked (C.began carrier.old) (C.pipes carrier.old) self.old.number }
         ensures number { self.new.number ≡ self.old.number }
         ensures ties { OnOk result (KeepsTies self.old.number self.new (C.pipes carrier.old)
             (C.pipes carrier.new) (C.began carrier.old) (C.began carrier.new)) }

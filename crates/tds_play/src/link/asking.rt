@@ -22,7 +22,7 @@ ghost use Rattle.tds_world.specs.declared.outcome.Outcome.TheVariants as outcome
 ghost use Rattle.tds_world.specs.declared.outcome.Refusal.TheVariants.{NotIdle, NotSending};
 ghost use Rattle.tds_play.specs.Pipe.{Pipe};
 ghost use Rattle.tds_play.specs.Reads.{ReadsNoMore};
-ghost use Rattle.tds_play.specs.Ties.{IsTied, KeepsTies};
+ghost use Rattle.tds_play.specs.Ties.{IsTied, IsUnasked, KeepsTies};
 
 use super::acts::{done, refused};
 use super::{EventDone, Link};
@@ -142,6 +142,7 @@ impl<E: Engine + Drop> Link<E> {
     ) -> Result<EventDone, NoMemory>
         requires live { self.old.is_cut ≡ false }
         requires tied { IsTied self.old (C.pipes carrier.old self.old.number) }
+        requires unasked { IsUnasked (C.began carrier.old) (C.pipes carrier.old) self.old.number }
         ensures number { self.new.number ≡ self.old.number }
         ensures ties { OnOk result (KeepsTies self.old.number self.new (C.pipes carrier.old)
             (C.pipes carrier.new) (C.began carrier.old) (C.began carrier.new)) }
@@ -225,6 +226,7 @@ impl<E: Engine + Drop> Link<E> {
     ) -> Result<EventDone, NoMemory>
         requires live { self.old.is_cut ≡ false }
         requires tied { IsTied self.old (C.pipes carrier.old self.old.number) }
+        requires unasked { IsUnasked (C.began carrier.old) (C.pipes carrier.old) self.old.number }
         ensures number { self.new.number ≡ self.old.number }
         ensures ties { OnOk result (KeepsTies self.old.number self.new (C.pipes carrier.old)
             (C.pipes carrier.new) (C.began carrier.old) (C.began carrier.new)) }

@@ -3,7 +3,7 @@ ghost use Rattle.std.specs.Prelude.{◌≡◌, ◌≢◌, ◌<◌, ◌≤◌, �
 ghost use Rattle.tds_packet.specs.declared.kind.Direction.TheVariants.{ToServer, ToClient};
 ghost use Rattle.tds_play.specs.Failures.{Call, Carry, Fails, FailsAs, FailsNoMore, HasNoFailure, Send};
 ghost use Rattle.tds_play.specs.Links.{cut_of, recounted};
-ghost use Rattle.tds_play.specs.Pipe.{Brings, Changes, IsFaithful, IsOpen, IsUncut, cut_pipe, sent_on};
+ghost use Rattle.tds_play.specs.Pipe.{Brings, Changes, IsFaithful, IsOpen, IsUncut, MayCarry, MaySend, cut_pipe, sent_on, since};
 ghost use Rattle.tds_play.specs.Plays.{RepresentsConnection, cut_where};
 ghost use Rattle.tds_play.specs.Reads.{BringsAny, ReadsNoMore};
 ghost use Rattle.tds_play.specs.Seen.{outcome_of};
@@ -37,6 +37,7 @@ fn hand_bytes<C: Carrier>(
 ) -> Result<bool, NoMemory>
     requires some { 0 < length bytes.now }
     requires there { IsOpen (C.pipes carrier.old number) }
+    requires once { MaySend (since (C.began carrier.old) number) (C.pipes carrier.old number) }
     ensures handed { IfOk result (λ lost. Changes (C.pipes carrier.old) (C.pipes carrier.new) number
         (sent_on (C.pipes carrier.old number) direction bytes.now (if lost then 1 else 0))) }
     ensures begun { OnOk result (C.began carrier.new ≡ C.began carrier.old) }
@@ -59,6 +60,8 @@ impl<E: Engine + Drop> Link<E> {
     ) -> Result<bool, NoMemory>
         requires live { self.old.is_cut ≡ false }
         requires tied { IsTied self.old (C.pipes carrier.old self.old.number) }
+        requires once { MaySend (since (C.began carrier.old) self.old.number)
+            (C.pipes carrier.old self.old.number) }
         ensures number { self.new.number ≡ self.old.number }
         ensures live { self.new.is_cut ≡ false }
         ensures ties { OnOk result (KeepsTies self.old.number self.new (C.pipes carrier.old)
@@ -121,6 +124,8 @@ impl<E: Engine + Drop> Link<E> {
         requires live { self.old.is_cut ≡ false }
         requires tied { IsTied self.old (C.pipes carrier.old self.old.number) }
         requires underway { count ≤ counted self.old direction }
+        requires early { MayCarry (since (C.began carrier.old) self.old.number)
+            (C.pipes carrier.old self.old.number) }
         ensures number { self.new.number ≡ self.old.number }
         ensures live { self.new.is_cut ≡ false }
         ensures ties { OnOk result (KeepsTies self.old.number self.new (C.pipes carrier.old)
@@ -134,6 +139,9 @@ impl<E: Engine + Drop> Link<E> {
             out.new.items (C.pipes carrier.new self.old.number) carried.lost) }
         ensures any { IfOk result (λ carried. BringsAny direction carried.count out.old.items
             out.new.items (C.pipes carrier.old self.old.number)
+            (C.pipes carrier.new self.old.number)) }
+        // What it causes may go out.
+        ensures sends { OnOk result (MaySend (since (C.began carrier.new) self.old.number)
             (C.pipes carrier.new self.old.number)) }
         // Where nothing had failed, this call did exactly where that is answered.
         ensures failed { HasNoFailure (C.pipes carrier.old self.old.number)

@@ -11,7 +11,7 @@ ghost use Rattle.tds_play.specs.Plays.{RefinesAct, RepresentsConnection, after};
 ghost use Rattle.tds_play.specs.Pooled.{ChangesClient};
 ghost use Rattle.tds_play.specs.Reads.{ReadsNoMore};
 ghost use Rattle.tds_play.specs.Seats.{Seat, seated};
-ghost use Rattle.tds_play.specs.Ties.{IsTied, KeepsTies};
+ghost use Rattle.tds_play.specs.Ties.{IsTied, IsUnasked, KeepsTies};
 ghost use Rattle.tds_pool.specs.Calls.{asks_reset};
 ghost use Rattle.tds_pool.specs.Cleaning.{client_at};
 ghost use Rattle.tds_pool.specs.Connections.{connections};
@@ -73,6 +73,7 @@ impl<E: Engine + Drop> Link<E> {
     ) -> Result<EventDone, NoMemory>
         requires live { self.old.is_cut ≡ false }
         requires tied { IsTied self.old (C.pipes carrier.old self.old.number) }
+        requires unasked { IsUnasked (C.began carrier.old) (C.pipes carrier.old) self.old.number }
         ensures number { self.new.number ≡ self.old.number }
         ensures client { OnOk result (ChangesClient self.old.number pool.old pool.new) }
         ensures columns { OnOk result ((client_at self.old.number (connections pool.new)).columns

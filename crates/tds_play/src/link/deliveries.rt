@@ -2,8 +2,6 @@
 ghost use Rattle.std.specs.Prelude.{[], ◌∷◌, ◌≡◌, ◌≤◌, ◌||◌, ◌++◌, ℕ, List, false, min, None, Option, Some, IfOk, IsSome, OnOk};
 ghost use Rattle.tds_packet.specs.declared.kind.Direction.TheVariants.{ToClient, ToServer};
 ghost use Rattle.tds_play.specs.Failures.{Carry, FailsAs, HasNoFailure, Send};
-ghost use Rattle.tds_play.specs.Between.{RepresentsEnds};
-ghost use Rattle.tds_ends.specs.Deliveries.{AllArrive};
 ghost use Rattle.tds_ends.specs.Feeding.{Comes, Coming, Listened, listened};
 ghost use Rattle.tds_play.specs.Listening.{HasListened, told_in};
 ghost use Rattle.tds_play.specs.Pipe.{IsFaithful, Pipe};
@@ -14,14 +12,13 @@ ghost use Rattle.tds_world.specs.declared.report.Place.{Place};
 ghost use Rattle.tds_ends.specs.AllBytes.{ClientHasRead, new_reader};
 ghost use Rattle.tds_play.specs.Reads.{ClientIsFed, IsReading, ReadsOn, given_by};
 ghost use Rattle.tds_world.specs.declared.event.Event.TheVariants as event;
-ghost use Rattle.tds_play.specs.Ties.{IsTied, KeepsTies};
+ghost use Rattle.tds_play.specs.Ties.{IsTied, IsUnasked, KeepsTies};
 ghost use Rattle.tds_play.specs.Pooled.{ChangesClient};
 ghost use Rattle.tds_pool.specs.Cleaning.{client_at};
 ghost use Rattle.tds_pool.specs.Connections.{connections, numbered};
 ghost use Rattle.tds_session.specs.Answer.{Answers, answer_of};
 ghost use Rattle.tds_world.specs.Arrivals.{to_client, to_server};
-ghost use Rattle.tds_world.specs.Connection.{Connection, down_underway, up_underway};
-ghost use Rattle.tds_world.specs.Deliveries.{DeliversOn};
+ghost use Rattle.tds_world.specs.Connection.{Connection};
 ghost use Rattle.tds_world.specs.declared.outcome.Outcome.TheVariants as outcome;
 
 use super::{EventDone, Link};
@@ -64,6 +61,7 @@ impl<E: Engine + Drop> Link<E> {
     ) -> Result<EventDone, NoMemory>
         requires live { self.old.is_cut ≡ false }
         requires tied { IsTied self.old (C.pipes carrier.old self.old.number) }
+        requires unasked { IsUnasked (C.began carrier.old) (C.pipes carrier.old) self.old.number }
         ensures number { self.new.number ≡ self.old.number }
         ensures ties { OnOk result (KeepsTies self.old.number self.new (C.pipes carrier.old)
             (C.pipes carrier.new) (C.began carrier.old) (C.began carrier.new)) }
@@ -118,6 +116,7 @@ impl<E: Engine + Drop> Link<E> {
     ) -> Result<EventDone, NoMemory>
         requires live { self.old.is_cut ≡ false }
         requires tied { IsTied self.old (C.pipes carrier.old self.old.number) }
+        requires unasked { IsUnasked (C.began carrier.old) (C.pipes carrier.old) self.old.number }
         requires there { IsSome (numbered self.old.number (connections pool.old)) }
         ensures client { OnOk result (ChangesClient self.old.number pool.old pool.new) }
         ensures number { self.new.number ≡ self.old.number }

@@ -9,7 +9,7 @@ ghost use Rattle.tds_world.specs.Connection.{Connection, up_underway};
 ghost use Rattle.tds_world.specs.declared.report.Place.{Place};
 ghost use Rattle.tds_client.specs.Sending.{cancelled};
 ghost use Rattle.tds_play.specs.Reads.{ReadsNoMore};
-ghost use Rattle.tds_play.specs.Ties.{IsTied, KeepsTies};
+ghost use Rattle.tds_play.specs.Ties.{IsTied, IsUnasked, KeepsTies};
 
 use super::Link;
 use crate::NoMemory;
@@ -31,6 +31,7 @@ impl<E: Engine + Drop> Link<E> {
     ) -> Result<bool, NoMemory>
         requires live { self.old.is_cut ≡ false }
         requires tied { IsTied self.old (C.pipes carrier.old self.old.number) }
+        requires unasked { IsUnasked (C.began carrier.old) (C.pipes carrier.old) self.old.number }
         ensures number { self.new.number ≡ self.old.number }
         ensures live { self.new.is_cut ≡ false }
         ensures ties { OnOk result (KeepsTies self.old.number self.new (C.pipes carrier.old)

@@ -1,5 +1,6 @@
 //! What an event does on the connection that it is about, and to its lease or ticket.
 ghost use Rattle.std.specs.Prelude.{[], ◌≡◌, ◌<◌, ℕ, suc, length, map, Option, Some, IfOk, OnOk};
+ghost use Rattle.tds_play.specs.Failures.{LiveAreSound};
 ghost use Rattle.tds_play.specs.Holdings.{conn_of};
 ghost use Rattle.tds_play.specs.Lending.{standing_of, Here};
 ghost use Rattle.tds_play.specs.Noted.{about_of};
@@ -8,7 +9,7 @@ ghost use Rattle.tds_play.specs.Player.{AreHeld, all_of};
 ghost use Rattle.tds_play.specs.Pooled.{numbers_kept, numbers_leased};
 ghost use Rattle.tds_play.specs.Seats.{IsOfEnds};
 ghost use Rattle.tds_play.specs.Steps.{AreFew, IsNoted, IsOfOne, StepsAt};
-ghost use Rattle.tds_play.specs.Ties.{AreTied};
+ghost use Rattle.tds_play.specs.Ties.{AreTied, IsJustTold};
 ghost use Rattle.tds_session.specs.Answer.{answer_of};
 ghost use Rattle.tds_world.specs.declared.event.Event.TheVariants as events;
 ghost use Rattle.tds_world.specs.declared.outcome.Opened.TheVariants as opened;
@@ -34,6 +35,8 @@ impl<E: Engine + Copy> Player<E> {
         event: &Event,
     ) -> Result<EventDone, NoMemory>
         requires tied { AreTied (all_of self.old) (C.pipes carrier.old) }
+        requires told { IsJustTold (C.began carrier.old) (C.pipes carrier.old) }
+        requires sound { LiveAreSound (all_of self.old) (C.pipes carrier.old) }
         requires held { AreHeld self.old }
         requires few { AreFew 9999 self.old }
         requires there { place < length self.old.links.items }
@@ -63,6 +66,8 @@ impl<E: Engine + Copy> Player<E> {
         event: &Event,
     ) -> Result<EventDone, NoMemory>
         requires tied { AreTied (all_of self.old) (C.pipes carrier.old) }
+        requires told { IsJustTold (C.began carrier.old) (C.pipes carrier.old) }
+        requires sound { LiveAreSound (all_of self.old) (C.pipes carrier.old) }
         requires held { AreHeld self.old }
         requires few { AreFew 9999 self.old }
         requires there { place < length self.old.links.items }
@@ -109,6 +114,8 @@ impl<E: Engine + Copy> Player<E> {
         number: u32,
     ) -> Result<EventDone, NoMemory>
         requires tied { AreTied (all_of self.old) (C.pipes carrier.old) }
+        requires told { IsJustTold (C.began carrier.old) (C.pipes carrier.old) }
+        requires sound { LiveAreSound (all_of self.old) (C.pipes carrier.old) }
         requires held { AreHeld self.old }
         requires there { place < length self.old.links.items }
         requires lent { conn_of (numbers_leased self.old.leases) number ≡ Some (suc place) }

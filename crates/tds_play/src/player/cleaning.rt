@@ -1,8 +1,9 @@
 //! A connection that is cleaned.
 ghost use Rattle.std.specs.Prelude.{[], ◌∷◌, ◌++◌, ◌≡◌, ◌<◌, ◌⊎◌, length, suc, ℕ, None, IfOk, OnOk};
+ghost use Rattle.tds_play.specs.Failures.{LiveAreSound};
 ghost use Rattle.tds_play.specs.Player.{AreHeld, all_of};
 ghost use Rattle.tds_play.specs.Steps.{AreFew, IsNoted, StepsAt};
-ghost use Rattle.tds_play.specs.Ties.{AreTied};
+ghost use Rattle.tds_play.specs.Ties.{AreTied, IsJustTold};
 ghost use Rattle.tds_session.specs.Answer.{answer_of};
 ghost use Rattle.tds_world.specs.declared.event.Event.TheVariants as events;
 
@@ -23,6 +24,8 @@ impl<E: Engine + Copy> Player<E> {
         conn: u32,
     ) -> Result<EventDone, NoMemory>
         requires tied { AreTied (all_of self.old) (C.pipes carrier.old) }
+        requires told { IsJustTold (C.began carrier.old) (C.pipes carrier.old) }
+        requires sound { LiveAreSound (all_of self.old) (C.pipes carrier.old) }
         requires held { AreHeld self.old }
         requires few { AreFew 9999 self.old }
         requires there { place < length self.old.links.items }

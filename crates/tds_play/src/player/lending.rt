@@ -5,7 +5,7 @@ ghost use Rattle.tds_play.specs.Player.{AreHeld, all_of};
 ghost use Rattle.tds_play.specs.Pooled.{IsGone};
 ghost use Rattle.tds_play.specs.Seen.{done_as};
 ghost use Rattle.tds_play.specs.Steps.{AreFew, OpensAs, ReusesAs};
-ghost use Rattle.tds_play.specs.Ties.{AreTied};
+ghost use Rattle.tds_play.specs.Ties.{AreTied, IsJustTold};
 ghost use Rattle.tds_session.specs.Answer.{answer_of};
 ghost use Rattle.tds_world.specs.declared.event.Event.TheVariants as events;
 ghost use Rattle.tds_world.specs.declared.outcome.Opened.TheVariants as opened;
@@ -43,6 +43,7 @@ impl<E: Engine + Copy> Player<E> {
     /// The pool lends a connection: one that was lent before, or a new one, which is opened.
     pub(super) fn lease<C: Carrier>(&mut self, carrier: &mut C) -> Result<EventDone, NoMemory>
         requires tied { AreTied (all_of self.old) (C.pipes carrier.old) }
+        requires told { IsJustTold (C.began carrier.old) (C.pipes carrier.old) }
         requires held { AreHeld self.old }
         requires few { AreFew 9999 self.old }
         ensures { IfOk result (λ done. HappensAs
@@ -93,6 +94,7 @@ impl<E: Engine + Copy> Player<E> {
         conn: u32,
         lease: u32,
     ) -> Result<EventDone, NoMemory>
+        requires told { IsJustTold (C.began carrier.old) (C.pipes carrier.old) }
         ensures { IfOk result (λ done. OpensAs conn lease self.old self.new
             (C.pipes carrier.old) (C.pipes carrier.new)
             (C.began carrier.old) (C.began carrier.new) done) }

@@ -6,7 +6,7 @@ ghost use Rattle.tds_play.specs.Plays.{MayLose, RefinesAct, RepresentsConnection
 ghost use Rattle.tds_play.specs.Pooled.{ChangesOne, IsNotCleaned, IsThere, cleans_not, seat_in};
 ghost use Rattle.tds_play.specs.Reads.{IsReading, ReadsOn};
 ghost use Rattle.tds_play.specs.Seats.{drained};
-ghost use Rattle.tds_play.specs.Ties.{IsTied, KeepsTies};
+ghost use Rattle.tds_play.specs.Ties.{IsTied, IsUnasked, KeepsTies};
 ghost use Rattle.tds_pool.specs.Calls.{cleaning, free_one, refuses_clean};
 ghost use Rattle.tds_pool.specs.Cleaning.{is_cleaned};
 ghost use Rattle.tds_pool.specs.Connections.{SameRest, connections, numbered, taken_out};
@@ -83,6 +83,8 @@ impl<E: Engine + Drop> Held<E> {
         request: u32,
     ) -> Result<EventDone, NoMemory>
         requires tied { IsTied self.old.link (C.pipes carrier.old self.old.link.number) }
+        requires unasked { self.old.link.is_cut ≡ false → IsUnasked (C.began carrier.old)
+            (C.pipes carrier.old) self.old.link.number }
         requires there { IsThere self.old pool.old }
         ensures number { self.new.link.number ≡ self.old.link.number }
         ensures holder { self.new.holder ≡ self.old.holder }

@@ -8,7 +8,7 @@ ghost use Rattle.tds_play.specs.Plays.{MayLose, RefinesAct, RepresentsConnection
 ghost use Rattle.tds_play.specs.Pooled.{IsGone, IsThere, Spares, came_back, keeps_not, lease_stamp, rests_in, seat_in, ticket_stamp};
 ghost use Rattle.tds_play.specs.Reads.{IsReading, ReadsNoMore, ReadsOn};
 ghost use Rattle.tds_play.specs.Seats.{Seat};
-ghost use Rattle.tds_play.specs.Ties.{IsTied, KeepsTies};
+ghost use Rattle.tds_play.specs.Ties.{IsTied, IsUnasked, KeepsTies};
 ghost use Rattle.tds_pool.specs.Calls.{kept_for, lent_again, lent_to, refuses_keep, refuses_resume};
 ghost use Rattle.tds_pool.specs.Connections.{SameRest, at_place, connections};
 ghost use Rattle.tds_pool.specs.declared.answers.PoolRefusal.{PoolRefusal};
@@ -43,6 +43,8 @@ impl<E: Engine + Drop> Held<E> {
         lease: Lease,
     ) -> Result<EventDone, Lease>
         requires tied { IsTied self.old.link (C.pipes carrier.old self.old.link.number) }
+        requires unasked { self.old.link.is_cut ≡ false → IsUnasked (C.began carrier.old)
+            (C.pipes carrier.old) self.old.link.number }
         requires there { IsThere self.old pool.old }
         requires named { lease.number ≡ self.old.link.number }
         requires lent { self.old.link.is_cut ≡ false

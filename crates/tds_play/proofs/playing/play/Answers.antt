@@ -70,3 +70,6 @@ returns-clause-told_alone g c = λ faithful.
 pub returns-clause-left_clean : goal.returns-clause-left_clean
 returns-clause-left_clean g c = λ faithful.
     c.play_with.ensures.left_clean faithful c.script_answers_clean.ensures
+
+pub returns-clause-all_stop : goal.returns-clause-all_stop
+returns-clause-all_stop g c = λ faithful none. c.play_with.ensures.all_stop faithful none

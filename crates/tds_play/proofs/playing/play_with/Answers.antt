@@ -6,6 +6,7 @@ use Rattle.tds_play.specs.Failures.{TellFailures}
 use Rattle.tds_play.specs.Pipe.{Pipe}
 use Rattle.tds_play.specs.Player.{RepresentsWorld}
 use Rattle.tds_play.specs.Plays.{RepresentConnections}
+use Rattle.tds_play.specs.Stopping.{AllStop}
 use Rattle.tds_play.specs.WholePlay.{IsReportOfPlay}
 use Rattle.tds_play.specs.Pooled.{numbers_kept, numbers_leased, seated_from}
 use Rattle.tds_play.specs.declared.seat.Held.{Held}
@@ -21,8 +22,9 @@ use Rattle.tds_world.specs.Losses.{marked, world_with}
 use Rattle.tds_world.specs.World.{new_world}
 use Rattle.tds_world.specs.declared.event.Event.{Event}
 use Rattle.tds_world.specs.declared.event.Setup.{Setup}
-use Rattle.tds_play.specs.Calls.{MakesCalls}
+use Rattle.tds_play.specs.Calls.{MakesCalls, MarksFailures}
 use Rattle.tds_play.specs.AnyBytes.{ReadsBytes}
+use Rattle.tds_play.proofs.Resting.{all_stop, both_so, clean_nothing, marks_failures}
 use Rattle.tds_play.proofs.playing.play_with.Goals as goal
 
 -- A play's events leave descriptors.
@@ -65,14 +67,6 @@ returns-in-Ok-clause-refines g c = λ faithful.
     (c.play_events.ensures.refines c.args.setup.now c.in-Ok.ensures.setup faithful
     (begins c.args.setup.now c.new-player.result (g.C.Carrier.pipes c.args.carrier.now) new.links new.leases new.tickets new.asked new.max (new.size ∙ c.in-Ok.ensures.size) new.told))
 
-pub returns-in-Ok-clause-lost : goal.returns-in-Ok-clause-lost
-returns-in-Ok-clause-lost g c = λ faithful.
-    let new = c.new-player.ensures in
-    subst (λ engine. IfOk c.play_events.result (λ report. TellFailures c.args.setup.now (answer_of (g.E.Engine.statements_of engine) (g.E.Engine.step_of engine)) (marked c.args.events.now report.events) (g.C.Carrier.pipes c.play_events.new.carrier)))
-    new.engine
-    (c.play_events.ensures.lost c.args.setup.now c.in-Ok.ensures.setup faithful
-    (begins c.args.setup.now c.new-player.result (g.C.Carrier.pipes c.args.carrier.now) new.links new.leases new.tickets new.asked new.max (new.size ∙ c.in-Ok.ensures.size) new.told))
-
 pub returns-in-Ok-clause-calls : goal.returns-in-Ok-clause-calls
 returns-in-Ok-clause-calls g c = λ faithful.
     let new = c.new-player.ensures in
@@ -81,6 +75,24 @@ returns-in-Ok-clause-calls g c = λ faithful.
     new.engine
     (c.play_events.ensures.calls c.args.setup.now c.in-Ok.ensures.setup faithful
     (begins c.args.setup.now c.new-player.result (g.C.Carrier.pipes c.args.carrier.now) new.links new.leases new.tickets new.asked new.max (new.size ∙ c.in-Ok.ensures.size) new.told))
+
+pub returns-in-Ok-clause-lost : goal.returns-in-Ok-clause-lost
+returns-in-Ok-clause-lost g c = λ faithful.
+    let new = c.new-player.ensures in
+    let answers = answer_of (g.E.Engine.statements_of c.args.engine) (g.E.Engine.step_of c.args.engine) in
+    let pipes = g.C.Carrier.pipes c.play_events.new.carrier in
+    let was = g.C.Carrier.began c.args.carrier.now in
+    let is = g.C.Carrier.began c.play_events.new.carrier in
+    both_so c.play_events.result
+    (λ report. MakesCalls c.args.setup.now answers (marked c.args.events.now report.events) was is pipes)
+    (λ report. TellFailures c.args.setup.now answers (marked c.args.events.now report.events) pipes)
+    (λ report. MarksFailures c.args.setup.now answers (marked c.args.events.now report.events) was is pipes)
+    (λ report makes tells. marks_failures c.args.setup.now answers (marked c.args.events.now report.events) was is pipes makes tells)
+    (returns-in-Ok-clause-calls g c faithful)
+    (subst (λ engine. IfOk c.play_events.result (λ report. TellFailures c.args.setup.now (answer_of (g.E.Engine.statements_of engine) (g.E.Engine.step_of engine)) (marked c.args.events.now report.events) (g.C.Carrier.pipes c.play_events.new.carrier)))
+    new.engine
+    (c.play_events.ensures.lost c.args.setup.now c.in-Ok.ensures.setup faithful
+    (begins c.args.setup.now c.new-player.result (g.C.Carrier.pipes c.args.carrier.now) new.links new.leases new.tickets new.asked new.max (new.size ∙ c.in-Ok.ensures.size) new.told)))
 
 pub returns-in-Ok-clause-unfailing : goal.returns-in-Ok-clause-unfailing
 returns-in-Ok-clause-unfailing g c = λ faithful fine.
@@ -117,4 +129,17 @@ returns-in-Ok-clause-left_clean g c = λ faithful clean.
     IfOk-weaker c.play_events.result (λ report. IsReportOfPlay c.args.setup.now answers c.args.events.now report (g.C.Carrier.pipes c.play_events.new.carrier))
     (λ report. ShowsLeftClean c.args.events.now report)
     (λ report is. c.of_marked_report.ensures.left_clean c.args.setup.now answers c.args.events.now report c.engine_is_lawful.ensures clean is.told)
+    (returns-in-Ok-clause-refines g c faithful)
+
+pub returns-in-Ok-clause-all_stop : goal.returns-in-Ok-clause-all_stop
+returns-in-Ok-clause-all_stop g c = λ faithful none.
+    let answers = answer_of (g.E.Engine.statements_of c.args.engine) (g.E.Engine.step_of c.args.engine) in
+    let lawful = c.engine_is_lawful.ensures in
+    IfOk-weaker c.play_events.result (λ report. IsReportOfPlay c.args.setup.now answers c.args.events.now report (g.C.Carrier.pipes c.play_events.new.carrier))
+    (λ report. AllStop c.args.setup.now answers (world_with c.args.setup.now answers (marked c.args.events.now report.events) new_world) report)
+    (λ report is.
+    let ps = marked c.args.events.now report.events in
+    all_stop c.args.setup.now answers ps report is.told
+    (c.all_can_cancel.ensures c.args.setup.now answers lawful ps (clean_nothing c.args.events.now report.events none))
+    (c.never_stuck.ensures c.args.setup.now answers lawful ps))
     (returns-in-Ok-clause-refines g c faithful)

@@ -32,6 +32,7 @@ use Rattle.tds_world.proofs.plays.Worlds.{bringing_is}
 use Rattle.tds_play.specs.Reads.{AllRead}
 use Rattle.tds_play.proofs.any_bytes.Answered.{answers_of, none_read, read_more}
 use Rattle.tds_play.proofs.any_bytes.Given.{read_in_the_end}
+use Rattle.tds_play.proofs.Unasked.{just_told}
 use Rattle.tds_play.proofs.playing.run.Goals as goal
 
 -- Nothing stands in a player that has no links.
@@ -188,3 +189,11 @@ returns-clause-stands g c = λ setup is faithful play.
           (subst (λ (xs : List Event). requests ≡ request_reports (world_with setup answers (marked xs rs) new_world) 1 (world_with setup answers (marked xs rs) new_world).asked_on) (sym whole) asked)
           (laws.whole setup answers es) (laws.plain setup answers es);
     }
+
+pub happen-requires-clause-told : goal.happen-requires-clause-told
+happen-requires-clause-told g c =
+    just_told c.next_number.result (g.C.Carrier.began c.events.carrier) (g.C.Carrier.began c.begin.new.self) (g.C.Carrier.pipes c.events.carrier) (g.C.Carrier.pipes c.begin.new.self)
+    c.in_ok-begin.ensures.told c.in_ok-begin.ensures.still
+
+pub happen-requires-clause-sound : goal.happen-requires-clause-sound
+happen-requires-clause-sound g c = subst (LiveAreSound (all_of c.events.player)) (sym c.in_ok-begin.ensures.still) c.events.invariant.sound

@@ -7,7 +7,6 @@ use Rattle.tds_play.proofs.Acting.{plain_act, whole_act}
 use Rattle.tds_play.proofs.Asked.{asked_ok}
 use Rattle.tds_play.proofs.Listening.{if_ok}
 use Rattle.tds_play.specs.Failures.{calls_of}
-use Rattle.tds_play.proofs.Failing.{whole_as}
 use Rattle.tds_play.proofs.Failing as failing
 use Rattle.tds_play.proofs.Tying.{may_lose, whole_loses}
 use Rattle.tds_play.proofs.any_bytes.Brought.{still_ok}

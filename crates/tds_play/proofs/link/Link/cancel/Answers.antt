@@ -15,6 +15,7 @@ use Rattle.tds_play.proofs.Failing.{sent_as}
 use Rattle.tds_play.specs.Acts.{cancelled_as}
 use Rattle.tds_play.proofs.Tying.{ended_link, if_told, ties_handed}
 use Rattle.tds_play.proofs.any_bytes.Stays.{stays_handed}
+use Rattle.tds_play.proofs.Unasked.{sends_at}
 use Rattle.tds_play.proofs.link.Link.cancel.Goals as goal
 
 pub returns-clause-refines : goal.returns-clause-refines
@@ -72,3 +73,7 @@ returns-clause-cancelled g c =
       ended_link c.end.result.lost c.in_ok-lost.lost c.cancel_request.new.self c.hand_over.new.self c.end.new.self (cancelled_as e.answer c.args.self.now)
           (ap (λ d. d.lost) c.end.ensures.done) c.end.ensures.value c.in_ok-lost.ensures.rest h.2,
     )) c.in_ok-cancelled.ensures.cancelled
+
+pub hand_over-requires-clause-once : goal.hand_over-requires-clause-once
+hand_over-requires-clause-once g c =
+    sends_at (g.C.Carrier.began c.args.carrier.now) (g.C.Carrier.pipes c.args.carrier.now) c.args.self.now.number c.cancel_request.new.self.number c.in_ok-cancelled.ensures.number c.requires.unasked

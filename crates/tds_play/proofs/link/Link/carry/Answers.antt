@@ -1,7 +1,7 @@
 use Rattle.std.proofs.Common.{Err, ◌≡◌, ◌∙◌, ◌+◌, ◌-◌, ◌≤◌, ◌++◌, ◌∷◌, [], ℕ, List, Option, false, sym, ap, arith, subst, length, take, drop}
 use Rattle.tds_play.specs.Failures.{Carry, HasFailed, failures}
 use Rattle.tds_play.proofs.Failing.{carried_no_more, fails_no_more, stuck_fails}
-use Rattle.tds_play.specs.Pipe.{IsFaithful, Pipe, Brings, Changes, carried_on, stuck_on, traffic}
+use Rattle.tds_play.specs.Pipe.{IsFaithful, Pipe, Brings, Changes, carried_on, since, stuck_on, traffic}
 use Rattle.tds_play.specs.declared.carrier.CarrierError.TheVariants.{Memory}
 use Rattle.tds_play.specs.Ties.{counted, with_counted}
 use Rattle.tds_play.proofs.Carrying.{count_is, count_twice, number_same, cut_same, tied_after, brought_more, long_tail, no_error, stuck_tied}
@@ -10,6 +10,7 @@ use Rattle.std.proofs.lemmas.List.{take-append-drop}
 use Rattle.tds_play.specs.Reads.{BringsAny}
 use Rattle.tds_play.proofs.any_bytes.Stays.{brings_more, brings_nothing, brings_still, brought_at_first, counted_at_first, open_came, stuck_came}
 use Rattle.tds_play.proofs.any_bytes.Faithful.{carried_faithful, next_came, stuck_faithful}
+use Rattle.tds_play.proofs.Unasked.{carries_on, carries_then, sends_stuck, sends_then}
 use Rattle.tds_play.proofs.link.Link.carry.Goals as goal
 
 pub pieces-preserved : goal.pieces-preserved
@@ -30,6 +31,7 @@ pieces-preserved g c =
     let bytes : IsFaithful (new conn) → after ≡ before ++ take piece (drop (length (traffic (old conn) d).came) (traffic (old conn) d).handed) = (λ f.
     sym (take-append-drop (length before) after) ∙ ap (λ (xs : List ℕ). xs ++ drop (length before) after) brings.kept ∙ ap (λ (xs : List ℕ). before ++ xs) (next f)
     ∙ ap (λ (n : ℕ). before ++ take n (drop (length (traffic (old conn) d).came) (traffic (old conn) d).handed)) (long_tail before after piece brings.count)) in
+    let still = brings.began (λ e. no_error piece Memory c.carry.result c.in-Ok.is (c.in-Ok.is ∙ e)) in
     let most : piece ≤ c.pieces.left = brings.most in
     let under : piece ≤ counted c.pieces.self d = omega (arith, most, i.underway) in
     let left : c.args.count - (c.pieces.left - piece) ≡ (c.args.count - c.pieces.left) + piece = omega (arith, most, i.within) in
@@ -46,7 +48,9 @@ pieces-preserved g c =
           done ∙ ap (λ (n : ℕ). with_counted c.pieces.self d n) less
           ∙ ap (λ l. with_counted l d (counted c.args.self.now d - (c.args.count - (c.pieces.left - piece)))) i.counted
           ∙ count_twice c.args.self.now d _ _;
-      begun = brings.began (λ e. no_error piece Memory c.carry.result c.in-Ok.is (c.in-Ok.is ∙ e)) ∙ i.begun;
+      begun = still ∙ i.begun;
+      early = carries_then (g.C.Carrier.began c.pieces.carrier) (g.C.Carrier.began c.carry.new.self) conn conn new (carried_on (old conn) d (drop (length before) after)) refl still ok.here
+          (carries_on (since (g.C.Carrier.began c.pieces.carrier) conn) (old conn) d (drop (length before) after) i.early);
       faithful = λ f. i.faithful (back f);
       brought = λ f. subst (λ (n : ℕ). Brings (g.C.Carrier.pipes c.args.carrier.now conn) d n c.args.out.now.items after (new conn) false) (sym left)
           (brought_more c.args.self.now _ (old conn) (new conn) d (c.args.count - c.pieces.left) piece c.args.out.now.items before after (c.requires.tied.holds c.requires.live) (omega (arith, c.requires.underway)) (i.brought (back f)) (bytes f) ok.here);
@@ -82,6 +86,7 @@ pieces-init g c = record {
   underway = c.requires.underway;
   counted = counted_at_first c.args.self.now c.args.direction c.args.count;
   begun = refl;
+  early = c.requires.early;
   faithful = λ f. f;
   brought = λ f. brought_at_first (g.C.Carrier.pipes c.args.carrier.now c.args.self.now.number) c.args.direction c.args.count c.args.out.now.items;
   any =
@@ -139,3 +144,28 @@ returns-in-Err-Lost-clause-brought g c = λ f.
       bytes = c.carry.ensures.nothing failed ∙ so_far.bytes;
       pipe = lost.here ∙ ap (λ (p : Option Pipe). stuck_on p d) so_far.pipe;
     }
+
+-- ---- What the carrier needs, and what may go out
+
+pub carry-requires-clause-early : goal.carry-requires-clause-early
+carry-requires-clause-early g c =
+    let i = c.pieces.invariant in
+    let conn : ℕ = c.args.self.now.number in
+    let told = g.C.Carrier.began c.pieces.carrier in
+    let pipes : ℕ → Option Pipe = g.C.Carrier.pipes c.pieces.carrier in
+    carries_then told told conn c.pieces.self.number pipes (pipes conn) i.number refl refl i.early
+
+pub returns-clause-sends : goal.returns-clause-sends
+returns-clause-sends g c = c.pieces.invariant.early.sends
+
+pub returns-in-Err-Lost-clause-sends : goal.returns-in-Err-Lost-clause-sends
+returns-in-Err-Lost-clause-sends g c =
+    let i = c.pieces.invariant in
+    let d = c.args.direction in
+    let conn : ℕ = c.args.self.now.number in
+    let old : ℕ → Option Pipe = g.C.Carrier.pipes c.pieces.carrier in
+    let new : ℕ → Option Pipe = g.C.Carrier.pipes c.carry.new.self in
+    let failed = c.in-Err-Lost.is ∙ ap Err c.in-Err-Lost.field-0-is in
+    let lost : Changes old new conn (stuck_on (old conn) d) = subst (λ (k : ℕ). Changes old new k (stuck_on (old k) d)) i.number (c.carry.ensures.lost failed) in
+    sends_then (g.C.Carrier.began c.pieces.carrier) (g.C.Carrier.began c.carry.new.self) conn conn new (stuck_on (old conn) d) refl (c.carry.ensures.began (λ e. let bad = sym failed ∙ e in absurd (cc))) lost.here
+    (sends_stuck (since (g.C.Carrier.began c.pieces.carrier) conn) (old conn) d i.early)

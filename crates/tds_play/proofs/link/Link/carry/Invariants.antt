@@ -1,6 +1,6 @@
 use Rattle.std.proofs.Common.{◌≡◌, ◌≤◌, ◌-◌, false}
 use Rattle.tds_play.specs.Failures.{FailsNoMore}
-use Rattle.tds_play.specs.Pipe.{AreSame, Brings, IsFaithful}
+use Rattle.tds_play.specs.Pipe.{AreSame, Brings, IsFaithful, MayCarry, since}
 use Rattle.tds_play.specs.Ties.{IsTied, counted, with_counted}
 use Rattle.tds_play.specs.Reads.{BringsAny}
 use Rattle.tds_play.proofs.link.Link.carry.Given as goal
@@ -17,6 +17,7 @@ invariant-pieces g l =
       underway : l.left ≤ counted l.self l.direction;
       counted : l.self ≡ with_counted l.fn.self l.direction (counted l.fn.self l.direction - (l.count - l.left));
       begun : g.C.Carrier.began l.carrier ≡ g.C.Carrier.began l.fn.carrier;
+      early : MayCarry (since (g.C.Carrier.began l.carrier) l.fn.self.number) (pipes l.carrier l.fn.self.number);
       faithful : IsFaithful (pipes l.carrier l.fn.self.number) → IsFaithful (pipes l.fn.carrier l.fn.self.number);
       brought : IsFaithful (pipes l.carrier l.fn.self.number)
           → Brings (pipes l.fn.carrier l.fn.self.number) l.direction (l.count - l.left) l.fn.out.items l.out.items (pipes l.carrier l.fn.self.number) false;

@@ -16,6 +16,7 @@ use Rattle.tds_play.proofs.Failing.{sent_as}
 use Rattle.tds_play.proofs.Outward.{given}
 use Rattle.tds_play.proofs.Tying.{ties_handed}
 use Rattle.tds_play.proofs.any_bytes.Stays.{stays_handed}
+use Rattle.tds_play.proofs.Unasked.{sends_at}
 use Rattle.tds_play.proofs.link.Link.clean.Goals as goal
 
 pub hand_over-requires-clause-live : goal.hand_over-requires-clause-live
@@ -81,3 +82,7 @@ returns-clause-ties g c =
     (g.C.Carrier.pipes c.args.carrier.now) (g.C.Carrier.pipes c.hand_over.new.carrier) (g.C.Carrier.pipes c.end.new.carrier)
     (g.C.Carrier.began c.args.carrier.now) (g.C.Carrier.began c.hand_over.new.carrier) (g.C.Carrier.began c.end.new.carrier)
     c.in_ok-ask_cleaning.ensures.number out.number out.ties c.end.ensures.ties
+
+pub hand_over-requires-clause-once : goal.hand_over-requires-clause-once
+hand_over-requires-clause-once g c =
+    sends_at (g.C.Carrier.began c.args.carrier.now) (g.C.Carrier.pipes c.args.carrier.now) c.args.self.now.number c.ask_cleaning.new.self.number c.in_ok-ask_cleaning.ensures.number c.requires.unasked

@@ -20,6 +20,7 @@ use Rattle.tds_play.specs.Seats.{drained, seated}
 use Rattle.tds_play.specs.Ties.{IsTied}
 use Rattle.tds_play.proofs.Tying.{faithful_before, ties_handed}
 use Rattle.tds_play.proofs.any_bytes.Stays.{stays_numbered}
+use Rattle.tds_play.proofs.Unasked.{carries_at}
 use Rattle.tds_play.proofs.link.Link.deliver_to_client.Goals as goal
 
 -- The client takes all that came, so it finds no fault.
@@ -150,3 +151,6 @@ returns-clause-ties g c =
     (g.C.Carrier.pipes c.args.carrier.now) (g.C.Carrier.pipes c.carry.new.carrier) (g.C.Carrier.pipes c.end.new.carrier)
     (g.C.Carrier.began c.args.carrier.now) (g.C.Carrier.began c.carry.new.carrier) (g.C.Carrier.began c.end.new.carrier)
     refl (c.in_ok-heard.ensures.number ∙ c.in_ok-carried.ensures.number) c.in_ok-carried.ensures.ties c.end.ensures.ties
+
+pub carry-requires-clause-early : goal.carry-requires-clause-early
+carry-requires-clause-early g c = carries_at (g.C.Carrier.began c.args.carrier.now) (g.C.Carrier.pipes c.args.carrier.now) c.args.self.now.number c.requires.unasked

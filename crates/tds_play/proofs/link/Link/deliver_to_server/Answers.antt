@@ -22,6 +22,7 @@ use Rattle.tds_play.proofs.any_bytes.Brought.{faulty_served, fed_so, served_read
 use Rattle.tds_play.specs.Ties.{IsTied}
 use Rattle.tds_play.proofs.Tying.{faithful_before, retied_reader, ties_handed}
 use Rattle.tds_play.proofs.any_bytes.Stays.{stays, stays_handed, stays_numbered}
+use Rattle.tds_play.proofs.Unasked.{carries_at, sends_then}
 use Rattle.tds_play.proofs.link.Link.deliver_to_server.Goals as goal
 
 -- The server takes all that came, so it finds no fault.
@@ -212,3 +213,12 @@ returns-in-None-clause-ties g c =
     (g.C.Carrier.began c.args.carrier.now) (g.C.Carrier.began c.carry.new.carrier) (g.C.Carrier.began c.hand_over.new.carrier)
     refl here c.in_ok-carried.ensures.ties out.ties)
     c.end.ensures.ties
+
+pub carry-requires-clause-early : goal.carry-requires-clause-early
+carry-requires-clause-early g c = carries_at (g.C.Carrier.began c.args.carrier.now) (g.C.Carrier.pipes c.args.carrier.now) c.args.self.now.number c.requires.unasked
+
+pub hand_over-requires-clause-once : goal.hand_over-requires-clause-once
+hand_over-requires-clause-once g c =
+    let told = g.C.Carrier.began c.carry.new.carrier in
+    let pipes : ℕ → Option Pipe = g.C.Carrier.pipes c.carry.new.carrier in
+    sends_then told told c.args.self.now.number c.carry.new.self.number pipes (pipes c.args.self.now.number) c.in_ok-carried.ensures.number refl refl c.in_ok-carried.ensures.sends

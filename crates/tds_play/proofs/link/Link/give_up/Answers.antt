@@ -16,6 +16,7 @@ use Rattle.tds_packet.specs.declared.kind.Direction.TheVariants.{ToServer}
 use Rattle.tds_play.proofs.Failing.{sent_so}
 use Rattle.tds_play.proofs.Tying.{if_told, ties_numbered}
 use Rattle.tds_play.proofs.any_bytes.Stays.{stays_numbered, stays_twice}
+use Rattle.tds_play.proofs.Unasked.{sends_at}
 use Rattle.tds_play.proofs.link.Link.give_up.Goals as goal
 
 pub returns-clause-refines : goal.returns-clause-refines
@@ -69,3 +70,7 @@ returns-clause-ties g c =
 
 pub returns-clause-session : goal.returns-clause-session
 returns-clause-session g c = if_told (client.cancelled c.args.client.now) _ _ (λ e h. h.1) c.in_ok-cancel_request.ensures.cancelled
+
+pub hand_over-requires-clause-once : goal.hand_over-requires-clause-once
+hand_over-requires-clause-once g c =
+    sends_at (g.C.Carrier.began c.args.carrier.now) (g.C.Carrier.pipes c.args.carrier.now) c.args.self.now.number c.cancel_request.new.self.number c.in_ok-cancel_request.ensures.number c.requires.unasked

@@ -15,6 +15,7 @@ use Rattle.tds_packet.specs.declared.kind.Direction.TheVariants.{ToServer}
 use Rattle.tds_play.proofs.Failing.{sent_as, whole_as}
 use Rattle.tds_play.proofs.Tying.{ended_link, if_told, ties_handed}
 use Rattle.tds_play.proofs.any_bytes.Stays.{stays, stays_handed}
+use Rattle.tds_play.proofs.Unasked.{sends_at}
 use Rattle.tds_play.proofs.link.Link.send.Goals as goal
 
 pub returns-clause-refines : goal.returns-clause-refines
@@ -85,3 +86,7 @@ returns-clause-sent g c =
       ended_link c.end.result.lost c.in_ok-lost.lost c.args.self.now c.hand_over.new.self c.end.new.self c.args.self.now
           (ap (λ d. d.lost) c.end.ensures.done) c.end.ensures.value c.in_ok-lost.ensures.rest refl,
     )) c.in_ok-sent.ensures.sent
+
+pub hand_over-requires-clause-once : goal.hand_over-requires-clause-once
+hand_over-requires-clause-once g c =
+    sends_at (g.C.Carrier.began c.args.carrier.now) (g.C.Carrier.pipes c.args.carrier.now) c.args.self.now.number c.args.self.now.number refl c.requires.unasked

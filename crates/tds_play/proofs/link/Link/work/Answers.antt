@@ -11,6 +11,7 @@ use Rattle.tds_play.proofs.Failing.{sent_as}
 use Rattle.tds_play.specs.Acts.{worked_as}
 use Rattle.tds_play.proofs.Tying.{ended_link, ties_handed}
 use Rattle.tds_play.proofs.any_bytes.Stays.{stays_handed}
+use Rattle.tds_play.proofs.Unasked.{sends_at}
 use Rattle.tds_play.proofs.link.Link.work.Goals as goal
 
 pub returns-clause-refines : goal.returns-clause-refines
@@ -62,3 +63,7 @@ returns-clause-worked g c =
       ended_link c.end.result.lost c.in_ok-lost.lost c.put_step.new.self c.hand_over.new.self c.end.new.self (worked_as (worked c.args.self.now.server) c.args.self.now)
           (ap (λ d. d.lost) c.end.ensures.done) c.end.ensures.value c.in_ok-lost.ensures.rest step.value,
     )
+
+pub hand_over-requires-clause-once : goal.hand_over-requires-clause-once
+hand_over-requires-clause-once g c =
+    sends_at (g.C.Carrier.began c.args.carrier.now) (g.C.Carrier.pipes c.args.carrier.now) c.args.self.now.number c.put_step.new.self.number c.in_ok-outcome.ensures.number c.requires.unasked

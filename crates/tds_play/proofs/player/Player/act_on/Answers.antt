@@ -8,7 +8,7 @@ use Rattle.tds_play.specs.Pooled.{ChangesOne, seat_in}
 use Rattle.tds_play.specs.Reads.{ReadsOn}
 use Rattle.tds_play.specs.declared.player.Player.{Player}
 use Rattle.tds_play.specs.declared.seat.Held.{Held}
-use Rattle.tds_play.proofs.pooled.There.{stands_there}
+use Rattle.tds_play.proofs.pooled.There.{stands_there, unasked_there}
 use Rattle.tds_play.proofs.pooled.Callers.{caller_carried}
 use Rattle.tds_play.proofs.pooled.Noting.{acts_few, acts_held}
 use Rattle.tds_play.proofs.pooled.Unseen.{touched_steps}
@@ -20,6 +20,7 @@ act-requires g c =
     let stands = stands_there old c.args.place c.index_mut.result.now (g.C.Carrier.pipes c.args.carrier.now) c.requires.tied c.requires.held c.requires.there c.index_mut.ensures.value in
     record {
       tied = stands.tied;
+      unasked = unasked_there old c.args.place c.index_mut.result.now (g.C.Carrier.began c.args.carrier.now) (g.C.Carrier.pipes c.args.carrier.now) c.requires.tied c.requires.told c.requires.sound stands.at;
       there = stands.there;
       ends = c.requires.ends;
       lent = λ asks lives. caller_carried old c.args.place c.index_mut.result.now c.args.event.now c.requires.held stands.at stands.number c.requires.found asks lives;

@@ -11,7 +11,7 @@ use Rattle.tds_play.specs.declared.player.Player.{Player}
 use Rattle.tds_play.specs.declared.seat.Held.{Held}
 use Rattle.tds_play.proofs.pooled.InPlace.{next_lease}
 use Rattle.tds_play.proofs.pooled.Skipping.{cleans_few, cleans_held, met_clean}
-use Rattle.tds_play.proofs.pooled.There.{stands_there}
+use Rattle.tds_play.proofs.pooled.There.{stands_there, unasked_there}
 use Rattle.tds_play.proofs.pooled.Unseen.{touched_steps}
 use Rattle.tds_play.proofs.player.Player.clean.Goals as goal
 
@@ -21,6 +21,7 @@ clean-requires g c =
     let stands = stands_there old c.args.place c.index_mut.result.now (g.C.Carrier.pipes c.args.carrier.now) c.requires.tied c.requires.held c.requires.there c.index_mut.ensures.value in
     record {
       tied = stands.tied;
+      unasked = unasked_there old c.args.place c.index_mut.result.now (g.C.Carrier.began c.args.carrier.now) (g.C.Carrier.pipes c.args.carrier.now) c.requires.tied c.requires.told c.requires.sound stands.at;
       there = stands.there;
     }
 

@@ -7,7 +7,7 @@ use Rattle.tds_play.specs.Plays.{RefinesAct, acts_on, loss_of}
 use Rattle.tds_play.specs.Pooled.{seat_in}
 use Rattle.tds_play.specs.declared.seat.Held.{Held}
 use Rattle.tds_world.specs.World.{numbered}
-use Rattle.tds_play.proofs.pooled.There.{stands_there}
+use Rattle.tds_play.proofs.pooled.There.{stands_there, unasked_there}
 use Rattle.tds_play.proofs.pooled.Ending.{lent_there, met_back, spared_others, lease_ends, lease_ends_few, lease_ends_noted, taken_slot}
 use Rattle.tds_play.proofs.pooled.Unseen.{slot_of, touched_steps}
 use Rattle.tds_play.proofs.player.Player.give_back.Goals as goal
@@ -19,6 +19,7 @@ give_back-requires g c =
     let slot = slot_of (λ (l : Lease). l.number) old.leases c.args.number (suc c.args.place) c.in-Some.lease c.requires.lent c.in-Some.ensures.taken in
     record {
       tied = stands.tied;
+      unasked = unasked_there old c.args.place c.index_mut.result.now (g.C.Carrier.began c.args.carrier.now) (g.C.Carrier.pipes c.args.carrier.now) c.requires.tied c.requires.told c.requires.sound stands.at;
       there = stands.there;
       named = slot.conn_is ∙ sym stands.number;
       lent = lent_there old c.args.place c.args.number c.in-Some.lease c.index_mut.result.now c.requires.held stands.at slot;

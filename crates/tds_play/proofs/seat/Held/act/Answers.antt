@@ -126,3 +126,6 @@ returns-clause-gone g c = λ cut. let bad : true ≡ false = sym cut ∙ c.if-se
 
 pub returns-clause-loses : goal.returns-clause-loses
 returns-clause-loses g c = λ lost. subst (λ (b : Bool). MayLose b c.args.event.now) (sym c.if-self.false) (c.in_ok-done.ensures.loses lost)
+
+pub act-requires-clause-unasked : goal.act-requires-clause-unasked
+act-requires-clause-unasked g c = c.requires.unasked c.if-self.false

@@ -192,3 +192,6 @@ returns-clause-gone g c = λ cut. let bad : true ≡ false = sym cut ∙ c.if-se
 
 pub returns-clause-loses : goal.returns-clause-loses
 returns-clause-loses g c = λ n lost. subst (λ (b : Bool). MayLose b (event.Clean n)) (sym c.if-self.false) tt
+
+pub clean-requires-clause-unasked : goal.clean-requires-clause-unasked
+clean-requires-clause-unasked g c = c.requires.unasked c.if-self.false

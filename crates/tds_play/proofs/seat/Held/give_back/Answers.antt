@@ -205,3 +205,6 @@ returns-in-Ok-give_back-clause-gone g c = λ cut. let bad : true ≡ false = sym
 
 pub returns-in-Ok-give_back-clause-loses : goal.returns-in-Ok-give_back-clause-loses
 returns-in-Ok-give_back-clause-loses g c = λ k lost. subst (λ (b : Bool). MayLose b (event.GiveBack k)) (sym c.if-self.false) tt
+
+pub give_up-requires-clause-unasked : goal.give_up-requires-clause-unasked
+give_up-requires-clause-unasked g c = c.requires.unasked c.if-self.false

@@ -1,0 +1,125 @@
+-- What a call of a carrier needs: the event that it was told of has handed over nothing yet, and no call failed.
+use Rattle.std.proofs.Common.{◌≡◌, ◌∙◌, ◌<◌, ℕ, suc, List, [], ◌∷◌, ◌++◌, length, slice_index_or, Option, Some, None, false, refl, sym, ap, subst}
+use Rattle.tds_packet.specs.declared.kind.Direction.{Direction}
+use Rattle.tds_packet.specs.declared.kind.Direction.TheVariants.{ToServer, ToClient}
+use Rattle.tds_play.specs.Failures.{Carry, HasNoFailure, LiveAreSound, Send}
+use Rattle.tds_play.specs.Pipe.{Begun, MayCarry, MaySend, Pipe, carried_on, newest_of, since, stuck_on, traffic}
+use Rattle.tds_play.specs.Seats.{Seated}
+use Rattle.tds_play.specs.Ties.{IsJustTold, IsUnasked}
+
+-- ---- The newest event
+
+newest_is : (pipes : ℕ → Option Pipe) (bs : List Begun) (b : Begun) → newest_of pipes (bs ++ b ∷ []) ≡ b.pipes
+newest_is pipes [] b = refl
+newest_is pipes (c ∷ bs) b = newest_is c.pipes bs b
+
+-- A carrier was told of an event, and nothing else changed.
+pub just_told : (event : ℕ) (old new : List Begun) (pipes after : ℕ → Option Pipe) → new ≡ old ++ record { event = event; pipes = pipes } ∷ [] → after ≡ pipes → IsJustTold new after
+just_told event old new pipes after told still n =
+    ap (λ (bs : List Begun). since bs n) told
+    ∙ ap (λ (ps : ℕ → Option Pipe). ps n) (newest_is (λ n. None) old (record { event = event; pipes = pipes }))
+    ∙ ap (λ (ps : ℕ → Option Pipe). ps n) (sym still)
+
+-- ---- Nothing was asked
+
+sends_fine : (p : Option Pipe) → HasNoFailure p → (d : Direction) → (traffic p d).send_failures ≡ 0
+sends_fine None fine d = refl
+sends_fine (Some p) fine d = fine (Send d)
+
+carries_fine : (p : Option Pipe) → HasNoFailure p → (d : Direction) → (traffic p d).carry_failures ≡ 0
+carries_fine None fine d = refl
+carries_fine (Some p) fine d = fine (Carry d)
+
+may_send : (before now : Option Pipe) → before ≡ now → HasNoFailure now → MaySend before now
+may_send before now same fine = record {
+  first = λ d. ap (λ (p : Option Pipe). (traffic p d).handed) (sym same);
+  unfailed = sends_fine now fine;
+}
+
+-- Bytes may be handed over, and carried.
+pub sends_at : (told : List Begun) (pipes : ℕ → Option Pipe) (n m : ℕ) → m ≡ n → IsUnasked told pipes n → MaySend (since told m) (pipes m)
+sends_at told pipes n m is u =
+    subst (λ (k : ℕ). MaySend (since told k) (pipes k)) (sym is) (may_send (since told n) (pipes n) u.since_then u.unfailed)
+
+pub carries_at : (told : List Begun) (pipes : ℕ → Option Pipe) (n : ℕ) → IsUnasked told pipes n → MayCarry (since told n) (pipes n)
+carries_at told pipes n u = record {
+  sends = may_send (since told n) (pipes n) u.since_then u.unfailed;
+  unfailed = carries_fine (pipes n) u.unfailed;
+}
+
+-- ---- Bytes come
+
+carried_handed : (p : Option Pipe) (d : Direction) (bytes : List ℕ) (e : Direction) → (traffic (carried_on p d bytes) e).handed ≡ (traffic p e).handed
+carried_handed None d bytes e = refl
+carried_handed (Some p) ToServer bytes ToServer = refl
+carried_handed (Some p) ToServer bytes ToClient = refl
+carried_handed (Some p) ToClient bytes ToServer = refl
+carried_handed (Some p) ToClient bytes ToClient = refl
+
+carried_sends : (p : Option Pipe) (d : Direction) (bytes : List ℕ) (e : Direction) → (traffic (carried_on p d bytes) e).send_failures ≡ (traffic p e).send_failures
+carried_sends None d bytes e = refl
+carried_sends (Some p) ToServer bytes ToServer = refl
+carried_sends (Some p) ToServer bytes ToClient = refl
+carried_sends (Some p) ToClient bytes ToServer = refl
+carried_sends (Some p) ToClient bytes ToClient = refl
+
+carried_carries : (p : Option Pipe) (d : Direction) (bytes : List ℕ) (e : Direction) → (traffic (carried_on p d bytes) e).carry_failures ≡ (traffic p e).carry_failures
+carried_carries None d bytes e = refl
+carried_carries (Some p) ToServer bytes ToServer = refl
+carried_carries (Some p) ToServer bytes ToClient = refl
+carried_carries (Some p) ToClient bytes ToServer = refl
+carried_carries (Some p) ToClient bytes ToClient = refl
+
+pub carries_on : (before p : Option Pipe) (d : Direction) (bytes : List ℕ) → MayCarry before p → MayCarry before (carried_on p d bytes)
+carries_on before p d bytes may = record {
+  sends = record {
+    first = λ e. carried_handed p d bytes e ∙ may.sends.first e;
+    unfailed = λ e. carried_sends p d bytes e ∙ may.sends.unfailed e;
+  };
+  unfailed = λ e. carried_carries p d bytes e ∙ may.unfailed e;
+}
+
+stuck_handed : (p : Option Pipe) (d e : Direction) → (traffic (stuck_on p d) e).handed ≡ (traffic p e).handed
+stuck_handed None d e = refl
+stuck_handed (Some p) ToServer ToServer = refl
+stuck_handed (Some p) ToServer ToClient = refl
+stuck_handed (Some p) ToClient ToServer = refl
+stuck_handed (Some p) ToClient ToClient = refl
+
+stuck_sends : (p : Option Pipe) (d e : Direction) → (traffic (stuck_on p d) e).send_failures ≡ (traffic p e).send_failures
+stuck_sends None d e = refl
+stuck_sends (Some p) ToServer ToServer = refl
+stuck_sends (Some p) ToServer ToClient = refl
+stuck_sends (Some p) ToClient ToServer = refl
+stuck_sends (Some p) ToClient ToClient = refl
+
+-- Where no more came, what had come may cause an answer.
+pub sends_stuck : (before p : Option Pipe) (d : Direction) → MayCarry before p → MaySend before (stuck_on p d)
+sends_stuck before p d may = record {
+  first = λ e. stuck_handed p d e ∙ may.sends.first e;
+  unfailed = λ e. stuck_sends p d e ∙ may.sends.unfailed e;
+}
+
+-- What one call left, seen by the next one: the carrier was told of no other event.
+pub sends_then : (told still : List Begun) (n m : ℕ) (now : ℕ → Option Pipe) (p : Option Pipe) → m ≡ n → still ≡ told → now n ≡ p → MaySend (since told n) p → MaySend (since still m) (now m)
+sends_then told still n m now p is same here may =
+    subst (λ (k : ℕ). MaySend (since still k) (now k)) (sym is)
+    (subst (λ (bs : List Begun). MaySend (since bs n) (now n)) (sym same)
+    (subst (λ (q : Option Pipe). MaySend (since told n) q) (sym here) may))
+
+pub carries_then : (told still : List Begun) (n m : ℕ) (now : ℕ → Option Pipe) (p : Option Pipe) → m ≡ n → still ≡ told → now n ≡ p → MayCarry (since told n) p → MayCarry (since still m) (now m)
+carries_then told still n m now p is same here may =
+    subst (λ (k : ℕ). MayCarry (since still k) (now k)) (sym is)
+    (subst (λ (bs : List Begun). MayCarry (since bs n) (now n)) (sym same)
+    (subst (λ (q : Option Pipe). MayCarry (since told n) q) (sym here) may))
+
+-- ---- A connection of a player
+
+pub unasked_at : {E S : Type 0} (links : List (Seated E S)) (place n : ℕ) (x d : Seated E S) (told : List Begun) (pipes : ℕ → Option Pipe)
+    → IsJustTold told pipes → LiveAreSound links pipes → place < length links → slice_index_or links place d ≡ x → x.link.is_cut ≡ false → n ≡ suc place → IsUnasked told pipes n
+unasked_at {E} {S} links place n x d told pipes just sound within at live is =
+    let lives = ap (λ (y : Seated E S). y.link.is_cut) at ∙ live in
+    record {
+      since_then = just n;
+      unfailed = subst (λ (k : ℕ). HasNoFailure (pipes k)) (sym is) (sound place d within lives);
+    }
