@@ -20,8 +20,8 @@ MOST_LOOKED_AT = 1024 * 1024
 
 # Of each command the options, and how many words stand behind it; N is a number.
 COMMANDS = {
-    "tdsplay": {"play": ({}, 1), "loopback": ({}, 1), "show": ({}, 1), "tokens": ({}, 1),
-                "vectors": ({}, 0)},
+    "tdsplay": {"play": ({}, 1), "trace": ({}, 1), "loopback": ({}, 1), "show": ({}, 1),
+                "tokens": ({}, 1), "vectors": ({}, 0)},
     "tdsview": {
         "bytes": ({"--show": 0, "--text2pcap": 0}, 1),
         "draw": ({"--text": 0, "--beside": 0, "--from": 1, "--to": 1}, 1),
@@ -31,7 +31,7 @@ COMMANDS = {
     },
 }
 WORDS = {
-    "tdsplay": "the words are: play FILE, loopback FILE, show HEX, tokens HEX, or vectors",
+    "tdsplay": "the words are: play FILE, trace FILE, loopback FILE, show HEX, tokens HEX, or vectors",
     "tdsview": "the commands are bytes, draw, snapshots, explain and check, each with a FILE",
     "tdsserve": "the first word is an address, as 127.0.0.1:1433",
     "tdsrelay": "the words are two addresses, as 127.0.0.1:1434 127.0.0.1:1433",

@@ -1,4 +1,4 @@
-use std::alloc::AllocFailed;
+use std::alloc::{AllocError, AllocFailed};
 use std::io::{self, ErrorKind};
 use tds_play::LineFault;
 use thiserror::Error;
@@ -58,6 +58,12 @@ impl From<LineFault> for ProgramFault {
 
 impl From<AllocFailed<String>> for ProgramFault {
     fn from(_: AllocFailed<String>) -> ProgramFault {
+        ProgramFault::Memory
+    }
+}
+
+impl From<AllocError> for ProgramFault {
+    fn from(_: AllocError) -> ProgramFault {
         ProgramFault::Memory
     }
 }

@@ -1,6 +1,6 @@
 //! Plays schedules of pooled sessions of the Tabular Data Stream, over memory or over sockets, and
-//! prints what each caller is told; shows the bytes of packets, and the tokens of answers; and checks
-//! the vectors.
+//! prints what each caller is told, or each call that was made for it; shows the bytes of packets, and
+//! the tokens of answers; and checks the vectors.
 #![tactic(auto)]
 
 mod fault;
@@ -12,6 +12,7 @@ use std::{env, fs};
 use tds_play::{Command, MemoryCarrier, read_words, run_play, run_show, run_vectors};
 use tds_tcp::{TcpCarrier, run_loopback};
 use tds_tokens::run_tokens;
+use tds_trace::run_trace;
 
 /// What `--version` alone prints.
 const VERSION: &str = "tdsplay 0.1.0\n";
@@ -28,11 +29,33 @@ fn main(rt: HostRuntime) -> ExitCode {
 
 /// Does what the words ask for.
 fn run(rt: &HostRuntime) -> Result<u8, ProgramFault> {
-    let words = given_words(rt)?;
-    match words.as_slice() {
+    let mut words = given_words(rt)?;
+    let first = words.first_mut();
+    match first {
+        Some(word) if word.as_str() == "trace" => {
+            // Its words are those of `play`.
+            *word = String::from_str(rt.alloc(), "play")?;
+            run_traced(rt, read_words(rt.alloc(), words.as_slice())?)
+        }
+        _ => run_untraced(rt, words.as_slice()),
+    }
+}
+
+fn run_untraced(rt: &HostRuntime, words: &[String]) -> Result<u8, ProgramFault> {
+    match words {
         [word] if word.as_str() == "--version" => print_version(rt),
         words => run_command(rt, read_words(rt.alloc(), words)?),
     }
+}
+
+/// Prints the trace of what is to be played.
+fn run_traced(rt: &HostRuntime, command: Command) -> Result<u8, ProgramFault> {
+    let Command::Play(name) = command else {
+        return Err(ProgramFault::Usage);
+    };
+    let mut file = open(rt, name.as_str())?;
+    let mut output = rt.stdout();
+    Ok(run_trace(rt.alloc(), &mut file, &mut output, &mut rt.stderr()))
 }
 
 fn print_version(rt: &HostRuntime) -> Result<u8, ProgramFault> {

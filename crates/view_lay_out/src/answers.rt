@@ -2,7 +2,6 @@
 
 use std::alloc::{AllocError, Global};
 use std::fmt::Write;
-use tds_packet::Reset;
 use tds_text::put_units;
 use tds_token::done_status::{ATTENTION, ERROR, MORE};
 use tds_token::{ColumnList, Columns, EnvChange, Row, Text, Token, Tokens};
@@ -17,6 +16,9 @@ pub(crate) enum Which {
     /// Those that the client keeps for itself: the changes of the session.
     Heard,
 }
+
+/// The number of the ERROR that answers a text outside of the batch language.
+const NO_LANGUAGE: i32 = 50_001;
 
 /// How wide a message is shown.
 const MESSAGE: usize = 16;
@@ -144,17 +146,23 @@ fn done_word(status: u16) -> &'static str {
     }
 }
 
-/// The transaction descriptor that a client has heard behind these tokens.
-pub(crate) fn heard_behind(tokens: &[Token], before: u64, reset: Option<Reset>) -> u64 {
-    let mut heard = before;
+/// How many of these tokens a caller is given.
+pub(crate) fn count_told(tokens: &[Token]) -> usize {
+    let mut count = 0usize;
     for token in tokens {
-        heard = match token {
-            Token::Env(EnvChange::Begin(descriptor)) => *descriptor,
-            Token::Env(EnvChange::Commit(_)) => 0,
-            Token::Env(EnvChange::Rollback(_)) => 0,
-            Token::Env(EnvChange::ResetDone) if reset == Some(Reset::Full) => 0,
-            _ => heard,
-        };
+        if !matches!(token, Token::Env(_)) {
+            count = count.saturating_add(1);
+        }
     }
-    heard
+    count
+}
+
+/// Whether one of these tokens changes the session.
+pub(crate) fn has_change(tokens: &[Token]) -> bool {
+    tokens.iter().any(|it| matches!(it, Token::Env(_)))
+}
+
+/// Whether they say that a text is not in the batch language.
+pub(crate) fn is_no_language(tokens: &[Token]) -> bool {
+    tokens.iter().any(|it| matches!(it, Token::Error(message) if message.number == NO_LANGUAGE))
 }

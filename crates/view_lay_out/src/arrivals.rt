@@ -1,13 +1,11 @@
 //! Packets that come.
 
-use crate::answers::{Which, heard_behind, tokens_of, told};
+use crate::answers::{Which, count_told, has_change, tokens_of, told};
 use crate::drawing::{Drawing, Moment, Task};
 use crate::wording::{put_descriptor, session_text};
 use std::alloc::AllocError;
 use tds_packet::Direction;
-use tds_play::ClientView;
-use tds_request::Request;
-use tds_session::{Engine, ScriptEngine};
+use tds_token::Token;
 use view_paint::{BarMark, Flight, FlightEnd, Look, Sort, Spot};
 use view_trace::Packet;
 
@@ -86,7 +84,8 @@ impl<'a> Drawing<'a> {
             Sort::Acknowledgement => {
                 let line = self.say(Spot::Client, Look::Bold, true, "acknowledged")?;
                 self.row.settled = Some(line);
-                self.hear(packet)?;
+                let tokens = tokens_of(self.alloc, packet.data())?;
+                self.hear(tokens.as_slice(), moment)?;
                 Ok(FlightEnd::Came(line))
             }
         }
@@ -95,10 +94,7 @@ impl<'a> Drawing<'a> {
     fn take_request(&mut self, packet: &Packet) -> Result<FlightEnd, AllocError> {
         if packet.header.status.ends() {
             let line = self.say(Spot::Server, Look::Muted, true, "has the request")?;
-            self.task = Task::Whole {
-                done: 0,
-                count: self.steps()?,
-            };
+            self.task = Task::Whole { done: 0 };
             self.mark(line, BarMark::Busy)?;
             return Ok(FlightEnd::Came(line));
         }
@@ -113,26 +109,13 @@ impl<'a> Drawing<'a> {
         Ok(FlightEnd::Came(line))
     }
 
-    /// How many steps the answer to the request has at most: a reset, each statement, and the end. A text outside of the
-    /// language is answered as one statement that fails.
-    fn steps(&self) -> Result<usize, AllocError> {
-        let statements = match self.asked_request() {
-            Some(Request::Batch(text)) => match ScriptEngine.parse(self.alloc, text.units())? {
-                Some(statements) => statements.len(),
-                None => 1,
-            },
-            _ => 0,
-        };
-        let resets = usize::from(self.reset.is_some());
-        Ok(statements.saturating_add(resets).saturating_add(1))
-    }
-
     /// Lets an attention come: the server stops, and acknowledges it.
     fn take_attention(&mut self, moment: Moment<'a>) -> Result<FlightEnd, AllocError> {
         let text = match self.task {
             Task::Nothing | Task::Part => String::from_str(self.alloc, "never had it whole")?,
-            Task::Whole { done: 0, .. } => String::from_str(self.alloc, "stops, nothing was run")?,
-            Task::Whole { done, count } => format!(in self.alloc; "stops after {done} of {count}")?,
+            Task::Whole { done: 0 } => String::from_str(self.alloc, "stops, nothing was run")?,
+            Task::Whole { done: 1 } => String::from_str(self.alloc, "stops after 1 step")?,
+            Task::Whole { done } => format!(in self.alloc; "stops after {done} steps")?,
             Task::Out => String::from_str(self.alloc, "answer was out already")?,
         };
         let line = self.say(Spot::Server, Look::Bold, true, text.as_str())?;
@@ -163,36 +146,40 @@ impl<'a> Drawing<'a> {
         packet: &Packet,
         moment: Moment<'a>,
     ) -> Result<FlightEnd, AllocError> {
-        let is_cancelled = moment
-            .before
-            .is_some_and(|it| it.client == ClientView::Cancelling);
-        let end = self.tell_answer(packet, is_cancelled)?;
+        let tokens = tokens_of(self.alloc, packet.data())?;
+        let is_thrown = self.is_thrown(tokens.as_slice());
+        let end = self.tell_answer(tokens.as_slice(), is_thrown)?;
         if packet.header.status.ends() {
-            match is_cancelled {
+            match is_thrown {
                 true => {
                     self.say(Spot::Client, Look::Bold, false, "waits for DONE attn")?;
                 }
                 false => self.row.settled = end.line(),
             }
         }
-        self.hear(packet)?;
+        self.hear(tokens.as_slice(), moment)?;
         Ok(end)
     }
 
+    /// Whether tokens that come were thrown away: the caller was given none so far behind those before
+    /// them, by the report.
+    fn is_thrown(&mut self, tokens: &[Token]) -> bool {
+        self.came = self.came.saturating_add(count_told(tokens));
+        let requests = self.exchange.report.requests.as_slice();
+        let request = requests.get((self.request as usize).saturating_sub(1));
+        let given = request.map(|it| it.tokens.as_slice().len());
+        self.came > given.unwrap_or(0)
+    }
+
     /// Tells a packet of an answer: what its caller is given, or would have been given; else what the client hears.
-    fn tell_answer(
-        &mut self,
-        packet: &Packet,
-        is_cancelled: bool,
-    ) -> Result<FlightEnd, AllocError> {
-        let tokens = tokens_of(self.alloc, packet.data())?;
-        let given = told(self.alloc, tokens.as_slice(), Which::Told)?;
+    fn tell_answer(&mut self, tokens: &[Token], is_thrown: bool) -> Result<FlightEnd, AllocError> {
+        let given = told(self.alloc, tokens, Which::Told)?;
         if given.is_empty() {
-            let heard = told(self.alloc, tokens.as_slice(), Which::Heard)?;
+            let heard = told(self.alloc, tokens, Which::Heard)?;
             let line = self.say(Spot::Client, Look::Muted, false, heard.as_str())?;
             return Ok(FlightEnd::Came(line));
         }
-        if is_cancelled {
+        if is_thrown {
             let line = self.say(Spot::Client, Look::Struck, false, given.as_str())?;
             return Ok(FlightEnd::Thrown(line));
         }
@@ -200,14 +187,15 @@ impl<'a> Drawing<'a> {
         Ok(FlightEnd::Came(line))
     }
 
-    /// Lets the client hear the changes of a packet, and tells the transaction where it is another one.
-    fn hear(&mut self, packet: &Packet) -> Result<(), AllocError> {
-        let tokens = tokens_of(self.alloc, packet.data())?;
-        let heard = heard_behind(tokens.as_slice(), self.heard, self.reset);
-        if heard != self.heard {
-            self.heard = heard;
+    /// Tells the transaction that the client has heard of, where a packet that comes in this event changed it.
+    fn hear(&mut self, tokens: &[Token], moment: Moment<'a>) -> Result<(), AllocError> {
+        let Some(after) = moment.after else {
+            return Ok(());
+        };
+        if has_change(tokens) && after.descriptor != self.heard {
+            self.heard = after.descriptor;
             let mut text = String::new(self.alloc);
-            put_descriptor(&mut text, heard)?;
+            put_descriptor(&mut text, self.heard)?;
             self.say(Spot::Client, Look::Pill, false, text.as_str())?;
         }
         Ok(())

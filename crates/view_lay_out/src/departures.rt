@@ -90,16 +90,15 @@ impl<'a> Drawing<'a> {
             Sort::Attention => String::from_str(alloc, "ATTENTION"),
             Sort::Acknowledgement => String::from_str(alloc, "ACK"),
             Sort::Answer => {
-                let (done, planned) = match self.task {
-                    Task::Whole { done, count } => (done, count),
-                    _ => (0, 1),
+                let done = match self.task {
+                    Task::Whole { done } => done,
+                    _ => 0,
                 };
                 let place = done.saturating_add(1);
-                let count = match self.answers_from(index) {
-                    Some(count) => done.saturating_add(count),
-                    None => planned,
-                };
-                format!(in alloc; "answer {place}/{count}")
+                match self.answers_from(index) {
+                    Some(left) => format!(in alloc; "answer {place}/{}", done.saturating_add(left)),
+                    None => format!(in alloc; "answer {place}"),
+                }
             }
             Sort::Request => self.request_name(packet),
         }

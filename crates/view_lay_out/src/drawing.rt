@@ -12,8 +12,8 @@ pub(crate) enum Task {
     Nothing,
     /// Some of its packets.
     Part,
-    /// All of it: so many packets of the answer are out, of so many.
-    Whole { done: usize, count: usize },
+    /// All of it: so many packets of the answer are out.
+    Whole { done: usize },
     /// All of the answer is out.
     Out,
 }
@@ -33,6 +33,8 @@ pub(crate) struct Drawing<'a> {
     pub(crate) request: u32,
     pub(crate) reset: Option<Reset>,
     pub(crate) task: Task,
+    /// How many tokens of its answer have come that a caller may be given.
+    pub(crate) came: usize,
     /// The descriptor that the client heard last.
     pub(crate) heard: u64,
     /// How many packets of the play have left.
@@ -107,6 +109,7 @@ impl<'a> Drawing<'a> {
             request: 0,
             reset: None,
             task: Task::Nothing,
+            came: 0,
             heard: 0,
             left: 0,
             server: BarMark::Nothing,

@@ -1,6 +1,6 @@
 //! The row of an event.
 
-use crate::answers::Which;
+use crate::answers::{Which, is_no_language, tokens_of, told};
 use crate::drawing::{Drawing, Moment, NOTHING, Task};
 use crate::wording::{client_text, mark_text, refusal_text, request_text, session_text};
 use std::alloc::{AllocError, Global};
@@ -10,7 +10,6 @@ use tds_play::{
     WorkOutcome,
 };
 use tds_request::Request;
-use tds_session::{Engine, ScriptEngine};
 use tds_text::put_units;
 use view_paint::{BarMark, Flight, FlightEnd, Look, Spot, cut_to};
 
@@ -72,6 +71,7 @@ impl<'a> Drawing<'a> {
         self.request = 0;
         self.reset = None;
         self.task = Task::Nothing;
+        self.came = 0;
         self.heard = 0;
     }
 
@@ -167,6 +167,7 @@ impl<'a> Drawing<'a> {
     fn draw_ask(&mut self, request: u32) -> Result<(), AllocError> {
         self.request = request;
         self.reset = None;
+        self.came = 0;
         let text = match self.asked_request() {
             None => String::new(self.alloc),
             Some(request) => request_text(self.alloc, request)?,
@@ -199,10 +200,9 @@ impl<'a> Drawing<'a> {
         let line = self.server_line();
         self.depart(line, index)?;
         self.say(Spot::Server, Look::Plain, false, text.as_str())?;
-        if let Task::Whole { done, count } = self.task {
+        if let Task::Whole { done } = self.task {
             self.task = Task::Whole {
                 done: done.saturating_add(1),
-                count,
             };
         }
         if outcome == WorkOutcome::Finished {
@@ -214,20 +214,23 @@ impl<'a> Drawing<'a> {
 
     /// What the server does in a step with this packet: its statement, where it runs one, and its tokens.
     fn step_text(&self, index: usize) -> Result<String, AllocError> {
-        let exchange = self.exchange;
-        let packet = exchange.packets.as_slice().get(index);
-        let mut text = match packet.is_some_and(|it| it.header.status.ends()) {
-            true => String::new(self.alloc),
-            false => self.statement()?,
+        let Some(packet) = self.exchange.packets.as_slice().get(index) else {
+            return Ok(String::new(self.alloc));
         };
-        text.push_str(self.tokens_at(index, Which::All)?.as_str())?;
+        let tokens = tokens_of(self.alloc, packet.data())?;
+        let runs = !packet.header.status.ends() && !is_no_language(tokens.as_slice());
+        let mut text = match runs {
+            true => self.statement()?,
+            false => String::new(self.alloc),
+        };
+        text.push_str(told(self.alloc, tokens.as_slice(), Which::All)?.as_str())?;
         Ok(text)
     }
 
     /// The statement that is run next, and a colon.
     fn statement(&self) -> Result<String, AllocError> {
         let mut shown = String::new(self.alloc);
-        let Some(units) = self.next_statement()? else {
+        let Some(units) = self.next_statement() else {
             return Ok(shown);
         };
         put_units(&mut shown, units)?;
@@ -236,22 +239,15 @@ impl<'a> Drawing<'a> {
         Ok(shown)
     }
 
-    /// The statement that is run next; none where the step runs none, as at a syntax error.
-    fn next_statement(&self) -> Result<Option<&'a [u16]>, AllocError> {
-        let (Task::Whole { done, .. }, Some(Request::Batch(text))) = (
-            self.task,
-            self.asked_request(),
-        ) else {
-            return Ok(None);
+    /// The statement that is run next: a reset has the first step where one is asked for.
+    fn next_statement(&self) -> Option<&'a [u16]> {
+        let (Task::Whole { done }, Some(Request::Batch(text))) = (self.task, self.asked_request())
+        else {
+            return None;
         };
-        let Some(place) = done.checked_sub(usize::from(self.reset.is_some())) else {
-            return Ok(None);
-        };
-        if ScriptEngine.parse(self.alloc, text.units())?.is_none() {
-            return Ok(None);
-        }
+        let place = done.checked_sub(usize::from(self.reset.is_some()))?;
         let semicolon = u16::from(b';');
-        Ok(text.units().split(|unit| *unit == semicolon).nth(place))
+        text.units().split(|unit| *unit == semicolon).nth(place)
     }
 
     fn draw_to_client(&mut self, count: u32, moment: Moment<'a>) -> Result<(), AllocError> {

@@ -1,11 +1,9 @@
-//! What went over each connection in a play: its packets, each with the event that handed it over.
+//! A play with its packets and its connections, as its trace tells them.
 #![tactic(auto)]
 
-mod carrier;
-mod following;
-mod numbers;
+mod conns;
+mod exchange;
 mod packets;
 
-pub use carrier::KeepingCarrier;
-pub use following::{Exchange, play_kept};
+pub use exchange::{Exchange, play_kept};
 pub use packets::Packet;

@@ -1,8 +1,8 @@
 //! The packets of a play.
 
-use crate::carrier::Handed;
 use std::alloc::{AllocError, Global};
 use tds_packet::{Direction, Header, PacketReader, PacketSize};
+use tds_trace::{Call, Made};
 
 /// A packet that was handed over.
 #[derive(Drop)]
@@ -28,19 +28,28 @@ impl Packet {
     }
 }
 
-/// Appends the packets that were handed over in these calls, as of this event.
-pub(crate) fn put_all(
+/// The packets that were handed over in these calls, in their order.
+pub(crate) fn packets_of(
     alloc: Global,
-    packets: &mut Vec<Packet>,
     size: PacketSize,
-    event: usize,
-    made: &[Handed],
-) -> Result<(), AllocError> {
-    for handed in made {
-        let mut reader = PacketReader::new(alloc, size, handed.direction)?;
-        put_packets(alloc, packets, &mut reader, event, handed)?;
+    calls: &[Call],
+) -> Result<Vec<Packet>, AllocError> {
+    let mut packets = Vec::new(alloc);
+    for call in calls {
+        if let Made::Send(direction, bytes) = &call.made {
+            let mut reader = PacketReader::new(alloc, size, *direction)?;
+            let way = *direction;
+            put_packets(
+                alloc,
+                &mut packets,
+                &mut reader,
+                call,
+                way,
+                bytes.as_slice(),
+            )?;
+        }
     }
-    Ok(())
+    Ok(packets)
 }
 
 /// Appends those of one call, as this reader finds them.
@@ -48,12 +57,13 @@ fn put_packets(
     alloc: Global,
     packets: &mut Vec<Packet>,
     reader: &mut PacketReader,
-    event: usize,
-    handed: &Handed,
+    call: &Call,
+    direction: Direction,
+    bytes: &[u8],
 ) -> Result<(), AllocError> {
-    let mut rest = handed.bytes.as_slice();
+    let mut rest = bytes;
     // A packet has a byte at least.
-    for _ in 0..handed.bytes.len() {
+    for _ in 0..bytes.len() {
         if rest.is_empty() {
             break;
         }
@@ -65,9 +75,9 @@ fn put_packets(
         };
         let header = packet.header;
         packets.push(Packet {
-            event,
-            conn: handed.conn,
-            direction: handed.direction,
+            event: call.event as usize,
+            conn: call.conn,
+            direction,
             header,
             bytes: Vec::from_slice(alloc, &rest[..count])?,
         })?;

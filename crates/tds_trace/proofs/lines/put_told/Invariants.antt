@@ -1,0 +1,6 @@
+use Rattle.std.proofs.Common.{◌≡◌, ◌++◌, string_bytes, take}
+use Rattle.tds_trace.specs.Lines.{tokens_text}
+use Rattle.tds_trace.proofs.lines.put_told.Given as goal
+
+abbrev pub invariant-loop-index : goal.invariant-loop-index
+invariant-loop-index l = string_bytes l.text ≡ string_bytes l.fn.text ++ tokens_text (take l.index l.tokens)

@@ -1,0 +1,13 @@
+use Rattle.std.proofs.Common.{◌≡◌, ap, arith}
+use Rattle.std.specs.Prelude.{◌≤◌, length}
+use Rattle.std.specs.Io.Take.{take_inner}
+use Rattle.tds_play.specs.Runs.{file_limit}
+use Rattle.tds_trace.proofs.Reading.{all_of_take}
+use Rattle.tds_trace.proofs.run.read_file.Goals as goal
+
+pub returns-in-Ok-clause-bytes : goal.returns-in-Ok-clause-bytes
+returns-in-Ok-clause-bytes g c =
+    let few : length c.read_to_end.new.buf.items ≤ file_limit = omega (arith, c.if-len-le-FILE_LIMIT.true, c.len.ensures)
+    in let same : (take_inner c.take-front.result).now ≡ c.args.reader.now = search (c.take-front.ensures.inner)
+    in all_of_take (λ reader. g.R.Read.remaining reader.now) c.take-front.result (g.R.Read.remaining c.args.reader.now) file_limit
+    c.new-bytes.result.items c.read_to_end.new.buf.items c.take-front.ensures.limit (ap g.R.Read.remaining same) c.new-bytes.ensures.items c.in-Ok.ensures.bytes few

@@ -1,0 +1,111 @@
+//! A run from a schedule file to the printed trace.
+ghost use Rattle.std.specs.Prelude.{◌≡◌, ◌⊎◌, IfOk, OnOk, string_bytes};
+ghost use Rattle.tds_play.specs.Runs.{AreLeft, FitsFile};
+ghost use Rattle.tds_trace.specs.Runs.{IsTraceOf, Traces};
+
+use crate::fault::TraceFault;
+use crate::lines::put_trace;
+use crate::tracing::play_traced;
+use std::alloc::{AllocError, Global};
+use std::fmt::Write as _;
+use std::io::{ErrorKind, Read, Write};
+use tds_play::{RenderFault, read_schedule};
+use tds_text::write_whole;
+
+/// The most bytes of a schedule file, as of a run of `play`.
+const FILE_LIMIT: usize = 33_554_432;
+
+/// Reads a schedule, plays it over memory, and prints the trace to `output`, or a line about the first
+/// fault to `errors`: the one that a run of `play` tells. It answers the exit status: 0 if the whole
+/// trace went out, else 1.
+pub fn run_trace<R: Read, W: Write, F: Write>(
+    alloc: Global,
+    reader: &mut R,
+    output: &mut W,
+    errors: &mut F,
+) -> u8
+    ensures status { (result ≡ 0) ⊎ (result ≡ 1) }
+    ensures fits { result ≡ 0 → FitsFile (R.remaining reader.old) }
+    ensures trace { result ≡ 0
+        → Traces (R.remaining reader.old) (W.contents output.old) (W.contents output.new) }
+    ensures silent { result ≡ 0 → F.contents errors.new ≡ F.contents errors.old }
+{
+    match trace_file(alloc, reader, output) {
+        Ok(()) => 0,
+        Err(fault) => {
+            tell(alloc, &fault, errors);
+            1
+        }
+    }
+}
+
+fn tell<F: Write>(alloc: Global, fault: &TraceFault, errors: &mut F) {
+    let mut line = String::new(alloc);
+    let line = match fault.put(&mut line) {
+        Ok(()) => line.as_str(),
+        Err(_) => "error: memory\n",
+    };
+    // Where that fails, there is nobody to tell.
+    let _ = write_whole(errors, line);
+}
+
+impl TraceFault {
+    /// Appends the fault's line.
+    fn put(&self, line: &mut String) -> Result<(), AllocError> {
+        match self {
+            TraceFault::File => line.push_str("error: file\n"),
+            TraceFault::Json => line.push_str("error: json\n"),
+            TraceFault::Schedule(place) => write!(line, "error: schedule {place}\n"),
+            TraceFault::Play(refusal) => write!(line, "error: play {}\n", refusal.number()),
+            TraceFault::Output => line.push_str("error: output\n"),
+            TraceFault::Memory => line.push_str("error: memory\n"),
+        }
+    }
+}
+
+fn trace_file<R: Read, W: Write>(
+    alloc: Global,
+    reader: &mut R,
+    output: &mut W,
+) -> Result<(), TraceFault>
+    ensures fits { OnOk result (FitsFile (R.remaining reader.old)) }
+    ensures trace { OnOk result
+        (Traces (R.remaining reader.old) (W.contents output.old) (W.contents output.new)) }
+{
+    let bytes = read_file(alloc, reader)?;
+    let text = trace_of(alloc, bytes.as_slice())?;
+    match write_whole(output, text.as_str()) {
+        Ok(()) => Ok(()),
+        Err(RenderFault::Write) => Err(TraceFault::Output),
+        Err(RenderFault::Memory) => Err(TraceFault::Memory),
+    }
+}
+
+/// The trace of the play that the bytes of a schedule file spell.
+fn trace_of(alloc: Global, bytes: &[u8]) -> Result<String, TraceFault>
+    ensures { IfOk result (λ text. IsTraceOf bytes.now (string_bytes text)) }
+{
+    let (setup, events) = read_schedule(alloc, bytes)?;
+    let trace = play_traced(alloc, &setup, events.as_slice())?;
+    let mut text = String::new(alloc);
+    let calls = trace.calls.as_slice();
+    put_trace(alloc, &mut text, &setup, &trace.report, calls)?;
+    Ok(text)
+}
+
+/// Reads what is left; of a file that is too long, one byte more than it may have.
+fn read_file<R: Read>(alloc: Global, reader: &mut R) -> Result<Vec<u8>, TraceFault>
+    ensures bytes { IfOk result (λ bytes. AreLeft (R.remaining reader.old) bytes.items) }
+    ensures fits { OnOk result (FitsFile (R.remaining reader.old)) }
+{
+    let mut bytes = Vec::new(alloc);
+    let mut front = reader.take(FILE_LIMIT as u64 + 1);
+    match front.read_to_end(&mut bytes) {
+        Ok(_) if bytes.len() <= FILE_LIMIT => Ok(bytes),
+        Ok(_) => Err(TraceFault::File),
+        Err(error) => match error.kind() {
+            ErrorKind::OutOfMemory => Err(TraceFault::Memory),
+            _ => Err(TraceFault::File),
+        },
+    }
+}
