@@ -2,7 +2,7 @@
 //! runs: its contract is the law.
 
 ghost use Rattle.tds_session.specs.declared.attention.OnAttention.{OnAttention};
-ghost use Rattle.tds_session.specs.Answer.{Answers};
+ghost use Rattle.tds_session.specs.Answer.{Answers, script_answers};
 ghost use Rattle.tds_world.specs.Begins.{HandsOutNext};
 ghost use Rattle.tds_world.specs.Dones.{HaveDones};
 ghost use Rattle.tds_world.specs.declared.event.Setup.{Setup};
@@ -14,7 +14,11 @@ ghost use Rattle.tds_lawful.specs.Alone.{ResetsFirst};
 ghost use Rattle.tds_lawful_server.specs.Bench.{Log, bench};
 ghost use Rattle.tds_lawful_server.specs.Runs.{AreRuns};
 
-use tds_world::laws::requests_are_spelled;
+use tds_session::ScriptEngine;
+use tds_world::laws::{
+    engine_has_dones, engine_stays_in_range, requests_are_spelled, script_hands_out_next,
+    script_is_lawful,
+};
 
 /// Whatever was asked, what the bench's server says keeps the rules; and what it says behind a reset
 /// is what it says without one in the session that the reset leaves.
@@ -34,4 +38,21 @@ pub fn plays_are_runs()
         → Always setup answers (AreRuns answers) }
 {
     requests_are_spelled();
+}
+
+/// With the batch language nothing is supposed: its server keeps the rules, answers behind a reset as
+/// without one, and each connection of a play is a run of it.
+pub fn script_runs()
+    ensures lawful { (attention : OnAttention) (log : Log)
+        → IsLawful (bench attention script_answers log) }
+    ensures resets { (attention : OnAttention) (log : Log)
+        → ResetsFirst (bench attention script_answers log) }
+    ensures plays { (setup : Setup) → Always setup script_answers (AreRuns script_answers) }
+{
+    bench_is_lawful();
+    plays_are_runs();
+    script_is_lawful();
+    script_hands_out_next();
+    engine_has_dones(&ScriptEngine);
+    engine_stays_in_range(&ScriptEngine);
 }
