@@ -7,4 +7,4 @@ pub returns-clause-resets : goal.returns-clause-resets
 returns-clause-resets c = λ attention log. c.bench_is_lawful.ensures.resets attention _ log c.script_is_lawful.ensures
 
 pub returns-clause-plays : goal.returns-clause-plays
-returns-clause-plays c = λ setup. c.plays_are_runs.ensures setup _ c.script_is_lawful.ensures c.engine_stays_in_range.ensures
+returns-clause-plays c = λ setup. c.plays_are_runs.ensures.each setup _ c.script_is_lawful.ensures c.engine_stays_in_range.ensures
