@@ -1,16 +1,17 @@
 //! What holds of one connection in front of a server that keeps the rules, whatever it answers and
 //! whatever is called. Each function does nothing when it runs: its contract is the law.
 
-ghost use Rattle.std.specs.Prelude.{◌≡◌, ◌<◌, ◌++◌, ◌∷◌, ℕ, List, Bool, None, true};
+ghost use Rattle.std.specs.Prelude.{◌≡◌, ◌<◌, ◌++◌, ◌∷◌, ℕ, List, Bool, None, Some, true};
+ghost use Rattle.tds_packet.specs.declared.status.Reset.TheVariants.{Full};
 ghost use Rattle.tds_service.specs.Line.{Act, Idle, Lose, new_line};
 ghost use Rattle.tds_service.specs.History.{given, history, line_after};
 ghost use Rattle.tds_service.specs.Service.{is_clean};
-ghost use Rattle.tds_lawful.specs.Lawful.{Engine, IsLawful, told_of};
+ghost use Rattle.tds_lawful.specs.Lawful.{Engine, IsLawful, Session, told_of};
 ghost use Rattle.tds_lawful.specs.Link.{IsRun, Link, May, Move, goes, link_after, new_link};
 ghost use Rattle.tds_lawful.specs.Answering.{Begins, NoFault, answered, finishes};
 ghost use Rattle.tds_lawful.specs.Agreeing.{AllInNamed, IsQuiet};
 ghost use Rattle.tds_lawful.specs.Starting.{IsLeftClean, StartsFresh, owed_after};
-ghost use Rattle.tds_lawful.specs.Alone.{IsBeside, ResetsFirst, answered_alone};
+ghost use Rattle.tds_lawful.specs.Alone.{IsBeside, ResetsFirst, answered_alone, left_by};
 ghost use Rattle.tds_lawful.specs.Alone.{beside_after, new_beside};
 ghost use Rattle.tds_lawful.specs.Working.{CanGo, Waits, Works, left_to_do};
 
@@ -118,4 +119,7 @@ pub fn as_if_alone<V, T>()
     ensures beside { (engine : Engine V T) (acts : List (Act T)) (moves : List (Move T))
         → IsLawful engine → ResetsFirst engine → IsRun engine moves (history new_line acts)
         → IsBeside engine.settings (beside_after engine (new_beside engine) moves) }
+    // Behind a full reset, whatever was before, it is as behind a login.
+    ensures fresh { (engine : Engine V T) (s : Session V)
+        → left_by engine.settings (Some Full) s ≡ (new_link engine).server.session }
 {}

@@ -78,28 +78,28 @@ none_due : (c : Connection) (ups : List Up) (downs : List Down) (link : Link Kep
 none_due c ups downs link h e = h.due ∙ ap (λ (ss : List answer.Step). said c.session.descriptor ss) e
 
 -- one move leads there
-takes_leads : (attention : OnAttention) (answers : Answers) (log : Log) (c : Connection) (e : Up) (es : List Up) (downs : List Down) (l : Leads attention answers log c (e ∷ es) downs)
-    (f : First (place_of c) e es (link_of attention answers log l.moves).up)
-    → MayTake (packet_of (place_of c) e) (link_of attention answers log l.moves).server.due
+takes_leads : (attention : OnAttention) (answers : Answers) (log : Log) (moves : List (Move Token)) (c : Connection) (e : Up) (es : List Up) (downs : List Down) (l : Leads attention answers log moves c (e ∷ es) downs)
+    (f : First (place_of c) e es (link_of attention answers log moves).up)
+    → MayTake (packet_of (place_of c) e) (link_of attention answers log moves).server.due
     → (arrived answers c e).to_server.arrived ≡ c.to_server.arrived ++ e ∷ [] → (arrived answers c e).to_client.arrived ≡ c.to_client.arrived
-    → Holds (arrived answers c e) es downs (took (bench attention answers log) (link_of attention answers log l.moves) f.next f.others (packet_of (place_of c) e))
-    → Leads attention answers log (arrived answers c e) es downs
-takes_leads attention answers log c e es downs l f m i j h =
+    → Holds (arrived answers c e) es downs (took (bench attention answers log) (link_of attention answers log moves) f.next f.others (packet_of (place_of c) e))
+    → Leads attention answers log (moves ++ Takes ∷ []) (arrived answers c e) es downs
+takes_leads attention answers log moves c e es downs l f m i j h =
     let engine : Engine Kept Token = bench attention answers log in
-    let link : Link Kept Token = link_of attention answers log l.moves in
-    leads_on attention answers log c (arrived answers c e) (e ∷ es) es downs downs l (Takes ∷ [])
+    let link : Link Kept Token = link_of attention answers log moves in
+    leads_on attention answers log moves c (arrived answers c e) (e ∷ es) es downs downs l (Takes ∷ [])
     (may_take link f.next f.others (packet_of (place_of c) e) f.are f.packet m, tt)
     (ap (λ (xs : List Up). packets_of first_place (xs ++ es)) i ∙ same_packets c e es)
     (ap things_of j ∙ sym (append-nil (things_of c.to_client.arrived)))
     (subst (λ (k : Link Kept Token). Holds (arrived answers c e) es downs k) (sym (took_it engine link f.next f.others (packet_of (place_of c) e) f.are f.packet)) h)
 
-pub part_leads : (attention : OnAttention) (answers : Answers) (log : Log) (c : Connection) (r : ℕ) (p : entries.Packet) (es : List Up) (downs : List Down) → c.due ≡ []
-    → Leads attention answers log c (Part r p ∷ es) downs → Leads attention answers log (arrived answers c (Part r p)) es downs
-part_leads attention answers log c r p es downs d l =
-    let link : Link Kept Token = link_of attention answers log l.moves in
+pub part_leads : (attention : OnAttention) (answers : Answers) (log : Log) (moves : List (Move Token)) (c : Connection) (r : ℕ) (p : entries.Packet) (es : List Up) (downs : List Down) → c.due ≡ []
+    → Leads attention answers log moves c (Part r p ∷ es) downs → Leads attention answers log (moves ++ Takes ∷ []) (arrived answers c (Part r p)) es downs
+part_leads attention answers log moves c r p es downs d l =
+    let link : Link Kept Token = link_of attention answers log moves in
     let h : Holds c (Part r p ∷ es) downs link = l.holds in
     let f : First (place_of c) (Part r p) es link.up = first_of (place_of c) (Part r p) es link.up h.up in
-    takes_leads attention answers log c (Part r p) es downs l f (none_due c (Part r p ∷ es) downs link h d) refl refl
+    takes_leads attention answers log moves c (Part r p) es downs l f (none_due c (Part r p ∷ es) downs link h d) refl refl
     (record {
       up = ups_next c (Part r p) es f.others f.rest;
       reset = reset_next c (Part r p) _ (asks_on (place_of c).begun p link.server.reset (place_of c).reset h.reset);
@@ -110,13 +110,13 @@ part_leads attention answers log c r p es downs d l =
       down = h.down;
     })
 
-pub drop_leads : (attention : OnAttention) (answers : Answers) (log : Log) (c : Connection) (r : ℕ) (p : entries.Packet) (es : List Up) (downs : List Down) → c.due ≡ []
-    → Leads attention answers log c (Drop r p ∷ es) downs → Leads attention answers log (arrived answers c (Drop r p)) es downs
-drop_leads attention answers log c r p es downs d l =
-    let link : Link Kept Token = link_of attention answers log l.moves in
+pub drop_leads : (attention : OnAttention) (answers : Answers) (log : Log) (moves : List (Move Token)) (c : Connection) (r : ℕ) (p : entries.Packet) (es : List Up) (downs : List Down) → c.due ≡ []
+    → Leads attention answers log moves c (Drop r p ∷ es) downs → Leads attention answers log (moves ++ Takes ∷ []) (arrived answers c (Drop r p)) es downs
+drop_leads attention answers log moves c r p es downs d l =
+    let link : Link Kept Token = link_of attention answers log moves in
     let h : Holds c (Drop r p ∷ es) downs link = l.holds in
     let f : First (place_of c) (Drop r p) es link.up = first_of (place_of c) (Drop r p) es link.up h.up in
-    takes_leads attention answers log c (Drop r p) es downs l f (none_due c (Drop r p ∷ es) downs link h d) refl refl
+    takes_leads attention answers log moves c (Drop r p) es downs l f (none_due c (Drop r p ∷ es) downs link h d) refl refl
     (record {
       up = ups_next c (Drop r p) es f.others f.rest;
       reset = reset_next c (Drop r p) None refl;
@@ -169,17 +169,17 @@ rolls_none c ss midway d e =
     e ∙ ap (λ (xs : List answer.Step). is_midway c.taken xs && is_in_transaction c.session) d
     ∙ sym (ap (λ (b : Bool). b && is_in_transaction c.session) (not_midway ss))
 
-pub end_leads : (attention : OnAttention) (answers : Answers) (log : Log) (c : Connection) (r : ℕ) (a : entries.Asking) (p : entries.Packet) (es : List Up) (downs : List Down) (out : Message)
+pub end_leads : (attention : OnAttention) (answers : Answers) (log : Log) (moves : List (Move Token)) (c : Connection) (r : ℕ) (a : entries.Asking) (p : entries.Packet) (es : List Up) (downs : List Down) (out : Message)
     → c.due ≡ [] → 0 < c.session.next_descriptor → log (place_of c).number ≡ asked_now c a → AreRequests Nothing (c.to_server.arrived ++ End r a p ∷ es) out
-    → Leads attention answers log c (End r a p ∷ es) downs → Leads attention answers log (arrived answers c (End r a p)) es downs
-end_leads attention answers log c r a p es downs out d some x are l =
-    let link : Link Kept Token = link_of attention answers log l.moves in
+    → Leads attention answers log moves c (End r a p ∷ es) downs → Leads attention answers log (moves ++ Takes ∷ []) (arrived answers c (End r a p)) es downs
+end_leads attention answers log moves c r a p es downs out d some x are l =
+    let link : Link Kept Token = link_of attention answers log moves in
     let h : Holds c (End r a p ∷ es) downs link = l.holds in
     let f : First (place_of c) (End r a p) es link.up = first_of (place_of c) (End r a p) es link.up h.up in
     let s : Split Nothing out c.to_server.arrived (End r a p ∷ es) = requests_split Nothing out c.to_server.arrived (End r a p ∷ es) are in
     let mark : (if not (place_of c).begun then asked_by (place_of c).begun p else link.server.reset) ≡ a.mark =
     end_asks (place_of c) s.middle a p link.server.reset (asked_at first_place Nothing s.middle c.to_server.arrived refl s.front) s.rest.0 s.rest.1 h.reset in
-    takes_leads attention answers log c (End r a p) es downs l f (none_due c (End r a p ∷ es) downs link h d) refl refl
+    takes_leads attention answers log moves c (End r a p) es downs l f (none_due c (End r a p ∷ es) downs link h d) refl refl
     (record {
       up = ups_next c (End r a p) es f.others f.rest;
       reset = reset_next c (End r a p) None refl;

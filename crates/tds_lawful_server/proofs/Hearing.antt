@@ -85,16 +85,16 @@ things_more c e items last i =
     things_both c.to_client.arrived (e ∷ []) ∙ ap (λ (zs : List (Thing Token)). things_of c.to_client.arrived ++ zs) i
     ∙ ap (λ (zs : List (Thing Token)). things_of c.to_client.arrived ++ zs) (sym (append-nil (then_items items (then_close (close_if last) []))))
 
-come_leads : (attention : OnAttention) (answers : Answers) (log : Log) (c : Connection) (e : Down) (es : List Down) (ups : List Up) (items : List (Item Token)) (last : Bool)
+come_leads : (attention : OnAttention) (answers : Answers) (log : Log) (moves : List (Move Token)) (c : Connection) (e : Down) (es : List Down) (ups : List Up) (items : List (Item Token)) (last : Bool)
     → IsSome items last → things_of (e ∷ es) ≡ then_items items (then_close (close_if last) (things_of es)) → things_of (e ∷ []) ≡ then_items items (then_close (close_if last) [])
-    → Leads attention answers log c ups (e ∷ es)
-    → Leads attention answers log (record c { to_client = passed e c.to_client }) ups es
-come_leads attention answers log c e es ups items last s i j l =
-    let link : Link Kept Token = link_of attention answers log l.moves in
+    → Leads attention answers log moves c ups (e ∷ es)
+    → Leads attention answers log (moves ++ comes_it items last ∷ []) (record c { to_client = passed e c.to_client }) ups es
+come_leads attention answers log moves c e es ups items last s i j l =
+    let link : Link Kept Token = link_of attention answers log moves in
     let h : Holds c ups (e ∷ es) link = l.holds in
     let down : things_said link.down ≡ then_items items (then_close (close_if last) (things_of es)) = h.down ∙ i in
     let n : Next items (close_if last) link.down (things_of es) = comes_next items last link.down (things_of es) down in
-    leads_on attention answers log c (record c { to_client = passed e c.to_client }) ups ups (e ∷ es) es l (comes_it items last ∷ [])
+    leads_on attention answers log moves c (record c { to_client = passed e c.to_client }) ups ups (e ∷ es) es l (comes_it items last ∷ [])
     ((some_there items last link.down link.server.due (things_of es) s down, n.next), tt)
     (sym (append-nil (packets_of first_place (c.to_server.arrived ++ ups))))
     (things_more c e items last j)
@@ -109,12 +109,12 @@ come_leads attention answers log c e es ups items last s i j l =
     })
 
 -- nothing comes of a step without tokens
-none_leads : (attention : OnAttention) (answers : Answers) (log : Log) (c : Connection) (e : Down) (es : List Down) (ups : List Up) → things_of (e ∷ es) ≡ things_of es → things_of (e ∷ []) ≡ []
-    → Leads attention answers log c ups (e ∷ es) → Leads attention answers log (record c { to_client = passed e c.to_client }) ups es
-none_leads attention answers log c e es ups i j l =
-    let link : Link Kept Token = link_of attention answers log l.moves in
+none_leads : (attention : OnAttention) (answers : Answers) (log : Log) (moves : List (Move Token)) (c : Connection) (e : Down) (es : List Down) (ups : List Up) → things_of (e ∷ es) ≡ things_of es → things_of (e ∷ []) ≡ []
+    → Leads attention answers log moves c ups (e ∷ es) → Leads attention answers log (moves ++ []) (record c { to_client = passed e c.to_client }) ups es
+none_leads attention answers log moves c e es ups i j l =
+    let link : Link Kept Token = link_of attention answers log moves in
     let h : Holds c ups (e ∷ es) link = l.holds in
-    leads_on attention answers log c (record c { to_client = passed e c.to_client }) ups ups (e ∷ es) es l [] tt
+    leads_on attention answers log moves c (record c { to_client = passed e c.to_client }) ups ups (e ∷ es) es l [] tt
     (sym (append-nil (packets_of first_place (c.to_server.arrived ++ ups))))
     (things_both c.to_client.arrived (e ∷ []) ∙ ap (λ (zs : List (Thing Token)). things_of c.to_client.arrived ++ zs) j)
     (record { up = h.up; reset = h.reset; transaction = h.transaction; settings = h.settings; rolls = h.rolls; due = h.due; down = h.down ∙ i })
@@ -124,44 +124,51 @@ step_is : (s : answer.Step) (ts : List Token) (last : Bool) → s.tokens ≡ ts 
 step_is s ts last e f rest =
     ap (λ (xs : List Token). then_items (items_of xs) (then_close (close_if s.last) rest)) e ∙ ap (λ (b : Bool). then_items (items_of ts) (then_close (close_if b) rest)) f
 
-step_leads : (attention : OnAttention) (answers : Answers) (log : Log) (c : Connection) (r place : ℕ) (s : answer.Step) (es : List Down) (ups : List Up) (ts : List Token) (last : Bool) → s.tokens ≡ ts → s.last ≡ last
-    → Leads attention answers log c ups (Step r place s ∷ es) → Leads attention answers log (record c { to_client = passed (Step r place s) c.to_client }) ups es
-step_leads attention answers log c r place s es ups [] false e f l =
-    none_leads attention answers log c (Step r place s) es ups (step_is s [] false e f (things_of es)) (step_is s [] false e f []) l
-step_leads attention answers log c r place s es ups [] true e f l =
-    come_leads attention answers log c (Step r place s) es ups [] true tt (step_is s [] true e f (things_of es)) (step_is s [] true e f []) l
-step_leads attention answers log c r place s es ups (t ∷ ts) last e f l =
-    come_leads attention answers log c (Step r place s) es ups (items_of (t ∷ ts)) last tt (step_is s (t ∷ ts) last e f (things_of es)) (step_is s (t ∷ ts) last e f []) l
+abbrev pub come_moves : List Token → Bool → List (Move Token)
+come_moves [] false = []
+come_moves [] true = comes_it [] true ∷ []
+come_moves (t ∷ ts) last = comes_it (items_of (t ∷ ts)) last ∷ []
+
+abbrev pub heard_moves : Down → List (Move Token)
+heard_moves (Step r place s) = come_moves s.tokens s.last
+heard_moves (Acknowledgement r place changes) = comes_it (items_of (acknowledging changes)) true ∷ []
+
+step_leads : (attention : OnAttention) (answers : Answers) (log : Log) (moves : List (Move Token)) (c : Connection) (r place : ℕ) (s : answer.Step) (es : List Down) (ups : List Up) (ts : List Token) (last : Bool) → s.tokens ≡ ts → s.last ≡ last
+    → Leads attention answers log moves c ups (Step r place s ∷ es) → Leads attention answers log (moves ++ come_moves ts last) (record c { to_client = passed (Step r place s) c.to_client }) ups es
+step_leads attention answers log moves c r place s es ups [] false e f l =
+    none_leads attention answers log moves c (Step r place s) es ups (step_is s [] false e f (things_of es)) (step_is s [] false e f []) l
+step_leads attention answers log moves c r place s es ups [] true e f l =
+    come_leads attention answers log moves c (Step r place s) es ups [] true tt (step_is s [] true e f (things_of es)) (step_is s [] true e f []) l
+step_leads attention answers log moves c r place s es ups (t ∷ ts) last e f l =
+    come_leads attention answers log moves c (Step r place s) es ups (items_of (t ∷ ts)) last tt (step_is s (t ∷ ts) last e f (things_of es)) (step_is s (t ∷ ts) last e f []) l
 
 some_acknowledges : (changes : List EnvChange) → IsSome (items_of (acknowledging changes)) true
 some_acknowledges [] = tt
 some_acknowledges (change ∷ changes) = tt
 
-heard_leads : (attention : OnAttention) (answers : Answers) (log : Log) (c : Connection) (e : Down) (es : List Down) (ups : List Up)
-    → Leads attention answers log c ups (e ∷ es) → Leads attention answers log (record c { to_client = passed e c.to_client }) ups es
-heard_leads attention answers log c (Step r place s) es ups l = step_leads attention answers log c r place s es ups s.tokens s.last refl refl l
-heard_leads attention answers log c (Acknowledgement r place changes) es ups l =
-    come_leads attention answers log c (Acknowledgement r place changes) es ups (items_of (acknowledging changes)) true (some_acknowledges changes) refl refl l
+heard_leads : (attention : OnAttention) (answers : Answers) (log : Log) (moves : List (Move Token)) (c : Connection) (e : Down) (es : List Down) (ups : List Up)
+    → Leads attention answers log moves c ups (e ∷ es) → Leads attention answers log (moves ++ heard_moves e) (record c { to_client = passed e c.to_client }) ups es
+heard_leads attention answers log moves c (Step r place s) es ups l = step_leads attention answers log moves c r place s es ups s.tokens s.last refl refl l
+heard_leads attention answers log moves c (Acknowledgement r place changes) es ups l =
+    come_leads attention answers log moves c (Acknowledgement r place changes) es ups (items_of (acknowledging changes)) true (some_acknowledges changes) refl refl l
 
 -- what the client makes of it is not seen here
-acts_leads : (attention : OnAttention) (answers : Answers) (log : Log) (c : Connection) (e : Down) (es : List Down) (ups : List Up)
-    → Leads attention answers log c ups es → Leads attention answers log (client_acts c e) ups es
-acts_leads attention answers log c (Step r place s) es ups l = record {
-  moves = l.moves;
+acts_leads : (attention : OnAttention) (answers : Answers) (log : Log) (moves : List (Move Token)) (c : Connection) (e : Down) (es : List Down) (ups : List Up)
+    → Leads attention answers log moves c ups es → Leads attention answers log moves (client_acts c e) ups es
+acts_leads attention answers log moves c (Step r place s) es ups l = record {
   runs = l.runs;
   sent = l.sent;
   came = l.came;
   holds = record { up = l.holds.up; reset = l.holds.reset; transaction = l.holds.transaction; settings = l.holds.settings; rolls = l.holds.rolls; due = l.holds.due; down = l.holds.down };
 }
-acts_leads attention answers log c (Acknowledgement r place changes) es ups l = record {
-  moves = l.moves;
+acts_leads attention answers log moves c (Acknowledgement r place changes) es ups l = record {
   runs = l.runs;
   sent = l.sent;
   came = l.came;
   holds = record { up = l.holds.up; reset = l.holds.reset; transaction = l.holds.transaction; settings = l.holds.settings; rolls = l.holds.rolls; due = l.holds.due; down = l.holds.down };
 }
 
-pub hears_leads : (attention : OnAttention) (answers : Answers) (log : Log) (c : Connection) (e : Down) (es : List Down) (ups : List Up)
-    → Leads attention answers log c ups (e ∷ es) → Leads attention answers log (hearing c e) ups es
-hears_leads attention answers log c e es ups l =
-    acts_leads attention answers log (record c { to_client = passed e c.to_client }) e es ups (heard_leads attention answers log c e es ups l)
+pub hears_leads : (attention : OnAttention) (answers : Answers) (log : Log) (moves : List (Move Token)) (c : Connection) (e : Down) (es : List Down) (ups : List Up)
+    → Leads attention answers log moves c ups (e ∷ es) → Leads attention answers log (moves ++ heard_moves e) (hearing c e) ups es
+hears_leads attention answers log moves c e es ups l =
+    acts_leads attention answers log (moves ++ heard_moves e) (record c { to_client = passed e c.to_client }) e es ups (heard_leads attention answers log moves c e es ups l)

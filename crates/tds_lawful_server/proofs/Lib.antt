@@ -9,4 +9,5 @@ pub mod Stopping
 pub mod Working
 pub mod Hearing
 pub mod Running
+pub mod Moments
 pub mod Refused

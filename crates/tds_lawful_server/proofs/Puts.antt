@@ -57,13 +57,16 @@ asks_it number named = links.Here (record { act = line.Ask; answer = line.Asked 
 abbrev pub sends_it : Bool → line.Packet → Move Token
 sends_it last p = links.Here (record { act = line.Send last; answer = line.Sent; sent = p ∷ []; told = line.Nobody })
 
-pub leads_sends : (attention : OnAttention) (answers : Answers) (log : Log) (c : Connection) (e : Up) (o : Option Record) (last : Bool) (named : ℕ) → Names e (record { request = (out_place c).number; named = named })
-    → Leads attention answers log c c.to_server.waiting c.to_client.waiting
-    → Leads attention answers log (with_sent c e o) (c.to_server.waiting ++ e ∷ []) c.to_client.waiting
-leads_sends attention answers log c e o last named n l =
-    let link : Link Kept Token = link_of attention answers log l.moves in
+abbrev pub sends_moves : Connection → Up → Bool → ℕ → List (Move Token)
+sends_moves c e last named = asks_it (out_place c).number named ∷ sends_it last (next_packet c e) ∷ []
+
+pub leads_sends : (attention : OnAttention) (answers : Answers) (log : Log) (moves : List (Move Token)) (c : Connection) (e : Up) (o : Option Record) (last : Bool) (named : ℕ) → Names e (record { request = (out_place c).number; named = named })
+    → Leads attention answers log moves c c.to_server.waiting c.to_client.waiting
+    → Leads attention answers log (moves ++ sends_moves c e last named) (with_sent c e o) (c.to_server.waiting ++ e ∷ []) c.to_client.waiting
+leads_sends attention answers log moves c e o last named n l =
+    let link : Link Kept Token = link_of attention answers log moves in
     let asking : Asking = record { request = (out_place c).number; named = named } in
-    leads_on attention answers log c (with_sent c e o) c.to_server.waiting (c.to_server.waiting ++ e ∷ []) c.to_client.waiting c.to_client.waiting l
+    leads_on attention answers log moves c (with_sent c e o) c.to_server.waiting (c.to_server.waiting ++ e ∷ []) c.to_client.waiting c.to_client.waiting l
     (asks_it (out_place c).number named ∷ sends_it last (next_packet c e) ∷ []) (tt, (tt, tt)) (sent_more c e) (none_came c)
     (holds_more c e o c.to_client.waiting link ((link.up ++ []) ++ (record { asking = asking; packet = next_packet c e }) ∷ []) asking asking n l.holds
     (ap (λ (us : List links.Up). us ++ (record { asking = asking; packet = next_packet c e }) ∷ []) (append-nil link.up)))
@@ -73,11 +76,14 @@ leads_sends attention answers log c e o last named n l =
 abbrev pub cancels_it : ℕ → line.Packet → Move Token
 cancels_it number p = links.Here (record { act = line.Cancel; answer = line.Stopped number; sent = p ∷ []; told = line.Nobody })
 
-pub leads_cancels : (attention : OnAttention) (answers : Answers) (log : Log) (c : Connection) (e : Up) (o : Option Record) → ((asking : Asking) → Names e asking)
-    → Leads attention answers log c c.to_server.waiting c.to_client.waiting
-    → Leads attention answers log (with_sent c e o) (c.to_server.waiting ++ e ∷ []) c.to_client.waiting
-leads_cancels attention answers log c e o n l =
-    let link : Link Kept Token = link_of attention answers log l.moves in
-    leads_on attention answers log c (with_sent c e o) c.to_server.waiting (c.to_server.waiting ++ e ∷ []) c.to_client.waiting c.to_client.waiting l
+abbrev pub cancels_moves : Connection → Up → List (Move Token)
+cancels_moves c e = cancels_it (out_place c).number (next_packet c e) ∷ []
+
+pub leads_cancels : (attention : OnAttention) (answers : Answers) (log : Log) (moves : List (Move Token)) (c : Connection) (e : Up) (o : Option Record) → ((asking : Asking) → Names e asking)
+    → Leads attention answers log moves c c.to_server.waiting c.to_client.waiting
+    → Leads attention answers log (moves ++ cancels_moves c e) (with_sent c e o) (c.to_server.waiting ++ e ∷ []) c.to_client.waiting
+leads_cancels attention answers log moves c e o n l =
+    let link : Link Kept Token = link_of attention answers log moves in
+    leads_on attention answers log moves c (with_sent c e o) c.to_server.waiting (c.to_server.waiting ++ e ∷ []) c.to_client.waiting c.to_client.waiting l
     (cancels_it (out_place c).number (next_packet c e) ∷ []) (tt, tt) (sent_more c e) (none_came c)
     (holds_more c e o c.to_client.waiting link (link.up ++ (record { asking = link.asking; packet = next_packet c e }) ∷ []) link.asking link.asking (n link.asking) l.holds refl)

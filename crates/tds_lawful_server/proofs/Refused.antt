@@ -147,8 +147,8 @@ no_run answers arrived m i =
     let engine = bench Keep answers i.log in
     let n : Mute (link_after engine (new_link engine) i.moves) =
     mute engine (new_link engine) i.moves (new_mute engine)
-    (subst (λ ps. AllMute ps) (sym i.sent) (subst (λ (es : List Up). AllMute (packets_of first_place es)) (sym (append-nil arrived)) m)) i.runs in
-    let e : [] ≡ things_of (said_done ∷ []) = sym (ap (λ (d : List (lawful.Step Kept Token)). things_said d) n.down) ∙ i.stands.down in
+    (subst (λ ps. AllMute ps) (sym i.to.sent) (subst (λ (es : List Up). AllMute (packets_of first_place es)) (sym (append-nil arrived)) m)) i.to.runs in
+    let e : [] ≡ things_of (said_done ∷ []) = sym (ap (λ (d : List (lawful.Step Kept Token)). things_said d) n.down) ∙ i.to.stands.down in
     let b : ⊥ = cc in b
 
 -- it answers before it is asked

@@ -114,8 +114,7 @@ holds_stand c link h = record {
 }
 
 -- A run that leads there.
-pub record Leads (attention : OnAttention) (answers : Answers) (log : Log) (c : Connection) (ups : List Up) (downs : List Down) : Type 0 where
-  pub moves : List (Move Token)
+pub record Leads (attention : OnAttention) (answers : Answers) (log : Log) (moves : List (Move Token)) (c : Connection) (ups : List Up) (downs : List Down) : Type 0 where
   pub runs : Runs (bench attention answers log) (new_link (bench attention answers log)) moves
   pub sent : packets_in (here moves) ≡ packets_of first_place (c.to_server.arrived ++ ups)
   pub came : things_in (here moves) ≡ things_of c.to_client.arrived
@@ -125,19 +124,18 @@ abbrev pub link_of : (attention : OnAttention) (answers : Answers) (log : Log) �
 link_of attention answers log moves = link_after (bench attention answers log) (new_link (bench attention answers log)) moves
 
 -- More moves lead on.
-pub leads_on : (attention : OnAttention) (answers : Answers) (log : Log) (c d : Connection) (ups ups_then : List Up) (downs downs_then : List Down)
-    (l : Leads attention answers log c ups downs) (more : List (Move Token))
-    → Runs (bench attention answers log) (link_of attention answers log l.moves) more
+pub leads_on : (attention : OnAttention) (answers : Answers) (log : Log) (moves : List (Move Token)) (c d : Connection) (ups ups_then : List Up) (downs downs_then : List Down)
+    (l : Leads attention answers log moves c ups downs) (more : List (Move Token))
+    → Runs (bench attention answers log) (link_of attention answers log moves) more
     → packets_of first_place (d.to_server.arrived ++ ups_then) ≡ packets_of first_place (c.to_server.arrived ++ ups) ++ packets_in (here more)
     → things_of d.to_client.arrived ≡ things_of c.to_client.arrived ++ things_in (here more)
-    → Holds d ups_then downs_then (link_after (bench attention answers log) (link_of attention answers log l.moves) more)
-    → Leads attention answers log d ups_then downs_then
-leads_on attention answers log c d ups ups_then downs downs_then l more r s t h =
+    → Holds d ups_then downs_then (link_after (bench attention answers log) (link_of attention answers log moves) more)
+    → Leads attention answers log (moves ++ more) d ups_then downs_then
+leads_on attention answers log moves c d ups ups_then downs downs_then l more r s t h =
     let engine : Engine Kept Token = bench attention answers log in
     record {
-      moves = l.moves ++ more;
-      runs = runs_both engine (new_link engine) l.moves more l.runs r;
-      sent = ap packets_in (here_both l.moves more) ∙ packets_in_both (here l.moves) (here more) ∙ ap (λ (ps : List line.Packet). ps ++ packets_in (here more)) l.sent ∙ sym s;
-      came = ap things_in (here_both l.moves more) ∙ things_in_both (here l.moves) (here more) ∙ ap (λ (zs : List (Thing Token)). zs ++ things_in (here more)) l.came ∙ sym t;
-      holds = subst (λ (k : Link Kept Token). Holds d ups_then downs_then k) (sym (after_both engine (new_link engine) l.moves more)) h;
+      runs = runs_both engine (new_link engine) moves more l.runs r;
+      sent = ap packets_in (here_both moves more) ∙ packets_in_both (here moves) (here more) ∙ ap (λ (ps : List line.Packet). ps ++ packets_in (here more)) l.sent ∙ sym s;
+      came = ap things_in (here_both moves more) ∙ things_in_both (here moves) (here more) ∙ ap (λ (zs : List (Thing Token)). zs ++ things_in (here more)) l.came ∙ sym t;
+      holds = subst (λ (k : Link Kept Token). Holds d ups_then downs_then k) (sym (after_both engine (new_link engine) moves more)) h;
     }

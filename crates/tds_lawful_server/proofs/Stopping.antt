@@ -49,12 +49,12 @@ stopping c = Takes ∷ speaks (stop_said c)
 none_here : (c : Connection) → here (stopping c) ≡ []
 none_here c = speaks_here (stop_said c)
 
-pub attention_leads : (answers : Answers) (log : Log) (c : Connection) (r : ℕ) (es : List Up)
-    → Leads c.on_attention answers log c (Attention r ∷ es) c.to_client.waiting
-    → Leads c.on_attention answers log (arrived answers c (Attention r)) es (arrived answers c (Attention r)).to_client.waiting
-attention_leads answers log c r es l =
+pub attention_leads : (answers : Answers) (log : Log) (moves : List (Move Token)) (c : Connection) (r : ℕ) (es : List Up)
+    → Leads c.on_attention answers log moves c (Attention r ∷ es) c.to_client.waiting
+    → Leads c.on_attention answers log (moves ++ stopping c) (arrived answers c (Attention r)) es (arrived answers c (Attention r)).to_client.waiting
+attention_leads answers log moves c r es l =
     let engine : Engine Kept Token = bench c.on_attention answers log in
-    let link : Link Kept Token = link_of c.on_attention answers log l.moves in
+    let link : Link Kept Token = link_of c.on_attention answers log moves in
     let h : Holds c (Attention r ∷ es) c.to_client.waiting link = l.holds in
     let f : First (place_of c) (Attention r) es link.up = first_of (place_of c) (Attention r) es link.up h.up in
     let now : Link Kept Token = took engine link f.next f.others line.Attention in
@@ -67,7 +67,7 @@ attention_leads answers log c r es l =
     let last : link_after engine link (stopping c) ≡ stopped_link c link f.others =
     ap (λ (k : Link Kept Token). link_after engine k (speaks (stop_said c))) it ∙ s.1
     ∙ ap (λ (x : Session Kept). record { up = f.others; server = record { session = x; reset = None; due = [] }; down = link.down ++ stop_said c; asking = link.asking }) behind in
-    leads_on c.on_attention answers log c (arrived answers c (Attention r)) (Attention r ∷ es) es c.to_client.waiting (arrived answers c (Attention r)).to_client.waiting l (stopping c)
+    leads_on c.on_attention answers log moves c (arrived answers c (Attention r)) (Attention r ∷ es) es c.to_client.waiting (arrived answers c (Attention r)).to_client.waiting l (stopping c)
     (may_take link f.next f.others line.Attention f.are f.packet tt, subst (λ (k : Link Kept Token). Runs engine k (speaks (stop_said c))) (sym it) s.0)
     (same_packets c (Attention r) es ∙ ap (λ ps. packets_of first_place (c.to_server.arrived ++ Attention r ∷ es) ++ packets_in {T = Token} ps) (sym (none_here c)))
     (sym (append-nil (things_of c.to_client.arrived)) ∙ ap (λ ps. things_of c.to_client.arrived ++ things_in ps) (sym (none_here c)))

@@ -14,7 +14,7 @@ use Rattle.tds_world.specs.Arrivals.{works_on}
 use Rattle.tds_world.specs.Connection.{Connection}
 use Rattle.tds_world.specs.Entries as entries
 use Rattle.tds_lawful.specs.Lawful.{Engine, Session, Step}
-use Rattle.tds_lawful.specs.Link.{Link, link_after}
+use Rattle.tds_lawful.specs.Link.{Link, Move, link_after}
 use Rattle.tds_lawful_server.specs.Bench.{Kept, Log, bench, said, said_step}
 use Rattle.tds_lawful_server.specs.Runs.{Thing, first_place, packets_in, packets_of, things_in, things_of, things_said}
 use Rattle.tds_lawful_server.proofs.Speaking.{says_all, speaks, speaks_here}
@@ -35,13 +35,13 @@ work_down c s down h =
     ∙ ap (λ (zs : List (Thing Token)). things_of c.to_client.waiting ++ zs) (step_things c.session.descriptor s)
     ∙ sym (things_both c.to_client.waiting (entries.Step c.answering (c.taken + 1) s ∷ []))
 
-pub work_leads : (attention : OnAttention) (answers : Answers) (log : Log) (c : Connection) (s : answer.Step) (ss : List answer.Step) → c.due ≡ s ∷ ss
+pub work_leads : (attention : OnAttention) (answers : Answers) (log : Log) (moves : List (Move Token)) (c : Connection) (s : answer.Step) (ss : List answer.Step) → c.due ≡ s ∷ ss
     → 1 ≤ length (flat_map spelling s.tokens) → applied (reset_effect s.reset) c.session.descriptor (changes_of s.tokens) ≡ Some s.after.descriptor → EndsOnce (s ∷ ss)
-    → Leads attention answers log c c.to_server.waiting c.to_client.waiting
-    → Leads attention answers log (works_on c (s ∷ ss)) c.to_server.waiting (works_on c (s ∷ ss)).to_client.waiting
-work_leads attention answers log c s ss e some tells once l =
+    → Leads attention answers log moves c c.to_server.waiting c.to_client.waiting
+    → Leads attention answers log (moves ++ speaks (now_said c s)) (works_on c (s ∷ ss)) c.to_server.waiting (works_on c (s ∷ ss)).to_client.waiting
+work_leads attention answers log moves c s ss e some tells once l =
     let engine : Engine Kept Token = bench attention answers log in
-    let link : Link Kept Token = link_of attention answers log l.moves in
+    let link : Link Kept Token = link_of attention answers log moves in
     let h : Holds c c.to_server.waiting c.to_client.waiting link = l.holds in
     let d : Connection = works_on c (s ∷ ss) in
     let steps : List (Step Kept Token) = now_said c s in
@@ -52,7 +52,7 @@ work_leads attention answers log c s ss e some tells once l =
     let last : link_after engine link (speaks steps) ≡ record { up = link.up; server = record { session = behind_it s; reset = link.server.reset; due = rest }; down = link.down ++ steps; asking = link.asking } =
     r.1 ∙ ap (λ (x : Session Kept). record { up = link.up; server = record { session = x; reset = link.server.reset; due = rest }; down = link.down ++ steps; asking = link.asking })
     (behind_step link.server.session c.session.descriptor s some tells) in
-    leads_on attention answers log c d c.to_server.waiting c.to_server.waiting c.to_client.waiting d.to_client.waiting l (speaks steps) r.0
+    leads_on attention answers log moves c d c.to_server.waiting c.to_server.waiting c.to_client.waiting d.to_client.waiting l (speaks steps) r.0
     (sym (append-nil (packets_of first_place (c.to_server.arrived ++ c.to_server.waiting)))
     ∙ ap (λ ps. packets_of first_place (c.to_server.arrived ++ c.to_server.waiting) ++ packets_in {T = Token} ps) (sym (speaks_here steps)))
     (sym (append-nil (things_of c.to_client.arrived)) ∙ ap (λ ps. things_of c.to_client.arrived ++ things_in ps) (sym (speaks_here steps)))

@@ -1,5 +1,5 @@
 -- A connection of the bench as a run of `tds_lawful`: its packets, and what comes on it.
-use Rattle.std.specs.Prelude.{◌≡◌, ℕ, suc, Bool, true, false, not, List, [], ◌∷◌, ◌++◌, Option, None}
+use Rattle.std.specs.Prelude.{◌≡◌, ℕ, suc, Bool, true, false, not, List, [], ◌∷◌, ◌++◌, Option, Some, None}
 use Rattle.tds_packet.specs.declared.status.Reset.{Reset}
 use Rattle.tds_packet.specs.Layout.{bits_of, reset_of}
 use Rattle.tds_token.specs.declared.token.Token.{Token}
@@ -14,7 +14,7 @@ use Rattle.tds_world.specs.Connection.{Connection}
 use Rattle.tds_world.specs.Entries as entries
 use Rattle.tds_world.specs.Entries.{Up, Part, End, Drop, Attention, Down, Step, Acknowledgement}
 use Rattle.tds_world.specs.Laws.{OfEachConnection}
-use Rattle.tds_world.specs.World.{World}
+use Rattle.tds_world.specs.World.{World, numbered}
 use Rattle.tds_lawful.specs.Lawful as lawful
 use Rattle.tds_lawful.specs.Link as links
 use Rattle.tds_lawful.specs.Link.{Link, Move, Runs, here, link_after, new_link}
@@ -128,13 +128,29 @@ pub record Stands (c : Connection) (link : Link Kept Token) : Type 0 where
   pub due : link.server.due ≡ said c.session.descriptor c.due
 
 -- A run of the lawful server of these answers, in which just that went out and came that went out and came on the connection.
-pub record IsRunOf (answers : Answers) (c : Connection) : Type 0 where
-  pub log : Log
-  pub moves : List (Move Token)
+pub record RunsTo (answers : Answers) (log : Log) (moves : List (Move Token)) (c : Connection) : Type 0 where
   pub runs : Runs (bench c.on_attention answers log) (new_link (bench c.on_attention answers log)) moves
   pub sent : packets_in (here moves) ≡ packets_of first_place (c.to_server.arrived ++ c.to_server.waiting)
   pub came : things_in (here moves) ≡ things_of c.to_client.arrived
   pub stands : Stands c (link_after (bench c.on_attention answers log) (new_link (bench c.on_attention answers log)) moves)
 
+pub record IsRunOf (answers : Answers) (c : Connection) : Type 0 where
+  pub log : Log
+  pub moves : List (Move Token)
+  pub to : RunsTo answers log moves c
+
 abbrev pub AreRuns : Answers → World → Type 0
 AreRuns answers w = OfEachConnection (IsRunOf answers) w
+
+-- One run of one server leads to a connection as it was, and goes on to it as it is.
+pub record GoesOn (answers : Answers) (c d : Connection) : Type 0 where
+  pub log : Log
+  pub moves : List (Move Token)
+  pub later : List (Move Token)
+  pub was : RunsTo answers log moves c
+  pub is : RunsTo answers log (moves ++ later) d
+
+-- So it is with each connection of a world, and the one of its number in a later one.
+abbrev pub GoOn : Answers → World → World → Type 0
+GoOn answers w v =
+    (n : ℕ) (c d : Connection) → numbered w.connections n ≡ Some c → numbered v.connections n ≡ Some d → GoesOn answers c d

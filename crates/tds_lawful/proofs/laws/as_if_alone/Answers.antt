@@ -1,3 +1,4 @@
+use Rattle.std.proofs.Common.{refl}
 use Rattle.tds_lawful.proofs.Runs.{told_alone, ends_alone}
 use Rattle.tds_lawful.proofs.laws.as_if_alone.Goals as goal
 
@@ -9,3 +10,6 @@ returns-clause-whole g c = λ engine acts moves r lawful first run finished. (to
 
 pub returns-clause-beside : goal.returns-clause-beside
 returns-clause-beside g c = ends_alone
+
+pub returns-clause-fresh : goal.returns-clause-fresh
+returns-clause-fresh g c = λ engine s. refl

@@ -1,5 +1,8 @@
-use Rattle.tds_lawful_server.proofs.Running.{plays_run}
+use Rattle.tds_lawful_server.proofs.Moments.{plays_go_on, plays_run}
 use Rattle.tds_lawful_server.proofs.laws.plays_are_runs.Goals as goal
 
-pub returns : goal.returns
-returns c = λ setup answers lawful stay. plays_run setup answers lawful stay (c.requests_are_spelled.ensures setup answers lawful)
+pub returns-clause-each : goal.returns-clause-each
+returns-clause-each c = λ setup answers lawful stay. plays_run setup answers lawful stay (c.requests_are_spelled.ensures setup answers lawful)
+
+pub returns-clause-go_on : goal.returns-clause-go_on
+returns-clause-go_on c = λ setup answers lawful stay events more. plays_go_on setup answers lawful stay (c.requests_are_spelled.ensures setup answers lawful) events more
