@@ -1,14 +1,19 @@
 //! What the judge finds of a connection of `tds_service`. Each contract is the law.
 
-ghost use Rattle.std.specs.Prelude.{◌≡◌, List, [], false};
+ghost use Rattle.std.specs.Prelude.{◌≡◌, ◌∷◌, ◌++◌, ℕ, List, [], false};
 ghost use Rattle.tds_wire.specs.declared.told.Token.{Token};
 ghost use Rattle.tds_service.specs.Line.{Act, new_line};
 ghost use Rattle.tds_service.specs.History.{history};
 ghost use Rattle.tds_judge.specs.Conversation as judging;
+ghost use Rattle.tds_judge.specs.History.{Said};
 ghost use Rattle.tds_judge.specs.Told.{is_broken};
+ghost use Rattle.tds_judge.specs.declared.finding.Spot.{Spot};
+ghost use Rattle.tds_judge.specs.declared.talk.Event.{Event};
+ghost use Rattle.tds_judge.specs.declared.talk.Event.TheVariants as events;
 ghost use Rattle.tds_lawful.specs.Answering.{NoFault};
 ghost use Rattle.tds_lawful.specs.Lawful.{Engine, IsLawful};
 ghost use Rattle.tds_lawful.specs.Link.{IsRun, Move};
+ghost use Rattle.tds_judged.specs.Crossing.{IsOfServer};
 ghost use Rattle.tds_judged.specs.Seen.{AllBehindLogin, Eye, conversation};
 
 use tds_judge::laws::lawful_is_never_blamed;
@@ -45,3 +50,15 @@ pub fn never_blamed_before_a_lawful_server<V>()
     no_fault::<V, Token>();
     lawful_is_never_blamed();
 }
+
+/// Nearer to the server an attention is seen later. Where what the server says before it may be said
+/// without it, which is so of an answer that goes on, the conversation is lawful in both orders, and so
+/// is whatever comes behind. As often as one likes: behind the end of the answer too.
+pub fn attentions_may_be_seen_later()
+    ensures { (past rest : List Said) (here there : Spot) (size status : ℕ) (event : Event)
+        → IsOfServer event → judging.May past event
+        → judging.IsLawful (rest ++ (record { spot = there; event = event })
+        ∷ (record { spot = here; event = events.Attention size status }) ∷ past)
+        → judging.IsLawful (rest ++ (record { spot = here; event = events.Attention size status })
+        ∷ (record { spot = there; event = event }) ∷ past) }
+{}

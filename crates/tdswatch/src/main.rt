@@ -3,7 +3,11 @@
 //! couldn't judge.
 #![tactic(auto)]
 
+mod digits;
+mod drawn;
 mod line;
+mod packets;
+mod picture;
 mod table;
 mod texts;
 mod watch;
@@ -14,7 +18,7 @@ use std::process::ExitCode;
 use std::{env, io};
 use table::put_tables;
 use watch::Watch;
-use words::{Asked, read_words};
+use words::{Asked, Form, read_words};
 
 const HELP: &str = "\
 Judges the connections of a capture: names each breach of MS-TDS and each risk, with its place
@@ -28,6 +32,7 @@ Standard input has a line for each piece of bytes, in the order in which they we
   STREAM close TIME   the connection is closed; its number may be used again
 
   --json              an object for each finding, in place of the table
+  --picture N         the packets of connection N round its first finding of those that weigh most
   --limit idle-in-transaction=5s
                       a transaction that nothing is asked in for longer is a risk
   --help, --version   alone
@@ -60,7 +65,7 @@ fn run(rt: &HostRuntime) -> io::Result<u8> {
             eprintln!(rt; "{USAGE}")?;
             Ok(2)
         }
-        Asked::Judge { is_json, idle } => judge(rt, is_json, idle),
+        Asked::Judge { form, idle } => judge(rt, form, idle),
     }
 }
 
@@ -79,8 +84,8 @@ fn given_words(rt: &HostRuntime) -> io::Result<Vec<String>> {
 }
 
 /// Judges the lines of standard input, and prints what was found.
-fn judge(rt: &HostRuntime, is_json: bool, idle: u64) -> io::Result<u8> {
-    let mut watch = Watch::new(rt.alloc(), idle);
+fn judge(rt: &HostRuntime, form: Form, idle: u64) -> io::Result<u8> {
+    let mut watch = Watch::new(rt.alloc(), idle, form)?;
     let mut told = 0;
     for line in BufReader::new(rt.alloc(), rt.reader())?.lines(rt.alloc()) {
         let line = line?;
@@ -91,7 +96,22 @@ fn judge(rt: &HostRuntime, is_json: bool, idle: u64) -> io::Result<u8> {
         told = tell_progress(rt, &watch, told)?;
     }
     watch.sort()?;
-    put_tables(rt, &watch, is_json)?;
+    show(rt, &watch, form)
+}
+
+/// Shows what was found. The exit status.
+fn show(rt: &HostRuntime, watch: &Watch, form: Form) -> io::Result<u8> {
+    match form {
+        Form::Table => put_tables(rt, watch, false)?,
+        Form::Objects => put_tables(rt, watch, true)?,
+        Form::Picture(stream) => match watch.picture(rt.alloc())? {
+            Some(text) => print!(rt; "{text}")?,
+            None => {
+                eprintln!(rt; "error: connection {stream} isn't there")?;
+                return Ok(2);
+            }
+        },
+    }
     Ok(watch.status())
 }
 

@@ -2,6 +2,8 @@
 
 use crate::texts::{level_text, section_of, sentence_of, word_of};
 use crate::watch::{Row, Watch};
+use std::alloc::AllocError;
+use std::fmt::Write;
 use std::io;
 use tds_judge::{Direction, Finding, Level};
 
@@ -27,18 +29,30 @@ fn put_level(rt: &HostRuntime, rows: &[Row], level: Level) -> io::Result<()> {
 }
 
 fn put_row(rt: &HostRuntime, row: &Row) -> io::Result<()> {
-    let finding = row.finding;
-    print!(rt;
-        "{} connection {} ",
-        level_text(finding.name.level()),
-        row.stream
+    let mut text = String::new(rt.alloc());
+    put_finding(&mut text, row.stream, &row.finding)?;
+    println!(rt; "{text}")
+}
+
+/// Appends a finding's line.
+pub fn put_finding(text: &mut String, stream: u64, finding: &Finding) -> Result<(), AllocError> {
+    write!(
+        text,
+        "{} connection {stream} ",
+        level_text(finding.name.level())
     )?;
-    print!(rt; "{} at {} ", way(&finding), finding.spot.offset)?;
-    print!(rt; "after {} us: {}", finding.spot.time, word_of(finding.name))?;
+    write!(text, "{} at {} ", way(finding), finding.spot.offset)?;
+    write!(
+        text,
+        "after {} us: {}",
+        finding.spot.time,
+        word_of(finding.name)
+    )?;
     if finding.value != 0 {
-        print!(rt; " ({})", finding.value)?;
+        write!(text, " ({})", finding.value)?;
     }
-    println!(rt;
+    write!(
+        text,
         ": {} [{}]",
         sentence_of(finding.name),
         section_of(finding.name)

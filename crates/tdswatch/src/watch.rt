@@ -1,6 +1,10 @@
 //! The connections of a capture, and what was found of each.
 
+use crate::digits::read_digits;
+use crate::drawn::Drawn;
 use crate::line::{Line, What, read_line};
+use crate::picture::draw;
+use crate::words::Form;
 use std::alloc::{AllocError, Global};
 use std::collections::HashMap;
 use std::io;
@@ -27,12 +31,20 @@ pub struct Watch {
     wrong: u64,
     bytes: u64,
     connections: u64,
+    /// The bytes of the newest line.
+    piece: Vec<u8>,
+    /// The connection that is drawn.
+    drawn: Option<Drawn>,
 }
 
 impl Watch {
     /// Before the first line. A transaction may be idle for so many microseconds; 0: as long as it likes.
-    pub fn new(alloc: Global, idle: u64) -> Watch {
-        Watch {
+    pub fn new(alloc: Global, idle: u64, form: Form) -> io::Result<Watch> {
+        let drawn = match form {
+            Form::Picture(stream) => Some(Drawn::new(alloc, stream)?),
+            Form::Table | Form::Objects => None,
+        };
+        Ok(Watch {
             idle,
             open: HashMap::new(alloc),
             rows: Vec::new(alloc),
@@ -40,6 +52,16 @@ impl Watch {
             wrong: 0,
             bytes: 0,
             connections: 0,
+            piece: Vec::new(alloc),
+            drawn,
+        })
+    }
+
+    /// The picture of the connection that is drawn, where one is and was seen.
+    pub fn picture(&self, alloc: Global) -> io::Result<Option<String>> {
+        match &self.drawn {
+            Some(drawn) => draw(alloc, drawn),
+            None => Ok(None),
         }
     }
 
@@ -113,14 +135,20 @@ impl Watch {
 
     /// Takes what a line says. Whether its digits are bytes.
     fn take(&mut self, alloc: Global, line: Line<'_>) -> io::Result<bool> {
-        let Ok(bytes) = hex::decode(alloc, line.digits) else {
+        if !read_digits(&mut self.piece, line.digits.as_bytes())? {
             return Ok(false);
-        };
-        self.bytes = self.bytes.saturating_add(bytes.len() as u64);
+        }
+        self.bytes = self.bytes.saturating_add(self.piece.len() as u64);
         self.open(alloc, line.stream)?;
         let mut found = Vec::new(alloc);
         if let Some(judge) = self.open.get_mut(&line.stream) {
-            hear(judge, line, bytes.as_slice(), &mut found)?;
+            let piece = self.piece.as_slice();
+            match &mut self.drawn {
+                Some(drawn) if drawn.stream == line.stream => {
+                    hear_drawn(judge, drawn, line, piece, &mut found)?;
+                }
+                _ => hear(judge, line, piece, &mut found)?,
+            }
         }
         if line.what.ends() {
             self.open.remove(&line.stream);
@@ -177,4 +205,38 @@ fn hear(
         What::Borrowed => Ok(judge.borrow(line.time, found)?),
         What::Closed => Ok(judge.close(line.time, found)?),
     }
+}
+
+/// Hands a line to the judge of the connection that is drawn, packet by packet.
+fn hear_drawn(
+    judge: &mut Judge,
+    drawn: &mut Drawn,
+    line: Line<'_>,
+    bytes: &[u8],
+    found: &mut Vec<Finding>,
+) -> io::Result<()> {
+    let What::Bytes(direction) = line.what else {
+        let before = found.len();
+        hear(judge, line, bytes, found)?;
+        for finding in found.as_slice().get(before..).unwrap_or(&[]) {
+            drawn.find(*finding)?;
+        }
+        if line.what.ends() {
+            drawn.close()?;
+        }
+        return Ok(());
+    };
+    let mut rest = bytes;
+    for _ in 0..bytes.len() {
+        let before = found.len();
+        let (piece, others) = rest.split_at(drawn.count(direction, rest.len()).min(rest.len()));
+        hear(judge, line, piece, found)?;
+        let fresh = found.as_slice().get(before..).unwrap_or(&[]);
+        drawn.take(direction, line.time, piece, fresh)?;
+        rest = others;
+        if rest.is_empty() {
+            break;
+        }
+    }
+    Ok(())
 }

@@ -9,38 +9,62 @@ pub enum Asked {
     Help,
     Version,
     Wrong,
-    /// Findings as JSON or as a table; how long a transaction may be idle, in microseconds, 0 for as
-    /// long as it likes.
-    Judge { is_json: bool, idle: u64 },
+    /// How the findings are shown; how long a transaction may be idle, in microseconds, 0 for as long as
+    /// it likes.
+    Judge { form: Form, idle: u64 },
+}
+
+/// How findings are shown.
+#[derive(Clone, Copy)]
+pub enum Form {
+    Table,
+    Objects,
+    /// As a picture of this connection.
+    Picture(u64),
+}
+
+/// What the next word is.
+#[derive(Clone, Copy)]
+enum Next {
+    Word,
+    Limit,
+    Connection,
 }
 
 /// Reads the words behind the program's name.
 pub fn read_words(words: &[String]) -> Asked {
-    let mut is_json = false;
+    let mut form = Form::Table;
     let mut idle = 0u64;
-    let mut is_limit = false;
+    let mut next = Next::Word;
     for word in words {
         let word = word.as_str();
-        if is_limit {
-            match read_limit(word) {
+        match (next, word) {
+            (Next::Limit, _) => match read_limit(word) {
                 Some(limit) => idle = limit,
                 None => return Asked::Wrong,
+            },
+            (Next::Connection, _) => match word.parse::<u64>() {
+                Ok(stream) => form = Form::Picture(stream),
+                Err(_) => return Asked::Wrong,
+            },
+            (Next::Word, "--help") => return Asked::Help,
+            (Next::Word, "--version") => return Asked::Version,
+            (Next::Word, "--json") => form = Form::Objects,
+            (Next::Word, "--limit") => {
+                next = Next::Limit;
+                continue;
             }
-            is_limit = false;
-            continue;
+            (Next::Word, "--picture") => {
+                next = Next::Connection;
+                continue;
+            }
+            (Next::Word, _) => return Asked::Wrong,
         }
-        match word {
-            "--help" => return Asked::Help,
-            "--version" => return Asked::Version,
-            "--json" => is_json = true,
-            "--limit" => is_limit = true,
-            _ => return Asked::Wrong,
-        }
+        next = Next::Word;
     }
-    if is_limit {
-        Asked::Wrong
-    } else {
-        Asked::Judge { is_json, idle }
+    match next {
+        Next::Word => Asked::Judge { form, idle },
+        Next::Limit | Next::Connection => Asked::Wrong,
     }
 }
 
