@@ -57,6 +57,9 @@ pub fn script_runs()
     ensures resets { (attention : OnAttention) (log : Log)
         → ResetsFirst (bench attention script_answers log) }
     ensures plays { (setup : Setup) → Always setup script_answers (AreRuns script_answers) }
+    ensures go_on { (setup : Setup) (events more : List Event)
+        → GoOn script_answers (world_after setup script_answers events new_world)
+        (world_after setup script_answers (events ++ more) new_world) }
 {
     bench_is_lawful();
     plays_are_runs();
