@@ -102,10 +102,10 @@ pub fn never_stuck<V, T>()
         → left_to_do engine (goes engine link move) < left_to_do engine link }
 {}
 
-/// What a request is told is what a server of one's own would tell it: one with the same answers, to
-/// which nobody else's requests came, and of which no reset is asked; a new one where a lease
-/// begins, or one in the transaction that it keeps. Its session is that of the connection's server,
-/// or where a reset is owed what the reset leaves; and it says as much of each answer.
+/// What a request is told is what a server of one's own would tell it: one with the same answers,
+/// to which nobody else's requests came, and of which no reset is asked; a new one where a lease
+/// begins, or one in the transaction that it keeps. Its session is that of the connection's
+/// server, or where a reset is owed what the reset leaves; and it says as much of each answer.
 pub fn as_if_alone<V, T>()
     ensures begins { (engine : Engine V T) (acts : List (Act T)) (moves : List (Move T)) (r : ℕ)
         → IsLawful engine → ResetsFirst engine → IsRun engine moves (history new_line acts)

@@ -97,8 +97,8 @@ pub fn fresh_start<V, T>()
     each_alone::<T>();
 }
 
-/// Where a cleaning frees a connection, its server has done the reset that was marked last, and is in
-/// no transaction.
+/// Where a cleaning frees a connection, its server has done the reset that was marked last, and
+/// is in no transaction.
 pub fn left_clean<V, T>()
     ensures freed { (engine : Engine V T) (max lease : ℕ) (calls : List (Call T))
         (moves : List (Move T))
@@ -137,9 +137,9 @@ pub fn never_stuck<V, T>()
     each_alone::<T>();
 }
 
-/// What a request is told is what a server of one's own would tell it: one with the same answers, to
-/// which nobody else's requests came, and of which no reset is asked; a new one with each lease of
-/// a used connection, or one in a ticket's transaction
+/// What a request is told is what a server of one's own would tell it: one with the same answers,
+/// to which nobody else's requests came, and of which no reset is asked; a new one with each
+/// lease of a used connection, or one in a ticket's transaction
 /// (`tds_service::table_laws::asks_for_reset`).
 pub fn as_if_alone<V, T>()
     ensures begins { (engine : Engine V T) (max n : ℕ) (calls : List (Call T))

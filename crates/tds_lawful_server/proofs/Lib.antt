@@ -8,6 +8,7 @@ pub mod Told
 pub mod Stopping
 pub mod Working
 pub mod Hearing
+pub mod Logs
 pub mod Running
 pub mod Moments
 pub mod Refused

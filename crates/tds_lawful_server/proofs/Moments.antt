@@ -1,5 +1,5 @@
 -- A run of one moment of a play goes on at each later one.
-use Rattle.std.proofs.Common.{◌≡◌, ℕ, zero, suc, List, [], ◌∷◌, ◌++◌, sym, subst}
+use Rattle.std.proofs.Common.{◌≡◌, ℕ, zero, suc, List, ◌++◌, sym, subst}
 use Rattle.std.specs.Prelude.{Option, Some, None, slice_get}
 use Rattle.std.specs.List.{AllByRecursion}
 use Rattle.tds_token.specs.declared.token.Token.{Token}
@@ -21,9 +21,10 @@ use Rattle.tds_world.proofs.events.Moves.{Both, FreeIn, KeptByMoves, MovesOver, 
 use Rattle.tds_world.proofs.events.Words.{OfActed, OfSome}
 use Rattle.tds_world.proofs.events.Worlds.{Any, always, at_number, each_both, each_follows}
 use Rattle.tds_lawful.specs.Link.{Move}
-use Rattle.tds_lawful_server.specs.Bench.{Asked, Log}
+use Rattle.tds_lawful_server.specs.Bench.{Log}
 use Rattle.tds_lawful_server.specs.Runs.{AreRuns, GoOn, GoesOn, IsRunOf, RunsTo}
-use Rattle.tds_lawful_server.proofs.Running.{Extends, Further, Going, Good, Known, Onward, Running, Steps, at_client, at_server, cancels_now, client_waiting, elsewhere, extends_log, is_asked, known_kept, known_runs, log_of, onward_both, requests_both, sends_next, server_waiting, stays_so, works}
+use Rattle.tds_lawful_server.proofs.Logs.{extends_log, extends_rest, log_of}
+use Rattle.tds_lawful_server.proofs.Running.{Further, Going, Good, Known, Onward, Running, Steps, at_client, at_server, cancels_now, client_waiting, elsewhere, is_asked, known_kept, known_runs, onward_both, requests_both, sends_next, server_waiting, stays_so, works}
 use Rattle.tds_lawful_server.proofs.Standing.{Leads, holds_stand}
 
 -- ---- By moves
@@ -100,10 +101,6 @@ plays_run setup answers lawful stay spelled events =
 there : (P : Connection → Type 0) (o : Option Connection) (c : Connection) → o ≡ Some c → OfSome P o → P c
 there P None c e h = let b : ⊥ = cc in absurd b
 there P (Some d) c e h = let same : d ≡ c = cc in subst P same h
-
-extends_rest : (xs ys : List Asked) (log : Log) → Extends (xs ++ ys) log → Extends ys log
-extends_rest [] ys log e = e
-extends_rest (x ∷ xs) ys log e = extends_rest xs ys log e.1
 
 goes_on : (answers : Answers) (c d : Connection) → SendsRequests c → Of (Both Known (Running answers)) c → SendsRequests d → Then answers c d → GoesOn answers c d
 goes_on answers c d s h t r =

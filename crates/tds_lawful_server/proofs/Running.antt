@@ -1,12 +1,10 @@
 -- Each connection of a play is a run of a lawful server.
-use Rattle.std.proofs.Common.{◌≡◌, ◌∙◌, ◌≤◌, ◌==◌, ◌-◌, ℕ, suc, Bool, true, false, List, [], ◌∷◌, ◌++◌, length, refl, sym, ap, subst, arith}
-use Rattle.std.specs.Prelude.{Option, Some, if◌then◌else◌}
+use Rattle.std.proofs.Common.{◌≡◌, ◌∙◌, ◌-◌, ℕ, suc, Bool, true, false, List, [], ◌∷◌, ◌++◌, length, refl, sym, ap, subst}
+use Rattle.std.specs.Prelude.{Option, Some}
 use Rattle.std.specs.List.{AllByRecursion}
-use Rattle.std.proofs.lemmas.Bool.Decides.{nat_tests}
 use Rattle.std.proofs.lemmas.List.{append-nil, append_assoc}
 use Rattle.tds_packet.specs.declared.status.Reset.{Reset}
 use Rattle.tds_request.specs.declared.request.Request.{Request}
-use Rattle.tds_request.specs.declared.request.Request.TheVariants.{Batch}
 use Rattle.tds_session.specs.Answer as answer
 use Rattle.tds_session.specs.Answer.{Answers, EndsOnce}
 use Rattle.tds_session.specs.Laws.Sessions.{new_is_session}
@@ -35,45 +33,13 @@ use Rattle.tds_lawful_server.proofs.Speaking.{speaks}
 use Rattle.tds_lawful_server.specs.Bench.{Asked, Log}
 use Rattle.tds_lawful_server.specs.Runs.{Place}
 use Rattle.tds_lawful_server.proofs.Arriving.{arrived, asked_now, drop_leads, end_leads, part_leads, place_next}
+use Rattle.tds_lawful_server.proofs.Logs.{Extends, nothing_asked}
 use Rattle.tds_lawful_server.proofs.Asking.{Split, requests_split}
 use Rattle.tds_lawful_server.proofs.Hearing.{heard_moves, hearing, hears_leads}
 use Rattle.tds_lawful_server.proofs.Puts.{cancels_moves, leads_cancels, leads_sends, out_place, sends_moves, with_sent}
 use Rattle.tds_lawful_server.proofs.Standing.{Leads, Names, place_of}
 use Rattle.tds_lawful_server.proofs.Stopping.{attention_leads, stopping}
 use Rattle.tds_lawful_server.proofs.Working.{now_said, work_leads}
-
--- ---- What is written down of the requests that were run, the newest first
-
-abbrev pub Extends : List Asked → Log → Type 0
-Extends [] log = Unit {0}
-Extends (x ∷ xs) log = (log (suc (length xs)) ≡ x) × Extends xs log
-
-nothing_asked : Asked
-nothing_asked = record { request = Batch []; begun = 0 }
-
-abbrev pub log_of : List Asked → Log
-log_of [] r = record { request = Batch []; begun = 0 }
-log_of (x ∷ xs) r = if r == suc (length xs) then x else log_of xs r
-
-lower : (ys : List Asked) (log there : Log) → ((r : ℕ) → r ≤ length ys → there r ≡ log r) → Extends ys log → Extends ys there
-lower [] log there agree e = tt
-lower (y ∷ ys) log there agree e = (
-  agree (suc (length ys)) (omega arith) ∙ e.0,
-  lower ys log there (λ r p. agree r (omega arith)) e.1,
-)
-
-below : (r n : ℕ) → r ≤ n → (r == suc n) ≡ false
-below r n p = grind (arith, nat_tests)
-
-same : (n : ℕ) → (n == n) ≡ true
-same n = grind (arith, nat_tests)
-
-pub extends_log : (known : List Asked) → Extends known (log_of known)
-extends_log [] = tt
-extends_log (x ∷ xs) = (
-  ap (λ (b : Bool). if b then x else log_of xs (suc (length xs))) (same (suc (length xs))),
-  lower xs (log_of xs) (log_of (x ∷ xs)) (λ r p. ap (λ (b : Bool). if b then x else log_of xs r) (below r (length xs) p)) (extends_log xs),
-)
 
 -- ---- A run, and where it goes on
 

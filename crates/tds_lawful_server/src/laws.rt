@@ -1,5 +1,5 @@
-//! The bench's server is one of those that `tds_lawful` speaks of. Each function does nothing when it
-//! runs: its contract is the law.
+//! The bench's server is one of those that `tds_lawful` speaks of. Each function does nothing
+//! when it runs: its contract is the law.
 
 ghost use Rattle.tds_session.specs.declared.attention.OnAttention.{OnAttention};
 ghost use Rattle.tds_session.specs.Answer.{Answers, script_answers};
@@ -24,8 +24,8 @@ use tds_world::laws::{
     script_is_lawful,
 };
 
-/// Whatever was asked, what the bench's server says keeps the rules; and what it says behind a reset
-/// is what it says without one in the session that the reset leaves.
+/// Whatever was asked, what the bench's server says keeps the rules; and what it says behind a
+/// reset is what it says without one in the session that the reset leaves.
 pub fn bench_is_lawful()
     ensures lawful { (attention : OnAttention) (answers : Answers) (log : Log)
         → Lawful answers → HaveDones answers → HandsOutNext answers
@@ -49,14 +49,17 @@ pub fn plays_are_runs()
     requests_are_spelled();
 }
 
-/// With the batch language nothing is supposed: its server keeps the rules, answers behind a reset as
-/// without one, and each connection of a play is a run of it.
+/// With the batch language nothing is supposed: its server keeps the rules, answers behind a
+/// reset as without one, and each connection of a play is a run of it.
 pub fn script_runs()
     ensures lawful { (attention : OnAttention) (log : Log)
         → IsLawful (bench attention script_answers log) }
     ensures resets { (attention : OnAttention) (log : Log)
         → ResetsFirst (bench attention script_answers log) }
     ensures plays { (setup : Setup) → Always setup script_answers (AreRuns script_answers) }
+    ensures go_on { (setup : Setup) (events more : List Event)
+        → GoOn script_answers (world_after setup script_answers events new_world)
+        (world_after setup script_answers (events ++ more) new_world) }
 {
     bench_is_lawful();
     plays_are_runs();

@@ -8,3 +8,6 @@ returns-clause-resets c = λ attention log. c.bench_is_lawful.ensures.resets att
 
 pub returns-clause-plays : goal.returns-clause-plays
 returns-clause-plays c = λ setup. c.plays_are_runs.ensures.each setup _ c.script_is_lawful.ensures c.engine_stays_in_range.ensures
+
+pub returns-clause-go_on : goal.returns-clause-go_on
+returns-clause-go_on c = λ setup events more. c.plays_are_runs.ensures.go_on setup _ c.script_is_lawful.ensures c.engine_stays_in_range.ensures events more
