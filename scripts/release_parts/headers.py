@@ -17,7 +17,7 @@ HEADERS = {
     "mouktelf_version": "the version of header and library",
     "tds": "the client's end of a TDS connection",
     "tds_wire": "where each token of any TDS answer ends",
-    "tds_service": "pooled TDS sessions as one value",
+    "tds_service": "a table of TDS connections that callers share",
     "tds_judge": "what both ends of a recorded TDS connection do wrong",
     "tds_play": "plays a schedule of pooled TDS sessions",
 }
@@ -44,8 +44,8 @@ CRATE_OF = {"mouktelf_play_version": "tds_play_c"}
 # The header of a library that isn't installed: the page's views.
 ELSEWHERE = {"tds_view"}
 
-FIRST = """/* Mouktelf {version}: the client's end of a connection that speaks the Tabular Data Stream (MS-TDS), a judge of
- * recorded connections, and the player of schedules. C99 and C++. It is these headers, one behind the other:
+FIRST = """/* Mouktelf {version}: the client's end of a connection that speaks the Tabular Data Stream (MS-TDS), a table of
+ * connections that callers share, a judge of recorded ones, and the player of schedules. C99 and C++. It is these headers, one behind the other:
  * {names}.
  * https://learn.microsoft.com/openspecs/windows_protocols/ms-tds has the protocol. */
 #ifndef MOUKTELF_H
@@ -67,7 +67,7 @@ LAST = """
 #endif
 """
 # Where a header tells of its library: what is installed is one.
-OWN_LIBRARY = re.compile(r"It is lib\w+\.a, a library of its(?: |\n \* )own(?: beside(?: |\n \* )lib\w+\.a)?\.(?: |\n \* )")
+OWN_LIBRARY = re.compile(r"It is lib\w+\.a, a library of its(?: |\n \* )own(?: beside(?: |\n \* )lib\w+\.a)?(?:\.|; (\w))(?: |\n \* )?")
 # What each header has of its own around what it declares.
 FRAME = re.compile(
     r"#ifndef \w+_H\n#define \w+_H\n|#include [<\"][\w.]+[>\"]\n|#ifdef __cplusplus\n(?:extern \"C\" \{|\})\n#endif\n|#endif\s*\Z", re.M
@@ -94,7 +94,7 @@ def version():
 
 def body_of(name):
     """What a header declares and says, without its frame."""
-    text = OWN_LIBRARY.sub("", FRAME.sub("", text_of(name)))
+    text = OWN_LIBRARY.sub(lambda found: (found[1] or "").upper(), FRAME.sub("", text_of(name)))
     return re.sub(r"\n{3,}", "\n\n", text).strip() + "\n"
 
 

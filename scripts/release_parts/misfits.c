@@ -123,7 +123,37 @@ static void of_walks(void) {
     MISFIT(tds_wire_restart(&walk, NULL));
 }
 
-#ifdef WITH_MEMORY
+/* What another file or library has than the client and the walk. */
+#ifdef WITH_ALL
+static void of_services(void) {
+    struct tds_service service = {0, 0, 0, 512};
+    struct tds_seat seat = {{0}, 0, 0, 0, 0};
+    struct tds_lent lent = {0, 0, 0};
+    uint64_t number = 0;
+    MISFIT(tds_service_lease(NULL, &seat, 1, &lent));
+    MISFIT(tds_service_lease(&service, NULL, 1, &lent));
+    MISFIT(tds_service_lease(&service, &seat, LONG / sizeof seat, &lent));
+    MISFIT(tds_service_lease(&service, &seat, 1, NULL));
+    MISFIT(tds_service_find(NULL, &seat, 1, 1, &n));
+    MISFIT(tds_service_find(&service, NULL, 1, 1, &n));
+    MISFIT(tds_service_find(&service, &seat, 1, 1, NULL));
+    MISFIT(tds_service_at(&service, NULL, 1, 1, &n));
+    MISFIT(tds_service_give_back(&service, NULL, 1, 1, bytes, 64, &n, &number));
+    MISFIT(tds_service_give_back(&service, &seat, 1, 1, NULL, 64, &n, &number));
+    MISFIT(tds_service_give_back(&service, &seat, 1, 1, bytes, 64, NULL, &number));
+    MISFIT(tds_service_give_back(&service, &seat, 1, 1, bytes, 64, &n, NULL));
+    MISFIT(tds_service_drained(&service, NULL, 1, 1));
+    MISFIT(tds_service_lost(NULL, &seat, 1, 1));
+    MISFIT(tds_service_keep(&service, &seat, 1, 1, NULL));
+    MISFIT(tds_service_resume(&service, &seat, 1, 1, NULL));
+    MISFIT(tds_service_abandon(&service, &seat, 1, 1, NULL));
+    MISFIT(tds_service_clean(&service, &seat, 1, 1, NULL));
+    MISFIT(tds_service_cleaned(&service, &seat, 1, 1, NULL));
+    /* a lease that is spent, or was never given */
+    is("no such lease", tds_service_find(&service, &seat, 1, 1, &n), TDS_SERVICE_UNKNOWN);
+    is("no room for any", tds_service_lease(&service, NULL, 0, &lent), TDS_SERVICE_ALL_IN_USE);
+}
+
 static void of_judge_and_player(void) {
     struct tds_judge_limits limits = {0, 16, 0, 0};
     struct tds_judge_piece piece = {0, 0, TDS_JUDGE_CLOSED};
@@ -149,7 +179,9 @@ int main(void) {
     of_streams();
     of_tokens();
     of_walks();
-#ifdef WITH_MEMORY
+#ifdef WITH_ALL
+    of_services();
+    n = 77;
     of_judge_and_player();
 #endif
     is("the client is as it was", client.stage == 0 && client.size == 512, 1);

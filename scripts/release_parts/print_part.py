@@ -30,13 +30,18 @@ FIRST = """/* Mouktelf {version}: {what}.
 # What each crate's file has.
 PARTS = {
     "tds_c": "a client of one connection, and a walk over any answer",
-    "tds_service_c": "pooled sessions as one value",
+    "tds_service_c": "a table of connections that callers share",
     "tds_judge_c": "the judge of recorded connections",
     "tds_play_c": "the player of schedules",
 }
 TAKES_MEMORY = "It wants malloc, realloc and free besides memcpy and the like."
 TAKES_NONE = "It wants memcpy, memmove, memset and abort."
-# Where there are numbers of 128 bits, or constants with addresses in them.
+# Where arrays of structs cross that no image is made of, or where there are numbers of 128 bits, or constants with
+# addresses in them.
+FEW = """#if UINTPTR_MAX != UINT64_MAX || __BYTE_ORDER__ == __ORDER_BIG_ENDIAN__
+#error "this file is for machines of 64 bits with the low byte first"
+#endif
+"""
 NARROW = """#if UINTPTR_MAX != UINT64_MAX || !defined(__SIZEOF_INT128__) || __BYTE_ORDER__ == __ORDER_BIG_ENDIAN__
 #error "this file is for machines of 64 bits with the low byte first, and compilers with __int128"
 #endif
@@ -62,7 +67,7 @@ def main(crate, module, log, text):
     if left_out:
         print(f"print_part: on 64-bit machines with the low byte first alone: {', '.join(left_out)}", file=sys.stderr)
     whole = printer.whole()
-    machines = NARROW if printer.is_narrow(whole) else ""
+    machines = NARROW if printer.is_narrow(whole) else FEW if left_out else ""
     wants = TAKES_MEMORY if re.search(r"\brattle_(?:re)?alloc\(", whole) else TAKES_NONE
     # A release is made of a commit; what isn't committed is said in MADE_OF.
     print(FIRST.format(version=headers.version(), what=PARTS[crate], file=headers.FILES[crate], proved=proved, module=digest, wants=wants,
