@@ -6,6 +6,7 @@ pub mod Holding
 pub mod Made
 pub mod Phases
 pub mod Promised
+pub mod Reaching
 pub mod Renewing
 pub mod Seats
 pub mod Tidy

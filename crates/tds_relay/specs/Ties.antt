@@ -14,7 +14,7 @@ use Rattle.tds_relay.specs.declared.desk.Desk as code
 use Rattle.tds_relay.specs.declared.desk.Hold.{Hold}
 use Rattle.tds_relay.specs.declared.desk.Served.{Served}
 use Rattle.tds_relay.specs.declared.desk.leaving.Left.{Left}
-use Rattle.tds_relay.specs.Desk.{Desk, Event, Way, Sent, NotLent, NotAsked, NotPut, NotEnded, holding, turn}
+use Rattle.tds_relay.specs.Desk.{Desk, Event, Leaves, Way, Sent, NotLent, NotAsked, NotPut, NotEnded, desk_after, holding, turn}
 
 abbrev pub desk_in : code.Desk → Desk
 desk_in d = record { service = service_in d.service; holds = d.holds.items; line = d.line.items }
@@ -45,6 +45,19 @@ IsNumberOf None None = Unit {0}
 IsNumberOf None (Some left) = ⊥
 IsNumberOf (Some hold) None = ⊥
 IsNumberOf (Some hold) (Some left) = left.number ≡ hold.number
+
+-- One desk is reached from another by events.
+pub record Reaches (old new : Desk) : Type 0 where
+  pub events : List Event
+  pub are : desk_after old events ≡ new
+
+-- Wherever a desk was reached from, this one is.
+abbrev pub Goes : Desk → Desk → Type 0
+Goes old new = (from : Desk) → Reaches from old → Reaches from new
+
+-- An application let its connection go first, or waits no more.
+abbrev pub Leaving : ℕ → Desk → Desk → Type 0
+Leaving key old new = (gives : Bool) × (way : Way) × Goes (turn old (Leaves key gives way)).desk new
 
 abbrev pub lost_by : Service → ℕ → Service
 lost_by s number = (step {T = Token} s (calls.Lost number)).service

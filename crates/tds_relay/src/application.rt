@@ -76,6 +76,16 @@ impl Application {
         Ok(true)
     }
 
+    /// Its request has its answer, or its attention the acknowledgement.
+    pub(crate) fn settle(&mut self, is_acknowledged: bool) {
+        self.asking = Asking::Nothing;
+        if is_acknowledged {
+            self.front.acknowledged();
+        } else {
+            self.front.answered();
+        }
+    }
+
     /// Nothing is kept of its request any more.
     pub(crate) fn forget(&mut self) {
         self.held.clear();

@@ -1,4 +1,8 @@
 //! The relay: who is there, and what whoever carries its bytes asks of it.
+ghost use Rattle.std.specs.Prelude.{◌≡◌, IfOk};
+ghost use Rattle.tds_relay.specs.Desk.{new_desk};
+ghost use Rattle.tds_relay.specs.Ties.{desk_in};
+
 mod asking;
 mod coming;
 mod leaving;
@@ -53,7 +57,9 @@ impl Relay {
         most: usize,
         size: PacketSize,
         features: Features,
-    ) -> Result<Relay, NoMemory> {
+    ) -> Result<Relay, NoMemory>
+        ensures { IfOk result (λ relay. desk_in relay.desk ≡ new_desk most) }
+    {
         let desk = Desk::new(alloc, most, size, features)?;
         Ok(Relay {
             alloc,
@@ -70,7 +76,9 @@ impl Relay {
     }
 
     /// An application has come that is logged in, which is called so. Answers its key.
-    pub fn enter(&mut self, tag: usize) -> Result<usize, NoMemory> {
+    pub fn enter(&mut self, tag: usize) -> Result<usize, NoMemory>
+        ensures { self.new.desk ≡ self.old.desk }
+    {
         let application = Application::new(self.alloc, tag, self.size);
         match self.applications.insert(application) {
             Ok(key) => Ok(key),
@@ -79,7 +87,9 @@ impl Relay {
     }
 
     /// What is to be done, in order. It is to be done before the next call.
-    pub fn orders(&mut self) -> Vec<Order> {
+    pub fn orders(&mut self) -> Vec<Order>
+        ensures { self.new.desk ≡ self.old.desk }
+    {
         mem::replace(&mut self.orders, Vec::new(self.alloc))
     }
 
@@ -146,7 +156,9 @@ impl Relay {
 
     /// So many bytes of that were sent. Answers the tag of the connection that it holds, which may be read
     /// again.
-    pub fn sent(&mut self, key: usize, count: usize) -> Option<usize> {
+    pub fn sent(&mut self, key: usize, count: usize) -> Option<usize>
+        ensures { self.new.desk ≡ self.old.desk }
+    {
         let application = self.applications.get_mut(key)?;
         application.out.sent(count);
         let hold = self.desk.hold_of(key)?;
@@ -155,8 +167,10 @@ impl Relay {
 
     /// So many bytes of that were sent. Answers the tag of the application that holds it, which may be read
     /// again.
-    pub fn sent_on(&mut self, number: u64, count: usize) -> Option<usize> {
-        let link = self.link_mut(number)?;
+    pub fn sent_on(&mut self, number: u64, count: usize) -> Option<usize>
+        ensures { self.new.desk ≡ self.old.desk }
+    {
+        let link = link_in(&mut self.links, number)?;
         link.out.sent(count);
         let key = self.desk.key_on(number)?;
         Some(self.applications.get(key)?.tag)
@@ -177,20 +191,42 @@ impl Relay {
         self.desk.waiting()
     }
 
-    /// What the desk has to send on a connection waits there.
-    fn send_on(&mut self, number: u64) -> Result<(), NoMemory> {
-        let Relay { links, outbox, .. } = self;
-        for link in links.iter_mut() {
-            if link.number == number {
-                link.out.bytes().extend_from_slice(outbox)?;
-            }
+    /// Whether what comes on a connection is handed on.
+    fn mute(&mut self, number: u64, is_muted: bool)
+        ensures { self.new.desk ≡ self.old.desk }
+    {
+        match link_in(&mut self.links, number) {
+            Some(link) => link.is_muted = is_muted,
+            None => {}
         }
-        outbox.clear();
+    }
+
+    /// Whether the news of a reset is cut out of what comes next on a connection.
+    fn cut(&mut self, number: u64, cuts: bool)
+        ensures { self.new.desk ≡ self.old.desk }
+    {
+        match link_in(&mut self.links, number) {
+            Some(link) => link.cuts = cuts,
+            None => {}
+        }
+    }
+
+    /// What the desk has to send on a connection waits there.
+    fn send_on(&mut self, number: u64) -> Result<(), NoMemory>
+        ensures { self.new.desk ≡ self.old.desk }
+    {
+        match link_in(&mut self.links, number) {
+            Some(link) => link.out.bytes().extend_from_slice(&self.outbox)?,
+            None => {}
+        }
+        self.outbox.clear();
         self.order_write_on(number)
     }
 
     /// Something is to be sent to an application.
-    fn order_write(&mut self, key: usize) -> Result<(), NoMemory> {
+    fn order_write(&mut self, key: usize) -> Result<(), NoMemory>
+        ensures { self.new.desk ≡ self.old.desk }
+    {
         match self.applications.get(key) {
             Some(application) => {
                 self.orders.push(Order::Write(application.tag))?;
@@ -201,7 +237,9 @@ impl Relay {
     }
 
     /// Something is to be sent on a connection.
-    fn order_write_on(&mut self, number: u64) -> Result<(), NoMemory> {
+    fn order_write_on(&mut self, number: u64) -> Result<(), NoMemory>
+        ensures { self.new.desk ≡ self.old.desk }
+    {
         let Some(link) = self.link(number) else {
             return Ok(());
         };
@@ -222,13 +260,14 @@ impl Relay {
         }
         None
     }
+}
 
-    fn link_mut(&mut self, number: u64) -> Option<&mut Link> {
-        for link in self.links.iter_mut() {
-            if link.number == number {
-                return Some(link);
-            }
+/// The connection of this number among these.
+fn link_in(links: &mut [Link], number: u64) -> Option<&mut Link> {
+    for link in links.iter_mut() {
+        if link.number == number {
+            return Some(link);
         }
-        None
     }
+    None
 }

@@ -1,11 +1,11 @@
 //! What applications say: requests, and cancels.
-ghost use Rattle.std.specs.Prelude.{OnOk};
-ghost use Rattle.tds_relay.specs.Ties.{NobodyWaits, desk_in};
+ghost use Rattle.std.specs.Prelude.{◌≡◌, OnOk};
+ghost use Rattle.tds_relay.specs.Ties.{Goes, NobodyWaits, desk_in};
 
 use super::Relay;
 use crate::NoMemory;
 use crate::application::Asking;
-use crate::desk::Renewed;
+use crate::desk::{Desk, Renewed};
 use tds_client::{Cancelled, MessageKind};
 use tds_front::Said;
 use tds_packet::{Kind, Reset};
@@ -47,19 +47,24 @@ impl Relay {
             return Ok(piece.len());
         };
         let bytes = &piece[..fed.count];
-        match fed.said {
-            Said::Nothing => {}
-            Said::Begin { kind, reset } => self.begin(key, kind, reset)?,
-            Said::Body(count) => self.go_on(key, last(bytes, count), false)?,
-            Said::End(count) => self.go_on(key, last(bytes, count), true)?,
-            Said::Forget { .. } => self.take_back(key)?,
+        self.obey(key, bytes, fed.said)?;
+        Ok(fed.count)
+    }
+
+    /// Does what is to be done with these bytes.
+    fn obey(&mut self, key: usize, bytes: &[u8], said: Said) -> Result<(), NoMemory> {
+        match said {
+            Said::Nothing => Ok(()),
+            Said::Begin { kind, reset } => self.begin(key, kind, reset),
+            Said::Body(count) => self.go_on(key, last(bytes, count), false),
+            Said::End(count) => self.go_on(key, last(bytes, count), true),
+            Said::Forget { .. } => self.take_back(key),
             Said::Acknowledge => {
                 self.take_back(key)?;
-                self.acknowledge(key)?;
+                self.acknowledge(key)
             }
-            Said::HandOn => self.hand_on(key)?,
+            Said::HandOn => self.hand_on(key),
         }
-        Ok(fed.count)
     }
 
     /// A request begins. Where it asks for a reset itself, its application gives back what it holds; but
@@ -94,9 +99,7 @@ impl Relay {
     fn renew(&mut self, key: usize) -> Result<(), NoMemory> {
         match self.desk.renew(key)? {
             Renewed::Kept(hold) => {
-                if let Some(link) = self.link_mut(hold.number) {
-                    link.cuts = false;
-                }
+                self.cut(hold.number, false);
                 self.start(key)
             }
             Renewed::NotKept => self.change(key),
@@ -123,22 +126,32 @@ impl Relay {
     }
 
     /// Puts bytes of a request on its connection, and its end.
-    pub(super) fn put(&mut self, key: usize, bytes: &[u8], whole: bool) -> Result<(), NoMemory> {
+    #[tactic(auto, using(crate::proofs::Reaching::reaches_turn, crate::proofs::Reaching::reaches_turned))]
+    pub(super) fn put(&mut self, key: usize, bytes: &[u8], whole: bool) -> Result<(), NoMemory>
+        ensures { OnOk result (Goes (desk_in self.old.desk) (desk_in self.new.desk)) }
+    {
         let Some(hold) = self.desk.hold_of(key) else {
             return Ok(());
         };
         self.outbox.clear();
-        let is_put = self.desk.put(key, bytes, &mut self.outbox).is_ok()
-            && (!whole || self.desk.finish(key, &mut self.outbox).is_ok());
-        if !is_put {
+        if !put_on(&mut self.desk, key, bytes, whole, &mut self.outbox) {
             return self.lose(hold.number);
         }
-        if !self.outbox.is_empty() {
-            if let Some(application) = self.applications.get_mut(key) {
-                application.front.went_on();
-            }
-        }
+        self.note_went_on(key);
         self.send_on(hold.number)
+    }
+
+    /// Something of a request goes on, where the desk has something to send.
+    fn note_went_on(&mut self, key: usize)
+        ensures { self.new.desk ≡ self.old.desk }
+    {
+        if self.outbox.is_empty() {
+            return;
+        }
+        match self.applications.get_mut(key) {
+            Some(application) => application.front.went_on(),
+            None => {}
+        }
     }
 
     /// What has come of its request is forgotten; where something of it has gone on, the server is to
@@ -159,9 +172,7 @@ impl Relay {
         };
         match self.cancel(key)? {
             Some(Cancelled::Asked) => {
-                if let Some(link) = self.link_mut(hold.number) {
-                    link.is_muted = true;
-                }
+                self.mute(hold.number, true);
                 Ok(())
             }
             Some(_) => Ok(()),
@@ -170,11 +181,16 @@ impl Relay {
     }
 
     /// The relay acknowledges an attention.
-    fn acknowledge(&mut self, key: usize) -> Result<(), NoMemory> {
-        if let Some(application) = self.applications.get_mut(key) {
-            application.out.bytes().extend_from_slice(&ACKNOWLEDGED)?;
+    fn acknowledge(&mut self, key: usize) -> Result<(), NoMemory>
+        ensures { self.new.desk ≡ self.old.desk }
+    {
+        match self.applications.get_mut(key) {
+            Some(application) => {
+                application.out.bytes().extend_from_slice(&ACKNOWLEDGED)?;
+                self.order_write(key)
+            }
+            None => Ok(()),
         }
-        self.order_write(key)
     }
 
     /// The server acknowledges an attention.
@@ -201,6 +217,22 @@ impl Relay {
             }
             Err(_) => Ok(None),
         }
+    }
+}
+
+/// Puts bytes of a request, and its end. False where one was refused.
+fn put_on(desk: &mut Desk, key: usize, bytes: &[u8], whole: bool, out: &mut Vec<u8>) -> bool
+    ensures { Goes (desk_in desk.old) (desk_in desk.new) }
+{
+    let Ok(_) = desk.put(key, bytes, out) else {
+        return false;
+    };
+    if !whole {
+        return true;
+    }
+    match desk.finish(key, out) {
+        Ok(_) => true,
+        Err(_) => false,
     }
 }
 

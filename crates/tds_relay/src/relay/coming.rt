@@ -2,7 +2,7 @@
 ghost use Rattle.std.specs.Prelude.{◌≡◌, ◌+◌, length, OnOk};
 ghost use Rattle.tds_relay.specs.Ties.{NobodyWaits, desk_in};
 
-use super::Relay;
+use super::{Relay, link_in};
 use crate::NoMemory;
 use crate::application::{Application, Asking};
 use crate::desk::{Desk, Heard, What};
@@ -79,26 +79,30 @@ impl Relay {
     }
 
     /// What comes on a connection is handed on again. False where it was.
-    fn unmute(&mut self, number: u64) -> bool {
-        let Some(link) = self.link_mut(number) else {
-            return false;
-        };
-        let was_muted = link.is_muted;
-        link.is_muted = false;
-        was_muted
+    fn unmute(&mut self, number: u64) -> bool
+        ensures { self.new.desk ≡ self.old.desk }
+    {
+        match link_in(&mut self.links, number) {
+            Some(link) => {
+                let was_muted = link.is_muted;
+                link.is_muted = false;
+                was_muted
+            }
+            None => false,
+        }
     }
 
     /// An application's request has its answer, or its attention the acknowledgement.
-    fn settled(&mut self, key: usize, is_acknowledged: bool) -> Result<(), NoMemory> {
-        if let Some(application) = self.applications.get_mut(key) {
-            application.asking = Asking::Nothing;
-            if is_acknowledged {
-                application.front.acknowledged();
-            } else {
-                application.front.answered();
+    fn settled(&mut self, key: usize, is_acknowledged: bool) -> Result<(), NoMemory>
+        ensures { self.new.desk ≡ self.old.desk }
+    {
+        match self.applications.get_mut(key) {
+            Some(application) => {
+                application.settle(is_acknowledged);
+                self.order_write(key)
             }
+            None => Ok(()),
         }
-        self.order_write(key)
     }
 }
 

@@ -1,6 +1,7 @@
 //! Applications that leave, and connections that are lost.
-ghost use Rattle.std.specs.Prelude.{OnOk};
-ghost use Rattle.tds_relay.specs.Ties.{NobodyWaits, desk_in};
+ghost use Rattle.std.specs.Prelude.{◌≡◌, OnOk};
+ghost use Rattle.tds_relay.specs.Desk.{Loses, turn};
+ghost use Rattle.tds_relay.specs.Ties.{Goes, Leaving, NobodyWaits, desk_in};
 
 use super::Relay;
 use crate::NoMemory;
@@ -10,8 +11,10 @@ use crate::order::Order;
 impl Relay {
     /// An application has ended, or was closed: its key is unknown from now on. What is underway of it is
     /// cancelled, and its connection cleaned as soon as that has drained.
+    #[tactic(auto, using(crate::proofs::Reaching::reaches_turn, crate::proofs::Reaching::reaches_turned))]
     pub fn left(&mut self, key: usize) -> Result<(), NoMemory>
-        ensures { OnOk result (NobodyWaits (desk_in self.new.desk)) }
+        ensures left { OnOk result (Leaving key (desk_in self.old.desk) (desk_in self.new.desk)) }
+        ensures served { OnOk result (NobodyWaits (desk_in self.new.desk)) }
     {
         let _ = self.applications.try_remove(key).is_some();
         self.release(key)?;
@@ -19,8 +22,11 @@ impl Relay {
     }
 
     /// The connection of this number has ended, or couldn't be opened: its application is closed.
+    #[tactic(auto, using(crate::proofs::Reaching::reaches_turn, crate::proofs::Reaching::reaches_turned))]
     pub fn lost(&mut self, number: u64) -> Result<(), NoMemory>
-        ensures { OnOk result (NobodyWaits (desk_in self.new.desk)) }
+        ensures lost { OnOk result (Goes (turn (desk_in self.old.desk) (Loses number)).desk
+            (desk_in self.new.desk)) }
+        ensures served { OnOk result (NobodyWaits (desk_in self.new.desk)) }
     {
         self.lose(number)?;
         self.serve_line()
@@ -33,25 +39,32 @@ impl Relay {
     }
 
     /// It is to be closed.
-    fn end(&mut self, key: usize) -> Result<(), NoMemory> {
-        if let Some(application) = self.applications.get_mut(key) {
-            if !application.is_over {
+    fn end(&mut self, key: usize) -> Result<(), NoMemory>
+        ensures { self.new.desk ≡ self.old.desk }
+    {
+        match self.applications.get_mut(key) {
+            Some(application) => {
+                if application.is_over {
+                    return Ok(());
+                }
                 application.is_over = true;
                 self.orders.push(Order::Close(application.tag))?;
+                Ok(())
             }
+            None => Ok(()),
         }
-        Ok(())
     }
 
     /// An application waits no more, and what it holds is nobody's any more.
-    pub(super) fn release(&mut self, key: usize) -> Result<(), NoMemory> {
+    #[tactic(auto, using(crate::proofs::Reaching::reaches_turn, crate::proofs::Reaching::reaches_turned))]
+    pub(super) fn release(&mut self, key: usize) -> Result<(), NoMemory>
+        ensures { OnOk result (Leaving key (desk_in self.old.desk) (desk_in self.new.desk)) }
+    {
         self.outbox.clear();
         let Some(left) = self.desk.leave(key, &mut self.outbox)? else {
             return Ok(());
         };
-        if let Some(link) = self.link_mut(left.number) {
-            link.is_muted = false;
-        }
+        self.mute(left.number, false);
         if left.is_there {
             self.counts.cleanings = self.counts.cleanings.saturating_add(1);
             self.send_on(left.number)
@@ -61,29 +74,38 @@ impl Relay {
         }
     }
 
-    /// A connection is one of the relay's no longer.
-    fn take_link(&mut self, number: u64) -> Option<Link> {
-        for index in 0..self.links.len() {
-            if self.links[index].number == number {
-                return Some(self.links.remove(index));
-            }
-        }
-        None
-    }
-
     /// A connection is of no use any more: it is closed, and its application with it.
-    pub(super) fn lose(&mut self, number: u64) -> Result<(), NoMemory> {
+    #[tactic(auto, using(crate::proofs::Reaching::reaches_turn, crate::proofs::Reaching::reaches_turned))]
+    pub(super) fn lose(&mut self, number: u64) -> Result<(), NoMemory>
+        ensures lost { OnOk result (Goes (turn (desk_in self.old.desk) (Loses number)).desk
+            (desk_in self.new.desk)) }
+        ensures goes { OnOk result (Goes (desk_in self.old.desk) (desk_in self.new.desk)) }
+    {
         let key = self.desk.lose(number)?;
         self.close(number, key)
     }
 
-    /// A connection that the desk has no more is closed, and the application that held it.
-    pub(super) fn close(&mut self, number: u64, key: Option<usize>) -> Result<(), NoMemory> {
-        if let Some(link) = self.take_link(number) {
-            if let Some(tag) = link.tag {
+    fn close_link(&mut self, number: u64) -> Result<(), NoMemory>
+        ensures { self.new.desk ≡ self.old.desk }
+    {
+        let Some(link) = take_out(&mut self.links, number) else {
+            return Ok(());
+        };
+        match link.tag {
+            Some(tag) => {
                 self.orders.push(Order::Close(tag))?;
+                Ok(())
             }
+            None => Ok(()),
         }
+    }
+
+    /// A connection that the desk has no more is closed, and the application that held it.
+    #[tactic(auto, using(crate::proofs::Reaching::reaches_turn, crate::proofs::Reaching::reaches_turned))]
+    pub(super) fn close(&mut self, number: u64, key: Option<usize>) -> Result<(), NoMemory>
+        ensures { OnOk result (Goes (desk_in self.old.desk) (desk_in self.new.desk)) }
+    {
+        self.close_link(number)?;
         match key {
             Some(key) => {
                 self.desk.unwait(key);
@@ -92,4 +114,14 @@ impl Relay {
             None => Ok(()),
         }
     }
+}
+
+/// Takes the connection of this number out of these.
+fn take_out(links: &mut Vec<Link>, number: u64) -> Option<Link> {
+    for index in 0..links.len() {
+        if links[index].number == number {
+            return Some(links.remove(index));
+        }
+    }
+    None
 }

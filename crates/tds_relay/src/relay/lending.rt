@@ -1,8 +1,8 @@
 //! Connections that are lent to those who wait, opened, and asked.
-ghost use Rattle.std.specs.Prelude.{OnOk};
-ghost use Rattle.tds_relay.specs.Ties.{NobodyWaits, desk_in};
+ghost use Rattle.std.specs.Prelude.{◌≡◌, OnOk};
+ghost use Rattle.tds_relay.specs.Ties.{Goes, NobodyWaits, desk_in};
 
-use super::Relay;
+use super::{Relay, link_in};
 use crate::NoMemory;
 use crate::application::Asking;
 use crate::desk::Served;
@@ -42,31 +42,52 @@ impl Relay {
     }
 
     /// The connection of this number is being opened, and is called so.
-    pub fn opening(&mut self, number: u64, tag: usize) {
-        if let Some(link) = self.link_mut(number) {
-            link.tag = Some(tag);
+    pub fn opening(&mut self, number: u64, tag: usize)
+        ensures { self.new.desk ≡ self.old.desk }
+    {
+        match link_in(&mut self.links, number) {
+            Some(link) => link.tag = Some(tag),
+            None => {}
         }
     }
 
     /// The connection of this number is open and logged in.
     pub fn opened(&mut self, number: u64) -> Result<(), NoMemory>
-        ensures { OnOk result (NobodyWaits (desk_in self.new.desk)) }
+        ensures goes { OnOk result (Goes (desk_in self.old.desk) (desk_in self.new.desk)) }
+        ensures served { OnOk result (NobodyWaits (desk_in self.new.desk)) }
     {
-        if let Some(link) = self.link_mut(number) {
-            link.is_open = true;
-        }
+        self.set_open(number);
         self.order_write_on(number)?;
-        if let Some(key) = self.desk.key_on(number) {
-            self.start(key)?;
-        }
+        self.start_on(number)?;
         self.serve_line()
     }
 
-    /// Lends connections to those who wait, in order, while there are any.
-    pub(super) fn serve_line(&mut self) -> Result<(), NoMemory>
-        ensures { OnOk result (NobodyWaits (desk_in self.new.desk)) }
+    fn set_open(&mut self, number: u64)
+        ensures { self.new.desk ≡ self.old.desk }
     {
-        for _ in 0..u64::MAX {
+        match link_in(&mut self.links, number) {
+            Some(link) => link.is_open = true,
+            None => {}
+        }
+    }
+
+    /// Asks what the application asks that holds a connection.
+    fn start_on(&mut self, number: u64) -> Result<(), NoMemory>
+        ensures { OnOk result (Goes (desk_in self.old.desk) (desk_in self.new.desk)) }
+    {
+        match self.desk.key_on(number) {
+            Some(key) => self.start(key),
+            None => Ok(()),
+        }
+    }
+
+    /// Lends connections to those who wait, in order, while there are any.
+    #[tactic(auto, using(crate::proofs::Reaching::reaches_turn, crate::proofs::Reaching::reaches_turned))]
+    pub(super) fn serve_line(&mut self) -> Result<(), NoMemory>
+        ensures goes { OnOk result (Goes (desk_in self.old.desk) (desk_in self.new.desk)) }
+        ensures served { OnOk result (NobodyWaits (desk_in self.new.desk)) }
+    {
+        'line: for _ in 0..u64::MAX {
             match self.desk.serve()? {
                 Some(served) => self.lend(served)?,
                 None => return Ok(()),
@@ -76,7 +97,10 @@ impl Relay {
     }
 
     /// A connection is lent to an application.
-    fn lend(&mut self, served: Served) -> Result<(), NoMemory> {
+    #[tactic(auto, using(crate::proofs::Reaching::reaches_turn, crate::proofs::Reaching::reaches_turned))]
+    fn lend(&mut self, served: Served) -> Result<(), NoMemory>
+        ensures { OnOk result (Goes (desk_in self.old.desk) (desk_in self.new.desk)) }
+    {
         let key = served.hold.key;
         let number = served.hold.number;
         let asks_for_reset = match self.applications.get(key) {
@@ -84,30 +108,37 @@ impl Relay {
             None => false,
         };
         if served.had {
-            if let Some(link) = self.link_mut(number) {
-                link.cuts = !asks_for_reset;
-            }
+            self.cut(number, !asks_for_reset);
             return self.start(key);
         }
-        if asks_for_reset {
-            self.tell_news(key)?;
-        }
+        self.tell_news(key, asks_for_reset)?;
         let link = self.new_link(number)?;
         self.links.push(link)?;
         self.orders.push(Order::Open(number))?;
         Ok(())
     }
 
-    /// The reset that an application asks for is done: nobody had its connection before.
-    fn tell_news(&mut self, key: usize) -> Result<(), NoMemory> {
-        if let Some(application) = self.applications.get_mut(key) {
-            application.out.bytes().extend_from_slice(&NEWS)?;
+    /// The reset that an application asks for, if it does, is done: nobody had its connection before.
+    fn tell_news(&mut self, key: usize, asks_for_reset: bool) -> Result<(), NoMemory>
+        ensures { self.new.desk ≡ self.old.desk }
+    {
+        if !asks_for_reset {
+            return Ok(());
         }
-        self.order_write(key)
+        match self.applications.get_mut(key) {
+            Some(application) => {
+                application.out.bytes().extend_from_slice(&NEWS)?;
+                self.order_write(key)
+            }
+            None => Ok(()),
+        }
     }
 
     /// Asks what an application asks, where its connection is open and idle.
-    pub(super) fn start(&mut self, key: usize) -> Result<(), NoMemory> {
+    #[tactic(auto, using(crate::proofs::Reaching::reaches_turn, crate::proofs::Reaching::reaches_turned))]
+    pub(super) fn start(&mut self, key: usize) -> Result<(), NoMemory>
+        ensures { OnOk result (Goes (desk_in self.old.desk) (desk_in self.new.desk)) }
+    {
         let Some(application) = self.applications.get(key) else {
             return Ok(());
         };
@@ -135,7 +166,9 @@ impl Relay {
     }
 
     /// Puts what is kept of a request on its connection.
-    fn put_held(&mut self, key: usize, whole: bool) -> Result<(), NoMemory> {
+    fn put_held(&mut self, key: usize, whole: bool) -> Result<(), NoMemory>
+        ensures { OnOk result (Goes (desk_in self.old.desk) (desk_in self.new.desk)) }
+    {
         let Some(application) = self.applications.get_mut(key) else {
             return Ok(());
         };

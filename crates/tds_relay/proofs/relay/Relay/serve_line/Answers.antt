@@ -1,0 +1,5 @@
+use Rattle.tds_relay.proofs.Reaching.{reaches_turn}
+use Rattle.tds_relay.proofs.relay.Relay.serve_line.Goals as goal
+
+pub line-preserved : goal.line-preserved
+line-preserved c = λ from h. c.in_ok-lend-in-Some.ensures from (reaches_turn from _ _ _ _ _ c.in_ok-served.ensures.ok.0 (c.line.invariant from h))
