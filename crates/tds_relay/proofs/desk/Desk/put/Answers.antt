@@ -1,0 +1,6 @@
+use Rattle.std.proofs.Common.{rules}
+use Rattle.tds_service.specs.Table.{puts_on}
+use Rattle.tds_relay.proofs.desk.Desk.put.Goals as goal
+
+pub returns-in-Ok-clause-ok : goal.returns-in-Ok-clause-ok
+returns-in-Ok-clause-ok c = (puts_on c.in-Some.hold.lease c.args.self.now.service c.args.bytes.now, search rules)
