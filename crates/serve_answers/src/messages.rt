@@ -43,14 +43,14 @@ pub fn put_done(out: &mut Vec<u8>, done: Done, status: u16, rows: u64) -> Result
     out.extend_from_slice(&rows.to_le_bytes())
 }
 
-/// Appends INFO of class 10 (MS-TDS 2.2.7.13).
+/// Appends INFO of class 0 (MS-TDS 2.2.7.13): it tells of no error.
 pub fn put_info(
     alloc: Global,
     out: &mut Vec<u8>,
     number: u32,
     text: &[u16],
 ) -> Result<(), NoMemory> {
-    put_message(alloc, out, 0xab, number, 10, text)
+    put_message(alloc, out, 0xab, number, 0, text)
 }
 
 /// Appends ERROR of class 16 (MS-TDS 2.2.7.10).
