@@ -46,6 +46,7 @@ pub(crate) struct Gathering {
     asked: Asked,
     answer: Vec<u8>,
     ends: Vec<usize>,
+    missing: usize,
     held: Option<usize>,
 }
 
@@ -63,6 +64,7 @@ impl Gathering {
             asked: Asked::Nothing,
             answer: Vec::new(alloc),
             ends: Vec::new(alloc),
+            missing: 0,
             held: None,
         }
     }
@@ -185,8 +187,14 @@ impl Gathering {
     pub(crate) fn close(&mut self, recording: &mut Recording) -> Result<(), AllocError> {
         // what came of a packet that isn't whole
         let part = self.kept(Way::ToClient);
-        self.answer
-            .extend_from_slice(part.as_slice().get(8..).unwrap_or(&[]))?;
+        if let Some(data) = part.as_slice().get(8..) {
+            self.answer.extend_from_slice(data)?;
+            self.missing = missing_of(part.as_slice());
+            for _ in 0..self.missing {
+                self.answer.push(0)?;
+            }
+            self.ends.push(self.answer.len())?;
+        }
         self.end(recording, false)?;
         if recording.exchanges.len() > self.first {
             if let Some(last) = recording.exchanges.last_mut() {
@@ -202,6 +210,8 @@ impl Gathering {
         let answer = mem::replace(&mut self.answer, Vec::new(self.alloc));
         let ends = mem::replace(&mut self.ends, Vec::new(self.alloc));
         let held = self.held.take();
+        let missing = self.missing;
+        self.missing = 0;
         match asked {
             Asked::Nothing => Ok(()),
             Asked::Login => {
@@ -217,6 +227,7 @@ impl Gathering {
                     body,
                     answer,
                     ends,
+                    missing,
                     held,
                     is_whole,
                     is_last: false,
@@ -234,6 +245,16 @@ impl Gathering {
             login: self.login,
         })?;
         Ok(())
+    }
+}
+
+/// How many bytes are missing of the packet that these begin.
+fn missing_of(part: &[u8]) -> usize {
+    match part {
+        [_, _, high, low, ..] => {
+            usize::from(u16::from_be_bytes([*high, *low])).saturating_sub(part.len())
+        }
+        _ => 0,
     }
 }
 

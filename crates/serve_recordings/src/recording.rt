@@ -14,6 +14,8 @@ pub struct Exchange {
     /// The data of the message that answered it, or of what came of that; and where in it each packet's end.
     pub answer: Vec<u8>,
     pub ends: Vec<usize>,
+    /// How many bytes of its last packet never came; zeros stand in their place.
+    pub missing: usize,
     /// How many packets of the answer came before an attention was sent, where one was before its end.
     pub held: Option<usize>,
     /// Whether the answer's message ended.
