@@ -1,4 +1,4 @@
-"""What others get wrong, as a page: each bug of docs/PEERS.md and of docs/DRIVERS.md.
+"""What others get wrong, as a page: each bug of docs/PEERS.md and of docs/SERVING.md.
 
 The pictures of what goes wrong, and what a driver printed, are told by page/bugs.txt; the words are those of
 docs/PEERS.md, so each section and each item of its list must have a picture. What happens here the page's player

@@ -27,3 +27,20 @@ pub fn put_collation_change(out: &mut Vec<u8>) -> Result<(), NoMemory> {
     let [a, b, c, d, e] = COLLATION;
     put_counted(out, 0xe3, &[7, 5, a, b, c, d, e, 0])
 }
+
+/// Appends ENVCHANGE 4: the packet size, from 4,096.
+pub fn put_size_change(alloc: Global, out: &mut Vec<u8>, size: u16) -> Result<(), NoMemory> {
+    let digits = format!(in alloc; "{size}")?;
+    let new = wide(alloc, digits.as_bytes())?;
+    let old = wide(alloc, b"4096")?;
+    put_text_change(alloc, out, 4, new.as_slice(), old.as_slice())
+}
+
+/// The units of a text of ASCII.
+fn wide(alloc: Global, text: &[u8]) -> Result<Vec<u16>, NoMemory> {
+    let mut units = Vec::with_capacity(alloc, text.len())?;
+    for byte in text {
+        units.push(u16::from(*byte))?;
+    }
+    Ok(units)
+}

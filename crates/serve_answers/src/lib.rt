@@ -10,9 +10,10 @@ mod messages;
 mod rows;
 mod shapes;
 
-pub use changes::{COLLATION, put_collation_change, put_text_change};
+pub use changes::{COLLATION, put_collation_change, put_size_change, put_text_change};
 pub use messages::{
-    DONE_LENGTH, Done, put_done, put_error, put_info, put_return_status, put_return_value,
+    DONE_LENGTH, Done, put_done, put_error, put_info, put_login_ack, put_no_utf8,
+    put_return_status, put_return_value,
 };
 pub use rows::{Column, Value, put_columns, put_row};
 pub use shapes::{put_shaped_columns, put_shaped_null_row, put_shaped_row};

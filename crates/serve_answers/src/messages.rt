@@ -43,14 +43,14 @@ pub fn put_done(out: &mut Vec<u8>, done: Done, status: u16, rows: u64) -> Result
     out.extend_from_slice(&rows.to_le_bytes())
 }
 
-/// Appends INFO of class 10 (MS-TDS 2.2.7.13).
+/// Appends INFO of class 0 (MS-TDS 2.2.7.13): it tells of no error.
 pub fn put_info(
     alloc: Global,
     out: &mut Vec<u8>,
     number: u32,
     text: &[u16],
 ) -> Result<(), NoMemory> {
-    put_message(alloc, out, 0xab, number, 10, text)
+    put_message(alloc, out, 0xab, number, 0, text)
 }
 
 /// Appends ERROR of class 16 (MS-TDS 2.2.7.10).
@@ -100,4 +100,20 @@ pub fn put_return_value(out: &mut Vec<u8>, place: u16, value: u32) -> Result<(),
     // INTN of four bytes, and the value's length
     out.extend_from_slice(&[0x26, 4, 4])?;
     put_u32(out, value)
+}
+
+/// Appends LOGINACK (MS-TDS 2.2.7.14) of this version of TDS: by `tdsserve`, so that nobody takes it for a SQL
+/// Server, of version 11.0.
+pub fn put_login_ack(alloc: Global, out: &mut Vec<u8>, version: u32) -> Result<(), NoMemory> {
+    let mut body = Vec::new(alloc);
+    body.push(1)?;
+    body.extend_from_slice(&version.to_be_bytes())?;
+    put_short_text(&mut body, &NAME)?;
+    body.extend_from_slice(&[11, 0, 0, 1])?;
+    put_counted(out, 0xad, body.as_slice())
+}
+
+/// Appends FEATUREEXTACK (MS-TDS 2.2.7.11) of the feature UTF8_SUPPORT: texts aren't sent in UTF-8.
+pub fn put_no_utf8(out: &mut Vec<u8>) -> Result<(), NoMemory> {
+    out.extend_from_slice(&[0xae, 0x0a, 1, 0, 0, 0, 0, 0xff])
 }

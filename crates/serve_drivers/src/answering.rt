@@ -1,6 +1,9 @@
-//! How an answer goes out: each step of the server's is told as the request's plan says, in packets of at
-//! most 512 bytes.
+//! How an answer goes out: each step of the server's is told as the request's plan says, in packets of 512
+//! bytes, of more or less where that is asked for.
 ghost use Rattle.std.specs.Prelude.{◌+◌, ◌≤◌, length, vec_len};
+ghost use Rattle.serve_drivers.specs.declared.answering.TheConstants.{MOST_DATA};
+
+mod breaking;
 
 use crate::script::Breach;
 use crate::shaping::{are_rows, put_shaped};
@@ -11,8 +14,11 @@ use tds_packet::{Kind, Status, put_sent};
 use tds_server::{Server, Worked};
 use tds_session::ScriptEngine;
 
-/// The most bytes of data in a packet.
-const MOST: usize = 504;
+/// The most bytes of data in a packet of an answer.
+pub const MOST_DATA: usize = 4088;
+
+/// How many it has at most where nothing else is said.
+const USUAL_DATA: usize = 504;
 
 /// What is told of a request.
 #[derive(Drop)]
@@ -35,6 +41,9 @@ pub struct Answering {
     pub has_failed: bool,
     /// What it breaks of the protocol.
     pub breach: Option<Breach>,
+    /// The most bytes of data in a packet, and where else packets end, as they were recorded.
+    most: usize,
+    ends: Vec<usize>,
     /// Whether rows have the shapes of a SQL Server's, and what is told before a reset that is done.
     is_real: bool,
     before_reset: Vec<u8>,
@@ -54,15 +63,25 @@ impl Answering {
             is_over: false,
             has_failed: false,
             breach: None,
+            most: USUAL_DATA,
+            ends: Vec::new(alloc),
             is_real: false,
             before_reset: Vec::new(alloc),
         }
     }
 
-    /// It is told in the shapes of a SQL Server, these tokens before a reset that is done.
-    pub fn make_real(&mut self, before_reset: Vec<u8>) {
+    /// It is told in the shapes of a SQL Server, these tokens before a reset that is done, in packets with so
+    /// many bytes of data at most.
+    pub fn make_real(&mut self, before_reset: Vec<u8>, most: usize) {
         self.is_real = true;
         self.before_reset = before_reset;
+        self.most = most;
+    }
+
+    /// It goes out in packets whose data end there.
+    pub fn end_packets_at(&mut self, ends: &[usize]) -> Result<(), AllocError> {
+        self.most = MOST_DATA;
+        self.ends.extend_from_slice(ends)
     }
 
     /// Does a step of the server's where nothing waits, and appends a packet of what waits then.
@@ -71,12 +90,12 @@ impl Answering {
         server: &mut Server<ScriptEngine>,
         out: &mut Vec<u8>,
     ) -> Result<Worked, AllocError>
-        ensures { vec_len out.new ≤ vec_len out.old + 512 }
+        ensures { vec_len out.new ≤ vec_len out.old + 4096 }
     {
         if self.left() == 0 && !self.is_over {
             self.work(server)?;
         }
-        if self.is_whole() && self.left() <= MOST && !self.is_over {
+        if self.is_whole() && self.left() <= self.most && !self.is_over {
             self.work(server)?;
         }
         self.put(out)
@@ -229,12 +248,26 @@ impl Answering {
         }
     }
 
+    /// The most bytes of data that the next packet has.
+    fn room(&self) -> usize
+        ensures { result ≤ MOST_DATA }
+    {
+        let mut room = self.most;
+        for end in &self.ends {
+            if *end > self.sent {
+                room = room.min(end.saturating_sub(self.sent));
+            }
+        }
+        room.min(MOST_DATA)
+    }
+
     /// Appends a packet of what waits, the last one where the server is done and nothing is left.
     fn put(&mut self, out: &mut Vec<u8>) -> Result<Worked, AllocError>
-        ensures { vec_len out.new ≤ vec_len out.old + 512 }
+        ensures { vec_len out.new ≤ vec_len out.old + 4096 }
     {
+        let room = self.room();
         let waiting = self.tokens.as_slice().get(self.sent..).unwrap_or(&[]);
-        let count = waiting.len().min(MOST);
+        let count = waiting.len().min(room);
         let ends = self.is_over && count == waiting.len();
         if count > 0 || ends {
             let is_marked = ends && self.breach != Some(Breach::NoEnd);
@@ -263,8 +296,8 @@ fn split_done(tokens: &[u8], is_last: bool) -> (&[u8], &[u8]) {
 
 /// Appends a packet of an answer.
 fn put_packet(out: &mut Vec<u8>, ends: bool, packet_id: u8, data: &[u8]) -> Result<(), AllocError>
-    requires { length «data».now ≤ 504 }
-    ensures { vec_len out.new ≤ vec_len out.old + 512 }
+    requires { length «data».now ≤ MOST_DATA }
+    ensures { vec_len out.new ≤ vec_len out.old + (8 + length «data».now) }
 {
     put_sent(out, Kind::Answer, Status::of_answer(ends), packet_id, data)
 }

@@ -89,7 +89,7 @@ impl Connection {
     ) -> Result<Connection, AllocError> {
         Ok(Connection {
             stream,
-            peer: Peer::new(alloc, on_attention, is_real),
+            peer: Peer::new(alloc, on_attention, is_real, number),
             number,
             rest: Vec::with_capacity(alloc, MOST_READ)?,
             out: Vec::with_capacity(alloc, MOST_WAITING)?,

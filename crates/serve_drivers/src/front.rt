@@ -3,15 +3,13 @@
 ghost use Rattle.std.specs.Prelude.{◌+◌, ◌≤◌, length, vec_len, IfOk};
 
 mod packets;
+mod planning;
+mod recorded;
 
 use crate::answering::Answering;
-use crate::script::{Breach, Reply, Script};
+use crate::script::{Breach, Orders, Script};
 use packets::{attention, batch, message_of, transaction};
-use serve_requests::text::{own, trimmed, units_in, units_of};
-use serve_requests::{
-    Call, CallFault, End, Habits, MessageKind, MessageReader, Plan, Procedure, Stop, Whole,
-    behind_headers, read_call,
-};
+use serve_requests::{Habits, MessageKind, MessageReader, Plan, Stop, Whole};
 use std::alloc::{AllocError, Global};
 use tds_packet::{PacketSize, Reset};
 use tds_server::{Server, ServerFault, ServerTook, Worked};
@@ -66,11 +64,19 @@ pub struct Front {
     has_failed: bool,
     /// Whether answers have the shapes of a SQL Server's.
     is_real: bool,
+    /// The most bytes of data in a packet of an answer in these shapes.
+    most: usize,
+    /// The place of the recorded request from which on the next one is looked for.
+    place: usize,
+    /// What is done with the newest request, where that was recorded.
+    orders: Option<Orders>,
+    /// Whether the newest request's answer has the acknowledgement of its attention in it.
+    is_acknowledged: bool,
 }
 
 /// A plan, and the request that it is of.
 #[derive(Drop)]
-struct Planned {
+pub(crate) struct Planned {
     plan: Plan,
     descriptor: u64,
     kind: Took,
@@ -94,7 +100,16 @@ impl Front {
             text: Vec::new(alloc),
             has_failed: false,
             is_real,
+            most: usize::from(size.get()).saturating_sub(8),
+            place: 0,
+            orders: None,
+            is_acknowledged: false,
         })
+    }
+
+    /// What a SQL Server tells of the session that begins.
+    pub fn session_tokens(&self) -> Result<Vec<u8>, AllocError> {
+        self.habits.login_tokens(self.alloc)
     }
 
     /// The text of the newest request; of a call without one the procedure's name.
@@ -129,7 +144,7 @@ impl Front {
         out: &mut Vec<u8>,
     ) -> Result<(usize, Took), AllocError>
         ensures within { IfOk result (λ x. x.0 ≤ length piece.now) }
-        ensures adds { vec_len out.new ≤ vec_len out.old + 35 }
+        ensures adds { vec_len out.new ≤ vec_len out.old + 171 }
     {
         let count = match self.reader.feed(piece) {
             Ok(count) => count,
@@ -156,7 +171,7 @@ impl Front {
         whole: Whole,
         out: &mut Vec<u8>,
     ) -> Result<Took, AllocError>
-        ensures { vec_len out.new ≤ vec_len out.old + 35 }
+        ensures { vec_len out.new ≤ vec_len out.old + 171 }
     {
         if whole.is_ignored {
             return Ok(Took::Part);
@@ -165,11 +180,13 @@ impl Front {
             if hears == Hears::Forgets {
                 return Ok(Took::Forgotten);
             }
-            self.answering = None;
-            return came_of(Took::Attention, server.take(attention(), out));
+            return self.take_attention(server, out);
         }
         if self.answering.is_some() {
             return Ok(Took::Fault);
+        }
+        if let Some(recording) = script.recording() {
+            return self.take_recorded(server, recording, whole, out);
         }
         if whole.status.reset().is_some() {
             if script.fails_reset() {
@@ -178,6 +195,25 @@ impl Front {
             self.habits.reset()?;
         }
         self.take_request(server, script, whole, out)
+    }
+
+    /// Takes an attention: it breaks the answer off that is underway.
+    fn take_attention(
+        &mut self,
+        server: &mut Server<ScriptEngine>,
+        out: &mut Vec<u8>,
+    ) -> Result<Took, AllocError>
+        ensures { vec_len out.new ≤ vec_len out.old + 171 }
+    {
+        if let Some(answering) = &self.answering {
+            answering.break_off(out)?;
+        }
+        self.answering = None;
+        if self.is_acknowledged {
+            let mut forgotten = Vec::new(self.alloc);
+            return came_of(Took::Attention, server.take(attention(), &mut forgotten));
+        }
+        came_of(Took::Attention, server.take(attention(), out))
     }
 
     /// Takes a request.
@@ -254,69 +290,10 @@ impl Front {
     fn answer(&mut self, plan: Plan) -> Result<(), AllocError> {
         let mut answering = Answering::new(self.alloc, plan);
         if self.is_real {
-            answering.make_real(self.habits.tokens(self.alloc)?);
+            answering.make_real(self.habits.tokens(self.alloc)?, self.most);
         }
         self.answering = Some(answering);
         Ok(())
-    }
-
-    /// The plan of a batch; none where it isn't spelled rightly.
-    fn plan_batch(
-        &mut self,
-        script: &Script,
-        is_open: bool,
-    ) -> Result<Option<Planned>, AllocError> {
-        let Some((descriptor, body)) = behind_headers(self.reader.data()) else {
-            return Ok(None);
-        };
-        if self.reader.count() % 2 == 1 {
-            return Ok(None);
-        }
-        let units = units_of(self.alloc, body)?;
-        self.text = own(self.alloc, trimmed(units.as_slice()))?;
-        let plan = match script.reply_to(self.text.as_slice()) {
-            Some(Reply::Tokens(tokens)) => Plan::whole(self.alloc, copy(self.alloc, tokens)?)?,
-            Some(Reply::Batch(text)) => self.habits.plan_batch(text, is_open)?,
-            None => self.habits.plan_batch(self.text.as_slice(), is_open)?,
-        };
-        Ok(Some(Planned::new(plan, descriptor, Took::Batch)))
-    }
-
-    /// The plan of a call; none where its headers aren't spelled rightly.
-    fn plan_call(&mut self, script: &Script, is_open: bool) -> Result<Option<Planned>, AllocError> {
-        let Some((descriptor, body)) = behind_headers(self.reader.data()) else {
-            return Ok(None);
-        };
-        let call = match read_call(self.alloc, body)? {
-            Ok(call) => call,
-            Err(fault) => {
-                let plan = refused_call(self.alloc, fault)?;
-                return Ok(Some(Planned::new(plan, descriptor, Took::Call)));
-            }
-        };
-        self.text = self.habits.text_of(&call)?;
-        let is_reset = call.procedure == Procedure::Reset;
-        if is_reset {
-            self.habits.reset()?;
-        }
-        let text = self.text.as_slice();
-        let plan = reply_to_call(self.alloc, &mut self.habits, script, call, text, is_open)?;
-        let mut planned = Planned::new(plan, descriptor, Took::Call);
-        planned.is_reset = is_reset;
-        Ok(Some(planned))
-    }
-
-    /// The plan of a bulk load.
-    fn plan_rows(&mut self, descriptor: u64) -> Result<Planned, AllocError> {
-        self.text.clear();
-        let plan = match self.reader.rows() {
-            Some(rows) => Plan::counted(self.alloc, rows)?,
-            None => {
-                let text = units_in(self.alloc, b"These are no rows of a bulk load.")?;
-                Plan::failed(self.alloc, End::Batch, 50_006, text)?
-            }
-        };
-        Ok(Planned::new(plan, descriptor, Took::Rows))
     }
 
     /// Does a step of the answer, and says what is left of it.
@@ -325,7 +302,7 @@ impl Front {
         server: &mut Server<ScriptEngine>,
         out: &mut Vec<u8>,
     ) -> Result<Worked, AllocError>
-        ensures { vec_len out.new ≤ vec_len out.old + 512 }
+        ensures { vec_len out.new ≤ vec_len out.old + 4096 }
     {
         let Some(answering) = &mut self.answering else {
             return Ok(Worked::Idle);
@@ -350,37 +327,10 @@ impl Planned {
     }
 }
 
-/// The plan of a call of this text, as the script says.
-fn reply_to_call(
-    alloc: Global,
-    habits: &mut Habits,
-    script: &Script,
-    call: Call<'_>,
-    text: &[u16],
-    is_open: bool,
-) -> Result<Plan, AllocError> {
-    match script.reply_to(text) {
-        Some(Reply::Tokens(tokens)) => Plan::whole(alloc, copy(alloc, tokens)?),
-        Some(Reply::Batch(batch)) => habits.plan_call(call, batch, is_open),
-        None => habits.plan_call(call, text, is_open),
-    }
-}
-
 fn copy(alloc: Global, bytes: &[u8]) -> Result<Vec<u8>, AllocError> {
     let mut copy = Vec::with_capacity(alloc, bytes.len())?;
     copy.extend_from_slice(bytes)?;
     Ok(copy)
-}
-
-/// The plan of a call that isn't read.
-fn refused_call(alloc: Global, fault: CallFault) -> Result<Plan, AllocError> {
-    let text: &[u8] = match fault {
-        CallFault::Wrong => b"This call is not spelled rightly.",
-        CallFault::UnknownType => b"The type of a parameter is not read.",
-        CallFault::ManyParameters => b"A call may have 256 parameters.",
-    };
-    let text = units_in(alloc, text)?;
-    Plan::failed(alloc, End::Procedure { handle: None }, 50_006, text)
 }
 
 /// What the server took, as this.

@@ -19,5 +19,5 @@ mod shaping;
 pub use log::{Log, Style};
 pub use peer::{Asked, Next, Note, Peer};
 pub use place::{Link, Listener, Place};
-pub use script::{Event, Script, ScriptFault, read_script};
+pub use script::{Event, Orders, Script, ScriptFault, read_script};
 pub use serving::{House, Manner};

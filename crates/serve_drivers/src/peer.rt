@@ -1,15 +1,16 @@
 //! One connection: its login, then its requests. No input or output happens here.
 ghost use Rattle.std.specs.Prelude.{◌+◌, ◌*◌, ◌≤◌, length, vec_len, IfOk};
 
+mod greeting;
 mod notes;
 
-use crate::asked::{database_in, keep};
+use crate::asked::keep;
 use crate::front::{Front, Hears, Took};
 use crate::script::{Orders, Script};
 use notes::{put_login_failed, put_not_spoken, put_reset_failed, refused};
 pub use notes::{Asked, Note};
 use std::alloc::{AllocError, Global};
-use tds_login::{Login, LoginAnswer, Terms, put_answer, put_let_in};
+use tds_login::{Login, LoginAnswer, put_answer};
 use tds_server::{Server, Worked};
 use tds_session::{OnAttention, ScriptEngine};
 
@@ -71,12 +72,14 @@ pub struct Peer {
     /// The bytes of the login's message, as far as they are kept.
     login: Vec<u8>,
     is_real: bool,
+    /// Its connection's number, from 1.
+    number: u64,
 }
 
 impl Peer {
     /// A connection as it begins, whose server does this with its transaction at an attention, and answers
     /// in the shapes of a SQL Server or not.
-    pub fn new(alloc: Global, on_attention: OnAttention, is_real: bool) -> Peer {
+    pub fn new(alloc: Global, on_attention: OnAttention, is_real: bool, number: u64) -> Peer {
         Peer {
             alloc,
             on_attention,
@@ -87,6 +90,7 @@ impl Peer {
             orders: Orders::none(),
             login: Vec::new(alloc),
             is_real,
+            number,
         }
     }
 
@@ -212,8 +216,7 @@ impl Peer {
                     return Ok(Next::Close);
                 }
                 notes.push(Note::LoggedIn(terms.size.get()))?;
-                self.let_in(script, *terms, out)?;
-                Ok(Next::Stay)
+                self.let_in(script, *terms, out)
             }
             LoginAnswer::Refuse(refusal) => {
                 put_answer(self.alloc, out, *answer)?;
@@ -221,22 +224,6 @@ impl Peer {
                 Ok(Next::Close)
             }
         }
-    }
-
-    /// Lets a peer in, and begins its session.
-    fn let_in(&mut self, script: &Script, terms: Terms, out: &mut Vec<u8>) -> Result<(), AllocError>
-        ensures { vec_len out.new ≤ vec_len out.old + 4096 }
-    {
-        let alloc = self.alloc;
-        let database = database_in(alloc, self.login.as_slice())?;
-        let size = terms.size;
-        let front = Front::new(alloc, size, database.as_slice(), self.is_real)?;
-        let server = Server::with_attention(alloc, ScriptEngine, size, self.on_attention);
-        put_let_in(alloc, out, terms, database.as_slice())?;
-        self.login.clear();
-        self.orders = script.orders(0, &[]);
-        self.stage = Stage::Session { front, server };
-        Ok(())
     }
 
     /// Notes what came of a packet.
@@ -286,7 +273,10 @@ impl Peer {
         let Stage::Session { front, server } = &mut self.stage else {
             return Ok(());
         };
-        let orders = script.orders(self.request, front.text());
+        let orders = match front.orders() {
+            Some(orders) => orders,
+            None => script.orders(self.request, front.text()),
+        };
         front.set_breach(orders.breach);
         self.orders = orders;
         let mut text = Vec::new(self.alloc);
@@ -309,8 +299,8 @@ impl Peer {
         out: &mut Vec<u8>,
         notes: &mut Vec<Note>,
     ) -> Result<Next, AllocError>
-        // A step appends 512 bytes at most, so that so many steps are done at most.
-        ensures adds { vec_len out.new ≤ vec_len out.old + (512 * steps + 4608) }
+        // A step appends 4,096 bytes at most, so that so many steps are done at most.
+        ensures adds { vec_len out.new ≤ vec_len out.old + (4096 * steps + 4608) }
         ensures bounded { vec_len out.old ≤ MOST_WAITING → vec_len out.new ≤ MOST_WAITING }
     {
         for _ in 0..steps {
@@ -339,7 +329,7 @@ impl Peer {
 
     /// Does a step of the answer, and says whether an attention that waited for its end is due.
     fn step(&mut self, out: &mut Vec<u8>, notes: &mut Vec<Note>) -> Result<bool, AllocError>
-        ensures { vec_len out.new ≤ vec_len out.old + 512 }
+        ensures { vec_len out.new ≤ vec_len out.old + 4096 }
     {
         let Stage::Session { front, server } = &mut self.stage else {
             self.answering = Answering::No;

@@ -5,8 +5,10 @@ mod fields;
 mod reading;
 mod tokens;
 
+use crate::answering::MOST_DATA;
 pub use fault::ScriptFault;
 pub use reading::read_script;
+use serve_recordings::{Exchange, Recording};
 use serve_requests::text::{begins_with, is_same};
 use std::alloc::Global;
 
@@ -97,6 +99,42 @@ impl Orders {
     }
 }
 
+impl Orders {
+    /// What is done with a recorded request: its answer waits where an attention was sent, and the connection
+    /// is closed behind it where it was.
+    pub fn of_recorded(exchange: &Exchange) -> Orders {
+        let mut orders = Orders::none();
+        if let Some(held) = exchange.held {
+            orders.steps = u32::try_from(packets_of(exchange, held)).ok();
+            orders.is_crossed = true;
+        }
+        if exchange.is_last {
+            let packets = packets_of(exchange, usize::MAX);
+            let data = exchange.answer.len().saturating_sub(exchange.missing);
+            let bytes = packets.saturating_mul(8).saturating_add(data);
+            orders.cut = u32::try_from(bytes).ok();
+        }
+        if !exchange.is_whole {
+            orders.breach = Some(Breach::NoEnd);
+        }
+        orders
+    }
+}
+
+/// How many packets so many recorded ones of an answer are sent in: a longer one than is sent here in several.
+fn packets_of(exchange: &Exchange, most: usize) -> usize {
+    let mut packets: usize = 0;
+    let mut start: usize = 0;
+    for (place, end) in exchange.ends.iter().enumerate() {
+        if place < most {
+            let count = end.saturating_sub(start);
+            packets = packets.saturating_add(count.saturating_add(MOST_DATA - 1) / MOST_DATA);
+            start = *end;
+        }
+    }
+    packets
+}
+
 /// What a text is answered with.
 #[derive(Clone, Copy, Debug)]
 pub enum Reply<'a> {
@@ -110,6 +148,8 @@ pub enum Reply<'a> {
 #[derive(Debug, Drop)]
 pub struct Script {
     events: Vec<Event>,
+    /// What requests are answered with, in the place of the language.
+    recording: Option<Recording>,
 }
 
 impl Pattern {
@@ -173,12 +213,29 @@ impl Script {
     pub fn none(alloc: Global) -> Script {
         Script {
             events: Vec::new(alloc),
+            recording: None,
         }
+    }
+
+    /// What was recorded, and nothing else.
+    pub fn recorded(alloc: Global, recording: Recording) -> Script {
+        Script {
+            events: Vec::new(alloc),
+            recording: Some(recording),
+        }
+    }
+
+    /// What was recorded, where requests are answered with that.
+    pub fn recording(&self) -> Option<&Recording> {
+        self.recording.as_ref()
     }
 
     /// These events. Of two that say the same of one request, the later one counts.
     pub fn of(events: Vec<Event>) -> Script {
-        Script { events }
+        Script {
+            events,
+            recording: None,
+        }
     }
 
     /// What is done with the request of this number and text.

@@ -20,5 +20,5 @@ pub use call::{Call, CallFault, Parameter, Procedure, read_call};
 pub use headers::behind_headers;
 pub use message::{MessageKind, MessageReader, Stop, Whole};
 pub use parameters::TypedBytes;
-pub use plan::{Deed, End, Plan};
-pub use session::{Habits, LONGEST};
+pub use plan::{Deed, End, LONGEST, Plan};
+pub use session::Habits;

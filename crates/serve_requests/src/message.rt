@@ -24,6 +24,20 @@ pub enum MessageKind {
     Transaction,
 }
 
+impl MessageKind {
+    /// The kind of a message whose packets have this type.
+    pub fn of(byte: u8) -> Option<MessageKind> {
+        match byte {
+            0x01 => Some(MessageKind::Batch),
+            0x03 => Some(MessageKind::Procedure),
+            0x06 => Some(MessageKind::Attention),
+            0x07 => Some(MessageKind::BulkLoad),
+            0x0e => Some(MessageKind::Transaction),
+            _ => None,
+        }
+    }
+}
+
 /// A message that has come whole.
 #[derive(Clone, Copy, Debug)]
 pub struct Whole {
@@ -168,7 +182,7 @@ impl MessageReader {
 
     /// Reads the header that has come.
     fn begin_packet(&mut self) -> Result<(), Stop> {
-        let kind = kind_of(self.head[0]).ok_or(Stop::Wrong)?;
+        let kind = MessageKind::of(self.head[0]).ok_or(Stop::Wrong)?;
         let header = self.header().ok_or(Stop::Wrong)?;
         let status = header.status;
         let part = Part { kind, status };
@@ -245,17 +259,5 @@ impl MessageReader {
             is_ignored: part.status.is_ignored(),
         });
         Ok(())
-    }
-}
-
-/// The kind of a message whose packets have this type.
-fn kind_of(byte: u8) -> Option<MessageKind> {
-    match byte {
-        0x01 => Some(MessageKind::Batch),
-        0x03 => Some(MessageKind::Procedure),
-        0x06 => Some(MessageKind::Attention),
-        0x07 => Some(MessageKind::BulkLoad),
-        0x0e => Some(MessageKind::Transaction),
-        _ => None,
     }
 }

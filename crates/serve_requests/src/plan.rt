@@ -1,8 +1,17 @@
 //! What is run for a request, and what is told in the place of what that tells.
 
-use crate::text::units_in;
+ghost use Rattle.std.specs.Prelude.{◌≡◌, ◌+◌, ◌≤◌, length, vec_len, IfOk};
+ghost use Rattle.serve_requests.specs.declared.plan.TheConstants.{LONGEST};
+
+use crate::text::{front, units_in};
 use serve_answers::{Done, put_done};
 use std::alloc::{AllocError, Global};
+
+/// The most units of a text (the batch language's limit).
+pub const LONGEST: usize = 2000;
+
+/// How many units a statement that fails has at most: its number has ten digits at most.
+const FAILING: usize = 15;
 
 /// A statement of the batch language that changes nothing: it stands in for one that is answered otherwise.
 const SILENT: &[u8] = b"get a";
@@ -40,7 +49,9 @@ pub struct Plan {
 
 impl Plan {
     /// A plan of no statement yet.
-    pub(crate) fn new(alloc: Global, end: End) -> Plan {
+    pub(crate) fn new(alloc: Global, end: End) -> Plan
+        ensures { vec_len result.text ≡ 0 }
+    {
         Plan {
             text: Vec::new(alloc),
             deeds: Vec::new(alloc),
@@ -49,31 +60,34 @@ impl Plan {
     }
 
     /// The plan of a request that is handed on as it is, and of which all is told.
-    pub fn same(alloc: Global) -> Plan {
+    pub fn same(alloc: Global) -> Plan
+        ensures { vec_len result.text ≡ 0 }
+    {
         Plan::new(alloc, End::Batch)
     }
 
     /// The plan of an answer that is these tokens.
-    pub fn whole(alloc: Global, tokens: Vec<u8>) -> Result<Plan, AllocError> {
+    pub fn whole(alloc: Global, tokens: Vec<u8>) -> Result<Plan, AllocError>
+        ensures fits { IfOk result (λ plan. vec_len plan.text ≤ LONGEST) }
+    {
         let mut plan = Plan::new(alloc, End::Batch);
         plan.add_silent(alloc, Deed::Whole(tokens))?;
         Ok(plan)
     }
 
     /// The plan of a request that fails with this error.
-    pub fn failed(
-        alloc: Global,
-        end: End,
-        number: u32,
-        text: Vec<u16>,
-    ) -> Result<Plan, AllocError> {
+    pub fn failed(alloc: Global, end: End, number: u32, text: Vec<u16>) -> Result<Plan, AllocError>
+        ensures fits { IfOk result (λ plan. vec_len plan.text ≤ LONGEST) }
+    {
         let mut plan = Plan::new(alloc, end);
         plan.add_failed(alloc, number, text)?;
         Ok(plan)
     }
 
     /// The plan of a batch whose rows were counted.
-    pub fn counted(alloc: Global, rows: u64) -> Result<Plan, AllocError> {
+    pub fn counted(alloc: Global, rows: u64) -> Result<Plan, AllocError>
+        ensures fits { IfOk result (λ plan. vec_len plan.text ≤ LONGEST) }
+    {
         let mut plan = Plan::new(alloc, End::Batch);
         let mut tokens = Vec::new(alloc);
         put_done(&mut tokens, Done::Statement, 0x11, rows)?;
@@ -82,7 +96,9 @@ impl Plan {
     }
 
     /// Adds a statement of the language, with what is told of it.
-    pub(crate) fn add(&mut self, statement: &[u16], deed: Deed) -> Result<(), AllocError> {
+    pub(crate) fn add(&mut self, statement: &[u16], deed: Deed) -> Result<(), AllocError>
+        ensures { vec_len self.new.text ≤ vec_len self.old.text + (1 + length statement.now) }
+    {
         if !self.deeds.is_empty() {
             self.text.push(59)?;
         }
@@ -92,7 +108,9 @@ impl Plan {
     }
 
     /// Adds a statement that changes nothing.
-    pub(crate) fn add_silent(&mut self, alloc: Global, deed: Deed) -> Result<(), AllocError> {
+    pub(crate) fn add_silent(&mut self, alloc: Global, deed: Deed) -> Result<(), AllocError>
+        ensures { vec_len self.new.text ≤ vec_len self.old.text + 6 }
+    {
         let statement = units_in(alloc, SILENT)?;
         self.add(statement.as_slice(), deed)
     }
@@ -103,9 +121,12 @@ impl Plan {
         alloc: Global,
         number: u32,
         text: Vec<u16>,
-    ) -> Result<(), AllocError> {
+    ) -> Result<(), AllocError>
+        ensures { vec_len self.new.text ≤ vec_len self.old.text + 16 }
+    {
         let statement = format!(in alloc; "fail {number}")?;
         let statement = units_in(alloc, statement.as_bytes())?;
-        self.add(statement.as_slice(), Deed::Failed { number, text })
+        let statement = front(statement.as_slice(), FAILING);
+        self.add(statement, Deed::Failed { number, text })
     }
 }

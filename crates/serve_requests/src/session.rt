@@ -2,19 +2,19 @@
 
 mod calls;
 
+ghost use Rattle.std.specs.Prelude.{◌≤◌, length, vec_len, IfOk};
+ghost use Rattle.serve_requests.specs.declared.plan.TheConstants.{LONGEST};
+
 use crate::call::Parameter;
 use crate::items::{Own, columns_of};
-use crate::plan::{Deed, End, Plan};
+use crate::plan::{Deed, End, LONGEST, Plan};
 use crate::statements::{Known, statements_of, what_is};
 use crate::substituting::substituted;
-use crate::text::{is_same, is_word, own, trimmed, units_in};
+use crate::text::{front, is_same, is_word, own, trimmed, units_in};
 use serve_answers::{
     Column, Done, put_collation_change, put_columns, put_done, put_info, put_row, put_text_change,
 };
 use std::alloc::{AllocError, Global};
-
-/// The most units of a text (the batch language's limit).
-pub const LONGEST: usize = 2000;
 
 /// The most savepoints and prepared texts of a session. Of more, the oldest are forgotten.
 const MOST: usize = 32;
@@ -24,6 +24,12 @@ const ROOM: usize = 16_384;
 
 /// The most bytes that are told of a text in the place of what the language tells.
 const MOST_TOLD: usize = 32_768;
+
+/// The language of a session that chose none.
+const LANGUAGE: &[u8] = b"us_english";
+
+/// The most units of a database's name, and of a language's.
+const LONGEST_NAME: usize = 128;
 
 /// How many units of a savepoint's name count.
 const NAME: usize = 32;
@@ -43,6 +49,7 @@ pub struct Habits {
     /// The database that the login asked for.
     first_database: Vec<u16>,
     database: Vec<u16>,
+    language: Vec<u16>,
     saved: Vec<Vec<u16>>,
     prepared: Vec<Prepared>,
     handles: u32,
@@ -55,6 +62,7 @@ impl Habits {
             alloc,
             first_database: own(alloc, database)?,
             database: own(alloc, database)?,
+            language: units_in(alloc, LANGUAGE)?,
             saved: Vec::new(alloc),
             prepared: Vec::new(alloc),
             handles: 0,
@@ -64,9 +72,25 @@ impl Habits {
     /// A reset: all is as the login left it.
     pub fn reset(&mut self) -> Result<(), AllocError> {
         self.database = own(self.alloc, self.first_database.as_slice())?;
+        self.language = units_in(self.alloc, LANGUAGE)?;
         self.saved.clear();
         self.prepared.clear();
         Ok(())
+    }
+
+    /// What a SQL Server tells of the session that it lets in: its database, the collation, its language
+    /// (MS-TDS 2.2.7.9, types 1, 7 and 2), each with its INFO (2.2.7.13).
+    pub fn login_tokens(&self, alloc: Global) -> Result<Vec<u8>, AllocError> {
+        let mut tokens = Vec::new(alloc);
+        let database = front(self.database.as_slice(), LONGEST_NAME);
+        let language = self.language.as_slice();
+        let master = units_in(alloc, b"master")?;
+        put_text_change(alloc, &mut tokens, 1, database, master.as_slice())?;
+        put_database_info(alloc, &mut tokens, database)?;
+        put_collation_change(&mut tokens)?;
+        put_text_change(alloc, &mut tokens, 2, language, &[])?;
+        put_language_info(alloc, &mut tokens, language)?;
+        Ok(tokens)
     }
 
     /// What a SQL Server tells with a reset that is done: the database and the collation.
@@ -79,7 +103,9 @@ impl Habits {
     }
 
     /// The plan of a batch.
-    pub fn plan_batch(&mut self, text: &[u16], is_open: bool) -> Result<Plan, AllocError> {
+    pub fn plan_batch(&mut self, text: &[u16], is_open: bool) -> Result<Plan, AllocError>
+        ensures fits { IfOk result (λ plan. vec_len plan.text ≤ LONGEST) }
+    {
         self.plan_text(text, &[], is_open, End::Batch)
     }
 
@@ -90,7 +116,9 @@ impl Habits {
         parameters: &[Parameter<'_>],
         is_open: bool,
         end: End,
-    ) -> Result<Plan, AllocError> {
+    ) -> Result<Plan, AllocError>
+        ensures fits { IfOk result (λ plan. vec_len plan.text ≤ LONGEST) }
+    {
         if text.len() > LONGEST {
             return self.too_long(text.len(), end);
         }
@@ -111,16 +139,37 @@ impl Habits {
             }
         }
         if statements.is_empty() {
-            plan.add_silent(self.alloc, Deed::Tokens(Vec::new(self.alloc)))?;
-        } else if !is_known {
-            plan.text = own(self.alloc, trimmed(text))?;
-            plan.deeds = Vec::new(self.alloc);
+            return self.silent(end);
+        }
+        if !is_known {
+            return self.as_it_is(text, end);
         }
         Ok(plan)
     }
 
+    /// The plan of a text without a statement.
+    fn silent(&self, end: End) -> Result<Plan, AllocError>
+        ensures fits { IfOk result (λ plan. vec_len plan.text ≤ LONGEST) }
+    {
+        let mut plan = Plan::new(self.alloc, end);
+        plan.add_silent(self.alloc, Deed::Tokens(Vec::new(self.alloc)))?;
+        Ok(plan)
+    }
+
+    /// The plan of a text that is of the language alone.
+    fn as_it_is(&self, text: &[u16], end: End) -> Result<Plan, AllocError>
+        requires { length text.now ≤ LONGEST }
+        ensures fits { IfOk result (λ plan. vec_len plan.text ≤ LONGEST) }
+    {
+        let mut plan = Plan::new(self.alloc, end);
+        plan.text = own(self.alloc, trimmed(text))?;
+        Ok(plan)
+    }
+
     /// The plan of a text that is too long.
-    fn too_long(&self, count: usize, end: End) -> Result<Plan, AllocError> {
+    fn too_long(&self, count: usize, end: End) -> Result<Plan, AllocError>
+        ensures fits { IfOk result (λ plan. vec_len plan.text ≤ LONGEST) }
+    {
         let alloc = self.alloc;
         let text = format!(in alloc; "This text has {count} units, and may have {LONGEST}.")?;
         let text = units_in(alloc, text.as_bytes())?;
@@ -128,7 +177,9 @@ impl Habits {
     }
 
     /// The plan of a text that too much would be told of.
-    fn too_much(&self, end: End) -> Result<Plan, AllocError> {
+    fn too_much(&self, end: End) -> Result<Plan, AllocError>
+        ensures fits { IfOk result (λ plan. vec_len plan.text ≤ LONGEST) }
+    {
         let alloc = self.alloc;
         let text = format!(in alloc; "The answer has more than {MOST_TOLD} bytes.")?;
         let text = units_in(alloc, text.as_bytes())?;
@@ -167,6 +218,7 @@ impl Habits {
     ) -> Result<bool, AllocError> {
         match found {
             Some(Known::Silent) => self.add_done(plan)?,
+            Some(Known::Language(name)) => self.add_language(plan, name)?,
             Some(Known::Use(name)) => self.add_use(plan, name)?,
             Some(Known::Begin) => self.add_word(plan, b"begin", is_open, true)?,
             Some(Known::Commit) => self.add_word(plan, b"commit", is_open, false)?,
@@ -221,6 +273,18 @@ impl Habits {
         self.saved.clear();
         let statement = units_in(self.alloc, word)?;
         plan.add(statement.as_slice(), Deed::Same)
+    }
+
+    /// Adds the choice of a language: ENVCHANGE 2 and INFO 5703.
+    fn add_language(&mut self, plan: &mut Plan, name: &[u16]) -> Result<(), AllocError> {
+        let alloc = self.alloc;
+        let name = front(name, LONGEST_NAME);
+        let mut tokens = Vec::new(alloc);
+        put_text_change(alloc, &mut tokens, 2, name, self.language.as_slice())?;
+        put_language_info(alloc, &mut tokens, name)?;
+        put_done(&mut tokens, Done::Statement, 1, 0)?;
+        self.language = own(alloc, name)?;
+        plan.add_silent(alloc, Deed::Tokens(tokens))
     }
 
     /// Adds the choice of a database: ENVCHANGE 1 and INFO 5701.
@@ -305,7 +369,15 @@ fn tokens_of(alloc: Global, columns: &[Column]) -> Result<Vec<u8>, AllocError> {
 /// Appends the INFO that a session is in this database.
 fn put_database_info(alloc: Global, out: &mut Vec<u8>, name: &[u16]) -> Result<(), AllocError> {
     let mut text = units_in(alloc, b"Changed database context to '")?;
-    text.extend_from_slice(name.get(..128).unwrap_or(name))?;
+    text.extend_from_slice(front(name, LONGEST_NAME))?;
     text.extend_from_slice(&[39, 46])?;
     put_info(alloc, out, 5701, text.as_slice())
+}
+
+/// Appends the INFO that messages are in this language.
+fn put_language_info(alloc: Global, out: &mut Vec<u8>, name: &[u16]) -> Result<(), AllocError> {
+    let mut text = units_in(alloc, b"Changed language setting to ")?;
+    text.extend_from_slice(front(name, LONGEST_NAME))?;
+    text.push(46)?;
+    put_info(alloc, out, 5703, text.as_slice())
 }

@@ -21,6 +21,8 @@ const BEGINNINGS: [&[u8]; 8] = [
 pub enum Known<'a> {
     /// A setting, or rows of a bulk load that are announced: nothing is to be told.
     Silent,
+    /// The language of messages is chosen.
+    Language(&'a [u16]),
     /// A database is chosen.
     Use(&'a [u16]),
     Begin,
@@ -115,6 +117,17 @@ pub fn what_is(statement: &[u16]) -> Option<Known<'_>> {
 fn setting(rest: &[u16]) -> Option<Known<'_>> {
     match next_piece(rest) {
         (Piece::Word([_]), _) | (Piece::End, _) => None,
+        (Piece::Word(word), behind) if is_word(word, b"language") => language(behind),
+        _ => Some(Known::Silent),
+    }
+}
+
+/// `set language NAME`
+fn language(rest: &[u16]) -> Option<Known<'_>> {
+    match next_piece(rest) {
+        (Piece::Word(name) | Piece::Name(name) | Piece::Quoted(name), _) => {
+            Some(Known::Language(name))
+        }
         _ => Some(Known::Silent),
     }
 }

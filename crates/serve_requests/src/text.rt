@@ -1,5 +1,7 @@
 //! Texts of UTF-16 units, and the pieces of a statement: words, quoted texts, names in brackets, signs.
 
+ghost use Rattle.std.specs.Prelude.{◌≡◌, ◌≤◌, length, vec_len, IfOk};
+
 use std::alloc::{AllocError, Global};
 
 /// The units that these bytes spell, each unit's low byte first.
@@ -14,7 +16,9 @@ pub fn units_of(alloc: Global, bytes: &[u8]) -> Result<Vec<u16>, AllocError> {
 }
 
 /// The units of a text of ASCII.
-pub fn units_in(alloc: Global, text: &[u8]) -> Result<Vec<u16>, AllocError> {
+pub fn units_in(alloc: Global, text: &[u8]) -> Result<Vec<u16>, AllocError>
+    ensures { IfOk result (λ units. vec_len units ≡ length text.now) }
+{
     let mut units = Vec::with_capacity(alloc, text.len())?;
     for byte in text {
         units.push(u16::from(*byte))?;
@@ -23,7 +27,9 @@ pub fn units_in(alloc: Global, text: &[u8]) -> Result<Vec<u16>, AllocError> {
 }
 
 /// The units again, in memory of their own.
-pub fn own(alloc: Global, units: &[u16]) -> Result<Vec<u16>, AllocError> {
+pub fn own(alloc: Global, units: &[u16]) -> Result<Vec<u16>, AllocError>
+    ensures { IfOk result (λ copy. vec_len copy ≡ length units.now) }
+{
     let mut copy = Vec::with_capacity(alloc, units.len())?;
     copy.extend_from_slice(units)?;
     Ok(copy)
@@ -83,8 +89,17 @@ pub fn is_among(word: &[u16], words: &[&[u8]]) -> bool {
     false
 }
 
+/// As many units of a text as these at most, the first ones.
+pub fn front(text: &[u16], most: usize) -> &[u16]
+    ensures { length result.now ≤ most }
+{
+    &text[..most.min(text.len())]
+}
+
 /// A text without the blanks and the ends of lines at both its ends.
-pub fn trimmed(text: &[u16]) -> &[u16] {
+pub fn trimmed(text: &[u16]) -> &[u16]
+    ensures { length result.now ≤ length text.now }
+{
     let mut rest = text;
     for _ in 0..text.len() {
         match rest {
@@ -96,7 +111,9 @@ pub fn trimmed(text: &[u16]) -> &[u16] {
 }
 
 /// A text without the blanks and the ends of lines behind it.
-fn without_end(text: &[u16]) -> &[u16] {
+fn without_end(text: &[u16]) -> &[u16]
+    ensures { length result.now ≤ length text.now }
+{
     let mut count = 0;
     for (place, unit) in text.iter().enumerate() {
         if !is_blank(*unit) {

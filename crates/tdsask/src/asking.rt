@@ -1,16 +1,14 @@
 //! A connection that is logged in, and what is asked on it.
 ghost use Rattle.std.specs.Prelude.{◌≡◌};
 
+use crate::ends::{End, Heard};
 use crate::link::Link;
 use anyhow::{Context, bail};
-use std::alloc::{AllocError, Global};
 use tds_client::Sent;
-use tds_ends::{ClientEnd, RequestStatus};
+use tds_ends::RequestStatus;
 use tds_login::{is_let_in, put_login};
 use tds_packet::{PacketSize, Reset};
 use tds_request::Request;
-use tds_text::put_token_line;
-use tds_token::Token;
 
 /// The packet size that is asked for.
 const SIZE: u16 = 4096;
@@ -22,7 +20,7 @@ const PIECE: usize = 16;
 #[derive(Drop)]
 pub struct Asker {
     link: Link,
-    end: ClientEnd,
+    end: End,
     /// How many tokens the next request is told before it is cancelled.
     cancel_after: Option<usize>,
     /// How many requests were asked.
@@ -30,8 +28,8 @@ pub struct Asker {
 }
 
 impl Asker {
-    /// Logs in.
-    pub fn new(rt: &HostRuntime, mut link: Link) -> anyhow::Result<Asker> {
+    /// Logs in, at a server of the strict profile or at any.
+    pub fn new(rt: &HostRuntime, mut link: Link, is_any: bool) -> anyhow::Result<Asker> {
         let alloc = rt.alloc();
         let Some(size) = PacketSize::new(SIZE) else {
             bail!("no packet size");
@@ -39,7 +37,7 @@ impl Asker {
         log_in(rt, &mut link, size).context("awaiting the login's answer")?;
         Ok(Asker {
             link,
-            end: ClientEnd::new(alloc, size)?,
+            end: End::new(alloc, size, is_any)?,
             cancel_after: None,
             asked: 0,
         })
@@ -67,11 +65,13 @@ impl Asker {
     pub fn ask(&mut self, rt: &HostRuntime, request: &Request) -> anyhow::Result<String> {
         let alloc = rt.alloc();
         self.asked = self.asked.saturating_add(1);
-        let mut told = Vec::new(alloc);
+        let mut heard = Heard::new(alloc);
         let awaited = format!(in alloc; "awaiting the answer to request {}", self.asked)?;
-        let status = self.settle(rt, request, &mut told).context(awaited)?;
+        let status = self.settle(rt, request, &mut heard).context(awaited)?;
         self.cancel_after = None;
-        Ok(lines_of(alloc, self.asked, status, told.as_slice())?)
+        let became = name_of(status);
+        let lines = heard.lines.as_str();
+        Ok(format!(in alloc; "request {} {became}\n{lines}", self.asked)?)
     }
 
     /// Sends a request, and takes what comes until it is settled.
@@ -79,10 +79,10 @@ impl Asker {
         &mut self,
         rt: &HostRuntime,
         request: &Request,
-        told: &mut Vec<Token>,
+        heard: &mut Heard,
     ) -> anyhow::Result<RequestStatus> {
         self.send(rt, request)?;
-        self.hear(rt, told)
+        self.hear(rt, heard)
     }
 
     /// Starts a request and sends all its packets.
@@ -102,19 +102,15 @@ impl Asker {
     }
 
     /// Takes what comes until the request is settled.
-    fn hear(&mut self, rt: &HostRuntime, told: &mut Vec<Token>) -> anyhow::Result<RequestStatus> {
+    fn hear(&mut self, rt: &HostRuntime, heard: &mut Heard) -> anyhow::Result<RequestStatus> {
         let mut piece = [0u8; PIECE];
         for _ in 0..u64::MAX {
-            self.cancel_in_time(rt, told.len())?;
+            self.cancel_in_time(rt, heard.count)?;
             let count = self.link.read(rt, &mut piece)?;
             let Some(came) = piece.get(..count) else {
                 break;
             };
-            let fed = self.end.listen(came, told);
-            if let Some(stop) = fed.stop {
-                bail!("the client stopped: {stop:?}");
-            }
-            if let Some(status) = fed.settled {
+            if let Some(status) = self.end.listen(rt.alloc(), came, heard)? {
                 return Ok(status);
             }
         }
@@ -160,21 +156,11 @@ fn login_answer(rt: &HostRuntime, link: &mut Link) -> anyhow::Result<Vec<u8>> {
     Ok(data)
 }
 
-/// The lines of an answer: what became of the request of this number, and a line a token.
-fn lines_of(
-    alloc: Global,
-    number: u64,
-    status: RequestStatus,
-    told: &[Token],
-) -> Result<String, AllocError> {
-    let became = match status {
+/// What became of a request.
+fn name_of(status: RequestStatus) -> &'static str {
+    match status {
         RequestStatus::Finished => "finished",
         RequestStatus::Acknowledged => "acknowledged",
         _ => "lost",
-    };
-    let mut lines = format!(in alloc; "request {number} {became}\n")?;
-    for token in told {
-        put_token_line(&mut lines, token)?;
     }
-    Ok(lines)
 }

@@ -2,6 +2,7 @@
 #![tactic(auto)]
 
 mod asking;
+mod ends;
 mod link;
 mod words;
 
@@ -30,6 +31,7 @@ Usage: tdsask ADDRESS WORD..
   --reset, --reset-keep
                     the next request asks for a reset, or for one that keeps the transaction
   --cancel N        the next request is cancelled once N tokens were told
+  --any             answers are read by the rules of any server, and rows passed
   --wait SECONDS    how long the connection, the login's answer and each request's are awaited, each:
                     1 to 86400, and 10 where nothing is said
   --help, --version alone
@@ -84,7 +86,7 @@ fn given_words(rt: &HostRuntime) -> io::Result<Vec<String>> {
 fn ask_all(rt: &HostRuntime, address: &str, asked: &Asked) -> anyhow::Result<()> {
     let limit = Duration::from_secs(asked.wait);
     let link = Link::connect(rt, address, limit).context("no connection")?;
-    let mut asker = Asker::new(rt, link)?;
+    let mut asker = Asker::new(rt, link, asked.is_any)?;
     take_steps(rt, &mut asker, asked.steps.as_slice())?;
     println!(rt; "descriptor {}", asker.descriptor()).context("output")
 }

@@ -26,6 +26,8 @@ pub struct Asked {
     pub steps: Vec<Step>,
     /// How many seconds the connection, the login's answer and each request's are awaited, each.
     pub wait: u64,
+    /// Whether answers are read by the rules of any server.
+    pub is_any: bool,
 }
 
 /// A word that a number stands behind.
@@ -40,6 +42,7 @@ pub fn read_asked(alloc: Global, words: &[String]) -> Result<Option<Asked>, Allo
     let mut asked = Asked {
         steps: Vec::new(alloc),
         wait: WAIT,
+        is_any: false,
     };
     if put_words(alloc, &mut asked, words)? && !asked.steps.is_empty() {
         Ok(Some(asked))
@@ -61,6 +64,10 @@ fn put_words(alloc: Global, asked: &mut Asked, words: &[String]) -> Result<bool,
         before = None;
         let is_right = match counted {
             Some(counted) => put_count(asked, counted, word)?,
+            None if word == "--any" => {
+                asked.is_any = true;
+                true
+            }
             None => put_step(asked, read_step(alloc, word)?)?,
         };
         if !is_right {

@@ -3,11 +3,12 @@
 use crate::address::find_place;
 use crate::fault::ServeFault;
 use crate::words::Asked;
-use serve_drivers::{House, Log, Manner, Place, Script, ScriptFault, Style, read_script};
+use serve_drivers::{House, Log, Manner, Place, Script, read_script};
+use serve_recordings::read_recording;
 use std::fs;
 use std::io::{ErrorKind, Read, Stderr};
 
-/// The most bytes of a script file, as of a schedule's.
+/// The most bytes of a script file and of a recording, as of a schedule's.
 const FILE_LIMIT: usize = 33_554_432;
 
 /// A server that listens as the words ask for, and where.
@@ -19,10 +20,7 @@ pub fn begin(rt: &HostRuntime, asked: &Asked) -> Result<(House<Stderr>, Place), 
         silence: asked.silence,
         is_real: asked.is_real,
     };
-    let script = match &asked.script {
-        Some(path) => given_script(rt, path.as_str())?,
-        None => Script::none(rt.alloc()),
-    };
+    let script = script_of(rt, asked)?;
     let log = Log::new(rt.stderr(), asked.style);
     let mut house = match House::new(rt, rt.alloc(), &place, manner, script, log) {
         Ok(house) => house,
@@ -34,8 +32,26 @@ pub fn begin(rt: &HostRuntime, asked: &Asked) -> Result<(House<Stderr>, Place), 
     Ok((house, place))
 }
 
-/// The script in the file of this name.
-fn given_script(rt: &HostRuntime, path: &str) -> Result<Script, ScriptFault> {
+/// What the words say of answers.
+fn script_of(rt: &HostRuntime, asked: &Asked) -> Result<Script, ServeFault> {
+    let alloc = rt.alloc();
+    match (&asked.script, &asked.recording) {
+        (Some(_), Some(_)) => Err(ServeFault::TwoFiles),
+        (Some(path), None) => {
+            let bytes = bytes_of(rt, path.as_str())?;
+            Ok(read_script(alloc, path.as_str(), bytes.as_slice())?)
+        }
+        (None, Some(path)) => {
+            let bytes = bytes_of(rt, path.as_str())?;
+            let recording = read_recording(alloc, path.as_str(), bytes.as_slice())?;
+            Ok(Script::recorded(alloc, recording))
+        }
+        (None, None) => Ok(Script::none(alloc)),
+    }
+}
+
+/// The bytes of the file of this name.
+fn bytes_of(rt: &HostRuntime, path: &str) -> Result<Vec<u8>, ServeFault> {
     let alloc = rt.alloc();
     let mut bytes = Vec::new(alloc);
     let read = match fs::open(rt, path) {
@@ -43,9 +59,9 @@ fn given_script(rt: &HostRuntime, path: &str) -> Result<Script, ScriptFault> {
         Err(error) => Err(error),
     };
     match read {
-        Ok(_) if bytes.len() <= FILE_LIMIT => read_script(alloc, path, bytes.as_slice()),
-        Ok(_) => Err(ScriptFault::Wrong(format!(in alloc; "{path}: it has more than 32 MiB")?)),
-        Err(error) if error.kind() == ErrorKind::OutOfMemory => Err(ScriptFault::Memory),
-        Err(error) => Err(ScriptFault::Wrong(format!(in alloc; "{path}: {error}")?)),
+        Ok(_) if bytes.len() <= FILE_LIMIT => Ok(bytes),
+        Ok(_) => Err(ServeFault::File(format!(in alloc; "{path}: it has more than 32 MiB")?)),
+        Err(error) if error.kind() == ErrorKind::OutOfMemory => Err(ServeFault::Memory),
+        Err(error) => Err(ServeFault::File(format!(in alloc; "{path}: {error}")?)),
     }
 }

@@ -3,6 +3,7 @@
 use clap::Error;
 use clap::error::ErrorKind as UsageKind;
 use serve_drivers::{Place, ScriptFault};
+use serve_recordings::RecordingFault;
 use std::alloc::AllocError;
 use std::io::{self, ErrorKind};
 
@@ -28,6 +29,13 @@ pub enum ServeFault {
     Input(io::Error),
     #[error("{0}")]
     Script(ScriptFault),
+    #[error("{0}")]
+    Recording(RecordingFault),
+    /// A file isn't read, and why.
+    #[error("{0}")]
+    File(String),
+    #[error("error: --script and --replay: one of the two")]
+    TwoFiles,
     /// The system doesn't let it listen there.
     #[error("error: {0}: {1}")]
     Listen(Place, io::Error),
@@ -75,6 +83,15 @@ impl From<Error> for ServeFault {
         match error.kind() {
             UsageKind::OutOfMemory => ServeFault::Memory,
             _ => ServeFault::Usage(error),
+        }
+    }
+}
+
+impl From<RecordingFault> for ServeFault {
+    fn from(fault: RecordingFault) -> ServeFault {
+        match fault {
+            RecordingFault::Memory => ServeFault::Memory,
+            fault => ServeFault::Recording(fault),
         }
     }
 }

@@ -25,6 +25,8 @@ pub struct Asked {
     pub ends_with_input: bool,
     /// The file of the script, if there is one.
     pub script: Option<String>,
+    /// The file of the recording, if there is one.
+    pub recording: Option<String>,
     /// Whether answers have the shapes of a SQL Server's.
     pub is_real: bool,
     /// How each connection and each request has a line on standard error.
@@ -45,7 +47,8 @@ pub fn read_words(alloc: Global, words: &[String]) -> Result<Asked, ServeFault> 
         is_real: matches.get_flag("real"),
         style: style_of(&matches),
         address: String::from_str(alloc, matches.get_str("ADDRESS").unwrap_or(""))?,
-        script: script_of(alloc, &matches)?,
+        script: file_of(alloc, &matches, "script")?,
+        recording: file_of(alloc, &matches, "replay")?,
     })
 }
 
@@ -79,9 +82,13 @@ fn style_of(matches: &ArgMatches<'_>) -> Style {
     }
 }
 
-/// The file of the script, if there is one.
-fn script_of(alloc: Global, matches: &ArgMatches<'_>) -> Result<Option<String>, AllocError> {
-    match matches.get_str("script") {
+/// The file that this word names, if there is one.
+fn file_of(
+    alloc: Global,
+    matches: &ArgMatches<'_>,
+    word: &str,
+) -> Result<Option<String>, AllocError> {
+    match matches.get_str(word) {
         Some(path) => Ok(Some(String::from_str(alloc, path)?)),
         None => Ok(None),
     }
@@ -92,6 +99,7 @@ fn parser<'a>(alloc: Global) -> Result<Command<'a>, AllocError> {
     let parser = parser.arg(pace(alloc))?;
     let parser = parser.arg(silence(alloc))?;
     let parser = parser.arg(script(alloc))?;
+    let parser = parser.arg(replay(alloc))?;
     let rollback = flag(
         alloc,
         "rollback-on-attention",
@@ -159,7 +167,14 @@ fn silence<'a>(alloc: Global) -> Arg<'a> {
 fn script<'a>(alloc: Global) -> Arg<'a> {
     Arg::new(alloc, "script")
         .long("script")
-        .help("FILE that says what is done with answers (docs/SCRIPTS.md)")
+        .help("FILE that says what is done with answers (docs/SERVING.md)")
+        .action(ArgAction::Set)
+}
+
+fn replay<'a>(alloc: Global) -> Arg<'a> {
+    Arg::new(alloc, "replay")
+        .long("replay")
+        .help("FILE of a recorded session, by which requests are answered (docs/SERVING.md)")
         .action(ArgAction::Set)
 }
 

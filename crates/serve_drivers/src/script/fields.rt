@@ -1,8 +1,8 @@
 //! What stands behind an event's word, and the event that it makes.
 
-use crate::script::tokens::bytes_of;
 use crate::script::{Breach, Event, Pattern, Which};
 use serde_json::Value;
+use serve_recordings::bytes_of;
 use serve_requests::LONGEST;
 use std::alloc::{AllocError, Global};
 

@@ -2,13 +2,14 @@
 //! its word.
 
 use crate::script::fields::{Field, event_of, fields_of};
-use crate::script::tokens::{bytes_of, fault_of};
+use crate::script::tokens::fault_of;
 use crate::script::{Event, Script, ScriptFault};
 use json_places::{
     Key, Outline, Page, Takes, parts_of, put_doubled, put_json_fault, put_place, put_standing,
     put_unknown_keys, put_value, put_value_fault,
 };
 use serde_json::Value;
+use serve_recordings::bytes_of;
 use std::alloc::{AllocError, Global};
 use std::fmt::Write;
 

@@ -1,4 +1,4 @@
-//! Tokens in a script: hexadecimal digits, and what of them is no answer.
+//! What of a script's tokens is no answer.
 
 use std::alloc::{AllocError, Global};
 use tds_wire::{Features, Walker};
@@ -8,44 +8,6 @@ const COLUMNS: u16 = 1024;
 
 /// The least byte of DONE, DONEPROC and DONEINPROC (MS-TDS 2.2.7.6 to 2.2.7.8).
 const DONE: u8 = 0xfd;
-
-/// The bytes of hexadecimal digits, among which blanks may stand; or at which character, from 0, no digit
-/// stands; behind the last one, where the last byte has one digit alone.
-pub(crate) fn bytes_of(alloc: Global, text: &str) -> Result<Result<Vec<u8>, usize>, AllocError> {
-    let mut bytes = Vec::new(alloc);
-    let mut high = None;
-    let mut count: usize = 0;
-    for character in text.chars() {
-        if character != ' ' {
-            let Some(digit) = digit_of(character) else {
-                return Ok(Err(count));
-            };
-            high = match high {
-                None => Some(digit),
-                Some(first) => {
-                    bytes.push(joined(first, digit))?;
-                    None
-                }
-            };
-        }
-        count = count.saturating_add(1);
-    }
-    match high {
-        None => Ok(Ok(bytes)),
-        Some(_) => Ok(Err(count)),
-    }
-}
-
-/// The byte of two digits.
-fn joined(high: u8, low: u8) -> u8 {
-    high.wrapping_mul(16).wrapping_add(low)
-}
-
-/// What a hexadecimal digit stands for.
-fn digit_of(character: char) -> Option<u8> {
-    let digit = character.to_digit(16)?;
-    u8::try_from(digit).ok()
-}
 
 /// At which byte tokens are no answer, and why; none where they are one.
 pub(crate) fn fault_of<'a>(

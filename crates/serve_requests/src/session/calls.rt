@@ -1,8 +1,11 @@
 //! The plans of calls, and the texts that they prepare.
 
+ghost use Rattle.std.specs.Prelude.{◌≤◌, vec_len, IfOk};
+ghost use Rattle.serve_requests.specs.declared.plan.TheConstants.{LONGEST};
+
 use crate::call::{Call, Parameter, Procedure, declared};
-use crate::plan::{Deed, End, Plan};
-use crate::session::{Habits, LONGEST, MOST, Prepared, ROOM};
+use crate::plan::{Deed, End, LONGEST, Plan};
+use crate::session::{Habits, MOST, Prepared, ROOM};
 use crate::text::{own, units_in};
 use std::alloc::AllocError;
 
@@ -49,7 +52,9 @@ impl Habits {
         mut call: Call<'_>,
         text: &[u16],
         is_open: bool,
-    ) -> Result<Plan, AllocError> {
+    ) -> Result<Plan, AllocError>
+        ensures fits { IfOk result (λ plan. vec_len plan.text ≤ LONGEST) }
+    {
         match call.procedure {
             Procedure::ExecuteText => self.plan_run(&mut call, text, is_open, None),
             Procedure::Prepare => {
@@ -71,7 +76,9 @@ impl Habits {
     }
 
     /// The plan of a call of which nothing but its end is told.
-    fn plan_silent(&self, handle: Option<u32>) -> Result<Plan, AllocError> {
+    fn plan_silent(&self, handle: Option<u32>) -> Result<Plan, AllocError>
+        ensures fits { IfOk result (λ plan. vec_len plan.text ≤ LONGEST) }
+    {
         let mut plan = Plan::new(self.alloc, End::Procedure { handle });
         plan.add_silent(self.alloc, Deed::Tokens(Vec::new(self.alloc)))?;
         Ok(plan)
@@ -85,7 +92,9 @@ impl Habits {
         text: &[u16],
         is_open: bool,
         handle: Option<u32>,
-    ) -> Result<Plan, AllocError> {
+    ) -> Result<Plan, AllocError>
+        ensures fits { IfOk result (λ plan. vec_len plan.text ≤ LONGEST) }
+    {
         let from = if handle.is_some() { 3 } else { 2 };
         let declarations = self.text_at(call, 1)?;
         self.name_parameters(call, from, declarations.as_slice())?;
@@ -99,7 +108,9 @@ impl Habits {
         call: &mut Call<'_>,
         text: &[u16],
         is_open: bool,
-    ) -> Result<Plan, AllocError> {
+    ) -> Result<Plan, AllocError>
+        ensures fits { IfOk result (λ plan. vec_len plan.text ≤ LONGEST) }
+    {
         let end = End::Procedure { handle: None };
         let declarations = match self.prepared_by(call) {
             Some(prepared) => own(self.alloc, prepared.declarations.as_slice())?,
@@ -181,7 +192,9 @@ impl Habits {
     }
 
     /// The plan of a call of a procedure that isn't known.
-    fn unknown(&self, call: &Call<'_>) -> Result<Plan, AllocError> {
+    fn unknown(&self, call: &Call<'_>) -> Result<Plan, AllocError>
+        ensures fits { IfOk result (λ plan. vec_len plan.text ≤ LONGEST) }
+    {
         let mut text = units_in(self.alloc, b"Could not find stored procedure '")?;
         let name = call.name.as_slice();
         text.extend_from_slice(name.get(..100).unwrap_or(name))?;

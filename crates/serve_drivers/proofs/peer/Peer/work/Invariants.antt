@@ -5,6 +5,6 @@ use Rattle.serve_drivers.proofs.peer.Peer.work.Given as goal
 -- what the steps so far have appended
 abbrev pub invariant-loop : goal.invariant-loop
 invariant-loop l = record {
-  adds : vec_len l.out ≤ vec_len l.fn.out + 512 * l.counter;
+  adds : vec_len l.out ≤ vec_len l.fn.out + 4096 * l.counter;
   bounded : vec_len l.fn.out ≤ MOST_WAITING → vec_len l.out ≤ MOST_WAITING;
 }
