@@ -33,9 +33,9 @@ impl From<CarrierError> for Fault {
 }
 
 /// What of these bytes comes out again, over a connection that is opened and cut for them.
-fn echo<C: Carrier>(
+fn echo<R: Net + Drop>(
     alloc: Global,
-    carrier: &mut C,
+    carrier: &mut TcpCarrier<R, R::Listener, R::Stream>,
     direction: Direction,
     bytes: &[u8],
 ) -> Result<Vec<u8>, CarrierError> {
@@ -67,7 +67,10 @@ fn put_echoes(rt: &HostRuntime, text: &mut String) -> Result<(), Fault> {
 }
 
 /// Hands a byte over, and no other, so many times: whether all went.
-fn drip<C: Carrier>(carrier: &mut C, times: u32) -> Result<(), CarrierError> {
+fn drip<R: Net + Drop>(
+    carrier: &mut TcpCarrier<R, R::Listener, R::Stream>,
+    times: u32,
+) -> Result<(), CarrierError> {
     carrier.open(1)?;
     'times: for _ in 0..times {
         carrier.send(1, Direction::ToServer, b"a")?;
@@ -86,7 +89,10 @@ fn open_files(rt: &HostRuntime) -> io::Result<usize> {
 }
 
 /// Opens these connections: whether all could be.
-fn open_all<C: Carrier>(carrier: &mut C, count: u32) -> bool {
+fn open_all<R: Net + Drop>(
+    carrier: &mut TcpCarrier<R, R::Listener, R::Stream>,
+    count: u32,
+) -> bool {
     let mut is_well = true;
     'open: for conn in 1..=count {
         is_well &= carrier.open(conn).is_ok();
@@ -95,7 +101,10 @@ fn open_all<C: Carrier>(carrier: &mut C, count: u32) -> bool {
 }
 
 /// Opens this connection again and again, and cuts it each time.
-fn open_and_cut<C: Carrier>(carrier: &mut C, times: u32) -> bool {
+fn open_and_cut<R: Net + Drop>(
+    carrier: &mut TcpCarrier<R, R::Listener, R::Stream>,
+    times: u32,
+) -> bool {
     let mut is_well = true;
     'times: for conn in 1..=times {
         match carrier.open(conn) {

@@ -153,23 +153,21 @@ fn read_a_line(alloc: Global, tried: &mut Tried) -> Result<(), Fault> {
     }
 }
 
-/// A connection is opened, handed bytes, and asked for them. Where memory is refused nothing is
-/// known of the carrier, so that it all begins again with a new one.
-fn carry(alloc: Global, out: &mut Vec<u8>) -> Result<usize, CarrierError> {
+/// A connection is opened and handed bytes; plays ask for them. Where memory is refused nothing is known of
+/// the carrier, so that it all begins again with a new one.
+fn hand_over(alloc: Global) -> Result<(), CarrierError> {
     let mut carrier = MemoryCarrier::new(alloc);
     carrier.open(1)?;
-    carrier.send(1, Direction::ToServer, &[1, 2, 3])?;
-    carrier.carry(1, Direction::ToServer, 2, out)
+    carrier.send(1, Direction::ToServer, &[1, 2, 3])
 }
 
 fn memory_carrier(alloc: Global, tried: &mut Tried) -> Result<(), Fault> {
-    let mut out = Vec::new(alloc);
-    match carry(alloc, &mut out) {
-        Ok(2) => tried.get(out.as_slice()),
+    match hand_over(alloc) {
+        Ok(()) => tried.say("handed over"),
         Err(CarrierError::Memory) => {
-            tried.refuse(out.is_empty());
-            match carry(alloc, &mut out) {
-                Ok(2) => tried.get(out.as_slice()),
+            tried.refuse(true);
+            match hand_over(alloc) {
+                Ok(()) => tried.say("handed over"),
                 _ => Err(Fault::Wrong),
             }
         }
