@@ -1,18 +1,16 @@
-"""Measures how fast clients read rows that come over a socket: this repository's from C, FreeTDS, jTDS,
-and a loop in plain C. bench/rows_server.c sends each the same rows, in packets of 4,096 bytes.
+"""Measures what clients take of a processor for rows that come over a socket: this repository's from C, FreeTDS, jTDS, and
+a loop in plain C. bench/rows_server.c sends each the same rows, in packets of 4,096 bytes.
 
-Each client is timed from the answer's first bytes to its last row, on one connection: first once to
-warm up (jTDS ten times), then some turns. The server and the client have a processor each.
+Each client counts its own time from the answer's first bytes to its last row, on one connection: first once to
+warm up (jTDS ten times), then some turns, of which the fastest counts.
 """
 import os
 import shutil
-import statistics
 import subprocess
 
 HERE = os.path.dirname(os.path.realpath(__file__))
 JTDS = "/usr/share/java/jtds.jar"
-HEAD = """| Client | Columns | Rows | MB/s | by the fastest | Nanoseconds a row, by the fastest | of the processor |
-|---|---|---|---|---|---|---|"""
+OURS, COLUMNS = "this repository's, from C", {1: "one column", 8: "eight columns"}
 
 
 def run(*words):
@@ -28,15 +26,13 @@ def built(words):
 class Clients:
     """The clients that this machine has, built in a folder; and what is left out, with the reason."""
 
-    def __init__(self, folder, cc, flags, library):
+    def __init__(self, folder, cc, flags, library, answers):
         self.left_out = []
         run(*cc, *flags, "-o", f"{folder}/rows_server", f"{HERE}/rows_server.c")
         run(*cc, *flags, "-o", f"{folder}/rows_calls", f"{HERE}/rows_calls.c", *library)
-        self.server = [f"{folder}/rows_server", folder]
+        self.server = [f"{folder}/rows_server", answers]
         # of each: its name, its words but for the port, and how many turns warm it up
-        self.found = [(name, [f"{folder}/rows_calls", way], 1) for name, way in (
-            ("this repository's, from C", "tds"), ("plain C", "plain"),
-            ("this repository's, a packet at a time", "tds-each"), ("plain C, a packet at a time", "plain-each"))]
+        self.found = [(name, [f"{folder}/rows_calls", way], 1) for name, way in ((OURS, "tds"), ("`bench/rows_calls.c`", "plain"))]
         self.build_freetds(folder, cc, flags)
         self.build_jtds(folder)
 
@@ -59,29 +55,32 @@ class Clients:
             self.found.append(("jTDS", ["java", "-cp", f"{JTDS}:{folder}", "RowsJtds"], 10))
 
     def measure(self, turns):
-        """Gives each client's line of the table, for rows of one and of eight columns."""
-        first, *_, last = (sorted(os.sched_getaffinity(0)) * 2)[:max(2, len(os.sched_getaffinity(0)))]
-        server = subprocess.Popen(["taskset", "-c", str(first), *self.server], stdout=subprocess.PIPE, text=True)
+        """Gives, for rows of one and of eight columns, the nanoseconds of a row by each client, in 15 turns at least: a
+        client whose code is compiled as it runs is slower at first."""
+        turns = max(15, turns)
+        server = subprocess.Popen(self.server, stdout=subprocess.PIPE, text=True)
         try:
             port = server.stdout.readline().strip()
-            for columns in (1, 8):
-                sums = set()
+            for columns in COLUMNS:
+                sums, taken = set(), {}
                 for name, words, warm in self.found:
-                    said = run("taskset", "-c", str(last), *words, port, str(columns), str(warm + turns))
-                    yield self.line(name, columns, said.splitlines(), turns, sums)
+                    lines = run(*words, port, str(columns), str(warm + turns)).splitlines()
+                    version = next((it for it in lines if not it[0].isdigit()), name)
+                    times = [[int(it) for it in line.split()] for line in lines if line[0].isdigit()][-turns:]
+                    sums.update((it[2], it[3]) for it in times)
+                    if len(sums) != 1:
+                        raise SystemExit(f"{name} reads other values than the clients before it: {sums}")
+                    taken[version] = min(it[1] for it in times) / times[0][2]
+                yield columns, taken
         finally:
             server.terminate()
             server.wait()
 
-    def line(self, name, columns, said, turns, sums):
-        times = [[int(it) for it in line.split()] for line in said if line[0].isdigit()][-turns:]
-        version = next((line for line in said if not line[0].isdigit()), name)
-        rows = times[0][2]
-        sums.update((it[2], it[3]) for it in times)
-        if len(sums) != 1:
-            raise SystemExit(f"{name} reads other values than the clients before it: {sums}")
-        length = rows * (1 + 4 * columns)
-        wall = [it[0] for it in times]
-        cells = [version, columns, f"{rows:,}", f"{1000 * length / statistics.median(wall):,.0f}"]
-        cells += [f"{1000 * length / min(wall):,.0f}", f"{min(wall) / rows:.1f}", f"{min(it[1] for it in times) / rows:.1f}"]
-        return "| " + " | ".join(str(it) for it in cells) + " |"
+
+def ratios(found, turns, left_out):
+    """The table's lines: each client beside this repository's."""
+    left_out += found.left_out
+    for columns, taken in found.measure(turns):
+        ours = taken.pop(OURS)
+        for name, theirs in taken.items():
+            yield (f"| a client over a socket, from C: rows of {COLUMNS[columns]}, values summed | {name} | row | | | | {theirs / ours:.2f} |")

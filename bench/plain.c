@@ -1,14 +1,12 @@
 /* The walks of bench_calls in plain C, written for this: they look at every length and number that
  * the proved readers look at, and nothing more. A client isn't part of them.
  *
- * usage: plain FILE SIZE TIMES      prints as calls does
+ * usage: plain WALK FILE SIZE TIMES      prints as calls does
  */
-#define _POSIX_C_SOURCE 199309L
 #include <stdint.h>
 #include <stdio.h>
 #include <stdlib.h>
 #include <string.h>
-#include <time.h>
 
 struct counted {
     uint64_t packets, tokens, rows, sum;
@@ -137,29 +135,21 @@ static const struct {
     struct counted (*walk)(const uint8_t *, size_t, size_t);
 } WALKS[] = {{"packets", packets}, {"tokens", tokens}, {"values", values}};
 
-static uint64_t now(void) {
-    struct timespec time;
-    clock_gettime(CLOCK_MONOTONIC, &time);
-    return (uint64_t)time.tv_sec * 1000000000 + (uint64_t)time.tv_nsec;
-}
-
 int main(int argc, char **argv) {
-    if (argc != 4) return 2;
-    FILE *file = fopen(argv[1], "rb");
+    if (argc != 5) return 2;
+    FILE *file = fopen(argv[2], "rb");
     if (file == NULL || fseek(file, 0, SEEK_END) != 0) return 2;
-    size_t length = (size_t)ftell(file);
+    size_t length = (size_t)ftell(file), which = 0;
     uint8_t *bytes = malloc(length + 1);
     rewind(file);
     if (bytes == NULL || fread(bytes, 1, length, file) != length) return 2;
-    for (long times = strtol(argv[3], NULL, 10); times > 0; times--)
-        for (size_t i = 0; i < sizeof WALKS / sizeof WALKS[0]; i++) {
-            uint64_t start = now();
-            struct counted c = WALKS[i].walk(bytes, length, (size_t)atoi(argv[2]));
-            uint64_t nanoseconds = now() - start;
-            printf("%s %llu %llu %llu %llu %llu\n", WALKS[i].name, (unsigned long long)nanoseconds,
-                   (unsigned long long)c.packets, (unsigned long long)c.tokens, (unsigned long long)c.rows,
-                   (unsigned long long)c.sum);
-        }
+    while (which < sizeof WALKS / sizeof WALKS[0] && strcmp(WALKS[which].name, argv[1]) != 0) which++;
+    if (which == sizeof WALKS / sizeof WALKS[0]) return 2;
+    for (long times = strtol(argv[4], NULL, 10); times > 0; times--) {
+        struct counted c = WALKS[which].walk(bytes, length, (size_t)atoi(argv[3]));
+        printf("%llu %llu %llu %llu\n", (unsigned long long)c.packets, (unsigned long long)c.tokens,
+               (unsigned long long)c.rows, (unsigned long long)c.sum);
+    }
     free(bytes);
     return 0;
 }

@@ -4,13 +4,14 @@
    bytes are all there is read at once, and a run of bytes is one step. Column encryption and ranks of classification
    were agreed on in no login here.
 
-   usage: plain_wire FILE PIECE TIMES      prints nanoseconds, tokens, the sum of their lengths, the counts of the DONEs */
-#define _POSIX_C_SOURCE 200809L
+   usage: plain_wire FILE PIECE TIMES [PACKETS]      prints tokens, the sum of their lengths, the counts of the DONEs. Behind
+   a fourth word the file has packets.
+
+   plain_service.c has the walk too, without its program. */
 #include <stdint.h>
 #include <stdio.h>
 #include <stdlib.h>
 #include <string.h>
-#include <time.h>
 
 enum { MOST_COLUMNS = 4096 };
 
@@ -223,7 +224,10 @@ static int arrive(struct walker *w, uint8_t due, uint32_t n)
     case TOKEN: return begin_token(w, n);
     case LENGTH: case LONG_LENGTH: case PROMOTED_OLD: return pass(w, n, ENDED);
     case CHANGE_LENGTH: w->change_left = n; return n ? (expect(w, CHANGE), 0) : behind_run(w, ENDED);
-    case CHANGE: return n == 15 ? (expect(w, PROMOTED), 0) : pass(w, w->change_left - 1, ENDED);
+    case CHANGE:
+        w->head[0] = n;
+        w->head_length = 1;
+        return n == 15 ? (expect(w, PROMOTED), 0) : pass(w, w->change_left - 1, ENDED);
     case PROMOTED: return pass(w, n, PROMOTED_OLD);
     case FEATURE: return n == 255 ? behind_run(w, ENDED) : (expect(w, FEATURE_LENGTH), 0);
     case FEATURE_LENGTH: return pass(w, n, FEATURE);
@@ -334,12 +338,63 @@ static void restart(struct walker *w)
     expect(w, TOKEN);
 }
 
+#ifndef WALK_ALONE
+struct sums { uint64_t tokens, lengths, rows; };
+
+/* Walks a piece of data. */
+static int walk(struct walker *w, const uint8_t *bytes, size_t count, struct sums *sums)
+{
+    while (count) {
+        struct token token;
+        long used = feed(w, bytes, count, &token);
+        if (used < 0)
+            return (int)used;
+        bytes += used;
+        count -= used;
+        if (token.kind) {
+            sums->tokens++;
+            sums->lengths += token.length;
+            sums->rows += token.rows;
+        }
+    }
+    return 0;
+}
+
+/* Walks a piece of packets (MS-TDS 2.2.3.1). */
+static int walk_packets(struct walker *w, const uint8_t *bytes, size_t count, struct sums *sums)
+{
+    static uint8_t header[8];
+    static size_t got, left;
+    while (count) {
+        if (left == 0) {
+            header[got++] = *bytes++;
+            count--;
+            if (got < 8)
+                continue;
+            got = 0;
+            left = (size_t)header[2] << 8 | header[3];
+            if (left < 8 || header[0] != 4)
+                return -9;
+            left -= 8;
+            continue;
+        }
+        size_t part = left < count ? left : count;
+        int fault = walk(w, bytes, part, sums);
+        if (fault)
+            return fault;
+        bytes += part;
+        count -= part;
+        left -= part;
+    }
+    return 0;
+}
+
 int main(int argc, char **argv)
 {
     static struct walker walker;
-    FILE *file = argc == 4 ? fopen(argv[1], "rb") : NULL;
+    FILE *file = argc == 4 || argc == 5 ? fopen(argv[1], "rb") : NULL;
     if (!file) {
-        fprintf(stderr, "usage: plain_wire FILE PIECE TIMES\n");
+        fprintf(stderr, "usage: plain_wire FILE PIECE TIMES [PACKETS]\n");
         return 2;
     }
     fseek(file, 0, SEEK_END);
@@ -348,31 +403,20 @@ int main(int argc, char **argv)
     rewind(file);
     if (!bytes || piece == 0 || fread(bytes, 1, size, file) != size)
         return 2;
-    struct timespec before, after;
-    uint64_t tokens = 0, lengths = 0, rows = 0;
-    clock_gettime(CLOCK_PROCESS_CPUTIME_ID, &before);
+    struct sums sums = { 0, 0, 0 };
     while (times--) {
         restart(&walker);
-        for (size_t at = 0; at < size;) {
-            size_t end = size - at < piece ? size : at + piece;
-            while (at < end) {
-                struct token token;
-                long used = feed(&walker, bytes + at, end - at, &token);
-                if (used < 0) {
-                    printf("fault %ld at %llu\n", -used, (unsigned long long)walker.at - 1);
-                    return 1;
-                }
-                at += used;
-                if (token.kind) {
-                    tokens++;
-                    lengths += token.length;
-                    rows += token.rows;
-                }
+        for (size_t at = 0; at < size; at += piece) {
+            size_t count = size - at < piece ? size - at : piece;
+            int fault = (argc == 5 ? walk_packets : walk)(&walker, bytes + at, count, &sums);
+            if (fault) {
+                printf("fault %d at %llu\n", -fault, (unsigned long long)walker.at - 1);
+                return 1;
             }
         }
     }
-    clock_gettime(CLOCK_PROCESS_CPUTIME_ID, &after);
-    long long taken = (after.tv_sec - before.tv_sec) * 1000000000ll + after.tv_nsec - before.tv_nsec;
-    printf("walk %lld %llu %llu %llu\n", taken, (unsigned long long)tokens, (unsigned long long)lengths, (unsigned long long)rows);
+    printf("%llu %llu %llu\n", (unsigned long long)sums.tokens, (unsigned long long)sums.lengths,
+           (unsigned long long)sums.rows);
     return 0;
 }
+#endif

@@ -1,23 +1,17 @@
-#!/usr/bin/env python3
-"""Times other readers over the answers of bench/wire_streams.py: FreeTDS's CT-Library and go-mssqldb. A server in this process
-logs them in and gives each answer in packets of 4,096 bytes, as often as it is asked; the client's time of the processor is
-taken, by itself, behind a first answer. Beside them the walker and plain C, in pieces of 4,088 bytes.
-
-It wants Debian's freetds-dev, golang-go and golang-github-denisenkom-go-mssqldb-dev, a C compiler, and the program
-crates/test_wire/out/test_wire.
-
-usage: bench/wire_readers.py [--times N] [--turns N] [--bytes N] [--instructions] [--walker COMMAND]
+"""Measures other readers over the answers of bench/wire_streams.py: FreeTDS's CT-Library and go-mssqldb. A server in this
+process logs them in and gives each answer in packets of 4,096 bytes, as often as it is asked; a client counts its own time
+of the processor, behind a first answer. Beside them the walker, which reads a file in pieces of 4,088 bytes: it has no
+socket, and tells no value.
 """
-import argparse
 import os
-import re
 import socket
 import subprocess
 import sys
-import tempfile
 import threading
 
-sys.dont_write_bytecode = True
+import measure
+import pairs
+
 HERE = os.path.dirname(os.path.abspath(__file__))
 sys.path.insert(0, f"{HERE}/../beside/wire_peers")
 import freetds  # noqa: E402
@@ -41,66 +35,48 @@ def server_of(answers):
     return listener.getsockname()[1]
 
 
-def built(room, port):
-    """The clients, each as the words of its command and its environment."""
-    subprocess.run(["cc", "-O2", "-o", f"{room}/wire_freetds", f"{HERE}/wire_freetds.c", "-lct"], check=True)
-    go = dict(os.environ, GO111MODULE="off", GOPATH="/usr/share/gocode", GOCACHE=f"{room}/cache", GOFLAGS="")
-    subprocess.run(["go", "build", "-o", f"{room}/wire_mssqldb", f"{HERE}/wire_mssqldb.go"], check=True, env=go)
-    subprocess.run(["cc", "-O2", "-o", f"{room}/plain_wire", f"{HERE}/plain_wire.c"], check=True)
+def freetds_of(room, port):
+    """FreeTDS's client, or nothing where it can't be built."""
+    program = f"{room}/wire_freetds"
+    if subprocess.run(["cc", "-O2", "-o", program, f"{HERE}/wire_freetds.c", "-lct"], stderr=subprocess.DEVNULL).returncode:
+        return None
     with open(f"{room}/conf", "w") as conf:
         conf.write(freetds.CONF.format(port=port))
-    quiet = dict(os.environ, FREETDSCONF=f"{room}/conf", LC_ALL="C.UTF-8")
-    return {"FreeTDS": ([f"{room}/wire_freetds", "peer"], quiet),
-            "go-mssqldb": ([f"{room}/wire_mssqldb", str(port)], dict(os.environ, GOMAXPROCS="1"))}
+    return [program, "peer"], dict(os.environ, FREETDSCONF=f"{room}/conf", LC_ALL="C.UTF-8")
 
 
-def timed(command, env, name, size, times):
-    """Bytes a microsecond of the processor, and the rows."""
-    run = subprocess.run(command, env=env, stdout=subprocess.PIPE, text=True, check=True)
-    words = run.stdout.split()
-    numbers = [int(word) for word in words if word.isdigit()]
-    return size * times * 1000 / max(numbers[0], 1), numbers[1]
+def mssqldb_of(room, port):
+    """go-mssqldb's client, or nothing where it can't be built."""
+    program = f"{room}/wire_mssqldb"
+    go = dict(os.environ, GO111MODULE="off", GOPATH="/usr/share/gocode", GOCACHE=f"{room}/cache", GOFLAGS="")
+    try:
+        subprocess.run(["go", "build", "-o", program, f"{HERE}/wire_mssqldb.go"], check=True, env=go, stderr=subprocess.DEVNULL)
+    except (OSError, subprocess.CalledProcessError):
+        return None
+    return [program, str(port)], dict(os.environ, GOMAXPROCS="1")
 
 
-def instructions(command, env):
-    """Instructions of one answer, by callgrind: those of two less those of one."""
-    def of(times):
-        run = subprocess.run(["valgrind", "--tool=callgrind", "--callgrind-out-file=/dev/null", *command, str(times)], env=env,
-                             stdout=subprocess.DEVNULL, stderr=subprocess.PIPE, text=True, check=True)
-        return int(re.search(r"Collected : (\d+)", run.stderr)[1])
-    return of(2) - of(1)
+READERS = {"FreeTDS's CT-Library": freetds_of, "go-mssqldb": mssqldb_of}
 
 
-def main():
-    words = argparse.ArgumentParser(description=__doc__, formatter_class=argparse.RawDescriptionHelpFormatter)
-    words.add_argument("--times", type=int, default=20)
-    words.add_argument("--turns", type=int, default=5)
-    words.add_argument("--instructions", action="store_true", help="those of callgrind, but for go-mssqldb, which it doesn't run")
-    words.add_argument("--bytes", type=int, default=1_000_000)
-    words.add_argument("--walker", default=f"{HERE}/../crates/test_wire/out/test_wire")
-    asked = words.parse_args()
-    with tempfile.TemporaryDirectory() as room:
-        subprocess.run([f"{HERE}/wire_streams.py", room, str(asked.bytes)], check=True)
-        names = sorted(it for it in os.listdir(room) if it.startswith("wire_"))
-        answers = [Answer(open(f"{room}/{name}", "rb").read()) for name in names]
-        clients = built(room, server_of(answers))
-        for which, name in enumerate(names):
-            size = len(answers[which].data)
-            if asked.instructions:
-                file = [f"{room}/{name}", "4088"]
-                counted = {"FreeTDS": (clients["FreeTDS"][0] + [str(which)], clients["FreeTDS"][1]),
-                           "walker": ([asked.walker, "time", *file], os.environ), "plain C": ([f"{room}/plain_wire", *file], os.environ)}
-                for reader, (command, env) in counted.items():
-                    print(f"{name} {size} bytes: {reader} {instructions(command, env):,} instructions", flush=True)
-                continue
-            for reader, (command, env) in clients.items():
-                found = [timed(command + [str(which), str(asked.times)], env, name, size, asked.times) for _ in range(asked.turns)]
-                print(f"{name} {size} bytes: {reader} {max(found)[0]:.1f} MB/s of the processor's time, {found[0][1]} rows", flush=True)
-            for reader, program in {"walker": [asked.walker, "time"], "plain C": [f"{room}/plain_wire"]}.items():
-                found = [timed(program + [f"{room}/{name}", "4088", str(asked.times)], os.environ, name, size, asked.times)
-                         for _ in range(asked.turns)]
-                print(f"{name} {size} bytes: {reader} {max(found)[0]:.1f} MB/s", flush=True)
+def timed(command, env, times):
+    """The nanoseconds of an answer."""
+    run = subprocess.run([*command, str(times)], env=env, stdout=subprocess.PIPE, text=True, check=True)
+    return [int(word) for word in run.stdout.split() if word.isdigit()][0] / times
 
 
-if __name__ == "__main__":
-    main()
+def ratios(room, walker, turns, left_out):
+    """The table's lines: each reader beside the walker."""
+    names = [it for it in sorted(os.listdir(room)) if it.startswith("wire_") and it in ("wire_int4", "wire_mixed", "wire_parts")]
+    answers = [Answer(open(f"{room}/{name}", "rb").read()) for name in names]
+    port = server_of(answers)
+    found = {name: make(room, port) for name, make in READERS.items()}
+    left_out += [f"{name} is left out: its client can't be built" for name, it in found.items() if it is None]
+    for which, name in enumerate(names):
+        command = lambda n: [walker, "time", f"{room}/{name}", "4088", str(n)]
+        count = measure.instructions(command)
+        ours = measure.nanoseconds({name: command}, {name: count}, turns)[name]
+        for reader, it in found.items():
+            if it:
+                theirs = min(timed([*it[0], str(which)], it[1], 20) for _ in range(turns))
+                yield f"| the wire: any answer's tokens: {pairs.WIRE[name]} | {reader} | byte | | | | {theirs / ours:.2f} |"

@@ -52,14 +52,18 @@ function onInput() {
 /* What the example shows that the text is; of what others get wrong, a way to that. */
 function showExample() {
   const at = exampleOf(schedule()), example = DATA.examples[at];
-  $("example").selectedIndex = at;
+  $("example").value = at;
   $("shows").textContent = example ? example.shows + " " : "";
   const bug = /^peers\/(.*)/.exec(example?.name);
   if (bug) make("a", $("shows"), "What others do").href = `${PAGE_OF_BUGS}#${bug[1]}`;
 }
 
+/* A schedule that is no example has the first choice, which can't be chosen: its number is -1, as exampleOf has it. */
 function fillExamples() {
   let group;
+  const own = make("option", $("example"), "a schedule of your own");
+  own.value = -1;
+  own.hidden = own.disabled = true;
   DATA.examples.forEach(({kind, name}, at) => {
     if (group?.label !== kind) {
       group = make("optgroup", $("example"));

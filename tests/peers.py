@@ -83,10 +83,11 @@ class Server:
 
 
 class Relay(Server):
-    """A tdsrelay on a free port before a server, with so many connections at most."""
+    """A tdsrelay on a free port before a server, with so many connections at most; other servers behind it."""
 
-    def __init__(self, program, server, most):
-        self.start(program, "127.0.0.1:0", f"127.0.0.1:{server.port}", "--most", str(most))
+    def __init__(self, program, server, most, *words, others=()):
+        places = [f"127.0.0.1:{it.port}" for it in (server, *others)]
+        self.start(program, "127.0.0.1:0", *places, "--most", str(most), *words)
 
 
 def packet(kind, data, status=1):

@@ -1,6 +1,6 @@
-/* Five callers and two connections, in front of a server in memory. Who holds a connection is the
- * table's (tds_service.h), what is asked on it its client's (tds.h). Ben goes while his answer is on
- * its way, so his cancel crosses it. */
+/* Five callers and two connections, in front of a server in memory. Each asks by his lease, and what
+ * comes on a connection is told with the lease that it belongs to (tds_service.h); where its tokens end
+ * is tds_wire.h's. Ben goes while his answer is on its way, so his cancel crosses it. */
 #include "tds_service.h"
 #include <stdio.h>
 #include <stdlib.h>
@@ -16,7 +16,14 @@ static struct caller {
 
 static struct tds_service service = {0, 0, 0, SIZE};
 static struct tds_seat seats[MOST];
-static struct { uint8_t bytes[SIZE]; size_t length; } wires[MOST + 1]; /* to the client, by number */
+static struct {                    /* by number */
+    uint8_t bytes[SIZE];           /* on their way to the client */
+    size_t length;
+    uint8_t kept[SIZE - 8];        /* of the request that goes out */
+    size_t waiting;
+    struct tds_wire walk;
+    struct tds_wire_memory memory;
+} wires[MOST + 1];
 
 static void expect(const char *what, unsigned is, unsigned wanted) {
     if (is == wanted) return;
@@ -44,26 +51,28 @@ static void serve(uint64_t number, const uint8_t *packet) {
 /* ---- The callers */
 
 static void ask(struct caller *caller, uint64_t number) {
-    static uint8_t message[TDS_MESSAGE_MOST], out[SIZE];
-    const uint16_t text[] = {'g', 'e', 't', ' ', 'a'};
-    size_t index = 0, length = 0, count = 0;
-    expect("find", tds_service_find(&service, seats, MOST, caller->lease, &index), TDS_OK);
-    expect("start", tds_client_start_batch(&seats[index].client, text, 5, message, sizeof message, &length), TDS_OK);
-    expect("send", tds_client_send(&seats[index].client, message, length, out, sizeof out, &count), TDS_LAST);
-    seats[index].asked++;
+    static const uint8_t text[] = {'g', 0, 'e', 0, 't', 0, ' ', 0, 'a', 0};
+    static uint8_t out[SIZE];
+    struct tds_asked asked = {0, 0};
+    size_t taken = 0, count = 0, *waiting = &wires[number].waiting;
+    uint8_t *kept = wires[number].kept;
+    expect("ask", tds_service_ask(&service, seats, MOST, caller->lease, TDS_MESSAGE_BATCH, kept, SIZE - 8, waiting, &asked), TDS_OK);
+    expect("put", tds_service_put(&service, seats, MOST, caller->lease, kept, SIZE - 8, waiting, text, sizeof text, &taken, out, SIZE, &count), TDS_OK);
+    expect("finish", tds_service_finish(&service, seats, MOST, caller->lease, kept, *waiting, out, SIZE, &count), TDS_OK);
+    expect("number", (unsigned)asked.number, (unsigned)number);
     serve(number, out);
 }
 
 static void leave(struct caller *caller) {
     static const char *const rests[] = {"", "free", "draining", "closed"};
     uint8_t out[16];
-    size_t count = 0, index = 0;
+    size_t count = 0;
     uint64_t number = 0;
     uint8_t rest = tds_service_give_back(&service, seats, MOST, caller->lease, out, sizeof out, &count, &number);
     if (rest >= 20) expect("give back", rest, TDS_SERVICE_FREE);
     printf("%s leaves connection %u: %s\n", caller->name, (unsigned)number, rests[rest]);
     if (count) serve(number, out);
-    expect("spent", tds_service_find(&service, seats, MOST, caller->lease, &index), TDS_SERVICE_UNKNOWN);
+    expect("spent", tds_service_cancel(&service, seats, MOST, caller->lease, out, sizeof out, &count), TDS_SERVICE_UNKNOWN);
     caller->gone = 1;
 }
 
@@ -77,21 +86,34 @@ static void come(struct caller *caller) {
     expect("lease", is, TDS_OK);
     printf("%s is lent connection %u, %s\n", caller->name, (unsigned)lent.number, lent.had ? "again" : "a new one");
     caller->lease = lent.lease;
+    if (!lent.had) tds_wire_new(16, 0, 0, &wires[lent.number].walk, &wires[lent.number].memory);
     ask(caller, lent.number);
 }
 
 /* ---- What comes, whoever holds the connection */
 
 static void hear(uint64_t number, const uint8_t *packet, size_t length) {
-    size_t index = 0;
-    expect("at", tds_service_at(&service, seats, MOST, number, &index), TDS_OK);
-    uint8_t took = tds_client_take(&seats[index].client, packet, length);
-    if (took >= 20) expect("take", took, TDS_FINISHED);
-    if (took == TDS_FINISHED)
-        for (struct caller *c = callers; c < callers + CALLERS; c++)
-            if (!c->gone && c->lease && c->lease == seats[index].holder) leave(c);
-    if (seats[index].place == TDS_PLACE_DRAINING && tds_service_drained(&service, seats, MOST, number) == TDS_SERVICE_FREE)
-        printf("  connection %u has drained\n", (unsigned)number);
+    struct tds_wire *walk = &wires[number].walk;
+    struct tds_wire_memory *memory = &wires[number].memory;
+    struct tds_wire_token token = {0};
+    struct tds_whose whose = {0, 0};
+    size_t told = 0, count = 0;
+    for (size_t at = 8; at < length; at += count) {
+        if (tds_wire_next(walk, memory, packet + at, length - at, &count, &token) == TDS_WIRE_MORE) continue;
+        uint8_t is = tds_service_came(&service, seats, MOST, number, &token, &whose);
+        if (is >= 20) expect("came", is, TDS_TELL);
+        told += is == TDS_TELL;
+    }
+    if (!(packet[1] & 1)) return;
+    uint8_t ended = tds_service_message_ended(&service, seats, MOST, number, !tds_wire_is_between(walk, memory), &whose);
+    if (ended >= 20) expect("ended", ended, TDS_FINISHED);
+    tds_wire_restart(walk, memory);
+    for (struct caller *c = callers; c < callers + CALLERS; c++)
+        if (!c->gone && c->lease && c->lease == whose.lease && ended == TDS_FINISHED) {
+            printf("  %s is told %u token of request %u\n", c->name, (unsigned)told, (unsigned)whose.request);
+            leave(c);
+        }
+    if (ended == TDS_ACKNOWLEDGED && !whose.lease) printf("  connection %u has drained\n", (unsigned)number);
 }
 
 int main(void) {

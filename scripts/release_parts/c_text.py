@@ -33,18 +33,23 @@ typedef int64_t one_distance;
 #define ONE_AT(p) ((unsigned char *)(uintptr_t)(p))
 #define ONE_NUMBER(p) (p)
 #endif
+#if defined(__GNUC__) /* not each file has numbers of each width */
+#define ONE_PERHAPS static inline __attribute__((unused))
+#else
+#define ONE_PERHAPS static inline
+#endif
 #if !ONE_BIG_ENDIAN
 #define ONE_MEMORY(n) \\
-    static inline uint##n##_t one_read##n(one_pointer p) { uint##n##_t v; memcpy(&v, ONE_AT(p), sizeof v); return v; } \\
-    static inline void one_write##n(one_pointer p, uint##n##_t v) { memcpy(ONE_AT(p), &v, sizeof v); }
+    ONE_PERHAPS uint##n##_t one_read##n(one_pointer p) { uint##n##_t v; memcpy(&v, ONE_AT(p), sizeof v); return v; } \\
+    ONE_PERHAPS void one_write##n(one_pointer p, uint##n##_t v) { memcpy(ONE_AT(p), &v, sizeof v); }
 #else
 #define ONE_MEMORY(n) \\
-    static inline uint##n##_t one_read##n(one_pointer p) { \\
+    ONE_PERHAPS uint##n##_t one_read##n(one_pointer p) { \\
         uint64_t v = 0; \\
         for (int k = n / 8; k-- > 0;) v = v << 8 | ONE_AT(p)[k]; \\
         return (uint##n##_t)v; \\
     } \\
-    static inline void one_write##n(one_pointer p, uint##n##_t v) { \\
+    ONE_PERHAPS void one_write##n(one_pointer p, uint##n##_t v) { \\
         for (int k = 0; k < n / 8; k++) ONE_AT(p)[k] = (unsigned char)((uint64_t)v >> 8 * k); \\
     }
 #endif

@@ -31,10 +31,15 @@ def named(*words):
 
 
 class GoPrinter(Printer):
-    def __init__(self, text):
+    """The printer of a module. Behind others it shares their memory, types and helpers, and its functions have another `prefix`."""
+
+    def __init__(self, text, prefix="of", behind=None):
         super().__init__(text)
-        self.places, self.image = {}, bytearray(FIRST_PLACE)
+        self.places, self.image, self.prefix = {}, bytearray(FIRST_PLACE), prefix
         self.has_rooms = False
+        if behind:
+            self.image, self.structs, self.struct_texts = behind.image, behind.structs, behind.struct_texts
+            self.copiers, self.copier_order, self.own_helpers = behind.copiers, behind.copier_order, behind.own_helpers
 
     # Types and numbers
 
@@ -150,7 +155,7 @@ class GoPrinter(Printer):
     # Values
 
     def name_of(self, word):
-        return "of_" + super().name_of(word)
+        return f"{self.prefix}_{super().name_of(word)}"
 
     def value(self, reader, kind):
         word = reader.peek()
@@ -276,9 +281,9 @@ class GoPrinter(Printer):
             raise Refused(f"{word}: {line}")
         INSTRUCTIONS[word](self, reader, result, word)
 
-    def whole(self, package, imports):
-        functions, _ = self.module.reached()
-        bodies = [self.function(it) for it in functions]
+    def whole(self, package, imports, others=()):
+        """The file of this printer's module, and of those of others that are behind it."""
+        bodies = [printer.function(it) for printer in (self, *others) for it in printer.module.reached()[0]]
         copiers = [self.copiers[key] for key in self.copier_order]
         image = "".join(f"\\x{it:02x}" for it in self.image)
         wanted = "\n".join(f'\t"{it}"' for it in sorted(["bytes", "encoding/binary", "math/bits", *imports]))

@@ -1,8 +1,8 @@
 #!/usr/bin/env python3
-"""The Go package without cgo, as one file: go_package.py MODULE.ll SOURCE.go ..
+"""The Go package without cgo, as one file: go_package.py MODULE.ll[,MODULE.ll] SOURCE.go ..
 
 The printed functions (go_file.py), the header's calls over them, and the sources of the package with cgo, in which each
-C.NAME became c_NAME. It is compiled where cgo is off; the player isn't in it."""
+C.NAME became c_NAME. It is compiled where cgo is off; judge and player aren't in it."""
 
 import re
 import sys
@@ -69,14 +69,18 @@ def crossing(argument, many, known):
     if item.startswith("struct "):
         size = known[item[7:]].size
         if many:
-            return item, f"{at} := m.room(int({many}) * {size})", f"for k := range {whole} {{ {whole}[k].from(m, {at}+{size}*uint64(k)) }}"
+            first, back = f"{at} := m.room(int({many}) * {size})", f"for k := range {whole} {{ {whole}[k].from(m, {at}+{size}*uint64(k)) }}"
+            # The others are written by their calls, and not read.
+            if word == "seats":
+                first += f"\n\tfor k := range {whole} {{ {whole}[k].to(m, {at}+{size}*uint64(k)) }}"
+            return item, first, "" if is_const else back
         return item, f"{at} := m.room({size}); {word}.to(m, {at})", "" if is_const else f"{word}.from(m, {at})"
-    if item == "size_t":
+    if item in ("size_t", "uint64_t"):
         return item, f"{at} := m.room(8); m.write64({at}, *{word})", f"*{word} = m.read64({at})"
     sys.exit(f"go_package: {argument}")
 
 
-def call(answer, name, arguments, known):
+def call(prefix, answer, name, arguments, known):
     """The header's call: what is pointed to is handed to the machine, and what isn't const comes back."""
     head, words, before, behind = [], [], [], []
     for place, argument in enumerate(arguments):
@@ -90,7 +94,7 @@ def call(answer, name, arguments, known):
         words.append(f"of_{word}")
         before.append(first)
         behind += [last] if last else []
-    body = ["m := machines.Get().(*machine)", "m.begin()", *before, f"answer := of_core_{name}({', '.join(['m', *words])})", *behind,
+    body = ["m := machines.Get().(*machine)", "m.begin()", *before, f"answer := {prefix}_core_{name}({', '.join(['m', *words])})", *behind,
             "machines.Put(m)", "return answer"]
     return f"func c_{name}({', '.join(head)}) {TYPES[answer]} {{\n\t" + "\n\t".join(body) + "\n}\n"
 
@@ -112,18 +116,20 @@ def source(path):
     return re.sub(r"\bC\.(\w+)", r"c_\1", text)
 
 
-def main(module, *sources):
-    with open(module, encoding="utf-8") as it:
-        printer = GoPrinter(it.read())
-    exported = {it[1:] for it in printer.module.exports()}
+def main(modules, *sources):
+    printers = []
+    for place, path in enumerate(modules.split(",")):
+        with open(path, encoding="utf-8") as it:
+            printers.append(GoPrinter(it.read(), ("of", "by")[place], printers[0] if printers else None))
+    exported = {name[1:]: it.prefix for it in printers for name in it.module.exports()}
     known = structs()
-    calls = [(answer, name, arguments) for _, answer, name, arguments in headers.prototypes() if name in exported]
-    used = " ".join(" ".join(it[2]) for it in calls)
+    calls = [(exported[name], answer, name, arguments) for _, answer, name, arguments in headers.prototypes() if name in exported]
+    used = " ".join(" ".join(it[3]) for it in calls)
     wanted = {it for it in known if re.search(rf"struct {it}\b", used)}
     while more := {kind[7:] for it in wanted - {WHOLE} for kind, *_ in known[it].fields if kind.startswith("struct ")} - wanted:
         wanted |= more
     print("//go:build !cgo\n")
-    print(printer.whole("mouktelf", IMPORTS))
+    print(printers[0].whole("mouktelf", IMPORTS, printers[1:]))
     print("var machines = sync.Pool{New: func() any { return newMachine() }}\n")
     print("\n".join(f"type c_{name} = {kind}" for name, kind in TYPES.items()))
     print(constants())

@@ -7,6 +7,7 @@ from llvm_text import POINTER, Refused, Type, integer
 COMPARES = {"eq": "==", "ne": "!=", "ugt": ">", "uge": ">=", "ult": "<", "ule": "<=", "sgt": ">", "sge": ">=", "slt": "<", "sle": "<="}
 FLOAT_COMPARES = {"oeq": "==", "olt": "<", "ole": "<=", "ogt": ">", "oge": ">=", "une": "!="}
 PLAIN = {"add": "+", "sub": "-", "mul": "*", "and": "&", "or": "|", "xor": "^", "udiv": "/", "urem": "%", "shl": "<<", "lshr": ">>"}
+SHIFTS = ("shl", "lshr", "ashr")
 FLOATS = {"fadd": "+", "fsub": "-", "fmul": "*", "fdiv": "/"}
 INSTRUCTIONS = {}
 
@@ -56,6 +57,9 @@ def arithmetic(printer, reader, result, word):
     kind, count, item, left, right = pair(printer, reader)
     printer.new(kind, result)
     c_type = printer.c_type(item)
+    if word in SHIFTS and not right[0].isdigit():
+        # LLVM shifts by too much where it takes another value then. C must not.
+        right = f"({right} & {printer.width(item) - 1}u)"
     if word in ("ashr", "sdiv", "srem"):
         sign = {"ashr": ">>", "sdiv": "/", "srem": "%"}[word]
         other = right if word == "ashr" else of_sign(printer, item, right)

@@ -3,7 +3,7 @@ crate's library, where they are called inner_NAME.
 
 The core sees memory as the proved build for x86-64 does: a pointer and a length have 8 bytes, a number its low byte
 first. Where a machine has that, the caller's structs are the core's, and each call hands its words on. Elsewhere each
-struct is written to an image of the core's form before the call, and read back behind it."""
+struct is written to an image of the core's form before the call, aligned as the core's are, and read back behind it."""
 
 import re
 import sys
@@ -14,7 +14,7 @@ SIZES = {"size_t": 8, "uint64_t": 8, "int64_t": 8, "uint32_t": 4, "int32_t": 4, 
 
 # Where arrays of structs cross, or units of two bytes: one a call, so that no room is taken for images.
 BY_HAND = {
-    "tds_packets_read": """    unsigned char image[16] = {0}, counted[8] = {0};
+    "tds_packets_read": """    _Alignas(16) unsigned char image[16] = {0}, counted[8] = {0};
     uint8_t answer;
     *count = 0;
     do {
@@ -26,7 +26,7 @@ BY_HAND = {
     } while (answer == TDS_OK);
     return answer;
 """,
-    "tds_tokens_next": """    unsigned char place[16] = {0}, image[32] = {0}, counted[8] = {0};
+    "tds_tokens_next": """    _Alignas(16) unsigned char place[16] = {0}, image[32] = {0}, counted[8] = {0};
     uint8_t answer;
     *count = 0;
     one_to_tds_cursor(place, cursor);
@@ -39,7 +39,7 @@ BY_HAND = {
     return answer;
 """,
     # A longer text is refused unread.
-    "tds_client_start_batch": """    unsigned char image[40] = {0}, counted[8] = {0}, low_first[4000];
+    "tds_client_start_batch": """    _Alignas(16) unsigned char image[40] = {0}, counted[8] = {0}, low_first[4000];
     uint8_t answer;
     for (size_t k = 0; k < units && k < 2000; k++) one_write16(ONE_BYTES(low_first + 2 * k), text[k]);
     one_to_tds_client(image, client);
@@ -49,7 +49,7 @@ BY_HAND = {
     return answer;
 """,
     # A library that takes memory anyway. One more of each, since of no bytes a block may be none.
-    "tds_judge": """    unsigned char of_limits[16] = {0}, counted[8] = {0};
+    "tds_judge": """    _Alignas(16) unsigned char of_limits[16] = {0}, counted[8] = {0};
     unsigned char *of_pieces = calloc(piece_count + 1, 24), *of_findings = calloc(room + 1, 32);
     uint8_t answer = TDS_JUDGE_NO_MEMORY;
     *count = 0;
@@ -66,6 +66,14 @@ BY_HAND = {
     return answer;
 """,
 }
+
+# Of a table's seats an image is made for each call: of those that it has, and of one more where there is room for one.
+SEATS = """    size_t of_most = service->count < most ? service->count + 1 : most;
+    unsigned char *of_seats = calloc(of_most + 1, {size});
+    if (!of_seats) return TDS_NO_MEMORY;
+    for (size_t k = 0; k < of_most; k++) one_to_tds_seat(of_seats + {size} * k, &seats[k]);
+"""
+SEATS_BACK = "    for (size_t k = 0; k < of_most; k++) one_from_tds_seat(&seats[k], of_seats + {size} * k);\n"
 
 OPENING = """/* ---- The layer: the header's calls over the core above.
  *
@@ -212,16 +220,22 @@ def by_images(answer, name, arguments, known):
     for place, argument in enumerate(arguments):
         kind, word = parts(argument)
         if "*" not in kind:
-            words.append(word)
+            words.append("of_most" if word == "most" and "of_seats" in " ".join(words) else word)
         elif "uint8_t" in kind:
             words.append(f"ONE_BYTES({word})")
-        elif kind == "size_t *":
-            before.append(f"    unsigned char of_{word}[8] = {{0}};\n    one_write64(ONE_BYTES(of_{word}), *{word});\n")
-            behind.append(f"    *{word} = (size_t)one_read64(ONE_BYTES(of_{word}));\n")
+        elif kind in ("size_t *", "uint64_t *"):
+            before.append(f"    _Alignas(16) unsigned char of_{word}[8] = {{0}};\n    one_write64(ONE_BYTES(of_{word}), *{word});\n")
+            behind.append(f"    *{word} = ({kind[:-2]})one_read64(ONE_BYTES(of_{word}));\n")
             words.append(f"ONE_BYTES(of_{word})")
+        elif word == "seats":
+            size = known["tds_seat"].size
+            before.append(SEATS.format(size=size))
+            behind += [] if "const" in kind else [SEATS_BACK.format(size=size)]
+            behind.append("    free(of_seats);\n")
+            words.append("ONE_BYTES(of_seats)")
         elif "struct" in kind and not is_array(arguments, place):
             struct = known[re.search(r"struct (\w+)", kind)[1]]
-            before.append(f"    unsigned char of_{word}[{struct.size}] = {{0}};\n    one_to_{struct.name}(of_{word}, {word});\n")
+            before.append(f"    _Alignas(16) unsigned char of_{word}[{struct.size}] = {{0}};\n    one_to_{struct.name}(of_{word}, {word});\n")
             if "const" not in kind:
                 behind.append(f"    one_from_{struct.name}({word}, of_{word});\n")
             words.append(f"ONE_BYTES(of_{word})")

@@ -123,21 +123,44 @@ static void of_walks(void) {
     MISFIT(tds_wire_restart(&walk, NULL));
 }
 
-/* What another file or library has than the client and the walk. */
-#ifdef WITH_ALL
+/* What another file or library has than the client and the walk: the table, and with all judge and player. */
+#if defined WITH_TABLE || defined WITH_ALL
 static void of_services(void) {
     struct tds_service service = {0, 0, 0, 512};
     struct tds_seat seat = {{0}, 0, 0, 0, 0};
+    size_t waiting = 0, taken = 0;
     struct tds_lent lent = {0, 0, 0};
+    struct tds_asked asked = {0, 0};
+    struct tds_whose whose = {0, 0};
+    struct tds_wire_token found = {0};
     uint64_t number = 0;
     MISFIT(tds_service_lease(NULL, &seat, 1, &lent));
     MISFIT(tds_service_lease(&service, NULL, 1, &lent));
-    MISFIT(tds_service_lease(&service, &seat, LONG / sizeof seat, &lent));
+    MISFIT(tds_service_lease(&service, &seat, LONG / sizeof seat + 1, &lent));
     MISFIT(tds_service_lease(&service, &seat, 1, NULL));
     MISFIT(tds_service_find(NULL, &seat, 1, 1, &n));
     MISFIT(tds_service_find(&service, NULL, 1, 1, &n));
     MISFIT(tds_service_find(&service, &seat, 1, 1, NULL));
     MISFIT(tds_service_at(&service, NULL, 1, 1, &n));
+    MISFIT(tds_service_ask(&service, NULL, 1, 1, 1, bytes, 64, &n, &asked));
+    MISFIT(tds_service_ask(&service, &seat, 1, 1, 1, NULL, 64, &n, &asked));
+    MISFIT(tds_service_ask(&service, &seat, 1, 1, 1, bytes, 64, &n, NULL));
+    MISFIT(tds_service_put(&service, NULL, 1, 1, bytes, 8, &waiting, bytes + 8, 8, &taken, bytes + 16, 48, &n));
+    MISFIT(tds_service_put(&service, &seat, 1, 1, NULL, 8, &waiting, bytes + 8, 8, &taken, bytes + 16, 48, &n));
+    MISFIT(tds_service_put(&service, &seat, 1, 1, bytes, 8, NULL, bytes + 8, 8, &taken, bytes + 16, 48, &n));
+    MISFIT(tds_service_put(&service, &seat, 1, 1, bytes, 8, &waiting, NULL, 8, &taken, bytes + 16, 48, &n));
+    MISFIT(tds_service_put(&service, &seat, 1, 1, bytes, 8, &waiting, bytes + 8, 8, NULL, bytes + 16, 48, &n));
+    MISFIT(tds_service_put(&service, &seat, 1, 1, bytes, 8, &waiting, bytes + 8, 8, &taken, NULL, 48, &n));
+    MISFIT(tds_service_finish(&service, &seat, 1, 1, NULL, 64, bytes, 64, &n));
+    MISFIT(tds_service_finish(&service, &seat, 1, 1, bytes, 64, NULL, 64, &n));
+    MISFIT(tds_service_cancel(&service, &seat, 1, 1, NULL, 64, &n));
+    MISFIT(tds_service_cancel(&service, &seat, 1, 1, bytes, 64, NULL));
+    MISFIT(tds_service_came(&service, &seat, 1, 1, NULL, &whose));
+    MISFIT(tds_service_came(&service, &seat, 1, 1, &found, NULL));
+    MISFIT(tds_service_heard_change(&service, NULL, 1, 1, 8, 1, &whose));
+    MISFIT(tds_service_heard_done(&service, &seat, 1, 1, 0xFD, 0, NULL));
+    MISFIT(tds_service_heard_other(NULL, &seat, 1, 1, &whose));
+    MISFIT(tds_service_message_ended(&service, &seat, 1, 1, 0, NULL));
     MISFIT(tds_service_give_back(&service, NULL, 1, 1, bytes, 64, &n, &number));
     MISFIT(tds_service_give_back(&service, &seat, 1, 1, NULL, 64, &n, &number));
     MISFIT(tds_service_give_back(&service, &seat, 1, 1, bytes, 64, NULL, &number));
@@ -153,7 +176,9 @@ static void of_services(void) {
     is("no such lease", tds_service_find(&service, &seat, 1, 1, &n), TDS_SERVICE_UNKNOWN);
     is("no room for any", tds_service_lease(&service, NULL, 0, &lent), TDS_SERVICE_ALL_IN_USE);
 }
+#endif
 
+#ifdef WITH_ALL
 static void of_judge_and_player(void) {
     struct tds_judge_limits limits = {0, 16, 0, 0};
     struct tds_judge_piece piece = {0, 0, TDS_JUDGE_CLOSED};
@@ -179,9 +204,11 @@ int main(void) {
     of_streams();
     of_tokens();
     of_walks();
-#ifdef WITH_ALL
+#if defined WITH_TABLE || defined WITH_ALL
     of_services();
     n = 77;
+#endif
+#ifdef WITH_ALL
     of_judge_and_player();
 #endif
     is("the client is as it was", client.stage == 0 && client.size == 512, 1);

@@ -59,6 +59,11 @@ class Printer:
     def signed_type(self, bits):
         return "one_signed_wide" if width_of(bits) == 128 else f"int{width_of(bits)}_t"
 
+    @staticmethod
+    def width(kind):
+        """The bits of the C type of a number."""
+        return width_of(kind.bits)
+
     def masked(self, kind, value):
         """A value of an odd width, with its upper bits 0."""
         if kind.bits == width_of(kind.bits):

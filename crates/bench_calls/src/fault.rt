@@ -9,7 +9,7 @@ use thiserror::Error;
 /// Why a walk isn't done.
 #[derive(Debug, Drop, Error)]
 pub enum SpeedFault {
-    #[error("usage: bench_calls count SIZE FILE.., time SIZE TIMES FILE.., sizes, memory KIND COUNT SIZE, or leases COUNT TIMES")]
+    #[error("usage: bench_calls count SIZE FILE.., walk WALK FILE SIZE TIMES, sizes, memory KIND COUNT SIZE, or leases COUNT TIMES")]
     Usage,
     #[error("error: input or output")]
     Io,

@@ -1,12 +1,12 @@
-//! Times the client's calls over answers that lie in a file, and a server's over requests, for
-//! `bench/run`, which has programs in C do the same.
+//! Walks with the client's calls over answers that lie in a file, and with a server's over requests, for
+//! `bench/run`, which measures it beside programs in C that do the same.
 //!
-//! `bench_calls count SIZE FILE..` prints what each walk over these files counts; `bench_calls time SIZE
-//! TIMES FILE..` does each walk so many times, and prints its nanoseconds before the counts.
+//! `bench_calls count SIZE FILE..` prints what each walk over these files counts; `bench_calls walk WALK
+//! FILE SIZE TIMES` does one walk so many times, and prints each time what it counts.
 //! `bench_calls sizes` prints how many bytes the values have that a program holds, and `bench_calls
 //! memory KIND COUNT SIZE` makes so many idle ends or pools at once, so that its memory can be seen.
-//! `bench_calls leases COUNT TIMES` prints the nanoseconds of so many leases that find the last connection
-//! of a pool free, each given back.
+//! `bench_calls leases COUNT TIMES` makes a pool of so many connections, lends the one that is free, the
+//! last, and gives it back, so many times.
 #![tactic(auto)]
 
 mod asking;
@@ -30,7 +30,6 @@ use serving::{Look, serve};
 use sizes::print_sizes;
 use std::alloc::Global;
 use std::process::ExitCode;
-use std::time::Instant;
 use std::{env, fs};
 use tds_packet::PacketSize;
 use walks::{EachToken, Lengths, RowRuns, walked};
@@ -84,6 +83,16 @@ fn walks_over(bytes: &[u8]) -> &'static [Walk] {
 }
 
 impl Walk {
+    /// The walk of this name over these bytes.
+    fn named(name: &str, bytes: &[u8]) -> Option<Walk> {
+        for walk in walks_over(bytes) {
+            if walk.name() == name {
+                return Some(*walk);
+            }
+        }
+        None
+    }
+
     fn name(self) -> &'static str {
         match self {
             Walk::Packets => "packets",
@@ -147,14 +156,16 @@ fn obey(rt: &HostRuntime, words: &[String]) -> Result<(), SpeedFault> {
             print_made(rt, kind.as_str(), count.as_str(), size.as_str())
         }
         [verb, count, times] if verb.as_str() == "leases" => {
-            print_leases(rt, count.as_str(), number(times.as_str())?)
+            lend(rt, count.as_str(), number(times.as_str())?)
         }
         [verb, size, names @ ..] if verb.as_str() == "count" => {
             count_all(rt, packet_size(size.as_str())?, names)
         }
-        [verb, size, times, names @ ..] if verb.as_str() == "time" => {
+        [verb, walk, file, size, times] if verb.as_str() == "walk" => {
+            let bytes = fs::read(rt, file.as_str())?;
+            let walk = Walk::named(walk.as_str(), bytes.as_slice()).ok_or(SpeedFault::Usage)?;
             let size = packet_size(size.as_str())?;
-            time_all(rt, size, number(times.as_str())?, names)
+            repeat(rt, walk, size, number(times.as_str())?, bytes.as_slice())
         }
         _ => Err(SpeedFault::Usage),
     }
@@ -169,31 +180,16 @@ fn print_made(rt: &HostRuntime, kind: &str, count: &str, size: &str) -> Result<(
     Ok(())
 }
 
-/// Prints the nanoseconds of so many leases of a pool with so many connections.
-fn print_leases(rt: &HostRuntime, count: &str, times: u32) -> Result<(), SpeedFault> {
+/// Lends the last connection of a pool of so many, so many times.
+fn lend(rt: &HostRuntime, count: &str, times: u32) -> Result<(), SpeedFault> {
     let count = count.parse::<u16>().map_err(|_| SpeedFault::Usage)?;
     let mut pool = nearly_lent(rt.alloc(), count, packet_size("4096")?)?;
-    let start = Instant::now(rt)?;
-    lend_last(rt.alloc(), &mut pool, times)?;
-    println!(rt; "{}", start.elapsed(rt)?.as_nanos())?;
-    Ok(())
+    lend_last(rt.alloc(), &mut pool, times)
 }
 
 fn count_all(rt: &HostRuntime, size: PacketSize, names: &[String]) -> Result<(), SpeedFault> {
     for name in names {
         count(rt, size, fs::read(rt, name.as_str())?.as_slice())?;
-    }
-    Ok(())
-}
-
-fn time_all(
-    rt: &HostRuntime,
-    size: PacketSize,
-    times: u32,
-    names: &[String],
-) -> Result<(), SpeedFault> {
-    for name in names {
-        time(rt, size, times, fs::read(rt, name.as_str())?.as_slice())?;
     }
     Ok(())
 }
@@ -215,14 +211,17 @@ fn count(rt: &HostRuntime, size: PacketSize, bytes: &[u8]) -> Result<(), SpeedFa
     Ok(())
 }
 
-fn time(rt: &HostRuntime, size: PacketSize, times: u32, bytes: &[u8]) -> Result<(), SpeedFault> {
+/// Does a walk so many times.
+fn repeat(
+    rt: &HostRuntime,
+    walk: Walk,
+    size: PacketSize,
+    times: u32,
+    bytes: &[u8],
+) -> Result<(), SpeedFault> {
     for _ in 0..times {
-        for walk in walks_over(bytes) {
-            let start = Instant::now(rt)?;
-            let counted = walk.walk(rt.alloc(), size, bytes)?;
-            let nanoseconds = start.elapsed(rt)?.as_nanos();
-            println!(rt; "{} {nanoseconds} {counted}", walk.name())?;
-        }
+        let counted = walk.walk(rt.alloc(), size, bytes)?;
+        println!(rt; "{counted}")?;
     }
     Ok(())
 }

@@ -1,27 +1,24 @@
-//! A service in front of servers over sockets: more callers than connections, a cancel that crosses its
-//! answer, a caller that vanishes, a connection that is cleaned, a server that answers unasked.
+//! A service in front of servers over sockets, five callers over two connections: a cancel that crosses
+//! its answer, a caller that vanishes, a connection that is cleaned, a server that answers unasked.
 #![tactic(auto)]
 
+mod caller;
 mod desk;
-mod line;
+mod server;
+mod wire;
 
+use caller::Plan;
 use desk::Desk;
 
 fn main(rt: HostRuntime) -> anyhow::Result<()> {
     let mut desk = Desk::new(&rt, 2)?;
-    let first = desk.arrive(&rt, "first")?;
-    let second = desk.arrive(&rt, "second")?;
-    let third = desk.arrive(&rt, "third")?;
-    desk.ask(&rt, first, "set a 5;get a")?;
-    desk.hear(&rt, 1)?;
-    desk.ask(&rt, second, "rows 1 3")?;
-    desk.cancel(&rt, second)?;
-    desk.hear(&rt, 2)?;
-    desk.ask(&rt, first, "rows 1 3")?;
-    desk.vanish(&rt, first)?;
-    desk.ask(&rt, third, "get a")?;
-    desk.hear(&rt, 1)?;
-    desk.lie(&rt, second)?;
-    desk.arrive(&rt, "fourth")?;
+    desk.arrive("anna", Plan::Ask("set a 5;get a"))?;
+    desk.arrive("ben", Plan::Cancel("rows 1 3"))?;
+    desk.arrive("cleo", Plan::Ask("get a"))?;
+    desk.arrive("dora", Plan::Vanish("rows 1 3"))?;
+    desk.arrive("emil", Plan::BeLiedTo)?;
+    desk.round(&rt)?;
+    desk.round(&rt)?;
+    desk.round(&rt)?;
     Ok(())
 }

@@ -27,10 +27,10 @@ use Rattle.tds_lawful.specs.Answering.{IsNoFault, NoFault, UnlessLost}
 use Rattle.tds_judged.proofs.Hears.{IsLast, NotAcknowledged, as_reset, is_acknowledged, or_true}
 use Rattle.tds_judged.proofs.Steps.{Answers, Asked, At, Knows, Rests, Skips, Stands, Stops, owes_same, packet_seen, part_reads, part_skips, reading_begins, reads_stand, skipping_begins, skips_stand}
 
-abbrev line_at : ℕ → Stage → Heard → Line
+abbrev pub line_at : ℕ → Stage → Heard → Line
 line_at n stage h = record { asked = n; stage = stage; heard = h }
 
-abbrev Moves : Eye → ℕ → Stage → Heard → Watch → List Said → Act Token → Type 0
+abbrev pub Moves : Eye → ℕ → Stage → Heard → Watch → List Said → Act Token → Type 0
 Moves eye n stage h w past act =
     IsNoFault (turn (line_at n stage h) act).answer
     → Stands (turn (line_at n stage h) act).line (watch_by (done_by act (turn (line_at n stage h) act)) w) (sees_done eye w past (done_by act (turn (line_at n stage h) act)))
@@ -222,7 +222,7 @@ cancelling_packet eye false named h past a = record { place = a.place; owes = a.
 cancelling_packet eye true named h past a = record { place = a.place; owes = a.owes }
 
 -- nothing goes out where something comes, and nothing is asked
-quiet_reads : (l : Line) (part : Part Token) (ends : Bool) (until : Heard) (r : Result Heard ListenFault) (named : ℕ)
+pub quiet_reads : (l : Line) (part : Part Token) (ends : Bool) (until : Heard) (r : Result Heard ListenFault) (named : ℕ)
     → ((line.reads l part ends until r).sent ≡ []) × (named_by (line.reads l part ends until r).answer named ≡ named)
 quiet_reads l part ends until (Err fault) named = (refl, refl)
 quiet_reads l part true until (Ok h) named = (refl, refl)
@@ -234,7 +234,7 @@ quiet_skipped l h Awaited named = (refl, refl)
 quiet_skipped l h Answered named = (refl, refl)
 quiet_skipped l h Acknowledged named = (refl, refl)
 
-quiet_skips : (l : Line) (ends : Bool) (until : Heard) (r : Result Heard ListenFault) (named : ℕ)
+pub quiet_skips : (l : Line) (ends : Bool) (until : Heard) (r : Result Heard ListenFault) (named : ℕ)
     → ((line.skips {T = Token} l ends until r).sent ≡ []) × (named_by (line.skips {T = Token} l ends until r).answer named ≡ named)
 quiet_skips l ends until (Err fault) named = (refl, refl)
 quiet_skips l true until (Ok h) named = quiet_skipped l h h.done named
@@ -273,7 +273,7 @@ lose_moves eye n Reading h w past k a well = record { knows = k; at = tt }
 lose_moves eye n Cancelling h w past k a well = record { knows = k; at = tt }
 lose_moves eye n (Broken fault) h w past k a well = record { knows = k; at = tt }
 
-moves : (eye : Eye) (n : ℕ) (stage : Stage) (h : Heard) (w : Watch) (past : List Said) (act : Act Token) → ComesBehindLogin act
+pub moves : (eye : Eye) (n : ℕ) (stage : Stage) (h : Heard) (w : Watch) (past : List Said) (act : Act Token) → ComesBehindLogin act
     → Knows h past → At stage w.begun w.named h past → Moves eye n stage h w past act
 moves eye n stage h w past (line.Mark reset) plain k a = mark_moves eye n stage h w past reset k a
 moves eye n stage h w past line.Ask plain k a = ask_moves eye n stage h w past k a
@@ -284,7 +284,7 @@ moves eye n stage h w past line.Lose plain k a = lose_moves eye n stage h w past
 
 -- ---- All of them
 
-closes : (eye : Eye) (past : List Said) → IsLawful past → IsLawful (sees eye past events.Closed)
+pub closes : (eye : Eye) (past : List Said) → IsLawful past → IsLawful (sees eye past events.Closed)
 unfolding IsLawful
 closes eye past lawful = (lawful, tt)
 
@@ -303,7 +303,7 @@ all_lawful eye l w past (act ∷ acts) plain stands well =
     (moves eye l.asked l.stage l.heard w past act plain.0 stands.knows stands.at well.0))
     well.1
 
-starts : Stands line.new_line (record { named = 0; begun = false }) []
+pub starts : Stands line.new_line (record { named = 0; begun = false }) []
 unfolding IsLawful size_told last_told place_of
 starts = record {
   knows = record { lawful = tt; size = refl; last = tt };
@@ -313,7 +313,7 @@ starts = record {
 pub is_lawful : (eye : Eye) (acts : List (Act Token)) → AllBehindLogin acts → NoFault (history line.new_line acts) → IsLawful (conversation eye (history line.new_line acts))
 is_lawful eye acts plain well = all_lawful eye line.new_line (record { named = 0; begun = false }) [] acts plain starts well
 
-without_end : (xs : List Said) → xs ++ [] ≡ xs
+pub without_end : (xs : List Said) → xs ++ [] ≡ xs
 without_end [] = refl
 without_end (x ∷ xs) = ap (λ (ys : List Said). x ∷ ys) (without_end xs)
 

@@ -3,3 +3,13 @@ pub mod Steps
 pub mod Acts
 pub mod Examples
 pub mod Crossed
+pub mod Heads
+pub mod Contents
+pub mod Follows
+pub mod Tokens
+pub mod Out
+pub mod In
+pub mod Shows
+pub mod Speaks
+pub mod Blameless
+pub mod Handed

@@ -1,3 +1,4 @@
 pub mod Tokens
 pub mod Seen
 pub mod Crossing
+pub mod Spelled

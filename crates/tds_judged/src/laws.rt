@@ -1,24 +1,30 @@
 //! What the judge finds of a connection of `tds_service`. Each contract is the law.
 
-ghost use Rattle.std.specs.Prelude.{◌≡◌, ◌∷◌, ◌++◌, ℕ, List, [], false};
+ghost use Rattle.std.specs.Prelude.{◌≡◌, ◌∷◌, ◌++◌, ℕ, List, [], Some, false};
+ghost use Rattle.tds_wire.specs.Reading.{Reading};
 ghost use Rattle.tds_wire.specs.declared.told.Token.{Token};
 ghost use Rattle.tds_service.specs.Line.{Act, new_line};
 ghost use Rattle.tds_service.specs.History.{history};
 ghost use Rattle.tds_judge.specs.Conversation as judging;
-ghost use Rattle.tds_judge.specs.History.{Said};
-ghost use Rattle.tds_judge.specs.Told.{is_broken};
+ghost use Rattle.tds_judge.specs.Conversation.{seen};
+ghost use Rattle.tds_judge.specs.Framing.{IsNew, run_of};
+ghost use Rattle.tds_judge.specs.History.{Said, Tells};
+ghost use Rattle.tds_judge.specs.Told.{has_breach, is_broken};
 ghost use Rattle.tds_judge.specs.declared.finding.Spot.{Spot};
+ghost use Rattle.tds_judge.specs.declared.judge.Judge.{Judge};
 ghost use Rattle.tds_judge.specs.declared.talk.Event.{Event};
 ghost use Rattle.tds_judge.specs.declared.talk.Event.TheVariants as events;
+ghost use Rattle.tds_judge.specs.declared.talk.Limits.{Limits};
 ghost use Rattle.tds_lawful.specs.Answering.{NoFault};
 ghost use Rattle.tds_lawful.specs.Lawful.{Engine, IsLawful};
 ghost use Rattle.tds_lawful.specs.Link.{IsRun, Move};
 ghost use Rattle.tds_judged.specs.Crossing.{IsOfServer};
 ghost use Rattle.tds_judged.specs.Seen.{AllBehindLogin, Eye, conversation};
+ghost use Rattle.tds_judged.specs.Spelled.{AreSeen, IsHanded, Shown, new_watch, pieces};
 
 use tds_judge::laws::lawful_is_never_blamed;
 use tds_lawful::laws::no_fault;
-use tds_wire::Token;
+use tds_wire::{Token, cuts_do_not_matter};
 
 /// What is seen at a connection's end of a service, whatever is done there and whatever comes, is a
 /// lawful conversation until something that comes is a fault. So no event of it is a breach. It holds
@@ -49,6 +55,36 @@ pub fn never_blamed_before_a_lawful_server<V>()
 {
     no_fault::<V, Token>();
     lawful_is_never_blamed();
+}
+
+/// What a new judge says of the bytes of a connection, each packet with its header, is what is seen
+/// there: whatever is done, whatever comes and however requests are cut into packets, until something
+/// that comes is a fault. So its bytes spell these events and no others.
+pub fn bytes_spell_what_is_done()
+    ensures { (limits : Limits) (judge : Judge) (reading : Reading) (acts : List (Act Token))
+        (shown : List Shown)
+        → IsNew limits judge → judge.walker ≡ Some reading
+        → IsHanded reading (history new_line acts) shown → NoFault (history new_line acts)
+        → (tells : Tells (run_of judge []) (seen (pieces shown) (run_of judge [])))
+        × AreSeen new_watch [] (history new_line acts) tells.events }
+{
+    cuts_do_not_matter();
+}
+
+/// So no breach is found in the bytes of a connection before a server that keeps the rules, from a
+/// login on: whatever is asked, cancelled and reset, whatever it answers, and whichever way a cancel
+/// crosses an answer.
+pub fn our_bytes_are_never_blamed<V>()
+    ensures { (engine : Engine V Token) (moves : List (Move Token)) (limits : Limits)
+        (judge : Judge) (reading : Reading) (acts : List (Act Token)) (shown : List Shown)
+        → IsLawful engine → IsRun engine moves (history new_line acts) → AllBehindLogin acts
+        → IsNew limits judge → judge.walker ≡ Some reading
+        → IsHanded reading (history new_line acts) shown
+        → has_breach (seen (pieces shown) (run_of judge [])).told ≡ false }
+{
+    no_fault::<V, Token>();
+    lawful_is_never_blamed();
+    cuts_do_not_matter();
 }
 
 /// Nearer to the server an attention is seen later. Where what the server says before it may be said

@@ -1,9 +1,12 @@
 pub mod Astray
 pub mod Bringing
 pub mod Caring
+pub mod Changing
 pub mod Hearing
 pub mod Holding
+pub mod Lining
 pub mod Made
+pub mod Owning
 pub mod Phases
 pub mod Promised
 pub mod Reaching

@@ -1,4 +1,5 @@
 pub mod Desk
 pub mod News
+pub mod Places
 pub mod Promises
 pub mod Ties

@@ -1,5 +1,5 @@
 -- The desk of the code, as the machine's.
-use Rattle.std.specs.Prelude.{◌≡◌, ℕ, Bool, true, false, List, [], ◌∷◌, ◌++◌, Option, Some, None}
+use Rattle.std.specs.Prelude.{◌≡◌, ◌<◌, ℕ, Bool, true, false, List, [], ◌∷◌, ◌++◌, Option, Some, None}
 use Rattle.tds_wire.specs.declared.told.Token.{Token}
 use Rattle.tds_wire.specs.Reading.{Reading}
 use Rattle.tds_service.specs.Parts as parts
@@ -14,7 +14,8 @@ use Rattle.tds_relay.specs.declared.desk.Desk as code
 use Rattle.tds_relay.specs.declared.desk.Hold.{Hold}
 use Rattle.tds_relay.specs.declared.desk.Served.{Served}
 use Rattle.tds_relay.specs.declared.desk.leaving.Left.{Left}
-use Rattle.tds_relay.specs.Desk.{Desk, Event, Leaves, Way, Sent, NotLent, NotAsked, NotPut, NotEnded, desk_after, holding, turn}
+use Rattle.tds_relay.specs.Desk.{Desk, Event, Deed, Waits, Unwaits, Serves, Brings, Does, Leaves, Renews, Comes, Loses, Asks, Puts, Ends, Stops, Way, Sent, NotLent, NotAsked, NotPut, NotEnded, desk_after, holding, turn}
+use Rattle.tds_relay.specs.Promises.{Cancels, Each, attentions_on}
 
 abbrev pub desk_in : code.Desk → Desk
 desk_in d = record { service = service_in d.service; holds = d.holds.items; line = d.line.items }
@@ -46,18 +47,53 @@ IsNumberOf None (Some left) = ⊥
 IsNumberOf (Some hold) None = ⊥
 IsNumberOf (Some hold) (Some left) = left.number ≡ hold.number
 
--- One desk is reached from another by events.
-pub record Reaches (old new : Desk) : Type 0 where
+-- Who causes what is done: an application that says something or leaves, what comes on a connection, or neither.
+pub data Cause : Type 0 where
+  Application : (key : ℕ) → Cause
+  Connection : (number : ℕ) → Cause
+  Neither : Cause
+
+-- An application's cancel is its own. What is asked for it may also go out once it is lent a connection.
+abbrev pub CausesDeed : Cause → ℕ → Deed → Type 0
+CausesDeed by key Asks = Unit {0}
+CausesDeed by key (Puts count) = Unit {0}
+CausesDeed by key (Ends count) = Unit {0}
+CausesDeed by key Stops = by ≡ Application key
+
+-- It alone begins to wait, waits no more, lets its connection go and keeps it; what comes is its connection's. Whoever waits is lent a
+-- connection, and a connection is lost, whoever caused that.
+abbrev pub Causes : Cause → Event → Type 0
+Causes by (Waits key) = by ≡ Application key
+Causes by (Unwaits key) = by ≡ Application key
+Causes by Serves = Unit {0}
+Causes by (Brings gives way) = by ≡ Neither
+Causes by (Does key deed) = CausesDeed by key deed
+Causes by (Leaves key gives way) = by ≡ Application key
+Causes by (Renews key resumes) = by ≡ Application key
+Causes by (Comes number part way) = by ≡ Connection number
+Causes by (Loses number) = Unit {0}
+
+-- Each attention that goes out is of the application that causes it, which holds the connection, with a request out.
+abbrev pub Owns : Cause → Desk → Event → Type 0
+Owns by d event = (n : ℕ) → 0 < attentions_on d event n → (key : ℕ) × (by ≡ Application key) × Cancels d key n
+
+-- One desk is reached from another by events that this causes.
+pub record Reaches (by : Cause) (old new : Desk) : Type 0 where
   pub events : List Event
   pub are : desk_after old events ≡ new
+  pub caused : Each (Causes by) events
 
 -- Wherever a desk was reached from, this one is.
-abbrev pub Goes : Desk → Desk → Type 0
-Goes old new = (from : Desk) → Reaches from old → Reaches from new
+abbrev pub Goes : Cause → Desk → Desk → Type 0
+Goes by old new = (from : Desk) → Reaches by from old → Reaches by from new
+
+-- The same, whoever caused it.
+abbrev pub GoesOn : Desk → Desk → Type 0
+GoesOn old new = (by : Cause) → Goes by old new
 
 -- An application let its connection go first, or waits no more.
 abbrev pub Leaving : ℕ → Desk → Desk → Type 0
-Leaving key old new = (gives : Bool) × (way : Way) × Goes (turn old (Leaves key gives way)).desk new
+Leaving key old new = (gives : Bool) × (way : Way) × GoesOn (turn old (Leaves key gives way)).desk new
 
 abbrev pub lost_by : Service → ℕ → Service
 lost_by s number = (step {T = Token} s (calls.Lost number)).service

@@ -6,12 +6,20 @@ ghost use Rattle.tds_service.specs.Service.{Lease, step};
 ghost use Rattle.tds_relay.specs.Desk.{Desk, Event, desk_after, new_desk, turn, whose};
 ghost use Rattle.tds_relay.specs.Promises.{CaresFor, Each, IsAmong, IsHandedTo, LendsClean, LendsFirst};
 ghost use Rattle.tds_relay.specs.Promises.{NoneAstray, TakesOne, comes_to_wait};
+ghost use Rattle.tds_relay.specs.Ties.{Cause, Causes, Owns};
 
 /// An attention goes out on a connection only where the application that holds it cancels or leaves, with
 /// something of a request out there; so none does during a cleaning.
 pub fn no_cancel_astray()
     ensures { (max : ℕ) (events : List Event) (event : Event)
         → NoneAstray (desk_after (new_desk max) events) event }
+{}
+
+/// An attention goes out only in a call that an application causes, by what it says or by its end: on the
+/// connection that this one holds, with something of a request out there.
+pub fn own_cancels()
+    ensures { (by : Cause) (max : ℕ) (events : List Event) (event : Event) → Causes by event
+        → Owns by (desk_after (new_desk max) events) event }
 {}
 
 /// Each connection is held by an application; or is being cleaned, by a request that is out; or has its

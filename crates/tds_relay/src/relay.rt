@@ -1,5 +1,6 @@
 //! The relay: who is there, and what whoever carries its bytes asks of it.
-ghost use Rattle.std.specs.Prelude.{◌≡◌, IfOk};
+ghost use Rattle.std.specs.Prelude.{◌≡◌, ◌≤◌, IfOk, length, vec_len};
+ghost use Rattle.slab.specs.Slab.{slab_len};
 ghost use Rattle.tds_relay.specs.Desk.{new_desk};
 ghost use Rattle.tds_relay.specs.Ties.{desk_in};
 
@@ -94,7 +95,9 @@ impl Relay {
     }
 
     /// How many bytes of an application may be read now, at most 8,192.
-    pub fn room(&self, key: usize) -> usize {
+    pub fn room(&self, key: usize) -> usize
+        ensures { result ≤ PIECE }
+    {
         let Some(application) = self.applications.get(key) else {
             return 0;
         };
@@ -125,7 +128,9 @@ impl Relay {
     }
 
     /// How many bytes of a connection may be read now, at most 8,192.
-    pub fn room_on(&self, number: u64) -> usize {
+    pub fn room_on(&self, number: u64) -> usize
+        ensures { result ≤ PIECE }
+    {
         if self.link(number).is_none() {
             return 0;
         }
@@ -177,17 +182,23 @@ impl Relay {
     }
 
     /// How many applications there are.
-    pub fn applications(&self) -> usize {
+    pub fn applications(&self) -> usize
+        ensures { result ≡ slab_len self.now.applications }
+    {
         self.applications.len()
     }
 
     /// How many connections there are.
-    pub fn connections(&self) -> usize {
+    pub fn connections(&self) -> usize
+        ensures { result ≡ vec_len self.now.links }
+    {
         self.links.len()
     }
 
     /// How many applications wait for a connection.
-    pub fn waiting(&self) -> usize {
+    pub fn waiting(&self) -> usize
+        ensures { result ≡ length (desk_in self.now.desk).line }
+    {
         self.desk.waiting()
     }
 

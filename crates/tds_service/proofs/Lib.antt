@@ -5,6 +5,8 @@ pub mod Packeting
 pub mod Answering
 pub mod Arriving
 pub mod Keeping
+pub mod Holding
+pub mod Spelling
 pub mod Pairing
 pub mod Walks
 pub mod Knowing

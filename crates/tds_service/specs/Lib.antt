@@ -11,3 +11,4 @@ pub mod Lending
 pub mod Owning
 pub mod Table
 pub mod Newest
+pub mod Spelling

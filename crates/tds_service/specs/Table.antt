@@ -1,11 +1,15 @@
 -- The table of the code, as the machine's service.
-use Rattle.std.specs.Prelude.{◌≡◌, ◌≢◌, ℕ, zero, suc, ◌<◌, ◌++◌, Bool, true, false, List, [], ◌∷◌, length, Option, Some, None, take, drop, ◌+◌, if◌then◌else◌}
+use Rattle.std.specs.Prelude.{◌≡◌, ◌≢◌, ℕ, zero, suc, ◌<◌, ◌++◌, Bool, true, false, List, [], ◌∷◌, length, Option, Some, None, Result, take, drop, ◌+◌, if◌then◌else◌}
 use Rattle.tds_wire.specs.declared.told.Token.{Token}
 use Rattle.tds_wire.specs.Reading.{Reading}
 use Rattle.tds_client.specs.declared.fault.ClientRefusal.{ClientRefusal}
 use Rattle.tds_client.specs.declared.fault.ClientRefusal.TheVariants as clients
+use Rattle.tds_client.specs.declared.message.MessageKind.{MessageKind}
 use Rattle.tds_client.specs.Parts.{left_of}
-use Rattle.tds_client.specs.Sending.{IsRefusal}
+use Rattle.tds_client.specs.Sending as sending
+use Rattle.tds_client.specs.Sending.{Effect, IsRefusal}
+use Rattle.tds_client.specs.Session.{ClientSession}
+use Rattle.tds_client.specs.Streams.{opened}
 use Rattle.tds_service.specs.declared.place.Place as code
 use Rattle.tds_service.specs.declared.place.Place.TheVariants as places
 use Rattle.tds_service.specs.declared.place.Rest.{Rest}
@@ -189,6 +193,40 @@ puts_by test (c ∷ cs) bytes = if test (seat_in c) then full_in c.connection.cl
 
 abbrev pub puts_on : ℕ → services.Service → List ℕ → ℕ
 puts_on lease s bytes = puts_by (has_lease lease) s.seats.items bytes
+
+-- ---- What a client holds of a request
+
+abbrev pub client_by : (Seat → Bool) → List seats.Seat → Option ClientSession
+client_by test [] = None
+client_by test (c ∷ cs) = if test (seat_in c) then Some c.connection.client else client_by test cs
+
+-- The client of the connection that this lease holds.
+abbrev pub client_of : ℕ → services.Service → Option ClientSession
+client_of lease s = client_by (has_lease lease) s.seats.items
+
+-- The client of the connection that this lease holds was one, and is another.
+pub record Moves (lease : ℕ) (old new : services.Service) (before after : ClientSession) : Type 0 where
+  pub was : client_of lease old ≡ Some before
+  pub is : client_of lease new ≡ Some after
+
+-- It began a message of this kind.
+abbrev pub Opens : MessageKind → ℕ → services.Service → services.Service → Type 0
+Opens kind lease old new = (s : ClientSession) × Moves lease old new s (opened s kind)
+
+-- It did this, and what goes out by that was appended.
+pub record DoesAt (act : ClientSession → Result (Effect (Unit {0})) ClientRefusal) (lease : ℕ) (old new : services.Service) (before after : List ℕ) : Type 0 where
+  pub session : ClientSession
+  pub next : ClientSession
+  pub moves : Moves lease old new session next
+  pub does : sending.Does (act session) tt next before after
+
+-- The clients stay of all connections that other leases hold.
+abbrev pub KeepsClients : ℕ → services.Service → services.Service → Type 0
+KeepsClients lease old new = (l : ℕ) → l ≢ lease → client_of l new ≡ client_of l old
+
+-- So they do where it is another connection than that of this number.
+abbrev pub KeepsClientsOff : ℕ → services.Service → services.Service → Type 0
+KeepsClientsOff number old new = (l : ℕ) (c : Seat) → find_by (has_lease l) (seats_in old.seats.items) ≡ Some c → c.number ≢ number → client_of l new ≡ client_of l old
 
 -- The answer of a request is being read on the connection of this number.
 abbrev pub ReadsAt : Option Seat → Type 0

@@ -1,7 +1,8 @@
 ghost use Rattle.std.specs.Prelude.{◌≡◌, ◌≤◌, ◌<◌, ◌+◌, ℕ, List, [], Ok, Err, IfOk, IfErr, OnOk, OnErr};
 ghost use Rattle.std.specs.Prelude.{drop, length, Bool, true, false, None};
-ghost use Rattle.tds_client.specs.Sending.{IsRefusal};
+ghost use Rattle.tds_client.specs.Sending.{Does as ClientDoes, IsRefusal};
 ghost use Rattle.tds_client.specs.Session.{state_of, unless_idle};
+ghost use Rattle.tds_client.specs.Streams.{finished, opened, put};
 ghost use Rattle.tds_wire.specs.Reading.{next_token, restarted};
 ghost use Rattle.tds_wire.specs.declared.told.Token.{Token};
 ghost use Rattle.tds_service.specs.Packets.{awaiting};
@@ -106,6 +107,7 @@ impl Connection {
         ensures ok { IfOk result (λ number. (out : List ℕ)
             → Does line.Ask (line_in self.old) (line_in self.new)
             (asked_answer self.old number) out out) }
+        ensures opened { OnOk result (self.new.client ≡ opened self.old.client kind) }
         ensures refused { IfErr result (IsRefusal
             (refusal_in (answer_to (line_in self.old) line.Ask))) }
         ensures err { OnErr result (self.new ≡ self.old) }
@@ -144,6 +146,9 @@ impl Connection {
             (line_in self.new) out.old.items out.new.items) }
         ensures accepted { OnOk result
             (answer_to (line_in self.old) (line.Send false) ≡ line.Sent) }
+        // Which bytes go out, and which are kept.
+        ensures puts { OnOk result (ClientDoes (put self.old.client bytes.now) tt
+            self.new.client out.old.items out.new.items) }
         ensures refused { IfErr result (IsRefusal
             (refusal_in (answer_to (line_in self.old) (line.Send false)))) }
         ensures err { OnErr result (self.new ≡ self.old) }
@@ -161,6 +166,8 @@ impl Connection {
             (line_in self.new) out.old.items out.new.items) }
         ensures accepted { OnOk result
             (answer_to (line_in self.old) (line.Send true) ≡ line.Sent) }
+        ensures ends { OnOk result (ClientDoes (finished self.old.client) tt
+            self.new.client out.old.items out.new.items) }
         ensures refused { IfErr result (IsRefusal
             (refusal_in (answer_to (line_in self.old) (line.Send true)))) }
         ensures err { OnErr result (self.new ≡ self.old) }

@@ -1,7 +1,15 @@
 //! What holds of one connection, whatever its peer sends and whatever is called, in whatever order.
 //! Each function does nothing when it runs: its contract is the law.
 
-ghost use Rattle.std.specs.Prelude.{◌≡◌, ◌≤◌, ◌+◌, ℕ, List, Bool, false};
+ghost use Rattle.std.specs.Prelude.{◌≡◌, ◌≤◌, ◌+◌, ◌++◌, ℕ, List, Bool, Some, false};
+ghost use Rattle.tds_packet.specs.Reading.{joined};
+ghost use Rattle.tds_packet.specs.Size.{IsPacketSize};
+ghost use Rattle.tds_client.specs.declared.message.MessageKind.{MessageKind};
+ghost use Rattle.tds_client.specs.Promises.{AreParts};
+ghost use Rattle.tds_client.specs.Session.{ClientSession};
+ghost use Rattle.tds_client.specs.Streams.{headers_of, opened, packets_are};
+ghost use Rattle.tds_service.specs.declared.connection.Connection.{Connection};
+ghost use Rattle.tds_service.specs.declared.service.Service.{Service};
 ghost use Rattle.tds_service.specs.Line.{Act, new_line};
 ghost use Rattle.tds_service.specs.History.{history, line_after};
 ghost use Rattle.tds_service.specs.Acknowledging.{SettlesRight};
@@ -10,6 +18,10 @@ ghost use Rattle.tds_service.specs.Promises.{AsksUnawaited, FaultsUnawaited, Not
 ghost use Rattle.tds_service.specs.Promises.{attentions, acknowledgements};
 ghost use Rattle.tds_service.specs.Promises.{AsksAsOwed, LeavesNoneOwed, NamesAsHeard};
 ghost use Rattle.tds_service.specs.Promises.{nothing_known};
+ghost use Rattle.tds_service.specs.Spelling.{Spells, SpellsBy};
+ghost use Rattle.tds_service.specs.Table.{Moves, client_of};
+
+use tds_client::stream_laws::message_is_spelled;
 
 /// What a request is given are the tokens of its own message, in order, and nothing else.
 pub fn paired<T>()
@@ -60,3 +72,25 @@ pub fn idle_by_acknowledgement<T>()
     ensures { (acts : List (Act T))
         → SettlesRight Bool.false Bool.false (history new_line acts) }
 {}
+
+/// All that goes out of a request, from its asking to its finish, is packets of the kind that was asked
+/// for, whose data joined are its headers and then the bytes that were put, in order. The first packet
+/// alone has the bit of the reset that is asked for; each is full but the last, which alone has end of
+/// message. So it is by a lease too, whatever is done by others in between.
+pub fn request_is_spelled()
+    ensures connection { (c asked behind : Connection) (kind : MessageKind)
+        (parts : List (List ℕ)) (bytes : List ℕ) → IsPacketSize c.client.size
+        → asked.client ≡ opened c.client kind → Spells asked parts bytes behind
+        → (packets : List (List ℕ)) × (bytes ≡ joined packets)
+        × AreParts c.client.size (packets_are kind) c.client.heard.mark 0 packets
+        (headers_of c.client.heard kind ++ joined parts) }
+    ensures lease { (lease : ℕ) (old asked next behind : Service) (s : ClientSession)
+        (kind : MessageKind) (parts : List (List ℕ)) (bytes : List ℕ) → IsPacketSize s.size
+        → Moves lease old asked s (opened s kind) → client_of lease next ≡ client_of lease asked
+        → SpellsBy lease next parts bytes behind
+        → (packets : List (List ℕ)) × (bytes ≡ joined packets)
+        × AreParts s.size (packets_are kind) s.heard.mark 0 packets
+        (headers_of s.heard kind ++ joined parts) }
+{
+    message_is_spelled();
+}

@@ -1,2 +1,8 @@
 pub mod Tables
 pub mod Steps
+pub mod Clients
+pub mod Cancels
+pub mod Acting
+pub mod Puts
+pub mod Arrivals
+pub mod Hearings

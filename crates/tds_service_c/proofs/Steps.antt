@@ -237,7 +237,7 @@ lost_sent l line.Reading = refl
 lost_sent l line.Cancelling = refl
 lost_sent l (line.Broken fault) = refl
 
-same_number : (m n : ℕ) → (m == n) ≡ true → m ≡ n
+pub same_number : (m n : ℕ) → (m == n) ≡ true → m ≡ n
 same_number m n e = grind (arith, nat_tests)
 
 pub loses : (s new : Service) (number count : ℕ) (seats : List TdsSeat) (i : ℕ) (here : Here (has_number number) count seats i)
@@ -320,7 +320,7 @@ held_same s t seats others e f =
 
 -- ---- What is done on a seat's client
 
-becomes : (c y : TdsSeat) (place : Place) (all : List (Act Token)) → Becomes c y place all
+pub becomes : (c y : TdsSeat) (place : Place) (all : List (Act Token)) → Becomes c y place all
     → seat_of y ≡ record { number = c.number; place = place; line = line_after (line_of c) all }
 becomes c y place all b =
     ap (λ (n : ℕ). let t : Seat = record { number = n; place = place_of y; line = line_of y } in t) b.number_is

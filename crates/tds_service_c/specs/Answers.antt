@@ -19,6 +19,7 @@ refusal_number refusals.NotNow = 36
 abbrev pub stop_number : Stop → ℕ
 stop_number stops.NoTable = 20
 stop_number stops.NoRoom = 21
+stop_number stops.OutOfRange = 23
 stop_number (stops.Refused refusal) = refusal_number refusal
 
 abbrev pub rest_number : Rest → ℕ

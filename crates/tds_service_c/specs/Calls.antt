@@ -34,6 +34,7 @@ DoesIt call old new reply number bytes =
 abbrev pub Stops : Call Token → Held → (room count : ℕ) → Stop → Type 0
 Stops call h room count stops.NoTable = length h.seats < h.service.count
 Stops call h room count stops.NoRoom = Fits h × (room < count)
+Stops call h room count stops.OutOfRange = ⊥
 Stops call h room count (stops.Refused refusal) = Fits h × Refuses call (table_of h.service h.seats) refusal
 
 -- 0, or why it wasn't done.
@@ -140,6 +141,7 @@ abbrev pub Settling : ℕ → (old new : Held) → Result Rest Stop → Type 0
 Settling number old new (Ok rest) = Fits old × Drains number (table_of old.service old.seats) (table_of new.service new.seats) rest
 Settling number old new (Err stops.NoTable) = (new ≡ old) × (length old.seats < old.service.count)
 Settling number old new (Err stops.NoRoom) = ⊥
+Settling number old new (Err stops.OutOfRange) = ⊥
 Settling number old new (Err (stops.Refused refusal)) = (new ≡ old) × Fits old × DrainsNot number (table_of old.service old.seats) refusal
 
 abbrev pub rested_number : Result Rest Stop → ℕ
@@ -155,6 +157,7 @@ abbrev pub Finding : (Seat → Bool) → Held → (before after : ℕ) → Resul
 Finding test h before after (Ok index) = (after ≡ index) × Fits h × FirstMet test (used h.service h.seats) index
 Finding test h before after (Err stops.NoTable) = (after ≡ before) × (length h.seats < h.service.count)
 Finding test h before after (Err stops.NoRoom) = ⊥
+Finding test h before after (Err stops.OutOfRange) = ⊥
 Finding test h before after (Err (stops.Refused refusal)) =
     (after ≡ before) × Fits h × (refusal ≡ refusals.Unknown) × (find_by test (table_of h.service h.seats).seats ≡ None)
 

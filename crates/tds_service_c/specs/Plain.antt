@@ -1,5 +1,7 @@
 -- What the values stand for that C keeps. No number is wrong: one without a name is what the last line says.
 use Rattle.std.specs.Prelude.{ℕ, ◌==◌, List, [], ◌∷◌, Option, Some, None, length, take, if◌then◌else◌}
+use Rattle.tds_packet.specs.declared.kind.Kind.{Kind}
+use Rattle.tds_packet.specs.declared.kind.Kind.TheVariants as kinds
 use Rattle.tds_packet.specs.declared.status.Reset.{Reset}
 use Rattle.tds_packet.specs.declared.status.Reset.TheVariants.{Full, KeepTransaction}
 use Rattle.tds_client.specs.declared.fault.ClientFault.{ClientFault}
@@ -39,6 +41,10 @@ stage_of c = stage_at c.stage c.packets c.fault
 
 unfoldable pub mark_of : ℕ → Option Reset
 mark_of n = if n == 1 then Some Full else if n == 2 then Some KeepTransaction else None
+
+-- The type of a request's packets. A number that none has stands for a batch's.
+unfoldable pub kind_at : ℕ → Kind
+kind_at n = if n == 3 then kinds.Procedure else if n == 7 then kinds.BulkLoad else if n == 14 then kinds.Transaction else kinds.Batch
 
 abbrev pub done_of : ℕ → FinalDone
 done_of n = if n == 1 then dones.Answered else if n == 2 then dones.Acknowledged else dones.Awaited

@@ -1,7 +1,10 @@
 -- The table's calls, in the words of the machine's.
-use Rattle.std.specs.Prelude.{◌≡◌, ◌<◌, ℕ, zero, suc, Bool, true, false, List, [], ◌∷◌, length}
-use Rattle.tds_service.specs.History.{line_after}
-use Rattle.tds_service.specs.Line.{Act, Stage, Idle, Sending, Reading, Cancelling, Broken}
+use Rattle.std.specs.Prelude.{◌≡◌, ◌<◌, ℕ, zero, suc, Bool, true, false, List, [], ◌∷◌, length, None}
+use Rattle.tds_service.specs.declared.refusal.Refusal.{Refusal}
+use Rattle.tds_service.specs.History.{history, line_after}
+use Rattle.tds_service.specs.Line.{Act, Stage, Idle, Sending, Reading, Cancelling, Broken, turn}
+use Rattle.tds_service.specs.Refusing.{refusal_in}
+use Rattle.tds_service.specs.Ties.{AreBytes, sent_in}
 use Rattle.tds_wire.specs.declared.told.Token.{Token}
 use Rattle.tds_service.specs.Service.{Call, Place, Seat, Service, has_lease, has_ticket, has_number, is_lendable}
 use Rattle.tds_service_c.specs.declared.plain.TdsSeat.{TdsSeat}
@@ -9,7 +12,7 @@ use Rattle.tds_service_c.specs.declared.seat.Stage as code
 use Rattle.tds_service_c.specs.declared.seat.Stage.TheVariants as stages
 use Rattle.tds_service_c.specs.declared.seat.Wanted.{Wanted}
 use Rattle.tds_service_c.specs.declared.seat.Wanted.TheVariants as wants
-use Rattle.tds_service.specs.Table.{Refuses}
+use Rattle.tds_service.specs.Table.{RefusedBy, Refuses}
 use Rattle.tds_service_c.specs.declared.answers.Stop.{Stop}
 use Rattle.tds_service_c.specs.declared.answers.Stop.TheVariants as stops
 use Rattle.tds_service_c.specs.declared.cancel.Written.{Written}
@@ -56,6 +59,7 @@ written_bytes (sends.Both bytes) = bytes
 abbrev pub StopsAt : Call Token → Service → (room count : ℕ) → Stop → Type 0
 StopsAt call s room count stops.NoTable = ⊥
 StopsAt call s room count stops.NoRoom = room < count
+StopsAt call s room count stops.OutOfRange = ⊥
 StopsAt call s room count (stops.Refused refusal) = Refuses call s refusal
 
 -- ---- A seat on whose client something was done
@@ -64,3 +68,14 @@ pub record Becomes (c y : TdsSeat) (place : Place) (all : List (Act Token)) : Ty
   pub number_is : y.number ≡ c.number
   pub place_is : place_of y ≡ place
   pub line_is : line_of y ≡ line_after (line_of c) all
+
+-- ---- What is done on a seat's client: these acts, of which the machine takes the first, and these bytes go out
+
+pub record ActsOn (first : Act Token) (all : List (Act Token)) (c y : TdsSeat) (bytes : List ℕ) : Type 0 where
+  pub becomes : Becomes c y (place_of c) all
+  pub may : refusal_in (turn (line_of c) first).answer ≡ None
+  pub sent : AreBytes (sent_in (history (line_of c) all)) bytes
+
+-- The machine refuses the first.
+abbrev pub RefusedOn : Act Token → TdsSeat → Refusal → Type 0
+RefusedOn first c refusal = RefusedBy (refusal_in (turn (line_of c) first).answer) refusal

@@ -12,6 +12,8 @@ pub(crate) enum Stop {
     NoTable,
     /// 21: what is written has no room.
     NoRoom,
+    /// 23: no message, change or DONE has this number; or more waits than a packet holds.
+    OutOfRange,
     Refused(Refusal),
 }
 
@@ -36,6 +38,7 @@ impl Stop {
         match self {
             Stop::NoTable => 20,
             Stop::NoRoom => 21,
+            Stop::OutOfRange => 23,
             Stop::Refused(refusal) => refusal_number(refusal),
         }
     }

@@ -1,18 +1,24 @@
 //! What a cancel makes of a connection, and what is sent for it: packets without data, which are known
 //! by their bytes.
 
-ghost use Rattle.std.specs.Prelude.{◌≡◌, ◌++◌, ◌<◌, ◌^◌, []};
+ghost use Rattle.std.specs.Prelude.{◌≡◌, ◌++◌, ◌<◌, ◌^◌, [], IfErr, IfOk};
 ghost use Rattle.tds_wire.specs.declared.told.Token.{Token};
+ghost use Rattle.tds_client.specs.declared.fault.ClientRefusal.TheVariants as clients;
 ghost use Rattle.tds_client.specs.Packets.{attention, ignore};
 ghost use Rattle.tds_service.specs.Line.{turn};
 ghost use Rattle.tds_service.specs.Line as line;
-ghost use Rattle.tds_service.specs.Ties.{AreBytes};
+ghost use Rattle.tds_service.specs.Ties.{AreBytes, cancel_answer};
+ghost use Rattle.tds_service_c.specs.Clients.{cancel_bytes, cancelled_seat};
 ghost use Rattle.tds_service_c.specs.Plain.{line_of, place_of};
 ghost use Rattle.tds_service_c.specs.Table.{written_bytes};
 
+use crate::answers::Stop;
 use crate::plain::TdsSeat;
 use crate::seat::Stage;
+use crate::sending::kind;
+use tds_client::Cancelled;
 use tds_packet::Kind;
+use tds_service::Refusal;
 
 /// The packets that a cancel sends.
 #[derive(Clone, Copy)]
@@ -52,16 +58,6 @@ fn both_packets(kind: Kind, before: usize) -> [u8; 16]
     [kind.byte(), 3, 0, 8, 0, 0, id, 0, 6, 1, 0, 8, 0, 0, 1, 0]
 }
 
-/// The type of a request's packets. A number that none has stands for a batch's.
-fn kind(number: u8) -> Kind {
-    match number {
-        0x03 => Kind::Procedure,
-        0x07 => Kind::BulkLoad,
-        0x0E => Kind::Transaction,
-        _ => Kind::Batch,
-    }
-}
-
 impl TdsSeat {
     /// The same seat, where what is underway is cancelled.
     #[tactic(auto, unfolding(crate::specs::Plain::stage_at))]
@@ -69,6 +65,7 @@ impl TdsSeat {
         ensures line { line_of result ≡ (turn {T = Token} (line_of self) line.Cancel).line }
         ensures place { place_of result ≡ place_of self }
         ensures number { result.number ≡ self.number }
+        ensures is { result ≡ cancelled_seat self }
     {
         let mut seat = self;
         match self.stage() {
@@ -84,7 +81,9 @@ impl TdsSeat {
 
     /// What is to be sent for that.
     pub(crate) fn written(&self) -> Written
-        ensures { AreBytes (turn {T = Token} (line_of self.now) line.Cancel).sent (written_bytes result) }
+        ensures sent { AreBytes (turn {T = Token} (line_of self.now) line.Cancel).sent
+            (written_bytes result) }
+        ensures bytes { written_bytes result ≡ cancel_bytes self.now }
     {
         match self.stage() {
             Stage::Sending => {
@@ -96,6 +95,25 @@ impl TdsSeat {
             Stage::Unsent => Written::Nothing,
             Stage::Cancelling => Written::Nothing,
             Stage::Broken => Written::Nothing,
+        }
+    }
+
+    /// What a cancel answers.
+    #[tactic(auto, unfolding(crate::specs::Plain::stage_at))]
+    pub(crate) fn how_cancelled(&self) -> Result<Cancelled, Stop>
+        ensures how { IfOk result (λ how. (turn {T = Token} (line_of self.now) line.Cancel).answer
+            ≡ cancel_answer self.now.asked how) }
+        ensures refused { IfErr result (λ stop. (stop ≡ Stop.Refused Refusal.Broken)
+            × ((turn {T = Token} (line_of self.now) line.Cancel).answer
+            ≡ line.Refused clients.Broken)) }
+    {
+        match self.stage() {
+            Stage::Idle => Ok(Cancelled::Nothing),
+            Stage::Unsent => Ok(Cancelled::Unsent),
+            Stage::Sending => Ok(Cancelled::Asked),
+            Stage::Reading => Ok(Cancelled::Asked),
+            Stage::Cancelling => Ok(Cancelled::Already),
+            Stage::Broken => Err(Stop::Refused(Refusal::Broken)),
         }
     }
 }

@@ -15,7 +15,7 @@ use crate::{giving, keeping, lending};
 use tds_service::{Lent, Refusal, Rest};
 
 /// Whether the array has room for the table.
-fn fits(service: &TdsService, seats: &[TdsSeat]) -> Result<(), Stop>
+pub(crate) fn fits(service: &TdsService, seats: &[TdsSeat]) -> Result<(), Stop>
     ensures yes { OnOk result (service.now.count ≤ length seats.now) }
     ensures no { IfErr result (λ stop. (stop ≡ Stop.NoTable)
         × (length seats.now < service.now.count)) }

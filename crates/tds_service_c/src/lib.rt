@@ -4,12 +4,22 @@
 #![tactic(auto)]
 
 mod answers;
+mod asking;
+mod buffer;
 mod cancel;
+mod coming;
+mod ending;
 mod exports;
 mod giving;
+mod heard;
+mod hearing;
 mod keeping;
 pub mod laws;
 mod lending;
 mod plain;
+mod putting;
+mod requests;
 mod seat;
+mod sending;
+mod signs;
 mod table;

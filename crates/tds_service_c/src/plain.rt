@@ -30,7 +30,7 @@ pub struct TdsSeat {
     pub number: u64,
     /// The number of the lease or the ticket that holds it.
     pub holder: u64,
-    /// How many requests were asked on it: the caller counts.
+    /// How many requests were asked on it, which are their numbers.
     pub asked: u64,
     /// 1 lent, 2 lent to be cleaned, 3 kept, 4 draining; any other number: free.
     pub place: u8,
@@ -57,4 +57,58 @@ pub struct TdsLent {
     pub number: u64,
     /// 1 where somebody had the connection before, 0 where it is to be opened.
     pub had: u8,
+}
+
+/// A request that was asked: `struct tds_asked`.
+#[repr(C)]
+#[derive(Clone, Copy)]
+pub struct TdsAsked {
+    pub number: u64,
+    pub request: u64,
+}
+
+/// Whose what came is: `struct tds_whose`.
+#[repr(C)]
+#[derive(Clone, Copy)]
+pub struct TdsWhose {
+    /// The lease that holds the connection, 0 where none does.
+    pub lease: u64,
+    /// Its newest request.
+    pub request: u64,
+}
+
+/// Bytes of a message: `struct tds_wire_place`.
+#[repr(C)]
+#[derive(Clone, Copy)]
+pub struct TdsWirePlace {
+    pub start: u64,
+    pub length: u64,
+}
+
+/// A token that ended, as `struct tds_wire_token` of `tds_wire.h`: what is told of it, and what is left
+/// alone.
+#[repr(C)]
+#[derive(Clone, Copy)]
+pub struct TdsWireToken {
+    pub start: u64,
+    pub length: u64,
+    /// The descriptors of an ENVCHANGE.
+    pub value: u64,
+    pub old_value: u64,
+    pub text: TdsWirePlace,
+    pub others: TdsWirePlace,
+    pub number: i32,
+    pub size: u32,
+    /// The status of a DONE.
+    pub status: u16,
+    pub command: u16,
+    /// Its first byte.
+    pub kind: u8,
+    /// 1 a DONE, 2 a transaction, 3 a reset's end, 10 unclear; any other number: nothing for a session.
+    pub told: u8,
+    /// The type of an ENVCHANGE.
+    pub change: u8,
+    pub state: u8,
+    pub severity: u8,
+    pub recoverable: u8,
 }

@@ -84,11 +84,12 @@ impl TdsSeat {
     /// The same seat, where this place is.
     #[tactic(auto, unfolding(crate::specs::Plain::place_at))]
     pub(crate) fn at(self, place: Place) -> TdsSeat
-        ensures { seat_of result ≡ record {
+        ensures seat { seat_of result ≡ record {
           number = self.number;
           place = place_named place;
           line = line_of self;
         } }
+        ensures client { result.client ≡ self.client }
     {
         let (place, holder) = match place {
             Place::Free => (0, 0),

@@ -1,6 +1,9 @@
 pub mod Joined
 pub mod Remaining
 pub mod Alone
+pub mod Turning
 pub mod Recorded
+pub mod Turned
 pub mod Traced
 pub mod Reading
+pub mod Attended

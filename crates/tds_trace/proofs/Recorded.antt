@@ -1,17 +1,22 @@
--- A call more at a carrier, and what it handed over and brought.
-use Rattle.std.proofs.Common.{◌≡◌, ◌≢◌, ◌==◌, ℕ, List, [], ◌∷◌, ◌++◌, length, drop, true, if◌then◌else◌, Option, Some, None, Result, Ok, Err, OnOk, inl, inr, refl, sym, ap, subst, ◌∙◌, append-nil}
+-- A call more at a carrier: what it handed over and brought, and the event that made it.
+use Rattle.std.proofs.Common.{◌≡◌, ◌≢◌, ◌==◌, ◌<◌, ◌≤◌, ◌+◌, ℕ, List, [], ◌∷◌, ◌++◌, length, drop, Bool, true, false, if◌then◌else◌, is_err, Option, Some, None, Result, Ok, Err, IfOk, IfSome, OnOk, inl, inr, refl, sym, ap, subst, ◌∙◌, append-nil, arith}
 use Rattle.std.proofs.Math.Seq.{drop-length}
 use Rattle.std.proofs.lemmas.Bool.{eq-eqb}
 use Rattle.std.proofs.lemmas.Bool.Decides.{eqb_tells}
+use Rattle.std.proofs.lemmas.List.{length-drop}
 use Rattle.std.proofs.lemmas.List.Sums.{fold-append}
+use Rattle.std.proofs.Math.Logic.{∥∥₁_map}
 use Rattle.tds_packet.specs.declared.kind.Direction.{Direction}
 use Rattle.tds_packet.specs.declared.kind.Direction.TheVariants.{ToServer, ToClient}
-use Rattle.tds_play.specs.Pipe.{Pipe, Changes, IsOpen, carried_on, stuck_on, traffic}
+use Rattle.tds_play.specs.Pipe.{Begun, Changes, IsOpen, MayCarry, Pipe, brought_on, carried_on, since, stuck_on, traffic}
 use Rattle.tds_play.specs.declared.carrier.CarrierError.{CarrierError}
 use Rattle.tds_play.specs.declared.carrier.CarrierError.TheVariants.{Lost, Memory}
 use Rattle.tds_trace.specs.Calls.{AreCallsAt, brought_after, brought_of, handed_after, handed_of, this_way}
+use Rattle.tds_trace.specs.Turns.{IsRecordOf, MayBe, MayBring, made_on}
 use Rattle.tds_trace.specs.declared.call.Call.{Call}
 use Rattle.tds_trace.specs.declared.call.Made.{Made}
+use Rattle.tds_trace.specs.declared.call.Made.TheVariants as made
+use Rattle.tds_trace.proofs.Turning.{called}
 
 -- ---- One call more
 
@@ -29,7 +34,7 @@ Changed made old new =
     (d : Direction)
     → ((traffic new d).handed ≡ handed_after made d (traffic old d).handed) × ((traffic new d).came ≡ brought_after made d (traffic old d).came)
 
-pub kept_call : (calls : List Call) (call : Call) (old new : ℕ → Option Pipe) (pipe : Option Pipe)
+kept_call : (calls : List Call) (call : Call) (old new : ℕ → Option Pipe) (pipe : Option Pipe)
     → AreCallsAt calls old → Changes old new call.conn pipe → Changed call.made (old call.conn) pipe
     → AreCallsAt (calls ++ call ∷ []) new
 kept_call calls call old new pipe was changes does n d =
@@ -50,51 +55,108 @@ kept_call calls call old new pipe was changes does n d =
       )
     ]
 
--- ---- A call that brings bytes
+-- ---- What it does to the bytes
 
-carried_does : (p : Option Pipe) (way d : Direction) (bytes : List ℕ) → IsOpen p
-    → ((traffic (carried_on p way bytes) d).handed ≡ (traffic p d).handed)
-    × ((traffic (carried_on p way bytes) d).came ≡ (traffic p d).came ++ this_way way d bytes)
-carried_does None way d bytes is_open = absurd is_open
-carried_does (Some p) ToServer ToServer bytes is_open = (refl, refl)
-carried_does (Some p) ToClient ToClient bytes is_open = (refl, refl)
-carried_does (Some p) ToServer ToClient bytes is_open = (refl, sym (append-nil p.to_client.came))
-carried_does (Some p) ToClient ToServer bytes is_open = (refl, sym (append-nil p.to_server.came))
+changed : (made : Made) (failed : Bool) (before p : Option Pipe) → MayBe made failed before p → Changed made p (made_on made failed p)
+changed made.Open failed before p may ToServer = (refl, refl)
+changed made.Open failed before p may ToClient = (refl, refl)
+changed (made.Send way bytes) failed before None may d = absurd may.1
+changed (made.Send ToServer bytes) failed before (Some p) may ToServer = (refl, refl)
+changed (made.Send ToClient bytes) failed before (Some p) may ToClient = (refl, refl)
+changed (made.Send ToServer bytes) failed before (Some p) may ToClient = (sym (append-nil p.to_client.handed), refl)
+changed (made.Send ToClient bytes) failed before (Some p) may ToServer = (sym (append-nil p.to_server.handed), refl)
+changed (made.Carry way bytes) false before None may d = absurd may.1
+changed (made.Carry way bytes) true before None may d = absurd may.1
+changed (made.Carry ToServer bytes) false before (Some p) may ToServer = (refl, refl)
+changed (made.Carry ToClient bytes) false before (Some p) may ToClient = (refl, refl)
+changed (made.Carry ToServer bytes) false before (Some p) may ToClient = (refl, sym (append-nil p.to_client.came))
+changed (made.Carry ToClient bytes) false before (Some p) may ToServer = (refl, sym (append-nil p.to_server.came))
+changed (made.Carry ToServer bytes) true before (Some p) may ToServer = (refl, refl)
+changed (made.Carry ToClient bytes) true before (Some p) may ToClient = (refl, refl)
+changed (made.Carry ToServer bytes) true before (Some p) may ToClient = (refl, sym (append-nil p.to_client.came))
+changed (made.Carry ToClient bytes) true before (Some p) may ToServer = (refl, sym (append-nil p.to_server.came))
+changed made.Cut failed before None may d = absurd may.1
+changed made.Cut failed before (Some p) may ToServer = (refl, refl)
+changed made.Cut failed before (Some p) may ToClient = (refl, refl)
 
-stuck_does : (p : Option Pipe) (way d : Direction) → IsOpen p
-    → ((traffic (stuck_on p way) d).handed ≡ (traffic p d).handed)
-    × ((traffic (stuck_on p way) d).came ≡ (traffic p d).came ++ this_way way d [])
-stuck_does None way d is_open = absurd is_open
-stuck_does (Some p) ToServer ToServer is_open = (refl, sym (append-nil p.to_server.came))
-stuck_does (Some p) ToClient ToClient is_open = (refl, sym (append-nil p.to_client.came))
-stuck_does (Some p) ToServer ToClient is_open = (refl, sym (append-nil p.to_client.came))
-stuck_does (Some p) ToClient ToServer is_open = (refl, sym (append-nil p.to_server.came))
+-- ---- What was answered
 
--- This call brought these bytes.
-abbrev pub BringsThose : Made → Direction → List ℕ → Type 0
-BringsThose made way came =
-    (d : Direction) (bytes : List ℕ) → (handed_after made d bytes ≡ bytes) × (brought_after made d bytes ≡ bytes ++ this_way way d came)
+pub on_ok : {X E : Type 0} (r : Result X E) {P : Type 0} → is_err r ≡ false → OnOk r P → P
+on_ok (Ok x) fine holds = holds
+on_ok (Err e) fails holds = absurd (cc)
 
-pub brought_call : (r : Result ℕ CarrierError) (calls : List Call) (call : Call) (old new : ℕ → Option Pipe) (way : Direction)
-    (before after came : List ℕ)
-    → AreCallsAt calls old → IsOpen (old call.conn)
-    → OnOk r (Changes old new call.conn (carried_on (old call.conn) way (drop (length before) after)))
-    → (r ≡ Err Lost → Changes old new call.conn (stuck_on (old call.conn) way)) → (r ≡ Err Lost → after ≡ before) → r ≢ Err Memory
-    → BringsThose call.made way came → came ≡ drop (length before) after
-    → AreCallsAt (calls ++ call ∷ []) new
-brought_call (Ok n) calls call old new way before after came was is_open ok lost nothing known brings is =
-    kept_call calls call old new (carried_on (old call.conn) way (drop (length before) after)) was ok (λ d. (
-      (carried_does (old call.conn) way d (drop (length before) after) is_open).0 ∙ sym (brings d (traffic (old call.conn) d).handed).0,
-      (carried_does (old call.conn) way d (drop (length before) after) is_open).1
-          ∙ (ap (λ (bytes : List ℕ). (traffic (old call.conn) d).came ++ this_way way d bytes) (sym is)
-          ∙ sym (brings d (traffic (old call.conn) d).came).1),
-    ))
-brought_call (Err Lost) calls call old new way before after came was is_open ok lost nothing known brings is =
-    let none : came ≡ [] = is ∙ (ap (drop (length before)) (nothing refl) ∙ drop-length before) in
-    kept_call calls call old new (stuck_on (old call.conn) way) was (lost refl) (λ d. (
-      (stuck_does (old call.conn) way d is_open).0 ∙ sym (brings d (traffic (old call.conn) d).handed).0,
-      (stuck_does (old call.conn) way d is_open).1
-          ∙ (ap (λ (bytes : List ℕ). (traffic (old call.conn) d).came ++ this_way way d bytes) (sym none)
-          ∙ sym (brings d (traffic (old call.conn) d).came).1),
-    ))
-brought_call (Err Memory) calls call old new way before after came was is_open ok lost nothing known brings is = absurd (known refl)
+-- It did what it does where it failed, or where it didn't.
+pub done_by : {X : Type 0} (r : Result X CarrierError) (made : Made) (pipes next : ℕ → Option Pipe) (conn : ℕ)
+    → r ≢ Err Memory → OnOk r (Changes pipes next conn (made_on made false (pipes conn)))
+    → (r ≡ Err Lost → Changes pipes next conn (made_on made true (pipes conn)))
+    → Changes pipes next conn (made_on made (is_err r) (pipes conn))
+done_by (Ok x) made pipes next conn known ok lost = ok
+done_by (Err Lost) made pipes next conn known ok lost = lost refl
+done_by (Err Memory) made pipes next conn known ok lost = absurd (known refl)
+
+-- Nothing came where that failed.
+stuck_same : (p : Option Pipe) (d : Direction) (bytes : List ℕ) → bytes ≡ [] → stuck_on p d ≡ brought_on p d bytes true
+stuck_same None d bytes none = refl
+stuck_same (Some p) ToServer bytes none =
+    ap (λ (came : List ℕ). Some (record p { to_server = record p.to_server { came = came; carry_failures = p.to_server.carry_failures + 1 } }))
+    (sym (ap (λ (more : List ℕ). p.to_server.came ++ more) none ∙ append-nil p.to_server.came))
+stuck_same (Some p) ToClient bytes none =
+    ap (λ (came : List ℕ). Some (record p { to_client = record p.to_client { came = came; carry_failures = p.to_client.carry_failures + 1 } }))
+    (sym (ap (λ (more : List ℕ). p.to_client.came ++ more) none ∙ append-nil p.to_client.came))
+
+-- What a call that brings bytes did.
+pub brought_by : (r : Result ℕ CarrierError) (way : Direction) (pipes next : ℕ → Option Pipe) (conn : ℕ) (before after : List ℕ)
+    → OnOk r (Changes pipes next conn (carried_on (pipes conn) way (drop (length before) after)))
+    → (r ≡ Err Lost → Changes pipes next conn (stuck_on (pipes conn) way)) → (r ≡ Err Lost → after ≡ before) → r ≢ Err Memory
+    → Changes pipes next conn (brought_on (pipes conn) way (drop (length before) after) (is_err r))
+brought_by (Ok n) way pipes next conn before after ok lost nothing known = ok
+brought_by (Err Lost) way pipes next conn before after ok lost nothing known =
+    subst (Changes pipes next conn) (stuck_same (pipes conn) way (drop (length before) after)
+    (ap (drop (length before)) (nothing refl) ∙ drop-length before)) (lost refl)
+brought_by (Err Memory) way pipes next conn before after ok lost nothing known = absurd (known refl)
+
+-- It may be asked, and answered so.
+pub may_bring : (r : Result ℕ CarrierError) (bytes : List ℕ) (before now : Option Pipe) (old after : List ℕ)
+    → IsOpen now → MayCarry before now → IfOk r (λ n. 0 < n) → IfOk r (λ n. length after ≡ length old + n)
+    → (r ≡ Err Lost → after ≡ old) → r ≢ Err Memory → bytes ≡ drop (length old) after
+    → MayBring bytes (is_err r) before now
+may_bring (Ok n) bytes before now old after is_open may least count nothing known is =
+    (omega (arith, ap length is, length-drop (length old) after, least, count), is_open, may)
+may_bring (Err Lost) bytes before now old after is_open may least count nothing known is =
+    (is ∙ (ap (drop (length old)) (nothing refl) ∙ drop-length old), is_open, may)
+may_bring (Err Memory) bytes before now old after is_open may least count nothing known is = absurd (known refl)
+
+-- ---- The record, with one call more
+
+pub all_kept : (event : Option ℕ) (calls all : List Call) (conn : ℕ) (made : Made) (failed : Bool) (before : List Begun) (pipes next : ℕ → Option Pipe)
+    → event ≢ None → IfSome event (λ number. all ≡ calls ++ record { event = number; conn = conn; made = made; failed = failed } ∷ [])
+    → Changes pipes next conn (made_on made failed (pipes conn)) → MayBe made failed (since before conn) (pipes conn)
+    → AreCallsAt calls pipes → AreCallsAt all next
+all_kept None calls all conn made failed before pipes next some is changes may was = absurd (some refl)
+all_kept (Some number) calls all conn made failed before pipes next some is changes may was =
+    subst (λ (cs : List Call). AreCallsAt cs next) (sym is)
+    (kept_call calls (record { event = number; conn = conn; made = made; failed = failed }) pipes next (made_on made failed (pipes conn)) was changes
+    (changed made failed (since before conn) (pipes conn) may))
+
+pub turn_kept : (event : Option ℕ) (calls all : List Call) (conn : ℕ) (made : Made) (failed : Bool) (before after : List Begun)
+    (pipes next : ℕ → Option Pipe)
+    → event ≢ None → IfSome event (λ number. all ≡ calls ++ record { event = number; conn = conn; made = made; failed = failed } ∷ [])
+    → Changes pipes next conn (made_on made failed (pipes conn)) → MayBe made failed (since before conn) (pipes conn) → after ≡ before
+    → ∥ IsRecordOf event calls before pipes ∥₁ → ∥ IsRecordOf event all after next ∥₁
+turn_kept None calls all conn made failed before after pipes next some is changes may same was = absurd (some refl)
+turn_kept (Some number) calls all conn made failed before after pipes next some is changes may same was =
+    ∥∥₁_map was (λ r. subst (λ (cs : List Call). IsRecordOf (Some number) cs after next) (sym is)
+    (called (record { event = number; conn = conn; made = made; failed = failed }) calls before after pipes next changes may same r))
+
+-- ---- The record of nothing
+
+pub none_kept : (calls : List Call) (pipes : ℕ → Option Pipe) → calls ≡ [] → ((n : ℕ) → pipes n ≡ None) → AreCallsAt calls pipes
+none_kept calls pipes none unused n d = (
+  ap (λ (p : Option Pipe). (traffic p d).handed) (unused n) ∙ sym (ap (λ (cs : List Call). handed_of cs n d) none),
+  ap (λ (p : Option Pipe). (traffic p d).came) (unused n) ∙ sym (ap (λ (cs : List Call). brought_of cs n d) none),
+)
+
+pub no_turn : (calls : List Call) (told : List Begun) (pipes : ℕ → Option Pipe) → calls ≡ [] → told ≡ [] → ((n : ℕ) → pipes n ≡ None)
+    → ∥ IsRecordOf None calls told pipes ∥₁
+no_turn calls told pipes none untold unused =
+    ∣ subst (λ (bs : List Begun). IsRecordOf None calls bs pipes) (sym untold) (record { now = refl; begins = unused; each = none }) ∣₁

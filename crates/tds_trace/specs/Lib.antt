@@ -1,3 +1,5 @@
+pub mod Attentions
 pub mod Calls
 pub mod Lines
 pub mod Runs
+pub mod Turns

@@ -7,15 +7,17 @@ use Rattle.tds_session.specs.Answer.{script_answers}
 use Rattle.tds_text.specs.Files.{Spells}
 use Rattle.tds_trace.specs.Calls.{AreCallsOf}
 use Rattle.tds_trace.specs.Lines.{trace_text}
+use Rattle.tds_trace.specs.Turns.{AreCallsOfPlay}
 use Rattle.tds_trace.specs.declared.call.Call.{Call}
 use Rattle.tds_world.specs.declared.event.Event.{Event}
 use Rattle.tds_world.specs.declared.event.Setup.{Setup}
 use Rattle.tds_world.specs.Events.{world_after}
+use Rattle.tds_world.specs.Losses.{marked}
 use Rattle.tds_world.specs.Observed.{observed}
 use Rattle.tds_world.specs.World.{new_world}
 
 -- These bytes are a schedule file that is played, and this text is a trace of its play: of the model's
--- report, and of calls that hand over and bring what is sent and comes in the model.
+-- report, and of the calls of each event, which hand over and bring what is sent and comes in the model.
 pub record IsTraceOf (bytes text : List ℕ) : Type 0 where
   pub setup : Setup
   pub events : List Event
@@ -23,6 +25,7 @@ pub record IsTraceOf (bytes text : List ℕ) : Type 0 where
   pub spelled : Spells bytes setup events
   pub played : first_refusal setup (length events) ≡ None
   pub made : AreCallsOf (world_after setup script_answers events new_world) calls
+  pub turns : ∥ AreCallsOfPlay setup script_answers (marked events (observed setup script_answers events).events) calls ∥₁
   pub told : text ≡ trace_text setup (observed setup script_answers events) calls
 
 -- The bytes that were left are a schedule that is played, and a trace of its play went out.

@@ -4,6 +4,7 @@
 
 mod call;
 mod fault;
+pub mod laws;
 mod lines;
 mod recording;
 mod run;

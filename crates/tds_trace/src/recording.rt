@@ -1,6 +1,7 @@
 //! A carrier that records its calls.
-ghost use Rattle.std.specs.Prelude.{[], ◌∷◌, ◌≡◌, ◌≢◌, ◌++◌, ◌≤◌, ◌<◌, ◌+◌, ℕ, List, length, drop, take, false, Option, Some, Err, None, IfOk, OnOk};
+ghost use Rattle.std.specs.Prelude.{[], ◌∷◌, ◌≡◌, ◌≢◌, ◌++◌, ◌≤◌, ◌<◌, ◌+◌, ℕ, List, length, drop, take, false, is_err, Option, Some, Err, None, IfOk, IfSome, OnOk};
 ghost use Rattle.tds_trace.specs.Calls.{AreCallsAt};
+ghost use Rattle.tds_trace.specs.Turns.{IsRecordOf};
 ghost use Rattle.tds_play.specs.Pipe.{Changes, new_pipe, sent_on, carried_on, stuck_on, cut_pipe, traffic, IsOpen, IsUncut};
 ghost use Rattle.tds_play.specs.declared.carrier.CarrierError.TheVariants.{Lost, Memory};
 
@@ -9,37 +10,44 @@ use std::alloc::{AllocError, Global};
 use tds_packet::Direction;
 use tds_play::{Carrier, CarrierError};
 
-/// A carrier, and a record of each call that it was asked, in order.
+/// A carrier, and a record of each call that it was asked, in order, with the event that made it.
 #[derive(Drop)]
 pub struct RecordingCarrier<C: Carrier + Drop> {
     alloc: Global,
     inner: C,
     /// The event of which it was told last.
-    event: u32,
+    event: Option<u32>,
     calls: Vec<Call>,
-    /// Whether a call is missing, for want of memory.
+    /// Whether a call is missing: for want of memory, or since no event made it.
     is_short: bool,
     ghost recorded: { is_short ≡ false → AreCallsAt calls.items (C.pipes inner) },
+    ghost turns: { is_short ≡ false
+        → ∥ IsRecordOf event calls.items (C.began inner) (C.pipes inner) ∥₁ },
 }
 
 impl<C: Carrier + Drop> RecordingCarrier<C> {
-    /// Records the calls of a carrier that has no connection yet. It takes no memory.
+    /// Records the calls of a carrier that is new: it has no connection, and was told of no event. It takes
+    /// no memory.
     pub fn new(alloc: Global, inner: C) -> RecordingCarrier<C>
         requires unused { (conn : ℕ) → C.pipes inner conn ≡ None }
+        requires untold { C.began inner ≡ [] }
         ensures inner { result.inner ≡ inner }
     {
         RecordingCarrier {
             alloc,
             inner,
-            event: 0,
+            event: None,
             calls: Vec::new(alloc),
             is_short: false,
         }
     }
 
-    /// The calls, in order. Where memory was refused to record one there are none.
+    /// The calls, in order, each with its event. There are none where memory was refused to record one,
+    /// or where one came before the first event.
     pub fn into_calls(self) -> Result<Vec<Call>, AllocError>
-        ensures { IfOk result (λ calls. AreCallsAt calls.items (C.pipes self.inner)) }
+        ensures all { IfOk result (λ calls. AreCallsAt calls.items (C.pipes self.inner)) }
+        ensures turns { IfOk result (λ calls. ∥ IsRecordOf self.event calls.items
+            (C.began self.inner) (C.pipes self.inner) ∥₁) }
     {
         match self.is_short {
             true => Err(AllocError),
@@ -48,19 +56,40 @@ impl<C: Carrier + Drop> RecordingCarrier<C> {
     }
 }
 
-/// Appends a call that was answered so, and answers whether one is missing then: for want of memory, or
-/// since it wanted memory itself, and nothing is known of the carrier.
+/// Appends a call of this event that was answered so, and answers whether one is missing then: for want of
+/// memory, since it wanted memory itself, and nothing is known of the carrier, or since no event made it.
 fn keep<T>(
     calls: &mut Vec<Call>,
-    call: Call,
+    event: Option<u32>,
+    conn: u32,
+    made: Made,
     is_short: bool,
     answer: &Result<T, CarrierError>,
 ) -> bool
     ensures whole { result ≡ false → is_short ≡ false }
     ensures known { result ≡ false → answer.now ≢ Err Memory }
-    ensures calls { result ≡ false → calls.new.items ≡ calls.old.items ++ call ∷ [] }
+    ensures told { result ≡ false → event ≢ None }
+    ensures calls { result ≡ false → IfSome event (λ number. calls.new.items ≡ calls.old.items
+        ++ record { event = number; conn = conn; made = made; failed = is_err answer.now } ∷ []) }
 {
+    let Some(event) = event else {
+        return true;
+    };
+    let call = Call {
+        event,
+        conn,
+        made,
+        failed: answer.is_err(),
+    };
     is_short || matches!(answer, Err(CarrierError::Memory)) || calls.push(call).is_err()
+}
+
+/// Whether nothing is known of the record behind a telling that was answered so.
+fn is_unknown(is_short: bool, answer: &Result<(), AllocError>) -> bool
+    ensures whole { result ≡ false → is_short ≡ false }
+    ensures answered { result ≡ false → is_err answer.now ≡ false }
+{
+    is_short || answer.is_err()
 }
 
 /// The bytes behind so many.
@@ -79,34 +108,38 @@ impl<C: Carrier + Drop> Carrier for RecordingCarrier<C> {
     ghost began = { λ c. C.began c.inner };
 
     fn begin(&mut self, event: u32) -> Result<(), AllocError> {
-        self.event = event;
+        self.event = Some(event);
         let answer = self.inner.begin(event);
-        self.is_short = self.is_short || answer.is_err();
+        self.is_short = is_unknown(self.is_short, &answer);
         answer
     }
 
     fn open(&mut self, conn: u32) -> Result<(), CarrierError> {
         let answer = self.inner.open(conn);
-        let call = Call {
-            event: self.event,
+        let made = Made::Open;
+        self.is_short = keep(
+            &mut self.calls,
+            self.event,
             conn,
-            made: Made::Open,
-            failed: answer.is_err(),
-        };
-        self.is_short = keep(&mut self.calls, call, self.is_short, &answer);
+            made,
+            self.is_short,
+            &answer,
+        );
         answer
     }
 
     fn send(&mut self, conn: u32, direction: Direction, bytes: &[u8]) -> Result<(), CarrierError> {
         let kept = Vec::from_slice(self.alloc, bytes)?;
+        let made = Made::Send(direction, kept);
         let answer = self.inner.send(conn, direction, bytes);
-        let call = Call {
-            event: self.event,
+        self.is_short = keep(
+            &mut self.calls,
+            self.event,
             conn,
-            made: Made::Send(direction, kept),
-            failed: answer.is_err(),
-        };
-        self.is_short = keep(&mut self.calls, call, self.is_short, &answer);
+            made,
+            self.is_short,
+            &answer,
+        );
         answer
     }
 
@@ -122,13 +155,15 @@ impl<C: Carrier + Drop> Carrier for RecordingCarrier<C> {
         match Vec::from_slice(self.alloc, behind(out.as_slice(), before)) {
             Err(_) => self.is_short = true,
             Ok(came) => {
-                let call = Call {
-                    event: self.event,
+                let made = Made::Carry(direction, came);
+                self.is_short = keep(
+                    &mut self.calls,
+                    self.event,
                     conn,
-                    made: Made::Carry(direction, came),
-                    failed: answer.is_err(),
-                };
-                self.is_short = keep(&mut self.calls, call, self.is_short, &answer);
+                    made,
+                    self.is_short,
+                    &answer,
+                );
             }
         }
         answer
@@ -136,12 +171,15 @@ impl<C: Carrier + Drop> Carrier for RecordingCarrier<C> {
 
     fn cut(&mut self, conn: u32) {
         self.inner.cut(conn);
-        let call = Call {
-            event: self.event,
+        let answer = Ok(());
+        let made = Made::Cut;
+        self.is_short = keep::<()>(
+            &mut self.calls,
+            self.event,
             conn,
-            made: Made::Cut,
-            failed: false,
-        };
-        self.is_short = keep::<()>(&mut self.calls, call, self.is_short, &Ok(()));
+            made,
+            self.is_short,
+            &answer,
+        );
     }
 }

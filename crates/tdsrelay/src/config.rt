@@ -10,8 +10,9 @@ use toml::{Table, Value};
 const MOST: usize = 65_536;
 
 /// What a file may set.
-const NAMES: [&str; 10] = [
-    "most", "stats", "log", "login", "wait", "cancel", "idle", "life", "hold", "drain",
+const NAMES: [&str; 14] = [
+    "most", "alone", "stats", "log", "judge", "login", "wait", "cancel", "idle", "life", "hold",
+    "drain", "check", "away",
 ];
 
 /// The settings of a file, or none.

@@ -1,6 +1,7 @@
 //! What the relay has done since it began.
 
 use crate::group::NOTHING;
+use crate::judged::Found;
 
 /// What it has done. Each of them only grows.
 #[derive(Clone, Copy, Debug)]
@@ -19,6 +20,11 @@ pub struct Counts {
     /// Connections that were closed as idle or old.
     pub idle: u64,
     pub old: u64,
+    /// Servers that didn't take a login or ended in one, and logins that a server sent to another one.
+    pub away: u64,
+    pub routed: u64,
+    /// What a judge has found.
+    pub found: Found,
     /// What groups that are gone had done.
     pub gone: tds_relay::Counts,
 }
@@ -36,6 +42,9 @@ impl Counts {
             late_holds: 0,
             idle: 0,
             old: 0,
+            away: 0,
+            routed: 0,
+            found: Found::none(),
             gone: NOTHING,
         }
     }

@@ -1,8 +1,9 @@
 //! A connection's login at the server.
 
+use crate::servers::Way;
 use std::alloc::{AllocError, Global};
 use tds_packet::{Direction, PacketReader, PacketSize};
-use tds_wire::{ChangeValue, Features, Told, Walker};
+use tds_wire::{Change, ChangeValue, Features, Place, Told, Walker};
 
 /// PRELOGIN in one packet (MS-TDS 2.2.6.5): version 11.0, encryption isn't supported, no MARS.
 const PREPARE: [u8; 32] = [
@@ -19,8 +20,18 @@ const ROOM: usize = 4_088;
 /// The most bytes of a login's answer.
 const MOST: usize = 65_536;
 
-/// LOGINACK (MS-TDS 2.2.7.14).
+/// LOGINACK (MS-TDS 2.2.7.14), SSPI (2.2.7.22) and FEDAUTHINFO (2.2.7.12), which ask for another leg.
 const LOGIN_ACK: u8 = 0xad;
+
+const SSPI: u8 = 0xed;
+
+const FEDERATED: u8 = 0xee;
+
+/// The type of the change that names another server (MS-TDS 2.2.7.9).
+const ROUTING: u8 = 20;
+
+/// The most characters of that server's name.
+const MOST_NAMED: usize = 255;
 
 /// What a login acknowledges: no feature is asked for.
 pub const FEATURES: Features = Features {
@@ -34,10 +45,31 @@ pub enum Dialed {
     More,
     /// It is let in: the packet size, and the data of the answer.
     In(PacketSize, Vec<u8>),
+    /// The server asks for another leg: the data of that.
+    Leg(Vec<u8>),
+    /// It is to go to another server.
+    Routed(Target),
     /// It isn't: the data of the answer.
     Refused(Vec<u8>),
     /// The server said what isn't spoken here, or demands encryption.
     Wrong,
+}
+
+/// A server's name or address, and its port.
+#[derive(Debug, Drop)]
+pub struct Target {
+    pub host: String,
+    pub port: u16,
+}
+
+/// What the answer has said so far.
+#[derive(Clone, Copy, Debug)]
+struct Heard {
+    is_in: bool,
+    asks_for_leg: bool,
+    size: PacketSize,
+    /// Where another server's name stands.
+    routed: Option<Place>,
 }
 
 /// A connection's login.
@@ -49,8 +81,12 @@ pub struct Dial {
     message: Vec<u8>,
     answer: Vec<u8>,
     is_prepared: bool,
-    is_in: bool,
-    size: PacketSize,
+    heard: Heard,
+    /// Whether the application was asked for another leg: the login can't be begun anew then.
+    pub has_legs: bool,
+    pub way: Way,
+    /// The server's process for it, as the newest packet says.
+    pub spid: u16,
 }
 
 impl Dial {
@@ -58,6 +94,7 @@ impl Dial {
     pub fn new(
         alloc: Global,
         message: &[u8],
+        way: Way,
         out: &mut Vec<u8>,
     ) -> Result<Option<Dial>, AllocError> {
         let (Some(most), Some(size)) = (PacketSize::new(32_767), PacketSize::new(4_096)) else {
@@ -71,8 +108,15 @@ impl Dial {
             message: message.to_vec(alloc)?,
             answer: Vec::new(alloc),
             is_prepared: false,
-            is_in: false,
-            size,
+            heard: Heard {
+                is_in: false,
+                asks_for_leg: false,
+                size,
+                routed: None,
+            },
+            has_legs: false,
+            way,
+            spid: 0,
         }))
     }
 
@@ -85,16 +129,12 @@ impl Dial {
             return Ok((count, Dialed::More));
         };
         let ends = packet.header.status.ends();
+        self.spid = packet.header.spid;
         if self.answer.len() <= MOST {
             self.answer.extend_from_slice(packet.data)?;
         }
         if self.is_prepared {
-            look(
-                &mut self.walker,
-                packet.data,
-                &mut self.is_in,
-                &mut self.size,
-            );
+            look(&mut self.walker, packet.data, &mut self.heard);
         }
         self.reader.done();
         if !ends {
@@ -107,13 +147,7 @@ impl Dial {
     fn ended(&mut self, out: &mut Vec<u8>) -> Result<Dialed, AllocError> {
         let answer = std::mem::replace(&mut self.answer, Vec::new(self.alloc));
         if self.is_prepared {
-            return Ok(if answer.len() > MOST {
-                Dialed::Wrong
-            } else if self.is_in {
-                Dialed::In(self.size, answer)
-            } else {
-                Dialed::Refused(answer)
-            });
+            return self.judged(answer);
         }
         if demands_encryption(&answer) {
             return Ok(Dialed::Wrong);
@@ -122,10 +156,33 @@ impl Dial {
         put_login(out, &self.message)?;
         Ok(Dialed::More)
     }
+
+    /// What the server has answered.
+    fn judged(&mut self, answer: Vec<u8>) -> Result<Dialed, AllocError> {
+        if answer.len() > MOST {
+            return Ok(Dialed::Wrong);
+        }
+        if let Some(place) = self.heard.routed {
+            return match target_of(self.alloc, bytes_at(&answer, place))? {
+                Some(target) => Ok(Dialed::Routed(target)),
+                None => Ok(Dialed::Wrong),
+            };
+        }
+        if self.heard.is_in {
+            return Ok(Dialed::In(self.heard.size, answer));
+        }
+        if self.heard.asks_for_leg {
+            self.heard.asks_for_leg = false;
+            self.has_legs = true;
+            self.walker.restart();
+            return Ok(Dialed::Leg(answer));
+        }
+        Ok(Dialed::Refused(answer))
+    }
 }
 
-/// Looks for the login's acknowledgement and for the packet size.
-fn look(walker: &mut Walker, data: &[u8], is_in: &mut bool, size: &mut PacketSize) {
+/// Looks for the login's acknowledgement and for the packet size, for another leg, and for another server.
+fn look(walker: &mut Walker, data: &[u8], heard: &mut Heard) {
     let mut rest = data;
     for _ in 0..data.len() {
         if rest.is_empty() {
@@ -137,12 +194,61 @@ fn look(walker: &mut Walker, data: &[u8], is_in: &mut bool, size: &mut PacketSiz
         let (_, others) = rest.split_at(fed.count);
         rest = others;
         if let Some(token) = fed.token {
-            *is_in = *is_in || token.kind == LOGIN_ACK;
+            heard.is_in = heard.is_in || token.kind == LOGIN_ACK;
+            heard.asks_for_leg = heard.asks_for_leg
+                || token.kind == SSPI
+                || token.kind == FEDERATED;
             if let Some(told) = size_told(token.told) {
-                *size = told;
+                heard.size = told;
+            }
+            if let Some(place) = routing_told(token.told) {
+                heard.routed = Some(place);
             }
         }
     }
+}
+
+/// Where a token names another server.
+fn routing_told(told: Told) -> Option<Place> {
+    match told {
+        Told::Change(
+            Change {
+                kind: ROUTING,
+                value: ChangeValue::Values { new, .. },
+            },
+        ) => Some(new),
+        _ => None,
+    }
+}
+
+/// The bytes of an answer that stand at this place.
+fn bytes_at(answer: &[u8], place: Place) -> &[u8] {
+    let (Ok(start), Ok(length)) = (usize::try_from(place.start), usize::try_from(place.length))
+    else {
+        return &[];
+    };
+    match answer.get(start..start.saturating_add(length)) {
+        Some(bytes) => bytes,
+        None => &[],
+    }
+}
+
+/// The server that a routing names: protocol 0 (TCP), the port, and the name behind the count of its units.
+fn target_of(alloc: Global, value: &[u8]) -> Result<Option<Target>, AllocError> {
+    let [0, low, high, _, _, name @ ..] = value else {
+        return Ok(None);
+    };
+    let mut host = String::new(alloc);
+    for unit in name.chunks_exact(2).take(MOST_NAMED) {
+        match unit {
+            [low @ 0x21..=0x7e, 0] => host.push(char::from(*low))?,
+            _ => return Ok(None),
+        }
+    }
+    Ok(Some(Target {
+        host,
+        port: u16::from_le_bytes([*low, *high]),
+    }))
 }
 
 /// The packet size that a token tells.

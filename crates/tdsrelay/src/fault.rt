@@ -17,8 +17,11 @@ pub enum RelayFault {
     /// The word that stands for an address.
     #[error("error: {0:?} isn't an IP address, a colon and a port, as 127.0.0.1:1433")]
     Address(String),
-    #[error("error: --most takes 1 to 1024 connections")]
-    Most,
+    /// The word whose count can't be, and what may be.
+    #[error("error: --{0} takes {1} to {2} connections")]
+    Count(&'static str, usize, usize),
+    #[error("error: there are more than 8 servers")]
+    Servers,
     /// What is wrong with the configuration file.
     #[error("error: {0}")]
     Config(String),

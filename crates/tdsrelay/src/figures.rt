@@ -22,6 +22,12 @@ pub struct Figures {
     held: u64,
     draining: u64,
     cleaning: u64,
+    /// Groups that are shared, that aren't, and that are paused.
+    shared: u64,
+    alone: u64,
+    paused: u64,
+    /// The seconds that an application has waited which has waited longest.
+    longest_wait: u64,
 }
 
 /// A figure: what it is of, its name, and how many.
@@ -44,13 +50,35 @@ impl Figures {
             held: 0,
             draining: 0,
             cleaning: 0,
+            shared: 0,
+            alone: 0,
+            paused: 0,
+            longest_wait: 0,
         }
+    }
+
+    /// One more group, which is shared or not, and paused or not.
+    pub fn add_group(&mut self, is_alone: bool, is_paused: bool) {
+        let count = if is_alone {
+            &mut self.alone
+        } else {
+            &mut self.shared
+        };
+        *count = count.saturating_add(1);
+        if is_paused {
+            self.paused = self.paused.saturating_add(1);
+        }
+    }
+
+    /// An application has waited for so many seconds.
+    pub fn waited(&mut self, seconds: u64) {
+        self.longest_wait = self.longest_wait.max(seconds);
     }
 
     /// One more socket, which is at this.
     pub fn add(&mut self, whose: Whose, at: At) {
         let count = match (whose, at) {
-            (Whose::Gate | Whose::Judged, _) => &mut self.logging_in,
+            (Whose::Gate | Whose::Judged(_) | Whose::Leg(_), _) => &mut self.logging_in,
             (Whose::First(_) | Whose::Opening(..), _) => &mut self.opening,
             (Whose::Application(..), At::Quiet) => &mut self.quiet,
             (Whose::Application(..), At::Holding) => &mut self.holding,
@@ -67,7 +95,7 @@ impl Figures {
     }
 
     /// Applications and connections, by where they are.
-    fn there(&self) -> [Figure; 11] {
+    fn there(&self) -> [Figure; 15] {
         [
             ("applications", "logging_in", self.logging_in),
             ("applications", "quiet", self.quiet),
@@ -80,11 +108,15 @@ impl Figures {
             ("connections", "held", self.held),
             ("connections", "draining", self.draining),
             ("connections", "cleaning", self.cleaning),
+            ("groups", "shared", self.shared),
+            ("groups", "not_shared", self.alone),
+            ("groups", "paused", self.paused),
+            ("longest", "wait_seconds", self.longest_wait),
         ]
     }
 
     /// What was done since the relay began.
-    fn counted(&self) -> [Figure; 14] {
+    fn counted(&self) -> [Figure; 19] {
         [
             ("applications", "let_in", self.counts.let_in),
             ("applications", "refused", self.counts.refused),
@@ -100,6 +132,11 @@ impl Figures {
             ("limits", "hold", self.counts.late_holds),
             ("limits", "idle", self.counts.idle),
             ("limits", "life", self.counts.old),
+            ("servers", "failed", self.counts.away),
+            ("servers", "routed", self.counts.routed),
+            ("found", "applications", self.counts.found.applications),
+            ("found", "servers", self.counts.found.servers),
+            ("found", "relay", self.counts.found.relay),
         ]
     }
 }

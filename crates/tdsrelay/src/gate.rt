@@ -3,8 +3,8 @@
 use std::alloc::{AllocError, Global};
 use tds_login::{Login, LoginAnswer, put_answer};
 
-/// The most bytes of LOGIN7 that are taken.
-const MOST: usize = 16_384;
+/// The most bytes of LOGIN7 (MS-TDS 2.2.6.4).
+const MOST: usize = 131_071;
 
 /// What came of bytes.
 #[derive(Debug, Drop)]

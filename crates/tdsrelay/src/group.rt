@@ -22,6 +22,13 @@ pub enum Stage {
     Open(Relay, Vec<u8>),
 }
 
+/// The two ends of a group that isn't shared, by their sockets: each ends with the other one.
+#[derive(Clone, Copy, Debug)]
+pub struct Pair {
+    pub application: usize,
+    pub connection: usize,
+}
+
 /// A group.
 #[derive(Drop)]
 pub struct Group {
@@ -31,9 +38,53 @@ pub struct Group {
     pub login: Vec<u8>,
     pub stage: Stage,
     pub size: PacketSize,
+    /// The user that its login names.
+    pub user: String,
+    /// The most connections.
+    pub most: usize,
+    /// The two ends, where it isn't shared.
+    pub pair: Option<Pair>,
+    /// Whether no application of it is lent a connection for now.
+    pub is_paused: bool,
+    /// The millisecond in which its free connections were checked, and how many requests of the core's
+    /// count were none of an application's but such a check.
+    pub checked: u64,
+    pub checks: u64,
+}
+
+impl Pair {
+    /// An application whose connection isn't known yet.
+    pub fn of(application: usize) -> Pair {
+        Pair {
+            application,
+            connection: usize::MAX,
+        }
+    }
 }
 
 impl Group {
+    /// A group whose first login the server judges, which these wait for.
+    pub fn new(
+        key: Vec<u8>,
+        login: Vec<u8>,
+        user: String,
+        waiting: Vec<usize>,
+        size: PacketSize,
+    ) -> Group {
+        Group {
+            key,
+            login,
+            stage: Stage::Judged(waiting),
+            size,
+            user,
+            most: 1,
+            pair: None,
+            is_paused: false,
+            checked: 0,
+            checks: 0,
+        }
+    }
+
     /// Its relay, once there is one.
     pub fn relay(&mut self) -> Option<&mut Relay> {
         match &mut self.stage {
@@ -46,7 +97,19 @@ impl Group {
     pub fn counts(&self) -> Counts {
         match &self.stage {
             Stage::Judged(_) => NOTHING,
-            Stage::Open(relay, _) => relay.counts(),
+            Stage::Open(relay, _) => {
+                let mut counts = relay.counts();
+                counts.requests = counts.requests.saturating_sub(self.checks);
+                counts
+            }
+        }
+    }
+
+    /// What it logged in by is forgotten: nobody logs in by it again.
+    pub fn forget_login(&mut self) {
+        self.login.clear();
+        if let Stage::Open(_, answer) = &mut self.stage {
+            answer.clear();
         }
     }
 
@@ -58,11 +121,29 @@ impl Group {
         }
     }
 
+    /// How many applications of it are logged in.
+    pub fn applications(&self) -> usize {
+        match &self.stage {
+            Stage::Judged(_) => 0,
+            Stage::Open(relay, _) => relay.applications(),
+        }
+    }
+
+    /// How many connections it has.
+    pub fn connections(&self) -> usize {
+        match &self.stage {
+            Stage::Judged(_) => 0,
+            Stage::Open(relay, _) => relay.connections(),
+        }
+    }
+
     /// Whether nobody is left of it.
     pub fn is_deserted(&self) -> bool {
         match &self.stage {
             Stage::Judged(_) => false,
-            Stage::Open(relay, _) => relay.applications() == 0 && relay.connections() == 0,
+            Stage::Open(relay, _) => {
+                relay.applications() == 0 && relay.connections() == 0 && !self.is_paused
+            }
         }
     }
 
@@ -75,6 +156,7 @@ impl Group {
         answer: Vec<u8>,
     ) -> Result<(), AllocError> {
         self.size = size;
+        self.most = most;
         self.stage = Stage::Open(Relay::new(alloc, most, size, FEATURES)?, answer);
         Ok(())
     }

@@ -1,14 +1,22 @@
 //! The loop over all sockets: applications on the one side, connections to the server on the other.
+mod changing;
+mod checking;
+mod dialing;
+mod judging;
 mod logins;
 mod orders;
+mod pairs;
+mod reaching;
 mod telling;
 mod watching;
 
 use crate::counts::{Counts, raise};
 use crate::gate::Gate;
 use crate::group::Group;
+use crate::latency::Latency;
 use crate::link::{Came, Link};
-use crate::socket::{At, Role, Seen, Socket, Whose};
+use crate::servers::MOST as MOST_SERVERS;
+use crate::socket::{Role, Socket, Whose};
 use crate::stats::Asker;
 use crate::words::Asked;
 use mio::net::{TcpListener, TcpStream};
@@ -16,11 +24,14 @@ use mio::unix::SourceFd;
 use mio::{Events, Interest, Poll, Token};
 use slab::Slab;
 use std::alloc::Global;
+use std::fs::Files;
 use std::io::{self, Write};
 use std::mem;
 use std::net::{Net, SocketAddr};
 use std::rt::Clock;
 use std::time::{Duration, Instant};
+use tds_judge::Finding;
+use tds_relay::Place;
 
 /// The token of the listener.
 const LISTENER: Token = Token(usize::MAX);
@@ -47,6 +58,8 @@ const ROUND: usize = 256;
 #[derive(Drop)]
 pub struct House<W: Write + Drop> {
     alloc: Global,
+    /// The words that it was called with, by which its settings are read again.
+    words: Vec<String>,
     asked: Asked,
     poll: Poll,
     listener: TcpListener,
@@ -57,12 +70,22 @@ pub struct House<W: Write + Drop> {
     /// How many sockets there were.
     opened: u64,
     counts: Counts,
+    /// How long requests took, and logins of connections.
+    requests: Latency,
+    logins: Latency,
     stats: Option<TcpListener>,
+    /// What was found and isn't told yet.
+    findings: Vec<Finding>,
+    /// The sockets of those who ask that the settings are read again.
+    reloads: Vec<usize>,
+    /// For each server that failed, the millisecond up to which another one is preferred.
+    away: [u64; MOST_SERVERS],
     start: Instant,
-    /// The millisecond of this round, and of the last look at time limits.
+    /// The millisecond of this round, its microsecond, and the millisecond of the last look at time limits.
     now: u64,
+    precise: u64,
     swept: u64,
-    /// The millisecond in which standard input ended, with which it ends.
+    /// The millisecond from which it ends in order.
     ending: Option<u64>,
     log: W,
 }
@@ -72,6 +95,7 @@ impl<W: Write + Drop> House<W> {
     pub fn new<R: Net + Clock>(
         rt: &R,
         alloc: Global,
+        words: Vec<String>,
         asked: Asked,
         log: W,
     ) -> io::Result<House<W>> {
@@ -82,6 +106,7 @@ impl<W: Write + Drop> House<W> {
             .register(&mut listener, LISTENER, Interest::READABLE)?;
         Ok(House {
             alloc,
+            words,
             asked,
             poll,
             listener,
@@ -90,9 +115,15 @@ impl<W: Write + Drop> House<W> {
             waiting: Vec::new(alloc),
             opened: 0,
             counts: Counts::none(),
+            requests: Latency::none(),
+            logins: Latency::none(),
             stats: None,
+            findings: Vec::new(alloc),
+            reloads: Vec::new(alloc),
+            away: [0; MOST_SERVERS],
             start,
             now: 0,
+            precise: 0,
             swept: 0,
             ending: None,
             log,
@@ -126,7 +157,7 @@ impl<W: Write + Drop> House<W> {
 
     /// Relays whoever comes, until it has ended with its standard input, or the system refuses to go on.
     /// Answers how many applications were closed in the middle then.
-    pub fn serve<R: Net + Clock>(&mut self, rt: &R) -> io::Result<usize> {
+    pub fn serve<R: Net + Clock + Files>(&mut self, rt: &R) -> io::Result<usize> {
         let mut events = Events::with_capacity(self.alloc, ROUND)?;
         for _ in 0..u64::MAX {
             self.round(rt, &mut events)?;
@@ -138,17 +169,23 @@ impl<W: Write + Drop> House<W> {
     }
 
     /// Waits for the system, and not at all where a socket has more to do; then each of them has a turn.
-    fn round<R: Net + Clock>(&mut self, rt: &R, events: &mut Events<Global>) -> io::Result<()> {
+    fn round<R: Net + Clock + Files>(
+        &mut self,
+        rt: &R,
+        events: &mut Events<Global>,
+    ) -> io::Result<()> {
         let longest = if self.waiting.is_empty() { SWEEP } else { 0 };
         self.poll
             .poll(events, Some(Duration::from_millis(longest)))?;
-        let now = self.start.elapsed(rt)?.as_millis();
-        self.now = u64::try_from(now).unwrap_or(u64::MAX);
+        let now = self.start.elapsed(rt)?.as_micros();
+        self.precise = u64::try_from(now).unwrap_or(u64::MAX);
+        self.now = self.precise / 1000;
         self.hear(events)?;
         let turns = mem::replace(&mut self.waiting, Vec::new(self.alloc));
         for key in turns.iter() {
             self.turn(rt, *key)?;
         }
+        self.reload(rt)?;
         if self.now >= self.swept.saturating_add(SWEEP) {
             self.swept = self.now;
             self.accept()?;
@@ -166,8 +203,8 @@ impl<W: Write + Drop> House<W> {
             } else if token == ASKERS {
                 self.accept_askers()?;
             } else if token == INPUT {
-                if event.is_read_closed() && self.ending.is_none() {
-                    self.ending = Some(self.now);
+                if event.is_read_closed() {
+                    self.end_soon();
                 }
             } else {
                 let readable = event.is_readable() || event.is_read_closed() || event.is_error();
@@ -175,6 +212,13 @@ impl<W: Write + Drop> House<W> {
             }
         }
         Ok(())
+    }
+
+    /// It is to end in order.
+    fn end_soon(&mut self) {
+        if self.ending.is_none() {
+            self.ending = Some(self.now);
+        }
     }
 
     /// The system reported a socket, or it has more to do: it is to have a turn.
@@ -235,20 +279,10 @@ impl<W: Write + Drop> House<W> {
             return Ok(None);
         }
         self.opened = self.opened.saturating_add(1);
-        let socket = Socket {
-            number: self.opened,
-            link: Link::new(stream),
-            role,
-            out: Vec::new(self.alloc),
-            who: None,
-            born: self.now,
-            seen: Seen {
-                at: At::Other,
-                mark: 0,
-                since: self.now,
-            },
-        };
+        let out = Vec::new(self.alloc);
+        let socket = Socket::new(self.opened, Link::new(stream), role, out, self.now);
         let _ = self.sockets.insert(socket).is_ok();
+        self.begin_judging(key)?;
         Ok(Some(key))
     }
 
@@ -274,7 +308,9 @@ impl<W: Write + Drop> House<W> {
             Err(_) => self.closed(rt, key),
             Ok(Came::Bytes(count)) => {
                 self.report(key, false)?;
-                self.came(rt, key, &buffer[..count.min(PIECE)])
+                let piece = &buffer[..count.min(PIECE)];
+                self.judge(key, piece)?;
+                self.came(rt, key, piece)
             }
         }
     }
@@ -290,12 +326,9 @@ impl<W: Write + Drop> House<W> {
             return 0;
         };
         match socket.whose() {
-            Whose::Gate | Whose::Judged | Whose::First(_) | Whose::Opening(..) => PIECE,
-            Whose::Asker => PIECE,
-            Whose::Application(group, key) => match relay_of(groups, group) {
-                Some(relay) => relay.room(key),
-                None => PIECE,
-            },
+            Whose::Gate | Whose::Judged(_) | Whose::First(_) | Whose::Opening(..) => PIECE,
+            Whose::Asker | Whose::Leg(_) => PIECE,
+            Whose::Application(group, key) => room_of(groups, group, key),
             Whose::Connection(group, number) => match relay_of(groups, group) {
                 Some(relay) => relay.room_on(number),
                 None => PIECE,
@@ -314,6 +347,21 @@ impl<W: Write + Drop> House<W> {
             let _ = writeln!(self.log, "{what} {number} {words}");
         }
     }
+}
+
+/// How many bytes of an application may be read: none where its group is paused and it holds nothing.
+fn room_of(groups: &mut Slab<Group>, group: usize, key: usize) -> usize {
+    let Some(group) = groups.get_mut(group) else {
+        return PIECE;
+    };
+    let is_paused = group.is_paused;
+    let Some(relay) = group.relay() else {
+        return PIECE;
+    };
+    if is_paused && matches!(relay.place_of(key), Some(Place::Quiet)) {
+        return 0;
+    }
+    relay.room(key)
 }
 
 /// The relay of a group, once there is one.

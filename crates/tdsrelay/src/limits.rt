@@ -17,6 +17,10 @@ pub struct Limits {
     pub hold: u64,
     /// What is still open once the relay is to end.
     pub drain: u64,
+    /// From one check of free connections to the next.
+    pub check: u64,
+    /// For how long others are preferred to a server that has failed.
+    pub away: u64,
 }
 
 /// The limits where no word says them.
@@ -28,6 +32,8 @@ pub const USUAL: Limits = Limits {
     life: 3600,
     hold: 0,
     drain: 30,
+    check: 30,
+    away: 10,
 };
 
 /// The most seconds that a word may say: a week.

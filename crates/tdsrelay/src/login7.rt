@@ -2,6 +2,7 @@
 
 ghost use Rattle.std.specs.Prelude.{◌≤◌, length};
 
+use crate::features::is_federated;
 use std::alloc::{AllocError, Global};
 
 /// Where the fixed fields end, and the texts may begin.
@@ -13,24 +14,29 @@ const VERSION_TO_PROGRAM: (usize, usize) = (4, 16);
 
 const FLAGS_TO_LANGUAGE: (usize, usize) = (24, 36);
 
-/// The second byte of flags, and its bit for a login by the operating system's user (SSPI).
+/// The second byte of flags, and its bit for a login by the operating system's user (SSPI). Where the
+/// first leg of that stands.
 const FLAGS_2: usize = 25;
 
 const INTEGRATED: u8 = 0x80;
 
+const FIRST_LEG: usize = 78;
+
 /// The third, and its bits for a new password and for features.
-const FLAGS_3: usize = 27;
+pub const FLAGS_3: usize = 27;
 
 const NEW_PASSWORD: u8 = 0x01;
 
-const FEATURES: u8 = 0x10;
+pub const FEATURES: u8 = 0x10;
 
 /// The places of the texts that make a session: user, password, application, server, library, language,
 /// database. The host's, at 36, may differ.
 const TEXTS: [usize; 7] = [40, 44, 48, 52, 60, 64, 68];
 
-/// The places of the host's name and of the application's.
+/// The places of the host's name, the user's, and the application's.
 const HOST: usize = 36;
+
+const USER: usize = 40;
 
 const PROGRAM: usize = 48;
 
@@ -45,14 +51,17 @@ const ATTACHED: usize = 82;
 pub enum Kind {
     /// Those with an equal key may share connections.
     Shared(Vec<u8>),
-    /// It can't be shared, and this is why.
-    Alone(&'static str),
+    /// It has a connection of its own, which ends with it.
+    Alone,
+    /// It can't be a login, and this is why.
+    Wrong(&'static str),
 }
 
 /// Who an application says that it is, in letters that need no escape anywhere.
 #[derive(Debug, Drop)]
 pub struct Who {
     pub host: String,
+    pub user: String,
     pub program: String,
 }
 
@@ -60,6 +69,7 @@ pub struct Who {
 pub fn who_of(alloc: Global, message: &[u8]) -> Result<Who, AllocError> {
     Ok(Who {
         host: name_at(alloc, message, HOST)?,
+        user: name_at(alloc, message, USER)?,
         program: name_at(alloc, message, PROGRAM)?,
     })
 }
@@ -88,28 +98,16 @@ fn letter(byte: u8) -> char {
     }
 }
 
-/// Leaves out what the relay doesn't speak: features.
-pub fn without_features(message: &mut [u8]) {
-    if let Some(flags) = message.get_mut(FLAGS_3) {
-        *flags &= !FEATURES;
-    }
-}
-
 /// What this login is.
 pub fn kind_of(alloc: Global, message: &[u8]) -> Result<Kind, AllocError> {
     if message.len() < FIXED {
-        return Ok(Kind::Alone("The login is too short."));
+        return Ok(Kind::Wrong("The login is too short."));
     }
-    if message[FLAGS_2] & INTEGRATED != 0 {
-        return Ok(Kind::Alone(
-            "The relay doesn't share logins of the operating system's users (SSPI).",
-        ));
-    }
-    if message[FLAGS_3] & NEW_PASSWORD != 0 {
-        return Ok(Kind::Alone("The relay doesn't share logins that change a password."));
-    }
-    if number_at(message, ATTACHED + 2) > 0 {
-        return Ok(Kind::Alone("The relay doesn't share logins that attach a file."));
+    let is_integrated = message[FLAGS_2] & INTEGRATED != 0 || number_at(message, FIRST_LEG + 2) > 0;
+    let changes_password = message[FLAGS_3] & NEW_PASSWORD != 0;
+    let attaches = number_at(message, ATTACHED + 2) > 0;
+    if is_integrated || changes_password || attaches || is_federated(message) {
+        return Ok(Kind::Alone);
     }
     key_of(alloc, message)
 }
@@ -125,7 +123,7 @@ fn key_of(alloc: Global, message: &[u8]) -> Result<Kind, AllocError>
     key.extend_from_slice(&message[from..to])?;
     for place in TEXTS.iter() {
         let Some(text) = text_at(message, *place) else {
-            return Ok(Kind::Alone("A text of the login stands outside of it."));
+            return Ok(Kind::Wrong("A text of the login stands outside of it."));
         };
         key.extend_from_slice(&text.len().to_le_bytes())?;
         key.extend_from_slice(text)?;
@@ -144,7 +142,7 @@ fn text_at(message: &[u8], place: usize) -> Option<&[u8]> {
 }
 
 /// The number of two bytes that stands here, the lower one first.
-fn number_at(message: &[u8], place: usize) -> usize {
+pub fn number_at(message: &[u8], place: usize) -> usize {
     match message.get(place..place.saturating_add(2)) {
         Some([low, high]) => usize::from(*low) + 256 * usize::from(*high),
         _ => 0,

@@ -6,13 +6,18 @@ mod config;
 mod counts;
 mod dial;
 mod fault;
+mod features;
 mod figures;
 mod gate;
 mod group;
 mod house;
+mod judged;
+mod latency;
+mod leg;
 mod limits;
 mod link;
 mod login7;
+mod servers;
 mod socket;
 mod stats;
 mod words;
@@ -49,7 +54,7 @@ fn answer(rt: &HostRuntime, fault: &RelayFault) -> u8 {
 fn run(rt: &HostRuntime) -> Result<(), RelayFault> {
     let words = given_words(rt).map_err(RelayFault::of_words)?;
     let asked = read_words(rt, rt.alloc(), words.as_slice())?;
-    let mut house = match House::new(rt, rt.alloc(), asked, rt.stderr()) {
+    let mut house = match House::new(rt, rt.alloc(), words, asked, rt.stderr()) {
         Ok(house) => house,
         Err(error) => return Err(RelayFault::Listen(asked.listen, error)),
     };
@@ -69,7 +74,9 @@ fn run(rt: &HostRuntime) -> Result<(), RelayFault> {
 /// Says where it serves, serves, and says how many applications it closed in the middle once it ends.
 fn serve(rt: &HostRuntime, mut house: House<Stderr>, asked: Asked) -> Result<(), RelayFault> {
     let address = house.address().map_err(RelayFault::Refused)?;
-    let _ = eprintln!(rt; "relaying {address} to {}", asked.server);
+    if let Some(server) = asked.servers.at(0) {
+        let _ = eprintln!(rt; "relaying {address} to {server}");
+    }
     let open = house.serve(rt).map_err(RelayFault::Refused)?;
     let _ = eprintln!(rt; "ended: applications {open}");
     Ok(())

@@ -2,17 +2,23 @@
 
 use crate::dial::Dial;
 use crate::gate::Gate;
+use crate::judged::Judged;
+use crate::leg::Leg;
 use crate::link::Link;
 use crate::login7::Who;
+use crate::servers::Way;
 use crate::stats::Asker;
+use std::io;
+use tds_judge::Finding;
 
 /// What a socket is.
 #[derive(Drop)]
 pub enum Role {
     /// An application that logs in.
     Gate(Gate),
-    /// An application whose login the server judges.
+    /// An application whose login the server judges, and one that is asked for another leg of it.
     Judged(usize),
+    Leg(usize, Leg),
     /// The application of this key in a group.
     Application(usize, usize),
     /// The first connection of a group, which logs in.
@@ -30,13 +36,23 @@ pub enum Role {
 #[derive(Clone, Copy)]
 pub enum Whose {
     Gate,
-    Judged,
+    Judged(usize),
+    Leg(usize),
     Application(usize, usize),
     First(usize),
     Opening(usize, u64),
     Connection(usize, u64),
     Asker,
     Closing,
+}
+
+/// What is known of a socket behind its end: what it was, and how far its login had come.
+#[derive(Clone, Copy)]
+pub struct Gone {
+    pub whose: Whose,
+    pub way: Option<Way>,
+    /// Whether that login can't be begun anew.
+    pub has_legs: bool,
 }
 
 /// What a socket was seen to be at, and since when.
@@ -84,24 +100,137 @@ pub struct Socket {
     /// The millisecond in which it came, or was logged in.
     pub born: u64,
     pub seen: Seen,
+    /// Since when a connection is free that is being checked.
+    pub checked: Option<u64>,
+    /// A connection's process at the server, and the server's place in the list.
+    pub spid: u16,
+    pub server: usize,
+    /// An application's requests so far, and the microsecond in which the one began that has no answer yet.
+    pub begun: u64,
+    pub asked: Option<u64>,
+    /// Where judging is asked for.
+    pub judged: Option<Judged>,
 }
 
 impl Socket {
-    /// It is seen to be at this, in this millisecond.
-    pub fn see(&mut self, at: At, mark: u64, now: u64) {
-        if self.seen.at != at || self.seen.mark != mark {
-            self.seen = Seen {
-                at,
-                mark,
+    pub fn new(number: u64, link: Link, role: Role, out: Vec<u8>, now: u64) -> Socket {
+        Socket {
+            number,
+            link,
+            role,
+            out,
+            who: None,
+            born: now,
+            seen: Seen {
+                at: At::Other,
+                mark: 0,
                 since: now,
-            };
+            },
+            checked: None,
+            spid: 0,
+            server: 0,
+            begun: 0,
+            asked: None,
+            judged: None,
+        }
+    }
+
+    /// It is seen to be at this, in this millisecond. A check doesn't end the time of a free connection.
+    pub fn see(&mut self, at: At, mark: u64, now: u64) {
+        if self.seen.at == at && self.seen.mark == mark {
+            return;
+        }
+        let since = match (at, self.checked) {
+            (At::Free, Some(since)) => since,
+            _ => now,
+        };
+        if at != At::Cleaning {
+            self.checked = None;
+        }
+        self.seen = Seen { at, mark, since };
+    }
+
+    /// An application has begun so many requests, the newest one now where they are more than before.
+    pub fn asks(&mut self, begun: u64, precise: u64) {
+        if begun != self.begun {
+            self.begun = begun;
+            self.asked = Some(precise);
+        }
+    }
+
+    /// Sends what the system takes of these bytes, and answers how many.
+    pub fn send(
+        &mut self,
+        bytes: &[u8],
+        time: u64,
+        findings: &mut Vec<Finding>,
+    ) -> io::Result<usize> {
+        let count = self.link.send(bytes)?.min(bytes.len());
+        if let Some(judged) = &mut self.judged {
+            judged.take(false, time, &bytes[..count], findings)?;
+        }
+        Ok(count)
+    }
+
+    /// Sends what the system takes of what a login has to say. Whether that is all.
+    pub fn send_out(&mut self, time: u64, findings: &mut Vec<Finding>) -> io::Result<bool> {
+        let Socket {
+            link,
+            out,
+            judged,
+            ..
+        } = self;
+        if out.is_empty() {
+            return Ok(true);
+        }
+        let count = link.send(out.as_slice())?.min(out.len());
+        if let Some(judged) = judged {
+            judged.take(false, time, &out[..count], findings)?;
+        }
+        let left = out.len() - count;
+        out.copy_within(count.., 0);
+        out.truncate(left);
+        Ok(left == 0)
+    }
+
+    /// The login of a connection, while it goes on.
+    pub fn dial(&self) -> Option<&Dial> {
+        match &self.role {
+            Role::First(_, dial) => Some(dial),
+            Role::Opening(_, _, dial) => Some(dial),
+            _ => None,
+        }
+    }
+
+    /// It is logged in, and is this from now on.
+    pub fn becomes(&mut self, role: Role, now: u64) {
+        let (spid, server) = match self.dial() {
+            Some(dial) => (dial.spid, dial.way.server),
+            None => (0, 0),
+        };
+        self.spid = spid;
+        self.server = server;
+        self.role = role;
+        self.born = now;
+    }
+
+    pub fn gone(&self) -> Gone {
+        let (way, has_legs) = match self.dial() {
+            Some(dial) => (Some(dial.way), dial.has_legs),
+            None => (None, false),
+        };
+        Gone {
+            whose: self.whose(),
+            way,
+            has_legs,
         }
     }
 
     pub fn whose(&self) -> Whose {
         match &self.role {
             Role::Gate(_) => Whose::Gate,
-            Role::Judged(_) => Whose::Judged,
+            Role::Judged(group) => Whose::Judged(*group),
+            Role::Leg(group, _) => Whose::Leg(*group),
             Role::Application(group, key) => Whose::Application(*group, *key),
             Role::First(group, _) => Whose::First(*group),
             Role::Opening(group, number, _) => Whose::Opening(*group, *number),

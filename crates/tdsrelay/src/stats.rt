@@ -18,6 +18,13 @@ pub enum Page {
     Metrics,
     /// All that is there of the group of this number is to be closed.
     Kill(u64),
+    /// The group of this number is to be paused, and to go on.
+    Pause(u64),
+    Resume(u64),
+    /// The settings are to be read again.
+    Reload,
+    /// The relay is to end in order.
+    Drain,
     /// Nothing that is there.
     Unknown,
     /// No request of HTTP.
@@ -65,29 +72,53 @@ fn page_of(method: &[u8], path: &[u8], is_near: bool) -> Page {
             b"/metrics" => Page::Metrics,
             _ => Page::Unknown,
         },
-        b"POST" if is_near => match path.strip_prefix(b"/kill/") {
-            Some(number) => killed(number),
-            None => Page::Unknown,
-        },
+        b"POST" if is_near => ordered(path),
         _ => Page::Unknown,
     }
 }
 
-/// The number of the group that is to be closed.
-fn killed(digits: &[u8]) -> Page {
+/// What is to be changed.
+fn ordered(path: &[u8]) -> Page {
+    match path {
+        b"/reload" => return Page::Reload,
+        b"/drain" => return Page::Drain,
+        _ => {}
+    }
+    if let Some(group) = group_behind(path, b"/kill/") {
+        return Page::Kill(group);
+    }
+    if let Some(group) = group_behind(path, b"/pause/") {
+        return Page::Pause(group);
+    }
+    match group_behind(path, b"/resume/") {
+        Some(group) => Page::Resume(group),
+        None => Page::Unknown,
+    }
+}
+
+/// The number of a group that stands behind this.
+fn group_behind(path: &[u8], front: &[u8]) -> Option<u64> {
+    match path.strip_prefix(front) {
+        Some(digits) => number_of(digits),
+        None => None,
+    }
+}
+
+/// A group's number.
+fn number_of(digits: &[u8]) -> Option<u64> {
     let mut number: u64 = 0;
     if digits.is_empty() || digits.len() > 18 {
-        return Page::Unknown;
+        return None;
     }
     for digit in digits {
         if !digit.is_ascii_digit() {
-            return Page::Unknown;
+            return None;
         }
         number = number
             .saturating_mul(10)
             .saturating_add(u64::from(*digit - b'0'));
     }
-    Page::Kill(number)
+    Some(number)
 }
 
 /// Appends an answer with this body.

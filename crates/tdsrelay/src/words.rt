@@ -3,6 +3,7 @@
 use crate::config::Config;
 use crate::fault::RelayFault;
 use crate::limits::{Limits, MOST as MOST_SECONDS, USUAL as USUAL_LIMITS};
+use crate::servers::Servers;
 use clap::{Arg, ArgAction, ArgMatches, Command};
 use std::alloc::{AllocError, Global};
 use std::fs::Files;
@@ -14,8 +15,21 @@ const USUAL: usize = 16;
 /// The most connections of a group.
 const MOST: usize = 1024;
 
-/// The words of time limits: the name, and what it is.
-const LIMITS: [(&str, &str); 7] = [
+/// The connections that aren't shared, where no word says it, and the most of them.
+const USUAL_ALONE: usize = 256;
+
+const MOST_ALONE: usize = 4096;
+
+/// The words that take a value: the name, and what it is.
+const SETTINGS: [(&str, &str); 13] = [
+    (
+        "most",
+        "CONNECTIONS at most for equal logins, 1 to 1024 [16]",
+    ),
+    (
+        "alone",
+        "CONNECTIONS at most of logins that can't be shared, 0 to 4096 [256]",
+    ),
     (
         "login",
         "SECONDS that a login may take, on either side [10]; of these words 0 is no limit",
@@ -44,15 +58,69 @@ const LIMITS: [(&str, &str); 7] = [
         "drain",
         "SECONDS at most from the end of standard input to the relay's own [30]",
     ),
+    (
+        "check",
+        "SECONDS after which connections that nobody holds are reset once more, to find dead ones [30]",
+    ),
+    (
+        "away",
+        "SECONDS for which other servers are preferred to one that has failed [10]",
+    ),
+    (
+        "config",
+        "FILE in TOML that has these settings; a word stands over it",
+    ),
+    ("stats", "ADDRESS at which it tells what it does, over HTTP"),
 ];
+
+/// The words that take none.
+const FLAGS: [(&str, &str); 3] = [
+    (
+        "until-input-ends",
+        "ends in order once its standard input, a pipe, has ended",
+    ),
+    (
+        "judge",
+        "a line for each breach and each risk of applications and servers, on standard error",
+    ),
+    (
+        "log",
+        "a line for each application and each connection, on standard error",
+    ),
+];
+
+/// A word that is a count of connections.
+#[derive(Clone, Copy, Debug)]
+struct Count {
+    name: &'static str,
+    least: usize,
+    most: usize,
+    usual: usize,
+}
+
+const COUNT_MOST: Count = Count {
+    name: "most",
+    least: 1,
+    most: MOST,
+    usual: USUAL,
+};
+
+const COUNT_ALONE: Count = Count {
+    name: "alone",
+    least: 0,
+    most: MOST_ALONE,
+    usual: USUAL_ALONE,
+};
 
 /// What the words ask for.
 #[derive(Clone, Copy, Debug)]
 pub struct Asked {
     pub listen: SocketAddr,
-    pub server: SocketAddr,
+    pub servers: Servers,
     /// The most connections that equal logins share.
     pub most: usize,
+    /// The most connections of logins that can't be shared.
+    pub alone: usize,
     pub limits: Limits,
     /// Where it tells what it does.
     pub stats: Option<SocketAddr>,
@@ -60,6 +128,8 @@ pub struct Asked {
     pub ends_with_input: bool,
     /// Whether each application and each connection has a line on standard error.
     pub is_logged: bool,
+    /// Whether both sides are judged.
+    pub is_judged: bool,
 }
 
 /// Reads the words, the program's name too, and the file that they name. A word stands over the file.
@@ -70,13 +140,9 @@ pub fn read_words<R: Files>(rt: &R, alloc: Global, words: &[String]) -> Result<A
         None => Config::none(alloc),
     };
     let listen = address_of(alloc, matches.get_str("LISTEN").unwrap_or(""))?;
-    let server = address_of(alloc, matches.get_str("SERVER").unwrap_or(""))?;
-    let set = config.number("most", 1, MOST as u64)?;
-    let most = match (matches.get_str("most"), set) {
-        (Some(word), _) => most_of(word)?,
-        (None, Some(set)) => set as usize,
-        (None, None) => USUAL,
-    };
+    let servers = servers_of(alloc, matches.get_strs("SERVER").unwrap_or(&[]))?;
+    let most = count_of(&matches, &config, &COUNT_MOST)?;
+    let alone = count_of(&matches, &config, &COUNT_ALONE)?;
     let stats = match (matches.get_str("stats"), config.text("stats")?) {
         (Some(word), _) => Some(address_of(alloc, word)?),
         (None, Some(text)) => Some(address_in(&config, text)?),
@@ -84,12 +150,14 @@ pub fn read_words<R: Files>(rt: &R, alloc: Global, words: &[String]) -> Result<A
     };
     Ok(Asked {
         listen,
-        server,
+        servers,
         most,
+        alone,
         limits: limits_of(&matches, &config)?,
         stats,
         ends_with_input: matches.get_flag("until-input-ends"),
         is_logged: config.flag("log")? || matches.get_flag("log"),
+        is_judged: config.flag("judge")? || matches.get_flag("judge"),
     })
 }
 
@@ -103,6 +171,8 @@ fn limits_of(matches: &ArgMatches, config: &Config) -> Result<Limits, RelayFault
         life: seconds_of(matches, config, "life", usual.life)?,
         hold: seconds_of(matches, config, "hold", usual.hold)?,
         drain: seconds_of(matches, config, "drain", usual.drain)?,
+        check: seconds_of(matches, config, "check", usual.check)?,
+        away: seconds_of(matches, config, "away", usual.away)?,
     })
 }
 
@@ -137,14 +207,44 @@ fn address_in(config: &Config, text: &str) -> Result<SocketAddr, RelayFault> {
     }
 }
 
-fn most_of(word: &str) -> Result<usize, RelayFault> {
+/// The servers, the preferred one first.
+fn servers_of(alloc: Global, words: &[&str]) -> Result<Servers, RelayFault> {
+    let mut servers = Servers::none();
+    for word in words.iter() {
+        if !servers.add(address_of(alloc, word)?) {
+            return Err(RelayFault::Servers);
+        }
+    }
+    Ok(servers)
+}
+
+fn count_of(matches: &ArgMatches, config: &Config, count: &Count) -> Result<usize, RelayFault> {
+    let set = config.number(count.name, count.least as u64, count.most as u64)?;
+    let Some(word) = matches.get_str(count.name) else {
+        return Ok(match set {
+            Some(set) => set as usize,
+            None => count.usual,
+        });
+    };
     match word.parse::<usize>() {
-        Ok(most) if most >= 1 && most <= MOST => Ok(most),
-        _ => Err(RelayFault::Most),
+        Ok(found) if found >= count.least && found <= count.most => Ok(found),
+        _ => Err(RelayFault::Count(count.name, count.least, count.most)),
     }
 }
 
 fn parser<'a>(alloc: Global) -> Result<Command<'a>, AllocError> {
+    let mut parser = addresses(alloc)?;
+    for (name, help) in SETTINGS.iter() {
+        parser = parser.arg(setting(alloc, name, help))?;
+    }
+    for (name, help) in FLAGS.iter() {
+        parser = parser.arg(flag(alloc, name, help))?;
+    }
+    Ok(parser)
+}
+
+/// The words that stand first.
+fn addresses<'a>(alloc: Global) -> Result<Command<'a>, AllocError> {
     let parser = Command::new(alloc, "tdsrelay")
         .version("0.1.0")
         .about("Lets many applications share few connections to a server of TDS (docs/RELAY.md)")
@@ -153,39 +253,13 @@ fn parser<'a>(alloc: Global) -> Result<Command<'a>, AllocError> {
                 "where applications connect to, as 127.0.0.1:1434; port 0 is a free one",
             ),
         )?;
-    let parser = parser.arg(
+    parser.arg(
         Arg::new(alloc, "SERVER")
             .required(true)
-            .help("the server, as 127.0.0.1:1433"),
-    )?;
-    let mut parser = parser.arg(setting(
-        alloc,
-        "most",
-        "CONNECTIONS at most for equal logins, 1 to 1024 [16]",
-    ))?;
-    for (name, help) in LIMITS.iter() {
-        parser = parser.arg(setting(alloc, name, help))?;
-    }
-    let parser = parser.arg(setting(
-        alloc,
-        "config",
-        "FILE in TOML that has these settings; a word stands over it",
-    ))?;
-    let parser = parser.arg(setting(
-        alloc,
-        "stats",
-        "ADDRESS at which it tells what it does, over HTTP",
-    ))?;
-    let parser = parser.arg(flag(
-        alloc,
-        "until-input-ends",
-        "ends in order once its standard input, a pipe, has ended",
-    ))?;
-    parser.arg(flag(
-        alloc,
-        "log",
-        "a line for each application and each connection, on standard error",
-    ))
+            .action(ArgAction::Append)
+            .num_args(1..)
+            .help("the server, as 127.0.0.1:1433; others behind it are dialed where it fails"),
+    )
 }
 
 /// A word with a value behind it.

@@ -2,7 +2,10 @@
 
 export const VERSION = "@VERSION@";
 
-/** The calls of a module of this folder. It imports nothing, so it can reach nothing. */
+/**
+ * The calls of a module of this folder. It imports nothing, so it can reach nothing. `version` is the call that says of which
+ * version it is, where it has one.
+ */
 export async function library(name, version) {
   const url = new URL(name, import.meta.url);
   const bytes = url.protocol === "file:"
@@ -10,7 +13,7 @@ export async function library(name, version) {
     : await (await fetch(url)).arrayBuffer();
   const { exports } = (await WebAssembly.instantiate(bytes, {})).instance;
   const [major, minor, patch] = VERSION.split(".").map(Number);
-  if (exports[version]() !== 10_000 * major + 100 * minor + patch)
+  if (version && exports[version]() !== 10_000 * major + 100 * minor + patch)
     throw new Error(`${name} is ${exports[version]()}, and ${VERSION} is wanted`);
   const calls = { ...exports };
   // An answer is a byte; what stands above it is left from elsewhere.

@@ -1,5 +1,5 @@
-"""The client's end of a connection that speaks the Tabular Data Stream (MS-TDS), a judge of recorded connections, and a player
-of schedules.
+"""The client's end of a connection that speaks the Tabular Data Stream (MS-TDS), a table of connections that callers share, a
+judge of recorded ones, and a player of schedules.
 
 Everything here works over the library that lies in this package, which is compiled from proved source. It does no input or
 output: bytes go in, bytes and tokens come out, and the socket is the caller's. A Client has no lock.
@@ -18,10 +18,11 @@ from .client import (
 from .judge import Finding, Level, What, judge
 from .login import is_let_in, login
 from .play import NotPlayed, play
+from .service import Ended, Lent, Rest, Service
 from .wire import Place, Refused, Tells, Walk, Walked
 
 __all__ = [
-    "Acknowledged", "Answer", "Change", "Client", "Columns", "Done", "Fault", "Finding", "Level", "Message", "MessageKind", "NotPlayed",
-    "Place", "Refused", "Reset", "ReturnStatus", "Row", "Stage", "Taken", "Tells", "Token", "Walk", "Walked", "What", "is_let_in",
-    "judge", "login", "packets_of", "play",
+    "Acknowledged", "Answer", "Change", "Client", "Columns", "Done", "Ended", "Fault", "Finding", "Lent", "Level", "Message",
+    "MessageKind", "NotPlayed", "Place", "Refused", "Reset", "Rest", "ReturnStatus", "Row", "Service", "Stage", "Taken", "Tells",
+    "Token", "Walk", "Walked", "What", "is_let_in", "judge", "login", "packets_of", "play",
 ]

@@ -75,6 +75,20 @@ class WireToken(Structure):
     ]
 
 
+class SeatValue(Structure):
+    _fields_ = [
+        ("client", ClientValue), ("number", c_uint64), ("holder", c_uint64), ("asked", c_uint64), ("place", c_uint8),
+    ]
+
+
+class ServiceValue(Structure):
+    _fields_ = [("last", c_uint64), ("given", c_uint64), ("count", c_size_t), ("size", c_uint16)]
+
+
+class LentValue(Structure):
+    _fields_ = [("lease", c_uint64), ("number", c_uint64), ("had", c_uint8)]
+
+
 class JudgeLimits(Structure):
     _fields_ = [("idle", c_uint64), ("columns", c_uint16), ("encryption", c_uint8), ("ranks", c_uint8)]
 
@@ -92,6 +106,7 @@ class JudgeFinding(Structure):
 
 _CLIENT, _COUNT, _BYTES = POINTER(ClientValue), POINTER(c_size_t), c_char_p
 _ROOM, _WALK, _MEMORY = POINTER(c_uint8), POINTER(WireWalk), POINTER(WireMemory)
+_NUMBER, _LENT, _TABLE = POINTER(c_uint64), POINTER(LentValue), (POINTER(ServiceValue), POINTER(SeatValue), c_size_t)
 _CALLS = {
     "tds_packets_read": (_BYTES, c_size_t, c_uint16, c_uint8, POINTER(Packet), c_size_t, _COUNT),
     "tds_client_new": (c_uint16, _CLIENT),
@@ -116,6 +131,17 @@ _CALLS = {
     "tds_wire_is_between": (_WALK, _MEMORY),
     "tds_wire_restart": (_WALK, _MEMORY),
     "tds_tokens_next": (_BYTES, c_size_t, POINTER(Cursor), POINTER(TokenValue), c_size_t, _COUNT),
+    "tds_service_lease": (*_TABLE, _LENT),
+    "tds_service_find": (*_TABLE, c_uint64, _COUNT),
+    "tds_service_at": (*_TABLE, c_uint64, _COUNT),
+    "tds_service_give_back": (*_TABLE, c_uint64, _ROOM, c_size_t, _COUNT, _NUMBER),
+    "tds_service_drained": (*_TABLE, c_uint64),
+    "tds_service_lost": (*_TABLE, c_uint64),
+    "tds_service_keep": (*_TABLE, c_uint64, _NUMBER),
+    "tds_service_resume": (*_TABLE, c_uint64, _LENT),
+    "tds_service_abandon": (*_TABLE, c_uint64, _NUMBER),
+    "tds_service_clean": (*_TABLE, c_uint64, _LENT),
+    "tds_service_cleaned": (*_TABLE, c_uint64, _NUMBER),
     "tds_judge": (
         POINTER(JudgeLimits), POINTER(JudgePiece), c_size_t, _BYTES, c_size_t, POINTER(JudgeFinding), c_size_t, _COUNT,
     ),

@@ -1,4 +1,4 @@
-//! Compiles the one C file with the C compiler that there is: CC, or cc. Nothing else is wanted.
+//! Compiles the C files with the C compiler that there is: CC, or cc. Nothing else is wanted.
 
 use std::path::Path;
 use std::process::Command;
@@ -12,7 +12,7 @@ fn run(command: &mut Command) {
 fn main() {
     let out = env::var("OUT_DIR").expect("cargo sets OUT_DIR");
     let compiler = env::var("CC").unwrap_or("cc".into());
-    let mut files = vec!["mouktelf"];
+    let mut files = vec!["mouktelf", "mouktelf_service", "mouktelf_judge"];
     if env::var_os("CARGO_FEATURE_PLAY").is_some() {
         files.push("mouktelf_play");
     }

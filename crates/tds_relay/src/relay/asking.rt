@@ -1,6 +1,6 @@
 //! What applications say: requests, and cancels.
 ghost use Rattle.std.specs.Prelude.{◌≡◌, OnOk};
-ghost use Rattle.tds_relay.specs.Ties.{Goes, NobodyWaits, desk_in};
+ghost use Rattle.tds_relay.specs.Ties.{Application, Goes, GoesOn, NobodyWaits, desk_in};
 
 use super::Relay;
 use crate::NoMemory;
@@ -18,10 +18,12 @@ const ACKNOWLEDGED: [u8; 21] = [
 impl Relay {
     /// These bytes of an application came. At most as many as `room` says are to be handed in.
     pub fn said(&mut self, key: usize, piece: &[u8]) -> Result<(), NoMemory>
-        ensures { OnOk result (NobodyWaits (desk_in self.new.desk)) }
+        ensures goes { OnOk result (Goes (Application key)
+            (desk_in self.old.desk) (desk_in self.new.desk)) }
+        ensures served { OnOk result (NobodyWaits (desk_in self.new.desk)) }
     {
         let mut rest = piece;
-        for _ in 0..piece.len() {
+        'taking: for _ in 0..piece.len() {
             if rest.is_empty() {
                 break;
             }
@@ -35,7 +37,10 @@ impl Relay {
     }
 
     /// Takes some of them, and answers how many.
-    fn take(&mut self, key: usize, piece: &[u8]) -> Result<usize, NoMemory> {
+    fn take(&mut self, key: usize, piece: &[u8]) -> Result<usize, NoMemory>
+        ensures { OnOk result (Goes (Application key)
+            (desk_in self.old.desk) (desk_in self.new.desk)) }
+    {
         let Some(application) = self.applications.get_mut(key) else {
             return Ok(piece.len());
         };
@@ -52,7 +57,10 @@ impl Relay {
     }
 
     /// Does what is to be done with these bytes.
-    fn obey(&mut self, key: usize, bytes: &[u8], said: Said) -> Result<(), NoMemory> {
+    fn obey(&mut self, key: usize, bytes: &[u8], said: Said) -> Result<(), NoMemory>
+        ensures { OnOk result (Goes (Application key)
+            (desk_in self.old.desk) (desk_in self.new.desk)) }
+    {
         match said {
             Said::Nothing => Ok(()),
             Said::Begin { kind, reset } => self.begin(key, kind, reset),
@@ -69,7 +77,11 @@ impl Relay {
 
     /// A request begins. Where it asks for a reset itself, its application gives back what it holds; but
     /// where the transaction is to stay, its connection stays too.
-    fn begin(&mut self, key: usize, kind: Kind, reset: Option<Reset>) -> Result<(), NoMemory> {
+    #[tactic(auto, using(crate::proofs::Reaching::reaches_turn, crate::proofs::Reaching::reaches_left))]
+    fn begin(&mut self, key: usize, kind: Kind, reset: Option<Reset>) -> Result<(), NoMemory>
+        ensures { OnOk result (Goes (Application key)
+            (desk_in self.old.desk) (desk_in self.new.desk)) }
+    {
         let Some(application) = self.applications.get_mut(key) else {
             return Ok(());
         };
@@ -90,13 +102,21 @@ impl Relay {
     }
 
     /// The application lets its connection go, and waits for one like who has come.
-    fn change(&mut self, key: usize) -> Result<(), NoMemory> {
+    #[tactic(auto, using(crate::proofs::Reaching::reaches_turn, crate::proofs::Reaching::reaches_left))]
+    fn change(&mut self, key: usize) -> Result<(), NoMemory>
+        ensures { OnOk result (Goes (Application key)
+            (desk_in self.old.desk) (desk_in self.new.desk)) }
+    {
         self.release(key)?;
         self.desk.wait(key)
     }
 
     /// The application keeps its connection with its transaction, and its next request resets the rest.
-    fn renew(&mut self, key: usize) -> Result<(), NoMemory> {
+    #[tactic(auto, using(crate::proofs::Reaching::reaches_turn, crate::proofs::Reaching::reaches_left))]
+    fn renew(&mut self, key: usize) -> Result<(), NoMemory>
+        ensures { OnOk result (Goes (Application key)
+            (desk_in self.old.desk) (desk_in self.new.desk)) }
+    {
         match self.desk.renew(key)? {
             Renewed::Kept(hold) => {
                 self.cut(hold.number, false);
@@ -108,7 +128,10 @@ impl Relay {
     }
 
     /// The next bytes of its request's body, with which it is whole or not.
-    fn go_on(&mut self, key: usize, bytes: &[u8], whole: bool) -> Result<(), NoMemory> {
+    fn go_on(&mut self, key: usize, bytes: &[u8], whole: bool) -> Result<(), NoMemory>
+        ensures { OnOk result (Goes (Application key)
+            (desk_in self.old.desk) (desk_in self.new.desk)) }
+    {
         let Some(application) = self.applications.get_mut(key) else {
             return Ok(());
         };
@@ -128,7 +151,7 @@ impl Relay {
     /// Puts bytes of a request on its connection, and its end.
     #[tactic(auto, using(crate::proofs::Reaching::reaches_turn, crate::proofs::Reaching::reaches_turned))]
     pub(super) fn put(&mut self, key: usize, bytes: &[u8], whole: bool) -> Result<(), NoMemory>
-        ensures { OnOk result (Goes (desk_in self.old.desk) (desk_in self.new.desk)) }
+        ensures { OnOk result (GoesOn (desk_in self.old.desk) (desk_in self.new.desk)) }
     {
         let Some(hold) = self.desk.hold_of(key) else {
             return Ok(());
@@ -156,7 +179,11 @@ impl Relay {
 
     /// What has come of its request is forgotten; where something of it has gone on, the server is to
     /// forget it too, and its acknowledgement is nobody's.
-    fn take_back(&mut self, key: usize) -> Result<(), NoMemory> {
+    #[tactic(auto, using(crate::proofs::Reaching::reaches_turn, crate::proofs::Reaching::reaches_left))]
+    fn take_back(&mut self, key: usize) -> Result<(), NoMemory>
+        ensures { OnOk result (Goes (Application key)
+            (desk_in self.old.desk) (desk_in self.new.desk)) }
+    {
         let Some(application) = self.applications.get_mut(key) else {
             return Ok(());
         };
@@ -194,7 +221,10 @@ impl Relay {
     }
 
     /// The server acknowledges an attention.
-    fn hand_on(&mut self, key: usize) -> Result<(), NoMemory> {
+    fn hand_on(&mut self, key: usize) -> Result<(), NoMemory>
+        ensures { OnOk result (Goes (Application key)
+            (desk_in self.old.desk) (desk_in self.new.desk)) }
+    {
         let Some(hold) = self.desk.hold_of(key) else {
             return self.expel(key);
         };
@@ -208,7 +238,11 @@ impl Relay {
     }
 
     /// Cancels what is underway of an application. None where its connection is of no use any more.
-    fn cancel(&mut self, key: usize) -> Result<Option<Cancelled>, NoMemory> {
+    #[tactic(auto, using(crate::proofs::Reaching::reaches_turn, crate::proofs::Reaching::reaches_left))]
+    fn cancel(&mut self, key: usize) -> Result<Option<Cancelled>, NoMemory>
+        ensures { OnOk result (Goes (Application key)
+            (desk_in self.old.desk) (desk_in self.new.desk)) }
+    {
         self.outbox.clear();
         match self.desk.cancel(key, &mut self.outbox) {
             Ok((hold, how)) => {
@@ -222,7 +256,7 @@ impl Relay {
 
 /// Puts bytes of a request, and its end. False where one was refused.
 fn put_on(desk: &mut Desk, key: usize, bytes: &[u8], whole: bool, out: &mut Vec<u8>) -> bool
-    ensures { Goes (desk_in desk.old) (desk_in desk.new) }
+    ensures { GoesOn (desk_in desk.old) (desk_in desk.new) }
 {
     let Ok(_) = desk.put(key, bytes, out) else {
         return false;

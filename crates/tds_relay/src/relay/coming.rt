@@ -1,6 +1,6 @@
 //! What comes on connections.
 ghost use Rattle.std.specs.Prelude.{◌≡◌, ◌+◌, length, OnOk};
-ghost use Rattle.tds_relay.specs.Ties.{NobodyWaits, desk_in};
+ghost use Rattle.tds_relay.specs.Ties.{Connection, Goes, GoesOn, NobodyWaits, desk_in};
 
 use super::{Relay, link_in};
 use crate::NoMemory;
@@ -14,10 +14,12 @@ use tds_wire::Token;
 impl Relay {
     /// These bytes came on the connection of this number, behind its login.
     pub fn came(&mut self, number: u64, piece: &[u8]) -> Result<(), NoMemory>
-        ensures { OnOk result (NobodyWaits (desk_in self.new.desk)) }
+        ensures goes { OnOk result (Goes (Connection number)
+            (desk_in self.old.desk) (desk_in self.new.desk)) }
+        ensures served { OnOk result (NobodyWaits (desk_in self.new.desk)) }
     {
         let mut rest = piece;
-        for _ in 0..=piece.len() {
+        'taking: for _ in 0..=piece.len() {
             if rest.is_empty() {
                 break;
             }
@@ -33,7 +35,10 @@ impl Relay {
 
     /// Takes bytes up to the end of a packet, and hands on what is an application's. None where they
     /// are no packet of an answer.
-    fn hear(&mut self, number: u64, piece: &[u8]) -> Result<(usize, Option<Heard>), NoMemory> {
+    fn hear(&mut self, number: u64, piece: &[u8]) -> Result<(usize, Option<Heard>), NoMemory>
+        ensures { OnOk result (Goes (Connection number)
+            (desk_in self.old.desk) (desk_in self.new.desk)) }
+    {
         let Relay {
             desk,
             applications,
@@ -43,16 +48,16 @@ impl Relay {
             ..
         } = self;
         outbox.clear();
-        for link in links.iter_mut() {
-            if link.number == number {
-                return hear_on(desk, applications, link, told, outbox, piece);
-            }
+        match link_in(links, number) {
+            Some(link) => hear_on(desk, applications, link, number, told, outbox, piece),
+            None => Ok((piece.len(), Some(NOTHING))),
         }
-        Ok((piece.len(), Some(NOTHING)))
     }
 
     /// What came of a packet is done.
-    fn heard(&mut self, number: u64, heard: Option<Heard>) -> Result<(), NoMemory> {
+    fn heard(&mut self, number: u64, heard: Option<Heard>) -> Result<(), NoMemory>
+        ensures { OnOk result (GoesOn (desk_in self.old.desk) (desk_in self.new.desk)) }
+    {
         self.send_on(number)?;
         let Some(heard) = heard else {
             return self.lose(number);
@@ -116,14 +121,18 @@ fn hear_on(
     desk: &mut Desk,
     applications: &mut Slab<Application>,
     link: &mut Link,
+    number: u64,
     told: &mut Vec<Token>,
     outbox: &mut Vec<u8>,
     piece: &[u8],
-) -> Result<(usize, Option<Heard>), NoMemory> {
+) -> Result<(usize, Option<Heard>), NoMemory>
+    ensures { OnOk result (Goes (Connection number) (desk_in desk.old)
+        (desk_in desk.new)) }
+{
     let Ok(count) = link.reader.feed(piece) else {
         return Ok((piece.len(), None));
     };
-    let heard = hear_packet(desk, applications, link, told, outbox)?;
+    let heard = hear_packet(desk, applications, link, number, told, outbox)?;
     link.reader.done();
     Ok((count, Some(heard)))
 }
@@ -133,15 +142,19 @@ fn hear_packet(
     desk: &mut Desk,
     applications: &mut Slab<Application>,
     link: &mut Link,
+    number: u64,
     told: &mut Vec<Token>,
     outbox: &mut Vec<u8>,
-) -> Result<Heard, NoMemory> {
+) -> Result<Heard, NoMemory>
+    ensures { OnOk result (Goes (Connection number) (desk_in desk.old)
+        (desk_in desk.new)) }
+{
     let Some(packet) = link.reader.packet() else {
         return Ok(NOTHING);
     };
     told.clear();
     let ends = packet.header.status.ends();
-    let heard = desk.came(link.number, packet.data, ends, told, outbox)?;
+    let heard = desk.came(number, packet.data, ends, told, outbox)?;
     if matches!(heard.what, What::Closed) || link.is_muted {
         return Ok(heard);
     }

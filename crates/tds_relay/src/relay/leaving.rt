@@ -1,7 +1,7 @@
 //! Applications that leave, and connections that are lost.
 ghost use Rattle.std.specs.Prelude.{◌≡◌, OnOk};
 ghost use Rattle.tds_relay.specs.Desk.{Loses, turn};
-ghost use Rattle.tds_relay.specs.Ties.{Goes, Leaving, NobodyWaits, desk_in};
+ghost use Rattle.tds_relay.specs.Ties.{Application, Goes, GoesOn, Leaving, NobodyWaits, desk_in};
 
 use super::Relay;
 use crate::NoMemory;
@@ -24,7 +24,7 @@ impl Relay {
     /// The connection of this number has ended, or couldn't be opened: its application is closed.
     #[tactic(auto, using(crate::proofs::Reaching::reaches_turn, crate::proofs::Reaching::reaches_turned))]
     pub fn lost(&mut self, number: u64) -> Result<(), NoMemory>
-        ensures lost { OnOk result (Goes (turn (desk_in self.old.desk) (Loses number)).desk
+        ensures lost { OnOk result (GoesOn (turn (desk_in self.old.desk) (Loses number)).desk
             (desk_in self.new.desk)) }
         ensures served { OnOk result (NobodyWaits (desk_in self.new.desk)) }
     {
@@ -33,7 +33,11 @@ impl Relay {
     }
 
     /// Nothing more of an application is taken, and it is to be closed. Its connection is given back.
-    pub(super) fn expel(&mut self, key: usize) -> Result<(), NoMemory> {
+    #[tactic(auto, using(crate::proofs::Reaching::reaches_left))]
+    pub(super) fn expel(&mut self, key: usize) -> Result<(), NoMemory>
+        ensures { OnOk result (Goes (Application key)
+            (desk_in self.old.desk) (desk_in self.new.desk)) }
+    {
         self.end(key)?;
         self.release(key)
     }
@@ -77,9 +81,9 @@ impl Relay {
     /// A connection is of no use any more: it is closed, and its application with it.
     #[tactic(auto, using(crate::proofs::Reaching::reaches_turn, crate::proofs::Reaching::reaches_turned))]
     pub(super) fn lose(&mut self, number: u64) -> Result<(), NoMemory>
-        ensures lost { OnOk result (Goes (turn (desk_in self.old.desk) (Loses number)).desk
+        ensures lost { OnOk result (GoesOn (turn (desk_in self.old.desk) (Loses number)).desk
             (desk_in self.new.desk)) }
-        ensures goes { OnOk result (Goes (desk_in self.old.desk) (desk_in self.new.desk)) }
+        ensures goes { OnOk result (GoesOn (desk_in self.old.desk) (desk_in self.new.desk)) }
     {
         let key = self.desk.lose(number)?;
         self.close(number, key)
@@ -101,16 +105,12 @@ impl Relay {
     }
 
     /// A connection that the desk has no more is closed, and the application that held it.
-    #[tactic(auto, using(crate::proofs::Reaching::reaches_turn, crate::proofs::Reaching::reaches_turned))]
     pub(super) fn close(&mut self, number: u64, key: Option<usize>) -> Result<(), NoMemory>
-        ensures { OnOk result (Goes (desk_in self.old.desk) (desk_in self.new.desk)) }
+        ensures { self.new.desk ≡ self.old.desk }
     {
         self.close_link(number)?;
         match key {
-            Some(key) => {
-                self.desk.unwait(key);
-                self.end(key)
-            }
+            Some(key) => self.end(key),
             None => Ok(()),
         }
     }

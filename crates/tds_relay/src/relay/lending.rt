@@ -1,6 +1,6 @@
 //! Connections that are lent to those who wait, opened, and asked.
 ghost use Rattle.std.specs.Prelude.{◌≡◌, OnOk};
-ghost use Rattle.tds_relay.specs.Ties.{Goes, NobodyWaits, desk_in};
+ghost use Rattle.tds_relay.specs.Ties.{Goes, GoesOn, Neither, NobodyWaits, desk_in};
 
 use super::{Relay, link_in};
 use crate::NoMemory;
@@ -17,7 +17,10 @@ const NEWS: [u8; 14] = [4, 0, 0, 14, 0, 0, 1, 0, 0xe3, 3, 0, 18, 0, 0];
 impl Relay {
     /// A connection that is open and logged in has come before any application asked: the first one of
     /// all. It is cleaned first. Answers its number, or none where it isn't wanted.
-    pub fn bring(&mut self, tag: usize) -> Result<Option<u64>, NoMemory> {
+    #[tactic(auto, using(crate::proofs::Reaching::reaches_turn, crate::proofs::Reaching::reaches_turned))]
+    pub fn bring(&mut self, tag: usize) -> Result<Option<u64>, NoMemory>
+        ensures { OnOk result (Goes Neither (desk_in self.old.desk) (desk_in self.new.desk)) }
+    {
         if !self.links.is_empty() {
             return Ok(None);
         }
@@ -53,7 +56,7 @@ impl Relay {
 
     /// The connection of this number is open and logged in.
     pub fn opened(&mut self, number: u64) -> Result<(), NoMemory>
-        ensures goes { OnOk result (Goes (desk_in self.old.desk) (desk_in self.new.desk)) }
+        ensures goes { OnOk result (GoesOn (desk_in self.old.desk) (desk_in self.new.desk)) }
         ensures served { OnOk result (NobodyWaits (desk_in self.new.desk)) }
     {
         self.set_open(number);
@@ -73,7 +76,7 @@ impl Relay {
 
     /// Asks what the application asks that holds a connection.
     fn start_on(&mut self, number: u64) -> Result<(), NoMemory>
-        ensures { OnOk result (Goes (desk_in self.old.desk) (desk_in self.new.desk)) }
+        ensures { OnOk result (GoesOn (desk_in self.old.desk) (desk_in self.new.desk)) }
     {
         match self.desk.key_on(number) {
             Some(key) => self.start(key),
@@ -84,7 +87,7 @@ impl Relay {
     /// Lends connections to those who wait, in order, while there are any.
     #[tactic(auto, using(crate::proofs::Reaching::reaches_turn, crate::proofs::Reaching::reaches_turned))]
     pub(super) fn serve_line(&mut self) -> Result<(), NoMemory>
-        ensures goes { OnOk result (Goes (desk_in self.old.desk) (desk_in self.new.desk)) }
+        ensures goes { OnOk result (GoesOn (desk_in self.old.desk) (desk_in self.new.desk)) }
         ensures served { OnOk result (NobodyWaits (desk_in self.new.desk)) }
     {
         'line: for _ in 0..u64::MAX {
@@ -99,7 +102,7 @@ impl Relay {
     /// A connection is lent to an application.
     #[tactic(auto, using(crate::proofs::Reaching::reaches_turn, crate::proofs::Reaching::reaches_turned))]
     fn lend(&mut self, served: Served) -> Result<(), NoMemory>
-        ensures { OnOk result (Goes (desk_in self.old.desk) (desk_in self.new.desk)) }
+        ensures { OnOk result (GoesOn (desk_in self.old.desk) (desk_in self.new.desk)) }
     {
         let key = served.hold.key;
         let number = served.hold.number;
@@ -137,7 +140,7 @@ impl Relay {
     /// Asks what an application asks, where its connection is open and idle.
     #[tactic(auto, using(crate::proofs::Reaching::reaches_turn, crate::proofs::Reaching::reaches_turned))]
     pub(super) fn start(&mut self, key: usize) -> Result<(), NoMemory>
-        ensures { OnOk result (Goes (desk_in self.old.desk) (desk_in self.new.desk)) }
+        ensures { OnOk result (GoesOn (desk_in self.old.desk) (desk_in self.new.desk)) }
     {
         let Some(application) = self.applications.get(key) else {
             return Ok(());
@@ -167,7 +170,7 @@ impl Relay {
 
     /// Puts what is kept of a request on its connection.
     fn put_held(&mut self, key: usize, whole: bool) -> Result<(), NoMemory>
-        ensures { OnOk result (Goes (desk_in self.old.desk) (desk_in self.new.desk)) }
+        ensures { OnOk result (GoesOn (desk_in self.old.desk) (desk_in self.new.desk)) }
     {
         let Some(application) = self.applications.get_mut(key) else {
             return Ok(());

@@ -1,4 +1,9 @@
 //! Where applications and connections are, for whoever tells an operator of it or sets time limits.
+ghost use Rattle.std.specs.Prelude.{◌≡◌, IfSome};
+ghost use Rattle.slab.specs.Slab.{get};
+ghost use Rattle.tds_relay.specs.Places.{IsOn, Names, begun_in, held_by};
+ghost use Rattle.tds_relay.specs.Ties.{desk_in};
+
 use super::Relay;
 use crate::application::{Application, Asking};
 use tds_front::Stage;
@@ -51,7 +56,9 @@ pub struct Counts {
 }
 
 impl Counts {
-    pub(crate) const fn none() -> Counts {
+    pub(crate) const fn none() -> Counts
+        ensures { result ≡ record { requests = 0; cancels = 0; cleanings = 0; failed = 0 } }
+    {
         Counts {
             requests: 0,
             cancels: 0,
@@ -63,7 +70,9 @@ impl Counts {
 
 impl Relay {
     /// Where the application of this key is, if there is one.
-    pub fn place_of(&self, key: usize) -> Option<Place> {
+    pub fn place_of(&self, key: usize) -> Option<Place>
+        ensures { IfSome result (Names (held_by (desk_in self.now.desk) key)) }
+    {
         let application = self.applications.get(key)?;
         let number = match self.desk.hold_of(key) {
             Some(hold) => Some(hold.number),
@@ -73,7 +82,9 @@ impl Relay {
     }
 
     /// How many requests the application of this key has begun.
-    pub fn begun_by(&self, key: usize) -> u64 {
+    pub fn begun_by(&self, key: usize) -> u64
+        ensures { result ≡ begun_in (get self.now.applications key) }
+    {
         match self.applications.get(key) {
             Some(application) => application.begun,
             None => 0,
@@ -81,7 +92,9 @@ impl Relay {
     }
 
     /// Where the connection of this number is, if there is one.
-    pub fn place_on(&self, number: u64) -> Option<PlaceOn> {
+    pub fn place_on(&self, number: u64) -> Option<PlaceOn>
+        ensures { IfSome result (IsOn (desk_in self.now.desk) number) }
+    {
         let link = self.link(number)?;
         if !link.is_open {
             return Some(PlaceOn::Opening);
@@ -97,18 +110,24 @@ impl Relay {
     }
 
     /// The keys of the applications that wait for a connection, the first one first.
-    pub fn line(&self) -> &[usize] {
+    pub fn line(&self) -> &[usize]
+        ensures { result.now ≡ (desk_in self.now.desk).line }
+    {
         self.desk.line()
     }
 
     /// What the relay has done.
-    pub fn counts(&self) -> Counts {
+    pub fn counts(&self) -> Counts
+        ensures { result ≡ self.now.counts }
+    {
         self.counts
     }
 }
 
 /// Where an application is that holds the connection of this number, or none.
-fn where_is(application: &Application, number: Option<u64>) -> Place {
+fn where_is(application: &Application, number: Option<u64>) -> Place
+    ensures { Names number result }
+{
     if application.is_over {
         return Place::Over;
     }

@@ -1,11 +1,15 @@
 //! Requests: asked, sent in parts, and cancelled.
-ghost use Rattle.std.specs.Prelude.{◌≡◌, ◌<◌, [], ℕ, true, false, length, slice_index_or, slice_set, IfOk, IfErr, OnErr};
+ghost use Rattle.std.specs.Prelude.{◌≡◌, ◌<◌, [], ℕ, true, false, length, slice_index_or, slice_set, IfOk, IfErr, OnErr, OnOk};
+ghost use Rattle.tds_client.specs.Sending.{Does as ClientDoes};
+ghost use Rattle.tds_client.specs.Session.{ClientSession};
+ghost use Rattle.tds_client.specs.Streams.{finished, opened, put};
 ghost use Rattle.tds_service.specs.declared.seat.Seat.{Seat as CodeSeat};
 ghost use Rattle.tds_service.specs.Line as line;
 ghost use Rattle.tds_service.specs.Refusing.{refusal_in};
 ghost use Rattle.tds_service.specs.Service as calls;
 ghost use Rattle.tds_service.specs.Service.{has_number};
-ghost use Rattle.tds_service.specs.Table.{Answers, Keeps, Refuses, RefusedBy, Steps};
+ghost use Rattle.tds_service.specs.Table.{Answers, DoesAt, Keeps, KeepsClients, Opens, Refuses};
+ghost use Rattle.tds_service.specs.Table.{RefusedBy, Steps};
 ghost use Rattle.tds_service.specs.Table.{puts_on, reading_by, service_in};
 ghost use Rattle.tds_service.specs.Ties.{Does, DoesAll, answer_to, asked_answer, cancel_answer, finishing, line_in, putting};
 
@@ -29,7 +33,8 @@ fn ask_at(seats: &mut [Seat], index: usize, kind: MessageKind) -> Result<Asked, 
         → (d : CodeSeat) × (seats.new ≡ slice_set seats.old index d)
         × (d.number ≡ c.number) × (d.place ≡ c.place) × (done.number ≡ c.number)
         × Does line.Ask (line_in c.connection) (line_in d.connection)
-        (asked_answer c.connection done.request) [] []) }
+        (asked_answer c.connection done.request) [] []
+        × (d.connection.client ≡ opened c.connection.client kind)) }
     ensures refused { IfErr result (λ refusal. (c : CodeSeat) → c ≡ slice_index_or seats.old index c
         → RefusedBy (refusal_in (answer_to (line_in c.connection) line.Ask)) refusal) }
     ensures err { OnErr result (seats.new ≡ seats.old) }
@@ -53,6 +58,8 @@ fn put_at(seats: &mut [Seat], index: usize, bytes: &[u8], out: &mut Vec<u8>) -> 
         × (d.number ≡ c.number) × (d.place ≡ c.place) × (number ≡ c.number)
         × DoesAll (putting c.connection bytes.now) (line_in c.connection) (line_in d.connection)
         out.old.items out.new.items
+        × ClientDoes (put c.connection.client bytes.now) tt d.connection.client
+        out.old.items out.new.items
         × (answer_to (line_in c.connection) (line.Send false) ≡ line.Sent)) }
     ensures refused { IfErr result (λ refusal. (c : CodeSeat) → c ≡ slice_index_or seats.old index c
         → RefusedBy (refusal_in (answer_to (line_in c.connection) (line.Send false))) refusal) }
@@ -74,6 +81,8 @@ fn finish_at(seats: &mut [Seat], index: usize, out: &mut Vec<u8>) -> Result<u64,
         → (d : CodeSeat) × (seats.new ≡ slice_set seats.old index d)
         × (d.number ≡ c.number) × (d.place ≡ c.place) × (number ≡ c.number)
         × DoesAll (finishing c.connection) (line_in c.connection) (line_in d.connection)
+        out.old.items out.new.items
+        × ClientDoes (finished c.connection.client) tt d.connection.client
         out.old.items out.new.items
         × (answer_to (line_in c.connection) (line.Send true) ≡ line.Sent)) }
     ensures refused { IfErr result (λ refusal. (c : CodeSeat) → c ≡ slice_index_or seats.old index c
@@ -122,6 +131,8 @@ impl Service {
             (service_in self.new) calls.Did done.number [] []) }
         ensures names { IfOk result (λ done. (descriptor : ℕ) × Answers (calls.Ask lease)
             (service_in self.old) (line.Asked done.request descriptor)) }
+        ensures opened { OnOk result (Opens kind lease self.old self.new) }
+        ensures clients { OnOk result (KeepsClients lease self.old self.new) }
         ensures refused { IfErr result (Refuses (calls.Ask lease) (service_in self.old)) }
         ensures err { OnErr result (self.new ≡ self.old) }
         ensures keeps { Keeps self.old self.new }
@@ -138,6 +149,10 @@ impl Service {
         ensures ok { IfOk result (λ number. Steps
             (calls.Put lease (puts_on lease self.old bytes.now)) (service_in self.old)
             (service_in self.new) calls.Did number out.old.items out.new.items) }
+        // Which bytes go out, and which are kept.
+        ensures puts { OnOk result (DoesAt (λ (s : ClientSession). put s bytes.now) lease
+            self.old self.new out.old.items out.new.items) }
+        ensures clients { OnOk result (KeepsClients lease self.old self.new) }
         ensures refused { IfErr result (λ refusal. (count : ℕ)
             → Refuses (calls.Put lease count) (service_in self.old) refusal) }
         ensures err { OnErr result (self.new ≡ self.old) }
@@ -155,6 +170,9 @@ impl Service {
         ensures ok { IfOk result (λ number. Steps
             (calls.Finish lease (puts_on lease self.old [])) (service_in self.old)
             (service_in self.new) calls.Did number out.old.items out.new.items) }
+        ensures ends { OnOk result (DoesAt finished lease self.old self.new
+            out.old.items out.new.items) }
+        ensures clients { OnOk result (KeepsClients lease self.old self.new) }
         ensures refused { IfErr result (λ refusal. (count : ℕ)
             → Refuses (calls.Finish lease count) (service_in self.old) refusal) }
         ensures err { OnErr result (self.new ≡ self.old) }
@@ -174,6 +192,7 @@ impl Service {
             (service_in self.new) calls.Did done.0 out.old.items out.new.items) }
         ensures how { IfOk result (λ done. (request : ℕ) × Answers (calls.Cancel lease)
             (service_in self.old) (cancel_answer request done.1)) }
+        ensures clients { OnOk result (KeepsClients lease self.old self.new) }
         ensures refused { IfErr result (Refuses (calls.Cancel lease) (service_in self.old)) }
         ensures err { OnErr result (self.new ≡ self.old) }
         ensures nothing { OnErr result (out.new.items ≡ out.old.items) }

@@ -8,7 +8,8 @@ ghost use Rattle.tds_service.specs.Line as line;
 ghost use Rattle.tds_service.specs.Packets.{Reads, outcome_answer, packet_part, told_of_part};
 ghost use Rattle.tds_service.specs.Service as calls;
 ghost use Rattle.tds_service.specs.Service.{drained, find_by, has_number, lease_in};
-ghost use Rattle.tds_service.specs.Table.{Comes, KeepsOthers, ReadsAt, Refuses, place_of};
+ghost use Rattle.tds_service.specs.Table.{Comes, KeepsClientsOff, KeepsOthers, ReadsAt};
+ghost use Rattle.tds_service.specs.Table.{Refuses, place_of};
 ghost use Rattle.tds_service.specs.Table.{reading_by, reading_on, service_in};
 ghost use Rattle.tds_service.specs.Ties.{Hears, line_in};
 
@@ -106,6 +107,7 @@ impl Service {
             → (next : Reading) × (reading_on number self.new ≡ Some next)
             × Reads came.outcome ends (tokens_in r bytes.now).stop next) }
         ensures others { KeepsOthers number self.old self.new }
+        ensures clients { OnOk result (KeepsClientsOff number self.old self.new) }
         ensures refused { IfErr result (λ refusal. (r : Reading)
             → Refuses (calls.Came number (packet_part r bytes.now ends)) (service_in self.old)
             refusal) }

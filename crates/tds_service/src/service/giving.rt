@@ -5,7 +5,8 @@ ghost use Rattle.tds_service.specs.Line as line;
 ghost use Rattle.tds_service.specs.Refusing.{refusal_in};
 ghost use Rattle.tds_service.specs.Service as calls;
 ghost use Rattle.tds_service.specs.Service.{clean_place, has_number, may_keep, rests};
-ghost use Rattle.tds_service.specs.Table.{IsAt, Keeps, KeepsBy, KeepsOthers, Refuses, Steps};
+ghost use Rattle.tds_service.specs.Table.{IsAt, Keeps, KeepsBy, KeepsClients, KeepsClientsOff};
+ghost use Rattle.tds_service.specs.Table.{KeepsOthers, Refuses, Steps, client_of};
 ghost use Rattle.tds_service.specs.Table.{reading_by, rest_of, seat_in, service_in, without_closed};
 ghost use Rattle.tds_service.specs.Ties.{DoesAll, answer_to, line_in};
 
@@ -167,6 +168,7 @@ impl Service {
         ensures nothing { OnErr result (out.new.items ≡ out.old.items) }
         ensures keeps { IfOk result (λ done. KeepsBy done.1 done.0 self.old self.new) }
         ensures keeps_all { OnErr result (Keeps self.old self.new) }
+        ensures clients { KeepsClients lease self.old self.new }
     {
         match find(&self.seats, Wanted::Lease(lease)) {
             Some(index) => match give_back_at(&mut self.seats, index, out) {
@@ -190,6 +192,7 @@ impl Service {
         ensures err { OnErr result (service_in self.new ≡ service_in self.old) }
         ensures keeps { IfOk result (λ done. KeepsBy done.1 done.0 self.old self.new) }
         ensures keeps_all { OnErr result (Keeps self.old self.new) }
+        ensures clients { KeepsClients lease self.old self.new }
     {
         match find(&self.seats, Wanted::Lease(lease)) {
             Some(index) => match cleaned_at(&mut self.seats, index) {
@@ -210,6 +213,7 @@ impl Service {
         ensures refused { IfErr result (Refuses (calls.Keep lease) (service_in self.old)) }
         ensures err { OnErr result (service_in self.new ≡ service_in self.old) }
         ensures keeps { Keeps self.old self.new }
+        ensures clients { KeepsClients lease self.old self.new }
     {
         let ticket = self.next_given()?;
         match find(&self.seats, Wanted::Lease(lease)) {
@@ -232,6 +236,7 @@ impl Service {
         ensures err { OnErr result (service_in self.new ≡ service_in self.old) }
         ensures keeps { IfOk result (λ done. KeepsBy done.1 done.0 self.old self.new) }
         ensures keeps_all { OnErr result (Keeps self.old self.new) }
+        ensures clients { (l : ℕ) → client_of l self.new ≡ client_of l self.old }
     {
         match find(&self.seats, Wanted::Ticket(ticket)) {
             Some(index) => {
@@ -250,6 +255,7 @@ impl Service {
         ensures refused { IfErr result (Refuses (calls.Lost number) (service_in self.old)) }
         ensures err { OnErr result (service_in self.new ≡ service_in self.old) }
         ensures keeps { KeepsOthers number self.old self.new }
+        ensures clients { KeepsClientsOff number self.old self.new }
     {
         match find(&self.seats, Wanted::Number(number)) {
             Some(index) => {

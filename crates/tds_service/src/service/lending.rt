@@ -5,8 +5,8 @@ ghost use Rattle.tds_service.specs.declared.seat.Seat.{Seat as CodeSeat};
 ghost use Rattle.tds_service.specs.Line as line;
 ghost use Rattle.tds_service.specs.Service as calls;
 ghost use Rattle.tds_service.specs.Service.{has_number, is_lendable, opens};
-ghost use Rattle.tds_service.specs.Table.{Keeps, Refuses, RefusesIn, Steps, Opened};
-ghost use Rattle.tds_service.specs.Table.{reading_by, seat_in, service_in};
+ghost use Rattle.tds_service.specs.Table.{Keeps, KeepsClients, Opened, Refuses, RefusesIn};
+ghost use Rattle.tds_service.specs.Table.{Steps, reading_by, seat_in, service_in};
 ghost use Rattle.tds_service.specs.Ties.{Does, answer_to, line_in};
 
 use crate::connection::Connection;
@@ -104,6 +104,7 @@ impl Service {
             (nat_lt (length self.old.seats.items) self.old.max))) }
         ensures err { OnErr result (service_in self.new ≡ service_in self.old) }
         ensures keeps { Keeps self.old self.new }
+        ensures clients { KeepsClients lease self.old self.new }
     {
         if self.seats.len() >= self.max {
             return Err(Refusal::AllInUse);
@@ -143,6 +144,7 @@ impl Service {
         ensures refused { IfErr result (Refuses calls.Lease (service_in self.old)) }
         ensures err { OnErr result (service_in self.new ≡ service_in self.old) }
         ensures keeps { Keeps self.old self.new }
+        ensures clients { KeepsClients (self.old.given + 1) self.old self.new }
     {
         let lease = self.next_given()?;
         match find(&self.seats, Wanted::Lendable) {
@@ -169,6 +171,7 @@ impl Service {
         ensures refused { IfErr result (Refuses (calls.Resume ticket) (service_in self.old)) }
         ensures err { OnErr result (service_in self.new ≡ service_in self.old) }
         ensures keeps { Keeps self.old self.new }
+        ensures clients { KeepsClients (self.old.given + 1) self.old self.new }
     {
         let lease = self.next_given()?;
         match find(&self.seats, Wanted::Ticket(ticket)) {
@@ -194,6 +197,7 @@ impl Service {
         ensures refused { IfErr result (Refuses (calls.Clean number) (service_in self.old)) }
         ensures err { OnErr result (service_in self.new ≡ service_in self.old) }
         ensures keeps { Keeps self.old self.new }
+        ensures clients { KeepsClients (self.old.given + 1) self.old self.new }
     {
         let lease = self.next_given()?;
         match find(&self.seats, Wanted::Number(number)) {

@@ -1,15 +1,13 @@
 //! What the relay says is to be done: sockets are written to, opened and closed.
 use super::{House, relay_of};
 use crate::counts::{raise, sum};
-use crate::dial::Dial;
 use crate::group::Group;
-use crate::link::Link;
-use crate::socket::{Role, Socket, Whose};
-use mio::net::TcpStream;
+use crate::socket::{Gone, Socket, Whose};
 use slab::Slab;
 use std::io::{self, Write};
 use std::net::Net;
-use tds_relay::Order;
+use tds_judge::Finding;
+use tds_relay::{Order, Place, Relay};
 
 impl<W: Write + Drop> House<W> {
     /// Does what a group's relay says is to be done.
@@ -26,6 +24,7 @@ impl<W: Write + Drop> House<W> {
                 match *order {
                     Order::Open(number) => self.open(rt, group, number)?,
                     Order::Write(key) => {
+                        self.note_answer(key);
                         if !self.send(key)? {
                             self.report(key, true)?;
                         }
@@ -38,8 +37,47 @@ impl<W: Write + Drop> House<W> {
         Ok(())
     }
 
+    /// Opens a connection, which logs in.
+    fn open<R: Net>(&mut self, rt: &R, group: usize, number: u64) -> io::Result<()> {
+        if self.reach(rt, Whose::Opening(group, number), 0)? {
+            return Ok(());
+        }
+        match relay_of(&mut self.groups, group) {
+            Some(relay) => Ok(relay.lost(number)?),
+            None => Ok(()),
+        }
+    }
+
+    /// How long an application's request took, where it has its answer now.
+    fn note_answer(&mut self, key: usize) {
+        let House {
+            sockets,
+            groups,
+            requests,
+            precise,
+            ..
+        } = self;
+        let Some(socket) = sockets.get_mut(key) else {
+            return;
+        };
+        let (Some(asked), Whose::Application(group, application)) = (socket.asked, socket.whose())
+        else {
+            return;
+        };
+        let Some(relay) = relay_of(groups, group) else {
+            return;
+        };
+        if matches!(
+            relay.place_of(application),
+            Some(Place::Quiet | Place::Holding(_))
+        ) {
+            socket.asked = None;
+            requests.add(precise.saturating_sub(asked));
+        }
+    }
+
     /// Nobody is left of a group: it is forgotten, with its login.
-    fn forget_deserted(&mut self, group: usize) {
+    pub(super) fn forget_deserted(&mut self, group: usize) {
         let is_deserted = match self.groups.get(group) {
             Some(group) => group.is_deserted(),
             None => false,
@@ -51,98 +89,125 @@ impl<W: Write + Drop> House<W> {
 
     /// A group is no longer one. What it has done is counted.
     pub(super) fn forget(&mut self, group: usize) {
-        if let Some(mut gone) = self.groups.try_remove(group) {
-            if let Some(relay) = gone.relay() {
-                self.counts.gone = sum(self.counts.gone, relay.counts());
-            }
-        }
-    }
-
-    /// Opens a connection, which logs in.
-    fn open<R: Net>(&mut self, rt: &R, group: usize, number: u64) -> io::Result<()> {
-        let stream = match TcpStream::connect(rt, self.asked.server) {
-            Ok(stream) => stream,
-            Err(_) => return self.not_opened(group, number),
-        };
-        let mut out = Vec::new(self.alloc);
-        let dial = match self.groups.get(group) {
-            Some(group) => Dial::new(self.alloc, &group.login, &mut out)?,
-            None => None,
-        };
-        let Some(dial) = dial else {
-            return self.not_opened(group, number);
-        };
-        let Some(key) = self.take_in(stream, Role::Opening(group, number, dial))? else {
-            return self.not_opened(group, number);
-        };
-        if let Some(socket) = self.sockets.get_mut(key) {
-            socket.out.extend_from_slice(&out)?;
-        }
-        if let Some(relay) = relay_of(&mut self.groups, group) {
-            relay.opening(number, key);
-        }
-        raise(&mut self.counts.opened);
-        self.say("connection", key, "is opened");
-        Ok(())
-    }
-
-    fn not_opened(&mut self, group: usize, number: u64) -> io::Result<()> {
-        match relay_of(&mut self.groups, group) {
-            Some(relay) => Ok(relay.lost(number)?),
-            None => Ok(()),
+        if let Some(gone) = self.groups.try_remove(group) {
+            self.counts.gone = sum(self.counts.gone, gone.counts());
         }
     }
 
     /// Closes a socket, behind what the system still takes of what waits for it. What the relay says
     /// then is done by whoever calls.
-    pub(super) fn close(&mut self, key: usize) -> io::Result<()> {
+    fn close(&mut self, key: usize) -> io::Result<()> {
+        match self.take_out(key)? {
+            Some(whose) => {
+                let _ = self.part(whose, key)?;
+                Ok(())
+            }
+            None => Ok(()),
+        }
+    }
+
+    /// Takes a socket out, behind what the system still takes of what waits for it. Answers what it was.
+    pub(super) fn take_out(&mut self, key: usize) -> io::Result<Option<Whose>> {
         let _ = self.send(key)?;
         self.say("socket", key, "is closed");
-        let Some(socket) = self.sockets.try_remove(key) else {
-            return Ok(());
+        let Some(gone) = self.remove(key)? else {
+            return Ok(None);
         };
-        self.count_end(&socket);
-        if let Whose::Application(group, application) = socket.whose() {
+        if let Whose::Application(group, application) = gone.whose {
             if let Some(relay) = relay_of(&mut self.groups, group) {
                 relay.left(application)?;
             }
         }
-        Ok(())
+        Ok(Some(gone.whose))
+    }
+
+    /// Removes a socket, and counts its end. Answers what it was.
+    fn remove(&mut self, key: usize) -> io::Result<Option<Gone>> {
+        let Some(mut socket) = self.sockets.try_remove(key) else {
+            return Ok(None);
+        };
+        self.end_judging(&mut socket)?;
+        let gone = socket.gone();
+        match gone.whose {
+            Whose::First(_) | Whose::Opening(..) | Whose::Connection(..) => {
+                raise(&mut self.counts.ended);
+            }
+            Whose::Gate | Whose::Judged(_) | Whose::Leg(_) | Whose::Application(..) => {}
+            Whose::Asker | Whose::Closing => {}
+        }
+        Ok(Some(gone))
     }
 
     /// A socket has ended, or failed.
     pub(super) fn closed<R: Net>(&mut self, rt: &R, key: usize) -> io::Result<()> {
+        self.ended(rt, key, true)
+    }
+
+    /// A socket has ended. Where that is its server's doing, another one is dialed for its login, or the
+    /// group's other connections are checked.
+    pub(super) fn ended<R: Net>(&mut self, rt: &R, key: usize, is_failure: bool) -> io::Result<()> {
         self.say("socket", key, "has ended");
-        let Some(socket) = self.sockets.try_remove(key) else {
+        let Some(gone) = self.remove(key)? else {
             return Ok(());
         };
-        self.count_end(&socket);
-        match socket.whose() {
-            Whose::Gate | Whose::Judged | Whose::Asker | Whose::Closing => Ok(()),
-            Whose::Application(group, application) => {
-                if let Some(relay) = relay_of(&mut self.groups, group) {
-                    relay.left(application)?;
-                }
-                self.obey(rt, group)
-            }
-            Whose::First(group) => self.not_judged(group),
-            Whose::Opening(group, number) | Whose::Connection(group, number) => {
-                if let Some(relay) = relay_of(&mut self.groups, group) {
-                    relay.lost(number)?;
-                }
-                self.obey(rt, group)
-            }
+        if self.part(gone.whose, key)? {
+            return Ok(());
+        }
+        match gone.whose {
+            Whose::Gate | Whose::Judged(_) | Whose::Leg(_) | Whose::Asker | Whose::Closing => Ok(
+                (),
+            ),
+            Whose::Application(group, application) => self.has_left(rt, group, application),
+            Whose::First(_) | Whose::Opening(..) => self.has_failed(rt, &gone, is_failure),
+            Whose::Connection(group, number) => self.is_lost(rt, group, number, is_failure),
         }
     }
 
-    fn count_end(&mut self, socket: &Socket) {
-        match socket.whose() {
-            Whose::First(_) | Whose::Opening(..) | Whose::Connection(..) => {
-                raise(&mut self.counts.ended);
-            }
-            Whose::Gate | Whose::Judged | Whose::Application(..) => {}
-            Whose::Asker | Whose::Closing => {}
+    /// An application of a group has ended.
+    fn has_left<R: Net>(&mut self, rt: &R, group: usize, application: usize) -> io::Result<()> {
+        if let Some(relay) = relay_of(&mut self.groups, group) {
+            relay.left(application)?;
         }
+        self.obey(rt, group)
+    }
+
+    /// A login's connection has ended.
+    fn has_failed<R: Net>(&mut self, rt: &R, gone: &Gone, is_failure: bool) -> io::Result<()> {
+        if is_failure && self.dial_again(rt, gone)? {
+            return Ok(());
+        }
+        self.not_reached(rt, gone.whose)
+    }
+
+    /// A connection of a group has ended.
+    fn is_lost<R: Net>(
+        &mut self,
+        rt: &R,
+        group: usize,
+        number: u64,
+        is_failure: bool,
+    ) -> io::Result<()> {
+        if let Some(relay) = relay_of(&mut self.groups, group) {
+            relay.lost(number)?;
+        }
+        self.obey(rt, group)?;
+        if is_failure {
+            self.check(rt, group)
+        } else {
+            Ok(())
+        }
+    }
+
+    /// A login's connection has failed: another server is dialed, where there is one.
+    fn dial_again<R: Net>(&mut self, rt: &R, gone: &Gone) -> io::Result<bool> {
+        let Some(way) = gone.way else {
+            return Ok(false);
+        };
+        self.went_away(way);
+        if gone.has_legs {
+            return Ok(false);
+        }
+        self.reach(rt, gone.whose, way.tried)
     }
 
     /// Sends what the system takes of what waits for a socket. False where it failed, or is to be closed
@@ -151,12 +216,16 @@ impl<W: Write + Drop> House<W> {
         let House {
             sockets,
             groups,
+            findings,
+            precise,
             ..
         } = self;
         let Some(socket) = sockets.get_mut(key) else {
             return Ok(true);
         };
-        match send_to(socket, groups) {
+        let sent = send_to(socket, groups, *precise, findings);
+        self.tell_findings(key)?;
+        match sent {
             Ok(None) => Ok(true),
             Ok(Some(partner)) => {
                 self.report(partner, false)?;
@@ -168,62 +237,72 @@ impl<W: Write + Drop> House<W> {
 }
 
 /// Sends it. Answers the socket that may be read again behind that.
-fn send_to(socket: &mut Socket, groups: &mut Slab<Group>) -> io::Result<Option<usize>> {
-    if !socket.out.is_empty() {
-        send_login(&mut socket.link, &mut socket.out)?;
-        if !socket.out.is_empty() {
-            return Ok(None);
-        }
+fn send_to(
+    socket: &mut Socket,
+    groups: &mut Slab<Group>,
+    time: u64,
+    findings: &mut Vec<Finding>,
+) -> io::Result<Option<usize>> {
+    if !socket.send_out(time, findings)? {
+        return Ok(None);
     }
     match socket.whose() {
-        Whose::Application(group, key) => {
-            let Some(relay) = relay_of(groups, group) else {
-                return Ok(None);
-            };
-            let mut partner = None;
-            for _ in 0..64 {
-                let bytes = relay.unsent(key);
-                if bytes.is_empty() {
-                    break;
-                }
-                let count = socket.link.send(bytes)?;
-                if count == 0 {
-                    break;
-                }
-                partner = relay.sent(key, count);
-            }
-            Ok(partner)
-        }
-        Whose::Connection(group, number) => {
-            let Some(relay) = relay_of(groups, group) else {
-                return Ok(None);
-            };
-            let mut partner = None;
-            for _ in 0..64 {
-                let bytes = relay.unsent_on(number);
-                if bytes.is_empty() {
-                    break;
-                }
-                let count = socket.link.send(bytes)?;
-                if count == 0 {
-                    break;
-                }
-                partner = relay.sent_on(number, count);
-            }
-            Ok(partner)
-        }
+        Whose::Application(group, key) => match relay_of(groups, group) {
+            Some(relay) => send_application(socket, relay, key, time, findings),
+            None => Ok(None),
+        },
+        Whose::Connection(group, number) => match relay_of(groups, group) {
+            Some(relay) => send_on(socket, relay, number, time, findings),
+            None => Ok(None),
+        },
         Whose::Closing => Err(io::Error::from(io::ErrorKind::BrokenPipe)),
-        Whose::Gate | Whose::Judged | Whose::First(_) | Whose::Opening(..) | Whose::Asker => Ok(
-            None,
-        ),
+        Whose::Gate | Whose::Judged(_) | Whose::Leg(_) => Ok(None),
+        Whose::First(_) | Whose::Opening(..) | Whose::Asker => Ok(None),
     }
 }
 
-/// Sends what a login has to say.
-fn send_login(link: &mut Link, out: &mut Vec<u8>) -> io::Result<()> {
-    let count = link.send(out.as_slice())?.min(out.len());
-    let left = out.len() - count;
-    out.copy_within(count.., 0);
-    out.truncate(left);
-    Ok(())
+/// Sends what waits for an application.
+fn send_application(
+    socket: &mut Socket,
+    relay: &mut Relay,
+    key: usize,
+    time: u64,
+    findings: &mut Vec<Finding>,
+) -> io::Result<Option<usize>> {
+    let mut partner = None;
+    for _ in 0..64 {
+        let bytes = relay.unsent(key);
+        if bytes.is_empty() {
+            break;
+        }
+        let count = socket.send(bytes, time, findings)?;
+        if count == 0 {
+            break;
+        }
+        partner = relay.sent(key, count);
+    }
+    Ok(partner)
+}
+
+/// Sends what waits on a connection.
+fn send_on(
+    socket: &mut Socket,
+    relay: &mut Relay,
+    number: u64,
+    time: u64,
+    findings: &mut Vec<Finding>,
+) -> io::Result<Option<usize>> {
+    let mut partner = None;
+    for _ in 0..64 {
+        let bytes = relay.unsent_on(number);
+        if bytes.is_empty() {
+            break;
+        }
+        let count = socket.send(bytes, time, findings)?;
+        if count == 0 {
+            break;
+        }
+        partner = relay.sent_on(number, count);
+    }
+    Ok(partner)
 }

@@ -2,10 +2,15 @@
 use super::{House, relay_of};
 use crate::counts::sum;
 use crate::figures::{Figures, put_json_figures, put_metrics, put_text_figures};
+use crate::group::Group;
 use crate::socket::{At, Role, Socket, Whose};
 use crate::stats::{Page, put_answer};
 use std::io::{self, Write};
 use std::net::Net;
+
+/// What may be asked for.
+const PAGES: &[u8] =
+    b"GET /, /json, /metrics; POST /kill/GROUP, /pause/GROUP, /resume/GROUP, /reload, /drain\n";
 
 impl<W: Write + Drop> House<W> {
     /// Bytes of somebody who asks came.
@@ -20,6 +25,11 @@ impl<W: Write + Drop> House<W> {
         let Some(page) = page else {
             return Ok(());
         };
+        if page == Page::Reload {
+            // It is answered behind this round's turns.
+            self.reloads.push(key)?;
+            return Ok(());
+        }
         let mut out = Vec::new(self.alloc);
         self.answer(rt, page, &mut out)?;
         if let Some(socket) = self.sockets.get_mut(key) {
@@ -40,7 +50,7 @@ impl<W: Write + Drop> House<W> {
                 ("200 OK", "application/json")
             }
             Page::Metrics => {
-                put_metrics(&mut body, &self.figures())?;
+                self.put_metrics(&mut body)?;
                 ("200 OK", "text/plain; version=0.0.4")
             }
             Page::Kill(group) => {
@@ -48,13 +58,86 @@ impl<W: Write + Drop> House<W> {
                 body.extend_from_slice(b"closed\n")?;
                 ("200 OK", "text/plain")
             }
-            Page::Unknown => {
-                body.extend_from_slice(b"GET /, /json, /metrics; POST /kill/GROUP\n")?;
+            Page::Drain => {
+                self.end_soon();
+                body.extend_from_slice(b"ends\n")?;
+                ("200 OK", "text/plain")
+            }
+            Page::Pause(group) => self.answer_pause(group, true, &mut body)?,
+            Page::Resume(group) => self.answer_pause(group, false, &mut body)?,
+            Page::Unknown | Page::Reload => {
+                body.extend_from_slice(PAGES)?;
                 ("404 Not Found", "text/plain")
             }
             Page::Wrong => ("400 Bad Request", "text/plain"),
         };
         put_answer(out, status, kind, &body)
+    }
+
+    /// Pauses a group or lets it go on, and says so.
+    fn answer_pause(
+        &mut self,
+        group: u64,
+        is_paused: bool,
+        body: &mut Vec<u8>,
+    ) -> io::Result<(&'static str, &'static str)> {
+        if !self.pause(group, is_paused)? {
+            body.extend_from_slice(b"there is no such group\n")?;
+            return Ok(("404 Not Found", "text/plain"));
+        }
+        let told: &[u8] = if is_paused { b"paused\n" } else { b"goes on\n" };
+        body.extend_from_slice(told)?;
+        Ok(("200 OK", "text/plain"))
+    }
+
+    /// The figures in the form that Prometheus reads.
+    fn put_metrics(&mut self, body: &mut Vec<u8>) -> io::Result<()> {
+        self.see_all()?;
+        put_metrics(body, &self.figures())?;
+        self.requests.put_metrics(body, "tdsrelay_request_seconds")?;
+        self.logins.put_metrics(body, "tdsrelay_login_seconds")?;
+        self.put_users(body)
+    }
+
+    /// The applications and the connections of each user, for Prometheus.
+    fn put_users(&self, body: &mut Vec<u8>) -> io::Result<()> {
+        for (what, kind) in [("applications", true), ("connections", false)].iter() {
+            write!(body, "# TYPE tdsrelay_user_{what} gauge\n")?;
+            for (place, group) in self.groups.iter() {
+                if self.is_first_of_user(place, group) {
+                    let count = self.count_of(&group.user, *kind);
+                    let user = group.user.as_str();
+                    write!(body, "tdsrelay_user_{what}{{user=\"{user}\"}} {count}\n")?;
+                }
+            }
+        }
+        Ok(())
+    }
+
+    /// Whether no group before this one is of the same user.
+    fn is_first_of_user(&self, place: usize, group: &Group) -> bool {
+        for (before, other) in self.groups.iter() {
+            if before < place && other.user == group.user {
+                return false;
+            }
+        }
+        true
+    }
+
+    /// How many applications or connections there are of a user.
+    fn count_of(&self, user: &String, of_applications: bool) -> u64 {
+        let mut count: u64 = 0;
+        for (_, group) in self.groups.iter() {
+            if group.user == *user {
+                let more = if of_applications {
+                    group.applications()
+                } else {
+                    group.connections()
+                };
+                count = count.saturating_add(more as u64);
+            }
+        }
+        count
     }
 
     /// Closes all applications and connections of a group.
@@ -66,7 +149,7 @@ impl<W: Write + Drop> House<W> {
             }
         }
         for key in keys.iter() {
-            self.closed(rt, *key)?;
+            self.ended(rt, *key, false)?;
         }
         Ok(())
     }
@@ -77,13 +160,18 @@ impl<W: Write + Drop> House<W> {
         let House {
             sockets,
             groups,
+            now,
             ..
         } = self;
         for (_, socket) in sockets.iter() {
             figures.add(socket.whose(), socket.seen.at);
+            if matches!(socket.seen.at, At::Waiting | At::Opening) {
+                figures.waited(now.saturating_sub(socket.seen.since) / 1000);
+            }
         }
         for (_, group) in groups.iter() {
             figures.done = sum(figures.done, group.counts());
+            figures.add_group(group.pair.is_some(), group.is_paused);
         }
         figures
     }
@@ -106,19 +194,46 @@ impl<W: Write + Drop> House<W> {
 
     fn put_text(&mut self, body: &mut Vec<u8>) -> io::Result<()> {
         self.see_all()?;
-        let server = self.asked.server;
-        write!(body, "tdsrelay 0.1.0 before {server}\n\n")?;
+        write!(body, "tdsrelay 0.1.0\n")?;
+        self.put_servers(body)?;
+        write!(body, "\n")?;
         put_text_figures(body, &self.figures())?;
+        self.requests.put_text(body, "requests")?;
+        self.logins.put_text(body, "logins of connections")?;
         for (group, _) in self.groups.iter() {
             self.put_group(body, group)?;
         }
         Ok(())
     }
 
+    /// The servers, and which of them have failed lately.
+    fn put_servers(&self, body: &mut Vec<u8>) -> io::Result<()> {
+        for (place, until) in self.away.iter().enumerate() {
+            if let Some(server) = self.asked.servers.at(place) {
+                write!(body, "server {place} {server}")?;
+                if *until > self.now {
+                    write!(body, " has failed")?;
+                }
+                write!(body, "\n")?;
+            }
+        }
+        Ok(())
+    }
+
     /// A group: its figures, and a line for each socket of it.
     fn put_group(&self, body: &mut Vec<u8>, group: usize) -> io::Result<()> {
-        let most = self.asked.most;
-        write!(body, "\ngroup {group}, at most {most} connections\n")?;
+        if let Some(found) = self.groups.get(group) {
+            let how = match (found.pair.is_some(), found.is_paused) {
+                (true, _) => "not shared",
+                (false, true) => "paused",
+                (false, false) => "shared",
+            };
+            let (user, most) = (found.user.as_str(), found.most);
+            write!(
+                body,
+                "\ngroup {group}, {how}, user {user}, at most {most} connections\n"
+            )?;
+        }
         for (_, socket) in self.sockets.iter() {
             if group_of(socket) == Some(group as u64) {
                 self.put_socket(body, socket)?;
@@ -134,6 +249,9 @@ impl<W: Write + Drop> House<W> {
         write!(body, "  {} {number} {at}, {seconds} s", kind_of(socket))?;
         if let Some(who) = &socket.who {
             write!(body, " ({}, {})", who.host, who.program)?;
+        }
+        if let Whose::Connection(..) = socket.whose() {
+            write!(body, " (SPID {}, server {})", socket.spid, socket.server)?;
         }
         writeln!(body, "")
     }
@@ -161,6 +279,10 @@ impl<W: Write + Drop> House<W> {
     fn put_json(&mut self, body: &mut Vec<u8>) -> io::Result<()> {
         self.see_all()?;
         put_json_figures(body, &self.figures())?;
+        write!(body, ",\"request_seconds\":")?;
+        self.requests.put_json(body)?;
+        write!(body, ",\"login_seconds\":")?;
+        self.logins.put_json(body)?;
         write!(body, ",\"sockets\":[")?;
         let mut is_first = true;
         for (_, socket) in self.sockets.iter() {
@@ -189,8 +311,15 @@ impl<W: Write + Drop> House<W> {
         if let Some(who) = &socket.who {
             write!(
                 body,
-                ",\"host\":\"{}\",\"program\":\"{}\"",
-                who.host, who.program
+                ",\"host\":\"{}\",\"user\":\"{}\",\"program\":\"{}\"",
+                who.host, who.user, who.program
+            )?;
+        }
+        if let Whose::Connection(..) = socket.whose() {
+            write!(
+                body,
+                ",\"spid\":{},\"server\":{}",
+                socket.spid, socket.server
             )?;
         }
         write!(body, "}}")
@@ -200,7 +329,8 @@ impl<W: Write + Drop> House<W> {
 /// The group that a socket belongs to.
 fn group_of(socket: &Socket) -> Option<u64> {
     match socket.whose() {
-        Whose::Judged | Whose::Gate | Whose::Asker | Whose::Closing => None,
+        Whose::Gate | Whose::Asker | Whose::Closing => None,
+        Whose::Judged(group) | Whose::Leg(group) => Some(group as u64),
         Whose::Application(group, _) => Some(group as u64),
         Whose::First(group) => Some(group as u64),
         Whose::Opening(group, _) => Some(group as u64),
@@ -217,7 +347,7 @@ fn is_application(socket: &Socket, group: usize, key: usize) -> bool {
 
 fn kind_of(socket: &Socket) -> &'static str {
     match socket.whose() {
-        Whose::Gate | Whose::Judged | Whose::Application(..) => "application",
+        Whose::Gate | Whose::Judged(_) | Whose::Leg(_) | Whose::Application(..) => "application",
         Whose::First(_) | Whose::Opening(..) | Whose::Connection(..) => "connection",
         Whose::Asker | Whose::Closing => "other",
     }

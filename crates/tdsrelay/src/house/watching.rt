@@ -17,6 +17,8 @@ enum Why {
     Hold,
     Idle,
     Old,
+    /// Its group is paused.
+    Paused,
     /// The relay ends.
     End,
 }
@@ -31,6 +33,7 @@ impl Why {
             Why::Hold => "has held a connection too long and asked nothing",
             Why::Idle => "was idle too long",
             Why::Old => "is old enough",
+            Why::Paused => "is closed, since its group is paused",
             Why::End => "is closed, since the relay ends",
         }
     }
@@ -45,7 +48,7 @@ impl Why {
             )),
             Why::End => Some((50_103, "The relay ends.")),
             Why::Login => Some((50_100, "The server has not judged the login in time.")),
-            Why::Cancel | Why::Idle | Why::Old => None,
+            Why::Cancel | Why::Idle | Why::Old | Why::Paused => None,
         }
     }
 }
@@ -62,7 +65,7 @@ impl<W: Write + Drop> House<W> {
                 self.end(rt, *key, why)?;
             }
         }
-        Ok(())
+        self.check_all(rt)
     }
 
     /// Whether it is to end, and has no application left or has waited long enough for that.
@@ -90,7 +93,8 @@ impl<W: Write + Drop> House<W> {
     /// Notes what a socket is at, and answers why it is to be closed, if it is.
     fn look_at(&mut self, key: usize) -> Option<Why> {
         let (at, mark) = self.at(key);
-        let (now, limits, is_ending) = (self.now, self.asked.limits, self.ending.is_some());
+        let (now, limits, is_ending) = (self.now, self.limits_of(key), self.ending.is_some());
+        let is_paused = self.is_paused(key);
         let socket = self.sockets.get_mut(key)?;
         socket.see(at, mark, now);
         let lasted = now.saturating_sub(socket.seen.since);
@@ -98,7 +102,48 @@ impl<W: Write + Drop> House<W> {
         if is_ending && matches!(at, At::Login | At::Quiet | At::Holding | At::Waiting) {
             return Some(Why::End);
         }
+        if is_paused && at == At::Free {
+            return Some(Why::Paused);
+        }
         why_late(at, lasted, age, &limits)
+    }
+
+    /// The limits of a socket. A server's share of a login's time is the smaller the more servers there are;
+    /// a connection that isn't shared may be idle as long as its application is there.
+    fn limits_of(&self, key: usize) -> Limits {
+        let mut limits = self.asked.limits;
+        let whose = match self.sockets.get(key) {
+            Some(socket) => socket.whose(),
+            None => return limits,
+        };
+        match whose {
+            Whose::First(_) | Whose::Opening(..) => {
+                let count = self.asked.servers.count();
+                if limits.login > 0 && count > 1 {
+                    limits.login = (limits.login / count).max(1);
+                }
+            }
+            Whose::Connection(group, _) if self.pair_of(group).is_some() => {
+                limits.idle = 0;
+                limits.life = 0;
+            }
+            _ => {}
+        }
+        limits
+    }
+
+    /// Whether the group of a socket that is a connection is paused.
+    fn is_paused(&self, key: usize) -> bool {
+        let Some(socket) = self.sockets.get(key) else {
+            return false;
+        };
+        match socket.whose() {
+            Whose::Connection(group, _) => match self.groups.get(group) {
+                Some(group) => group.is_paused,
+                None => false,
+            },
+            _ => false,
+        }
     }
 
     /// What a socket is at, and what tells two of that apart.
@@ -112,7 +157,8 @@ impl<W: Write + Drop> House<W> {
             return (At::Other, 0);
         };
         match socket.whose() {
-            Whose::Gate | Whose::Judged | Whose::First(_) | Whose::Opening(..) => (At::Login, 0),
+            Whose::Gate | Whose::Judged(_) | Whose::Leg(_) => (At::Login, 0),
+            Whose::First(_) | Whose::Opening(..) => (At::Login, 0),
             Whose::Asker | Whose::Closing => (At::Other, 0),
             Whose::Application(group, application) => match relay_of(groups, group) {
                 Some(relay) => (
@@ -143,11 +189,11 @@ impl<W: Write + Drop> House<W> {
             (Whose::Application(group, application), _) => {
                 self.dismiss_from(rt, key, group, application, why)
             }
-            (Whose::Judged, Why::Login) => self.put_refusal(
+            (Whose::Judged(_) | Whose::Leg(_), Why::Login) => self.put_refusal(
                 key,
                 "The server gave no answer in time.",
             ),
-            _ => self.closed(rt, key),
+            _ => self.ended(rt, key, matches!(why, Why::Login | Why::Cancel)),
         }
     }
 
@@ -160,7 +206,7 @@ impl<W: Write + Drop> House<W> {
             Why::Hold => raise(&mut counts.late_holds),
             Why::Idle => raise(&mut counts.idle),
             Why::Old => raise(&mut counts.old),
-            Why::End => {}
+            Why::End | Why::Paused => {}
         }
     }
 
@@ -201,6 +247,7 @@ impl<W: Write + Drop> House<W> {
             relay.left(application)?;
         }
         self.obey(rt, group)?;
+        self.let_go(Whose::Application(group, application))?;
         self.dismiss(rt, key)
     }
 }

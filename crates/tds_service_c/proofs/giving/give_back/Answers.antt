@@ -24,7 +24,7 @@ returns-clause-ok c =
     let is = ap (λ (n : ℕ). take n (copied ++ behind)) (sym (ap length c.copy_from_slice.ensures.after))
     ∙ (take-append_seam copied behind ∙ (c.copy_from_slice.ensures.after ∙ c.as_slice-bytes.ensures)) in
     gives_back (table_of s seats) _ test s.count seats i here _ m rest _ (written_bytes c.written-written.result) refl (same_seat test s.count seats i here _)
-    c.cancelled-cancelled.ensures.line c.rest-rest.ensures c.written-written.ensures is
+    c.cancelled-cancelled.ensures.line c.rest-rest.ensures c.written-written.ensures.sent is
     (c.settle.ensures test (Cancel ∷ []) (Back (rest_of rest)) here.seat here.at here.first
     (c.cancelled-cancelled.ensures.number ∙ ap (λ (z : TdsSeat). z.number) (same_seat test s.count seats i here _))
     (c.cancelled-cancelled.ensures.line ∙ ap (λ (z : TdsSeat). (turn {T = Token} (line_of z) Cancel).line) (same_seat test s.count seats i here _)))

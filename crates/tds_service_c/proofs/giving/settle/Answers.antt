@@ -10,12 +10,12 @@ use Rattle.tds_service_c.proofs.giving.settle.Goals as goal
 pub returns-in-Free : goal.returns-in-Free
 returns-in-Free c = λ test all reply d e first number moved.
     let s = c.args.service.now in
-    settles s.last s.given s.count c.args.seats.now c.args.index test Free all reply c.args.rest d c.args.seat c.at.result c.requires.within first e number moved c.at.ensures (ap rest_of c.in-Free.is)
+    settles s.last s.given s.count c.args.seats.now c.args.index test Free all reply c.args.rest d c.args.seat c.at.result c.requires.within first e number moved c.at.ensures.seat (ap rest_of c.in-Free.is)
 
 pub returns-in-Draining : goal.returns-in-Draining
 returns-in-Draining c = λ test all reply d e first number moved.
     let s = c.args.service.now in
-    settles s.last s.given s.count c.args.seats.now c.args.index test Draining all reply c.args.rest d c.args.seat c.at-in-Draining.result c.requires.within first e number moved c.at-in-Draining.ensures (ap rest_of c.in-Draining.is)
+    settles s.last s.given s.count c.args.seats.now c.args.index test Draining all reply c.args.rest d c.args.seat c.at-in-Draining.result c.requires.within first e number moved c.at-in-Draining.ensures.seat (ap rest_of c.in-Draining.is)
 
 pub returns-in-Closed : goal.returns-in-Closed
 returns-in-Closed c = λ test all reply d e first number moved.

@@ -23,4 +23,4 @@ returns-clause-ok c =
     let test = has_lease c.args.lease in
     let here = here_in test s.count seats i c.requires.fits c.in-Some.ensures.first in
     keeps (table_of s seats) test s.count c.in_ok-ticket.ticket seats i here _ c.at.result refl (same_seat test s.count seats i here _)
-    (sym c.may_keep.ensures ∙ c.if-not-may_keep.false) c.in_ok-ticket.ensures.value c.at.ensures
+    (sym c.may_keep.ensures ∙ c.if-not-may_keep.false) c.in_ok-ticket.ensures.value c.at.ensures.seat

@@ -10,4 +10,4 @@ returns c = λ test d e first.
     let i = c.args.index in
     let lt : i < length seats = omega (arith, c.requires.within, c.requires.fits) in
     lends_at s.last s.given s.count c.args.lease seats i test (place_named c.args.place) c.args.reset _ c.marked.result c.at.result d
-    c.requires.within first e (same_get seats i _ d lt ∙ sym e) (c.requires.idle d e) c.marked.ensures c.at.ensures
+    c.requires.within first e (same_get seats i _ d lt ∙ sym e) (c.requires.idle d e) c.marked.ensures c.at.ensures.seat

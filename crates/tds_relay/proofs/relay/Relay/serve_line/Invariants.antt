@@ -1,5 +1,5 @@
-use Rattle.tds_relay.specs.Ties.{Goes, desk_in}
+use Rattle.tds_relay.specs.Ties.{GoesOn, desk_in}
 use Rattle.tds_relay.proofs.relay.Relay.serve_line.Given as goal
 
 abbrev pub invariant-line : goal.invariant-line
-invariant-line l = Goes (desk_in l.fn.self.desk) (desk_in l.self.desk)
+invariant-line l = GoesOn (desk_in l.fn.self.desk) (desk_in l.self.desk)

@@ -2,9 +2,10 @@ use Rattle.std.proofs.Common.{◌≡◌, ◌∙◌, [], length, refl, sym, ap, s
 use Rattle.std.proofs.lemmas.List.{with_items_is}
 use Rattle.std.specs.Prelude.{Option}
 use Rattle.tds_service.specs.Service.{Seat, Place, Back, abandons, does, has_ticket}
-use Rattle.tds_service.specs.Table.{StepsIn, service_in, seat_in, seats_in, rest_of, without_closed}
-use Rattle.tds_service.proofs.Tables.{with_seats, here_in, found_here, rests_here}
+use Rattle.tds_service.specs.Table.{StepsIn, service_in, place_of, seat_in, seats_in, rest_of, without_closed}
+use Rattle.tds_service.proofs.Tables.{with_seats, here_in, found_here, meets_here, rests_here}
 use Rattle.tds_service.proofs.Keeping.{keeps_resting}
+use Rattle.tds_service.proofs.Holding.{kept_held, stays_resting}
 use Rattle.tds_service.proofs.service.Service.abandon.Goals as goal
 
 pub returns-in-Some-clause-ok : goal.returns-in-Some-clause-ok
@@ -37,3 +38,17 @@ returns-in-Some-clause-keeps c =
     let len : length news ≡ c.args.self.now.seats.len = first_of (omega arith, search rules) in
     let closed = c.close.ensures ∙ ap (without_closed rest index) (with_items_is c.args.self.now.seats news len) in
     keeps_resting rest c.rest_at-number.result.0 c.args.self.now _ (has_ticket c.args.ticket) lent news index here k.0 c.deref_mut.ensures.value k.1 closed k.3 c.rest_at-number.ensures.keeps
+
+pub returns-in-Some-clause-clients : goal.returns-in-Some-clause-clients
+returns-in-Some-clause-clients c = λ l.
+    let items = c.args.self.now.seats.items in
+    let index = c.in-Some.index in
+    let lent = c.deref_mut.result.now in
+    let news = c.rest_at-number.new.seats in
+    let here = here_in (has_ticket c.args.ticket) items c.deref.result.now lent index c.deref.ensures.value c.deref_mut.ensures.value c.in-Some.ensures.first in
+    let len : length news ≡ c.args.self.now.seats.len = first_of (omega arith, search rules) in
+    let items_are = with_items_is c.args.self.now.seats news len in
+    let k = c.rest_at-number.ensures.rests here.seat here.at_lent in
+    let rest = c.rest_at-number.result.1 in
+    stays_resting l rest (has_ticket c.args.ticket) items _ lent news index here k.0 c.deref_mut.ensures.value k.1 (c.close.ensures ∙ ap (without_closed rest index) items_are) k.6
+    (kept_held l c.args.ticket (place_of here.seat.place) (meets_here (has_ticket c.args.ticket) items lent index here))

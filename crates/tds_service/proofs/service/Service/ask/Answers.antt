@@ -11,6 +11,7 @@ use Rattle.tds_service.specs.Ties.{line_in, asked_answer}
 use Rattle.tds_packet.specs.Resets.{header_descriptor}
 use Rattle.tds_service.proofs.Answering.{answered}
 use Rattle.tds_service.proofs.Tables.{here_in, acts_alike, refuses_alike, one_is_all, on_err, ask_never}
+use Rattle.tds_service.proofs.Holding.{keeps_clients, on_done, opens_here}
 use Rattle.tds_service.proofs.service.Service.ask.Goals as goal
 
 pub returns-in-Some-clause-ok : goal.returns-in-Some-clause-ok
@@ -59,3 +60,33 @@ returns-in-Some-clause-refused c =
     on_err c.ask_at.result _ _
     (λ refusal h. refuses_alike old (has_lease c.args.lease) line.Ask (line.Ask ∷ []) items index here.seat refusal refl here.first here.at (h here.seat here.at_lent) (ask_never (line_in here.seat.connection)))
     c.ask_at.ensures.refused
+
+pub returns-in-Some-clause-opened : goal.returns-in-Some-clause-opened
+returns-in-Some-clause-opened c =
+    let items = c.args.self.now.seats.items in
+    let index = c.in-Some.index in
+    let lent = c.deref_mut.result.now in
+    let news = c.ask_at.new.seats in
+    let here = here_in (has_lease c.args.lease) items c.deref.result.now lent index c.deref.ensures.value c.deref_mut.ensures.value c.in-Some.ensures.first in
+    let len : length news ≡ c.args.self.now.seats.len = first_of (omega arith, search rules) in
+    let items_are = with_items_is c.args.self.now.seats news len in
+    on_done c.ask_at.result _ _
+    (λ done h.
+    let k = h here.seat here.at_lent in
+    opens_here c.args.kind c.args.lease c.args.self.now _ lent news index here k.0 c.deref_mut.ensures.value k.1 items_are k.3 k.6)
+    c.ask_at.ensures.ok
+
+pub returns-in-Some-clause-clients : goal.returns-in-Some-clause-clients
+returns-in-Some-clause-clients c =
+    let items = c.args.self.now.seats.items in
+    let index = c.in-Some.index in
+    let lent = c.deref_mut.result.now in
+    let news = c.ask_at.new.seats in
+    let here = here_in (has_lease c.args.lease) items c.deref.result.now lent index c.deref.ensures.value c.deref_mut.ensures.value c.in-Some.ensures.first in
+    let len : length news ≡ c.args.self.now.seats.len = first_of (omega arith, search rules) in
+    let items_are = with_items_is c.args.self.now.seats news len in
+    on_done c.ask_at.result _ _
+    (λ done h.
+    let k = h here.seat here.at_lent in
+    keeps_clients c.args.lease items _ lent news index here k.0 c.deref_mut.ensures.value k.1 items_are k.3)
+    c.ask_at.ensures.ok

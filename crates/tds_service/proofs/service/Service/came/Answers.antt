@@ -11,6 +11,7 @@ use Rattle.tds_service.specs.Table.{Comes, ReadsAt, RefusesIn, reading_by, servi
 use Rattle.tds_service.proofs.Alone.{same_number}
 use Rattle.tds_service.proofs.Tables.{with_seats, here_in, found_here, meets_here, on_err}
 use Rattle.tds_service.proofs.Arriving.{comes_here, reading_here, reading_behind, same_reading, wants_memory}
+use Rattle.tds_service.proofs.Holding.{off_here, on_done}
 use Rattle.tds_service.proofs.service.Service.came.Goals as goal
 
 pub returns-in-Some-clause-ok : goal.returns-in-Some-clause-ok
@@ -86,3 +87,18 @@ returns-in-Some-clause-others c = λ n r other e.
     let is = same_number here.seat.number c.args.number (meets_here (has_number c.args.number) items lent index here) in
     ap (reading_by (has_number n)) (with_items_is c.args.self.now.seats news len)
     ∙ (c.came_at.ensures.others n here.seat here.at_lent (λ f. other (f ∙ is)) ∙ (ap (reading_by (has_number n)) c.deref_mut.ensures.value ∙ e))
+
+pub returns-in-Some-clause-clients : goal.returns-in-Some-clause-clients
+returns-in-Some-clause-clients c =
+    let items = c.args.self.now.seats.items in
+    let index = c.in-Some.index in
+    let lent = c.deref_mut.result.now in
+    let news = c.came_at.new.seats in
+    let here = here_in (has_number c.args.number) items c.deref.result.now lent index c.deref.ensures.value c.deref_mut.ensures.value c.in-Some.ensures.first in
+    let len : length news ≡ c.args.self.now.seats.len = first_of (omega arith, search rules) in
+    let items_are = with_items_is c.args.self.now.seats news len in
+    on_done c.came_at.result _ _
+    (λ came h.
+    let k = h here.seat here.at_lent in
+    off_here c.args.number items _ lent news index here k.0 c.deref_mut.ensures.value k.1 items_are k.3)
+    c.came_at.ensures.ok

@@ -10,6 +10,7 @@ use Rattle.tds_service.specs.Table.{service_in, seats_in}
 use Rattle.tds_service.specs.Ties.{line_in, cancel_answer}
 use Rattle.tds_service.proofs.Answering.{answered}
 use Rattle.tds_service.proofs.Tables.{here_in, acts_alike, refuses_alike, one_is_all, on_err, cancel_never, cancelled_fine}
+use Rattle.tds_service.proofs.Holding.{keeps_clients, on_done}
 use Rattle.tds_service.proofs.service.Service.cancel.Goals as goal
 
 pub returns-in-Some-clause-ok : goal.returns-in-Some-clause-ok
@@ -58,3 +59,18 @@ returns-in-Some-clause-refused c =
     on_err c.cancel_at.result _ _
     (λ refusal h. refuses_alike old (has_lease c.args.lease) line.Cancel (line.Cancel ∷ []) items index here.seat refusal refl here.first here.at (h here.seat here.at_lent) (cancel_never (line_in here.seat.connection)))
     c.cancel_at.ensures.refused
+
+pub returns-in-Some-clause-clients : goal.returns-in-Some-clause-clients
+returns-in-Some-clause-clients c =
+    let items = c.args.self.now.seats.items in
+    let index = c.in-Some.index in
+    let lent = c.deref_mut.result.now in
+    let news = c.cancel_at.new.seats in
+    let here = here_in (has_lease c.args.lease) items c.deref.result.now lent index c.deref.ensures.value c.deref_mut.ensures.value c.in-Some.ensures.first in
+    let len : length news ≡ c.args.self.now.seats.len = first_of (omega arith, search rules) in
+    let items_are = with_items_is c.args.self.now.seats news len in
+    on_done c.cancel_at.result _ _
+    (λ done h.
+    let k = h here.seat here.at_lent in
+    keeps_clients c.args.lease items _ lent news index here k.0 c.deref_mut.ensures.value k.1 items_are k.3)
+    c.cancel_at.ensures.ok

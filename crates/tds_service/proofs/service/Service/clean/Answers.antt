@@ -7,9 +7,10 @@ use Rattle.tds_service.specs.declared.seat.Seat as code
 use Rattle.tds_service.specs.declared.refusal.Refusal.{Refusal}
 use Rattle.tds_service.specs.declared.refusal.Refusal.TheVariants as refusals
 use Rattle.tds_service.specs.Line as line
-use Rattle.tds_service.specs.Service.{Service, Seat, Cleaning, Lent, NotNow, Step, cleans, does, nothing, find_by, has_number, is_lendable}
+use Rattle.tds_service.specs.Service.{Service, Seat, Cleaning, Lent, NotNow, Step, cleans, does, nothing, find_by, has_number, is_lendable, lease_in}
 use Rattle.tds_service.specs.Table.{StepsIn, RefusesIn, service_in, seat_in, seats_in, place_of}
 use Rattle.tds_service.proofs.Tables.{here_in, found_here, lends_here, lent_same, steps_as, not_now_in, done_in}
+use Rattle.tds_service.proofs.Holding.{lends_clients, lendable_held}
 use Rattle.tds_service.proofs.service.Service.clean.Goals as goal
 
 pub returns-in-Ok-clause-ok : goal.returns-in-Ok-clause-ok
@@ -44,3 +45,18 @@ returns-in-Err-clause-refused c =
     subst (λ (r : Refusal). RefusesIn old (cleans old (has_number c.args.number) (find_by (has_number c.args.number) old.seats)) r) (sym c.in-Err.ensures.refused.0)
     (subst (λ (x : Option Seat). RefusesIn old (cleans old (has_number c.args.number) x) refusals.NotNow) (sym found)
     (not_now_in old (does old (suc old.given) (has_number c.args.number) (seat_in here.seat) (Some (Cleaning (suc old.given))) (line.Mark Full ∷ []) (Lent (suc old.given) here.seat.number true)) (is_lendable (seat_in here.seat)) (c.in-Err.ensures.refused.1 here.seat here.at_lent)))
+
+pub returns-in-Ok-clause-clients : goal.returns-in-Ok-clause-clients
+returns-in-Ok-clause-clients c =
+    let items = c.args.self.now.seats.items in
+    let index = c.in-Some.index in
+    let lent = c.deref_mut.result.now in
+    let news = c.clean_at.new.seats in
+    let here = here_in (has_number c.args.number) items c.deref.result.now lent index c.deref.ensures.value c.deref_mut.ensures.value c.in-Some.ensures.first in
+    let len : length news ≡ c.args.self.now.seats.len = first_of (omega arith, search rules) in
+    let items_are = with_items_is c.args.self.now.seats news len in
+    let k = c.in-Ok.ensures.ok here.seat here.at_lent in
+    let is = c.in_ok-lease.ensures.value in
+    lends_clients (c.args.self.now.given + 1) (has_number c.args.number) items _ lent news index here k.0 c.deref_mut.ensures.value k.1 items_are
+    (λ l. lendable_held l (seat_in here.seat) k.6)
+    (ap (λ p. lease_in (place_of p)) k.3 ∙ ap Some is)

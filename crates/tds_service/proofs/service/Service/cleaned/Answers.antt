@@ -7,6 +7,7 @@ use Rattle.tds_service.specs.Service.{Seat, Place, Back, cleaned, rests_cleaned,
 use Rattle.tds_service.specs.Table.{StepsIn, RefusesIn, service_in, seat_in, seats_in, rest_of, without_closed}
 use Rattle.tds_service.proofs.Tables.{with_seats, here_in, found_here, rests_here}
 use Rattle.tds_service.proofs.Keeping.{keeps_resting}
+use Rattle.tds_service.proofs.Holding.{keeps_clients_resting}
 use Rattle.tds_service.proofs.service.Service.cleaned.Goals as goal
 
 pub returns-in-Ok-clause-ok : goal.returns-in-Ok-clause-ok
@@ -49,3 +50,15 @@ returns-in-Ok-clause-keeps c =
     let len : length news ≡ c.args.self.now.seats.len = first_of (omega arith, search rules) in
     let closed = c.close.ensures ∙ ap (without_closed c.in-Ok.rest index) (with_items_is c.args.self.now.seats news len) in
     keeps_resting c.in-Ok.rest c.in-Ok.number c.args.self.now _ (has_lease c.args.lease) lent news index here k.0 c.deref_mut.ensures.value k.1 closed k.3 c.cleaned_at.ensures.keeps
+
+pub returns-in-Ok-clause-clients : goal.returns-in-Ok-clause-clients
+returns-in-Ok-clause-clients c =
+    let items = c.args.self.now.seats.items in
+    let index = c.in-Some.index in
+    let lent = c.deref_mut.result.now in
+    let news = c.cleaned_at.new.seats in
+    let here = here_in (has_lease c.args.lease) items c.deref.result.now lent index c.deref.ensures.value c.deref_mut.ensures.value c.in-Some.ensures.first in
+    let len : length news ≡ c.args.self.now.seats.len = first_of (omega arith, search rules) in
+    let items_are = with_items_is c.args.self.now.seats news len in
+    let k = c.in-Ok.ensures.ok here.seat here.at_lent in
+    keeps_clients_resting c.args.lease c.in-Ok.rest items _ lent news index here k.0 c.deref_mut.ensures.value k.1 (c.close.ensures ∙ ap (without_closed c.in-Ok.rest index) items_are) k.6

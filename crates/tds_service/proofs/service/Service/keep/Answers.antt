@@ -6,9 +6,10 @@ use Rattle.tds_wire.specs.declared.told.Token.{Token}
 use Rattle.tds_service.specs.declared.seat.Seat as code
 use Rattle.tds_service.specs.declared.refusal.Refusal.{Refusal}
 use Rattle.tds_service.specs.declared.refusal.Refusal.TheVariants as refusals
-use Rattle.tds_service.specs.Service.{Service, Seat, Kept, Ticket, NotNow, Step, keeps_it, may_keep, does, nothing, find_by, has_lease}
+use Rattle.tds_service.specs.Service.{Service, Seat, Kept, Ticket, NotNow, Step, keeps_it, may_keep, does, nothing, find_by, has_lease, holds}
 use Rattle.tds_service.specs.Table.{StepsIn, RefusesIn, service_in, seat_in, seats_in, place_of}
 use Rattle.tds_service.proofs.Tables.{here_in, found_here, does_alike, not_now_in, done_in, steps_as}
+use Rattle.tds_service.proofs.Holding.{other_held_here, stays_here}
 use Rattle.tds_service.proofs.service.Service.keep.Goals as goal
 
 pub returns-in-Ok-clause-ok : goal.returns-in-Ok-clause-ok
@@ -48,3 +49,16 @@ returns-in-Err-clause-refused c =
     subst (λ (r : Refusal). RefusesIn old (keeps_it old (has_lease c.args.lease) (find_by (has_lease c.args.lease) old.seats)) r) (sym c.in-Err.ensures.refused.0)
     (subst (λ (x : Option Seat). RefusesIn old (keeps_it old (has_lease c.args.lease) x) refusals.NotNow) (sym found)
     (not_now_in old (does old (suc old.given) (has_lease c.args.lease) (seat_in here.seat) (Some (Kept (suc old.given))) [] (Ticket (suc old.given))) (may_keep (seat_in here.seat)) (c.in-Err.ensures.refused.1 here.seat here.at_lent)))
+
+pub returns-in-Ok-clause-clients : goal.returns-in-Ok-clause-clients
+returns-in-Ok-clause-clients c = λ l other.
+    let items = c.args.self.now.seats.items in
+    let index = c.in-Some.index in
+    let lent = c.deref_mut.result.now in
+    let news = c.keep_at.new.seats in
+    let here = here_in (has_lease c.args.lease) items c.deref.result.now lent index c.deref.ensures.value c.deref_mut.ensures.value c.in-Some.ensures.first in
+    let len : length news ≡ c.args.self.now.seats.len = first_of (omega arith, search rules) in
+    let items_are = with_items_is c.args.self.now.seats news len in
+    let k = c.in-Ok.ensures.ok here.seat here.at_lent in
+    stays_here l (has_lease c.args.lease) items _ lent news index here k.0 c.deref_mut.ensures.value k.1 items_are (other_held_here l c.args.lease items lent index here other)
+    (ap (λ p. holds l (place_of p)) k.3)

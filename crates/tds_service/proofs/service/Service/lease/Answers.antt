@@ -1,13 +1,14 @@
 use Rattle.std.proofs.Common.{◌≡◌, ◌∙◌, ◌+◌, ℕ, List, [], Bool, true, false, length, suc, refl, sym, ap, subst, arith, rules}
 use Rattle.std.proofs.lemmas.List.{with_items_is}
-use Rattle.std.specs.Prelude.{Option, nat_lt, if◌then◌else◌}
+use Rattle.std.specs.Prelude.{Option, Some, nat_lt, if◌then◌else◌}
 use Rattle.tds_wire.specs.declared.told.Token.{Token}
 use Rattle.tds_packet.specs.declared.status.Reset.TheVariants.{Full}
 use Rattle.tds_service.specs.declared.seat.Seat as code
-use Rattle.tds_service.specs.Service.{Service, Seat, Leased, Lent, Step, lends, opens, find_by, is_lendable}
+use Rattle.tds_service.specs.Service.{Service, Seat, Leased, Lent, Step, lends, opens, find_by, is_lendable, lease_in}
 use Rattle.tds_service.specs.Table.{StepsIn, RefusesIn, service_in, seat_in, seats_in, place_of}
 use Rattle.tds_service.specs.Ties.{line_in}
 use Rattle.tds_service.proofs.Tables.{here_in, found_here, meets_here, lends_here, lent_same, steps_as, refused_busy, busy_not_lendable, length_in, on_err}
+use Rattle.tds_service.proofs.Holding.{lends_clients, lendable_held}
 use Rattle.tds_service.proofs.service.Service.lease.Goals as goal
 
 lent_number : (n m : ℕ) (had : Bool) → n ≡ m → had ≡ true → m ≡ (if had then n else 0)
@@ -60,3 +61,18 @@ returns-in-None-clause-refused c =
     (λ refusal h. subst (λ (x : Option Seat). RefusesIn old (lends old x) refusal) (sym none)
     (subst (λ (n : ℕ). RefusesIn old (opens old (nat_lt n old.max)) refusal) (sym (length_in items)) h))
     c.open.ensures.refused
+
+pub returns-in-Ok-clause-clients : goal.returns-in-Ok-clause-clients
+returns-in-Ok-clause-clients c =
+    let items = c.args.self.now.seats.items in
+    let index = c.in-Some.index in
+    let lent = c.deref_mut.result.now in
+    let news = c.lend_at.new.seats in
+    let here = here_in is_lendable items c.deref.result.now lent index c.deref.ensures.value c.deref_mut.ensures.value c.in-Some.ensures.first in
+    let len : length news ≡ c.args.self.now.seats.len = first_of (omega arith, search rules) in
+    let items_are = with_items_is c.args.self.now.seats news len in
+    let k = c.in-Ok.ensures.ok here.seat here.at_lent in
+    let is = c.in_ok-lease.ensures.value in
+    lends_clients (c.args.self.now.given + 1) is_lendable items _ lent news index here k.0 c.deref_mut.ensures.value k.1 items_are
+    (λ l. lendable_held l (seat_in here.seat) (meets_here is_lendable items lent index here))
+    (ap (λ p. lease_in (place_of p)) k.3 ∙ ap Some is)

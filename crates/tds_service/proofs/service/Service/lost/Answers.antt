@@ -9,6 +9,7 @@ use Rattle.tds_service.specs.Ties.{line_in}
 use Rattle.tds_service.proofs.Alone.{same_number}
 use Rattle.tds_service.proofs.Tables.{with_seats, here_in, found_here, meets_here, does_gone, lost_bytes}
 use Rattle.tds_service.proofs.Keeping.{keeps_taken}
+use Rattle.tds_service.proofs.Holding.{off_gone}
 use Rattle.tds_service.proofs.service.Service.lost.Goals as goal
 
 pub returns-in-Some-clause-ok : goal.returns-in-Some-clause-ok
@@ -36,3 +37,10 @@ returns-in-Some-clause-keeps c = λ n r other e.
     let is = ap (λ (x : code.Seat). x.number) (sym here.at) ∙ same_number here.seat.number c.args.number (meets_here (has_number c.args.number) items items index here) in
     ap (reading_by (has_number n)) c.remove.ensures.by_index.2
     ∙ (keeps_taken n here.seat items index here.first.within (λ f. other (f ∙ is)) ∙ e)
+
+pub returns-in-Some-clause-clients : goal.returns-in-Some-clause-clients
+returns-in-Some-clause-clients c =
+    let items = c.args.self.now.seats.items in
+    let index = c.in-Some.index in
+    let here = here_in (has_number c.args.number) items c.deref.result.now items index c.deref.ensures.value refl c.in-Some.ensures.first in
+    off_gone c.args.number items _ items index here c.remove.ensures.by_index.2

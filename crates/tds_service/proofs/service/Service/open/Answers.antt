@@ -2,11 +2,12 @@ use Rattle.std.proofs.Common.{◌≡◌, ◌∙◌, ◌+◌, ◌<◌, ℕ, List,
 use Rattle.tds_service.specs.declared.seat.Seat as code
 use Rattle.tds_service.specs.declared.place.Place.TheVariants as places
 use Rattle.tds_service.specs.Line as line
-use Rattle.tds_service.specs.Service.{Service, Seat, Leased, has_number}
-use Rattle.tds_service.specs.Table.{reading_by, seat_in, seats_in}
+use Rattle.tds_service.specs.Service.{Service, Seat, Leased, has_lease, has_number}
+use Rattle.tds_service.specs.Table.{client_by, reading_by, seat_in, seats_in}
 use Rattle.tds_service.specs.Ties.{line_in}
 use Rattle.tds_service.proofs.Tables.{length_in, seats_added}
 use Rattle.tds_service.proofs.Keeping.{keeps_added}
+use Rattle.tds_service.proofs.Holding.{kept_added, other_held}
 use Rattle.tds_service.proofs.service.Service.open.Goals as goal
 
 pub returns-clause-ok : goal.returns-clause-ok
@@ -38,3 +39,11 @@ returns-clause-keeps c = λ n r e.
     let new : code.Seat = record { number = s.last + 1; place = places.Leased c.args.lease; connection = c.in-Ok.connection } in
     ap (reading_by (has_number n)) (c.push_reserved.ensures.items ∙ ap (λ (cs : List code.Seat). cs ++ new ∷ []) c.reserve.ensures.items)
     ∙ keeps_added (has_number n) r new items e
+
+pub returns-clause-clients : goal.returns-clause-clients
+returns-clause-clients c = λ l other.
+    let s = c.args.self.now in
+    let items = s.seats.items in
+    let new : code.Seat = record { number = s.last + 1; place = places.Leased c.args.lease; connection = c.in-Ok.connection } in
+    ap (client_by (has_lease l)) (c.push_reserved.ensures.items ∙ ap (λ (cs : List code.Seat). cs ++ new ∷ []) c.reserve.ensures.items)
+    ∙ kept_added (has_lease l) new items (other_held l c.args.lease (Leased c.args.lease) refl other)

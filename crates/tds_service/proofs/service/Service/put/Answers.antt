@@ -12,6 +12,9 @@ use Rattle.tds_service.specs.Table.{Steps, puts_by, service_in, seats_in}
 use Rattle.tds_service.specs.Ties.{line_in, full_in}
 use Rattle.tds_service.proofs.Keeping.{puts_here}
 use Rattle.tds_service.proofs.Tables.{with_seats, here_in, acts_alike, refuses_alike, on_err, send_never}
+use Rattle.tds_client.specs.Session.{ClientSession}
+use Rattle.tds_client.specs.Streams as streams
+use Rattle.tds_service.proofs.Holding.{does_here, keeps_clients, on_done}
 use Rattle.tds_service.proofs.service.Service.put.Goals as goal
 
 pub returns-in-Some-clause-ok : goal.returns-in-Some-clause-ok
@@ -28,7 +31,7 @@ returns-in-Some-clause-ok c =
     let table = k.1 ∙ ap (λ (cs : List Seat). set cs index k.0) c.deref_mut.ensures.value in
     let r = acts_alike old (has_lease c.args.lease) (line.Send false) (packets (full_in here.seat.connection.client (left_of here.seat.connection.client.stage ++ c.args.bytes.now))) items index here.seat k.0 c.args.out.now.items c.put_at.new.out.items refl here.first here.at k.2 k.3
     k.5
-    (ap refusal_in k.6) in
+    (ap refusal_in k.7) in
     let did = subst (λ (count : ℕ). Steps (calls.Put c.args.lease count) old (with_seats old (seats_in c.put_at.new.seats)) Did done c.args.out.now.items c.put_at.new.out.items)
     (sym (puts_here (has_lease c.args.lease) c.args.bytes.now items c.deref_mut.result.now index here))
     (record {
@@ -50,3 +53,33 @@ returns-in-Some-clause-refused c =
     on_err c.put_at.result _ _
     (λ refusal h. λ count. refuses_alike old (has_lease c.args.lease) (line.Send false) (packets count) items index here.seat refusal refl here.first here.at (h here.seat here.at_lent) (send_never (line_in here.seat.connection) false))
     c.put_at.ensures.refused
+
+pub returns-in-Some-clause-puts : goal.returns-in-Some-clause-puts
+returns-in-Some-clause-puts c =
+    let items = c.args.self.now.seats.items in
+    let index = c.in-Some.index in
+    let lent = c.deref_mut.result.now in
+    let news = c.put_at.new.seats in
+    let here = here_in (has_lease c.args.lease) items c.deref.result.now lent index c.deref.ensures.value c.deref_mut.ensures.value c.in-Some.ensures.first in
+    let len : length news ≡ c.args.self.now.seats.len = first_of (omega arith, search rules) in
+    let items_are = with_items_is c.args.self.now.seats news len in
+    on_done c.put_at.result _ _
+    (λ done h.
+    let k = h here.seat here.at_lent in
+    does_here (λ (s : ClientSession). streams.put s c.args.bytes.now) c.args.lease c.args.self.now _ lent news index here k.0 c.args.out.now.items c.put_at.new.out.items c.deref_mut.ensures.value k.1 items_are k.3 k.6)
+    c.put_at.ensures.ok
+
+pub returns-in-Some-clause-clients : goal.returns-in-Some-clause-clients
+returns-in-Some-clause-clients c =
+    let items = c.args.self.now.seats.items in
+    let index = c.in-Some.index in
+    let lent = c.deref_mut.result.now in
+    let news = c.put_at.new.seats in
+    let here = here_in (has_lease c.args.lease) items c.deref.result.now lent index c.deref.ensures.value c.deref_mut.ensures.value c.in-Some.ensures.first in
+    let len : length news ≡ c.args.self.now.seats.len = first_of (omega arith, search rules) in
+    let items_are = with_items_is c.args.self.now.seats news len in
+    on_done c.put_at.result _ _
+    (λ done h.
+    let k = h here.seat here.at_lent in
+    keeps_clients c.args.lease items _ lent news index here k.0 c.deref_mut.ensures.value k.1 items_are k.3)
+    c.put_at.ensures.ok

@@ -7,10 +7,11 @@ use Rattle.tds_service.specs.declared.seat.Seat as code
 use Rattle.tds_service.specs.declared.refusal.Refusal.{Refusal}
 use Rattle.tds_service.specs.declared.refusal.Refusal.TheVariants as refusals
 use Rattle.tds_service.specs.Line as line
-use Rattle.tds_service.specs.Service.{Service, Seat, Leased, Lent, NotNow, Step, resumes, does, nothing, find_by, has_ticket, is_idle}
+use Rattle.tds_service.specs.Service.{Service, Seat, Leased, Lent, NotNow, Step, resumes, does, nothing, find_by, has_ticket, is_idle, lease_in}
 use Rattle.tds_service.specs.Table.{StepsIn, RefusesIn, service_in, seat_in, seats_in, place_of}
 use Rattle.tds_service.specs.Ties.{line_in}
-use Rattle.tds_service.proofs.Tables.{here_in, found_here, lends_here, lent_same, steps_as, marked_idle, refused_busy, not_now_in, done_in}
+use Rattle.tds_service.proofs.Tables.{here_in, found_here, meets_here, lends_here, lent_same, steps_as, marked_idle, refused_busy, not_now_in, done_in}
+use Rattle.tds_service.proofs.Holding.{lends_clients, kept_held}
 use Rattle.tds_service.proofs.service.Service.resume.Goals as goal
 
 pub returns-in-Ok-clause-ok : goal.returns-in-Ok-clause-ok
@@ -46,3 +47,18 @@ returns-in-Err-clause-refused c =
     subst (λ (r : Refusal). RefusesIn old (resumes old (has_ticket c.args.ticket) (find_by (has_ticket c.args.ticket) old.seats)) r) (sym c.in-Err.ensures.refused.0)
     (subst (λ (x : Option Seat). RefusesIn old (resumes old (has_ticket c.args.ticket) x) refusals.NotNow) (sym found)
     (not_now_in old (does old (suc old.given) (has_ticket c.args.ticket) (seat_in here.seat) (Some (Leased (suc old.given))) (line.Mark KeepTransaction ∷ []) (Lent (suc old.given) here.seat.number true)) (is_idle (line_in here.seat.connection).stage) (refused_busy (line_in here.seat.connection) KeepTransaction busy.0 busy.1)))
+
+pub returns-in-Ok-clause-clients : goal.returns-in-Ok-clause-clients
+returns-in-Ok-clause-clients c =
+    let items = c.args.self.now.seats.items in
+    let index = c.in-Some.index in
+    let lent = c.deref_mut.result.now in
+    let news = c.lend_at.new.seats in
+    let here = here_in (has_ticket c.args.ticket) items c.deref.result.now lent index c.deref.ensures.value c.deref_mut.ensures.value c.in-Some.ensures.first in
+    let len : length news ≡ c.args.self.now.seats.len = first_of (omega arith, search rules) in
+    let items_are = with_items_is c.args.self.now.seats news len in
+    let k = c.in-Ok.ensures.ok here.seat here.at_lent in
+    let is = c.in_ok-lease.ensures.value in
+    lends_clients (c.args.self.now.given + 1) (has_ticket c.args.ticket) items _ lent news index here k.0 c.deref_mut.ensures.value k.1 items_are
+    (λ l. kept_held l c.args.ticket (place_of here.seat.place) (meets_here (has_ticket c.args.ticket) items lent index here))
+    (ap (λ p. lease_in (place_of p)) k.3 ∙ ap Some is)

@@ -1,4 +1,5 @@
 use Rattle.std.proofs.Common.{◌∙◌, [], refl, sym, ap, subst}
+use Rattle.tds_client.specs.Streams.{opened}
 use Rattle.tds_service.specs.declared.seat.Seat.{Seat}
 use Rattle.tds_service.specs.Line as line
 use Rattle.tds_service.specs.Ties.{Does, line_in, asked_answer}
@@ -15,6 +16,7 @@ returns-in-Ok-clause-ok c = λ s h.
       ap (λ (x : Seat). x.place) same,
       ap (λ (x : Seat). x.number) same,
       subst (λ (x : Seat). Does line.Ask (line_in x.connection) (line_in c.ask.new.self) (asked_answer x.connection c.in-Ok.request) [] []) same (c.in-Ok.ensures.ok []),
+      c.in-Ok.ensures.opened ∙ ap (λ (x : Seat). opened x.connection.client c.args.kind) same,
     )
 
 pub returns-in-Ok-clause-keeps : goal.returns-in-Ok-clause-keeps

@@ -1,0 +1,7 @@
+use Rattle.tds_relay.specs.Desk.{desk_after, new_desk}
+use Rattle.tds_relay.proofs.Bringing.{always_sound}
+use Rattle.tds_relay.proofs.Owning.{owns}
+use Rattle.tds_relay.proofs.laws.own_cancels.Goals as goal
+
+pub returns : goal.returns
+returns c = λ by max events event cause. owns by (desk_after (new_desk max) events) event (always_sound max events) cause

@@ -1,0 +1,12 @@
+use Rattle.std.proofs.Common.{subst, sym}
+use Rattle.tds_relay.specs.declared.desk.Desk as code
+use Rattle.tds_relay.specs.Ties.{Application, Reaches, desk_in}
+use Rattle.tds_relay.proofs.Reaching.{ok_more, reaches_left}
+use Rattle.tds_relay.proofs.relay.Relay.expel.Goals as goal
+
+pub returns : goal.returns
+returns c =
+    ok_more c.release.result _ _
+    (λ l from h. reaches_left c.args.key from _ _ l
+    (subst (λ (d : code.Desk). Reaches (Application c.args.key) from (desk_in d)) (sym c.in_ok-end.ensures) h))
+    c.release.ensures

@@ -1,0 +1,5 @@
+use Rattle.tds_relay.specs.Ties.{Application, Goes, desk_in}
+use Rattle.tds_relay.proofs.relay.Relay.said.Given as goal
+
+abbrev pub invariant-taking : goal.invariant-taking
+invariant-taking l = Goes (Application l.fn.key) (desk_in l.fn.self.desk) (desk_in l.self.desk)

@@ -1,0 +1,8 @@
+use Rattle.tds_service_c.specs.declared.plain.TdsSeat.{TdsSeat}
+use Rattle.tds_service_c.proofs.Acting.{sends_one}
+use Rattle.std.specs.Prelude.{true}
+use Rattle.tds_service_c.proofs.sending.finish.Goals as goal
+
+pub returns-clause-acts : goal.returns-clause-acts
+returns-clause-acts c =
+    sends_one c.args.seat c.sent.result true c.args.kept.now c.in_default.ensures.ok c.sent.ensures.line c.sent.ensures.place c.sent.ensures.number

@@ -1,0 +1,317 @@
+//! What a seat's client sends: a request's beginning, its packets, its end. What waits for a packet lies
+//! in the caller's memory.
+
+ghost use Rattle.std.specs.Prelude.{◌≡◌, ◌≤◌, ◌<◌, ◌+◌, ◌∷◌, ◌++◌, ◌⊎◌, [], Bool, List, true, false, take, drop, length};
+ghost use Rattle.std.specs.Prelude.{IfErr, IfOk, OnErr, OnOk};
+ghost use Rattle.tds_packet.specs.Resets.{header_descriptor, mark_bit};
+ghost use Rattle.tds_packet.specs.Sent.{end_bit};
+ghost use Rattle.tds_packet.specs.Size.{IsPacketSize};
+ghost use Rattle.tds_wire.specs.declared.told.Token.{Token};
+ghost use Rattle.tds_client.specs.Streams.{packets_are};
+ghost use Rattle.tds_service.specs.Line as line;
+ghost use Rattle.tds_service.specs.Line.{turn};
+ghost use Rattle.tds_service_c.specs.Asking.{WaitsWrong, headers_by, message_from, packet_of, with_front};
+ghost use Rattle.tds_service_c.specs.Clients.{asked_seat, sent_seat};
+ghost use Rattle.tds_service_c.specs.OnSeat.{AsksNot, FinishesNot, SendsNot};
+ghost use Rattle.tds_service_c.specs.Plain.{kind_at, line_of, mark_of, place_of};
+ghost use Rattle.tds_service_c.specs.Table.{ActsOn, RefusedOn};
+
+use crate::answers::Stop;
+use crate::buffer::{put, put_at};
+use crate::plain::TdsSeat;
+use tds_client::MessageKind;
+use tds_packet::{Kind, PacketSize, Reset};
+use tds_request::headers;
+use tds_service::Refusal;
+
+/// The message whose packets have this type (MS-TDS 2.2.3.1.1).
+#[tactic(auto, unfolding(crate::specs::Asking::message_from))]
+pub(crate) fn message(number: u8) -> Option<MessageKind>
+    ensures { result ≡ message_from number }
+{
+    match number {
+        0x01 => Some(MessageKind::Batch),
+        0x03 => Some(MessageKind::Procedure),
+        0x07 => Some(MessageKind::BulkLoad),
+        0x0E => Some(MessageKind::Transaction),
+        _ => None,
+    }
+}
+
+/// The type of a request's packets. A number that none has stands for a batch's.
+#[tactic(auto, unfolding(crate::specs::Plain::kind_at))]
+pub(crate) fn kind(number: u8) -> Kind
+    ensures { result ≡ kind_at number }
+{
+    match number {
+        0x03 => Kind::Procedure,
+        0x07 => Kind::BulkLoad,
+        0x0E => Kind::Transaction,
+        _ => Kind::Batch,
+    }
+}
+
+impl TdsSeat {
+    /// The reset that its next request asks for.
+    #[tactic(auto, unfolding(crate::specs::Plain::mark_of))]
+    pub(crate) fn mark(&self) -> Option<Reset>
+        ensures { result ≡ mark_of self.now.client.mark }
+    {
+        match self.client.mark {
+            1 => Some(Reset::Full),
+            2 => Some(Reset::KeepTransaction),
+            _ => None,
+        }
+    }
+
+    /// The descriptor that its next request names: none under a full reset.
+    fn named(&self) -> u64
+        ensures { result
+            ≡ header_descriptor (mark_of self.now.client.mark) self.now.client.descriptor }
+    {
+        match self.mark() {
+            Some(Reset::Full) => 0,
+            Some(Reset::KeepTransaction) => self.client.descriptor,
+            None => self.client.descriptor,
+        }
+    }
+
+    /// Whether a request can be asked on it.
+    #[tactic(auto, unfolding(crate::specs::Plain::stage_at))]
+    fn may_ask(&self) -> Result<(), Refusal>
+        ensures ok { OnOk result ((line_of self.now).stage ≡ line.Idle) }
+        ensures counted { OnOk result (self.now.asked < 18446744073709551615) }
+        ensures refused { IfErr result (RefusedOn line.Ask self.now) }
+        ensures memory { IfErr result (λ refusal. refusal ≡ Refusal.Memory
+            → 18446744073709551615 ≤ self.now.asked) }
+    {
+        match self.client.stage {
+            0 => {}
+            1 => return Err(Refusal::NotIdle),
+            2 => return Err(Refusal::NotIdle),
+            3 => return Err(Refusal::NotIdle),
+            _ => return Err(Refusal::Broken),
+        }
+        if self.asked == u64::MAX {
+            return Err(Refusal::Memory);
+        }
+        Ok(())
+    }
+
+    /// The same seat, where a request of this kind was asked.
+    #[tactic(auto, unfolding(crate::specs::Plain::stage_at, crate::specs::Plain::kind_at))]
+    fn asking(self, kind: MessageKind) -> TdsSeat
+        requires { self.asked < 18446744073709551615 }
+        ensures line { line_of result ≡ line.asked (line_of self) }
+        ensures place { place_of result ≡ place_of self }
+        ensures number { result.number ≡ self.number }
+        ensures asked { result.asked ≡ self.asked + 1 }
+        ensures kind { kind_at result.client.kind ≡ packets_are kind }
+        ensures is { result ≡ asked_seat kind self }
+    {
+        let mut seat = self;
+        seat.asked += 1;
+        seat.client.stage = 1;
+        seat.client.kind = kind.packet_kind().byte();
+        seat.client.packets = 0;
+        seat.client.sent = 0;
+        seat
+    }
+
+    /// Whether a packet of its request can go out.
+    #[tactic(auto, unfolding(crate::specs::Plain::stage_at))]
+    pub(crate) fn may_send(&self) -> Result<(), Refusal>
+        ensures ok { OnOk result ((begun : Bool)
+            × ((line_of self.now).stage ≡ line.Sending begun)) }
+        ensures counted { OnOk result (self.now.client.packets < 9223372036854775807) }
+        ensures refused { IfErr result (SendsNot self.now) }
+    {
+        match self.client.stage {
+            0 => return Err(Refusal::NotSending),
+            1 => {}
+            2 => return Err(Refusal::NotSending),
+            3 => return Err(Refusal::NotSending),
+            _ => return Err(Refusal::Broken),
+        }
+        if self.client.packets >= 0x7FFF_FFFF_FFFF_FFFF {
+            return Err(Refusal::Memory);
+        }
+        Ok(())
+    }
+
+    /// The same seat, where a packet of its request went out, the last one or not.
+    #[tactic(auto, unfolding(crate::specs::Plain::stage_at))]
+    pub(crate) fn sent(self, last: bool) -> TdsSeat
+        requires sends { (begun : Bool) × ((line_of self).stage ≡ line.Sending begun) }
+        requires counted { self.client.packets < 9223372036854775807 }
+        ensures line { line_of result ≡ (turn {T = Token} (line_of self) (line.Send last)).line }
+        ensures place { place_of result ≡ place_of self }
+        ensures number { result.number ≡ self.number }
+        ensures is { result ≡ sent_seat last self }
+    {
+        let mut seat = self;
+        if last {
+            seat.client.stage = 2;
+        } else {
+            seat.client.packets += 1;
+        }
+        seat
+    }
+
+    /// The packet size, where one has it, and no more waits than a packet holds.
+    pub(crate) fn size(&self, waiting: usize, room: usize) -> Result<usize, Stop>
+        ensures size { IfOk result (λ size. size ≡ self.now.client.size) }
+        ensures range { OnOk result (IsPacketSize self.now.client.size) }
+        ensures within { OnOk result (waiting ≤ room) }
+        ensures holds { OnOk result (waiting + 8 ≤ self.now.client.size) }
+        ensures wrong { IfErr result (λ stop. (stop ≡ Stop.OutOfRange)
+            × WaitsWrong self.now waiting room) }
+    {
+        let Some(size) = PacketSize::new(self.client.size) else {
+            return Err(Stop::OutOfRange);
+        };
+        let size = usize::from(size.get());
+        if waiting > room || waiting > size - 8 {
+            return Err(Stop::OutOfRange);
+        }
+        Ok(size)
+    }
+}
+
+/// The status of a packet behind `before` others of its message (MS-TDS 2.2.3.1.2).
+fn status(last: bool, before: usize, mark: Option<Reset>) -> u8
+    ensures value { result ≡ end_bit last + mark_bit before mark }
+    ensures range { end_bit last + mark_bit before mark ≤ 17 }
+{
+    let end = if last { 1 } else { 0 };
+    if before > 0 {
+        return end;
+    }
+    match mark {
+        None => end,
+        Some(Reset::Full) => end + 8,
+        Some(Reset::KeepTransaction) => end + 16,
+    }
+}
+
+/// The header of a seat's next packet, whose data are two runs of bytes, one behind the other.
+fn header(seat: &TdsSeat, last: bool, front: &[u8], rest: &[u8]) -> [u8; 8]
+    requires length { length front.now + length rest.now ≤ 32759 }
+    requires packets { seat.now.client.packets < 9223372036854775807 }
+    ensures { result ++ (front.now ++ rest.now) ≡ packet_of seat.now last (front.now ++ rest.now) }
+{
+    let length = 8 + front.len() + rest.len();
+    let before = seat.client.packets;
+    let id = ((before + 1) % 256) as u8;
+    [
+        kind(seat.client.kind).byte(),
+        status(last, before, seat.mark()),
+        (length / 256) as u8,
+        (length % 256) as u8,
+        0,
+        0,
+        id,
+        0,
+    ]
+}
+
+/// Writes a seat's next packet to the front of a buffer.
+pub(crate) fn write_packet(seat: &TdsSeat, last: bool, front: &[u8], rest: &[u8], out: &mut [u8])
+    requires length { length front.now + length rest.now ≤ 32759 }
+    requires packets { seat.now.client.packets < 9223372036854775807 }
+    requires room { 8 + length front.now + length rest.now ≤ length out.old }
+    ensures { out.new ≡ with_front (packet_of seat.now last (front.now ++ rest.now)) out.old }
+{
+    let header = header(seat, last, front, rest);
+    put_at(out, 0, &header);
+    put_at(out, 8, front);
+    put_at(out, 8 + front.len(), rest);
+}
+
+/// Begins a request of this kind. Its headers are written to `kept`, where they wait.
+pub(crate) fn ask(
+    seat: TdsSeat,
+    kind: MessageKind,
+    kept: &mut [u8],
+    count: &mut usize,
+) -> Result<TdsSeat, Stop>
+    requires { count.old ≡ 0 }
+    ensures acts { IfOk result (λ y. ActsOn line.Ask (line.Ask ∷ []) seat y []) }
+    ensures asked { IfOk result (λ y. y.asked ≡ seat.asked + 1) }
+    ensures kind { IfOk result (λ y. kind_at y.client.kind ≡ packets_are kind) }
+    ensures is { IfOk result (λ y. y ≡ asked_seat kind seat) }
+    ensures written { OnOk result (kept.new ≡ with_front (headers_by kind
+        (header_descriptor (mark_of seat.client.mark) seat.client.descriptor)) kept.old) }
+    ensures counted { OnOk result (count.new ≡ length (headers_by kind
+        (header_descriptor (mark_of seat.client.mark) seat.client.descriptor))) }
+    ensures stops { IfErr result (AsksNot seat kind
+        (header_descriptor (mark_of seat.client.mark) seat.client.descriptor)
+        (record { before = kept.old; after = kept.new; count = count.new })) }
+    ensures nothing { OnErr result (kept.new ≡ kept.old) }
+{
+    if let Err(refusal) = seat.may_ask() {
+        return Err(Stop::Refused(refusal));
+    }
+    if !put_headers(kind, seat.named(), kept, count) {
+        return Err(Stop::NoRoom);
+    }
+    Ok(seat.asking(kind))
+}
+
+/// Writes the headers of such a message to the front of a buffer, where they fit. How many bytes these
+/// are is told anyway.
+fn put_headers(kind: MessageKind, descriptor: u64, kept: &mut [u8], count: &mut usize) -> bool
+    ensures count { count.new ≡ length (headers_by kind descriptor) }
+    ensures done { result ≡ true → kept.new ≡ with_front (headers_by kind descriptor) kept.old }
+    ensures room { result ≡ false → (length kept.old < count.new) × (kept.new ≡ kept.old) }
+{
+    if kind.has_headers() {
+        return put(&headers(descriptor), kept, count);
+    }
+    put(&[], kept, count)
+}
+
+/// Ends the request: what waits goes out in its last packet.
+pub(crate) fn finish(
+    seat: TdsSeat,
+    kept: &[u8],
+    out: &mut [u8],
+    count: &mut usize,
+) -> Result<TdsSeat, Stop>
+    requires { count.old ≡ 0 }
+    ensures acts { IfOk result (λ y. ActsOn (line.Send true) (line.Send true ∷ []) seat y
+        (packet_of seat true kept.now)) }
+    ensures sending { OnOk result ((begun : Bool) × ((line_of seat).stage ≡ line.Sending begun)) }
+    ensures is { IfOk result (λ y. y ≡ sent_seat true seat) }
+    ensures moved { IfOk result (λ y. line_of y
+        ≡ (turn {T = Token} (line_of seat) (line.Send true)).line) }
+    ensures size { OnOk result (IsPacketSize seat.client.size) }
+    ensures holds { OnOk result (length kept.now + 8 ≤ seat.client.size) }
+    ensures written { OnOk result (out.new ≡ with_front (packet_of seat true kept.now) out.old) }
+    ensures counted { OnOk result (count.new ≡ 8 + length kept.now) }
+    ensures stops { IfErr result (FinishesNot seat kept.now
+        (record { before = out.old; after = out.new; count = count.new })) }
+    ensures nothing { OnErr result (out.new ≡ out.old) }
+{
+    if let Err(refusal) = seat.may_send() {
+        return Err(Stop::Refused(refusal));
+    }
+    if let Err(stop) = seat.size(kept.len(), kept.len()) {
+        return Err(stop);
+    }
+    *count = 8 + kept.len();
+    if *count > out.len() {
+        return Err(Stop::NoRoom);
+    }
+    write_packet(&seat, true, kept, &[], out);
+    Ok(seat.sent(true))
+}
+
+/// What became of bytes that were put.
+#[derive(Clone, Copy)]
+pub(crate) enum Putting {
+    /// 0: all of them wait.
+    All,
+    /// 1: a packet is full. Those behind the ones that were taken are to be put again.
+    Packet,
+}

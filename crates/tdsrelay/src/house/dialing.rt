@@ -1,0 +1,243 @@
+//! Logins of connections: what the server answers.
+use super::{House, relay_of};
+use crate::dial::Dialed;
+use crate::group::{Stage, put_saved};
+use crate::socket::{Role, Whose};
+use std::io::{self, Write};
+use std::mem;
+use std::net::Net;
+use tds_packet::PacketSize;
+
+impl<W: Write + Drop> House<W> {
+    /// Takes bytes of a login, and gives what is left of them.
+    fn dial<'a>(&mut self, key: usize, piece: &'a [u8]) -> io::Result<(&'a [u8], Dialed)> {
+        let mut rest = piece;
+        for _ in 0..piece.len() {
+            if rest.is_empty() {
+                break;
+            }
+            let Some(socket) = self.sockets.get_mut(key) else {
+                return Ok((&[], Dialed::Wrong));
+            };
+            let (count, dialed) = match &mut socket.role {
+                Role::First(_, dial) => dial.take(rest, &mut socket.out)?,
+                Role::Opening(_, _, dial) => dial.take(rest, &mut socket.out)?,
+                _ => return Ok((&[], Dialed::Wrong)),
+            };
+            rest = match rest.get(count..) {
+                Some(left) => left,
+                None => &[],
+            };
+            match dialed {
+                Dialed::More => {}
+                dialed => return Ok((rest, dialed)),
+            }
+        }
+        Ok((rest, Dialed::More))
+    }
+
+    /// Bytes came on the first connection of a group.
+    pub(super) fn first_dialed<R: Net>(
+        &mut self,
+        rt: &R,
+        key: usize,
+        group: usize,
+        piece: &[u8],
+    ) -> io::Result<()> {
+        let (rest, dialed) = self.dial(key, piece)?;
+        match dialed {
+            Dialed::More => self.send_or_close(rt, key),
+            Dialed::Wrong => self.closed(rt, key),
+            Dialed::Routed(target) => self.follow(rt, key, Whose::First(group), &target),
+            Dialed::Leg(answer) => match self.pair_of(group) {
+                Some(pair) => self.ask_leg(rt, pair.application, group, &answer),
+                None => self.refused(rt, key, group, &answer),
+            },
+            Dialed::Refused(answer) => self.refused(rt, key, group, &answer),
+            Dialed::In(size, answer) => self.let_in(rt, key, group, size, answer, rest),
+        }
+    }
+
+    /// The server doesn't let the first login of a group in.
+    fn refused<R: Net>(
+        &mut self,
+        rt: &R,
+        key: usize,
+        group: usize,
+        answer: &[u8],
+    ) -> io::Result<()> {
+        let _ = self.take_out(key)?;
+        self.unpair(group);
+        self.judged(rt, group, answer)?;
+        let _ = self.groups.try_remove(group).is_some();
+        Ok(())
+    }
+
+    /// The first login of a group is let in: all who wait for that are.
+    fn let_in<R: Net>(
+        &mut self,
+        rt: &R,
+        key: usize,
+        group: usize,
+        size: PacketSize,
+        answer: Vec<u8>,
+        rest: &[u8],
+    ) -> io::Result<()> {
+        let waiting = self.judged_by(group);
+        let Some(number) = self.begin_relay(key, group, size, answer)? else {
+            let _ = self.take_out(key)?;
+            return self.not_judged(group);
+        };
+        for application in waiting.iter() {
+            if self.is_judged(*application, group) {
+                self.join(rt, *application, group)?;
+            }
+        }
+        let (mut is_alone, mut is_left) = (false, false);
+        if let Some(group) = self.groups.get_mut(group) {
+            is_alone = group.key.is_empty();
+            is_left = group.applications() == 0;
+            if is_alone {
+                group.forget_login();
+            }
+        }
+        if is_alone && is_left {
+            self.unpair(group);
+            let _ = self.take_out(key)?;
+            self.forget(group);
+            return Ok(());
+        }
+        self.heard(rt, group, number, rest)
+    }
+
+    /// A group gets its relay, with this connection, whose number is answered.
+    fn begin_relay(
+        &mut self,
+        key: usize,
+        group: usize,
+        size: PacketSize,
+        answer: Vec<u8>,
+    ) -> io::Result<Option<u64>> {
+        let alloc = self.alloc;
+        let Some(judged) = self.groups.get_mut(group) else {
+            return Ok(None);
+        };
+        let most = if judged.pair.is_some() {
+            1
+        } else {
+            self.asked.most
+        };
+        judged.open(alloc, most, size, answer)?;
+        let brought = match judged.relay() {
+            Some(relay) => relay.bring(key)?,
+            None => None,
+        };
+        let Some(number) = brought else {
+            return Ok(None);
+        };
+        self.is_in(key, Role::Connection(group, number));
+        Ok(Some(number))
+    }
+
+    /// A connection is logged in.
+    fn is_in(&mut self, key: usize, role: Role) {
+        let now = self.now;
+        if let Some(socket) = self.sockets.get_mut(key) {
+            let took = now.saturating_sub(socket.born);
+            socket.becomes(role, now);
+            self.logins.add(took.saturating_mul(1000));
+            if let Some(until) = self.away.get_mut(socket.server) {
+                *until = 0;
+            }
+        }
+    }
+
+    /// Who waits for the judgement of a group's first login. None does then.
+    fn judged_by(&mut self, group: usize) -> Vec<usize> {
+        let alloc = self.alloc;
+        match self.groups.get_mut(group) {
+            Some(group) => match &mut group.stage {
+                Stage::Judged(those) => mem::replace(those, Vec::new(alloc)),
+                Stage::Open(..) => Vec::new(alloc),
+            },
+            None => Vec::new(alloc),
+        }
+    }
+
+    /// Whether a socket is still an application that waits for this judgement.
+    pub(super) fn is_judged(&self, key: usize, group: usize) -> bool {
+        match self.sockets.get(key) {
+            Some(socket) => match socket.whose() {
+                Whose::Judged(of) | Whose::Leg(of) => of == group,
+                _ => false,
+            },
+            None => false,
+        }
+    }
+
+    /// The first login of a group isn't let in: all who wait for that get this answer.
+    fn judged<R: Net>(&mut self, rt: &R, group: usize, answer: &[u8]) -> io::Result<()> {
+        let waiting = self.judged_by(group);
+        for key in waiting.iter() {
+            if self.is_judged(*key, group) {
+                if let Some(socket) = self.sockets.get_mut(*key) {
+                    put_saved(&mut socket.out, answer)?;
+                }
+                self.dismiss(rt, *key)?;
+            }
+        }
+        Ok(())
+    }
+
+    /// The server didn't judge the first login of a group.
+    pub(super) fn not_judged(&mut self, group: usize) -> io::Result<()> {
+        let waiting = self.judged_by(group);
+        let _ = self.groups.try_remove(group).is_some();
+        for key in waiting.iter() {
+            if self.is_judged(*key, group) {
+                self.put_refusal(*key, "The relay finds no server that speaks as it does.")?;
+            }
+        }
+        Ok(())
+    }
+
+    /// Bytes came on another connection of a group.
+    pub(super) fn dialed<R: Net>(
+        &mut self,
+        rt: &R,
+        key: usize,
+        group: usize,
+        number: u64,
+        piece: &[u8],
+    ) -> io::Result<()> {
+        let (rest, dialed) = self.dial(key, piece)?;
+        match dialed {
+            Dialed::More => return self.send_or_close(rt, key),
+            Dialed::Wrong => return self.closed(rt, key),
+            Dialed::Routed(target) => {
+                return self.follow(rt, key, Whose::Opening(group, number), &target);
+            }
+            Dialed::In(size, _) if self.has_size(group, size) => {}
+            Dialed::In(..) | Dialed::Leg(_) | Dialed::Refused(_) => {
+                // The server doesn't let these logins in any more: who comes later is judged anew.
+                if let Some(group) = self.groups.get_mut(group) {
+                    group.key.clear();
+                }
+                return self.ended(rt, key, false);
+            }
+        }
+        self.is_in(key, Role::Connection(group, number));
+        if let Some(relay) = relay_of(&mut self.groups, group) {
+            relay.opened(number)?;
+        }
+        self.heard(rt, group, number, rest)
+    }
+
+    /// Whether a group's packets have this size.
+    fn has_size(&self, group: usize, size: PacketSize) -> bool {
+        match self.groups.get(group) {
+            Some(group) => group.size.get() == size.get(),
+            None => false,
+        }
+    }
+}

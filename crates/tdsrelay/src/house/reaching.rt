@@ -1,0 +1,164 @@
+//! Which server is dialed for a login.
+use super::{House, relay_of};
+use crate::counts::raise;
+use crate::dial::{Dial, Target};
+use crate::servers::{MOST as MOST_SERVERS, Way, bit};
+use crate::socket::{Role, Whose};
+use mio::net::TcpStream;
+use std::io::{self, Write};
+use std::net::{IpAddr, Ipv4Addr, Net, SocketAddr};
+
+/// How often a login goes to the server that another one has named.
+const MOST_HOPS: u8 = 4;
+
+impl<W: Write + Drop> House<W> {
+    /// Dials for this login the preferred one of the servers that weren't tried. False where there is none.
+    pub(super) fn reach<R: Net>(&mut self, rt: &R, whose: Whose, tried: u8) -> io::Result<bool> {
+        let mut tried = tried;
+        for _ in 0..MOST_SERVERS {
+            let servers = self.asked.servers;
+            let Some(place) = servers.next(tried, &self.away, self.now) else {
+                return Ok(false);
+            };
+            let Some(address) = servers.at(place) else {
+                return Ok(false);
+            };
+            tried |= bit(place);
+            let way = Way {
+                server: place,
+                tried,
+                hops: 0,
+            };
+            if self.connect(rt, whose, way, address)? {
+                return Ok(true);
+            }
+        }
+        Ok(false)
+    }
+
+    /// Connects there, and begins the login. False where it can't.
+    fn connect<R: Net>(
+        &mut self,
+        rt: &R,
+        whose: Whose,
+        way: Way,
+        address: SocketAddr,
+    ) -> io::Result<bool> {
+        let group = match whose {
+            Whose::First(group) | Whose::Opening(group, _) => group,
+            _ => return Ok(false),
+        };
+        let Some(dialing) = self.groups.get(group) else {
+            return Ok(false);
+        };
+        let mut out = Vec::new(self.alloc);
+        let Some(dial) = Dial::new(self.alloc, &dialing.login, way, &mut out)? else {
+            return Ok(false);
+        };
+        let Ok(stream) = TcpStream::connect(rt, address) else {
+            self.went_away(way);
+            return Ok(false);
+        };
+        let role = match whose {
+            Whose::Opening(group, number) => Role::Opening(group, number, dial),
+            _ => Role::First(group, dial),
+        };
+        let Some(key) = self.take_in(stream, role)? else {
+            return Ok(false);
+        };
+        if let Some(socket) = self.sockets.get_mut(key) {
+            socket.out.extend_from_slice(&out)?;
+        }
+        self.is_dialed(whose, key);
+        raise(&mut self.counts.opened);
+        self.say("connection", key, "is opened");
+        Ok(true)
+    }
+
+    /// This socket is a login's connection from now on.
+    fn is_dialed(&mut self, whose: Whose, key: usize) {
+        match whose {
+            Whose::Opening(group, number) => {
+                if let Some(relay) = relay_of(&mut self.groups, group) {
+                    relay.opening(number, key);
+                }
+            }
+            Whose::First(group) => {
+                if let Some(group) = self.groups.get_mut(group) {
+                    if let Some(pair) = &mut group.pair {
+                        pair.connection = key;
+                    }
+                }
+            }
+            _ => {}
+        }
+    }
+
+    /// A server has failed: for some seconds others are preferred.
+    pub(super) fn went_away(&mut self, way: Way) {
+        if way.hops > 0 {
+            return;
+        }
+        raise(&mut self.counts.away);
+        let seconds = self.asked.limits.away;
+        if let Some(until) = self.away.get_mut(way.server) {
+            *until = self.now.saturating_add(seconds.saturating_mul(1000));
+        }
+    }
+
+    /// The server says that a login is to go to another one, and so it does.
+    pub(super) fn follow<R: Net>(
+        &mut self,
+        rt: &R,
+        key: usize,
+        whose: Whose,
+        target: &Target,
+    ) -> io::Result<()> {
+        self.say("connection", key, "is told another server");
+        let found = match self.sockets.get(key) {
+            Some(socket) => match socket.dial() {
+                Some(dial) if !dial.has_legs && dial.way.hops < MOST_HOPS => Some(dial.way),
+                _ => None,
+            },
+            None => None,
+        };
+        let _ = self.take_out(key)?;
+        if let (Some(way), Some(address)) = (found, address_of(rt, target)) {
+            raise(&mut self.counts.routed);
+            let way = Way {
+                hops: way.hops.saturating_add(1),
+                ..way
+            };
+            if self.connect(rt, whose, way, address)? {
+                return Ok(());
+            }
+        }
+        self.not_reached(rt, whose)
+    }
+
+    /// No server was reached for this login.
+    pub(super) fn not_reached<R: Net>(&mut self, rt: &R, whose: Whose) -> io::Result<()> {
+        match whose {
+            Whose::First(group) => self.not_judged(group),
+            Whose::Opening(group, number) => {
+                if let Some(relay) = relay_of(&mut self.groups, group) {
+                    relay.lost(number)?;
+                }
+                self.obey(rt, group)
+            }
+            _ => Ok(()),
+        }
+    }
+}
+
+/// The address of a server that is named: the system's resolver is asked for it, where it is no address.
+fn address_of<R: Net>(rt: &R, target: &Target) -> Option<SocketAddr> {
+    if let Ok(address) = target.host.as_str().parse::<IpAddr>() {
+        return Some(SocketAddr::new(address, target.port));
+    }
+    let mut found = [SocketAddr::new(IpAddr::V4(Ipv4Addr::UNSPECIFIED), 0); 4];
+    match rt.lookup_host(target.host.as_str(), target.port, &mut found) {
+        Ok(count) if count > 0 => Some(found[0]),
+        _ => None,
+    }
+}

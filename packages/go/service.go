@@ -1,0 +1,217 @@
+package mouktelf
+
+/*
+#include "mouktelf.h"
+*/
+import "C"
+
+// What a table refuses, besides a client's own faults.
+const (
+	UsedUp   = Fault(C.TDS_SERVICE_USED_UP)    // all numbers of leases or connections were given
+	NoSuch   = Fault(C.TDS_SERVICE_UNKNOWN)    // there is no such lease, ticket or connection
+	AllInUse = Fault(C.TDS_SERVICE_ALL_IN_USE) // as many connections are there as may be, and none can be lent
+	NotNow   = Fault(C.TDS_SERVICE_NOT_NOW)    // the connection isn't so that this can be done now
+)
+
+// Rest is where a connection is that nobody holds any more.
+type Rest uint8
+
+const (
+	Free     = Rest(C.TDS_SERVICE_FREE)     // it may be lent again
+	Draining = Rest(C.TDS_SERVICE_DRAINING) // it is free once its acknowledgement has come: Drained
+	Closed   = Rest(C.TDS_SERVICE_CLOSED)   // it is in the table no longer: close its socket
+)
+
+// Lent is a lease, and the number of its connection. Where nobody had that before it is to be opened and logged in.
+type Lent struct {
+	Lease, Number uint64
+	Had           bool
+}
+
+// Ended says of a lease or a ticket that has ended its connection's number, where that is, and what is to be sent on it.
+type Ended struct {
+	Number uint64
+	Rest   Rest
+	Sends  []byte
+}
+
+// Service is a table of connections that callers share, in front of any server. It has no socket, and no lock: use it from one
+// goroutine at a time.
+type Service struct {
+	value    C.struct_tds_service
+	seats    []C.struct_tds_seat // one more than there may be: an address for none
+	messages map[uint64]*Client  // by a connection's number: the message that goes out, or waits
+	isLent   bool                // a client is: no call of the table is done
+}
+
+// NewService makes a table of at most so many connections, whose packets have 512 to 32,767 bytes.
+func NewService(most int, size uint16) (*Service, error) {
+	if most < 0 {
+		return nil, Fault(C.TDS_OUT_OF_RANGE)
+	}
+	if _, err := New(size); err != nil {
+		return nil, err
+	}
+	service := &Service{seats: make([]C.struct_tds_seat, most+1), messages: map[uint64]*Client{}}
+	service.value.size = C.uint16_t(size)
+	return service, nil
+}
+
+func (service *Service) most() C.size_t { return C.size_t(len(service.seats) - 1) }
+
+// Len is how many connections there are.
+func (service *Service) Len() int { return int(service.value.count) }
+
+func (service *Service) lends(call func(lent *C.struct_tds_lent) C.uint8_t) (Lent, error) {
+	var lent C.struct_tds_lent
+	if service.isLent {
+		return Lent{}, NotNow
+	}
+	if err := done(call(&lent)); err != nil {
+		return Lent{}, err
+	}
+	return Lent{uint64(lent.lease), uint64(lent.number), lent.had != 0}, nil
+}
+
+func (service *Service) ends(call func(number *C.uint64_t) C.uint8_t) (Ended, error) {
+	var number C.uint64_t
+	if service.isLent {
+		return Ended{}, NotNow
+	}
+	rest := call(&number)
+	if rest >= 20 {
+		return Ended{}, Fault(rest)
+	}
+	delete(service.messages, uint64(number))
+	return Ended{Number: uint64(number), Rest: Rest(rest)}, nil
+}
+
+// Lease lends a free connection that is idle, and marks it for a full reset; else a new one, which is to be opened and logged
+// in. AllInUse: wait until one is free.
+func (service *Service) Lease() (Lent, error) {
+	return service.lends(func(lent *C.struct_tds_lent) C.uint8_t {
+		return C.tds_service_lease(&service.value, &service.seats[0], service.most(), lent)
+	})
+}
+
+// With uses the client of a lease's connection: its requests. Behind the call that client is broken, and in it no other call of
+// the table is done.
+func (service *Service) With(lease uint64, use func(client *Client) error) error {
+	var index C.size_t
+	answer := C.tds_service_find(&service.value, &service.seats[0], service.most(), C.uint64_t(lease), &index)
+	return service.uses(answer, index, use)
+}
+
+// At uses the client of the connection of this number, as With, whoever holds it: for what comes on it.
+func (service *Service) At(number uint64, use func(client *Client) error) error {
+	var index C.size_t
+	answer := C.tds_service_at(&service.value, &service.seats[0], service.most(), C.uint64_t(number), &index)
+	return service.uses(answer, index, use)
+}
+
+func (service *Service) uses(answer C.uint8_t, index C.size_t, use func(client *Client) error) error {
+	if service.isLent {
+		return NotNow
+	}
+	if err := done(answer); err != nil {
+		return err
+	}
+	seat, client := &service.seats[index], &Client{}
+	if waits, is := service.messages[uint64(seat.number)]; is {
+		*client = *waits
+	}
+	client.raw, service.isLent = seat.client, true
+	defer func() {
+		left := *client
+		seat.client, service.messages[uint64(seat.number)], service.isLent = client.raw, &left, false
+		client.Lost()
+	}()
+	return use(client)
+}
+
+// Holder is the number of the lease, or of the ticket, that holds the connection of this number; 0 where none does.
+func (service *Service) Holder(number uint64) (uint64, error) {
+	var index C.size_t
+	if err := done(C.tds_service_at(&service.value, &service.seats[0], service.most(), C.uint64_t(number), &index)); err != nil {
+		return 0, err
+	}
+	switch seat := &service.seats[index]; seat.place {
+	case C.TDS_PLACE_LENT, C.TDS_PLACE_CLEANING, C.TDS_PLACE_KEPT:
+		return uint64(seat.holder), nil
+	}
+	return 0, nil
+}
+
+// GiveBack ends a lease. What is underway is cancelled, and what is to be sent for that is in the answer.
+func (service *Service) GiveBack(lease uint64) (Ended, error) {
+	out, count := make([]byte, 16), C.size_t(0)
+	ended, err := service.ends(func(number *C.uint64_t) C.uint8_t {
+		return C.tds_service_give_back(&service.value, &service.seats[0], service.most(), C.uint64_t(lease), at(out), C.size_t(len(out)), &count, number)
+	})
+	ended.Sends = out[:count]
+	return ended, err
+}
+
+// Drained is for a connection that drains, each time that its client has taken something: Free once the client is idle, else
+// Draining. NotNow where it doesn't drain.
+func (service *Service) Drained(number uint64) (Rest, error) {
+	if service.isLent {
+		return 0, NotNow
+	}
+	rest := C.tds_service_drained(&service.value, &service.seats[0], service.most(), C.uint64_t(number))
+	if rest >= 20 {
+		return 0, Fault(rest)
+	}
+	return Rest(rest), nil
+}
+
+// Lost says that the connection of this number is lost: it is in the table no longer, and its lease unknown.
+func (service *Service) Lost(number uint64) error {
+	if service.isLent {
+		return NotNow
+	}
+	err := done(C.tds_service_lost(&service.value, &service.seats[0], service.most(), C.uint64_t(number)))
+	if err == nil {
+		delete(service.messages, number)
+	}
+	return err
+}
+
+// Keep keeps a connection that is idle in a transaction, and gives a ticket for it. The lease is spent.
+func (service *Service) Keep(lease uint64) (uint64, error) {
+	var ticket C.uint64_t
+	if service.isLent {
+		return 0, NotNow
+	}
+	err := done(C.tds_service_keep(&service.value, &service.seats[0], service.most(), C.uint64_t(lease), &ticket))
+	return uint64(ticket), err
+}
+
+// Resume lends a connection that was kept, and marks it for a reset that keeps its transaction. The ticket is spent.
+func (service *Service) Resume(ticket uint64) (Lent, error) {
+	return service.lends(func(lent *C.struct_tds_lent) C.uint8_t {
+		return C.tds_service_resume(&service.value, &service.seats[0], service.most(), C.uint64_t(ticket), lent)
+	})
+}
+
+// Abandon gives a connection up that was kept. The ticket is spent.
+func (service *Service) Abandon(ticket uint64) (Ended, error) {
+	return service.ends(func(number *C.uint64_t) C.uint8_t {
+		return C.tds_service_abandon(&service.value, &service.seats[0], service.most(), C.uint64_t(ticket), number)
+	})
+}
+
+// Clean lends the connection of this number, if it is free and idle, to be cleaned: ask a batch that does nothing on it, which
+// asks for a full reset, and call Cleaned once it is answered.
+func (service *Service) Clean(number uint64) (Lent, error) {
+	return service.lends(func(lent *C.struct_tds_lent) C.uint8_t {
+		return C.tds_service_clean(&service.value, &service.seats[0], service.most(), C.uint64_t(number), lent)
+	})
+}
+
+// Cleaned ends a lease of Clean: Free where the reset was done and no transaction is open, else Closed.
+func (service *Service) Cleaned(lease uint64) (Ended, error) {
+	return service.ends(func(number *C.uint64_t) C.uint8_t {
+		return C.tds_service_cleaned(&service.value, &service.seats[0], service.most(), C.uint64_t(lease), number)
+	})
+}

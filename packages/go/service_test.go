@@ -1,0 +1,293 @@
+package mouktelf
+
+import (
+	"encoding/hex"
+	"reflect"
+	"testing"
+)
+
+// The bytes stand in docs/PROTOCOL.md.
+const (
+	begunBytes        = "0401002300000100E30B000808010000000000000000FD000000000000000000000000"
+	endedBytes        = "0401001500000200FD000000000000000000000000"
+	resetBytes        = "0401001B00000100E30300120000FD000000000000000000000000"
+	acknowledgedBytes = "0401001500000100FD200000000000000000000000"
+	attentionBytes    = "0601000800000100"
+)
+
+func bytesOf(digits string) []byte {
+	bytes, err := hex.DecodeString(digits)
+	if err != nil {
+		panic(err)
+	}
+	return bytes
+}
+
+// is says that what came with an error, or none, is this.
+func is(t *testing.T, got any, err error, wanted any) {
+	t.Helper()
+	if err != nil || !reflect.DeepEqual(got, wanted) {
+		t.Errorf("%v (%v), and %v is wanted", got, err, wanted)
+	}
+}
+
+func refuses(t *testing.T, err error, wanted Fault) {
+	t.Helper()
+	if err != error(wanted) {
+		t.Errorf("%v, and %v is wanted", err, wanted)
+	}
+}
+
+func table(t *testing.T, most int) *Service {
+	service, err := NewService(most, 512)
+	if err != nil {
+		t.Fatal(err)
+	}
+	return service
+}
+
+func lease(t *testing.T, service *Service) Lent {
+	t.Helper()
+	lent, err := service.Lease()
+	if err != nil {
+		t.Fatal(err)
+	}
+	return lent
+}
+
+// asks sends a request; the status of its packet has bit 8 (hexadecimal) where it asks for a full reset.
+func asks(service *Service, lease uint64, start func(client *Client) error) (status byte, err error) {
+	err = service.With(lease, func(client *Client) error {
+		var out []byte
+		if err := start(client); err != nil {
+			return err
+		}
+		_, err := client.Send(&out)
+		status = out[1]
+		return err
+	})
+	return status, err
+}
+
+func get(client *Client) error { return client.StartBatch("get a") }
+
+func takes(service *Service, number uint64, packet string) (answer Answer, err error) {
+	err = service.At(number, func(client *Client) (err error) {
+		answer, _, err = client.Take(bytesOf(packet))
+		return err
+	})
+	return answer, err
+}
+
+func TestOneLeaseEach(t *testing.T) {
+	service := table(t, 2)
+	first, second := lease(t, service), lease(t, service)
+	is(t, first.Number, nil, uint64(1))
+	is(t, second.Number, nil, uint64(2))
+	if first.Had || second.Had || first.Lease == second.Lease || service.Len() != 2 {
+		t.Error(first, second, service.Len())
+	}
+	holder, err := service.Holder(2)
+	is(t, holder, err, second.Lease)
+	_, err = service.Lease()
+	refuses(t, err, AllInUse)
+	ended, err := service.GiveBack(second.Lease)
+	is(t, ended, err, Ended{2, Free, []byte{}})
+	again := lease(t, service)
+	if again.Number != 2 || !again.Had || again.Lease == first.Lease || again.Lease == second.Lease {
+		t.Error(again)
+	}
+	_, err = service.Lease()
+	refuses(t, err, AllInUse)
+}
+
+func TestStaleLeases(t *testing.T) {
+	service := table(t, 1)
+	spent := lease(t, service).Lease
+	var held *Client
+	is(t, 0, service.With(spent, func(client *Client) error { held = client; return get(client) }), 0)
+	// A client that is kept from there does nothing, and the table's own calls wait until it is given back.
+	refuses(t, held.StartCommit(NoNext), Fault(33))
+	is(t, 0, service.With(spent, func(*Client) error {
+		_, err := service.GiveBack(spent)
+		refuses(t, err, NotNow)
+		_, err = service.Lease()
+		refuses(t, err, NotNow)
+		refuses(t, service.Lost(1), NotNow)
+		return nil
+	}), 0)
+	// What hasn't gone out isn't cancelled at the server.
+	ended, err := service.GiveBack(spent)
+	is(t, ended, err, Ended{1, Free, []byte{}})
+	status, err := asks(service, lease(t, service).Lease, get)
+	is(t, status, err, byte(9))
+	// Somebody else has the connection.
+	refuses(t, service.With(spent, func(*Client) error { t.Error("a spent lease"); return nil }), NoSuch)
+	_, err = service.GiveBack(spent)
+	refuses(t, err, NoSuch)
+	_, err = service.Keep(spent)
+	refuses(t, err, NoSuch)
+	_, err = service.Cleaned(spent)
+	refuses(t, err, NoSuch)
+	_, err = service.Resume(spent)
+	refuses(t, err, NoSuch)
+	_, err = service.Abandon(spent)
+	refuses(t, err, NoSuch)
+}
+
+// A request is cancelled at the end of its lease: its connection isn't lent before the acknowledgement.
+func TestDrains(t *testing.T) {
+	service := table(t, 1)
+	first := lease(t, service).Lease
+	status, err := asks(service, first, get)
+	is(t, status, err, byte(1))
+	_, err = service.Drained(1)
+	refuses(t, err, NotNow)
+	ended, err := service.GiveBack(first)
+	is(t, ended, err, Ended{1, Draining, bytesOf(attentionBytes)})
+	holder, err := service.Holder(1)
+	is(t, holder, err, uint64(0))
+	_, err = service.Lease()
+	refuses(t, err, AllInUse)
+	// The answer's end crosses the cancel.
+	answer, err := takes(service, 1, endedBytes)
+	is(t, answer, err, More)
+	rest, err := service.Drained(1)
+	is(t, rest, err, Draining)
+	_, err = service.Lease()
+	refuses(t, err, AllInUse)
+	_, err = service.Clean(1)
+	refuses(t, err, NotNow)
+	answer, err = takes(service, 1, acknowledgedBytes)
+	is(t, answer, err, Acknowledged)
+	rest, err = service.Drained(1)
+	is(t, rest, err, Free)
+	lent := lease(t, service)
+	is(t, lent, nil, Lent{lent.Lease, 1, true})
+	status, err = asks(service, lent.Lease, get)
+	is(t, status, err, byte(9))
+	answer, err = takes(service, 1, resetBytes)
+	is(t, answer, err, Finished)
+}
+
+func TestKept(t *testing.T) {
+	service := table(t, 1)
+	first := lease(t, service).Lease
+	_, err := service.Keep(first)
+	refuses(t, err, NotNow)
+	_, err = asks(service, first, func(client *Client) error { return client.StartBegin(0) })
+	is(t, 0, err, 0)
+	answer, err := takes(service, 1, begunBytes)
+	is(t, answer, err, Finished)
+	ticket, err := service.Keep(first)
+	refuses(t, service.With(first, func(*Client) error { return nil }), NoSuch)
+	holder, _ := service.Holder(1)
+	is(t, holder, err, ticket)
+	_, err = service.Lease()
+	refuses(t, err, AllInUse)
+	lent, err := service.Resume(ticket)
+	is(t, lent, err, Lent{lent.Lease, 1, true})
+	is(t, 0, service.With(lent.Lease, func(client *Client) error { is(t, client.Descriptor(), nil, uint64(1)); return nil }), 0)
+	_, err = service.Resume(ticket)
+	refuses(t, err, NoSuch)
+	// It goes on with its transaction: a reset that keeps that is asked for (bit 10).
+	status, err := asks(service, lent.Lease, get)
+	is(t, status, err, byte(0x11))
+	_, err = takes(service, 1, resetBytes)
+	is(t, 0, err, 0)
+	ticket, _ = service.Keep(lent.Lease)
+	ended, err := service.Abandon(ticket)
+	is(t, ended, err, Ended{Number: 1, Rest: Free})
+	_, err = service.Abandon(ticket)
+	refuses(t, err, NoSuch)
+}
+
+func TestCleaned(t *testing.T) {
+	for _, it := range []struct {
+		answer string
+		rest   Rest
+		count  int
+	}{{resetBytes, Free, 1}, {endedBytes, Closed, 0}} {
+		service := table(t, 1)
+		_, err := service.Clean(1)
+		refuses(t, err, NoSuch)
+		first := lease(t, service).Lease
+		_, err = service.Clean(1)
+		refuses(t, err, NotNow)
+		_, err = service.GiveBack(first)
+		is(t, 0, err, 0)
+		lent, err := service.Clean(1)
+		is(t, lent.Number, err, uint64(1))
+		_, err = service.Lease()
+		refuses(t, err, AllInUse)
+		status, err := asks(service, lent.Lease, get)
+		is(t, status, err, byte(9))
+		_, err = service.Cleaned(lent.Lease)
+		refuses(t, err, NotNow)
+		_, err = takes(service, 1, it.answer)
+		is(t, 0, err, 0)
+		ended, err := service.Cleaned(lent.Lease)
+		is(t, ended, err, Ended{Number: 1, Rest: it.rest})
+		is(t, service.Len(), nil, it.count)
+	}
+}
+
+// Of three connections the first goes. The seats of the others move; their leases and requests are as they were.
+func TestLost(t *testing.T) {
+	service := table(t, 3)
+	leases := []uint64{lease(t, service).Lease, lease(t, service).Lease, lease(t, service).Lease}
+	for _, it := range leases {
+		_, err := asks(service, it, get)
+		is(t, 0, err, 0)
+	}
+	is(t, 0, service.Lost(1), 0)
+	refuses(t, service.With(leases[0], func(*Client) error { return nil }), NoSuch)
+	refuses(t, service.Lost(1), NoSuch)
+	is(t, service.Len(), nil, 2)
+	var out []byte
+	is(t, 0, service.With(leases[2], func(client *Client) error {
+		answer, err := client.Cancel(&out)
+		is(t, answer, err, Asked)
+		return nil
+	}), 0)
+	is(t, out, nil, bytesOf(attentionBytes))
+	answer, err := takes(service, 2, endedBytes)
+	is(t, answer, err, Finished)
+	answer, err = takes(service, 3, endedBytes)
+	is(t, answer, err, More)
+	is(t, lease(t, service).Number, nil, uint64(4))
+}
+
+// What waits of a message in parts is there at the next call; the headers have 22 bytes.
+func TestStreamed(t *testing.T) {
+	service, out := table(t, 1), []byte(nil)
+	lease := lease(t, service).Lease
+	for _, step := range []func(client *Client) error{
+		func(client *Client) error { return client.StartMessage(Batch) },
+		func(client *Client) error { return client.Put(bytesOf("670065007400"), &out) },
+		func(client *Client) error { return client.Put(bytesOf("200061000000"), &out) },
+	} {
+		is(t, len(out), service.With(lease, step), 0)
+	}
+	err := service.With(lease, func(client *Client) error { return client.Finish(&out) })
+	is(t, len(out), err, 42)
+	is(t, out[30:], nil, bytesOf("670065007400200061000000"))
+}
+
+func TestRefused(t *testing.T) {
+	for _, size := range []uint16{0, 511, 32768, 65535} {
+		_, err := NewService(1, size)
+		refuses(t, err, Fault(23))
+	}
+	_, err := NewService(-1, 512)
+	refuses(t, err, Fault(23))
+	_, err = table(t, 0).Lease()
+	refuses(t, err, AllInUse)
+	for _, number := range []uint64{0, 1, 1<<64 - 1} {
+		_, err = table(t, 1).GiveBack(number)
+		refuses(t, err, NoSuch)
+		_, err = table(t, 1).Drained(number)
+		refuses(t, err, NoSuch)
+		refuses(t, table(t, 1).Lost(number), NoSuch)
+	}
+}

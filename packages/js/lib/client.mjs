@@ -1,0 +1,397 @@
+// The client's end of one connection, and a walk over the tokens of an answer.
+
+import { Memory, library } from "./library.mjs";
+
+export const calls = await library("mouktelf.wasm", "mouktelf_version");
+export const memory = new Memory(calls);
+
+/** Who makes a client of a table's seat: `new Client(HELD, () => ADDRESS)`. */
+export const HELD = Symbol("held");
+
+/** What a call did, as mouktelf.h numbers it. */
+export const Answer = Object.freeze({
+  MORE: 1, LAST: 2, FINISHED: 3, ACKNOWLEDGED: 4, NOTHING: 5, ALREADY: 6, UNSENT: 7, ASKED: 8,
+});
+
+/** What a client is doing. */
+export const Stage = Object.freeze({ IDLE: 0, SENDING: 1, READING: 2, CANCELLING: 3, BROKEN: 4 });
+
+/** The reset that the next request asks for. */
+export const Reset = Object.freeze({ FULL: 1, KEEP_TRANSACTION: 2 });
+
+/** Which message a request is (MS-TDS 2.2.1). */
+export const MessageKind = Object.freeze({ BATCH: 1, PROCEDURE: 3, BULK_LOAD: 7, TRANSACTION: 14 });
+
+const OK = 0, FULL = 1, END = 9, TELL = 10, WANTS_BYTES = 24, OUT_OF_RANGE = 23, FIRST_FAULT = 20;
+const MESSAGE_MOST = 4022, HEADER = 8, TO_CLIENT = 1, NO_NEXT = 255;
+export const ATTENTION_MOST = 16, COUNT = 8;
+// The sizes of the header's structs, and where their fields lie.
+const PACKET = { size: 16 }, CURSOR = { size: 16, columns: 8 };
+export const CLIENT = { size: 40, descriptor: 0, packetSize: 24, stage: 26, columns: 32 };
+const TOKEN = {
+  size: 32, value: 0, start: 8, number: 16, line: 20, status: 24, command: 26, kind: 28, state: 29, severity: 30, change: 31,
+};
+const PACKETS = 16, TOKENS = 32;
+
+/** Why a call was not done, or what the peer did wrong: a number of mouktelf.h, from 20 on. */
+export class Fault extends Error {
+  constructor(number) {
+    super(`fault ${number}`);
+    this.number = number;
+  }
+
+  /** Whether the peer broke the protocol, and the client is broken: close the connection. */
+  get isPeer() {
+    return this.number >= 61 && this.number <= 69;
+  }
+}
+
+export function done(number) {
+  if (number >= FIRST_FAULT) throw new Fault(number);
+  return number;
+}
+
+/** A number that a call takes: of another one nothing is called. */
+export function within(number, most) {
+  if (!Number.isInteger(number) || number < 0 || number > most) throw new Fault(OUT_OF_RANGE);
+  return number;
+}
+
+/** The client's end of one connection, for packets of 512 to 32,767 bytes. */
+export class Client {
+  #place;
+  #message = new Uint8Array();
+  #kept = new Uint8Array();
+  #waiting = 0;
+
+  constructor(size, place) {
+    if (size === HELD) {
+      this.#place = place;
+      return;
+    }
+    within(size, 0xffff);
+    const at = memory.keep(this, CLIENT.size);
+    this.#place = () => at;
+    done(calls.tds_client_new(size, this.#value));
+  }
+
+  /** Where it lies in memory. */
+  get #at() {
+    return this.#place();
+  }
+
+  get #value() {
+    return BigInt(this.#at);
+  }
+
+  get #size() {
+    return memory.view().getUint16(this.#at + CLIENT.packetSize, true);
+  }
+
+  /** What it is doing: one of Stage. */
+  get stage() {
+    return memory.view().getUint8(this.#at + CLIENT.stage);
+  }
+
+  /** The descriptor of the open transaction, a BigInt, 0n for none. */
+  get descriptor() {
+    return memory.view().getBigUint64(this.#at + CLIENT.descriptor, true);
+  }
+
+  /** In idle: lets the next request ask for a reset. Of two marks the stronger one stays. */
+  markReset(reset) {
+    done(calls.tds_client_mark_reset(this.#value, within(reset, 255)));
+  }
+
+  /** In idle: takes a batch of 1 to 2,000 units of UTF-16. Nothing goes out yet. */
+  startBatch(text) {
+    const at = memory.lend(COUNT + MESSAGE_MOST + 2 * text.length), view = memory.view(), units = at + COUNT + MESSAGE_MOST;
+    for (let place = 0; place < text.length; place++) view.setUint16(units + 2 * place, text.charCodeAt(place), true);
+    this.#start(at, room => calls.tds_client_start_batch(this.#value, BigInt(units), BigInt(text.length), ...room));
+  }
+
+  /** In idle: takes the request to begin a transaction, at a level of 0 to 5. */
+  startBegin(isolation = 0) {
+    this.#startOf("tds_client_start_begin", isolation);
+  }
+
+  /** In idle: takes the request to commit, and to begin the next transaction at once at that level. */
+  startCommit(next) {
+    this.#startOf("tds_client_start_commit", next);
+  }
+
+  /** The same of a rollback. */
+  startRollback(next) {
+    this.#startOf("tds_client_start_rollback", next);
+  }
+
+  #startOf(name, level) {
+    const number = level === undefined ? NO_NEXT : within(level, NO_NEXT - 1);
+    this.#start(memory.lend(COUNT + MESSAGE_MOST), room => calls[name](this.#value, number, ...room));
+  }
+
+  /** Of the bytes at `at` the first are the count, and the next ones the message. */
+  #start(at, call) {
+    done(call([BigInt(at + COUNT), BigInt(MESSAGE_MOST), BigInt(at)]));
+    this.#message = memory.copy(at + COUNT, memory.count(at));
+  }
+
+  /** In sending: the request's next packet, and whether it is the LAST or there are MORE: [answer, packet]. */
+  send() {
+    const length = this.#message.length, room = this.#size, at = memory.lend(COUNT + length + room), out = at + COUNT + length;
+    memory.bytes(at + COUNT, length).set(this.#message);
+    const answer = done(calls.tds_client_send(
+      this.#value, BigInt(at + COUNT), BigInt(length), BigInt(out), BigInt(room), BigInt(at)));
+    return [answer, memory.copy(out, memory.count(at))];
+  }
+
+  /** The packets of the request that are still to go out. */
+  sendAll() {
+    const packets = [];
+    for (let answer = Answer.MORE; answer === Answer.MORE;) {
+      let packet;
+      [answer, packet] = this.send();
+      packets.push(packet);
+    }
+    return joined(packets);
+  }
+
+  /** Cancels what is underway: [answer, bytes]. Behind ASKED send the bytes, and take packets until ACKNOWLEDGED. */
+  cancel() {
+    const at = memory.lend(COUNT + ATTENTION_MOST);
+    const answer = done(calls.tds_client_cancel(this.#value, BigInt(at + COUNT), BigInt(ATTENTION_MOST), BigInt(at)));
+    return [answer, memory.copy(at + COUNT, memory.count(at))];
+  }
+
+  /**
+   * Takes one packet of an answer, from its first byte to its last: {answer, tokens}, where the answer is MORE, FINISHED or
+   * ACKNOWLEDGED. Behind a cancel no token is told.
+   */
+  take(packet) {
+    const isTold = this.stage === Stage.READING, columns = memory.view().getUint8(this.#at + CLIENT.columns);
+    const at = memory.lend(packet.length + 1);
+    memory.bytes(at, packet.length).set(packet);
+    const answer = done(calls.tds_client_take(this.#value, BigInt(at), BigInt(packet.length)));
+    return { answer, tokens: isTold ? tokensOf(packet.subarray(HEADER), columns) : [] };
+  }
+
+  /** In idle: begins a message of a MessageKind that is sent in parts. Its body comes by `put`, and `finish` ends it. */
+  startMessage(kind) {
+    const room = this.#size - HEADER, at = memory.lend(COUNT + room);
+    done(calls.tds_client_start_message(this.#value, within(kind, 255), BigInt(at + COUNT), BigInt(room), BigInt(at)));
+    this.#kept = memory.copy(at + COUNT, room);
+    this.#waiting = memory.count(at);
+  }
+
+  /** In sending: puts bytes of the message's body, and gives the packets that are full. */
+  put(data) {
+    const room = this.#size, kept = this.#kept.length, packets = [];
+    for (let answer = FULL; answer === FULL;) {
+      // waiting, taken, count; what is kept; the packet; the bytes
+      const at = memory.lend(3 * COUNT + kept + room + data.length);
+      const [taken, count, keeps] = [at + COUNT, at + 2 * COUNT, at + 3 * COUNT], out = keeps + kept, bytes = out + room;
+      memory.setCount(at, this.#waiting);
+      memory.bytes(keeps, kept).set(this.#kept);
+      memory.bytes(bytes, data.length).set(data);
+      answer = done(calls.tds_client_put(
+        this.#value, BigInt(keeps), BigInt(kept), BigInt(at), BigInt(bytes), BigInt(data.length), BigInt(taken), BigInt(out),
+        BigInt(room), BigInt(count)));
+      packets.push(memory.copy(out, memory.count(count)));
+      this.#kept = memory.copy(keeps, kept);
+      this.#waiting = memory.count(at);
+      data = data.subarray(memory.count(taken));
+    }
+    return joined(packets);
+  }
+
+  /** Ends the message, and gives its last packet. */
+  finish() {
+    const kept = this.#kept.length, room = this.#size, at = memory.lend(COUNT + kept + room), out = at + COUNT + kept;
+    memory.bytes(at + COUNT, kept).set(this.#kept);
+    done(calls.tds_client_finish(this.#value, BigInt(at + COUNT), BigInt(this.#waiting), BigInt(out), BigInt(room), BigInt(at)));
+    return memory.copy(out, memory.count(at));
+  }
+
+  /**
+   * Hears a token that a walk has found, of any server, in place of `take`. Whether the caller that asked is told of it:
+   * behind a cancel nobody is.
+   */
+  heard(token) {
+    return done(this.#hear(token)) === TELL;
+  }
+
+  #hear(token) {
+    switch (token.tells) {
+      case Tells.DONE:
+        return calls.tds_client_heard_done(this.#value, token.kind, token.status);
+      case Tells.TRANSACTION:
+        // A begin tells the new descriptor, an end the old one.
+        return calls.tds_client_heard_change(
+          this.#value, token.change, token.change === 8 || token.change === 11 ? token.value : token.oldValue);
+      case Tells.RESET:
+        return calls.tds_client_heard_change(this.#value, 18, 0n);
+      default:
+        return calls.tds_client_heard_other(this.#value);
+    }
+  }
+
+  /** Hears that a message has ended, behind the packet whose status has bit 1: MORE, FINISHED or ACKNOWLEDGED. */
+  messageEnded() {
+    return done(calls.tds_client_message_ended(this.#value));
+  }
+
+  /** The connection is lost: the client is broken, unless it is broken already. */
+  lost() {
+    calls.tds_client_lost(this.#value);
+  }
+}
+
+function joined(parts) {
+  const all = new Uint8Array(parts.reduce((sum, it) => sum + it.length, 0));
+  parts.reduce((at, it) => (all.set(it, at), at + it.length), 0);
+  return all;
+}
+
+/** The packets from a server at the front of these bytes, and the rest, behind which the next bytes go: [packets, rest]. */
+export function packetsOf(data, size) {
+  within(size, 0xffff);
+  const packets = [];
+  for (;;) {
+    const at = memory.lend(COUNT + PACKETS * PACKET.size + data.length), found = at + COUNT, bytes = found + PACKETS * PACKET.size;
+    memory.bytes(bytes, data.length).set(data);
+    const answer = calls.tds_packets_read(
+      BigInt(bytes), BigInt(data.length), size, TO_CLIENT, BigInt(found), BigInt(PACKETS), BigInt(at));
+    const count = memory.count(at);
+    for (let place = 0; place < count; place++) {
+      const length = memory.count(found + place * PACKET.size);
+      packets.push(data.subarray(0, length));
+      data = data.subarray(length);
+    }
+    if (answer === WANTS_BYTES) return [packets, data];
+    done(answer);
+  }
+}
+
+/** The tokens of a packet's data, {type, ..} each, where the client knew so many columns before it. */
+function tokensOf(data, columns) {
+  const at = memory.lend(COUNT + CURSOR.size + TOKENS * TOKEN.size + data.length), cursor = at + COUNT;
+  const first = cursor + CURSOR.size, bytes = first + TOKENS * TOKEN.size, told = [];
+  memory.bytes(cursor, CURSOR.size).fill(0);
+  memory.bytes(cursor + CURSOR.columns, 1)[0] = columns;
+  memory.bytes(bytes, data.length).set(data);
+  for (let answer = OK; answer !== END;) {
+    answer = done(calls.tds_tokens_next(
+      BigInt(bytes), BigInt(data.length), BigInt(cursor), BigInt(first), BigInt(TOKENS), BigInt(at)));
+    for (let place = 0; place < memory.count(at); place++) told.push(tokenAt(first + place * TOKEN.size, data));
+  }
+  return told;
+}
+
+const utf16 = new TextDecoder("utf-16le");
+
+function tokenAt(at, data) {
+  const view = memory.view(), start = memory.count(at + TOKEN.start), number = view.getInt32(at + TOKEN.number, true);
+  const value = view.getBigUint64(at + TOKEN.value, true), kind = view.getUint8(at + TOKEN.kind);
+  const own = new DataView(data.buffer, data.byteOffset + start);
+  switch (kind) {
+    case 0xab:
+    case 0xaa: {
+      const from = start + 11, text = utf16.decode(data.subarray(from, from + 2 * own.getUint16(9, true)));
+      const [state, severity] = [view.getUint8(at + TOKEN.state), view.getUint8(at + TOKEN.severity)];
+      return { type: kind === 0xaa ? "error" : "info", number, state, severity, line: view.getInt32(at + TOKEN.line, true), text };
+    }
+    case 0x79:
+      return { type: "returnStatus", value: number };
+    case 0x81:
+      return { type: "columns", count: Number(value) };
+    case 0xd1:
+      return { type: "row", values: Array.from({ length: Number(value) }, (_, place) => own.getInt32(1 + 4 * place, true)) };
+    case 0xe3:
+      return { type: "change", kind: view.getUint8(at + TOKEN.change), descriptor: value };
+    default:
+      return { type: "done", status: view.getUint16(at + TOKEN.status, true), rows: value };
+  }
+}
+
+/** What is told of a token that a walk finds: which fields of it count. */
+export const Tells = Object.freeze({
+  NOTHING: 0, DONE: 1, TRANSACTION: 2, RESET: 3, PACKET_SIZE: 4, VALUES: 5, OTHER_CHANGE: 6, MESSAGE: 7, RETURN_STATUS: 8,
+  SESSION_STATE: 9, UNCLEAR: 10,
+});
+
+const ENDED = 0, GOES_ON = 1, WIRE_MEMORY = 8706, WIRE = { size: 104, refused: 24 };
+const WALKED = {
+  size: 88, start: 0, length: 8, value: 16, oldValue: 24, text: 32, others: 48, number: 64, size32: 68, status: 72,
+  command: 74, kind: 76, told: 77, change: 78, state: 79, severity: 80, recoverable: 81,
+};
+
+/** A byte that no answer has: `number` as mouktelf.h numbers it (71 to 74), and its place in the message. */
+export class Refused extends Error {
+  constructor(number, at, byte) {
+    super(`fault ${number} at ${at}, the byte ${byte}`);
+    Object.assign(this, { number, at, byte });
+  }
+}
+
+/**
+ * Finds where each token of an answer ends, for every type of column of TDS 7.2 to 7.4 (MS-TDS 2.2.7). The bytes come in
+ * pieces of any size: the data of packets of type 04.
+ */
+export class Walk {
+  #at = memory.keep(this, WIRE.size + WIRE_MEMORY);
+
+  /** Room for so many columns, 4,096 at most; what the login's FEATUREEXTACK acknowledged. */
+  constructor(most = 4096, { encryption = false, ranks = false } = {}) {
+    calls.tds_wire_new(within(most, 0xffff), Number(encryption), Number(ranks), ...this.#both);
+  }
+
+  get #both() {
+    return [BigInt(this.#at), BigInt(this.#at + WIRE.size)];
+  }
+
+  /** Takes bytes up to the end of one token: [count, token], where the token is null if none has ended. */
+  next(data) {
+    const at = memory.lend(COUNT + WALKED.size + data.length), token = at + COUNT, bytes = token + WALKED.size;
+    memory.bytes(token, WALKED.size).fill(0);
+    memory.bytes(bytes, data.length).set(data);
+    const answer = calls.tds_wire_next(...this.#both, BigInt(bytes), BigInt(data.length), BigInt(at), BigInt(token));
+    if (answer > GOES_ON) {
+      const refused = this.#at + WIRE.refused;
+      throw new Refused(answer, memory.count(refused), memory.view().getUint8(refused + 9));
+    }
+    return [memory.count(at), answer === ENDED ? walkedAt(token) : null];
+  }
+
+  /** The tokens that end in this piece. */
+  *tokens(data) {
+    while (data.length > 0) {
+      const [count, token] = this.next(data);
+      data = data.subarray(count);
+      if (token) yield token;
+    }
+  }
+
+  /** Whether a message may end here. */
+  get isBetween() {
+    return calls.tds_wire_is_between(...this.#both) === 1;
+  }
+
+  /** Begins anew, before the first token of the next message. */
+  restart() {
+    calls.tds_wire_restart(...this.#both);
+  }
+}
+
+function walkedAt(at) {
+  const view = memory.view(), long = field => view.getBigUint64(at + field, true);
+  const place = field => ({ start: Number(long(field)), length: Number(long(field + 8)) });
+  return {
+    start: Number(long(WALKED.start)), length: Number(long(WALKED.length)), kind: view.getUint8(at + WALKED.kind),
+    tells: view.getUint8(at + WALKED.told), value: long(WALKED.value), oldValue: long(WALKED.oldValue),
+    text: place(WALKED.text), others: place(WALKED.others), number: view.getInt32(at + WALKED.number, true),
+    size: view.getUint32(at + WALKED.size32, true), status: view.getUint16(at + WALKED.status, true),
+    command: view.getUint16(at + WALKED.command, true), change: view.getUint8(at + WALKED.change),
+    state: view.getUint8(at + WALKED.state), severity: view.getUint8(at + WALKED.severity),
+    isRecoverable: view.getUint8(at + WALKED.recoverable) === 1,
+  };
+}

@@ -1,0 +1,161 @@
+// The table of connections without a socket: who is lent what, what is refused, and what drains.
+//
+// The bytes stand in docs/PROTOCOL.md; the numbers of faults are those of mouktelf.h.
+
+import assert from "node:assert/strict";
+import { Answer, Fault, Rest, Service, Stage } from "mouktelf";
+
+const bytes = digits => new Uint8Array(Buffer.from(digits, "hex"));
+const hex = data => Buffer.from(data).toString("hex").toUpperCase();
+const BEGUN = bytes("0401002300000100E30B000808010000000000000000FD000000000000000000000000");
+const ENDED = bytes("0401001500000200FD000000000000000000000000");
+const RESET = bytes("0401001B00000100E30300120000FD000000000000000000000000");
+const ACKNOWLEDGED = bytes("0401001500000100FD200000000000000000000000");
+const ATTENTION = "0601000800000100";
+const UNKNOWN = 34, ALL_IN_USE = 35, NOT_NOW = 36, OUT_OF_RANGE = 23;
+
+function refuses(number, call) {
+  assert.throws(call, fault => fault instanceof Fault && fault.number === number, `${call}`);
+}
+
+/** A batch goes out; the status of its packet, which has bit 8 (hexadecimal) where it asks for a full reset. */
+function ask(service, lease) {
+  const client = service.client(lease);
+  client.startBatch("get a");
+  return client.sendAll()[1];
+}
+
+function endsAs(ended, number, rest, sends = "") {
+  assert.deepEqual([ended.number, ended.rest, hex(ended.sends)], [number, rest, sends]);
+}
+
+function oneLeaseEach() {
+  const service = new Service(2, 512), first = service.lease(), second = service.lease();
+  assert.deepEqual([first.number, first.had, second.number, second.had], [1n, false, 2n, false]);
+  assert.notEqual(first.lease, second.lease);
+  assert.deepEqual([service.count, service.holder(1), service.holder(2n)], [2, first.lease, second.lease]);
+  refuses(ALL_IN_USE, () => service.lease());
+  endsAs(service.giveBack(second.lease), 2n, Rest.FREE);
+  const again = service.lease();
+  assert.deepEqual([again.number, again.had], [2n, true]);
+  assert.ok(again.lease !== first.lease && again.lease !== second.lease);
+  refuses(ALL_IN_USE, () => service.lease());
+}
+
+function staleLeases() {
+  const service = new Service(1, 512), spent = service.lease().lease, client = service.client(spent);
+  client.startBatch("get a");
+  // What hasn't gone out isn't cancelled at the server.
+  endsAs(service.giveBack(spent), 1n, Rest.FREE);
+  for (const call of ["send", "cancel", "finish", "startCommit", "messageEnded"]) refuses(UNKNOWN, () => client[call]());
+  refuses(UNKNOWN, () => client.take(ENDED));
+  for (const call of ["client", "giveBack", "keep", "cleaned", "resume", "abandon"]) refuses(UNKNOWN, () => service[call](spent));
+  // Nor do they when somebody else has the connection.
+  const { lease } = service.lease();
+  assert.equal(ask(service, lease), 9);
+  refuses(UNKNOWN, () => client.cancel());
+  refuses(UNKNOWN, () => service.giveBack(spent));
+  assert.equal(service.client(lease).stage, Stage.READING);
+}
+
+/** A request is cancelled at the end of its lease: its connection isn't lent before the acknowledgement. */
+function drains() {
+  const service = new Service(1, 512), { lease } = service.lease();
+  assert.equal(ask(service, lease), 1);
+  refuses(NOT_NOW, () => service.drained(1));
+  endsAs(service.giveBack(lease), 1n, Rest.DRAINING, ATTENTION);
+  assert.equal(service.holder(1), 0n);
+  refuses(ALL_IN_USE, () => service.lease());
+  // The answer's end crosses the cancel.
+  assert.equal(service.connection(1).take(ENDED).answer, Answer.MORE);
+  assert.equal(service.drained(1), Rest.DRAINING);
+  refuses(ALL_IN_USE, () => service.lease());
+  refuses(NOT_NOW, () => service.clean(1));
+  assert.equal(service.connection(1).take(ACKNOWLEDGED).answer, Answer.ACKNOWLEDGED);
+  assert.equal(service.drained(1), Rest.FREE);
+  const lent = service.lease();
+  assert.deepEqual([lent.number, lent.had, ask(service, lent.lease)], [1n, true, 9]);
+  assert.equal(service.connection(1).take(RESET).answer, Answer.FINISHED);
+}
+
+function kept() {
+  const service = new Service(1, 512), { lease } = service.lease();
+  refuses(NOT_NOW, () => service.keep(lease));
+  const client = service.client(lease);
+  client.startBegin();
+  client.sendAll();
+  service.connection(1).take(BEGUN);
+  const ticket = service.keep(lease);
+  refuses(UNKNOWN, () => client.startCommit());
+  assert.equal(service.holder(1), ticket);
+  refuses(ALL_IN_USE, () => service.lease());
+  const lent = service.resume(ticket);
+  assert.deepEqual([lent.number, lent.had, service.client(lent.lease).descriptor], [1n, true, 1n]);
+  refuses(UNKNOWN, () => service.resume(ticket));
+  // It goes on with its transaction: a reset that keeps that is asked for (bit 10).
+  assert.equal(ask(service, lent.lease), 0x11);
+  service.connection(1).take(RESET);
+  const second = service.keep(lent.lease);
+  endsAs(service.abandon(second), 1n, Rest.FREE);
+  refuses(UNKNOWN, () => service.abandon(second));
+}
+
+function cleaned() {
+  for (const [answer, rest, count] of [[RESET, Rest.FREE, 1], [ENDED, Rest.CLOSED, 0]]) {
+    const service = new Service(1, 512);
+    refuses(UNKNOWN, () => service.clean(1));
+    const { lease } = service.lease();
+    refuses(NOT_NOW, () => service.clean(1));
+    service.giveBack(lease);
+    const lent = service.clean(1);
+    refuses(ALL_IN_USE, () => service.lease());
+    assert.equal(ask(service, lent.lease), 9);
+    refuses(NOT_NOW, () => service.cleaned(lent.lease));
+    service.connection(1).take(answer);
+    endsAs(service.cleaned(lent.lease), 1n, rest);
+    assert.equal(service.count, count);
+  }
+}
+
+/** Of three connections the first goes. The seats of the others move; their leases and requests are as they were. */
+function lost() {
+  const service = new Service(3, 512), clients = [0, 1, 2].map(() => service.lease().lease).map(it => service.client(it));
+  for (const client of clients) {
+    client.startBatch("get a");
+    client.sendAll();
+  }
+  service.lost(1);
+  refuses(UNKNOWN, () => clients[0].cancel());
+  refuses(UNKNOWN, () => service.connection(1));
+  refuses(UNKNOWN, () => service.lost(1));
+  const [answer, attention] = clients[2].cancel();
+  assert.deepEqual([service.count, answer, hex(attention)], [2, Answer.ASKED, ATTENTION]);
+  assert.deepEqual([clients[1].stage, service.connection(2).take(ENDED).answer], [Stage.READING, Answer.FINISHED]);
+  assert.equal(service.connection(3).take(ENDED).answer, Answer.MORE);
+  assert.equal(service.lease().number, 4n);
+}
+
+/** A message in parts, of 12 bytes behind its headers of 22, by a client whose place is looked up in the middle of each call. */
+function streamed() {
+  const service = new Service(1, 512), client = service.client(service.lease().lease);
+  client.startMessage(1);
+  assert.equal(client.put(bytes("670065007400")).length, 0);
+  assert.equal(client.put(bytes("200061000000")).length, 0);
+  const packet = client.finish();
+  assert.deepEqual([packet.length, hex(packet.subarray(30))], [42, "670065007400200061000000"]);
+}
+
+function refused() {
+  for (const size of [0, 511, 32768, 65536]) refuses(OUT_OF_RANGE, () => new Service(1, size));
+  for (const most of [-1, 1.5, "1"]) refuses(OUT_OF_RANGE, () => new Service(most, 512));
+  refuses(ALL_IN_USE, () => new Service(0, 512).lease());
+  for (const number of [0, 1n, 2n ** 64n - 1n]) {
+    refuses(UNKNOWN, () => new Service(1, 512).giveBack(number));
+    refuses(UNKNOWN, () => new Service(1, 512).drained(number));
+  }
+  for (const number of [-1, 2n ** 64n, 1.5, "1"]) refuses(OUT_OF_RANGE, () => new Service(1, 512).lost(number));
+}
+
+const parts = [oneLeaseEach, staleLeases, drains, kept, cleaned, lost, streamed, refused];
+for (const it of parts) it();
+console.log(`${parts.length} parts of the table, all right`);

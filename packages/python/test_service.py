@@ -1,0 +1,157 @@
+"""The table of connections without a socket: who is lent what, what is refused, and what drains.
+
+The bytes are those of test_mouktelf.py; the numbers of faults are those of mouktelf.h."""
+
+from mouktelf import Answer, Fault, Lent, Rest, Service, Stage
+
+BEGUN = bytes.fromhex("0401002300000100E30B000808010000000000000000FD000000000000000000000000")
+ENDED = bytes.fromhex("0401001500000200FD000000000000000000000000")
+RESET = bytes.fromhex("0401001B00000100E30300120000FD000000000000000000000000")
+ACKNOWLEDGED = bytes.fromhex("0401001500000100FD200000000000000000000000")
+ATTENTION = bytes.fromhex("0601000800000100")
+UNKNOWN, ALL_IN_USE, NOT_NOW, OUT_OF_RANGE = 34, 35, 36, 23
+
+
+def refuses(number, call, *words):
+    try:
+        call(*words)
+    except Fault as fault:
+        assert fault.number == number, fault.number
+    else:
+        raise AssertionError(f"{call} {words} isn't refused")
+
+
+def ask(service, lease):
+    """A batch goes out; its packet, whose second byte has bit 8 (hexadecimal) where it asks for a full reset."""
+    client = service.client(lease)
+    client.start_batch("get a")
+    return client.send_all()
+
+
+def one_lease_each():
+    service = Service(2, 512)
+    first, second = service.lease(), service.lease()
+    assert (first.number, first.had, second.number, second.had) == (1, False, 2, False)
+    assert first.lease != second.lease and len(service) == 2
+    assert [service.holder(1), service.holder(2)] == [first.lease, second.lease]
+    refuses(ALL_IN_USE, service.lease)
+    assert service.give_back(second.lease) == (2, Rest.FREE, b"")
+    again = service.lease()
+    assert (again.number, again.had) == (2, True) and again.lease not in (first.lease, second.lease)
+    refuses(ALL_IN_USE, service.lease)
+
+
+def stale_leases():
+    service = Service(1, 512)
+    spent = service.lease().lease
+    client = service.client(spent)
+    client.start_batch("get a")
+    # What hasn't gone out isn't cancelled at the server.
+    assert service.give_back(spent) == (1, Rest.FREE, b"")
+    for call in (client.send, client.cancel, client.finish, client.start_commit):
+        refuses(UNKNOWN, call)
+    refuses(UNKNOWN, client.take, ENDED)
+    for call in (service.client, service.give_back, service.keep, service.cleaned, service.resume, service.abandon):
+        refuses(UNKNOWN, call, spent)
+    # Nor do they when somebody else has the connection.
+    lease = service.lease().lease
+    assert ask(service, lease)[1] == 9
+    refuses(UNKNOWN, client.cancel)
+    refuses(UNKNOWN, service.give_back, spent)
+    assert service.client(lease).stage == Stage.READING
+
+
+def drains():
+    """A request is cancelled at the end of its lease: its connection isn't lent before the acknowledgement."""
+    service = Service(1, 512)
+    lease = service.lease().lease
+    assert ask(service, lease)[1] == 1
+    refuses(NOT_NOW, service.drained, 1)
+    assert service.give_back(lease) == (1, Rest.DRAINING, ATTENTION)
+    assert service.holder(1) == 0
+    refuses(ALL_IN_USE, service.lease)
+    # The answer's end crosses the cancel.
+    assert service.connection(1).take(ENDED).answer == Answer.MORE
+    assert service.drained(1) == Rest.DRAINING
+    refuses(ALL_IN_USE, service.lease)
+    refuses(NOT_NOW, service.clean, 1)
+    assert service.connection(1).take(ACKNOWLEDGED).answer == Answer.ACKNOWLEDGED
+    assert service.drained(1) == Rest.FREE
+    lent = service.lease()
+    assert (lent.number, lent.had) == (1, True)
+    assert ask(service, lent.lease)[1] == 9
+    assert service.connection(1).take(RESET).answer == Answer.FINISHED
+
+
+def kept():
+    service = Service(1, 512)
+    lease = service.lease().lease
+    refuses(NOT_NOW, service.keep, lease)
+    client = service.client(lease)
+    client.start_begin()
+    client.send_all()
+    service.connection(1).take(BEGUN)
+    ticket = service.keep(lease)
+    refuses(UNKNOWN, client.start_commit)
+    assert service.holder(1) == ticket
+    refuses(ALL_IN_USE, service.lease)
+    lent = service.resume(ticket)
+    assert lent == Lent(lent.lease, 1, True) and service.client(lent.lease).descriptor == 1
+    refuses(UNKNOWN, service.resume, ticket)
+    # It goes on with its transaction: a reset that keeps that is asked for (bit 10).
+    assert ask(service, lent.lease)[1] == 0x11
+    service.connection(1).take(RESET)
+    ticket = service.keep(lent.lease)
+    assert service.abandon(ticket) == (1, Rest.FREE, b"")
+    refuses(UNKNOWN, service.abandon, ticket)
+
+
+def cleaned():
+    for answer, rest, count in ((RESET, Rest.FREE, 1), (ENDED, Rest.CLOSED, 0)):
+        service = Service(1, 512)
+        refuses(UNKNOWN, service.clean, 1)
+        lease = service.lease().lease
+        refuses(NOT_NOW, service.clean, 1)
+        service.give_back(lease)
+        lent = service.clean(1)
+        refuses(ALL_IN_USE, service.lease)
+        assert ask(service, lent.lease)[1] == 9
+        refuses(NOT_NOW, service.cleaned, lent.lease)
+        service.connection(1).take(answer)
+        assert service.cleaned(lent.lease) == (1, rest, b"") and len(service) == count
+
+
+def lost():
+    """Of three connections the first goes. The seats of the others move; their leases and requests are as they were."""
+    service = Service(3, 512)
+    leases = [service.lease().lease for _ in range(3)]
+    clients = [service.client(it) for it in leases]
+    for it in leases:
+        ask(service, it)
+    service.lost(1)
+    refuses(UNKNOWN, clients[0].cancel)
+    refuses(UNKNOWN, service.connection, 1)
+    refuses(UNKNOWN, service.lost, 1)
+    assert len(service) == 2 and clients[2].cancel() == (Answer.ASKED, ATTENTION)
+    assert clients[1].stage == Stage.READING and service.connection(2).take(ENDED).answer == Answer.FINISHED
+    assert service.connection(3).take(ENDED).answer == Answer.MORE
+    assert service.lease().number == 4
+
+
+def refused():
+    for size in (0, 511, 32768, 65536):
+        refuses(OUT_OF_RANGE, Service, 1, size)
+    refuses(OUT_OF_RANGE, Service, -1, 512)
+    refuses(ALL_IN_USE, Service(0, 512).lease)
+    for number in (0, 1, 2**64 - 1):
+        refuses(UNKNOWN, Service(1, 512).give_back, number)
+        refuses(UNKNOWN, Service(1, 512).drained, number)
+    for number in (-1, 2**64):
+        refuses(OUT_OF_RANGE, Service(1, 512).lost, number)
+
+
+if __name__ == "__main__":
+    parts = (one_lease_each, stale_leases, drains, kept, cleaned, lost, refused)
+    for it in parts:
+        it()
+    print(f"{len(parts)} parts of the table, all right")
