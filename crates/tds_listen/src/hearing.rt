@@ -56,20 +56,22 @@ pub fn next(client: &mut Client, walker: &mut Walker, piece: &[u8]) -> Result<He
             return Err(ListenFault::Wire(refusal));
         }
     };
-    let Some(token) = fed.token else {
+    // A token is large: it is lent to the client, and copied once, into what is answered.
+    let Some(token) = &fed.token else {
         return Ok(Heard {
             count: fed.count,
             token: None,
         });
     };
-    let told = if client.may_tell() { Some(token) } else { None };
-    match client.hear_sign(Rules::Any, sign_of(&token)) {
-        Ok(()) => Ok(Heard {
-            count: fed.count,
-            token: told,
-        }),
-        Err(fault) => Err(ListenFault::Client(fault)),
+    let tells = client.may_tell();
+    match client.hear_sign(Rules::Any, sign_of(token)) {
+        Ok(()) => {}
+        Err(fault) => return Err(ListenFault::Client(fault)),
     }
+    Ok(Heard {
+        count: fed.count,
+        token: if tells { fed.token } else { None },
+    })
 }
 
 /// Hears all these bytes of an answer's data, and tells of no token: `next` up to their end. It takes

@@ -1,7 +1,7 @@
 -- Where applications and connections are, as whoever asks is told.
-use Rattle.std.specs.Prelude.{◌≡◌, ℕ, Option, Some, None, option_map}
+use Rattle.std.specs.Prelude.{◌≡◌, ℕ, Bool, Option, Some, None, option_map}
 use Rattle.tds_service.specs.Service as calls
-use Rattle.tds_service.specs.Service.{Seat, seat_numbered}
+use Rattle.tds_service.specs.Service.{Seat, is_open, seat_numbered}
 use Rattle.tds_relay.specs.declared.application.Application.{Application}
 use Rattle.tds_relay.specs.declared.desk.Hold.{Hold}
 use Rattle.tds_relay.specs.declared.relay.places.Place.{Place}
@@ -30,6 +30,10 @@ holder d number = key_of (find_number number d.holds)
 
 abbrev pub seated : Desk → ℕ → Option calls.Place
 seated d number = option_map (λ (c : Seat). c.place) (seat_numbered number d.service.seats)
+
+-- whether a transaction is open there that no full reset is about to end
+abbrev pub open_on : Desk → ℕ → Option Bool
+open_on d number = option_map (λ (c : Seat). is_open c.line.heard.mark c.line.heard.descriptor) (seat_numbered number d.service.seats)
 
 -- A connection that may be lent, or drains, is nobody's, and there in the service.
 abbrev pub IsOn : Desk → ℕ → PlaceOn → Type 0

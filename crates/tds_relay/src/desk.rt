@@ -1,6 +1,6 @@
 //! Who holds which connection of a service, and whose requests wait for one.
 ghost use Rattle.std.specs.Prelude.{◌≡◌, [], IfOk, OnOk, OnErr, length, option_map};
-ghost use Rattle.tds_service.specs.Service.{Seat, seat_numbered};
+ghost use Rattle.tds_service.specs.Service.{Seat, is_open, seat_numbered};
 ghost use Rattle.tds_service.specs.Table.{place_of};
 ghost use Rattle.tds_relay.specs.Desk.{Serves, Unwaits, Waits, find_key, find_number, key_of, new_desk};
 ghost use Rattle.tds_relay.specs.Ties.{Serving, Turns, desk_in};
@@ -139,6 +139,15 @@ impl Desk {
             (seat_numbered number (desk_in self.now).service.seats) }
     {
         self.service.place_on(number)
+    }
+
+    /// Whether a transaction is open on the connection of this number, if there is one.
+    pub fn is_open_on(&self, number: u64) -> Option<bool>
+        ensures { result ≡ option_map (λ (c : Seat).
+            is_open c.line.heard.mark c.line.heard.descriptor)
+            (seat_numbered number (desk_in self.now).service.seats) }
+    {
+        self.service.is_open_on(number)
     }
 
     /// The applications that wait, the first one first.

@@ -10,9 +10,9 @@ use toml::{Table, Value};
 const MOST: usize = 65_536;
 
 /// What a file may set.
-const NAMES: [&str; 14] = [
+const NAMES: [&str; 15] = [
     "most", "alone", "stats", "log", "judge", "login", "wait", "cancel", "idle", "life", "hold",
-    "drain", "check", "away",
+    "transaction", "drain", "check", "away",
 ];
 
 /// The settings of a file, or none.

@@ -17,6 +17,7 @@ pub struct Counts {
     pub late_waits: u64,
     pub late_cancels: u64,
     pub late_holds: u64,
+    pub late_transactions: u64,
     /// Connections that were closed as idle or old.
     pub idle: u64,
     pub old: u64,
@@ -40,6 +41,7 @@ impl Counts {
             late_waits: 0,
             late_cancels: 0,
             late_holds: 0,
+            late_transactions: 0,
             idle: 0,
             old: 0,
             away: 0,

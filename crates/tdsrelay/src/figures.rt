@@ -14,6 +14,7 @@ pub struct Figures {
     logging_in: u64,
     quiet: u64,
     holding: u64,
+    in_transaction: u64,
     waiting: u64,
     asking: u64,
     cancelling: u64,
@@ -42,6 +43,7 @@ impl Figures {
             logging_in: 0,
             quiet: 0,
             holding: 0,
+            in_transaction: 0,
             waiting: 0,
             asking: 0,
             cancelling: 0,
@@ -82,6 +84,7 @@ impl Figures {
             (Whose::First(_) | Whose::Opening(..), _) => &mut self.opening,
             (Whose::Application(..), At::Quiet) => &mut self.quiet,
             (Whose::Application(..), At::Holding) => &mut self.holding,
+            (Whose::Application(..), At::InTransaction) => &mut self.in_transaction,
             (Whose::Application(..), At::Waiting | At::Opening) => &mut self.waiting,
             (Whose::Application(..), At::Asking) => &mut self.asking,
             (Whose::Application(..), At::Cancelling) => &mut self.cancelling,
@@ -95,11 +98,12 @@ impl Figures {
     }
 
     /// Applications and connections, by where they are.
-    fn there(&self) -> [Figure; 15] {
+    fn there(&self) -> [Figure; 16] {
         [
             ("applications", "logging_in", self.logging_in),
             ("applications", "quiet", self.quiet),
             ("applications", "holding", self.holding),
+            ("applications", "in_transaction", self.in_transaction),
             ("applications", "waiting", self.waiting),
             ("applications", "asking", self.asking),
             ("applications", "cancelling", self.cancelling),
@@ -116,7 +120,7 @@ impl Figures {
     }
 
     /// What was done since the relay began.
-    fn counted(&self) -> [Figure; 19] {
+    fn counted(&self) -> [Figure; 20] {
         [
             ("applications", "let_in", self.counts.let_in),
             ("applications", "refused", self.counts.refused),
@@ -130,6 +134,7 @@ impl Figures {
             ("limits", "wait", self.counts.late_waits),
             ("limits", "cancel", self.counts.late_cancels),
             ("limits", "hold", self.counts.late_holds),
+            ("limits", "transaction", self.counts.late_transactions),
             ("limits", "idle", self.counts.idle),
             ("limits", "life", self.counts.old),
             ("servers", "failed", self.counts.away),

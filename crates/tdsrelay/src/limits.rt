@@ -15,6 +15,8 @@ pub struct Limits {
     pub life: u64,
     /// An application that holds a connection and asks nothing.
     pub hold: u64,
+    /// The same, where a transaction is open on that connection.
+    pub transaction: u64,
     /// What is still open once the relay is to end.
     pub drain: u64,
     /// From one check of free connections to the next.
@@ -31,6 +33,7 @@ pub const USUAL: Limits = Limits {
     idle: 600,
     life: 3600,
     hold: 0,
+    transaction: 0,
     drain: 30,
     check: 30,
     away: 10,

@@ -73,6 +73,8 @@ pub enum At {
     /// An application with nothing underway, which holds a connection or not.
     Quiet,
     Holding,
+    /// It holds one on which a transaction is open.
+    InTransaction,
     /// An application's request: it waits for a connection, or until that is open.
     Waiting,
     Opening,

@@ -21,7 +21,7 @@ const USUAL_ALONE: usize = 256;
 const MOST_ALONE: usize = 4096;
 
 /// The words that take a value: the name, and what it is.
-const SETTINGS: [(&str, &str); 13] = [
+const SETTINGS: [(&str, &str); 14] = [
     (
         "most",
         "CONNECTIONS at most for equal logins, 1 to 1024 [16]",
@@ -53,6 +53,10 @@ const SETTINGS: [(&str, &str); 13] = [
     (
         "hold",
         "SECONDS that an application may hold a connection and ask nothing [0]",
+    ),
+    (
+        "transaction",
+        "SECONDS that an application may leave a transaction open and ask nothing [0]",
     ),
     (
         "drain",
@@ -170,6 +174,7 @@ fn limits_of(matches: &ArgMatches, config: &Config) -> Result<Limits, RelayFault
         idle: seconds_of(matches, config, "idle", usual.idle)?,
         life: seconds_of(matches, config, "life", usual.life)?,
         hold: seconds_of(matches, config, "hold", usual.hold)?,
+        transaction: seconds_of(matches, config, "transaction", usual.transaction)?,
         drain: seconds_of(matches, config, "drain", usual.drain)?,
         check: seconds_of(matches, config, "check", usual.check)?,
         away: seconds_of(matches, config, "away", usual.away)?,

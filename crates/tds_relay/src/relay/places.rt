@@ -1,7 +1,7 @@
 //! Where applications and connections are, for whoever tells an operator of it or sets time limits.
 ghost use Rattle.std.specs.Prelude.{◌≡◌, IfSome};
 ghost use Rattle.slab.specs.Slab.{get};
-ghost use Rattle.tds_relay.specs.Places.{IsOn, Names, begun_in, held_by};
+ghost use Rattle.tds_relay.specs.Places.{IsOn, Names, begun_in, held_by, open_on};
 ghost use Rattle.tds_relay.specs.Ties.{desk_in};
 
 use super::Relay;
@@ -107,6 +107,14 @@ impl Relay {
             Seated::Draining => PlaceOn::Draining,
             Seated::Cleaning(_) | Seated::Leased(_) | Seated::Kept(_) => PlaceOn::Cleaning,
         })
+    }
+
+    /// Whether a transaction is open on the connection of this number, if there is one. One that the next
+    /// request's full reset ends isn't counted.
+    pub fn is_open_on(&self, number: u64) -> Option<bool>
+        ensures { result ≡ open_on (desk_in self.now.desk) number }
+    {
+        self.desk.is_open_on(number)
     }
 
     /// The keys of the applications that wait for a connection, the first one first.

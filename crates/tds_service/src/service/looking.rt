@@ -1,6 +1,6 @@
 //! What whoever watches a service may know of a connection.
 ghost use Rattle.std.specs.Prelude.{◌≡◌, option_map};
-ghost use Rattle.tds_service.specs.Service.{Seat, seat_numbered};
+ghost use Rattle.tds_service.specs.Service.{Seat, is_open, seat_numbered};
 ghost use Rattle.tds_service.specs.Table.{place_of, service_in};
 
 use crate::place::{Place, Wanted};
@@ -15,5 +15,16 @@ impl Service {
     {
         let index = find(&self.seats, Wanted::Number(number))?;
         Some(self.seats[index].place)
+    }
+
+    /// Whether a transaction is open on the connection of this number, if there is one (MS-TDS 2.2.7.9). One
+    /// that the next request's full reset ends isn't counted.
+    pub fn is_open_on(&self, number: u64) -> Option<bool>
+        ensures { result ≡ option_map (λ (c : Seat).
+            is_open c.line.heard.mark c.line.heard.descriptor)
+            (seat_numbered number (service_in self.now).seats) }
+    {
+        let index = find(&self.seats, Wanted::Number(number))?;
+        Some(self.seats[index].connection.is_open())
     }
 }

@@ -358,6 +358,7 @@ fn words_of(at: At) -> &'static str {
         At::Login => "logs in",
         At::Quiet => "is quiet",
         At::Holding => "is quiet and holds a connection",
+        At::InTransaction => "is quiet and has a transaction open",
         At::Waiting => "waits for a connection",
         At::Opening => "waits until its connection is open",
         At::Asking => "has a request underway",

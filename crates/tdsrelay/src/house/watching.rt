@@ -6,7 +6,7 @@ use crate::socket::{At, Role, Whose};
 use std::io::{self, Write};
 use std::net::Net;
 use tds_login::put_error;
-use tds_relay::{Place, PlaceOn};
+use tds_relay::{Place, PlaceOn, Relay};
 
 /// Why something is closed.
 #[derive(Clone, Copy, Debug)]
@@ -15,6 +15,7 @@ enum Why {
     Wait,
     Cancel,
     Hold,
+    Transaction,
     Idle,
     Old,
     /// Its group is paused.
@@ -31,6 +32,7 @@ impl Why {
             Why::Wait => "has waited too long for a connection",
             Why::Cancel => "has no acknowledgement of a cancel, or of a cleaning",
             Why::Hold => "has held a connection too long and asked nothing",
+            Why::Transaction => "has left a transaction open too long and asked nothing",
             Why::Idle => "was idle too long",
             Why::Old => "is old enough",
             Why::Paused => "is closed, since its group is paused",
@@ -47,6 +49,10 @@ impl Why {
                 "The relay closes who holds a connection for long and asks nothing.",
             )),
             Why::End => Some((50_103, "The relay ends.")),
+            Why::Transaction => Some((
+                50_104,
+                "The relay closes who leaves a transaction open for long and asks nothing.",
+            )),
             Why::Login => Some((50_100, "The server has not judged the login in time.")),
             Why::Cancel | Why::Idle | Why::Old | Why::Paused => None,
         }
@@ -99,7 +105,7 @@ impl<W: Write + Drop> House<W> {
         socket.see(at, mark, now);
         let lasted = now.saturating_sub(socket.seen.since);
         let age = now.saturating_sub(socket.born);
-        if is_ending && matches!(at, At::Login | At::Quiet | At::Holding | At::Waiting) {
+        if is_ending && ends_at_once(at) {
             return Some(Why::End);
         }
         if is_paused && at == At::Free {
@@ -162,7 +168,7 @@ impl<W: Write + Drop> House<W> {
             Whose::Asker | Whose::Closing => (At::Other, 0),
             Whose::Application(group, application) => match relay_of(groups, group) {
                 Some(relay) => (
-                    at_of(relay.place_of(application)),
+                    at_in(relay, application),
                     relay.begun_by(application),
                 ),
                 None => (At::Other, 0),
@@ -204,6 +210,7 @@ impl<W: Write + Drop> House<W> {
             Why::Wait => raise(&mut counts.late_waits),
             Why::Cancel => raise(&mut counts.late_cancels),
             Why::Hold => raise(&mut counts.late_holds),
+            Why::Transaction => raise(&mut counts.late_transactions),
             Why::Idle => raise(&mut counts.idle),
             Why::Old => raise(&mut counts.old),
             Why::End | Why::Paused => {}
@@ -252,10 +259,22 @@ impl<W: Write + Drop> House<W> {
     }
 }
 
-fn at_of(place: Option<Place>) -> At {
-    match place {
+/// Whether an application or a login that is at this is closed once the relay is to end.
+fn ends_at_once(at: At) -> bool {
+    matches!(
+        at,
+        At::Login | At::Quiet | At::Holding | At::InTransaction | At::Waiting
+    )
+}
+
+/// What an application of a group is at.
+fn at_in(relay: &Relay, application: usize) -> At {
+    match relay.place_of(application) {
         Some(Place::Quiet) => At::Quiet,
-        Some(Place::Holding(_)) => At::Holding,
+        Some(Place::Holding(number)) => match relay.is_open_on(number) {
+            Some(true) => At::InTransaction,
+            _ => At::Holding,
+        },
         Some(Place::Waiting) => At::Waiting,
         Some(Place::Opening(_)) => At::Opening,
         Some(Place::Asking(_)) => At::Asking,
@@ -283,6 +302,10 @@ fn why_late(at: At, lasted: u64, age: u64, limits: &Limits) -> Option<Why> {
         At::Waiting | At::Opening => limited(limits.wait, lasted, Why::Wait),
         At::Cancelling | At::Draining | At::Cleaning => limited(limits.cancel, lasted, Why::Cancel),
         At::Holding => limited(limits.hold, lasted, Why::Hold),
+        At::InTransaction => match limited(limits.transaction, lasted, Why::Transaction) {
+            Some(why) => Some(why),
+            None => limited(limits.hold, lasted, Why::Hold),
+        },
         At::Free => match limited(limits.idle, lasted, Why::Idle) {
             Some(why) => Some(why),
             None => limited(limits.life, age, Why::Old),
