@@ -1,0 +1,113 @@
+"""A tdsrelay that tells what it does over HTTP, and applications before it, for tests/relay_limits."""
+
+import json
+import re
+import socket
+import struct
+import subprocess
+
+from peers import PATIENCE, batch, connect, login, message
+
+LINE = re.compile(rb"(relaying|telling at) (\S+)")
+
+
+class Relay:
+    """A tdsrelay on free ports with these words, whose standard input is a pipe that ends it."""
+
+    def __init__(self, program, server, *words, others=()):
+        servers = [f"127.0.0.1:{port}" for port in (server, *others)]
+        self.child = subprocess.Popen(
+            [program, "127.0.0.1:0", *servers, "--stats", "127.0.0.1:0", "--until-input-ends", *words],
+            stdin=subprocess.PIPE, stderr=subprocess.PIPE)
+        self.stats = self.port = None
+        while self.port is None:
+            line = self.child.stderr.readline()
+            if not line:
+                raise OSError("the relay doesn't listen")
+            found = LINE.match(line)
+            port = int(found[2].rpartition(b":")[2])
+            if found[1] == b"relaying":
+                self.port = port
+            else:
+                self.stats = port
+
+    def ask(self, path, method="GET"):
+        """The status and the body of an answer over HTTP."""
+        with connect(self.stats) as link:
+            link.sendall(f"{method} {path} HTTP/1.1\r\nHost: a\r\n\r\n".encode())
+            got = b""
+            while more := link.recv(65536):
+                got += more
+        head, _, body = got.partition(b"\r\n\r\n")
+        length = int(re.search(rb"Content-Length: (\d+)", head)[1])
+        if length != len(body):
+            raise OSError(f"{length} bytes were said, {len(body)} came")
+        return int(head.split()[1]), body
+
+    def json(self):
+        return json.loads(self.ask("/json")[1])
+
+    def end(self):
+        """Ends its standard input, and gives the status and the last line."""
+        self.child.stdin.close()
+        said = self.child.stderr.read()
+        return self.child.wait(PATIENCE), said
+
+    def __enter__(self):
+        return self
+
+    def __exit__(self, *_):
+        if self.child.poll() is None:
+            self.child.kill()
+        self.child.wait()
+        self.child.stdin.close()
+        self.child.stderr.close()
+
+
+def let_in(relay, host="", program="", user=""):
+    """An application that is logged in, which says that it is this."""
+    names = [host.encode("utf-16le"), user.encode("utf-16le"), b"", program.encode("utf-16le")]
+    data, at = bytearray(login(more=sum(map(len, names)))), 8 + 94
+    for field, name in zip((36, 40, 44, 48), names):
+        struct.pack_into("<HH", data, 8 + field, at - 8, len(name) // 2)
+        data[at:at + len(name)] = name
+        at += len(name)
+    link = connect(relay.port)
+    link.sendall(bytes(data))
+    message(link)
+    return link
+
+
+def rows(link, number):
+    """Asks for a row, and gives whether it came."""
+    link.sendall(batch(f"rows {number} 1"))
+    return struct.pack("<Bi", 0xD1, number) in message(link)
+
+
+def error_of(link):
+    """The number of the error that ends a connection, None where it just ends."""
+    try:
+        data = message(link)
+    except OSError:
+        return None
+    number = error_in(data)
+    return number if link.recv(10) == b"" else ("open", number)
+
+
+def error_in(data):
+    """The number of the first error in a message's data (MS-TDS 2.2.7.10), None where there is none."""
+    at = data.find(b"\xaa")
+    return struct.unpack_from("<I", data, at + 3)[0] if at >= 0 else None
+
+
+def closes(link):
+    """Whether the other end closes within ten seconds."""
+    link.settimeout(10)
+    try:
+        while link.recv(4096):
+            pass
+        return True
+    except socket.timeout:
+        return False
+    except OSError:
+        return True
