@@ -9,6 +9,7 @@
 mod fault;
 mod front;
 pub mod laws;
+mod parts;
 mod stage;
 
 pub use fault::FrontFault;
