@@ -11,8 +11,21 @@ const MOST: usize = 65_536;
 
 /// What a file may set.
 const NAMES: [&str; 15] = [
-    "most", "alone", "stats", "log", "judge", "login", "wait", "cancel", "idle", "life", "hold",
-    "transaction", "drain", "check", "away",
+    "most",
+    "alone",
+    "stats",
+    "log",
+    "judge",
+    "login",
+    "wait",
+    "cancel",
+    "idle",
+    "life",
+    "hold",
+    "transaction",
+    "drain",
+    "check",
+    "away",
 ];
 
 /// The settings of a file, or none.

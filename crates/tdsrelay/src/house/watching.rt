@@ -167,10 +167,7 @@ impl<W: Write + Drop> House<W> {
             Whose::First(_) | Whose::Opening(..) => (At::Login, 0),
             Whose::Asker | Whose::Closing => (At::Other, 0),
             Whose::Application(group, application) => match relay_of(groups, group) {
-                Some(relay) => (
-                    at_in(relay, application),
-                    relay.begun_by(application),
-                ),
+                Some(relay) => (at_in(relay, application), relay.begun_by(application)),
                 None => (At::Other, 0),
             },
             Whose::Connection(group, number) => match relay_of(groups, group) {
