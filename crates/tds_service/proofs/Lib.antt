@@ -6,6 +6,7 @@ pub mod Answering
 pub mod Arriving
 pub mod Keeping
 pub mod Holding
+pub mod Sizing
 pub mod Spelling
 pub mod Pairing
 pub mod Walks

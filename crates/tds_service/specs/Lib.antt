@@ -12,3 +12,4 @@ pub mod Owning
 pub mod Table
 pub mod Newest
 pub mod Spelling
+pub mod Sizes

@@ -1,7 +1,7 @@
 ghost use Rattle.std.specs.Prelude.{◌≡◌, ◌≤◌, ◌<◌, ◌+◌, ℕ, List, [], Ok, Err, IfOk, IfErr, OnOk, OnErr};
 ghost use Rattle.std.specs.Prelude.{drop, length, Bool, true, false, None};
 ghost use Rattle.tds_client.specs.Sending.{Does as ClientDoes, IsRefusal};
-ghost use Rattle.tds_client.specs.Session.{state_of, unless_idle};
+ghost use Rattle.tds_client.specs.Session.{new_session, state_of, unless_idle};
 ghost use Rattle.tds_client.specs.Streams.{finished, opened, put};
 ghost use Rattle.tds_wire.specs.Reading.{next_token, restarted};
 ghost use Rattle.tds_wire.specs.declared.told.Token.{Token};
@@ -12,6 +12,7 @@ ghost use Rattle.tds_service.specs.Ties.{Does, DoesAll, Hears, Stands, answer_to
 ghost use Rattle.tds_service.specs.Ties.{cancel_answer, end_at, finishing, line_in, listed, part_of};
 ghost use Rattle.tds_service.specs.Refusing.{refusal_in};
 ghost use Rattle.tds_service.specs.Service.{is_clean, is_open};
+ghost use Rattle.tds_service.specs.Sizes.{Sized};
 ghost use Rattle.tds_service.specs.Ties.{items_of, putting, taken_answer};
 
 use std::alloc::Global;
@@ -39,7 +40,9 @@ impl Connection {
         features: Features,
     ) -> Result<Connection, NoMemory>
         requires { most ≤ 4096 }
-        ensures { IfOk result (λ connection. line_in connection ≡ line.new_line) }
+        ensures line { IfOk result (λ connection. line_in connection ≡ line.new_line) }
+        ensures client { IfOk result (λ connection. connection.client ≡ new_session size) }
+        ensures sized { IfOk result (Sized size) }
     {
         let walker = Walker::new(alloc, most, features)?;
         Ok(Connection {
@@ -95,6 +98,7 @@ impl Connection {
             answer_to (line_in self.old) (line.Mark reset) ≡ line.Refused refusal) }
         ensures err { OnErr result (self.new ≡ self.old) }
         ensures walker { self.new.walker ≡ self.old.walker }
+        ensures size { self.new.client.size ≡ self.old.client.size }
     {
         self.client.mark_reset(reset)
     }
@@ -112,6 +116,7 @@ impl Connection {
             (refusal_in (answer_to (line_in self.old) line.Ask))) }
         ensures err { OnErr result (self.new ≡ self.old) }
         ensures walker { self.new.walker ≡ self.old.walker }
+        ensures size { self.new.client.size ≡ self.old.client.size }
     {
         let number = self.next_number()?;
         self.client.start_message(kind)?;
@@ -154,6 +159,7 @@ impl Connection {
         ensures err { OnErr result (self.new ≡ self.old) }
         ensures nothing { OnErr result (out.new.items ≡ out.old.items) }
         ensures walker { self.new.walker ≡ self.old.walker }
+        ensures size { self.new.client.size ≡ self.old.client.size }
     {
         self.client.put(bytes, out)
     }
@@ -173,6 +179,7 @@ impl Connection {
         ensures err { OnErr result (self.new ≡ self.old) }
         ensures nothing { OnErr result (out.new.items ≡ out.old.items) }
         ensures walker { self.new.walker ≡ self.old.walker }
+        ensures size { self.new.client.size ≡ self.old.client.size }
     {
         self.client.finish(out)
     }
@@ -189,6 +196,7 @@ impl Connection {
         ensures err { OnErr result (self.new ≡ self.old) }
         ensures nothing { OnErr result (out.new.items ≡ out.old.items) }
         ensures walker { self.new.walker ≡ self.old.walker }
+        ensures size { self.new.client.size ≡ self.old.client.size }
     {
         self.client.cancel(out)
     }
@@ -214,6 +222,7 @@ impl Connection {
             self.new.walker (drop heard.count piece.now)) }
         ensures within { IfOk result (λ heard. heard.count ≤ length piece.now) }
         ensures moves { IfOk result (λ heard. 0 < length piece.now → 0 < heard.count) }
+        ensures size { self.new.client.size ≡ self.old.client.size }
     {
         if let Err(fault) = self.client.hear_sign(Rules::Any, Sign::Nothing) {
             return Err(ListenFault::Client(fault));
@@ -235,6 +244,7 @@ impl Connection {
             × ((line_in self.old).stage ≡ awaiting cancelling)) }
         ensures fault { IfErr result (λ fault. (part : Part Token)
             → Hears part (line_in self.old) (line_in self.new) (line.Fault fault) []) }
+        ensures size { self.new.client.size ≡ self.old.client.size }
     {
         match self.client.hear_sign(Rules::Any, Sign::Nothing) {
             Ok(()) => Ok(()),
@@ -257,6 +267,7 @@ impl Connection {
         ensures fault { IfErr result (λ fault. Hears (end_at self.old.walker) (line_in self.old)
             (line_in self.new) (line.Fault fault) []) }
         ensures anew { self.new.walker ≡ restarted self.old.walker }
+        ensures size { self.new.client.size ≡ self.old.client.size }
     {
         hear_end(&mut self.client, &mut self.walker)
     }
@@ -266,6 +277,7 @@ impl Connection {
         ensures does { (out : List ℕ)
             → Does line.Lose (line_in self.old) (line_in self.new) line.Lost out out }
         ensures walker { self.new.walker ≡ self.old.walker }
+        ensures size { self.new.client.size ≡ self.old.client.size }
     {
         self.client.lost();
     }

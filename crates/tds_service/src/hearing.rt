@@ -40,6 +40,7 @@ fn hear_tokens(
         → Hears (packet_part connection.old.walker bytes.now ends) (line_in connection.old)
         (line_in connection.new) (line.Fault fault) []) }
     ensures front { take (vec_len told.old) told.new.items ≡ told.old.items }
+    ensures size { connection.new.client.size ≡ connection.old.client.size }
 {
     let mut done = 0;
     'tokens: while done < bytes.len() {
@@ -79,6 +80,7 @@ pub(crate) fn hear(
         (packet_part connection.old.walker bytes.now ends) (line_in connection.old)
         (line_in connection.new) (line.Fault fault) []) }
     ensures untold { OnErr result (told.new.items ≡ told.old.items) }
+    ensures size { connection.new.client.size ≡ connection.old.client.size }
 {
     if let Err(fault) = connection.expects() {
         return Err(fault);
@@ -118,6 +120,7 @@ pub(crate) fn hear_packet(
         (packet_part connection.old.walker bytes.now ends) }
     ensures reads { Reads result ends (tokens_in connection.old.walker bytes.now).stop
         connection.new.walker }
+    ensures size { connection.new.client.size ≡ connection.old.client.size }
 {
     match hear(connection, bytes, ends, told) {
         Ok(Taken::More) => Outcome::More,

@@ -3,7 +3,6 @@
 
 ghost use Rattle.std.specs.Prelude.{◌≡◌, ◌≤◌, ◌+◌, ◌++◌, ℕ, List, Bool, Some, false};
 ghost use Rattle.tds_packet.specs.Reading.{joined};
-ghost use Rattle.tds_packet.specs.Size.{IsPacketSize};
 ghost use Rattle.tds_client.specs.declared.message.MessageKind.{MessageKind};
 ghost use Rattle.tds_client.specs.Promises.{AreParts};
 ghost use Rattle.tds_client.specs.Session.{ClientSession};
@@ -18,6 +17,7 @@ ghost use Rattle.tds_service.specs.Promises.{AsksUnawaited, FaultsUnawaited, Not
 ghost use Rattle.tds_service.specs.Promises.{attentions, acknowledgements};
 ghost use Rattle.tds_service.specs.Promises.{AsksAsOwed, LeavesNoneOwed, NamesAsHeard};
 ghost use Rattle.tds_service.specs.Promises.{nothing_known};
+ghost use Rattle.tds_service.specs.Sizes.{AllSized, Sized};
 ghost use Rattle.tds_service.specs.Spelling.{Spells, SpellsBy};
 ghost use Rattle.tds_service.specs.Table.{Moves, client_of};
 
@@ -76,20 +76,21 @@ pub fn idle_by_acknowledgement<T>()
 /// All that goes out of a request, from its asking to its finish, is packets of the kind that was asked
 /// for, whose data joined are its headers and then the bytes that were put, in order. The first packet
 /// alone has the bit of the reset that is asked for; each is full but the last, which alone has end of
-/// message. So it is by a lease too, whatever is done by others in between.
+/// message. Full is the size that was handed over as the connection, or its service, was made: `new`
+/// says so, and each call keeps it. So it is by a lease too, whatever is done by others in between.
 pub fn request_is_spelled()
-    ensures connection { (c asked behind : Connection) (kind : MessageKind)
-        (parts : List (List ℕ)) (bytes : List ℕ) → IsPacketSize c.client.size
+    ensures connection { (size : ℕ) (c asked behind : Connection) (kind : MessageKind)
+        (parts : List (List ℕ)) (bytes : List ℕ) → Sized size c
         → asked.client ≡ opened c.client kind → Spells asked parts bytes behind
         → (packets : List (List ℕ)) × (bytes ≡ joined packets)
-        × AreParts c.client.size (packets_are kind) c.client.heard.mark 0 packets
+        × AreParts size (packets_are kind) c.client.heard.mark 0 packets
         (headers_of c.client.heard kind ++ joined parts) }
-    ensures lease { (lease : ℕ) (old asked next behind : Service) (s : ClientSession)
-        (kind : MessageKind) (parts : List (List ℕ)) (bytes : List ℕ) → IsPacketSize s.size
+    ensures lease { (size lease : ℕ) (old asked next behind : Service) (s : ClientSession)
+        (kind : MessageKind) (parts : List (List ℕ)) (bytes : List ℕ) → AllSized size old
         → Moves lease old asked s (opened s kind) → client_of lease next ≡ client_of lease asked
         → SpellsBy lease next parts bytes behind
         → (packets : List (List ℕ)) × (bytes ≡ joined packets)
-        × AreParts s.size (packets_are kind) s.heard.mark 0 packets
+        × AreParts size (packets_are kind) s.heard.mark 0 packets
         (headers_of s.heard kind ++ joined parts) }
 {
     message_is_spelled();

@@ -8,6 +8,7 @@ ghost use Rattle.tds_service.specs.Line as line;
 ghost use Rattle.tds_service.specs.Refusing.{refusal_in};
 ghost use Rattle.tds_service.specs.Service as calls;
 ghost use Rattle.tds_service.specs.Service.{has_number};
+ghost use Rattle.tds_service.specs.Sizes.{KeepsSize, sizes_in};
 ghost use Rattle.tds_service.specs.Table.{Answers, DoesAt, Keeps, KeepsClients, Opens, Refuses};
 ghost use Rattle.tds_service.specs.Table.{RefusedBy, Steps};
 ghost use Rattle.tds_service.specs.Table.{puts_on, reading_by, service_in};
@@ -40,6 +41,7 @@ fn ask_at(seats: &mut [Seat], index: usize, kind: MessageKind) -> Result<Asked, 
     ensures err { OnErr result (seats.new ≡ seats.old) }
     ensures keeps { (n : ℕ) → reading_by (has_number n) seats.new
         ≡ reading_by (has_number n) seats.old }
+    ensures sizes { sizes_in seats.new ≡ sizes_in seats.old }
 {
     let seat = &mut seats[index];
     match seat.connection.ask(kind) {
@@ -67,6 +69,7 @@ fn put_at(seats: &mut [Seat], index: usize, bytes: &[u8], out: &mut Vec<u8>) -> 
     ensures nothing { OnErr result (out.new.items ≡ out.old.items) }
     ensures keeps { (n : ℕ) → reading_by (has_number n) seats.new
         ≡ reading_by (has_number n) seats.old }
+    ensures sizes { sizes_in seats.new ≡ sizes_in seats.old }
 {
     let seat = &mut seats[index];
     match seat.connection.put(bytes, out) {
@@ -91,6 +94,7 @@ fn finish_at(seats: &mut [Seat], index: usize, out: &mut Vec<u8>) -> Result<u64,
     ensures nothing { OnErr result (out.new.items ≡ out.old.items) }
     ensures keeps { (n : ℕ) → reading_by (has_number n) seats.new
         ≡ reading_by (has_number n) seats.old }
+    ensures sizes { sizes_in seats.new ≡ sizes_in seats.old }
 {
     let seat = &mut seats[index];
     match seat.connection.finish(out) {
@@ -116,6 +120,7 @@ fn cancel_at(
     ensures nothing { OnErr result (out.new.items ≡ out.old.items) }
     ensures keeps { (n : ℕ) → reading_by (has_number n) seats.new
         ≡ reading_by (has_number n) seats.old }
+    ensures sizes { sizes_in seats.new ≡ sizes_in seats.old }
 {
     let seat = &mut seats[index];
     match seat.connection.cancel(out) {
@@ -136,6 +141,7 @@ impl Service {
         ensures refused { IfErr result (Refuses (calls.Ask lease) (service_in self.old)) }
         ensures err { OnErr result (self.new ≡ self.old) }
         ensures keeps { Keeps self.old self.new }
+        ensures sizes { KeepsSize self.old self.new }
     {
         match find(&self.seats, Wanted::Lease(lease)) {
             Some(index) => ask_at(&mut self.seats, index, kind),
@@ -158,6 +164,7 @@ impl Service {
         ensures err { OnErr result (self.new ≡ self.old) }
         ensures nothing { OnErr result (out.new.items ≡ out.old.items) }
         ensures keeps { Keeps self.old self.new }
+        ensures sizes { KeepsSize self.old self.new }
     {
         match find(&self.seats, Wanted::Lease(lease)) {
             Some(index) => put_at(&mut self.seats, index, bytes, out),
@@ -178,6 +185,7 @@ impl Service {
         ensures err { OnErr result (self.new ≡ self.old) }
         ensures nothing { OnErr result (out.new.items ≡ out.old.items) }
         ensures keeps { Keeps self.old self.new }
+        ensures sizes { KeepsSize self.old self.new }
     {
         match find(&self.seats, Wanted::Lease(lease)) {
             Some(index) => finish_at(&mut self.seats, index, out),
@@ -197,6 +205,7 @@ impl Service {
         ensures err { OnErr result (self.new ≡ self.old) }
         ensures nothing { OnErr result (out.new.items ≡ out.old.items) }
         ensures keeps { Keeps self.old self.new }
+        ensures sizes { KeepsSize self.old self.new }
     {
         match find(&self.seats, Wanted::Lease(lease)) {
             Some(index) => cancel_at(&mut self.seats, index, out),

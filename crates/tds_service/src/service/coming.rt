@@ -8,6 +8,7 @@ ghost use Rattle.tds_service.specs.Line as line;
 ghost use Rattle.tds_service.specs.Packets.{Reads, outcome_answer, packet_part, told_of_part};
 ghost use Rattle.tds_service.specs.Service as calls;
 ghost use Rattle.tds_service.specs.Service.{drained, find_by, has_number, lease_in};
+ghost use Rattle.tds_service.specs.Sizes.{KeepsSize, sizes_in};
 ghost use Rattle.tds_service.specs.Table.{Comes, KeepsClientsOff, KeepsOthers, ReadsAt};
 ghost use Rattle.tds_service.specs.Table.{Refuses, place_of};
 ghost use Rattle.tds_service.specs.Table.{reading_by, reading_on, service_in};
@@ -69,6 +70,7 @@ fn came_at(
         → (line_in c.connection).stage ≡ line.Reading)) }
     ensures err { OnErr result (seats.new ≡ seats.old) }
     ensures untold { OnErr result (told.new.items ≡ told.old.items) }
+    ensures sizes { sizes_in seats.new ≡ sizes_in seats.old }
 {
     let seat = &mut seats[index];
     if let Err(refusal) = make_room(seat, bytes.len(), told) {
@@ -115,6 +117,7 @@ impl Service {
             → ReadsAt (find_by (has_number number) (service_in self.old).seats)) }
         ensures err { OnErr result (self.new ≡ self.old) }
         ensures untold { OnErr result (told.new.items ≡ told.old.items) }
+        ensures sizes { KeepsSize self.old self.new }
     {
         match find(&self.seats, Wanted::Number(number)) {
             Some(index) => came_at(&mut self.seats, index, bytes, ends, told),

@@ -5,6 +5,7 @@ ghost use Rattle.tds_service.specs.Line as line;
 ghost use Rattle.tds_service.specs.Refusing.{refusal_in};
 ghost use Rattle.tds_service.specs.Service as calls;
 ghost use Rattle.tds_service.specs.Service.{clean_place, has_number, may_keep, rests};
+ghost use Rattle.tds_service.specs.Sizes.{KeepsSize, sizes_in};
 ghost use Rattle.tds_service.specs.Table.{IsAt, Keeps, KeepsBy, KeepsClients, KeepsClientsOff};
 ghost use Rattle.tds_service.specs.Table.{KeepsOthers, Refuses, Steps, client_of};
 ghost use Rattle.tds_service.specs.Table.{reading_by, rest_of, seat_in, service_in, without_closed};
@@ -26,6 +27,7 @@ fn cancel_any(connection: &mut Connection, out: &mut Vec<u8>) -> Result<(), Refu
     ensures walker { connection.new.walker ≡ connection.old.walker }
     ensures err { OnErr result (connection.new ≡ connection.old) }
     ensures nothing { OnErr result (out.new.items ≡ out.old.items) }
+    ensures size { connection.new.client.size ≡ connection.old.client.size }
 {
     match connection.cancel(out) {
         Ok(_) => Ok(()),
@@ -58,6 +60,7 @@ fn rest_at(seats: &mut [Seat], index: usize) -> (u64, Rest)
         × IsAt (rest_of result.1) d.place }
     ensures keeps { (n : ℕ) → reading_by (has_number n) seats.new
         ≡ reading_by (has_number n) seats.old }
+    ensures sizes { sizes_in seats.new ≡ sizes_in seats.old }
 {
     let seat = &mut seats[index];
     let rest = seat.rest();
@@ -80,6 +83,7 @@ fn give_back_at(seats: &mut [Seat], index: usize, out: &mut Vec<u8>) -> Result<(
     ensures nothing { OnErr result (out.new.items ≡ out.old.items) }
     ensures keeps { (n : ℕ) → reading_by (has_number n) seats.new
         ≡ reading_by (has_number n) seats.old }
+    ensures sizes { sizes_in seats.new ≡ sizes_in seats.old }
 {
     let seat = &mut seats[index];
     match cancel_any(&mut seat.connection, out) {
@@ -107,6 +111,7 @@ fn cleaned_at(seats: &mut [Seat], index: usize) -> Result<(u64, Rest), Refusal>
     ensures err { OnErr result (seats.new ≡ seats.old) }
     ensures keeps { (n : ℕ) → reading_by (has_number n) seats.new
         ≡ reading_by (has_number n) seats.old }
+    ensures sizes { sizes_in seats.new ≡ sizes_in seats.old }
 {
     let seat = &mut seats[index];
     match seat.clean_rest() {
@@ -132,6 +137,7 @@ fn keep_at(seats: &mut [Seat], index: usize, ticket: u64) -> Result<u64, Refusal
     ensures err { OnErr result (seats.new ≡ seats.old) }
     ensures keeps { (n : ℕ) → reading_by (has_number n) seats.new
         ≡ reading_by (has_number n) seats.old }
+    ensures sizes { sizes_in seats.new ≡ sizes_in seats.old }
 {
     let seat = &mut seats[index];
     if seat.is_idle() && seat.connection.is_open() {
@@ -169,6 +175,7 @@ impl Service {
         ensures keeps { IfOk result (λ done. KeepsBy done.1 done.0 self.old self.new) }
         ensures keeps_all { OnErr result (Keeps self.old self.new) }
         ensures clients { KeepsClients lease self.old self.new }
+        ensures sizes { KeepsSize self.old self.new }
     {
         match find(&self.seats, Wanted::Lease(lease)) {
             Some(index) => match give_back_at(&mut self.seats, index, out) {
@@ -193,6 +200,7 @@ impl Service {
         ensures keeps { IfOk result (λ done. KeepsBy done.1 done.0 self.old self.new) }
         ensures keeps_all { OnErr result (Keeps self.old self.new) }
         ensures clients { KeepsClients lease self.old self.new }
+        ensures sizes { KeepsSize self.old self.new }
     {
         match find(&self.seats, Wanted::Lease(lease)) {
             Some(index) => match cleaned_at(&mut self.seats, index) {
@@ -214,6 +222,7 @@ impl Service {
         ensures err { OnErr result (service_in self.new ≡ service_in self.old) }
         ensures keeps { Keeps self.old self.new }
         ensures clients { KeepsClients lease self.old self.new }
+        ensures sizes { KeepsSize self.old self.new }
     {
         let ticket = self.next_given()?;
         match find(&self.seats, Wanted::Lease(lease)) {
@@ -237,6 +246,7 @@ impl Service {
         ensures keeps { IfOk result (λ done. KeepsBy done.1 done.0 self.old self.new) }
         ensures keeps_all { OnErr result (Keeps self.old self.new) }
         ensures clients { (l : ℕ) → client_of l self.new ≡ client_of l self.old }
+        ensures sizes { KeepsSize self.old self.new }
     {
         match find(&self.seats, Wanted::Ticket(ticket)) {
             Some(index) => {
@@ -256,6 +266,7 @@ impl Service {
         ensures err { OnErr result (service_in self.new ≡ service_in self.old) }
         ensures keeps { KeepsOthers number self.old self.new }
         ensures clients { KeepsClientsOff number self.old self.new }
+        ensures sizes { KeepsSize self.old self.new }
     {
         match find(&self.seats, Wanted::Number(number)) {
             Some(index) => {

@@ -5,6 +5,7 @@ ghost use Rattle.tds_service.specs.declared.seat.Seat.{Seat as CodeSeat};
 ghost use Rattle.tds_service.specs.Line as line;
 ghost use Rattle.tds_service.specs.Service as calls;
 ghost use Rattle.tds_service.specs.Service.{has_number, is_lendable, opens};
+ghost use Rattle.tds_service.specs.Sizes.{KeepsSize, sizes_in};
 ghost use Rattle.tds_service.specs.Table.{Keeps, KeepsClients, Opened, Refuses, RefusesIn};
 ghost use Rattle.tds_service.specs.Table.{Steps, reading_by, seat_in, service_in};
 ghost use Rattle.tds_service.specs.Ties.{Does, answer_to, line_in};
@@ -49,6 +50,7 @@ fn lend_at(seats: &mut [Seat], index: usize, place: Place, reset: Reset) -> Resu
     ensures err { OnErr result (seats.new ≡ seats.old) }
     ensures keeps { (n : ℕ) → reading_by (has_number n) seats.new
         ≡ reading_by (has_number n) seats.old }
+    ensures sizes { sizes_in seats.new ≡ sizes_in seats.old }
 {
     let seat = &mut seats[index];
     match seat.connection.mark(reset) {
@@ -74,6 +76,7 @@ fn clean_at(seats: &mut [Seat], index: usize, lease: u64) -> Result<u64, Refusal
     ensures err { OnErr result (seats.new ≡ seats.old) }
     ensures keeps { (n : ℕ) → reading_by (has_number n) seats.new
         ≡ reading_by (has_number n) seats.old }
+    ensures sizes { sizes_in seats.new ≡ sizes_in seats.old }
 {
     if seats[index].is_wanted(Wanted::Lendable) {
         lend_at(seats, index, Place::Cleaning(lease), Reset::Full)
@@ -105,6 +108,7 @@ impl Service {
         ensures err { OnErr result (service_in self.new ≡ service_in self.old) }
         ensures keeps { Keeps self.old self.new }
         ensures clients { KeepsClients lease self.old self.new }
+        ensures sizes { KeepsSize self.old self.new }
     {
         if self.seats.len() >= self.max {
             return Err(Refusal::AllInUse);
@@ -145,6 +149,7 @@ impl Service {
         ensures err { OnErr result (service_in self.new ≡ service_in self.old) }
         ensures keeps { Keeps self.old self.new }
         ensures clients { KeepsClients (self.old.given + 1) self.old self.new }
+        ensures sizes { KeepsSize self.old self.new }
     {
         let lease = self.next_given()?;
         match find(&self.seats, Wanted::Lendable) {
@@ -172,6 +177,7 @@ impl Service {
         ensures err { OnErr result (service_in self.new ≡ service_in self.old) }
         ensures keeps { Keeps self.old self.new }
         ensures clients { KeepsClients (self.old.given + 1) self.old self.new }
+        ensures sizes { KeepsSize self.old self.new }
     {
         let lease = self.next_given()?;
         match find(&self.seats, Wanted::Ticket(ticket)) {
@@ -198,6 +204,7 @@ impl Service {
         ensures err { OnErr result (service_in self.new ≡ service_in self.old) }
         ensures keeps { Keeps self.old self.new }
         ensures clients { KeepsClients (self.old.given + 1) self.old self.new }
+        ensures sizes { KeepsSize self.old self.new }
     {
         let lease = self.next_given()?;
         match find(&self.seats, Wanted::Number(number)) {

@@ -1,6 +1,7 @@
 //! A service without connections.
 ghost use Rattle.std.specs.Prelude.{◌≡◌, ◌≤◌, IfSome, IsSome};
 ghost use Rattle.tds_service.specs.Service.{new_service};
+ghost use Rattle.tds_service.specs.Sizes.{AllSized};
 ghost use Rattle.tds_service.specs.Table.{service_in};
 
 use crate::service::Service;
@@ -21,6 +22,7 @@ impl Service {
     ) -> Option<Service>
         ensures given { most ≤ 4096 → IsSome result }
         ensures value { IfSome result (λ service. service_in service ≡ new_service max) }
+        ensures sized { IfSome result (AllSized size) }
     {
         if most > 4096 {
             return None;

@@ -1,4 +1,4 @@
-use Rattle.std.proofs.Common.{◌≤◌, ◌+◌, ◌-◌, List, length, drop, sym, subst, arith}
+use Rattle.std.proofs.Common.{◌∙◌, ◌≤◌, ◌+◌, ◌-◌, List, length, drop, sym, subst, arith}
 use Rattle.tds_wire.specs.declared.told.Token.{Token}
 use Rattle.tds_service.specs.Packets.{HeardSome}
 use Rattle.tds_service.specs.Ties.{line_in, listed}
@@ -33,6 +33,7 @@ tokens-preserved c =
           let len = c.note.ensures.len in
           let cap = c.note.ensures.capacity in
           omega (arith, still, len, cap, within);
+      size = c.came.ensures.size ∙ c.tokens.invariant.size;
     }
 
 pub returns-in-Err-clause-fault : goal.returns-in-Err-clause-fault

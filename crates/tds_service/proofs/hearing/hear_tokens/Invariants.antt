@@ -10,6 +10,7 @@ invariant-tokens l = record {
   some : (cancelling : Bool) × HeardSome cancelling (line_in l.fn.connection) l.fn.connection.walker l.bytes (line_in l.connection) l.connection.walker (drop l.done l.bytes) l.fn.told.items l.told.items;
   within : l.done ≤ length l.bytes;
   room : (line_in l.fn.connection).stage ≡ line.Reading → vec_len l.told + (length l.bytes - l.done) ≤ vec_capacity l.told;
+  size : l.connection.client.size ≡ l.fn.connection.client.size;
 }
 
 abbrev pub decreases-tokens : goal.decreases-tokens

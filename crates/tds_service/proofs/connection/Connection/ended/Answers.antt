@@ -1,4 +1,5 @@
 use Rattle.tds_service.proofs.Coming.{ends_ok, ends_fault}
+use Rattle.tds_service.proofs.Sizing.{end_keeps}
 use Rattle.tds_service.proofs.connection.Connection.ended.Goals as goal
 
 pub returns-clause-ok : goal.returns-clause-ok
@@ -8,3 +9,6 @@ returns-clause-ok c =
 pub returns-clause-fault : goal.returns-clause-fault
 returns-clause-fault c =
     ends_fault c.args.self.now.asked c.args.self.now.client c.hear_end.new.client c.args.self.now.walker c.hear_end.result c.hear_end.ensures.exact c.hear_end.ensures.leaves
+
+pub returns-clause-size : goal.returns-clause-size
+returns-clause-size c = end_keeps c.args.self.now.client c.hear_end.new.client c.args.self.now.walker c.hear_end.result c.hear_end.ensures.exact c.hear_end.ensures.leaves

@@ -6,6 +6,7 @@ use Rattle.tds_service.specs.Table.{StepsIn, service_in, place_of, seat_in, seat
 use Rattle.tds_service.proofs.Tables.{with_seats, here_in, found_here, meets_here, rests_here}
 use Rattle.tds_service.proofs.Keeping.{keeps_resting}
 use Rattle.tds_service.proofs.Holding.{kept_held, stays_resting}
+use Rattle.tds_service.proofs.Sizing.{keeps_sizes_resting}
 use Rattle.tds_service.proofs.service.Service.abandon.Goals as goal
 
 pub returns-in-Some-clause-ok : goal.returns-in-Some-clause-ok
@@ -52,3 +53,12 @@ returns-in-Some-clause-clients c = λ l.
     let rest = c.rest_at-number.result.1 in
     stays_resting l rest (has_ticket c.args.ticket) items _ lent news index here k.0 c.deref_mut.ensures.value k.1 (c.close.ensures ∙ ap (without_closed rest index) items_are) k.6
     (kept_held l c.args.ticket (place_of here.seat.place) (meets_here (has_ticket c.args.ticket) items lent index here))
+
+pub returns-in-Some-clause-sizes : goal.returns-in-Some-clause-sizes
+returns-in-Some-clause-sizes c =
+    let index = c.in-Some.index in
+    let rest = c.rest_at-number.result.1 in
+    let news = c.rest_at-number.new.seats in
+    let len : length news ≡ c.args.self.now.seats.len = first_of (omega arith, search rules) in
+    let closed = c.close.ensures ∙ ap (without_closed rest index) (with_items_is c.args.self.now.seats news len) in
+    keeps_sizes_resting rest index c.args.self.now _ c.deref_mut.result.now news c.deref_mut.ensures.value closed c.rest_at-number.ensures.sizes refl

@@ -12,6 +12,7 @@ use Rattle.tds_packet.specs.Resets.{header_descriptor}
 use Rattle.tds_service.proofs.Answering.{answered}
 use Rattle.tds_service.proofs.Tables.{here_in, acts_alike, refuses_alike, one_is_all, on_err, ask_never}
 use Rattle.tds_service.proofs.Holding.{keeps_clients, on_done, opens_here}
+use Rattle.tds_service.proofs.Sizing.{keeps_sizes}
 use Rattle.tds_service.proofs.service.Service.ask.Goals as goal
 
 pub returns-in-Some-clause-ok : goal.returns-in-Some-clause-ok
@@ -90,3 +91,9 @@ returns-in-Some-clause-clients c =
     let k = h here.seat here.at_lent in
     keeps_clients c.args.lease items _ lent news index here k.0 c.deref_mut.ensures.value k.1 items_are k.3)
     c.ask_at.ensures.ok
+
+pub returns-in-Some-clause-sizes : goal.returns-in-Some-clause-sizes
+returns-in-Some-clause-sizes c =
+    let news = c.ask_at.new.seats in
+    let len : length news ≡ c.args.self.now.seats.len = first_of (omega arith, search rules) in
+    keeps_sizes c.args.self.now _ c.deref_mut.result.now news c.deref_mut.ensures.value (with_items_is c.args.self.now.seats news len) c.ask_at.ensures.sizes refl

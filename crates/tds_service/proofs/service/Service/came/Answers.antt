@@ -12,6 +12,7 @@ use Rattle.tds_service.proofs.Alone.{same_number}
 use Rattle.tds_service.proofs.Tables.{with_seats, here_in, found_here, meets_here, on_err}
 use Rattle.tds_service.proofs.Arriving.{comes_here, reading_here, reading_behind, same_reading, wants_memory}
 use Rattle.tds_service.proofs.Holding.{off_here, on_done}
+use Rattle.tds_service.proofs.Sizing.{keeps_sizes}
 use Rattle.tds_service.proofs.service.Service.came.Goals as goal
 
 pub returns-in-Some-clause-ok : goal.returns-in-Some-clause-ok
@@ -102,3 +103,9 @@ returns-in-Some-clause-clients c =
     let k = h here.seat here.at_lent in
     off_here c.args.number items _ lent news index here k.0 c.deref_mut.ensures.value k.1 items_are k.3)
     c.came_at.ensures.ok
+
+pub returns-in-Some-clause-sizes : goal.returns-in-Some-clause-sizes
+returns-in-Some-clause-sizes c =
+    let news = c.came_at.new.seats in
+    let len : length news ≡ c.args.self.now.seats.len = first_of (omega arith, search rules) in
+    keeps_sizes c.args.self.now _ c.deref_mut.result.now news c.deref_mut.ensures.value (with_items_is c.args.self.now.seats news len) c.came_at.ensures.sizes refl

@@ -11,6 +11,7 @@ use Rattle.tds_service.specs.Ties.{line_in, cancel_answer}
 use Rattle.tds_service.proofs.Answering.{answered}
 use Rattle.tds_service.proofs.Tables.{here_in, acts_alike, refuses_alike, one_is_all, on_err, cancel_never, cancelled_fine}
 use Rattle.tds_service.proofs.Holding.{keeps_clients, on_done}
+use Rattle.tds_service.proofs.Sizing.{keeps_sizes}
 use Rattle.tds_service.proofs.service.Service.cancel.Goals as goal
 
 pub returns-in-Some-clause-ok : goal.returns-in-Some-clause-ok
@@ -74,3 +75,9 @@ returns-in-Some-clause-clients c =
     let k = h here.seat here.at_lent in
     keeps_clients c.args.lease items _ lent news index here k.0 c.deref_mut.ensures.value k.1 items_are k.3)
     c.cancel_at.ensures.ok
+
+pub returns-in-Some-clause-sizes : goal.returns-in-Some-clause-sizes
+returns-in-Some-clause-sizes c =
+    let news = c.cancel_at.new.seats in
+    let len : length news ≡ c.args.self.now.seats.len = first_of (omega arith, search rules) in
+    keeps_sizes c.args.self.now _ c.deref_mut.result.now news c.deref_mut.ensures.value (with_items_is c.args.self.now.seats news len) c.cancel_at.ensures.sizes refl

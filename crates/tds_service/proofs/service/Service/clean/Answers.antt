@@ -11,6 +11,7 @@ use Rattle.tds_service.specs.Service.{Service, Seat, Cleaning, Lent, NotNow, Ste
 use Rattle.tds_service.specs.Table.{StepsIn, RefusesIn, service_in, seat_in, seats_in, place_of}
 use Rattle.tds_service.proofs.Tables.{here_in, found_here, lends_here, lent_same, steps_as, not_now_in, done_in}
 use Rattle.tds_service.proofs.Holding.{lends_clients, lendable_held}
+use Rattle.tds_service.proofs.Sizing.{keeps_sizes}
 use Rattle.tds_service.proofs.service.Service.clean.Goals as goal
 
 pub returns-in-Ok-clause-ok : goal.returns-in-Ok-clause-ok
@@ -60,3 +61,9 @@ returns-in-Ok-clause-clients c =
     lends_clients (c.args.self.now.given + 1) (has_number c.args.number) items _ lent news index here k.0 c.deref_mut.ensures.value k.1 items_are
     (λ l. lendable_held l (seat_in here.seat) k.6)
     (ap (λ p. lease_in (place_of p)) k.3 ∙ ap Some is)
+
+pub returns-in-Ok-clause-sizes : goal.returns-in-Ok-clause-sizes
+returns-in-Ok-clause-sizes c =
+    let news = c.clean_at.new.seats in
+    let len : length news ≡ c.args.self.now.seats.len = first_of (omega arith, search rules) in
+    keeps_sizes c.args.self.now _ c.deref_mut.result.now news c.deref_mut.ensures.value (with_items_is c.args.self.now.seats news len) c.clean_at.ensures.sizes refl

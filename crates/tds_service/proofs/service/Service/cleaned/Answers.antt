@@ -8,6 +8,7 @@ use Rattle.tds_service.specs.Table.{StepsIn, RefusesIn, service_in, seat_in, sea
 use Rattle.tds_service.proofs.Tables.{with_seats, here_in, found_here, rests_here}
 use Rattle.tds_service.proofs.Keeping.{keeps_resting}
 use Rattle.tds_service.proofs.Holding.{keeps_clients_resting}
+use Rattle.tds_service.proofs.Sizing.{keeps_sizes_resting}
 use Rattle.tds_service.proofs.service.Service.cleaned.Goals as goal
 
 pub returns-in-Ok-clause-ok : goal.returns-in-Ok-clause-ok
@@ -62,3 +63,12 @@ returns-in-Ok-clause-clients c =
     let items_are = with_items_is c.args.self.now.seats news len in
     let k = c.in-Ok.ensures.ok here.seat here.at_lent in
     keeps_clients_resting c.args.lease c.in-Ok.rest items _ lent news index here k.0 c.deref_mut.ensures.value k.1 (c.close.ensures ∙ ap (without_closed c.in-Ok.rest index) items_are) k.6
+
+pub returns-in-Ok-clause-sizes : goal.returns-in-Ok-clause-sizes
+returns-in-Ok-clause-sizes c =
+    let index = c.in-Some.index in
+    let rest = c.in-Ok.rest in
+    let news = c.cleaned_at.new.seats in
+    let len : length news ≡ c.args.self.now.seats.len = first_of (omega arith, search rules) in
+    let closed = c.close.ensures ∙ ap (without_closed rest index) (with_items_is c.args.self.now.seats news len) in
+    keeps_sizes_resting rest index c.args.self.now _ c.deref_mut.result.now news c.deref_mut.ensures.value closed c.cleaned_at.ensures.sizes refl

@@ -10,6 +10,7 @@ use Rattle.tds_service.specs.Service.{Service, Seat, Kept, Ticket, NotNow, Step,
 use Rattle.tds_service.specs.Table.{StepsIn, RefusesIn, service_in, seat_in, seats_in, place_of}
 use Rattle.tds_service.proofs.Tables.{here_in, found_here, does_alike, not_now_in, done_in, steps_as}
 use Rattle.tds_service.proofs.Holding.{other_held_here, stays_here}
+use Rattle.tds_service.proofs.Sizing.{keeps_sizes}
 use Rattle.tds_service.proofs.service.Service.keep.Goals as goal
 
 pub returns-in-Ok-clause-ok : goal.returns-in-Ok-clause-ok
@@ -62,3 +63,9 @@ returns-in-Ok-clause-clients c = λ l other.
     let k = c.in-Ok.ensures.ok here.seat here.at_lent in
     stays_here l (has_lease c.args.lease) items _ lent news index here k.0 c.deref_mut.ensures.value k.1 items_are (other_held_here l c.args.lease items lent index here other)
     (ap (λ p. holds l (place_of p)) k.3)
+
+pub returns-in-Ok-clause-sizes : goal.returns-in-Ok-clause-sizes
+returns-in-Ok-clause-sizes c =
+    let news = c.keep_at.new.seats in
+    let len : length news ≡ c.args.self.now.seats.len = first_of (omega arith, search rules) in
+    keeps_sizes c.args.self.now _ c.deref_mut.result.now news c.deref_mut.ensures.value (with_items_is c.args.self.now.seats news len) c.keep_at.ensures.sizes refl

@@ -9,6 +9,7 @@ use Rattle.tds_service.specs.Table.{StepsIn, RefusesIn, service_in, seat_in, sea
 use Rattle.tds_service.specs.Ties.{line_in}
 use Rattle.tds_service.proofs.Tables.{here_in, found_here, meets_here, lends_here, lent_same, steps_as, refused_busy, busy_not_lendable, length_in, on_err}
 use Rattle.tds_service.proofs.Holding.{lends_clients, lendable_held}
+use Rattle.tds_service.proofs.Sizing.{keeps_sizes}
 use Rattle.tds_service.proofs.service.Service.lease.Goals as goal
 
 lent_number : (n m : ℕ) (had : Bool) → n ≡ m → had ≡ true → m ≡ (if had then n else 0)
@@ -76,3 +77,9 @@ returns-in-Ok-clause-clients c =
     lends_clients (c.args.self.now.given + 1) is_lendable items _ lent news index here k.0 c.deref_mut.ensures.value k.1 items_are
     (λ l. lendable_held l (seat_in here.seat) (meets_here is_lendable items lent index here))
     (ap (λ p. lease_in (place_of p)) k.3 ∙ ap Some is)
+
+pub returns-in-Ok-clause-sizes : goal.returns-in-Ok-clause-sizes
+returns-in-Ok-clause-sizes c =
+    let news = c.lend_at.new.seats in
+    let len : length news ≡ c.args.self.now.seats.len = first_of (omega arith, search rules) in
+    keeps_sizes c.args.self.now _ c.deref_mut.result.now news c.deref_mut.ensures.value (with_items_is c.args.self.now.seats news len) c.lend_at.ensures.sizes refl

@@ -10,6 +10,7 @@ use Rattle.tds_service.proofs.Alone.{same_number}
 use Rattle.tds_service.proofs.Tables.{with_seats, here_in, found_here, meets_here, does_gone, lost_bytes}
 use Rattle.tds_service.proofs.Keeping.{keeps_taken}
 use Rattle.tds_service.proofs.Holding.{off_gone}
+use Rattle.tds_service.proofs.Sizing.{keeps_sizes_taken}
 use Rattle.tds_service.proofs.service.Service.lost.Goals as goal
 
 pub returns-in-Some-clause-ok : goal.returns-in-Some-clause-ok
@@ -44,3 +45,6 @@ returns-in-Some-clause-clients c =
     let index = c.in-Some.index in
     let here = here_in (has_number c.args.number) items c.deref.result.now items index c.deref.ensures.value refl c.in-Some.ensures.first in
     off_gone c.args.number items _ items index here c.remove.ensures.by_index.2
+
+pub returns-in-Some-clause-sizes : goal.returns-in-Some-clause-sizes
+returns-in-Some-clause-sizes c = keeps_sizes_taken c.in-Some.index c.args.self.now _ c.remove.ensures.by_index.2 refl

@@ -1,4 +1,5 @@
 use Rattle.std.proofs.Common.{◌≡◌, ◌∙◌, ◌+◌, ◌<◌, ℕ, List, [], ◌∷◌, ◌++◌, length, suc, refl, sym, ap, subst, arith, rules}
+use Rattle.tds_client.specs.Session.{ClientSession}
 use Rattle.tds_service.specs.declared.seat.Seat as code
 use Rattle.tds_service.specs.declared.place.Place.TheVariants as places
 use Rattle.tds_service.specs.Line as line
@@ -8,6 +9,7 @@ use Rattle.tds_service.specs.Ties.{line_in}
 use Rattle.tds_service.proofs.Tables.{length_in, seats_added}
 use Rattle.tds_service.proofs.Keeping.{keeps_added}
 use Rattle.tds_service.proofs.Holding.{kept_added, other_held}
+use Rattle.tds_service.proofs.Sizing.{keeps_sizes_added}
 use Rattle.tds_service.proofs.service.Service.open.Goals as goal
 
 pub returns-clause-ok : goal.returns-clause-ok
@@ -21,7 +23,7 @@ returns-clause-ok c =
     let added : seat_in new ≡ record { number = suc s.last; place = Leased (suc s.given); line = line.new_line } =
     ap (λ (n : ℕ). let x : Seat = record { number = n; place = Leased c.args.lease; line = line_in c.in-Ok.connection } in x) next
     ∙ (ap (λ (n : ℕ). let x : Seat = record { number = suc s.last; place = Leased n; line = line_in c.in-Ok.connection } in x) is
-    ∙ ap (λ (l : line.Line). let x : Seat = record { number = suc s.last; place = Leased (suc s.given); line = l } in x) c.in-Ok.ensures) in
+    ∙ ap (λ (l : line.Line). let x : Seat = record { number = suc s.last; place = Leased (suc s.given); line = l } in x) c.in-Ok.ensures.line) in
     let seats = ap seats_in (c.push_reserved.ensures.items ∙ ap (λ (cs : List code.Seat). cs ++ new ∷ []) c.reserve.ensures.items) ∙ (seats_added items new ∙ ap (λ (x : Seat). seats_in items ++ x ∷ []) added) in (
       subst (λ (n : ℕ). n < s.max) (sym (length_in items)) room,
       ap (λ ss. let t : Service = record { max = s.max; last = s.last + 1; given = c.args.lease; seats = ss } in t) seats
@@ -47,3 +49,10 @@ returns-clause-clients c = λ l other.
     let new : code.Seat = record { number = s.last + 1; place = places.Leased c.args.lease; connection = c.in-Ok.connection } in
     ap (client_by (has_lease l)) (c.push_reserved.ensures.items ∙ ap (λ (cs : List code.Seat). cs ++ new ∷ []) c.reserve.ensures.items)
     ∙ kept_added (has_lease l) new items (other_held l c.args.lease (Leased c.args.lease) refl other)
+
+pub returns-clause-sizes : goal.returns-clause-sizes
+returns-clause-sizes c =
+    let s = c.args.self.now in
+    let new : code.Seat = record { number = s.last + 1; place = places.Leased c.args.lease; connection = c.in-Ok.connection } in
+    keeps_sizes_added new s _ (c.push_reserved.ensures.items ∙ ap (λ (cs : List code.Seat). cs ++ new ∷ []) c.reserve.ensures.items)
+    (ap (λ (x : ClientSession). x.size) c.in-Ok.ensures.client) refl

@@ -15,6 +15,7 @@ use Rattle.tds_service.proofs.Tables.{with_seats, here_in, acts_alike, refuses_a
 use Rattle.tds_client.specs.Session.{ClientSession}
 use Rattle.tds_client.specs.Streams as streams
 use Rattle.tds_service.proofs.Holding.{does_here, keeps_clients, on_done}
+use Rattle.tds_service.proofs.Sizing.{keeps_sizes}
 use Rattle.tds_service.proofs.service.Service.put.Goals as goal
 
 pub returns-in-Some-clause-ok : goal.returns-in-Some-clause-ok
@@ -83,3 +84,9 @@ returns-in-Some-clause-clients c =
     let k = h here.seat here.at_lent in
     keeps_clients c.args.lease items _ lent news index here k.0 c.deref_mut.ensures.value k.1 items_are k.3)
     c.put_at.ensures.ok
+
+pub returns-in-Some-clause-sizes : goal.returns-in-Some-clause-sizes
+returns-in-Some-clause-sizes c =
+    let news = c.put_at.new.seats in
+    let len : length news ≡ c.args.self.now.seats.len = first_of (omega arith, search rules) in
+    keeps_sizes c.args.self.now _ c.deref_mut.result.now news c.deref_mut.ensures.value (with_items_is c.args.self.now.seats news len) c.put_at.ensures.sizes refl

@@ -12,6 +12,7 @@ use Rattle.tds_service.specs.Table.{StepsIn, RefusesIn, service_in, seat_in, sea
 use Rattle.tds_service.specs.Ties.{line_in}
 use Rattle.tds_service.proofs.Tables.{here_in, found_here, meets_here, lends_here, lent_same, steps_as, marked_idle, refused_busy, not_now_in, done_in}
 use Rattle.tds_service.proofs.Holding.{lends_clients, kept_held}
+use Rattle.tds_service.proofs.Sizing.{keeps_sizes}
 use Rattle.tds_service.proofs.service.Service.resume.Goals as goal
 
 pub returns-in-Ok-clause-ok : goal.returns-in-Ok-clause-ok
@@ -62,3 +63,9 @@ returns-in-Ok-clause-clients c =
     lends_clients (c.args.self.now.given + 1) (has_ticket c.args.ticket) items _ lent news index here k.0 c.deref_mut.ensures.value k.1 items_are
     (λ l. kept_held l c.args.ticket (place_of here.seat.place) (meets_here (has_ticket c.args.ticket) items lent index here))
     (ap (λ p. lease_in (place_of p)) k.3 ∙ ap Some is)
+
+pub returns-in-Ok-clause-sizes : goal.returns-in-Ok-clause-sizes
+returns-in-Ok-clause-sizes c =
+    let news = c.lend_at.new.seats in
+    let len : length news ≡ c.args.self.now.seats.len = first_of (omega arith, search rules) in
+    keeps_sizes c.args.self.now _ c.deref_mut.result.now news c.deref_mut.ensures.value (with_items_is c.args.self.now.seats news len) c.lend_at.ensures.sizes refl

@@ -5,6 +5,7 @@ use Rattle.tds_service.specs.Line as line
 use Rattle.tds_service.specs.Ties.{Does, line_in, asked_answer}
 use Rattle.tds_service.proofs.Tables.{same_get}
 use Rattle.tds_service.proofs.Keeping.{keeps_set}
+use Rattle.tds_service.proofs.Sizing.{sizes_set}
 use Rattle.tds_service.proofs.service.asking.ask_at.Goals as goal
 
 pub returns-in-Ok-clause-ok : goal.returns-in-Ok-clause-ok
@@ -21,3 +22,6 @@ returns-in-Ok-clause-ok c = λ s h.
 
 pub returns-in-Ok-clause-keeps : goal.returns-in-Ok-clause-keeps
 returns-in-Ok-clause-keeps c = λ n. keeps_set n c.index-seats-index.result _ c.args.seats.now c.args.index c.requires refl c.ask.ensures.walker
+
+pub returns-in-Ok-clause-sizes : goal.returns-in-Ok-clause-sizes
+returns-in-Ok-clause-sizes c = sizes_set c.index-seats-index.result _ c.args.seats.now c.args.index c.requires c.ask.ensures.size

@@ -1,10 +1,16 @@
 use Rattle.std.proofs.Common.{◌∙◌, sym, ap}
+use Rattle.tds_service.specs.declared.connection.Connection.{Connection}
 use Rattle.tds_service.specs.declared.seat.Seat.{Seat}
 use Rattle.tds_service.proofs.Keeping.{keeps_other}
 use Rattle.tds_service.proofs.Tables.{same_get}
+use Rattle.tds_service.proofs.Sizing.{sizes_set}
 use Rattle.tds_service.proofs.service.coming.came_at.Goals as goal
 
 pub returns-clause-others : goal.returns-clause-others
 returns-clause-others c = λ n s e other.
     let same = same_get c.args.seats.now c.args.index c.index-seats-index.result s c.requires ∙ sym e in
     keeps_other n c.index-seats-index.result _ c.args.seats.now c.args.index c.requires c.settle.ensures.0 (λ f. other (f ∙ ap (λ (x : Seat). x.number) same))
+
+pub returns-clause-sizes : goal.returns-clause-sizes
+returns-clause-sizes c =
+    sizes_set c.index-seats-index.result _ c.args.seats.now c.args.index c.requires (ap (λ (x : Connection). x.client.size) c.settle.ensures.1 ∙ c.hear_packet-outcome.ensures.size)
