@@ -76,7 +76,7 @@ IsDone e (Come part) bytes behind = IsIn e.reading e.is_first part (turn (line_a
 
 -- ---- All of them, one behind the other
 
--- when it was, its bytes, and the end behind it
+-- one of them, when it was, its bytes, and the end behind it
 pub record Called : Type 0 where
   pub call : Call
   pub time : ℕ
@@ -88,6 +88,7 @@ pub record IsTyped (s : ClientSession) : Type 0 where
   pub size : IsPacketSize s.size
   pub descriptor : s.heard.descriptor < 2 ^ 64
 
+-- These were done from this end on, each as its contract says.
 abbrev pub AreCalled : End → List Called → Type 0
 AreCalled e [] = Unit {0}
 AreCalled e (x ∷ xs) = IsDone e x.call x.bytes x.behind × IsTyped x.behind.client × AreCalled x.behind xs
