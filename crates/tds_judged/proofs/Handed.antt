@@ -24,7 +24,7 @@ use Rattle.tds_service.specs.Line as line
 use Rattle.tds_service.specs.Line.{Act, OfRequest, new_line, turn}
 use Rattle.tds_service.specs.History.{Done, history}
 use Rattle.tds_lawful.specs.Answering.{NoFault}
-use Rattle.tds_judged.specs.Called.{AreCalled, Called, Come, End, Finish, IsTyped, Open, Put, acts_of, new_end}
+use Rattle.tds_judged.specs.Called.{AreCalled, Called, Come, End, Finish, IsDone, IsTyped, Open, Put, acts_of, new_end}
 use Rattle.tds_judged.specs.Spelled.{AreOut, IsHanded, IsIn, IsOut, Pen, Shown, Wire, new_wire}
 
 -- a DONE with nothing in it, and its packet
@@ -150,17 +150,12 @@ typed stage = record { size = (omega arith, omega arith); descriptor = omega ari
 
 called : (r : Reading) → AreCalled (new_end 4096 r) (calls r)
 unfolding tokens_within next_token onward to_end step begun told_of place_done done_kind short_at
-called r = (
-  (refl, refl, refl),
-  typed (opened idle Batch).stage,
-  ([], ([], refl, refl), refl),
-  typed (put_end r).client.stage,
-  ([], (batch, refl, refl), refl),
-  typed session.Reading,
-  (comes r, record { line_is = refl; size = refl; later = refl }),
-  typed session.Idle,
-  tt,
-)
+called r =
+    let answered : IsDone (finished_end r) (Come (packet_part (restarted r) content true)) answer (answered_end r) = (comes r, record { line_is = refl; size = refl; later = refl }) in (
+      (refl, refl, refl),
+      typed (opened idle Batch).stage,
+      (([], ([], refl, refl), refl), typed (put_end r).client.stage, (([], (batch, refl, refl), refl), typed session.Reading, (answered, typed session.Idle, tt))),
+    )
 
 same_acts : (r : Reading) → acts_of (new_end 4096 r) (calls r) ≡ acts r
 same_acts r = refl
