@@ -21,10 +21,10 @@ use Rattle.tds_client.specs.declared.state.Sent.{Sent}
 use Rattle.tds_client.specs.declared.state.Sent.TheVariants as sents
 use Rattle.tds_client.specs.Packets.{attention, ignore, packet_bytes}
 use Rattle.tds_client.specs.Parts.{left_of}
-use Rattle.tds_client.specs.Sending.{Does, Effect, cancelled, cancelled_in, cancelled_sending, room, sent, sent_in, sent_of, started}
+use Rattle.tds_client.specs.Sending.{Effect, cancelled, cancelled_in, cancelled_sending, room, sent, sent_in, sent_of, started}
 use Rattle.tds_client.specs.Session as session
 use Rattle.tds_client.specs.Session.{ClientSession, lost, marked, unless_idle, with_stage}
-use Rattle.tds_client.specs.Streams.{finished, finished_in, opened, packets_are, put, put_in}
+use Rattle.tds_client.specs.Streams.{finished, finished_in, packets_are, put, put_in}
 use Rattle.tds_wire.specs.declared.told.Token.{Token}
 use Rattle.tds_wire.specs.Reading.{Reading}
 use Rattle.tds_client.specs.declared.heard.Heard.{Heard}
@@ -34,9 +34,9 @@ use Rattle.tds_listen.specs.declared.fault.ListenFault.{ListenFault}
 use Rattle.tds_service.specs.Parts.{Part, hear_part, heard_until, is_end}
 use Rattle.tds_service.specs.Line as line
 use Rattle.tds_service.specs.Line.{Act, Line, Attention, Ignore, turn}
-use Rattle.tds_service.specs.History.{Done, done_by, history, line_after}
+use Rattle.tds_service.specs.History.{Done, done_by, history}
 use Rattle.tds_service.specs.Refusing.{packets}
-use Rattle.tds_service.specs.Ties.{begun_of, full_in, line_of, stage_of}
+use Rattle.tds_service.specs.Ties.{full_in, stage_of}
 use Rattle.tds_judge.specs.declared.finding.Direction.TheVariants.{ToServer, ToClient}
 use Rattle.tds_judge.specs.Conversation.{Piece, Bytes, Closes, piece_seen, seen}
 use Rattle.tds_judge.specs.Framing.{Run}

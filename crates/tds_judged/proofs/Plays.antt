@@ -9,7 +9,6 @@ use Rattle.tds_packet.specs.declared.kind.Kind.{Kind}
 use Rattle.tds_packet.specs.declared.status.Reset.{Reset}
 use Rattle.tds_packet.specs.Resets.{mark_bit, reset_bit}
 use Rattle.tds_packet.specs.Sent.{end_bit}
-use Rattle.tds_request.specs.Layout.{all_headers}
 use Rattle.tds_client.specs.declared.heard.Heard.{Heard}
 use Rattle.tds_client.specs.declared.message.MessageKind.{MessageKind}
 use Rattle.tds_client.specs.declared.message.MessageKind.TheVariants.{Batch, Procedure, BulkLoad, Transaction}
