@@ -1,4 +1,4 @@
--- A batch and its answer, as bytes that are handed to a judge, worked out: there are such, and their answer is none of a fault.
+-- A batch and its answer, as bytes that are handed to a judge and as calls, worked out: there are such, and their answer is none of a fault.
 use Rattle.std.proofs.Common.{◌≡◌, ℕ, zero, suc, ◌<◌, true, false, List, [], ◌∷◌, ◌++◌, refl, arith}
 use Rattle.std.specs.Prelude.{None}
 use Rattle.tds_packet.specs.declared.header.Header.{Header}
@@ -7,6 +7,9 @@ use Rattle.tds_packet.specs.Layout.{is_status, status_of}
 use Rattle.tds_packet.specs.Stream.{AreBytes}
 use Rattle.tds_client.specs.declared.message.MessageKind.TheVariants.{Batch}
 use Rattle.tds_client.specs.Packets.{packet_bytes}
+use Rattle.tds_client.specs.Session as session
+use Rattle.tds_client.specs.Session.{ClientSession, Sending, new_session, with_stage}
+use Rattle.tds_client.specs.Streams.{opened}
 use Rattle.tds_request.specs.Layout.{all_headers}
 use Rattle.tds_wire.specs.declared.told.Token.{Token}
 use Rattle.tds_wire.specs.Reading.{Reading, next_token, restarted}
@@ -21,6 +24,7 @@ use Rattle.tds_service.specs.Line as line
 use Rattle.tds_service.specs.Line.{Act, OfRequest, new_line, turn}
 use Rattle.tds_service.specs.History.{Done, history}
 use Rattle.tds_lawful.specs.Answering.{NoFault}
+use Rattle.tds_judged.specs.Called.{AreCalled, Called, Come, End, Finish, IsDone, IsTyped, Open, Put, acts_of, new_end}
 use Rattle.tds_judged.specs.Spelled.{AreOut, IsHanded, IsIn, IsOut, Pen, Shown, Wire, new_wire}
 
 -- a DONE with nothing in it, and its packet
@@ -114,6 +118,47 @@ handed r = record {
   done = refl;
   spelled = (new_wire r, ((refl, refl), refl, refl), (sent r, (sends, refl, refl), (heard r, (comes r, refl, refl), tt)));
 }
+
+-- ---- The same by calls: it is begun, put and finished, and its answer comes
+
+abbrev end : ClientSession → Reading → End
+end client r = record { asked = 1; client = client; reading = restarted r; is_first = true }
+
+abbrev idle : ClientSession
+idle = new_session 4096
+
+abbrev begun_end : Reading → End
+begun_end r = end (opened idle Batch) r
+
+abbrev put_end : Reading → End
+put_end r = end (with_stage idle (Sending kinds.Batch (all_headers 0 ++ body) 0)) r
+
+abbrev finished_end : Reading → End
+finished_end r = end (with_stage idle session.Reading) r
+
+abbrev answered_end : Reading → End
+answered_end r = record { asked = 1; client = idle; reading = restarted (behind r); is_first = false }
+
+abbrev calls : Reading → List Called
+calls r =
+    (record { call = Open Batch; time = 0; bytes = []; behind = begun_end r }) ∷ (record { call = Put body; time = 0; bytes = []; behind = put_end r })
+    ∷ (record { call = Finish; time = 0; bytes = batch; behind = finished_end r })
+    ∷ (record { call = Come (packet_part (restarted r) content true); time = 0; bytes = answer; behind = answered_end r }) ∷ []
+
+typed : (stage : session.Stage) → IsTyped (with_stage idle stage)
+typed stage = record { size = (omega arith, omega arith); descriptor = omega arith }
+
+called : (r : Reading) → AreCalled (new_end 4096 r) (calls r)
+unfolding tokens_within next_token onward to_end step begun told_of place_done done_kind short_at
+called r =
+    let answered : IsDone (finished_end r) (Come (packet_part (restarted r) content true)) answer (answered_end r) = (comes r, record { line_is = refl; size = refl; later = refl }) in (
+      (refl, refl, refl),
+      typed (opened idle Batch).stage,
+      (([], ([], refl, refl), refl), typed (put_end r).client.stage, (([], (batch, refl, refl), refl), typed session.Reading, (answered, typed session.Idle, tt))),
+    )
+
+same_acts : (r : Reading) → acts_of (new_end 4096 r) (calls r) ≡ acts r
+same_acts r = refl
 
 -- A batch doesn't go on with a packet of another type.
 another_type : (behind : Pen) → IsOut 0 (record { kind = Batch; packets = 1 }) (OfRequest 1 false None true) (packet_bytes kinds.Procedure 1 1 []) behind → ⊥

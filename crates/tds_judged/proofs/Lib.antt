@@ -13,3 +13,5 @@ pub mod Shows
 pub mod Speaks
 pub mod Blameless
 pub mod Handed
+pub mod Plays
+pub mod Calls

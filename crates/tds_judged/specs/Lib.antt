@@ -2,3 +2,4 @@ pub mod Tokens
 pub mod Seen
 pub mod Crossing
 pub mod Spelled
+pub mod Called

@@ -1,6 +1,7 @@
 //! What the judge finds of a connection of `tds_service`. Each contract is the law.
 
 ghost use Rattle.std.specs.Prelude.{◌≡◌, ◌∷◌, ◌++◌, ℕ, List, [], Some, false};
+ghost use Rattle.tds_packet.specs.Size.{IsPacketSize};
 ghost use Rattle.tds_wire.specs.Reading.{Reading};
 ghost use Rattle.tds_wire.specs.declared.told.Token.{Token};
 ghost use Rattle.tds_service.specs.Line.{Act, new_line};
@@ -18,6 +19,7 @@ ghost use Rattle.tds_judge.specs.declared.talk.Limits.{Limits};
 ghost use Rattle.tds_lawful.specs.Answering.{NoFault};
 ghost use Rattle.tds_lawful.specs.Lawful.{Engine, IsLawful};
 ghost use Rattle.tds_lawful.specs.Link.{IsRun, Move};
+ghost use Rattle.tds_judged.specs.Called.{AreCalled, Called, acts_of, handed, new_end};
 ghost use Rattle.tds_judged.specs.Crossing.{IsOfServer};
 ghost use Rattle.tds_judged.specs.Seen.{AllBehindLogin, Eye, conversation};
 ghost use Rattle.tds_judged.specs.Spelled.{AreSeen, IsHanded, Shown, new_watch, pieces};
@@ -85,6 +87,21 @@ pub fn our_bytes_are_never_blamed<V>()
     no_fault::<V, Token>();
     lawful_is_never_blamed();
     cuts_do_not_matter();
+}
+
+/// And so of our own client: whatever its calls append, whatever comes of such a server, no breach is
+/// found in the bytes. It begins with an idle client behind a login, for packets of any size.
+pub fn our_calls_are_never_blamed<V>()
+    ensures { (engine : Engine V Token) (moves : List (Move Token)) (limits : Limits)
+        (judge : Judge) (reading : Reading) (size : ℕ) (calls : List Called)
+        → IsPacketSize size → AreCalled (new_end size reading) calls
+        → IsLawful engine
+        → IsRun engine moves (history new_line (acts_of (new_end size reading) calls))
+        → AllBehindLogin (acts_of (new_end size reading) calls)
+        → IsNew limits judge → judge.walker ≡ Some reading
+        → has_breach (seen (handed calls) (run_of judge [])).told ≡ false }
+{
+    our_bytes_are_never_blamed::<V>();
 }
 
 /// Nearer to the server an attention is seen later. Where what the server says before it may be said

@@ -13,6 +13,7 @@ mod texts;
 mod watch;
 mod words;
 
+use memchr::memchr_iter;
 use std::io::{BufRead, BufReader};
 use std::process::ExitCode;
 use std::{env, io};
@@ -43,6 +44,9 @@ const VERSION: &str = "tdswatch 0.1.0\n";
 
 /// After how many bytes a line on standard error says that it goes on.
 const TOLD_EACH: u64 = 100_000_000;
+
+/// How many bytes are read at once.
+const AT_ONCE: usize = 65_536;
 
 const USAGE: &str = "error: usage (tdswatch --help lists the words)";
 
@@ -86,17 +90,69 @@ fn given_words(rt: &HostRuntime) -> io::Result<Vec<String>> {
 /// Judges the lines of standard input, and prints what was found.
 fn judge(rt: &HostRuntime, form: Form, idle: u64) -> io::Result<u8> {
     let mut watch = Watch::new(rt.alloc(), idle, form)?;
-    let mut told = 0;
-    for line in BufReader::new(rt.alloc(), rt.reader())?.lines(rt.alloc()) {
-        let line = line?;
-        if !watch.take_line(rt.alloc(), line.as_str())? {
-            let number = watch.lines();
-            eprintln!(rt; "line {number}: not judged")?;
+    let mut reader = BufReader::with_capacity(rt.alloc(), AT_ONCE, rt.reader())?;
+    let mut begun = Vec::new(rt.alloc());
+    for _ in 0..u64::MAX {
+        let count = match reader.fill_buf() {
+            Ok(bytes) => {
+                take_bytes(rt, &mut watch, &mut begun, bytes)?;
+                bytes.len()
+            }
+            Err(error) if error.kind() == io::ErrorKind::Interrupted => continue,
+            Err(error) => return Err(error),
+        };
+        if count == 0 {
+            break;
         }
-        told = tell_progress(rt, &watch, told)?;
+        reader.consume(count);
+    }
+    if !begun.is_empty() {
+        take_line(rt, &mut watch, begun.as_slice())?;
     }
     watch.sort()?;
     show(rt, &watch, form)
+}
+
+/// Judges the lines that end among these bytes, where they stand. Of one that doesn't the front is kept.
+fn take_bytes(
+    rt: &HostRuntime,
+    watch: &mut Watch,
+    begun: &mut Vec<u8>,
+    bytes: &[u8],
+) -> io::Result<()> {
+    let mut start = 0usize;
+    for end in memchr_iter(b'\n', bytes) {
+        let line = bytes.get(start..end).unwrap_or(&[]);
+        if begun.is_empty() {
+            take_line(rt, watch, line)?;
+        } else {
+            begun.extend_from_slice(line)?;
+            take_line(rt, watch, begun.as_slice())?;
+            begun.clear();
+        }
+        start = end.saturating_add(1);
+    }
+    begun.extend_from_slice(bytes.get(start..).unwrap_or(&[]))?;
+    Ok(())
+}
+
+/// Judges a line, and says on standard error where it isn't one, and each time that so many bytes more
+/// were judged.
+fn take_line(rt: &HostRuntime, watch: &mut Watch, line: &[u8]) -> io::Result<()> {
+    let line = match line {
+        [front @ .., b'\r'] => front,
+        _ => line,
+    };
+    let told = watch.bytes() / TOLD_EACH;
+    if !watch.take_line(rt.alloc(), line)? {
+        let number = watch.lines();
+        eprintln!(rt; "line {number}: not judged")?;
+    }
+    if watch.bytes() / TOLD_EACH > told {
+        let megabytes = watch.bytes() / 1_000_000;
+        eprintln!(rt; "{megabytes} MB judged")?;
+    }
+    Ok(())
 }
 
 /// Shows what was found. The exit status.
@@ -113,15 +169,4 @@ fn show(rt: &HostRuntime, watch: &Watch, form: Form) -> io::Result<u8> {
         },
     }
     Ok(watch.status())
-}
-
-/// Tells on standard error how far it has come, each time that so many bytes more were judged. How
-/// often it has told so.
-fn tell_progress(rt: &HostRuntime, watch: &Watch, told: u64) -> io::Result<u64> {
-    let now = watch.bytes() / TOLD_EACH;
-    if now > told {
-        let megabytes = watch.bytes() / 1_000_000;
-        eprintln!(rt; "{megabytes} MB judged")?;
-    }
-    Ok(now)
 }

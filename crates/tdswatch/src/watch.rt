@@ -121,7 +121,7 @@ impl Watch {
     }
 
     /// Takes a line. Whether it is one.
-    pub fn take_line(&mut self, alloc: Global, line: &str) -> io::Result<bool> {
+    pub fn take_line(&mut self, alloc: Global, line: &[u8]) -> io::Result<bool> {
         self.lines = self.lines.saturating_add(1);
         let is_taken = match read_line(line) {
             Some(line) => self.take(alloc, line)?,
@@ -135,7 +135,7 @@ impl Watch {
 
     /// Takes what a line says. Whether its digits are bytes.
     fn take(&mut self, alloc: Global, line: Line<'_>) -> io::Result<bool> {
-        if !read_digits(&mut self.piece, line.digits.as_bytes())? {
+        if !read_digits(&mut self.piece, line.digits)? {
             return Ok(false);
         }
         self.bytes = self.bytes.saturating_add(self.piece.len() as u64);
