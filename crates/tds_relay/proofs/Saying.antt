@@ -45,6 +45,9 @@ same_key d key other h x sound e f same =
 
 -- ---- Calls that say nothing by a lease
 
+zero_more : (n : ℕ) → n ≡ 0 → 0 + n ≡ 0
+zero_more n e = omega (arith, e)
+
 cleaning_unsaid : (lease number clean : ℕ) (way : Way) → (clean == lease) ≡ false → said_by lease (cleaning_by number clean way) ≡ 0
 cleaning_unsaid lease number clean (desk.Sent put finish) other = rw other refl
 cleaning_unsaid lease number clean desk.NotLent other = refl
@@ -68,11 +71,11 @@ releasing_unsaid s lease other number true way tidy le =
     let given = step {T = Token} s (calls.GiveBack other) in
     let rises = (step_rises s (calls.GiveBack other) tidy).rises in
     let more : lease ≤ given.service.given = omega (arith, rises, le) in
-    if_unsaid lease (frees given.reply) (cleaning_by number (suc given.service.given) way) [] (cleaned_unsaid lease number given.service.given way more) refl
+    zero_more _ (if_unsaid lease (frees given.reply) (cleaning_by number (suc given.service.given) way) [] (cleaned_unsaid lease number given.service.given way more) refl)
 
 settles_unsaid : (holds : List Hold) (s : Service) (lease n l : ℕ) (way : Way) (o : Option Hold) → said_by lease (desk.settles_of s n l way o) ≡ 0
 settles_unsaid holds s lease n l way (Some h) = refl
-settles_unsaid holds s lease n l way None = if_unsaid lease (frees (step {T = Token} s (calls.Cleaned l)).reply) [] (calls.Lost n ∷ []) refl refl
+settles_unsaid holds s lease n l way None = zero_more _ (if_unsaid lease (frees (step {T = Token} s (calls.Cleaned l)).reply) [] (calls.Lost n ∷ []) refl refl)
 
 all_settles_unsaid : (holds : List Hold) (s : Service) (lease n : ℕ) (way : Way) (o : Option ℕ) → lease ≤ s.given → said_by lease (desk.settles holds s n way o) ≡ 0
 all_settles_unsaid holds s lease n way (Some l) le = settles_unsaid holds s lease n l way (find_lease l holds)
@@ -81,7 +84,7 @@ all_settles_unsaid holds s lease n way None le = cleaned_unsaid lease n s.given 
 comes_unsaid : (d : Desk) (number : ℕ) (part : _) (s : Service) (lease n : ℕ) (way : Way) (o : Option ℕ) (h : desk.Hearing) → lease ≤ s.given
     → said_by lease (desk.comes_by d (calls.Came number part) s n way o h).calls ≡ 0
 comes_unsaid d number part s lease n way o desk.Goes le = refl
-comes_unsaid d number part s lease n way o desk.Settled le = all_settles_unsaid d.holds s lease n way o le
+comes_unsaid d number part s lease n way o desk.Settled le = zero_more _ (all_settles_unsaid d.holds s lease n way o le)
 comes_unsaid d number part s lease n way o desk.Wrong le = refl
 
 renews_by_unsaid : (d : Desk) (lease : ℕ) (h : Hold) (ticket : ℕ) (o : Option desk.Loan) (resumes : Bool) → said_by lease (desk.renews_by d h ticket o resumes).calls ≡ 0
@@ -109,7 +112,7 @@ serves_unsaid d lease (key ∷ others) = serves_by_unsaid d lease key others (le
 
 brings_unsaid : (d : Desk) (s : Service) (lease : ℕ) (gives : Bool) (way : Way) (o : Option desk.Loan) → Tidy s → lease ≤ s.given → said_by lease (desk.brings_by d s gives way o).calls ≡ 0
 brings_unsaid d s lease gives way None tidy le = refl
-brings_unsaid d s lease gives way (Some lent) tidy le = releasing_unsaid s lease lent.lease lent.number gives way tidy le
+brings_unsaid d s lease gives way (Some lent) tidy le = zero_more _ (releasing_unsaid s lease lent.lease lent.number gives way tidy le)
 
 leaves_unsaid : (d : Desk) (lease key : ℕ) (gives : Bool) (way : Way) (o : Option Hold) → Tidy d.service → lease ≤ d.service.given → said_by lease (desk.leaves d key gives way o).calls ≡ 0
 leaves_unsaid d lease key gives way None tidy le = refl

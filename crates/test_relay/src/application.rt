@@ -44,6 +44,9 @@ pub(crate) struct Application {
     /// The session that a server of its own would have.
     state: State,
     may_cancel: bool,
+    /// Whether it has taken a request back, and nothing was answered since: the server may not have
+    /// acknowledged that.
+    took_back: bool,
     /// How much of a body comes that it has begun to send.
     pub(crate) is_long: bool,
     expected: Vec<u8>,
@@ -68,6 +71,7 @@ impl Application {
             phase: Phase::Quiet,
             state: State::fresh(),
             may_cancel: false,
+            took_back: false,
             is_long: false,
             expected: Vec::new(alloc),
             packet: Stream::new(alloc),
@@ -154,6 +158,7 @@ impl Application {
     /// It ends a message that the server is to forget: nothing answers that (MS-TDS 2.2.3.1.2).
     fn begin_and_forget(&mut self, alloc: Global, random: &mut Random) -> Result<(), AllocError> {
         let kind = self.begin(alloc, random)?;
+        self.took_back = true;
         put_packet(self.input.bytes(), kind, ENDS | IGNORED, &[])
     }
 
@@ -165,7 +170,11 @@ impl Application {
     ) -> Result<(), AllocError> {
         let deed = any_deed(random);
         let request = self.next(random, deed);
-        let reset = any_reset(random);
+        let reset = match any_reset(random) {
+            // A relay ends the transaction then.
+            Some(Reset::KeepTransaction) if self.took_back => None,
+            reset => reset,
+        };
         let kind = any_kind(random);
         let bytes = message_data(alloc, kind, self.state.transaction, &request)?;
         let size = any_size(random, &request);
@@ -222,6 +231,7 @@ impl Application {
             Phase::Quiet => tally.note(Wrong::Unasked),
             Phase::Asked => {
                 self.phase = Phase::Quiet;
+                self.took_back = false;
                 if message == self.expected.as_slice() {
                     raise(&mut tally.answers);
                 } else {
