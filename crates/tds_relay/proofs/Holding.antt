@@ -40,7 +40,7 @@ pub found_lease : (l : ℕ) (h : Hold) (hs : List Hold) → find_lease l hs ≡ 
 found_lease l h [] e = absurd (let u : ⊥ = cc in u)
 found_lease l h (x ∷ xs) e = lease_by l h x xs (x.lease == l) refl e (λ f. found_lease l h xs f)
 
-up_to : (low high : ℕ) (hs : List Hold) → Rising low high hs → low ≤ high
+pub up_to : (low high : ℕ) (hs : List Hold) → Rising low high hs → low ≤ high
 up_to low high [] h = h
 up_to low high (x ∷ xs) h = let le = up_to x.lease high xs h.1 in let lt : low < x.lease = h.0 in omega arith
 

@@ -11,5 +11,6 @@ pub mod Phases
 pub mod Promised
 pub mod Reaching
 pub mod Renewing
+pub mod Saying
 pub mod Seats
 pub mod Tidy

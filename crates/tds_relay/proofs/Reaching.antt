@@ -1,9 +1,9 @@
 -- Desks that are reached by events.
 use Rattle.std.proofs.Common.{◌≡◌, ◌∙◌, ℕ, List, [], ◌∷◌, ◌++◌, refl, sym, ap, subst}
 use Rattle.std.specs.Prelude.{Result, Ok, Err, OnOk}
-use Rattle.tds_relay.specs.Desk.{Desk, Event, Leaves, desk_after, turn}
+use Rattle.tds_relay.specs.Desk.{Desk, Event, Leaves, desk_after, new_desk, turn}
 use Rattle.tds_relay.specs.Promises.{Each}
-use Rattle.tds_relay.specs.Ties.{Application, Cause, Causes, Leaving, Reaches, Turns}
+use Rattle.tds_relay.specs.Ties.{Application, Cause, Causes, Goes, IsReached, Leaving, Reaches, Turns}
 
 after_both : (d : Desk) (xs ys : List Event) → desk_after d (xs ++ ys) ≡ desk_after (desk_after d xs) ys
 after_both d [] ys = refl
@@ -32,6 +32,12 @@ reaches_next by from old event cause h = record {
   are = after_both from h.events (event ∷ []) ∙ ap (λ (d : Desk). (turn d event).desk) h.are;
   caused = each_both (Causes by) h.events (event ∷ []) h.caused (cause, tt);
 }
+
+-- where it was reached from a new one, it is
+pub reached_on : (by : Cause) (old new : Desk) → Goes by old new → IsReached old → IsReached new
+reached_on by old new g r =
+    let h : Reaches by old new = g old (record { events = []; are = refl; caused = tt }) in
+    (r.0, r.1 ++ h.events, after_both (new_desk r.0) r.1 h.events ∙ ap (λ (d : Desk). desk_after d h.events) r.2 ∙ h.are)
 
 -- an application lets go what it holds
 pub reaches_left : (key : ℕ) (from old new : Desk) → Leaving key old new → Reaches (Application key) from old → Reaches (Application key) from new

@@ -1,3 +1,4 @@
+pub mod Bounds
 pub mod Desk
 pub mod News
 pub mod Places

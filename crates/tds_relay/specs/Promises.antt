@@ -1,12 +1,12 @@
 -- What a desk promises, over any list of events.
-use Rattle.std.specs.Prelude.{◌≡◌, ◌⊎◌, ◌<◌, ℕ, ◌==◌, Bool, true, false, List, [], ◌∷◌, ◌++◌, Option, Some, None}
+use Rattle.std.specs.Prelude.{◌≡◌, ◌⊎◌, ◌<◌, ◌+◌, ℕ, ◌==◌, Bool, true, false, List, [], ◌∷◌, ◌++◌, Option, Some, None, if◌then◌else◌}
 use Rattle.tds_relay.specs.declared.desk.Hold.{Hold}
 use Rattle.tds_wire.specs.declared.told.Token.{Token}
 use Rattle.tds_service.specs.Line as line
 use Rattle.tds_service.specs.Line.{Line, Stage}
 use Rattle.tds_service.specs.Promises.{attentions}
 use Rattle.tds_service.specs.Service as calls
-use Rattle.tds_service.specs.Service.{Place, Leased, Cleaning, Kept, Free, Draining, Seat, Reply, Lent, is_clean, seat_numbered, on, step, steps}
+use Rattle.tds_service.specs.Service.{Call, Place, Leased, Cleaning, Kept, Free, Draining, Seat, Reply, Lent, is_clean, seat_numbered, on, step, steps}
 use Rattle.tds_relay.specs.Desk as desk
 use Rattle.tds_relay.specs.Desk.{Desk, Event, Deed, find_key, find_lease, turn, whose}
 
@@ -97,6 +97,37 @@ pub record IsHandedTo (d : Desk) (number key : ℕ) : Type 0 where
   pub seat : Seat
   pub there : seat_numbered number d.service.seats ≡ Some seat
   pub lent : seat.place ≡ Leased hold.lease
+
+-- ---- What is said of a request
+
+abbrev pub one_if : Bool → ℕ
+one_if said = if said then 1 else 0
+
+-- a call by this lease that says something of a request: that it is asked, bytes of it, its end
+abbrev pub says : ℕ → Call Token → ℕ
+says lease calls.Lease = 0
+says lease (calls.Resume ticket) = 0
+says lease (calls.Ask other) = one_if (other == lease)
+says lease (calls.Put other count) = one_if (other == lease)
+says lease (calls.Finish other count) = one_if (other == lease)
+says lease (calls.Cancel other) = 0
+says lease (calls.GiveBack other) = 0
+says lease (calls.Clean number) = 0
+says lease (calls.Cleaned other) = 0
+says lease (calls.Keep other) = 0
+says lease (calls.Abandon ticket) = 0
+says lease (calls.Came number part) = 0
+says lease (calls.Lost number) = 0
+says lease (calls.Without call) = 0
+
+abbrev pub said_by : ℕ → List (Call Token) → ℕ
+said_by lease [] = 0
+said_by lease (call ∷ all) = says lease call + said_by lease all
+
+-- What is said of a request by the lease of an application is one call, of an event that says it for this application.
+abbrev pub SaysOnce : Desk → Event → Type 0
+SaysOnce d event = (key : ℕ) (h : Hold) → find_key key d.holds ≡ Some h → 0 < said_by h.lease (turn d event).calls
+    → (deed : Deed) × (event ≡ desk.Does key deed) × (said_by h.lease (turn d event).calls ≡ 1)
 
 -- ---- Who is lent one
 

@@ -1,12 +1,18 @@
-//! What a desk promises, over any list of events. Each function does nothing when it runs: its contract
-//! is the law.
-ghost use Rattle.std.specs.Prelude.{◌≡◌, ◌++◌, ℕ, List, Some};
+//! What a desk promises, over any list of events, and a relay over any bytes. Each function does nothing
+//! when it runs but what its law speaks of: its contract is the law.
+ghost use Rattle.std.specs.Prelude.{◌≡◌, ◌<◌, ◌≤◌, ◌++◌, ℕ, List, OnOk, Some, vec_len};
 ghost use Rattle.tds_wire.specs.declared.told.Token.{Token};
 ghost use Rattle.tds_service.specs.Service.{Lease, step};
 ghost use Rattle.tds_relay.specs.Desk.{Desk, Event, desk_after, new_desk, turn, whose};
 ghost use Rattle.tds_relay.specs.Promises.{CaresFor, Each, IsAmong, IsHandedTo, LendsClean, LendsFirst};
-ghost use Rattle.tds_relay.specs.Promises.{NoneAstray, TakesOne, comes_to_wait};
-ghost use Rattle.tds_relay.specs.Ties.{Cause, Causes, Owns};
+ghost use Rattle.tds_relay.specs.Promises.{NoneAstray, SaysOnce, TakesOne, comes_to_wait};
+ghost use Rattle.tds_relay.specs.Bounds.{waiting_in};
+ghost use Rattle.tds_relay.specs.declared.application.Application.{Application};
+ghost use Rattle.tds_relay.specs.declared.link.Link.{Link};
+ghost use Rattle.tds_relay.specs.declared.outgoing.Outgoing.{Outgoing};
+ghost use Rattle.tds_relay.specs.Ties.{Cause, Causes, IsReached, Owns, desk_in};
+
+use crate::{NoMemory, Relay};
 
 /// An attention goes out on a connection only where the application that holds it cancels or leaves, with
 /// something of a request out there; so none does during a cleaning.
@@ -56,3 +62,39 @@ pub fn first_come()
 pub fn a_cut_takes_one()
     ensures { (d : Desk) (number : ℕ) → TakesOne d number }
 {}
+
+/// What an application asks goes on once: each call that says something of a request by its lease is the one
+/// of an event that says it for this application. No end, no loss and no cleaning says it again.
+pub fn never_asked_twice()
+    ensures { (max : ℕ) (events : List Event) (event : Event)
+        → SaysOnce (desk_after (new_desk max) events) event }
+{}
+
+/// Whatever comes, and whatever isn't taken, so much is kept at most.
+pub fn bounds()
+    /// Of a request that waits for a connection 16,384 bytes are kept at most.
+    ensures kept { (a : Application) → vec_len a.held ≤ 16384 }
+    /// For an application 131,072 bytes wait at most.
+    ensures for_application { (a : Application) → waiting_in a.out ≤ 131072 }
+    /// On a connection 131,072 bytes wait at most.
+    ensures on_connection { (l : Link) → waiting_in l.out ≤ 131072 }
+    /// With those that were sent and aren't forgotten, fewer than 196,608 bytes are kept in the place where
+    /// they wait.
+    ensures in_memory { (o : Outgoing) → vec_len o.bytes < 196608 }
+{}
+
+/// Whatever bytes an application says, and whatever bytes come on a connection: both are taken, or memory was
+/// refused. Where events led to the desk, they do again: so what is said here of desks holds behind any
+/// bytes.
+pub fn any_bytes(
+    relay: &mut Relay,
+    key: usize,
+    said: &[u8],
+    number: u64,
+    came: &[u8],
+) -> Result<(), NoMemory>
+    ensures { IsReached (desk_in relay.old.desk) → OnOk result (IsReached (desk_in relay.new.desk)) }
+{
+    relay.said(key, said)?;
+    relay.came(number, came)
+}

@@ -69,13 +69,20 @@ impl Link {
 }
 
 impl Answer {
+    /// Nothing has come of the message that comes next.
+    pub(crate) fn restart(&mut self) {
+        self.walker.restart();
+        self.known = Known::None;
+        self.was_cut = false;
+    }
+
     /// Appends a packet of an answer without the news of a reset. True behind the end of a message by
     /// which the news was met: no other comes then.
     pub(crate) fn put_without_news(
         &mut self,
         header: Header,
         bytes: &[u8],
-        on: &mut Vec<u8>,
+        on: &mut Outgoing,
     ) -> Result<bool, NoMemory> {
         let ends = header.status.ends();
         let mut kept = Vec::new(self.alloc);
@@ -84,7 +91,9 @@ impl Answer {
             self.known.end(&mut kept)?;
             self.walker.restart();
         }
-        put_data(on, self.size, header.packet_id, ends, &kept)?;
+        let mut packets = Vec::new(self.alloc);
+        put_data(&mut packets, self.size, header.packet_id, ends, &kept)?;
+        on.append(&packets)?;
         let is_over = ends && self.was_cut;
         if is_over {
             self.was_cut = false;

@@ -1,8 +1,9 @@
 //! The relay: who is there, and what whoever carries its bytes asks of it.
-ghost use Rattle.std.specs.Prelude.{◌≡◌, ◌≤◌, IfOk, length, vec_len};
+ghost use Rattle.std.specs.Prelude.{◌≡◌, ◌≤◌, IfOk, OnOk, length, vec_len};
 ghost use Rattle.slab.specs.Slab.{slab_len};
 ghost use Rattle.tds_relay.specs.Desk.{new_desk};
-ghost use Rattle.tds_relay.specs.Ties.{desk_in};
+ghost use Rattle.tds_relay.specs.Ties.{GoesOn, desk_in};
+ghost use Rattle.tds_relay.specs.declared.outgoing.TheConstants.{MOST_WAITING};
 
 mod asking;
 mod coming;
@@ -144,7 +145,9 @@ impl Relay {
     }
 
     /// What is to be sent to an application.
-    pub fn unsent(&self, key: usize) -> &[u8] {
+    pub fn unsent(&self, key: usize) -> &[u8]
+        ensures { length result.now ≤ MOST_WAITING }
+    {
         match self.applications.get(key) {
             Some(application) => application.out.unsent(),
             None => &[],
@@ -152,7 +155,9 @@ impl Relay {
     }
 
     /// What is to be sent on a connection.
-    pub fn unsent_on(&self, number: u64) -> &[u8] {
+    pub fn unsent_on(&self, number: u64) -> &[u8]
+        ensures { length result.now ≤ MOST_WAITING }
+    {
         match self.link(number) {
             Some(link) => link.out.unsent(),
             None => &[],
@@ -212,39 +217,52 @@ impl Relay {
         }
     }
 
-    /// Whether the news of a reset is cut out of what comes next on a connection.
+    /// Whether the news of a reset is cut out of what comes next on a connection: a message's first
+    /// packet. Who held it before may have left in the middle of one.
     fn cut(&mut self, number: u64, cuts: bool)
         ensures { self.new.desk ≡ self.old.desk }
     {
         match link_in(&mut self.links, number) {
-            Some(link) => link.cuts = cuts,
+            Some(link) => {
+                link.cuts = cuts;
+                link.answer.restart();
+            }
             None => {}
         }
     }
 
-    /// What the desk has to send on a connection waits there.
+    /// What the desk has to send on a connection waits there. One for which more would wait than may is
+    /// closed.
     fn send_on(&mut self, number: u64) -> Result<(), NoMemory>
-        ensures { self.new.desk ≡ self.old.desk }
+        ensures { OnOk result (GoesOn (desk_in self.old.desk) (desk_in self.new.desk)) }
     {
-        match link_in(&mut self.links, number) {
-            Some(link) => link.out.bytes().extend_from_slice(&self.outbox)?,
-            None => {}
-        }
+        let fits = match link_in(&mut self.links, number) {
+            Some(link) => {
+                link.out.append(&self.outbox)?;
+                !link.out.is_full()
+            }
+            None => true,
+        };
         self.outbox.clear();
-        self.order_write_on(number)
+        if fits {
+            self.order_write_on(number)
+        } else {
+            self.lose(number)
+        }
     }
 
-    /// Something is to be sent to an application.
+    /// Something is to be sent to an application. One for which more would wait than may is closed.
     fn order_write(&mut self, key: usize) -> Result<(), NoMemory>
         ensures { self.new.desk ≡ self.old.desk }
     {
-        match self.applications.get(key) {
-            Some(application) => {
-                self.orders.push(Order::Write(application.tag))?;
-                Ok(())
-            }
-            None => Ok(()),
+        let Some(application) = self.applications.get(key) else {
+            return Ok(());
+        };
+        if application.out.is_full() {
+            return self.end(key);
         }
+        self.orders.push(Order::Write(application.tag))?;
+        Ok(())
     }
 
     /// Something is to be sent on a connection.

@@ -1,5 +1,8 @@
 //! What applications do with the connections that they hold.
 ghost use Rattle.std.specs.Prelude.{◌≡◌, ℕ, [], Some, IfOk, OnErr};
+ghost use Rattle.tds_client.specs.Session.{ClientSession};
+ghost use Rattle.tds_client.specs.Streams.{finished, put};
+ghost use Rattle.tds_service.specs.Table.{DoesAt, KeepsClients, Opens};
 ghost use Rattle.tds_relay.specs.Desk.{Asks, Does, Ends, Puts, Stops, find_key};
 ghost use Rattle.tds_relay.specs.Ties.{Turns, desk_in};
 
@@ -14,6 +17,10 @@ impl Desk {
         ensures ok { IfOk result (λ hold. Turns (Does key Asks) (desk_in self.old)
             (desk_in self.new) [] []) }
         ensures whose { IfOk result (λ hold. find_key key (desk_in self.old).holds ≡ Some hold) }
+        ensures opened { IfOk result (λ hold.
+            Opens kind hold.lease self.old.service self.new.service) }
+        ensures clients { IfOk result (λ hold.
+            KeepsClients hold.lease self.old.service self.new.service) }
         ensures err { OnErr result (desk_in self.new ≡ desk_in self.old) }
     {
         let Some(hold) = find_key(&self.holds, key) else {
@@ -30,6 +37,10 @@ impl Desk {
         ensures ok { IfOk result (λ hold. (count : ℕ) × Turns (Does key (Puts count))
             (desk_in self.old) (desk_in self.new) out.old.items out.new.items) }
         ensures whose { IfOk result (λ hold. find_key key (desk_in self.old).holds ≡ Some hold) }
+        ensures puts { IfOk result (λ hold. DoesAt (λ (s : ClientSession). put s bytes.now)
+            hold.lease self.old.service self.new.service out.old.items out.new.items) }
+        ensures clients { IfOk result (λ hold.
+            KeepsClients hold.lease self.old.service self.new.service) }
         ensures err { OnErr result (desk_in self.new ≡ desk_in self.old) }
         ensures nothing { OnErr result (out.new.items ≡ out.old.items) }
     {
@@ -47,6 +58,10 @@ impl Desk {
         ensures ok { IfOk result (λ hold. (count : ℕ) × Turns (Does key (Ends count))
             (desk_in self.old) (desk_in self.new) out.old.items out.new.items) }
         ensures whose { IfOk result (λ hold. find_key key (desk_in self.old).holds ≡ Some hold) }
+        ensures ends { IfOk result (λ hold. DoesAt finished
+            hold.lease self.old.service self.new.service out.old.items out.new.items) }
+        ensures clients { IfOk result (λ hold.
+            KeepsClients hold.lease self.old.service self.new.service) }
         ensures err { OnErr result (desk_in self.new ≡ desk_in self.old) }
         ensures nothing { OnErr result (out.new.items ≡ out.old.items) }
     {

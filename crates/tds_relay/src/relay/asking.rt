@@ -213,7 +213,7 @@ impl Relay {
     {
         match self.applications.get_mut(key) {
             Some(application) => {
-                application.out.bytes().extend_from_slice(&ACKNOWLEDGED)?;
+                application.out.append(&ACKNOWLEDGED)?;
                 self.order_write(key)
             }
             None => Ok(()),

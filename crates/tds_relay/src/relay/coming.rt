@@ -8,7 +8,7 @@ use crate::application::{Application, Asking};
 use crate::desk::{Desk, Heard, What};
 use crate::link::{Answer, Link};
 use slab::Slab;
-use tds_packet::{PacketRef, put_packet};
+use tds_packet::PacketRef;
 use tds_wire::Token;
 
 impl Relay {
@@ -176,10 +176,9 @@ fn hand_on(
 ) -> Result<(), NoMemory>
     requires { packet.header.length ≡ 8 + length packet.«data».now }
 {
-    let out = application.out.bytes();
     if *cuts {
-        *cuts = !answer.put_without_news(packet.header, packet.data, out)?;
+        *cuts = !answer.put_without_news(packet.header, packet.data, &mut application.out)?;
         return Ok(());
     }
-    put_packet(out, packet.header, packet.data)
+    application.out.put_packet(packet.header, packet.data)
 }

@@ -43,7 +43,7 @@ impl Relay {
     }
 
     /// It is to be closed.
-    fn end(&mut self, key: usize) -> Result<(), NoMemory>
+    pub(super) fn end(&mut self, key: usize) -> Result<(), NoMemory>
         ensures { self.new.desk ≡ self.old.desk }
     {
         match self.applications.get_mut(key) {

@@ -130,7 +130,7 @@ impl Relay {
         }
         match self.applications.get_mut(key) {
             Some(application) => {
-                application.out.bytes().extend_from_slice(&NEWS)?;
+                application.out.append(&NEWS)?;
                 self.order_write(key)
             }
             None => Ok(()),

@@ -1,6 +1,5 @@
-use Rattle.std.proofs.Common.{refl, subst, sym}
-use Rattle.tds_relay.specs.declared.desk.Desk as code
-use Rattle.tds_relay.specs.Ties.{Neither, Reaches, desk_in}
+use Rattle.std.proofs.Common.{refl}
+use Rattle.tds_relay.specs.Ties.{Neither}
 use Rattle.tds_relay.proofs.Reaching.{reaches_turn}
 use Rattle.tds_relay.proofs.relay.Relay.bring.Goals as goal
 
@@ -13,5 +12,4 @@ returns-then-not-left c = λ from h. reaches_turn Neither from _ _ _ _ _ c.in_ok
 pub returns : goal.returns
 returns c = λ from h.
     c.in_ok-serve_line.ensures.goes Neither from
-    (subst (λ (d : code.Desk). Reaches Neither from (desk_in d)) (sym c.in_ok-send_on.ensures)
-    (reaches_turn Neither from _ _ _ _ _ c.in_ok-left.ensures.2 refl h))
+    (c.in_ok-send_on.ensures Neither from (reaches_turn Neither from _ _ _ _ _ c.in_ok-left.ensures.2 refl h))

@@ -1,0 +1,7 @@
+use Rattle.tds_relay.specs.Desk.{desk_after, new_desk}
+use Rattle.tds_relay.proofs.Bringing.{always_sound}
+use Rattle.tds_relay.proofs.Saying.{says_once}
+use Rattle.tds_relay.proofs.laws.never_asked_twice.Goals as goal
+
+pub returns : goal.returns
+returns c = λ max events event. says_once (desk_after (new_desk max) events) event (always_sound max events)
