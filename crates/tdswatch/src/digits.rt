@@ -8,7 +8,7 @@ const NONE: u8 = 0xFF;
 
 /// Puts the bytes that digits spell in the place of what is there. Whether all of them are pairs of digits.
 pub fn read_digits(bytes: &mut Vec<u8>, digits: &[u8]) -> Result<bool, AllocError> {
-    bytes.clear();
+    // Each of them is written below: what was there needn't be cleared.
     bytes.resize(digits.len() / 2, 0)?;
     let (runs, rest) = digits.as_chunks::<32>();
     let (places, last_places) = bytes.as_mut_slice().as_chunks_mut::<16>();
