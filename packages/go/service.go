@@ -5,6 +5,8 @@ package mouktelf
 */
 import "C"
 
+import "unicode/utf16"
+
 // What a table refuses, besides a client's own faults.
 const (
 	UsedUp   = Fault(C.TDS_SERVICE_USED_UP)    // all numbers of leases or connections were given
@@ -33,6 +35,16 @@ type Ended struct {
 	Number uint64
 	Rest   Rest
 	Sends  []byte
+}
+
+// Requested is a request that was asked: its connection's number, and its own there: 1, 2, ..
+type Requested struct{ Number, Request uint64 }
+
+// Whose says whose it is what came: the lease that holds the connection, 0 where none does, and its newest request. Nobody is
+// told of a cancelled one.
+type Whose struct {
+	Lease, Request uint64
+	Told           bool
 }
 
 // Service is a table of connections that callers share, in front of any server. It has no socket, and no lock: use it from one
@@ -94,8 +106,140 @@ func (service *Service) Lease() (Lent, error) {
 	})
 }
 
-// With uses the client of a lease's connection: its requests. Behind the call that client is broken, and in it no other call of
-// the table is done.
+// waits is what waits of a request of a lease's connection.
+func (service *Service) waits(lease uint64) (*Client, error) {
+	var index C.size_t
+	if service.isLent {
+		return nil, NotNow
+	}
+	if err := done(C.tds_service_find(&service.value, &service.seats[0], service.most(), C.uint64_t(lease), &index)); err != nil {
+		return nil, err
+	}
+	number := uint64(service.seats[index].number)
+	if service.messages[number] == nil {
+		service.messages[number] = &Client{}
+	}
+	return service.messages[number], nil
+}
+
+// Ask begins a request of a lease: Batch, Procedure and so on. Its body comes by Put, and Finish ends it.
+func (service *Service) Ask(lease uint64, kind uint8) (Requested, error) {
+	waits, err := service.waits(lease)
+	if err != nil {
+		return Requested{}, err
+	}
+	var asked C.struct_tds_asked
+	kept, count := make([]byte, service.value.size-8), C.size_t(0)
+	answer := C.tds_service_ask(&service.value, &service.seats[0], service.most(), C.uint64_t(lease), C.uint8_t(kind), at(kept),
+		C.size_t(len(kept)), &count, &asked)
+	if err := done(answer); err != nil {
+		return Requested{}, err
+	}
+	waits.kept, waits.waiting = kept, count
+	return Requested{uint64(asked.number), uint64(asked.request)}, nil
+}
+
+// Put puts bytes of the request's body, and appends the packets that are full.
+func (service *Service) Put(lease uint64, bytes []byte, out *[]byte) error {
+	waits, err := service.waits(lease)
+	if err != nil {
+		return err
+	}
+	packet := make([]byte, service.value.size)
+	for {
+		var taken, count C.size_t
+		answer := C.tds_service_put(&service.value, &service.seats[0], service.most(), C.uint64_t(lease), at(waits.kept),
+			C.size_t(len(waits.kept)), &waits.waiting, at(bytes), C.size_t(len(bytes)), &taken, at(packet), C.size_t(len(packet)), &count)
+		if answer != C.TDS_MORE {
+			return done(answer)
+		}
+		*out = append(*out, packet[:count]...)
+		bytes = bytes[taken:]
+	}
+}
+
+// Finish ends the request, and appends its last packet.
+func (service *Service) Finish(lease uint64, out *[]byte) error {
+	waits, err := service.waits(lease)
+	if err != nil {
+		return err
+	}
+	packet, count := make([]byte, service.value.size), C.size_t(0)
+	answer := C.tds_service_finish(&service.value, &service.seats[0], service.most(), C.uint64_t(lease), at(waits.kept), waits.waiting,
+		at(packet), C.size_t(len(packet)), &count)
+	if err := done(answer); err != nil {
+		return err
+	}
+	*out = append(*out, packet[:count]...)
+	return nil
+}
+
+// AskBatch asks a batch, whole: which request it is; its packets are appended.
+func (service *Service) AskBatch(lease uint64, text string, out *[]byte) (Requested, error) {
+	var body []byte
+	for _, unit := range utf16.Encode([]rune(text)) {
+		body = append(body, byte(unit), byte(unit>>8))
+	}
+	asked, err := service.Ask(lease, Batch)
+	if err != nil {
+		return asked, err
+	}
+	if err := service.Put(lease, body, out); err != nil {
+		return asked, err
+	}
+	return asked, service.Finish(lease, out)
+}
+
+// Cancel cancels what is underway. After Asked, send what was appended; MessageEnded hears the acknowledgement.
+func (service *Service) Cancel(lease uint64, out *[]byte) (Answer, error) {
+	if service.isLent {
+		return 0, NotNow
+	}
+	packets, count := make([]byte, 16), C.size_t(0)
+	answer := C.tds_service_cancel(&service.value, &service.seats[0], service.most(), C.uint64_t(lease), at(packets),
+		C.size_t(len(packets)), &count)
+	if answer >= 20 {
+		return 0, Fault(answer)
+	}
+	*out = append(*out, packets[:count]...)
+	return Answer(answer), nil
+}
+
+// Came hears a token that a walk has found on the connection of this number: whose it is, and whether he is told.
+func (service *Service) Came(number uint64, token *Walked) (Whose, error) {
+	var whose C.struct_tds_whose
+	if service.isLent {
+		return Whose{}, NotNow
+	}
+	value := C.struct_tds_wire_token{
+		kind: C.uint8_t(token.Kind), told: C.uint8_t(token.Tells), change: C.uint8_t(token.Change),
+		status: C.uint16_t(token.Status), value: C.uint64_t(token.Value), old_value: C.uint64_t(token.OldValue),
+	}
+	answer := C.tds_service_came(&service.value, &service.seats[0], service.most(), C.uint64_t(number), &value, &whose)
+	if answer >= 20 {
+		return Whose{}, Fault(answer)
+	}
+	return Whose{uint64(whose.lease), uint64(whose.request), answer == C.TDS_TELL}, nil
+}
+
+// MessageEnded hears that a message has ended there, behind the packet whose status has bit 1; isCut where the walk isn't between
+// two tokens then. Finished: the request has its whole answer. Acknowledged: its cancel is acknowledged, and a connection that
+// drained is free. More: the acknowledgement is still to come.
+func (service *Service) MessageEnded(number uint64, isCut bool) (Answer, Whose, error) {
+	var whose C.struct_tds_whose
+	if service.isLent {
+		return 0, Whose{}, NotNow
+	}
+	answer := C.tds_service_message_ended(&service.value, &service.seats[0], service.most(), C.uint64_t(number), oneWhere(isCut),
+		&whose)
+	if answer >= 20 {
+		return 0, Whose{}, Fault(answer)
+	}
+	return Answer(answer), Whose{uint64(whose.lease), uint64(whose.request), answer == C.TDS_FINISHED}, nil
+}
+
+// With uses the client of a lease's connection, for what the calls by lease don't do: to log in, say. A request that is asked by
+// it isn't counted in Whose.Request. Behind the call that client is broken, and in it no other call of the table is done.
 func (service *Service) With(lease uint64, use func(client *Client) error) error {
 	var index C.size_t
 	answer := C.tds_service_find(&service.value, &service.seats[0], service.most(), C.uint64_t(lease), &index)

@@ -274,6 +274,68 @@ func TestStreamed(t *testing.T) {
 	is(t, out[30:], nil, bytesOf("670065007400200061000000"))
 }
 
+func tokenOf(t *testing.T, walk *Walk, packet string) *Walked {
+	_, token, err := walk.Next(bytesOf(packet)[8:])
+	if err != nil || token == nil {
+		t.Fatal("no token", err)
+	}
+	return token
+}
+
+// By lease and number alone: two requests, of which the second is cancelled, and nobody is told of its answer.
+func TestAsks(t *testing.T) {
+	service, walk, out := table(t, 1), NewWalk(16, false, false), []byte(nil)
+	first, body := lease(t, service).Lease, bytesOf("67006500740020006100")
+	asked, err := service.Ask(first, Batch)
+	is(t, asked, err, Requested{1, 1})
+	is(t, len(out), service.Put(first, body, &out), 0)
+	err = service.Finish(first, &out)
+	is(t, append(out[:2:2], out[30:]...), err, append([]byte{1, 1}, body...))
+	done := tokenOf(t, walk, endedBytes)
+	whose, err := service.Came(1, done)
+	is(t, whose, err, Whose{first, 1, true})
+	answer, whose, err := service.MessageEnded(1, false)
+	is(t, answer, err, Finished)
+	is(t, whose, nil, Whose{first, 1, true})
+	asked, err = service.AskBatch(first, "get b", &out)
+	is(t, asked, err, Requested{1, 2})
+	out = nil
+	answer, err = service.Cancel(first, &out)
+	is(t, answer, err, Asked)
+	is(t, out, nil, bytesOf(attentionBytes))
+	answer, err = service.Cancel(first, &out)
+	is(t, answer, err, Already)
+	whose, err = service.Came(1, done)
+	is(t, whose, err, Whose{first, 2, false})
+	answer, _, err = service.MessageEnded(1, false)
+	is(t, answer, err, More)
+	ended, err := service.GiveBack(first)
+	is(t, ended, err, Ended{1, Draining, []byte{}})
+	refuses(t, service.Put(first, body, &out), NoSuch)
+	refuses(t, service.Finish(first, &out), NoSuch)
+	_, err = service.Cancel(first, &out)
+	refuses(t, err, NoSuch)
+	_, err = service.Ask(first, Batch)
+	refuses(t, err, NoSuch)
+	_, err = service.AskBatch(first, "a", &out)
+	refuses(t, err, NoSuch)
+	walk.Restart()
+	whose, err = service.Came(1, tokenOf(t, walk, acknowledgedBytes))
+	is(t, whose, err, Whose{0, 2, false})
+	_, err = service.Lease()
+	refuses(t, err, AllInUse)
+	answer, _, err = service.MessageEnded(1, false)
+	is(t, answer, err, Acknowledged)
+	// It has drained: the next lease's first request asks for a reset, and is the third of its connection.
+	out = nil
+	asked, err = service.AskBatch(lease(t, service).Lease, "get a", &out)
+	is(t, asked, err, Requested{1, 3})
+	is(t, out[1], nil, byte(9))
+	// A message that ends inside a token breaks the connection.
+	_, _, err = service.MessageEnded(1, true)
+	refuses(t, err, Fault(75))
+}
+
 func TestRefused(t *testing.T) {
 	for _, size := range []uint16{0, 511, 32768, 65535} {
 		_, err := NewService(1, size)

@@ -3,7 +3,7 @@
 // The bytes stand in docs/PROTOCOL.md; the numbers of faults are those of mouktelf.h.
 
 import assert from "node:assert/strict";
-import { Answer, Fault, Rest, Service, Stage } from "mouktelf";
+import { Answer, Fault, MessageKind, Rest, Service, Stage, Walk } from "mouktelf";
 
 const bytes = digits => new Uint8Array(Buffer.from(digits, "hex"));
 const hex = data => Buffer.from(data).toString("hex").toUpperCase();
@@ -145,6 +145,40 @@ function streamed() {
   assert.deepEqual([packet.length, hex(packet.subarray(30))], [42, "670065007400200061000000"]);
 }
 
+/** By lease and number alone: two requests, of which the second is cancelled, and nobody is told of its answer. */
+function asks() {
+  const service = new Service(1, 512), walk = new Walk(), { lease } = service.lease(), text = bytes("670065007400200061000000");
+  assert.deepEqual(service.ask(lease, MessageKind.BATCH), { number: 1n, request: 1n });
+  assert.equal(service.put(lease, text).length, 0);
+  const packet = service.finish(lease);
+  assert.deepEqual([hex(packet.subarray(0, 2)), hex(packet.subarray(30))], ["0101", hex(text)]);
+  const done = [...walk.tokens(ENDED.subarray(8))];
+  assert.deepEqual(done.map(it => service.came(1, it)), [{ lease, request: 1n, isTold: true }]);
+  assert.deepEqual(service.messageEnded(1), { answer: Answer.FINISHED, lease, request: 1n });
+  assert.equal(service.askBatch(lease, "get b").request, 2n);
+  assert.deepEqual(service.cancel(lease).map((it, place) => (place ? hex(it) : it)), [Answer.ASKED, ATTENTION]);
+  assert.equal(service.cancel(lease)[0], Answer.ALREADY);
+  assert.deepEqual(done.map(it => service.came(1, it).isTold), [false]);
+  assert.equal(service.messageEnded(1).answer, Answer.MORE);
+  endsAs(service.giveBack(lease), 1n, Rest.DRAINING);
+  refuses(UNKNOWN, () => service.ask(lease, MessageKind.BATCH));
+  refuses(UNKNOWN, () => service.put(lease, text));
+  refuses(UNKNOWN, () => service.finish(lease));
+  refuses(UNKNOWN, () => service.cancel(lease));
+  refuses(UNKNOWN, () => service.askBatch(lease, "a"));
+  walk.restart();
+  const acknowledged = [...walk.tokens(ACKNOWLEDGED.subarray(8))];
+  assert.deepEqual(acknowledged.map(it => service.came(1, it)), [{ lease: 0n, request: 2n, isTold: false }]);
+  refuses(ALL_IN_USE, () => service.lease());
+  assert.deepEqual(service.messageEnded(1), { answer: Answer.ACKNOWLEDGED, lease: 0n, request: 2n });
+  // It has drained: the next lease's first request asks for a reset, and is the third of its connection.
+  const lent = service.lease(), third = service.askBatch(lent.lease, "get a");
+  assert.deepEqual([third.number, third.request, third.packets[1]], [1n, 3n, 9]);
+  // A message that ends inside a token breaks the connection.
+  refuses(75, () => service.messageEnded(1, true));
+  assert.equal(service.client(lent.lease).stage, Stage.BROKEN);
+}
+
 function refused() {
   for (const size of [0, 511, 32768, 65536]) refuses(OUT_OF_RANGE, () => new Service(1, size));
   for (const most of [-1, 1.5, "1"]) refuses(OUT_OF_RANGE, () => new Service(most, 512));
@@ -156,6 +190,6 @@ function refused() {
   for (const number of [-1, 2n ** 64n, 1.5, "1"]) refuses(OUT_OF_RANGE, () => new Service(1, 512).lost(number));
 }
 
-const parts = [oneLeaseEach, staleLeases, drains, kept, cleaned, lost, streamed, refused];
+const parts = [oneLeaseEach, staleLeases, drains, kept, cleaned, lost, streamed, asks, refused];
 for (const it of parts) it();
 console.log(`${parts.length} parts of the table, all right`);

@@ -2,7 +2,7 @@
 
 The bytes are those of test_mouktelf.py; the numbers of faults are those of mouktelf.h."""
 
-from mouktelf import Answer, Fault, Lent, Rest, Service, Stage
+from mouktelf import Answer, Asked, Fault, Lent, MessageKind, Rest, Service, Stage, Walk, Whose
 
 BEGUN = bytes.fromhex("0401002300000100E30B000808010000000000000000FD000000000000000000000000")
 ENDED = bytes.fromhex("0401001500000200FD000000000000000000000000")
@@ -138,6 +138,39 @@ def lost():
     assert service.lease().number == 4
 
 
+def asks():
+    """By lease and number alone: two requests, of which the second is cancelled, and nobody is told of its answer."""
+    service, walk = Service(1, 512), Walk()
+    lease = service.lease().lease
+    assert service.ask(lease, MessageKind.BATCH) == Asked(1, 1)
+    assert service.put(lease, "get a".encode("utf-16-le")) == b""
+    packet = service.finish(lease)
+    assert packet[:2] == bytes([1, 1]) and packet[30:] == "get a".encode("utf-16-le")
+    done = list(walk.tokens(ENDED[8:]))
+    assert [service.came(1, it) for it in done] == [Whose(lease, 1, True)]
+    assert service.message_ended(1) == (Answer.FINISHED, Whose(lease, 1, True))
+    asked, _ = service.ask_batch(lease, "get b")
+    assert asked == Asked(1, 2) and service.cancel(lease) == (Answer.ASKED, ATTENTION)
+    assert service.cancel(lease) == (Answer.ALREADY, b"")
+    assert [service.came(1, it).is_told for it in done] == [False]
+    assert service.message_ended(1)[0] == Answer.MORE
+    assert service.give_back(lease) == (1, Rest.DRAINING, b"")
+    stale = (service.ask, MessageKind.BATCH), (service.put, b"a"), (service.finish,), (service.cancel,), (service.ask_batch, "a")
+    for call, *words in stale:
+        refuses(UNKNOWN, call, lease, *words)
+    walk.restart()
+    assert [service.came(1, it) for it in walk.tokens(ACKNOWLEDGED[8:])] == [Whose(0, 2, False)]
+    refuses(ALL_IN_USE, service.lease)
+    assert service.message_ended(1) == (Answer.ACKNOWLEDGED, Whose(0, 2, False))
+    # It has drained: the next lease's first request asks for a reset, and is the third of its connection.
+    lent = service.lease()
+    asked, packet = service.ask_batch(lent.lease, "get a")
+    assert asked == Asked(1, 3) and packet[1] == 9
+    # A message that ends inside a token breaks the connection.
+    refuses(75, service.message_ended, 1, True)
+    assert service.client(lent.lease).stage == Stage.BROKEN
+
+
 def refused():
     for size in (0, 511, 32768, 65536):
         refuses(OUT_OF_RANGE, Service, 1, size)
@@ -151,7 +184,7 @@ def refused():
 
 
 if __name__ == "__main__":
-    parts = (one_lease_each, stale_leases, drains, kept, cleaned, lost, refused)
+    parts = (one_lease_each, stale_leases, drains, kept, cleaned, lost, asks, refused)
     for it in parts:
         it()
     print(f"{len(parts)} parts of the table, all right")

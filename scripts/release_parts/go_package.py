@@ -112,7 +112,7 @@ def source(path):
     with open(path, encoding="utf-8") as it:
         text = it.read()
     text = text[text.index('import "C"') + len('import "C"'):]
-    text = re.sub(r'(?s)^\s*import (\(.*?\n\)|"\w+")\n', "", text)
+    text = re.sub(r'(?s)^\s*import (\(.*?\n\)|"[\w/]+")\n', "", text)
     return re.sub(r"\bC\.(\w+)", r"c_\1", text)
 
 

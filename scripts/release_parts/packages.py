@@ -98,7 +98,7 @@ pub fn version() -> String {
                   ("include/tds.h", "mouktelf.h"), ("mod fault;\nmod raw;\n", "mod fault;\nmod judge;\nmod login;\nmod service;\n"),
                   ("pub use fault::Fault;\n", "use mouktelf_sys as raw;\n\npub use fault::Fault;\n"
                    "pub use judge::{judge, Finding, Level, Limits, Piece, What};\npub use login::{is_let_in, login};\n"
-                   "pub use service::{Lent, Rest, Seated, Service};\n"))
+                   "pub use service::{Asked, Lent, Rest, Seated, Service, Whose};\n"))
     put(f"{to}/mouktelf/src/lib.rs", lib + version)
     for name in ("streams", "tokens", "wire"):
         put(f"{to}/mouktelf/src/{name}.rs", text_of(f"{examples}/{name}.rs"))

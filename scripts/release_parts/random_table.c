@@ -114,6 +114,12 @@ static void hear(void) {
     case 0: answered(tds_service_heard_change(&service, seats, most, of, (uint8_t)(8 + below(11)), below(5), &whose)); break;
     case 1: case 2: answered(tds_service_heard_done(&service, seats, most, of, (uint8_t)(0xFC + below(4)), (uint16_t)(below(2) ? 0 : 0x20), &whose)); break;
     case 3: answered(tds_service_heard_other(&service, seats, most, of, &whose)); break;
+    case 4: {
+        struct tds_wire_token token = {.value = below(5), .old_value = below(5), .kind = (uint8_t)(below(3) ? 0xFC + below(4) : 0xE3)};
+        token.status = (uint16_t)(below(2) ? 0 : 0x20), token.told = (uint8_t)below(12), token.change = (uint8_t)(8 + below(11));
+        answered(tds_service_came(&service, seats, most, of, &token, &whose));
+        break;
+    }
     default: answered(tds_service_message_ended(&service, seats, most, of, below(9) == 0, &whose));
     }
 }

@@ -23,8 +23,8 @@ export const Reset = Object.freeze({ FULL: 1, KEEP_TRANSACTION: 2 });
 export const MessageKind = Object.freeze({ BATCH: 1, PROCEDURE: 3, BULK_LOAD: 7, TRANSACTION: 14 });
 
 const OK = 0, FULL = 1, END = 9, TELL = 10, WANTS_BYTES = 24, OUT_OF_RANGE = 23, FIRST_FAULT = 20;
-const MESSAGE_MOST = 4022, HEADER = 8, TO_CLIENT = 1, NO_NEXT = 255;
-export const ATTENTION_MOST = 16, COUNT = 8;
+const MESSAGE_MOST = 4022, TO_CLIENT = 1, NO_NEXT = 255;
+export const ATTENTION_MOST = 16, COUNT = 8, HEADER = 8;
 // The sizes of the header's structs, and where their fields lie.
 const PACKET = { size: 16 }, CURSOR = { size: 16, columns: 8 };
 export const CLIENT = { size: 40, descriptor: 0, packetSize: 24, stage: 26, columns: 32 };
@@ -246,7 +246,7 @@ export class Client {
   }
 }
 
-function joined(parts) {
+export function joined(parts) {
   const all = new Uint8Array(parts.reduce((sum, it) => sum + it.length, 0));
   parts.reduce((at, it) => (all.set(it, at), at + it.length), 0);
   return all;
@@ -320,7 +320,7 @@ export const Tells = Object.freeze({
 });
 
 const ENDED = 0, GOES_ON = 1, WIRE_MEMORY = 8706, WIRE = { size: 104, refused: 24 };
-const WALKED = {
+export const WALKED = {
   size: 88, start: 0, length: 8, value: 16, oldValue: 24, text: 32, others: 48, number: 64, size32: 68, status: 72,
   command: 74, kind: 76, told: 77, change: 78, state: 79, severity: 80, recoverable: 81,
 };

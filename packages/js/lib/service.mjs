@@ -1,10 +1,13 @@
 // A table of connections that callers share, in front of any server: who holds each one, and what becomes of it.
 
-import { ATTENTION_MOST, CLIENT, COUNT, Client, Fault, HELD, calls, done, memory, within } from "./client.mjs";
+import {
+  ATTENTION_MOST, COUNT, Client, Fault, HEADER, HELD, MessageKind, WALKED, calls, done, joined, memory, within,
+} from "./client.mjs";
 
 // The sizes of the header's structs, and where their fields lie.
 const TABLE = { size: 32, last: 0, given: 8, count: 16, packetSize: 24 };
 const SEAT = { size: 72, number: 40, holder: 48, place: 64 };
+const ASKED = { size: 16, number: 0, request: 8 }, WHOSE = { size: 16, lease: 0, request: 8 }, FULL = 1, TELL = 10;
 const LENT = { size: 24, lease: 0, number: 8, had: 16 };
 const FIRST_HELD = 1, LAST_HELD = 3, MOST_SEATS = 1 << 20, OUT_OF_RANGE = 23;
 
@@ -31,6 +34,8 @@ export class Service {
   #most;
   #at;
   #clients = new Map();
+  /** Of a lease's request: what waits, and how much of it does. */
+  #kept = new Map();
 
   constructor(most, size) {
     this.#most = within(most, MOST_SEATS);
@@ -61,7 +66,7 @@ export class Service {
 
   #end(name, holder) {
     const at = memory.lend(COUNT), rest = this.#call(name, holder, BigInt(at));
-    this.#clients.delete(holder);
+    this.#forget(holder);
     return { number: memory.view().getBigUint64(at, true), rest, sends: new Uint8Array() };
   }
 
@@ -83,7 +88,103 @@ export class Service {
     return this.#lend("tds_service_lease");
   }
 
-  /** The client of a lease's connection: its requests. Behind the lease's end each of its calls throws Fault 34. */
+  #forget(lease) {
+    this.#clients.delete(lease);
+    this.#kept.delete(lease);
+  }
+
+  get #packetSize() {
+    return memory.view().getUint16(this.#at + TABLE.packetSize, true);
+  }
+
+  /** Begins a request of a lease, of a MessageKind: {number, request}. Its body comes by `put`, and `finish` ends it. */
+  ask(lease, kind) {
+    const key = id(lease), room = this.#packetSize - HEADER, at = memory.lend(COUNT + ASKED.size + room), asked = at + COUNT;
+    const kept = asked + ASKED.size;
+    this.#call("tds_service_ask", key, within(kind, 255), BigInt(kept), BigInt(room), BigInt(at), BigInt(asked));
+    this.#kept.set(key, { kept: memory.copy(kept, room), waiting: memory.count(at) });
+    const view = memory.view();
+    return { number: view.getBigUint64(asked, true), request: view.getBigUint64(asked + ASKED.request, true) };
+  }
+
+  #waits(key) {
+    return this.#kept.get(key) ?? { kept: new Uint8Array(this.#packetSize - HEADER), waiting: 0 };
+  }
+
+  /** Puts bytes of the request's body, and gives the packets that are full. */
+  put(lease, data) {
+    const key = id(lease), waits = this.#waits(key), room = this.#packetSize, length = waits.kept.length, packets = [];
+    for (let answer = FULL; answer === FULL;) {
+      // waiting, taken, count; what is kept; the packet; the bytes
+      const at = memory.lend(3 * COUNT + length + room + data.length);
+      const [taken, count, kept] = [at + COUNT, at + 2 * COUNT, at + 3 * COUNT], out = kept + length, bytes = out + room;
+      memory.setCount(at, waits.waiting);
+      memory.bytes(kept, length).set(waits.kept);
+      memory.bytes(bytes, data.length).set(data);
+      answer = this.#call(
+        "tds_service_put", key, BigInt(kept), BigInt(length), BigInt(at), BigInt(bytes), BigInt(data.length), BigInt(taken),
+        BigInt(out), BigInt(room), BigInt(count));
+      packets.push(memory.copy(out, memory.count(count)));
+      waits.kept = memory.copy(kept, length);
+      waits.waiting = memory.count(at);
+      data = data.subarray(memory.count(taken));
+    }
+    return joined(packets);
+  }
+
+  /** Ends the request, and gives its last packet. */
+  finish(lease) {
+    const key = id(lease), { kept, waiting } = this.#waits(key), room = this.#packetSize;
+    const at = memory.lend(COUNT + kept.length + room), out = at + COUNT + kept.length;
+    memory.bytes(at + COUNT, kept.length).set(kept);
+    this.#call("tds_service_finish", key, BigInt(at + COUNT), BigInt(waiting), BigInt(out), BigInt(room), BigInt(at));
+    return memory.copy(out, memory.count(at));
+  }
+
+  /** Asks a batch, whole: {number, request, packets}. */
+  askBatch(lease, text) {
+    const body = new Uint8Array(2 * text.length), view = new DataView(body.buffer);
+    for (let place = 0; place < text.length; place++) view.setUint16(2 * place, text.charCodeAt(place), true);
+    return { ...this.ask(lease, MessageKind.BATCH), packets: joined([this.put(lease, body), this.finish(lease)]) };
+  }
+
+  /** Cancels what is underway: [answer, bytes]. Behind ASKED send the bytes; `messageEnded` hears its acknowledgement. */
+  cancel(lease) {
+    const at = memory.lend(COUNT + ATTENTION_MOST);
+    const answer = this.#call("tds_service_cancel", id(lease), BigInt(at + COUNT), BigInt(ATTENTION_MOST), BigInt(at));
+    return [answer, memory.copy(at + COUNT, memory.count(at))];
+  }
+
+  /**
+   * Hears a token that a walk has found on the connection of this number: {lease, request, isTold}, whose it is (0n where no lease
+   * holds the connection), and whether he is told.
+   */
+  came(number, token) {
+    const at = memory.lend(WHOSE.size + WALKED.size), value = at + WHOSE.size, view = memory.view();
+    memory.bytes(value, WALKED.size).fill(0);
+    view.setBigUint64(value + WALKED.value, token.value, true);
+    view.setBigUint64(value + WALKED.oldValue, token.oldValue, true);
+    view.setUint16(value + WALKED.status, token.status, true);
+    for (const [field, byte] of [[WALKED.kind, token.kind], [WALKED.told, token.tells], [WALKED.change, token.change]])
+      view.setUint8(value + field, byte);
+    const answer = this.#call("tds_service_came", id(number), BigInt(value), BigInt(at));
+    return { ...whoseAt(at), isTold: answer === TELL };
+  }
+
+  /**
+   * Hears that a message has ended there, behind the packet whose status has bit 1: {answer, lease, request}; `isCut` where the walk
+   * isn't between two tokens then. FINISHED: the request has its whole answer. ACKNOWLEDGED: its cancel is acknowledged, and a
+   * connection that drained is free. MORE: the acknowledgement is still to come.
+   */
+  messageEnded(number, isCut = false) {
+    const at = memory.lend(WHOSE.size), answer = this.#call("tds_service_message_ended", id(number), Number(isCut), BigInt(at));
+    return { answer, ...whoseAt(at) };
+  }
+
+  /**
+   * The client of a lease's connection, for what the calls by lease don't do: to log in, say. A request that is asked by it isn't
+   * counted in `request`. Behind the lease's end each of its calls throws Fault 34.
+   */
   client(lease) {
     const key = id(lease), place = () => this.#seat("tds_service_find", key);
     place();
@@ -112,7 +213,7 @@ export class Service {
     const key = id(lease), at = memory.lend(2 * COUNT + ATTENTION_MOST), out = at + 2 * COUNT;
     const rest = this.#call(
       "tds_service_give_back", key, BigInt(out), BigInt(ATTENTION_MOST), BigInt(at), BigInt(at + COUNT));
-    this.#clients.delete(key);
+    this.#forget(key);
     return { number: memory.view().getBigUint64(at + COUNT, true), rest, sends: memory.copy(out, memory.count(at)) };
   }
 
@@ -128,14 +229,14 @@ export class Service {
   lost(number) {
     const key = id(number), holder = this.holder(key);
     this.#call("tds_service_lost", key);
-    this.#clients.delete(holder);
+    this.#forget(holder);
   }
 
   /** Keeps a connection that is idle in a transaction, and gives a ticket for it. The lease is spent. */
   keep(lease) {
     const key = id(lease), at = memory.lend(COUNT);
     this.#call("tds_service_keep", key, BigInt(at));
-    this.#clients.delete(key);
+    this.#forget(key);
     return memory.view().getBigUint64(at, true);
   }
 
@@ -161,4 +262,9 @@ export class Service {
   cleaned(lease) {
     return this.#end("tds_service_cleaned", id(lease));
   }
+}
+
+function whoseAt(at) {
+  const view = memory.view();
+  return { lease: view.getBigUint64(at, true), request: view.getBigUint64(at + WHOSE.request, true) };
 }

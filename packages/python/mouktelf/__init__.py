@@ -18,11 +18,11 @@ from .client import (
 from .judge import Finding, Level, What, judge
 from .login import is_let_in, login
 from .play import NotPlayed, play
-from .service import Ended, Lent, Rest, Service
+from .service import Asked, Ended, Lent, Rest, Service, Whose
 from .wire import Place, Refused, Tells, Walk, Walked
 
 __all__ = [
-    "Acknowledged", "Answer", "Change", "Client", "Columns", "Done", "Ended", "Fault", "Finding", "Lent", "Level", "Message",
-    "MessageKind", "NotPlayed", "Place", "Refused", "Reset", "Rest", "ReturnStatus", "Row", "Service", "Stage", "Taken", "Tells",
-    "Token", "Walk", "Walked", "What", "is_let_in", "judge", "login", "packets_of", "play",
+    "Acknowledged", "Answer", "Asked", "Change", "Client", "Columns", "Done", "Ended", "Fault", "Finding", "Lent", "Level",
+    "Message", "MessageKind", "NotPlayed", "Place", "Refused", "Reset", "Rest", "ReturnStatus", "Row", "Service", "Stage",
+    "Taken", "Tells", "Token", "Walk", "Walked", "What", "Whose", "is_let_in", "judge", "login", "packets_of", "play",
 ]

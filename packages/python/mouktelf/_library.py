@@ -89,6 +89,14 @@ class LentValue(Structure):
     _fields_ = [("lease", c_uint64), ("number", c_uint64), ("had", c_uint8)]
 
 
+class AskedValue(Structure):
+    _fields_ = [("number", c_uint64), ("request", c_uint64)]
+
+
+class WhoseValue(Structure):
+    _fields_ = [("lease", c_uint64), ("request", c_uint64)]
+
+
 class JudgeLimits(Structure):
     _fields_ = [("idle", c_uint64), ("columns", c_uint16), ("encryption", c_uint8), ("ranks", c_uint8)]
 
@@ -134,6 +142,12 @@ _CALLS = {
     "tds_service_lease": (*_TABLE, _LENT),
     "tds_service_find": (*_TABLE, c_uint64, _COUNT),
     "tds_service_at": (*_TABLE, c_uint64, _COUNT),
+    "tds_service_ask": (*_TABLE, c_uint64, c_uint8, _ROOM, c_size_t, _COUNT, POINTER(AskedValue)),
+    "tds_service_put": (*_TABLE, c_uint64, _ROOM, c_size_t, _COUNT, _BYTES, c_size_t, _COUNT, _ROOM, c_size_t, _COUNT),
+    "tds_service_finish": (*_TABLE, c_uint64, _ROOM, c_size_t, _ROOM, c_size_t, _COUNT),
+    "tds_service_cancel": (*_TABLE, c_uint64, _ROOM, c_size_t, _COUNT),
+    "tds_service_came": (*_TABLE, c_uint64, POINTER(WireToken), POINTER(WhoseValue)),
+    "tds_service_message_ended": (*_TABLE, c_uint64, c_uint8, POINTER(WhoseValue)),
     "tds_service_give_back": (*_TABLE, c_uint64, _ROOM, c_size_t, _COUNT, _NUMBER),
     "tds_service_drained": (*_TABLE, c_uint64),
     "tds_service_lost": (*_TABLE, c_uint64),

@@ -3,12 +3,13 @@
 from ctypes import byref, c_size_t, c_uint8, c_uint64
 from dataclasses import dataclass
 from enum import IntEnum
-from typing import Dict, NamedTuple
+from typing import Dict, NamedTuple, Tuple
 
-from ._library import LIBRARY, ClientValue, LentValue, SeatValue, ServiceValue
-from .client import Client, Fault
+from ._library import LIBRARY, AskedValue, ClientValue, LentValue, SeatValue, ServiceValue, WhoseValue, WireToken
+from .client import Answer, Client, Fault, MessageKind
+from .wire import Walked
 
-_FIRST_FAULT, _OUT_OF_RANGE, _ATTENTION_MOST = 20, 23, 16
+_FULL, _TELL, _FIRST_FAULT, _OUT_OF_RANGE, _ATTENTION_MOST, _HEADER = 1, 10, 20, 23, 16, 8
 
 
 class Rest(IntEnum):
@@ -27,6 +28,24 @@ class Lent:
     lease: int
     number: int
     had: bool
+
+
+@dataclass(frozen=True)
+class Asked:
+    """A request that was asked: its connection's number, and its own there: 1, 2, .."""
+
+    number: int
+    request: int
+
+
+@dataclass(frozen=True)
+class Whose:
+    """Whose it is what came: the lease that holds the connection, 0 where none does, and its newest request. `is_told`
+    says whether he is told of it: of a cancelled request's answer nobody is."""
+
+    lease: int
+    request: int
+    is_told: bool
 
 
 class Ended(NamedTuple):
@@ -50,6 +69,7 @@ class Service:
         Client(size)
         self._most, self._value, self._seats = most, ServiceValue(0, 0, 0, size), (SeatValue * most)()
         self._clients: Dict[int, "_Held"] = {}
+        self._kept: Dict[int, Tuple] = {}
 
     def __len__(self) -> int:
         """How many connections there are."""
@@ -69,16 +89,79 @@ class Service:
     def _end(self, call, holder: int) -> Ended:
         number = c_uint64()
         rest = self._call(call, _number(holder), byref(number))
-        self._clients.pop(holder, None)
+        self._forget(holder)
         return Ended(number.value, Rest(rest))
+
+    def _forget(self, lease: int) -> None:
+        self._clients.pop(lease, None)
+        self._kept.pop(lease, None)
 
     def lease(self) -> Lent:
         """Lends a free connection that is idle, and marks it for a full reset; else a new one, which is to be opened and
         logged in. Fault 35: all are in use; wait until one is free."""
         return self._lend(LIBRARY.tds_service_lease)
 
+    def ask(self, lease: int, kind: MessageKind) -> Asked:
+        """Begins a request of a lease. Its body comes by `put`, and `finish` ends it."""
+        kept, waiting, asked = (c_uint8 * (self._value.size - _HEADER))(), c_size_t(), AskedValue()
+        self._call(LIBRARY.tds_service_ask, _number(lease), kind, kept, len(kept), byref(waiting), byref(asked))
+        self._kept[lease] = kept, waiting
+        return Asked(asked.number, asked.request)
+
+    def put(self, lease: int, data: bytes) -> bytes:
+        """Puts bytes of the request's body, and gives the packets that are full."""
+        kept, waiting = self._waits(lease)
+        room, packets, answer = self._value.size, b"", _FULL
+        out, taken, count = (c_uint8 * room)(), c_size_t(), c_size_t()
+        while answer == _FULL:
+            answer = self._call(LIBRARY.tds_service_put, _number(lease), kept, len(kept), byref(waiting), data, len(data),
+                                byref(taken), out, room, byref(count))
+            packets += bytes(out[: count.value])
+            data = data[taken.value:]
+        return packets
+
+    def finish(self, lease: int) -> bytes:
+        """Ends the request, and gives its last packet."""
+        kept, waiting = self._waits(lease)
+        room, count = self._value.size, c_size_t()
+        out = (c_uint8 * room)()
+        self._call(LIBRARY.tds_service_finish, _number(lease), kept, waiting, out, room, byref(count))
+        return bytes(out[: count.value])
+
+    def _waits(self, lease: int) -> Tuple:
+        return self._kept.get(lease) or ((c_uint8 * (self._value.size - _HEADER))(), c_size_t())
+
+    def ask_batch(self, lease: int, text: str) -> Tuple[Asked, bytes]:
+        """Asks a batch, whole: which request it is, and its packets."""
+        asked = self.ask(lease, MessageKind.BATCH)
+        packets = self.put(lease, text.encode("utf-16-le", "surrogatepass"))
+        return asked, packets + self.finish(lease)
+
+    def cancel(self, lease: int) -> Tuple[Answer, bytes]:
+        """Cancels what is underway. Behind ASKED send the bytes; its acknowledgement is heard by `message_ended`."""
+        out, count = (c_uint8 * _ATTENTION_MOST)(), c_size_t()
+        answer = self._call(LIBRARY.tds_service_cancel, _number(lease), out, _ATTENTION_MOST, byref(count))
+        return Answer(answer), bytes(out[: count.value])
+
+    def came(self, number: int, token: Walked) -> Whose:
+        """Hears a token that a walk has found on the connection of this number: whose it is, and whether he is told."""
+        value, whose = WireToken(), WhoseValue()
+        value.kind, value.told, value.change, value.status = token.kind, token.tells, token.change, token.status
+        value.value, value.old_value = token.value, token.old_value
+        answer = self._call(LIBRARY.tds_service_came, _number(number), byref(value), byref(whose))
+        return Whose(whose.lease, whose.request, answer == _TELL)
+
+    def message_ended(self, number: int, is_cut: bool = False) -> Tuple[Answer, Whose]:
+        """Hears that a message has ended there, behind the packet whose status has bit 1; `is_cut` where the walk isn't
+        between two tokens then. FINISHED: the request has its whole answer. ACKNOWLEDGED: its cancel is acknowledged, and
+        a connection that drained is free. MORE: the acknowledgement is still to come."""
+        whose = WhoseValue()
+        answer = self._call(LIBRARY.tds_service_message_ended, _number(number), is_cut, byref(whose))
+        return Answer(answer), Whose(whose.lease, whose.request, answer == Answer.FINISHED)
+
     def client(self, lease: int) -> Client:
-        """The client of a lease's connection: its requests. Behind the lease's end each of its calls raises Fault 34."""
+        """The client of a lease's connection, for what the calls by lease don't do: to log in, say. A request that is asked by
+        it isn't counted in `Whose.request`. Behind the lease's end each of its calls raises Fault 34."""
         if lease not in self._clients:
             self._seat(LIBRARY.tds_service_find, lease)
             self._clients[lease] = _Held(self, LIBRARY.tds_service_find, lease)
@@ -103,7 +186,7 @@ class Service:
         """Ends a lease. What is underway is cancelled, and what `sends` has is to be sent for that."""
         out, count, number = (c_uint8 * _ATTENTION_MOST)(), c_size_t(), c_uint64()
         rest = self._call(LIBRARY.tds_service_give_back, _number(lease), out, _ATTENTION_MOST, byref(count), byref(number))
-        self._clients.pop(lease, None)
+        self._forget(lease)
         return Ended(number.value, Rest(rest), bytes(out[: count.value]))
 
     def drained(self, number: int) -> Rest:
@@ -115,13 +198,13 @@ class Service:
         """The connection of this number is lost: it is in the table no longer, and its lease unknown."""
         holder = self.holder(number)
         self._call(LIBRARY.tds_service_lost, _number(number))
-        self._clients.pop(holder, None)
+        self._forget(holder)
 
     def keep(self, lease: int) -> int:
         """Keeps a connection that is idle in a transaction, and gives a ticket for it. The lease is spent."""
         ticket = c_uint64()
         self._call(LIBRARY.tds_service_keep, _number(lease), byref(ticket))
-        self._clients.pop(lease, None)
+        self._forget(lease)
         return ticket.value
 
     def resume(self, ticket: int) -> Lent:

@@ -1,6 +1,6 @@
 //! A table of connections that callers share, in front of any server: who holds each one, and what becomes of it.
 
-use crate::{raw, Client, Fault};
+use crate::{raw, Cancelled, Client, Fault, MessageKind, Taken, Told, Walked};
 use std::collections::HashMap;
 use std::mem::take;
 use std::ops::{Deref, DerefMut};
@@ -22,6 +22,21 @@ pub struct Lent {
     pub lease: u64,
     pub number: u64,
     pub had: bool,
+}
+
+/// A request that was asked: its connection's number, and its own there: 1, 2, ..
+#[derive(Clone, Copy, PartialEq, Eq, Debug)]
+pub struct Asked {
+    pub number: u64,
+    pub request: u64,
+}
+
+/// Whose it is what came: the lease that holds the connection, and its newest request. Nobody is told of a cancelled one.
+#[derive(Clone, Copy, PartialEq, Eq, Debug)]
+pub struct Whose {
+    pub lease: Option<u64>,
+    pub request: u64,
+    pub is_told: bool,
 }
 
 /// A table of connections. It has no lock and no socket. Calls answer `Fault::NoSuch`, `AllInUse` and `NotNow` besides the
@@ -92,7 +107,123 @@ impl Service {
         lent(unsafe { raw::tds_service_lease(&mut self.value, self.seats.as_mut_ptr(), self.seats.len(), &mut it) }, it)
     }
 
-    /// The client of a lease's connection: its requests.
+    /// Begins a request of a lease. Its body comes by `put`, and `finish` ends it.
+    pub fn ask(&mut self, lease: u64, kind: MessageKind) -> Result<Asked, Fault> {
+        let (mut kept, mut waiting, mut it) = (vec![0; self.room() - 8], 0, raw::Asked::default());
+        // SAFETY: as in `lease`, and of one vector more.
+        let answer = unsafe {
+            raw::tds_service_ask(&self.value, self.seats.as_mut_ptr(), self.seats.len(), lease, kind as u8, kept.as_mut_ptr(), kept.len(), &mut waiting, &mut it)
+        };
+        if answer != 0 {
+            return Err(fault(answer));
+        }
+        self.messages.insert(it.number, Message { whole: Vec::new(), kept, waiting });
+        Ok(Asked { number: it.number, request: it.request })
+    }
+
+    fn room(&self) -> usize {
+        usize::from(self.value.size)
+    }
+
+    /// The number of a lease's connection.
+    fn number_of(&self, lease: u64) -> Result<u64, Fault> {
+        let mut index = 0;
+        // SAFETY: as in `lease`.
+        match unsafe { raw::tds_service_find(&self.value, self.seats.as_ptr(), self.seats.len(), lease, &mut index) } {
+            0 => Ok(self.seats[index].number),
+            answer => Err(fault(answer)),
+        }
+    }
+
+    /// Puts bytes of the request's body, and appends the packets that are full.
+    pub fn put(&mut self, lease: u64, mut bytes: &[u8], out: &mut Vec<u8>) -> Result<(), Fault> {
+        let (room, number) = (self.room(), self.number_of(lease)?);
+        let (mut packet, waits) = (vec![0; room], self.messages.entry(number).or_default());
+        loop {
+            let (kept, kept_room, mut taken, mut count) = (waits.kept.as_mut_ptr(), waits.kept.len(), 0, 0);
+            // SAFETY: each pointer and length is that of one vector or slice, and no two of them overlap.
+            let answer = unsafe {
+                raw::tds_service_put(&self.value, self.seats.as_mut_ptr(), self.seats.len(), lease, kept, kept_room, &mut waits.waiting, bytes.as_ptr(), bytes.len(), &mut taken, packet.as_mut_ptr(), packet.len(), &mut count)
+            };
+            match answer {
+                0 => return Ok(()),
+                1 => out.extend_from_slice(&packet[..count]),
+                number => return Err(fault(number)),
+            }
+            bytes = &bytes[taken..];
+        }
+    }
+
+    /// Ends the request, and appends its last packet.
+    pub fn finish(&mut self, lease: u64, out: &mut Vec<u8>) -> Result<(), Fault> {
+        let number = self.number_of(lease)?;
+        let (mut packet, mut count, waits) = (vec![0; self.room()], 0, self.messages.entry(number).or_default());
+        // SAFETY: each pointer and length is that of one vector, and no two of them overlap.
+        let answer = unsafe {
+            raw::tds_service_finish(&self.value, self.seats.as_mut_ptr(), self.seats.len(), lease, waits.kept.as_ptr(), waits.waiting, packet.as_mut_ptr(), packet.len(), &mut count)
+        };
+        if answer != 0 {
+            return Err(fault(answer));
+        }
+        out.extend_from_slice(&packet[..count]);
+        Ok(())
+    }
+
+    /// Asks a batch, whole: which request it is; its packets are appended.
+    pub fn ask_batch(&mut self, lease: u64, text: &str, out: &mut Vec<u8>) -> Result<Asked, Fault> {
+        let body: Vec<u8> = text.encode_utf16().flat_map(u16::to_le_bytes).collect();
+        let asked = self.ask(lease, MessageKind::Batch)?;
+        self.put(lease, &body, out)?;
+        self.finish(lease, out)?;
+        Ok(asked)
+    }
+
+    /// Cancels what is underway. After `Asked`, send what was appended; `message_ended` hears the acknowledgement.
+    pub fn cancel(&mut self, lease: u64, out: &mut Vec<u8>) -> Result<Cancelled, Fault> {
+        let (mut packets, mut count) = ([0; 16], 0);
+        // SAFETY: as in `lease`, and of one array.
+        let answer = unsafe {
+            raw::tds_service_cancel(&self.value, self.seats.as_mut_ptr(), self.seats.len(), lease, packets.as_mut_ptr(), packets.len(), &mut count)
+        };
+        out.extend_from_slice(&packets[..count]);
+        match answer {
+            5 => Ok(Cancelled::Nothing),
+            6 => Ok(Cancelled::Already),
+            7 => Ok(Cancelled::Unsent),
+            8 => Ok(Cancelled::Asked),
+            number => Err(fault(number)),
+        }
+    }
+
+    /// Hears a token that a walk has found on the connection of this number: whose it is, and whether he is told.
+    pub fn came(&mut self, number: u64, token: &Walked) -> Result<Whose, Fault> {
+        let (value, mut whose) = (of_table(token), raw::Whose::default());
+        // SAFETY: as in `lease`.
+        match unsafe { raw::tds_service_came(&self.value, self.seats.as_mut_ptr(), self.seats.len(), number, &value, &mut whose) } {
+            10 => Ok(whose_of(whose, true)),
+            11 => Ok(whose_of(whose, false)),
+            answer => Err(fault(answer)),
+        }
+    }
+
+    /// Hears that a message has ended there, behind the packet whose status has bit 1; `is_cut` where the walk isn't between two
+    /// tokens then. `Finished`: the request has its whole answer. `Acknowledged`: its cancel is acknowledged, and a connection
+    /// that drained is free. `More`: the acknowledgement is still to come.
+    pub fn message_ended(&mut self, number: u64, is_cut: bool) -> Result<(Taken, Whose), Fault> {
+        let mut whose = raw::Whose::default();
+        // SAFETY: as in `lease`.
+        let answer = unsafe { raw::tds_service_message_ended(&self.value, self.seats.as_mut_ptr(), self.seats.len(), number, is_cut.into(), &mut whose) };
+        let taken = match answer {
+            1 => Taken::More,
+            3 => Taken::Finished,
+            4 => Taken::Acknowledged,
+            answer => return Err(fault(answer)),
+        };
+        Ok((taken, whose_of(whose, taken == Taken::Finished)))
+    }
+
+    /// The client of a lease's connection, for what the calls by lease don't do: to log in, say. A request that is asked by it
+    /// isn't counted in `Whose::request`.
     pub fn client(&mut self, lease: u64) -> Result<Seated<'_>, Fault> {
         let mut index = 0;
         // SAFETY: as in `lease`.
@@ -206,6 +337,22 @@ impl Service {
         // SAFETY: as in `lease`.
         let answer = unsafe { raw::tds_service_cleaned(&mut self.value, self.seats.as_mut_ptr(), self.seats.len(), lease, &mut number) };
         self.ended(answer, number)
+    }
+}
+
+fn whose_of(it: raw::Whose, is_told: bool) -> Whose {
+    Whose { lease: Some(it.lease).filter(|lease| *lease != 0), request: it.request, is_told }
+}
+
+/// What a table looks at of a token.
+fn of_table(token: &Walked) -> raw::WireToken {
+    let it = raw::WireToken { kind: token.kind, ..raw::WireToken::default() };
+    match token.told {
+        Told::Done { status, .. } => raw::WireToken { told: 1, status, ..it },
+        Told::Transaction { change, new, old } => raw::WireToken { told: 2, change, value: new, old_value: old, ..it },
+        Told::Reset => raw::WireToken { told: 3, change: 18, ..it },
+        Told::Unclear => raw::WireToken { told: 10, ..it },
+        _ => it,
     }
 }
 

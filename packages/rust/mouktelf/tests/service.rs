@@ -1,7 +1,7 @@
 //! The table of connections without a socket: who is lent what, what is refused, and what drains. The bytes stand in
 //! docs/PROTOCOL.md.
 
-use mouktelf::{Cancelled, Fault, MessageKind, Request, Rest, Service, State, Taken};
+use mouktelf::{Agreed, Asked, Cancelled, Fault, MessageKind, Request, Rest, Service, State, Taken, Walk, Walked, Whose};
 
 const BEGUN: &str = "0401002300000100E30B000808010000000000000000FD000000000000000000000000";
 const ENDED: &str = "0401001500000200FD000000000000000000000000";
@@ -158,6 +158,54 @@ fn streamed() {
     assert!(out.is_empty());
     service.client(lease).unwrap().finish(&mut out).unwrap();
     assert_eq!((out.len(), &out[30..]), (42, b"g\0e\0t\0 \0a\0\0\0".as_slice()));
+}
+
+fn tokens(walk: &mut Walk, packet: &str) -> Vec<Walked> {
+    let data = bytes(packet);
+    let (count, token) = walk.next(&data[8..]).unwrap();
+    assert_eq!(count, data.len() - 8);
+    token.into_iter().collect()
+}
+
+/// By lease and number alone: two requests, of which the second is cancelled, and nobody is told of its answer.
+#[test]
+fn asks() {
+    let (mut service, mut walk, mut out) = (Service::new(1, 512).unwrap(), Walk::new(16, Agreed::default()), Vec::new());
+    let lease = service.lease().unwrap().lease;
+    assert_eq!(service.ask(lease, MessageKind::Batch), Ok(Asked { number: 1, request: 1 }));
+    service.put(lease, b"g\0e\0t\0 \0a\0", &mut out).unwrap();
+    assert!(out.is_empty());
+    service.finish(lease, &mut out).unwrap();
+    assert_eq!((&out[..2], &out[30..]), ([1, 1].as_slice(), b"g\0e\0t\0 \0a\0".as_slice()));
+    let done = tokens(&mut walk, ENDED)[0];
+    let first = Whose { lease: Some(lease), request: 1, is_told: true };
+    assert_eq!((service.came(1, &done), service.message_ended(1, false)), (Ok(first), Ok((Taken::Finished, first))));
+    assert_eq!(service.ask_batch(lease, "get b", &mut out), Ok(Asked { number: 1, request: 2 }));
+    out.clear();
+    assert_eq!(service.cancel(lease, &mut out), Ok(Cancelled::Asked));
+    assert_eq!(out, ATTENTION);
+    assert_eq!(service.cancel(lease, &mut out), Ok(Cancelled::Already));
+    assert_eq!(service.came(1, &done), Ok(Whose { lease: Some(lease), request: 2, is_told: false }));
+    assert_eq!(service.message_ended(1, false).map(|it| it.0), Ok(Taken::More));
+    assert_eq!(gives_back(&mut service, lease), Ok((1, Rest::Draining, vec![])));
+    assert_eq!(service.ask(lease, MessageKind::Batch), Err(Fault::NoSuch));
+    assert_eq!(service.put(lease, b"a", &mut out), Err(Fault::NoSuch));
+    assert_eq!(service.finish(lease, &mut out), Err(Fault::NoSuch));
+    assert_eq!(service.cancel(lease, &mut out), Err(Fault::NoSuch));
+    assert_eq!(service.ask_batch(lease, "a", &mut out), Err(Fault::NoSuch));
+    walk.restart();
+    let nobody = Whose { lease: None, request: 2, is_told: false };
+    assert_eq!(service.came(1, &tokens(&mut walk, ACKNOWLEDGED)[0]), Ok(nobody));
+    assert_eq!(service.lease(), Err(Fault::AllInUse));
+    assert_eq!(service.message_ended(1, false), Ok((Taken::Acknowledged, nobody)));
+    // It has drained: the next lease's first request asks for a reset, and is the third of its connection.
+    let lease = service.lease().unwrap().lease;
+    out.clear();
+    assert_eq!(service.ask_batch(lease, "get a", &mut out), Ok(Asked { number: 1, request: 3 }));
+    assert_eq!(out[1], 9);
+    // A message that ends inside a token breaks the connection.
+    assert_eq!(service.message_ended(1, true), Err(Fault::Unknown(75)));
+    assert!(matches!(service.client(lease).unwrap().state(), State::Broken(_)));
 }
 
 #[test]
