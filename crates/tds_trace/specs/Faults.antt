@@ -24,6 +24,15 @@ IsFaultOf (trace.Play refusal) bytes = IsRefused bytes (Some refusal)
 IsFaultOf trace.Output bytes = ⊤
 IsFaultOf trace.Memory bytes = ⊤
 
+-- A fault that the bytes themselves show.
+abbrev pub IsShownBy : TraceFault → List ℕ → Type 0
+IsShownBy trace.File bytes = ⊥
+IsShownBy trace.Json bytes = IsNoJson bytes
+IsShownBy (trace.Schedule place) bytes = IsWrongAt bytes place
+IsShownBy (trace.Play refusal) bytes = IsRefused bytes (Some refusal)
+IsShownBy trace.Output bytes = ⊥
+IsShownBy trace.Memory bytes = ⊥
+
 -- A fault that comes before anything is printed.
 abbrev pub IsBeforeOutput : TraceFault → Type 0
 IsBeforeOutput fault = ¬ (fault ≡ trace.Output)

@@ -3,7 +3,7 @@ ghost use Rattle.std.specs.Prelude.{◌≡◌, ◌⊎◌, IfErr, IfOk, OnOk, str
 ghost use Rattle.std.specs.Io.KnownBytes.{Appends};
 ghost use Rattle.tds_play.specs.Runs.{AreLeft, FitsFile};
 ghost use Rattle.tds_text.specs.Written.{WritesBeginning};
-ghost use Rattle.tds_trace.specs.Faults.{EndsBy, EndsTold, IsBeforeOutput, IsFaultOf, IsUnread, TellsFault};
+ghost use Rattle.tds_trace.specs.Faults.{EndsBy, EndsTold, IsBeforeOutput, IsFaultOf, IsShownBy, IsUnread, TellsFault};
 ghost use Rattle.tds_trace.specs.Runs.{IsTraceOf, Traces};
 ghost use Rattle.tds_trace.specs.declared.fault.TraceFault.TheVariants.{Memory, Output};
 
@@ -101,6 +101,7 @@ fn print_trace<W: Write>(text: &str, output: &mut W) -> Result<(), TraceFault>
 fn trace_of(alloc: Global, bytes: &[u8]) -> Result<String, TraceFault>
     ensures trace { IfOk result (λ text. IsTraceOf bytes.now (string_bytes text)) }
     ensures fault { IfErr result (λ fault. IsFaultOf fault bytes.now × IsBeforeOutput fault) }
+    ensures shown { IfErr result (λ fault. (fault ≡ Memory) ⊎ IsShownBy fault bytes.now) }
 {
     let (setup, events) = read_schedule(alloc, bytes)?;
     let trace = play_traced(alloc, &setup, events.as_slice())?;
