@@ -1,5 +1,5 @@
 -- What was sent and came on a connection of the model, as bytes of a run.
-use Rattle.std.proofs.Common.{◌≡◌, ◌≤◌, ◌<◌, ◌+◌, ◌∙◌, ℕ, zero, suc, List, [], ◌∷◌, ◌++◌, length, take, Option, Some, None, ap, sym, subst}
+use Rattle.std.proofs.Common.{◌≡◌, ◌+◌, ◌∙◌, ℕ, zero, suc, List, [], ◌∷◌, ◌++◌, length, take, Option, Some, ap, subst}
 use Rattle.std.proofs.lemmas.Grind.{flat_map-append}
 use Rattle.std.proofs.Math.Seq.{take-append-add}
 use Rattle.std.proofs.lemmas.Option.{none-some, same_Some}
@@ -13,7 +13,7 @@ use Rattle.tds_world.specs.Bounds.{OneAttention}
 use Rattle.tds_world.specs.Connection.{Connection}
 use Rattle.tds_world.specs.Entries.{down_bytes}
 use Rattle.tds_world.specs.Observed.{bytes_in}
-use Rattle.tds_world.specs.World.{World, numbered}
+use Rattle.tds_world.specs.World.{World}
 
 got : (P : Connection → Type 0) (cs : List Connection) (i : ℕ) (c : Connection) → slice_get cs i ≡ Some c → AllByRecursion P cs → P c
 got P [] i c is all = absurd (none-some c is)

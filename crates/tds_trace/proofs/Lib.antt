@@ -6,4 +6,5 @@ pub mod Recorded
 pub mod Turned
 pub mod Traced
 pub mod Reading
+pub mod Ending
 pub mod Attended

@@ -1,5 +1,5 @@
 -- A call more at a carrier: what it handed over and brought, and the event that made it.
-use Rattle.std.proofs.Common.{◌≡◌, ◌≢◌, ◌==◌, ◌<◌, ◌≤◌, ◌+◌, ℕ, List, [], ◌∷◌, ◌++◌, length, drop, Bool, true, false, if◌then◌else◌, is_err, Option, Some, None, Result, Ok, Err, IfOk, IfSome, OnOk, inl, inr, refl, sym, ap, subst, ◌∙◌, append-nil, arith}
+use Rattle.std.proofs.Common.{◌≡◌, ◌≢◌, ◌==◌, ◌<◌, ◌+◌, ℕ, List, [], ◌∷◌, ◌++◌, length, drop, Bool, true, false, if◌then◌else◌, is_err, Option, Some, None, Result, Ok, Err, IfOk, IfSome, OnOk, inl, inr, refl, sym, ap, subst, ◌∙◌, append-nil, arith}
 use Rattle.std.proofs.Math.Seq.{drop-length}
 use Rattle.std.proofs.lemmas.Bool.{eq-eqb}
 use Rattle.std.proofs.lemmas.Bool.Decides.{eqb_tells}
@@ -11,7 +11,7 @@ use Rattle.tds_packet.specs.declared.kind.Direction.TheVariants.{ToServer, ToCli
 use Rattle.tds_play.specs.Pipe.{Begun, Changes, IsOpen, MayCarry, Pipe, brought_on, carried_on, since, stuck_on, traffic}
 use Rattle.tds_play.specs.declared.carrier.CarrierError.{CarrierError}
 use Rattle.tds_play.specs.declared.carrier.CarrierError.TheVariants.{Lost, Memory}
-use Rattle.tds_trace.specs.Calls.{AreCallsAt, brought_after, brought_of, handed_after, handed_of, this_way}
+use Rattle.tds_trace.specs.Calls.{AreCallsAt, brought_after, brought_of, handed_after, handed_of}
 use Rattle.tds_trace.specs.Turns.{IsRecordOf, MayBe, MayBring, made_on}
 use Rattle.tds_trace.specs.declared.call.Call.{Call}
 use Rattle.tds_trace.specs.declared.call.Made.{Made}

@@ -1,11 +1,11 @@
 -- The calls of a play are those that its carrier was asked: each event's do there what the event does in the model.
-use Rattle.std.proofs.Common.{◌≡◌, ◌∙◌, ℕ, suc, List, [], ◌∷◌, ◌++◌, Option, None, sym, ap, subst}
+use Rattle.std.proofs.Common.{◌≡◌, ◌∙◌, ℕ, suc, List, [], ◌∷◌, Option, None, sym, ap, subst}
 use Rattle.std.proofs.Math.Path.{fun_ext}
 use Rattle.std.specs.List.{AllByRecursion}
 use Rattle.tds_play.specs.Calls.{Does, DoInTurn as MakeInTurn, MakesCalls, next_there}
 use Rattle.tds_play.specs.Pipe.{Begun, Pipe}
 use Rattle.tds_session.specs.Answer.{Answers}
-use Rattle.tds_trace.specs.Turns.{AreCallsIn, AreCallsOfPlay, AreCallsSince, DoInTurn, IsRecordOf, MayAllBe, left_of}
+use Rattle.tds_trace.specs.Turns.{AreCallsOfPlay, AreCallsSince, DoInTurn, IsRecordOf, MayAllBe, left_of}
 use Rattle.tds_trace.specs.declared.call.Call.{Call}
 use Rattle.tds_world.specs.Losses.{Played, world_then}
 use Rattle.tds_world.specs.World.{World, new_world}

@@ -1,5 +1,5 @@
 -- The calls at a carrier, event by event: one call more, one event more.
-use Rattle.std.proofs.Common.{◌≡◌, ◌≢◌, ◌==◌, ℕ, List, [], ◌∷◌, ◌++◌, true, if◌then◌else◌, Option, Some, None, inl, inr, refl, sym, ap, subst, ◌∙◌, append-nil, append_assoc}
+use Rattle.std.proofs.Common.{◌≡◌, ◌==◌, ℕ, List, [], ◌∷◌, ◌++◌, if◌then◌else◌, Option, Some, None, inl, inr, refl, sym, ap, subst, ◌∙◌, append-nil, append_assoc}
 use Rattle.std.proofs.lemmas.Bool.{eq-eqb}
 use Rattle.std.proofs.lemmas.Bool.Decides.{eqb_tells}
 use Rattle.std.proofs.lemmas.List.Sums.{fold-append}
@@ -7,7 +7,7 @@ use Rattle.std.proofs.lemmas.Option.{none-some, same_Some}
 use Rattle.std.specs.List.{AllByRecursion}
 use Rattle.tds_play.specs.Calls.{next_there}
 use Rattle.tds_play.specs.Pipe.{Begun, Changes, Pipe, newest_of, since}
-use Rattle.tds_trace.specs.Turns.{AreCallsIn, AreCallsSince, IsRecordOf, MayAllBe, MayBe, left_of, made_on, newest}
+use Rattle.tds_trace.specs.Turns.{AreCallsSince, IsRecordOf, MayAllBe, MayBe, left_of, made_on, newest}
 use Rattle.tds_trace.specs.declared.call.Call.{Call}
 
 -- ---- A call more

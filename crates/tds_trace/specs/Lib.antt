@@ -1,5 +1,6 @@
 pub mod Attentions
 pub mod Calls
+pub mod Faults
 pub mod Lines
 pub mod Runs
 pub mod Turns

@@ -1,6 +1,9 @@
 //! What keeps a trace from being printed.
+ghost use Rattle.std.specs.Prelude.{◌≡◌, ◌++◌, OnOk, string_bytes};
+ghost use Rattle.tds_trace.specs.Faults.{fault_line, of_refusal, of_schedule};
 
 use std::alloc::AllocError;
+use std::fmt::Write;
 use tds_play::{PlayRefusal, ScheduleFault};
 
 /// What ends a run before the whole trace is printed.
@@ -20,6 +23,8 @@ pub(crate) enum TraceFault {
 }
 
 impl From<ScheduleFault> for TraceFault {
+    ghost from_gives = { λ fault e. e ≡ of_schedule fault };
+
     fn from(fault: ScheduleFault) -> TraceFault {
         match fault {
             ScheduleFault::Json => TraceFault::Json,
@@ -30,16 +35,40 @@ impl From<ScheduleFault> for TraceFault {
 }
 
 impl From<PlayRefusal> for TraceFault {
+    ghost from_gives = { λ refusal e. e ≡ of_refusal refusal };
+
     fn from(refusal: PlayRefusal) -> TraceFault {
         match refusal {
             PlayRefusal::Memory => TraceFault::Memory,
-            refusal => TraceFault::Play(refusal),
+            PlayRefusal::TooManyEvents => TraceFault::Play(PlayRefusal::TooManyEvents),
+            PlayRefusal::WrongSetup => TraceFault::Play(PlayRefusal::WrongSetup),
         }
     }
 }
 
 impl From<AllocError> for TraceFault {
+    ghost use Rattle.tds_trace.specs.declared.fault.TraceFault.TheVariants.{Memory};
+
+    ghost from_gives = { λ _ fault. fault ≡ Memory };
+
     fn from(_: AllocError) -> TraceFault {
         TraceFault::Memory
+    }
+}
+
+impl TraceFault {
+    /// Appends the fault's line.
+    pub(crate) fn put(&self, line: &mut String) -> Result<(), AllocError>
+        ensures { OnOk result
+            (string_bytes line.new ≡ string_bytes line.old ++ fault_line self.now) }
+    {
+        match self {
+            TraceFault::File => line.push_str("error: file\n"),
+            TraceFault::Json => line.push_str("error: json\n"),
+            TraceFault::Schedule(place) => write!(line, "error: schedule {place}\n"),
+            TraceFault::Play(refusal) => write!(line, "error: play {}\n", refusal.number()),
+            TraceFault::Output => line.push_str("error: output\n"),
+            TraceFault::Memory => line.push_str("error: memory\n"),
+        }
     }
 }

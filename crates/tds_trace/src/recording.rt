@@ -26,8 +26,9 @@ pub struct RecordingCarrier<C: Carrier + Drop> {
 }
 
 impl<C: Carrier + Drop> RecordingCarrier<C> {
-    /// Records the calls of a carrier that is new: it has no connection, and was told of no event. It takes
-    /// no memory.
+    /// Records the calls of a carrier that is new: it has no connection, and was told of no event. Both are
+    /// required, since of its carrier `play` tells these two alone: a record that began behind others could
+    /// not be known to begin with the play. It takes no memory.
     pub fn new(alloc: Global, inner: C) -> RecordingCarrier<C>
         requires unused { (conn : ℕ) → C.pipes inner conn ≡ None }
         requires untold { C.began inner ≡ [] }

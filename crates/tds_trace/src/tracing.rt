@@ -1,8 +1,9 @@
 //! A play with the calls that it made.
-ghost use Rattle.std.specs.Prelude.{◌≡◌, ◌≢◌, length, None, Some, IfErr, IfOk, OnOk};
+ghost use Rattle.std.specs.Prelude.{◌≡◌, ◌≢◌, length, None, Some, Err, IfErr, IfOk, OnOk};
 ghost use Rattle.tds_trace.specs.Calls.{AreCallsOf};
 ghost use Rattle.tds_trace.specs.Turns.{AreCallsOfPlay};
 ghost use Rattle.tds_play.specs.Refused.{first_refusal};
+ghost use Rattle.tds_play.specs.declared.playing.PlayRefusal.{PlayRefusal};
 ghost use Rattle.tds_play.specs.declared.playing.PlayRefusal.TheVariants.{Memory};
 ghost use Rattle.tds_session.specs.Answer.{script_answers};
 ghost use Rattle.tds_world.specs.Events.{world_after};
@@ -26,7 +27,9 @@ pub struct Trace {
 
 /// Plays a schedule over memory, as [`play`] does, and keeps its calls.
 pub fn play_traced(alloc: Global, setup: &Setup, events: &[Event]) -> Result<Trace, PlayRefusal>
-    // Which schedules are played.
+    // Which schedules are played, and why others aren't.
+    ensures refused { (why : PlayRefusal) → first_refusal setup.now (length events.now) ≡ Some why
+        → result ≡ Err why }
     ensures played { OnOk result (first_refusal setup.now (length events.now) ≡ None) }
     ensures named { IfErr result (λ why. why ≢ Memory
         → first_refusal setup.now (length events.now) ≡ Some why) }

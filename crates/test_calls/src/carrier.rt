@@ -45,7 +45,8 @@ pub struct FailingCarrier {
 impl FailingCarrier {
     /// A carrier without a connection, and with this plan. It takes no memory.
     pub fn new(alloc: Global, plan: Plan) -> FailingCarrier
-        ensures { (conn : ℕ) → pipe_at result.links conn ≡ None }
+        ensures empty { (conn : ℕ) → pipe_at result.links conn ≡ None }
+        ensures untold { begun_in result.began.items ≡ [] }
     {
         FailingCarrier {
             alloc,

@@ -42,7 +42,7 @@ fn difference(alloc: Global, row: &str) -> Result<Option<String>, AllocError> {
 }
 
 /// The plan, the schedule and the text of a row.
-fn parts(row: &str) -> Option<(Plan, &str, &str)> {
+pub(crate) fn parts(row: &str) -> Option<(Plan, &str, &str)> {
     let (_, rest) = row.split_once('\n')?;
     let (line, rest) = rest.split_once('\n')?;
     let (schedule, text) = rest.split_once("\n-\n")?;

@@ -6,6 +6,7 @@
 //! - `streams`: a request of 10 MB that goes out in parts, and comes in whole;
 //! - `leases`: the pool, whose leases must be spent;
 //! - `links`: plays over links that fail, or that change a byte;
+//! - `traces`: the traces of such plays;
 //! - `schedules`: each schedule byte by byte, and with each call of its links failing in turn;
 //! - `texts`: reports that no play comes to, and schedules as events;
 //! - `sockets`: the carrier over TCP.
@@ -23,6 +24,7 @@ mod sockets;
 mod streams;
 mod sweeps;
 mod texts;
+mod traces;
 
 use self::refusals::tried::Fault;
 use self::sweeps::fault::SweepFault;
@@ -84,6 +86,7 @@ fn heed(rt: &HostRuntime, word: &str, text: &mut String) -> Result<bool, Fault> 
         "streams" => streams::put(rt.alloc(), text)?,
         "leases" => leases::put(rt.alloc(), text)?,
         "links" => return Ok(links::play_all(rt, "links.txt", text)?),
+        "traces" => return Ok(traces::play_all(rt, "traces.txt", text)?),
         "schedules" => return Ok(schedules::play_all(rt, "schedules", text)?),
         "texts" => texts::put(rt, text)?,
         "sockets" => sockets::put(rt, text)?,

@@ -1,6 +1,5 @@
-use Rattle.std.proofs.Common.{◌≡◌, List, ◌++◌, ◌∷◌, [], refl, sym, subst}
+use Rattle.std.proofs.Common.{refl, sym, subst}
 use Rattle.std.proofs.Math.Logic.{∥∥₁_map}
-use Rattle.tds_play.specs.Pipe.{Begun}
 use Rattle.tds_trace.specs.Calls.{AreCallsAt}
 use Rattle.tds_trace.proofs.Recorded.{on_ok}
 use Rattle.tds_trace.proofs.Turning.{told_event}

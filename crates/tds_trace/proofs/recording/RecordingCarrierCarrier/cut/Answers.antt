@@ -1,4 +1,4 @@
-use Rattle.std.proofs.Common.{refl, ap, ◌∙◌}
+use Rattle.std.proofs.Common.{refl}
 use Rattle.tds_trace.proofs.Recorded.{all_kept, turn_kept}
 use Rattle.tds_trace.specs.declared.call.Made.TheVariants as made
 use Rattle.tds_trace.proofs.recording.RecordingCarrierCarrier.cut.Goals as goal

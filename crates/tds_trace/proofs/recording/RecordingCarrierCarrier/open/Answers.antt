@@ -1,4 +1,3 @@
-use Rattle.std.proofs.Common.{refl, ap, ◌∙◌}
 use Rattle.tds_trace.proofs.Recorded.{all_kept, done_by, turn_kept}
 use Rattle.tds_trace.specs.declared.call.Made.TheVariants as made
 use Rattle.tds_trace.proofs.recording.RecordingCarrierCarrier.open.Goals as goal
