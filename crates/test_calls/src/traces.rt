@@ -33,7 +33,11 @@ fn difference(alloc: Global, row: &str) -> Result<Option<String>, AllocError> {
     };
     match traced(alloc, plan, schedule.as_bytes()) {
         None => Ok(Some(String::from_str(alloc, "no trace")?)),
-        Some(text) => first_line(alloc, text.as_str().trim_end().as_bytes(), wanted.trim_end().as_bytes()),
+        Some(text) => first_line(
+            alloc,
+            text.as_str().trim_end().as_bytes(),
+            wanted.trim_end().as_bytes(),
+        ),
     }
 }
 
