@@ -1,9 +1,9 @@
 -- What a call leaves of the clients: a test that each connection meets it still meets.
-use Rattle.std.proofs.Common.{◌≡◌, ◌∙◌, ◌<◌, ◌≤◌, ◌+◌, ℕ, zero, suc, Bool, true, List, [], ◌∷◌, ◌++◌, length, get_or, take, drop, refl, sym, ap, subst, arith}
+use Rattle.std.proofs.Common.{◌≡◌, ◌∙◌, ◌<◌, ◌≤◌, ◌+◌, ℕ, zero, suc, Bool, true, List, [], ◌∷◌, ◌++◌, length, get_or, take, drop, sym, ap, subst, arith}
 use Rattle.std.proofs.Math.ListN.{set}
 use Rattle.std.proofs.Math.Seq.{take-set-lt}
 use Rattle.std.proofs.lemmas.List.{get_or-take, length-take-le, take-append-le, take_more_set}
-use Rattle.std.specs.Prelude.{◌-◌, Result, Ok, Err, OnOk, OnErr}
+use Rattle.std.specs.Prelude.{◌-◌}
 use Rattle.tds_service_c.specs.declared.plain.TdsSeat.{TdsSeat}
 use Rattle.tds_service_c.specs.Calls.{Meet, new_apart}
 use Rattle.tds_service_c.specs.Clients.{Apart, apart}
