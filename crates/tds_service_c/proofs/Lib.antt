@@ -6,3 +6,4 @@ pub mod Acting
 pub mod Puts
 pub mod Arrivals
 pub mod Hearings
+pub mod Leaving

@@ -1,5 +1,5 @@
 -- What each export does: the machine's call on the table that the values are, or nothing, and why.
-use Rattle.std.specs.Prelude.{◌≡◌, ◌<◌, ◌≤◌, ℕ, Bool, true, false, List, [], length, take, Option, Some, None, Result, Ok, Err}
+use Rattle.std.specs.Prelude.{◌≡◌, ◌<◌, ◌≤◌, ◌+◌, ℕ, Bool, true, false, List, [], ◌∷◌, length, take, Option, Some, None, Result, Ok, Err}
 use Rattle.tds_wire.specs.declared.told.Token.{Token}
 use Rattle.tds_service.specs.declared.place.Rest.{Rest}
 use Rattle.tds_service.specs.declared.service.lending.Lent as leases
@@ -14,6 +14,7 @@ use Rattle.tds_service_c.specs.declared.plain.TdsLent.{TdsLent}
 use Rattle.tds_service_c.specs.declared.plain.TdsSeat.{TdsSeat}
 use Rattle.tds_service_c.specs.declared.plain.TdsService.{TdsService}
 use Rattle.tds_service_c.specs.Answers.{rest_number, stop_number}
+use Rattle.tds_service_c.specs.Clients.{Apart, apart}
 use Rattle.tds_service_c.specs.Plain.{table_of, used}
 use Rattle.tds_service_c.specs.Table.{FirstMet}
 
@@ -24,6 +25,22 @@ pub record Held : Type 0 where
 
 abbrev pub Fits : Held → Type 0
 Fits h = h.service.count ≤ length h.seats
+
+-- What a new client has.
+abbrev pub new_apart : ℕ → Apart
+new_apart size = record { sent = 0; packets = 0; size = size; kind = 0; columns = 0 }
+
+-- Each of these connections meets a test, by its number and what its client has.
+abbrev pub Meet : (ℕ → Apart → Bool) → List TdsSeat → Type 0
+Meet test [] = Unit {0}
+Meet test (c ∷ cs) = (test c.number (apart c.client) ≡ true) × Meet test cs
+
+-- The table's packet size stays. Whatever each of its connections met, it still meets: what its client has stays, and a new one's is new,
+-- of that size.
+pub record Leaves (old new : Held) : Type 0 where
+  pub size : new.service.size ≡ old.service.size
+  pub clients : (test : ℕ → Apart → Bool) → test (old.service.last + 1) (new_apart old.service.size) ≡ true
+      → Meet test (used old.service old.seats) → Meet test (used new.service new.seats)
 
 -- The machine does it, and writes this to the front of `out`.
 abbrev pub DoesIt : Call Token → Held → Held → Reply → ℕ → List ℕ → Type 0
@@ -53,7 +70,7 @@ plain_lent l = record { lease = l.lease; number = l.number; had = truth_number l
 
 abbrev pub Lending : Call Token → (old new : Held) → (before after : TdsLent) → Result leases.Lent Stop → Type 0
 Lending call old new before after (Ok l) =
-    (number : ℕ) × (after ≡ plain_lent l) × DoesIt call old new (Lent l.lease l.number l.had) number []
+    (number : ℕ) × (after ≡ plain_lent l) × DoesIt call old new (Lent l.lease l.number l.had) number [] × Leaves old new
 Lending call old new before after (Err stop) = (new ≡ old) × (after ≡ before) × Stops call old 0 0 stop
 
 -- It is lent, or it isn't, as the number says.
@@ -64,7 +81,8 @@ Lends call old new before after n =
 -- ---- The end of a lease
 
 abbrev pub Ending : Call Token → (old new : Held) → (before after : ℕ) → Result (ℕ × Rest) Stop → Type 0
-Ending call old new before after (Ok done) = (after ≡ done.0) × DoesIt call old new (Back (rest_of done.1)) done.0 []
+Ending call old new before after (Ok done) =
+    (after ≡ done.0) × DoesIt call old new (Back (rest_of done.1)) done.0 [] × Leaves old new
 Ending call old new before after (Err stop) = (new ≡ old) × (after ≡ before) × Stops call old 0 0 stop
 
 abbrev pub ended_number : Result (ℕ × Rest) Stop → ℕ
@@ -86,7 +104,8 @@ pub record Buffer : Type 0 where
 
 abbrev pub Giving : ℕ → (old new : Held) → Buffer → (before after : ℕ) → Result (ℕ × Rest) Stop → Type 0
 Giving lease old new out before after (Ok done) =
-    (after ≡ done.0) × (out.count ≤ length out.after) × DoesIt (GiveBack lease) old new (Back (rest_of done.1)) done.0 (take out.count out.after)
+    (after ≡ done.0) × (out.count ≤ length out.after)
+    × DoesIt (GiveBack lease) old new (Back (rest_of done.1)) done.0 (take out.count out.after) × Leaves old new
 Giving lease old new out before after (Err stop) =
     (new ≡ old) × (after ≡ before) × (out.after ≡ out.before) × Stops (GiveBack lease) old (length out.before) out.count stop
 
@@ -97,7 +116,8 @@ GivesBack lease old new out before after n =
 -- ---- A ticket; a loss
 
 abbrev pub Keeping : ℕ → (old new : Held) → (before after : ℕ) → Result ℕ Stop → Type 0
-Keeping lease old new before after (Ok ticket) = (number : ℕ) × (after ≡ ticket) × DoesIt (Keep lease) old new (Ticket ticket) number []
+Keeping lease old new before after (Ok ticket) =
+    (number : ℕ) × (after ≡ ticket) × DoesIt (Keep lease) old new (Ticket ticket) number [] × Leaves old new
 Keeping lease old new before after (Err stop) = (new ≡ old) × (after ≡ before) × Stops (Keep lease) old 0 0 stop
 
 abbrev pub Keeps : ℕ → (old new : Held) → (before after : ℕ) → ℕ → Type 0
@@ -105,7 +125,7 @@ Keeps lease old new before after n =
     (answer : Result ℕ Stop) × (n ≡ done_number answer) × Keeping lease old new before after answer
 
 abbrev pub Losing : ℕ → (old new : Held) → Result (Unit {0}) Stop → Type 0
-Losing number old new (Ok x) = DoesIt (Lost number) old new (Back None) number []
+Losing number old new (Ok x) = DoesIt (Lost number) old new (Back None) number [] × Leaves old new
 Losing number old new (Err stop) = (new ≡ old) × Stops (Lost number) old 0 0 stop
 
 abbrev pub Loses : ℕ → (old new : Held) → ℕ → Type 0
@@ -138,7 +158,8 @@ DrainsNot number s refusals.Broken = ⊥
 DrainsNot number s refusals.Memory = ⊥
 
 abbrev pub Settling : ℕ → (old new : Held) → Result Rest Stop → Type 0
-Settling number old new (Ok rest) = Fits old × Drains number (table_of old.service old.seats) (table_of new.service new.seats) rest
+Settling number old new (Ok rest) =
+    Fits old × Drains number (table_of old.service old.seats) (table_of new.service new.seats) rest × Leaves old new
 Settling number old new (Err stops.NoTable) = (new ≡ old) × (length old.seats < old.service.count)
 Settling number old new (Err stops.NoRoom) = ⊥
 Settling number old new (Err stops.OutOfRange) = ⊥

@@ -8,7 +8,8 @@ ghost use Rattle.tds_service.specs.Line.{Act};
 ghost use Rattle.tds_service.specs.Service as calls;
 ghost use Rattle.tds_service.specs.Service.{Reply, Seat, does};
 ghost use Rattle.tds_service.specs.Table.{Refuses, Steps, rest_of};
-ghost use Rattle.tds_service_c.specs.Calls.{Drains, DrainsNot};
+ghost use Rattle.tds_service_c.specs.Calls.{Drains, DrainsNot, Leaves};
+ghost use Rattle.tds_service_c.specs.Clients.{apart};
 ghost use Rattle.tds_service_c.specs.Plain.{line_of, seat_of, table_of, used};
 ghost use Rattle.tds_service_c.specs.Table.{FirstMet, StopsAt};
 
@@ -29,12 +30,16 @@ pub(crate) fn settle(
 )
     requires fits { service.old.count ≤ length seats.old }
     requires within { index < service.old.count }
-    ensures { (test : Seat → Bool) (all : List (Act Token)) (reply : Reply) (c : TdsSeat)
+    ensures table { (test : Seat → Bool) (all : List (Act Token)) (reply : Reply) (c : TdsSeat)
         → c ≡ slice_index_or seats.old index c
         → FirstMet test (used service.old seats.old) index
         → seat.number ≡ c.number → line_of seat ≡ line_after (line_of c) all
         → table_of service.new seats.new ≡ (does (table_of service.old seats.old)
         service.old.given test (seat_of c) (rest_of rest) all reply).service }
+    ensures leaves { (c : TdsSeat) → c ≡ slice_index_or seats.old index c
+        → seat.number ≡ c.number → apart seat.client ≡ apart c.client
+        → Leaves (record { service = service.old; seats = seats.old })
+        (record { service = service.new; seats = seats.new }) }
 {
     match rest {
         Rest::Free => seats[index] = seat.at(Place::Free),
@@ -59,6 +64,8 @@ pub(crate) fn give_back(
         (table_of service.new seats.new) (calls.Back (rest_of done.1)) done.0
         [] (take count.new out.new)) }
     ensures room { OnOk result (count.new ≤ length out.new) }
+    ensures leaves { OnOk result (Leaves (record { service = service.old; seats = seats.old })
+        (record { service = service.new; seats = seats.new })) }
     ensures stopped { IfErr result (StopsAt (calls.GiveBack lease) (table_of service.old seats.old)
         (length out.old) count.new) }
     ensures err { OnErr result (service.new ≡ service.old) }
@@ -92,6 +99,8 @@ pub(crate) fn lost(
     requires fits { service.old.count ≤ length seats.old }
     ensures ok { OnOk result (Steps (calls.Lost number) (table_of service.old seats.old)
         (table_of service.new seats.new) (calls.Back None) number [] []) }
+    ensures leaves { OnOk result (Leaves (record { service = service.old; seats = seats.old })
+        (record { service = service.new; seats = seats.new })) }
     ensures refused { IfErr result (Refuses (calls.Lost number) (table_of service.old seats.old)) }
     ensures err { OnErr result (service.new ≡ service.old) }
     ensures same { OnErr result (seats.new ≡ seats.old) }
@@ -115,6 +124,8 @@ pub(crate) fn drained(
     requires fits { service.old.count ≤ length seats.old }
     ensures ok { IfOk result (Drains number (table_of service.old seats.old)
         (table_of service.new seats.new)) }
+    ensures leaves { OnOk result (Leaves (record { service = service.old; seats = seats.old })
+        (record { service = service.new; seats = seats.new })) }
     ensures refused { IfErr result (DrainsNot number (table_of service.old seats.old)) }
     ensures err { OnErr result (service.new ≡ service.old) }
     ensures same { OnErr result (seats.new ≡ seats.old) }

@@ -1,8 +1,9 @@
 //! Connections that are kept with their transaction, resumed, and given up; and those that are cleaned.
 
-ghost use Rattle.std.specs.Prelude.{◌≡◌, ◌≤◌, [], ℕ, length, IfOk, IfErr, OnErr};
+ghost use Rattle.std.specs.Prelude.{◌≡◌, ◌≤◌, [], ℕ, length, IfOk, IfErr, OnErr, OnOk};
 ghost use Rattle.tds_service.specs.Service as calls;
 ghost use Rattle.tds_service.specs.Table.{Refuses, Steps, rest_of};
+ghost use Rattle.tds_service_c.specs.Calls.{Leaves};
 ghost use Rattle.tds_service_c.specs.Plain.{table_of};
 
 use crate::giving::settle;
@@ -23,6 +24,8 @@ pub(crate) fn resume(
     ensures ok { IfOk result (λ lent. Steps (calls.Resume ticket) (table_of service.old seats.old)
         (table_of service.new seats.new) (calls.Lent lent.lease lent.number lent.had)
         lent.number [] []) }
+    ensures leaves { OnOk result (Leaves (record { service = service.old; seats = seats.old })
+        (record { service = service.new; seats = seats.new })) }
     ensures refused { IfErr result (Refuses (calls.Resume ticket)
         (table_of service.old seats.old)) }
     ensures err { OnErr result (service.new ≡ service.old) }
@@ -49,6 +52,8 @@ pub(crate) fn clean(
     ensures ok { IfOk result (λ lent. Steps (calls.Clean number) (table_of service.old seats.old)
         (table_of service.new seats.new) (calls.Lent lent.lease lent.number lent.had)
         lent.number [] []) }
+    ensures leaves { OnOk result (Leaves (record { service = service.old; seats = seats.old })
+        (record { service = service.new; seats = seats.new })) }
     ensures refused { IfErr result (Refuses (calls.Clean number)
         (table_of service.old seats.old)) }
     ensures err { OnErr result (service.new ≡ service.old) }
@@ -75,6 +80,8 @@ pub(crate) fn keep(
     ensures ok { IfOk result (λ ticket. (number : ℕ) × Steps (calls.Keep lease)
         (table_of service.old seats.old) (table_of service.new seats.new) (calls.Ticket ticket)
         number [] []) }
+    ensures leaves { OnOk result (Leaves (record { service = service.old; seats = seats.old })
+        (record { service = service.new; seats = seats.new })) }
     ensures refused { IfErr result (Refuses (calls.Keep lease) (table_of service.old seats.old)) }
     ensures err { OnErr result (service.new ≡ service.old) }
     ensures same { OnErr result (seats.new ≡ seats.old) }
@@ -101,6 +108,8 @@ pub(crate) fn abandon(
     requires fits { service.old.count ≤ length seats.old }
     ensures ok { IfOk result (λ done. Steps (calls.Abandon ticket) (table_of service.old seats.old)
         (table_of service.new seats.new) (calls.Back (rest_of done.1)) done.0 [] []) }
+    ensures leaves { OnOk result (Leaves (record { service = service.old; seats = seats.old })
+        (record { service = service.new; seats = seats.new })) }
     ensures refused { IfErr result (Refuses (calls.Abandon ticket)
         (table_of service.old seats.old)) }
     ensures err { OnErr result (service.new ≡ service.old) }
@@ -124,6 +133,8 @@ pub(crate) fn cleaned(
     requires fits { service.old.count ≤ length seats.old }
     ensures ok { IfOk result (λ done. Steps (calls.Cleaned lease) (table_of service.old seats.old)
         (table_of service.new seats.new) (calls.Back (rest_of done.1)) done.0 [] []) }
+    ensures leaves { OnOk result (Leaves (record { service = service.old; seats = seats.old })
+        (record { service = service.new; seats = seats.new })) }
     ensures refused { IfErr result (Refuses (calls.Cleaned lease)
         (table_of service.old seats.old)) }
     ensures err { OnErr result (service.new ≡ service.old) }

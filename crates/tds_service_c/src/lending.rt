@@ -1,12 +1,14 @@
 //! Connections that are lent: a free one, a new one, one that was kept, one to be cleaned.
 
 ghost use Rattle.std.specs.Prelude.{◌≡◌, ◌<◌, ◌≤◌, ◌+◌, [], ◌∷◌, Bool, Some, true, false, length, nat_lt, if◌then◌else◌};
-ghost use Rattle.std.specs.Prelude.{slice_index_or, IfOk, IfErr, OnErr};
+ghost use Rattle.std.specs.Prelude.{slice_index_or, IfOk, IfErr, OnErr, OnOk};
 ghost use Rattle.tds_service.specs.Line as line;
 ghost use Rattle.tds_service.specs.Service as calls;
 ghost use Rattle.tds_service.specs.Service.{Seat, does, is_idle};
 ghost use Rattle.tds_service.specs.Table.{Refuses, RefusesIn, Steps, StepsIn};
 ghost use Rattle.tds_service.specs.Table.{place_of as place_named};
+ghost use Rattle.tds_service_c.specs.Calls.{Leaves, new_apart};
+ghost use Rattle.tds_service_c.specs.Clients.{apart};
 ghost use Rattle.tds_service_c.specs.Plain.{seat_of, stage_of, table_of, used};
 ghost use Rattle.tds_service_c.specs.Table.{FirstMet};
 
@@ -42,12 +44,14 @@ pub(crate) fn lend_at(
     requires within { index < service.old.count }
     requires idle { (c : TdsSeat) → c ≡ slice_index_or seats.old index c
         → is_idle (stage_of c.client) ≡ true }
-    ensures { (test : Seat → Bool) (c : TdsSeat) → c ≡ slice_index_or seats.old index c
+    ensures lent { (test : Seat → Bool) (c : TdsSeat) → c ≡ slice_index_or seats.old index c
         → FirstMet test (used service.old seats.old) index
         → StepsIn (does (table_of service.old seats.old) lease test (seat_of c)
         (Some (place_named place)) (line.Mark reset ∷ []) (calls.Lent lease c.number true))
         (table_of service.new seats.new) (calls.Lent result.lease result.number result.had)
         result.number [] [] }
+    ensures leaves { Leaves (record { service = service.old; seats = seats.old })
+        (record { service = service.new; seats = seats.new }) }
 {
     let seat = seats[index];
     seats[index] = seat.marked(reset).at(place);
@@ -62,8 +66,9 @@ pub(crate) fn lend_at(
 /// A seat of a new connection, lent by this lease.
 #[tactic(auto, unfolding(crate::specs::Plain::stage_at, crate::specs::Plain::place_at, crate::specs::Plain::mark_of))]
 fn new_seat(number: u64, lease: u64, size: u16) -> TdsSeat
-    ensures { seat_of result
+    ensures seat { seat_of result
         ≡ record { number = number; place = calls.Leased lease; line = line.new_line } }
+    ensures apart { apart result.client ≡ new_apart size }
 {
     TdsSeat {
         client: TdsClient {
@@ -94,6 +99,8 @@ fn open(service: &mut TdsService, seats: &mut [TdsSeat], lease: u64) -> Result<L
         (nat_lt (length (table_of service.old seats.old).seats) (length seats.old)))
         (table_of service.new seats.new) (calls.Lent lent.lease lent.number lent.had) 0 [] []) }
     ensures had { IfOk result (λ lent. lent.had ≡ false) }
+    ensures leaves { OnOk result (Leaves (record { service = service.old; seats = seats.old })
+        (record { service = service.new; seats = seats.new })) }
     ensures refused { IfErr result (RefusesIn (table_of service.old seats.old)
         (calls.opens (table_of service.old seats.old)
         (nat_lt (length (table_of service.old seats.old).seats) (length seats.old)))) }
@@ -124,6 +131,8 @@ pub(crate) fn lease(service: &mut TdsService, seats: &mut [TdsSeat]) -> Result<L
     ensures ok { IfOk result (λ lent. Steps calls.Lease (table_of service.old seats.old)
         (table_of service.new seats.new) (calls.Lent lent.lease lent.number lent.had)
         (if lent.had then lent.number else 0) [] []) }
+    ensures leaves { OnOk result (Leaves (record { service = service.old; seats = seats.old })
+        (record { service = service.new; seats = seats.new })) }
     ensures refused { IfErr result (Refuses calls.Lease (table_of service.old seats.old)) }
     ensures err { OnErr result (service.new ≡ service.old) }
     ensures same { OnErr result (seats.new ≡ seats.old) }

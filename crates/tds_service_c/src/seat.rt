@@ -7,6 +7,7 @@ ghost use Rattle.tds_service.specs.Service.{clean_place, is_clean, is_idle, is_o
 ghost use Rattle.tds_service.specs.Table.{rest_of, rests_of};
 ghost use Rattle.tds_service.specs.Table.{place_of as place_named};
 ghost use Rattle.tds_service_c.specs.Calls.{drained_rest};
+ghost use Rattle.tds_service_c.specs.Clients.{apart};
 ghost use Rattle.tds_service_c.specs.Plain.{line_of, mark_of, place_of, seat_of, stage_of};
 ghost use Rattle.tds_service_c.specs.Table.{seen, wanted_test};
 
@@ -107,11 +108,12 @@ impl TdsSeat {
 
     /// The same seat, with this reset owed by its next request; of two the stronger one is.
     pub(crate) fn marked(self, reset: Reset) -> TdsSeat
-        ensures { seat_of result ≡ record {
+        ensures seat { seat_of result ≡ record {
           number = self.number;
           place = place_of self;
           line = line.marked (line_of self) reset;
         } }
+        ensures apart { apart result.client ≡ apart self.client }
     {
         let mut seat = self;
         seat.client.mark = stronger(reset, self.client.mark);

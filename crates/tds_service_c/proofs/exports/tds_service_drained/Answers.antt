@@ -14,7 +14,7 @@ returns-in-Err c = (
 )
 
 pub returns-in-Ok : goal.returns-in-Ok
-returns-in-Ok c = (Ok c.in-Ok.rest, c.rest_number.ensures, (c.in_default.ensures.yes, c.in-Ok.ensures.ok))
+returns-in-Ok c = (Ok c.in-Ok.rest, c.rest_number.ensures, (c.in_default.ensures.yes, c.in-Ok.ensures.ok, c.in-Ok.ensures.leaves))
 
 pub returns-in-Err-drained : goal.returns-in-Err-drained
 returns-in-Err-drained c = (

@@ -11,7 +11,7 @@ pub returns-in-Err : goal.returns-in-Err
 returns-in-Err c = (Err c.in-Err.stop, c.number.ensures, (refl, refl, subst (λ (stop : Stop). Stops (calls.Keep c.args.lease) (record { service = c.args.service.now; seats = c.args.seats.now }) 0 0 stop) (sym c.in-Err.ensures.no.0) c.in-Err.ensures.no.1))
 
 pub returns-in-Ok : goal.returns-in-Ok
-returns-in-Ok c = (Ok c.in-Ok.given, refl, (c.in-Ok.ensures.ok.0, refl, (c.in_default.ensures.yes, c.in-Ok.ensures.ok.1)))
+returns-in-Ok c = (Ok c.in-Ok.given, refl, (c.in-Ok.ensures.ok.0, refl, (c.in_default.ensures.yes, c.in-Ok.ensures.ok.1), c.in-Ok.ensures.leaves))
 
 pub returns-in-Err-keep : goal.returns-in-Err-keep
 returns-in-Err-keep c = (

@@ -11,7 +11,7 @@ pub returns-in-Err : goal.returns-in-Err
 returns-in-Err c = (Err c.in-Err.stop, c.write_lent.ensures.number, (refl, c.write_lent.ensures.err, subst (λ (stop : Stop). Stops (calls.Resume c.args.ticket) (record { service = c.args.service.now; seats = c.args.seats.now }) 0 0 stop) (sym c.in-Err.ensures.no.0) c.in-Err.ensures.no.1))
 
 pub returns-in-Ok : goal.returns-in-Ok
-returns-in-Ok c = (Ok c.in-Ok.l, c.write_lent-in-Ok.ensures.number, (_, c.write_lent-in-Ok.ensures.ok, (c.in_default.ensures.yes, c.in-Ok.ensures.ok)))
+returns-in-Ok c = (Ok c.in-Ok.l, c.write_lent-in-Ok.ensures.number, (_, c.write_lent-in-Ok.ensures.ok, (c.in_default.ensures.yes, c.in-Ok.ensures.ok), c.in-Ok.ensures.leaves))
 
 pub returns-in-Err-resume : goal.returns-in-Err-resume
 returns-in-Err-resume c = (

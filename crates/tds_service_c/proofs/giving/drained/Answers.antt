@@ -4,6 +4,7 @@ use Rattle.tds_service_c.specs.declared.plain.TdsSeat.{TdsSeat}
 use Rattle.tds_service_c.specs.Calls.{drained_rest}
 use Rattle.tds_service_c.specs.Plain.{line_of, place_of, seat_of, stage_of}
 use Rattle.tds_service_c.proofs.Steps.{here_in, same_seat}
+use Rattle.tds_service_c.specs.Clients.{apart}
 use Rattle.tds_service_c.proofs.giving.drained.Goals as goal
 
 pub returns-in_default-drained_rest-clause-refused : goal.returns-in_default-drained_rest-clause-refused
@@ -30,6 +31,15 @@ returns-clause-ok c =
       found = here.found;
       rests = c.in-Some-drained_rest.ensures ∙ ap (λ (z : TdsSeat). drained_rest (place_of z) (stage_of z.client)) (same_seat test s.count seats i here _);
       put =
-          c.settle.ensures test [] Did here.seat here.at here.first
+          c.settle.ensures.table test [] Did here.seat here.at here.first
           (ap (λ (z : TdsSeat). z.number) (same_seat test s.count seats i here _)) (ap line_of (same_seat test s.count seats i here _));
     }
+
+pub returns-clause-leaves : goal.returns-clause-leaves
+returns-clause-leaves c =
+    let s = c.args.service.now in
+    let seats = c.args.seats.now in
+    let i = c.in-Some.index in
+    let here = here_in (has_number c.args.number) s.count seats i c.requires.fits c.in-Some.ensures.first in
+    let same = same_seat (has_number c.args.number) s.count seats i here _ in
+    c.settle.ensures.leaves here.seat here.at (ap (λ (z : TdsSeat). z.number) same) (ap (λ (z : TdsSeat). apart z.client) same)

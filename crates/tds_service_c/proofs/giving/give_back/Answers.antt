@@ -8,6 +8,7 @@ use Rattle.tds_service_c.specs.declared.plain.TdsSeat.{TdsSeat}
 use Rattle.tds_service_c.specs.Plain.{line_of, table_of}
 use Rattle.tds_service_c.specs.Table.{written_bytes}
 use Rattle.tds_service_c.proofs.Steps.{gives_back, here_in, same_seat}
+use Rattle.tds_service_c.specs.Clients.{apart}
 use Rattle.tds_service_c.proofs.giving.give_back.Goals as goal
 
 pub returns-clause-ok : goal.returns-clause-ok
@@ -25,6 +26,16 @@ returns-clause-ok c =
     ∙ (take-append_seam copied behind ∙ (c.copy_from_slice.ensures.after ∙ c.as_slice-bytes.ensures)) in
     gives_back (table_of s seats) _ test s.count seats i here _ m rest _ (written_bytes c.written-written.result) refl (same_seat test s.count seats i here _)
     c.cancelled-cancelled.ensures.line c.rest-rest.ensures c.written-written.ensures.sent is
-    (c.settle.ensures test (Cancel ∷ []) (Back (rest_of rest)) here.seat here.at here.first
+    (c.settle.ensures.table test (Cancel ∷ []) (Back (rest_of rest)) here.seat here.at here.first
     (c.cancelled-cancelled.ensures.number ∙ ap (λ (z : TdsSeat). z.number) (same_seat test s.count seats i here _))
     (c.cancelled-cancelled.ensures.line ∙ ap (λ (z : TdsSeat). (turn {T = Token} (line_of z) Cancel).line) (same_seat test s.count seats i here _)))
+
+pub returns-clause-leaves : goal.returns-clause-leaves
+returns-clause-leaves c =
+    let s = c.args.service.now in
+    let seats = c.args.seats.now in
+    let i = c.in-Some.index in
+    let here = here_in (has_lease c.args.lease) s.count seats i c.requires.fits c.in-Some.ensures.first in
+    let same = same_seat (has_lease c.args.lease) s.count seats i here _ in
+    c.settle.ensures.leaves here.seat here.at (c.cancelled-cancelled.ensures.number ∙ ap (λ (z : TdsSeat). z.number) same)
+    (ap (λ (z : TdsSeat). apart z.client) c.cancelled-cancelled.ensures.is ∙ ap (λ (z : TdsSeat). apart z.client) same)

@@ -4,6 +4,7 @@ use Rattle.tds_service.specs.Table.{rest_of}
 use Rattle.tds_service_c.specs.declared.plain.TdsSeat.{TdsSeat}
 use Rattle.tds_service_c.specs.Plain.{line_of, table_of}
 use Rattle.tds_service_c.proofs.Steps.{abandons, here_in, same_seat}
+use Rattle.tds_service_c.specs.Clients.{apart}
 use Rattle.tds_service_c.proofs.keeping.abandon.Goals as goal
 
 pub returns-clause-ok : goal.returns-clause-ok
@@ -15,5 +16,14 @@ returns-clause-ok c =
     let here = here_in test s.count seats i c.requires.fits c.in-Some.ensures.first in
     let rest = c.rest-rest.result in
     abandons (table_of s seats) _ test s.count seats i here _ rest refl (same_seat test s.count seats i here _) c.rest-rest.ensures
-    (c.settle.ensures test [] (Back (rest_of rest)) here.seat here.at here.first
+    (c.settle.ensures.table test [] (Back (rest_of rest)) here.seat here.at here.first
     (ap (λ (z : TdsSeat). z.number) (same_seat test s.count seats i here _)) (ap line_of (same_seat test s.count seats i here _)))
+
+pub returns-clause-leaves : goal.returns-clause-leaves
+returns-clause-leaves c =
+    let s = c.args.service.now in
+    let seats = c.args.seats.now in
+    let i = c.in-Some.index in
+    let here = here_in (has_ticket c.args.ticket) s.count seats i c.requires.fits c.in-Some.ensures.first in
+    let same = same_seat (has_ticket c.args.ticket) s.count seats i here _ in
+    c.settle.ensures.leaves here.seat here.at (ap (λ (z : TdsSeat). z.number) same) (ap (λ (z : TdsSeat). apart z.client) same)

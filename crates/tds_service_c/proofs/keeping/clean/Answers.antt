@@ -25,4 +25,4 @@ returns-clause-ok c =
     let l = c.lend_at.result in
     cleans (table_of s seats) _ (seat_of here.seat) c.in_ok-lease.lease l.lease l.number l.had test here.found
     (ap (λ (z : TdsSeat). is_lendable (seat_of z)) (sym (same_seat test s.count seats i here _)) ∙ (sym c.is_wanted.ensures ∙ c.if-not-is_wanted.false))
-    c.in_ok-lease.ensures.value (c.lend_at.ensures test here.seat here.at here.first)
+    c.in_ok-lease.ensures.value (c.lend_at.ensures.lent test here.seat here.at here.first)

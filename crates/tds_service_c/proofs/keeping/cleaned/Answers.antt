@@ -4,6 +4,7 @@ use Rattle.tds_service.specs.Table.{rest_of}
 use Rattle.tds_service_c.specs.declared.plain.TdsSeat.{TdsSeat}
 use Rattle.tds_service_c.specs.Plain.{line_of, table_of}
 use Rattle.tds_service_c.proofs.Steps.{cleaned, here_in, not_cleaned, same_seat}
+use Rattle.tds_service_c.specs.Clients.{apart}
 use Rattle.tds_service_c.proofs.keeping.cleaned.Goals as goal
 
 pub returns-in_default-clean_rest-clause-refused : goal.returns-in_default-clean_rest-clause-refused
@@ -24,5 +25,14 @@ returns-clause-ok c =
     let here = here_in test s.count seats i c.requires.fits c.in-Some.ensures.first in
     let rest = c.in-Some-clean_rest.rest in
     cleaned (table_of s seats) _ test s.count seats i here _ rest refl (same_seat test s.count seats i here _) c.in-Some-clean_rest.ensures
-    (c.settle.ensures test [] (Back (rest_of rest)) here.seat here.at here.first
+    (c.settle.ensures.table test [] (Back (rest_of rest)) here.seat here.at here.first
     (ap (λ (z : TdsSeat). z.number) (same_seat test s.count seats i here _)) (ap line_of (same_seat test s.count seats i here _)))
+
+pub returns-clause-leaves : goal.returns-clause-leaves
+returns-clause-leaves c =
+    let s = c.args.service.now in
+    let seats = c.args.seats.now in
+    let i = c.in-Some.index in
+    let here = here_in (has_lease c.args.lease) s.count seats i c.requires.fits c.in-Some.ensures.first in
+    let same = same_seat (has_lease c.args.lease) s.count seats i here _ in
+    c.settle.ensures.leaves here.seat here.at (ap (λ (z : TdsSeat). z.number) same) (ap (λ (z : TdsSeat). apart z.client) same)

@@ -21,7 +21,7 @@ returns-in-Some-clause-ok c =
     let old = table_of s c.args.seats.now in
     let here = here_in is_lendable s.count c.args.seats.now c.in-Some.index c.requires.fits c.in-Some.ensures.first in
     leases old _ (seat_of here.seat) c.in_ok-lease.lease c.lend_at.result.lease c.lend_at.result.number c.lend_at.result.had here.found c.in_ok-lease.ensures.value
-    (c.lend_at.ensures is_lendable here.seat here.at here.first)
+    (c.lend_at.ensures.lent is_lendable here.seat here.at here.first)
 
 pub returns-in-None-clause-ok : goal.returns-in-None-clause-ok
 returns-in-None-clause-ok c =
