@@ -1,0 +1,135 @@
+//! What the relay orders is done.
+
+use super::Group;
+use crate::connection::Connection;
+use crate::tally::{Tally, Wrong, raise};
+use std::alloc::AllocError;
+use tds_relay::Order;
+
+/// A connection's tag is its number, and so many more.
+const TAGS: usize = 1_000;
+
+impl Group {
+    /// Does all that the relay orders behind a call, which this application caused or none, and looks at
+    /// what the relay has come to.
+    pub(super) fn settle(
+        &mut self,
+        cause: Option<usize>,
+        tally: &mut Tally,
+    ) -> Result<(), AllocError> {
+        let mut orders = Vec::new(self.alloc);
+        self.read_orders(cause, &mut orders, tally)?;
+        let mut place = 0usize;
+        for _ in 0..1_000 {
+            let Some(order) = orders.get(place).copied() else {
+                break;
+            };
+            place = place.saturating_add(1);
+            match order {
+                Order::Open(number) => self.opening(number)?,
+                Order::Write(_) => {}
+                Order::Close(tag) => {
+                    let closed = self.close(tag, tally)?;
+                    self.read_orders(closed, &mut orders, tally)?;
+                }
+            }
+        }
+        self.look_at_line(tally);
+        self.look_at_doomed(tally);
+        Ok(())
+    }
+
+    /// Takes the orders behind a call that this application caused, or none. Who is to be written to is
+    /// told; then what is sent on connections is looked at.
+    fn read_orders(
+        &mut self,
+        cause: Option<usize>,
+        orders: &mut Vec<Order>,
+        tally: &mut Tally,
+    ) -> Result<(), AllocError> {
+        let new = self.relay.orders();
+        for order in new.iter() {
+            if let Order::Write(tag) = *order {
+                self.tell(tag);
+            }
+        }
+        orders.extend_from_slice(new.as_slice())?;
+        self.look_at_connections(cause, tally)
+    }
+
+    fn tell(&mut self, tag: usize) {
+        if let Some(application) = self.application(tag) {
+            application.is_told = true;
+            return;
+        }
+        for connection in self.connections.iter_mut() {
+            if tag_of(connection) == Some(tag) {
+                connection.is_told = true;
+            }
+        }
+    }
+
+    fn opening(&mut self, number: u64) -> Result<(), AllocError> {
+        let connection = Connection::new(self.alloc, number);
+        if let Some(tag) = tag_of(&connection) {
+            self.relay.opening(number, tag);
+        }
+        self.connections.push(connection)?;
+        Ok(())
+    }
+
+    /// Closes what has this tag. Answers the application whose end the relay was told of.
+    fn close(&mut self, tag: usize, tally: &mut Tally) -> Result<Option<usize>, AllocError> {
+        if self.application(tag).is_some() {
+            return self.close_application(tag, tally);
+        }
+        let mut found = None;
+        for index in 0..self.connections.len() {
+            if let Some(connection) = self.connections.get(index) {
+                if tag_of(connection) == Some(tag) {
+                    found = Some(index);
+                    if !connection.is_doomed {
+                        tally.note(Wrong::ConnectionClosed);
+                    }
+                }
+            }
+        }
+        if let Some(index) = found {
+            if index < self.connections.len() {
+                self.connections.remove(index);
+            }
+        }
+        Ok(None)
+    }
+
+    /// The relay closes an application, behind what waits for it.
+    fn close_application(
+        &mut self,
+        place: usize,
+        tally: &mut Tally,
+    ) -> Result<Option<usize>, AllocError> {
+        let Group {
+            relay,
+            applications,
+            ..
+        } = self;
+        let Some(Some(application)) = applications.get_mut(place) else {
+            return Ok(None);
+        };
+        if !application.is_doomed {
+            tally.note(Wrong::Closed);
+        }
+        application.hear(relay.unsent(application.key), tally)?;
+        application.hear_close(tally);
+        raise(&mut tally.closed);
+        let Some(key) = self.take_out(place) else {
+            return Ok(None);
+        };
+        self.relay.left(key)?;
+        Ok(Some(key))
+    }
+}
+
+fn tag_of(connection: &Connection) -> Option<usize> {
+    Some(TAGS.saturating_add(connection.number as usize))
+}

@@ -1,0 +1,167 @@
+//! What applications ask, in a language of the bench's own: a relay doesn't look into a request's body.
+
+use crate::packets::{BULK_LOAD, MOST, RESETS, RESETS_BUT_TRANSACTION, put_packet};
+use std::alloc::{AllocError, Global};
+use tds_packet::Reset;
+
+#[derive(Clone, Copy, Debug, PartialEq, Eq)]
+pub(crate) enum Deed {
+    /// A return status: the setting.
+    Get,
+    Set(u8),
+    Begin,
+    Commit,
+    /// So many rows.
+    Rows(u8),
+    /// Another database, which the server tells.
+    Use(u8),
+}
+
+impl Deed {
+    /// Whether it leaves the session as it is.
+    pub(crate) fn only_reads(self) -> bool {
+        matches!(self, Deed::Get | Deed::Rows(_))
+    }
+
+    fn bytes(self) -> (u8, u8) {
+        match self {
+            Deed::Get => (1, 0),
+            Deed::Set(value) => (2, value),
+            Deed::Begin => (3, 0),
+            Deed::Commit => (4, 0),
+            Deed::Rows(count) => (5, count),
+            Deed::Use(name) => (6, name),
+        }
+    }
+
+    fn read(code: u8, value: u8) -> Option<Deed> {
+        match code {
+            1 => Some(Deed::Get),
+            2 => Some(Deed::Set(value)),
+            3 => Some(Deed::Begin),
+            4 => Some(Deed::Commit),
+            5 => Some(Deed::Rows(value)),
+            6 => Some(Deed::Use(value)),
+            _ => None,
+        }
+    }
+}
+
+/// A request of a session, by its number there.
+#[derive(Clone, Copy, Debug)]
+pub(crate) struct Request {
+    pub(crate) session: u32,
+    pub(crate) number: u8,
+    pub(crate) deed: Deed,
+    /// How many bytes stand behind that, by which it is seen that all of a body comes, in order.
+    pub(crate) padding: u16,
+}
+
+impl Request {
+    fn byte_at(&self, place: u16) -> u8 {
+        let number = self
+            .session
+            .wrapping_mul(31)
+            .wrapping_add(u32::from(self.number).wrapping_mul(7))
+            .wrapping_add(u32::from(place).wrapping_mul(13));
+        (number % 251) as u8
+    }
+
+    /// Appends its body.
+    pub(crate) fn put_body(&self, out: &mut Vec<u8>) -> Result<(), AllocError> {
+        let (code, value) = self.deed.bytes();
+        out.extend_from_slice(&[code, value])?;
+        out.extend_from_slice(&self.session.to_le_bytes())?;
+        out.extend_from_slice(&[self.number])?;
+        out.extend_from_slice(&self.padding.to_le_bytes())?;
+        for place in 0..self.padding {
+            out.push(self.byte_at(place))?;
+        }
+        Ok(())
+    }
+
+    /// The request whose body these bytes are, all of them.
+    pub(crate) fn read(body: &[u8]) -> Option<Request> {
+        let [code, value, a, b, c, d, number, low, high, padding @ ..] = body else {
+            return None;
+        };
+        let request = Request {
+            session: u32::from_le_bytes([*a, *b, *c, *d]),
+            number: *number,
+            deed: Deed::read(*code, *value)?,
+            padding: u16::from_le_bytes([*low, *high]),
+        };
+        if request.has_padding(padding) {
+            Some(request)
+        } else {
+            None
+        }
+    }
+
+    fn has_padding(&self, padding: &[u8]) -> bool {
+        if padding.len() != usize::from(self.padding) {
+            return false;
+        }
+        let mut place = 0u16;
+        for byte in padding {
+            if *byte != self.byte_at(place) {
+                return false;
+            }
+            place = place.saturating_add(1);
+        }
+        true
+    }
+}
+
+/// The bits of a status that ask for this reset.
+fn reset_bits(reset: Option<Reset>) -> u8 {
+    match reset {
+        None => 0,
+        Some(Reset::Full) => RESETS,
+        Some(Reset::KeepTransaction) => RESETS_BUT_TRANSACTION,
+    }
+}
+
+/// A message's data: ALL_HEADERS with this descriptor, where its type has them (MS-TDS 2.2.5.3), and the body.
+pub(crate) fn message_data(
+    alloc: Global,
+    kind: u8,
+    descriptor: u64,
+    request: &Request,
+) -> Result<Vec<u8>, AllocError> {
+    let mut out = Vec::new(alloc);
+    if kind != BULK_LOAD {
+        out.extend_from_slice(&[22, 0, 0, 0, 18, 0, 0, 0, 2, 0])?;
+        out.extend_from_slice(&descriptor.to_le_bytes())?;
+        out.extend_from_slice(&[1, 0, 0, 0])?;
+    }
+    request.put_body(&mut out)?;
+    Ok(out)
+}
+
+/// Appends these data in packets of at most so many bytes of data; the last one has this status too. No more
+/// than so many packets.
+pub(crate) fn put_data(
+    out: &mut Vec<u8>,
+    kind: u8,
+    reset: Option<Reset>,
+    data: &[u8],
+    size: usize,
+    last: u8,
+) -> Result<(), AllocError> {
+    let mut rest = data;
+    let mut status = reset_bits(reset);
+    for _ in 0..data.len() {
+        let (part, others) = rest.split_at(size.max(1).min(MOST).min(rest.len()));
+        if others.is_empty() {
+            status |= last;
+        }
+        put_packet(out, kind, status, part)?;
+        status = 0;
+        rest = others;
+        if rest.is_empty() {
+            break;
+        }
+    }
+    Ok(())
+}

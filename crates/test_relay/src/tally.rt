@@ -1,0 +1,116 @@
+//! What was seen, and what was wrong.
+
+/// What a relay did wrong.
+#[derive(Clone, Copy, Debug, PartialEq, Eq)]
+pub(crate) enum Wrong {
+    /// An application got other bytes than a server of its own would send.
+    Answer,
+    /// It got a message that it didn't wait for.
+    Unasked,
+    /// It got something else than the acknowledgement of its attention.
+    Acknowledgement,
+    /// It was closed without a reason.
+    Closed,
+    /// It wasn't closed, or its connection wasn't, though there was a reason.
+    KeptOpen,
+    /// A connection was closed without a reason.
+    ConnectionClosed,
+    /// A connection was let go and not cleaned, nor its request cancelled, in the same call; or not cleaned
+    /// in the call in which it had drained.
+    Orphan,
+    /// A connection was cleaned that somebody held, or that was clean; or a cleaning asks for no reset.
+    Cleaning,
+    /// It was lent, or asked, before it was clean.
+    Unclean,
+    /// An attention went out that its application didn't cause, or that nothing was there for.
+    Astray,
+    /// Who came later was lent a connection earlier.
+    OutOfLine,
+    /// Somebody waits though there is a connection, or may be one more.
+    Unserved,
+    /// A request came to the server with another transaction than the session's.
+    Transaction,
+    /// It came with another body than it was sent with.
+    Body,
+    /// Nothing goes on.
+    Stuck,
+}
+
+#[derive(Clone, Copy)]
+pub(crate) struct Tally {
+    pub(crate) sessions: u64,
+    pub(crate) answers: u64,
+    /// Attentions whose acknowledgement came, and those of them that cut an answer.
+    pub(crate) cancels: u64,
+    pub(crate) cut_answers: u64,
+    /// Resets that applications asked for.
+    pub(crate) resets: u64,
+    /// Sessions that ended in the middle of something.
+    pub(crate) left: u64,
+    /// Sessions that were closed, each for a reason.
+    pub(crate) closed: u64,
+    pub(crate) opened: u64,
+    pub(crate) cleaned: u64,
+    /// Connections that were cut, and those whose server broke the protocol.
+    pub(crate) lost: u64,
+    pub(crate) broken: u64,
+    pub(crate) wrong: u64,
+    pub(crate) first: Option<(Wrong, u64)>,
+}
+
+impl Tally {
+    pub(crate) fn none() -> Tally {
+        Tally {
+            sessions: 0,
+            answers: 0,
+            cancels: 0,
+            cut_answers: 0,
+            resets: 0,
+            left: 0,
+            closed: 0,
+            opened: 0,
+            cleaned: 0,
+            lost: 0,
+            broken: 0,
+            wrong: 0,
+            first: None,
+        }
+    }
+
+    pub(crate) fn note(&mut self, wrong: Wrong) {
+        self.wrong = self.wrong.saturating_add(1);
+        if self.first.is_none() {
+            self.first = Some((wrong, self.sessions));
+        }
+    }
+
+    pub(crate) fn note_any(&mut self, wrong: Option<Wrong>) {
+        if let Some(wrong) = wrong {
+            self.note(wrong);
+        }
+    }
+
+    /// The least often that a kind of thing has happened.
+    pub(crate) fn least(&self) -> u64 {
+        let mut least = u64::MAX;
+        for count in [
+            self.answers,
+            self.cancels,
+            self.cut_answers,
+            self.resets,
+            self.left,
+            self.closed,
+            self.opened,
+            self.cleaned,
+            self.lost,
+            self.broken,
+        ] {
+            least = least.min(count);
+        }
+        least
+    }
+}
+
+pub(crate) fn raise(count: &mut u64) {
+    *count = count.saturating_add(1);
+}
