@@ -2,8 +2,8 @@
 use Rattle.std.specs.Prelude.{ℕ, nat_lt, Option, Some, None, if◌then◌else◌}
 use Rattle.tds_world.specs.declared.event.Setup.{Setup}
 use Rattle.tds_world.specs.Bounds.{is_in_range}
-use Rattle.tds_play.specs.declared.playing.PlayRefusal.{PlayRefusal}
-use Rattle.tds_play.specs.declared.playing.PlayRefusal.TheVariants.{TooManyEvents, WrongSetup, Memory}
+use Rattle.tds_play.specs.declared.refusal.PlayRefusal.{PlayRefusal}
+use Rattle.tds_play.specs.declared.refusal.PlayRefusal.TheVariants.{TooManyEvents, WrongSetup, Memory}
 
 -- The numbers of the refusals.
 abbrev pub play_refusal_number : PlayRefusal → ℕ

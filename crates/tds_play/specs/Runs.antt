@@ -16,8 +16,8 @@ use Rattle.tds_play.specs.Pipe.{Pipe}
 use Rattle.tds_play.specs.Refused.{first_refusal, play_refusal_number}
 use Rattle.tds_text.specs.declared.schedule.fault.ScheduleFault.{ScheduleFault}
 use Rattle.tds_text.specs.declared.schedule.fault.ScheduleFault.TheVariants as schedule
-use Rattle.tds_play.specs.declared.playing.PlayRefusal.{PlayRefusal}
-use Rattle.tds_play.specs.declared.playing.PlayRefusal.TheVariants as play
+use Rattle.tds_play.specs.declared.refusal.PlayRefusal.{PlayRefusal}
+use Rattle.tds_play.specs.declared.refusal.PlayRefusal.TheVariants as play
 use Rattle.tds_play.specs.declared.run.RunFault.{RunFault}
 use Rattle.tds_play.specs.declared.run.RunFault.TheVariants as run
 

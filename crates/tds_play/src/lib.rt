@@ -11,6 +11,7 @@ mod memory;
 mod player;
 mod playing;
 mod pool;
+mod refusal;
 mod request;
 mod run;
 mod seat;
@@ -18,7 +19,8 @@ mod worlds;
 
 pub use carrier::{Carrier, CarrierError};
 pub use memory::MemoryCarrier;
-pub use playing::{PlayRefusal, play, play_with};
+pub use playing::{play, play_with};
+pub use refusal::PlayRefusal;
 pub use run::{play_text, run_play};
 
 /// The texts of a play.

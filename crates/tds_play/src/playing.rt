@@ -7,12 +7,12 @@ ghost use Rattle.tds_play.specs.Failures.{FailNowhere, TellFailures};
 ghost use Rattle.tds_play.specs.Player.{AreHeld, RepresentsWorld, all_of};
 ghost use Rattle.tds_play.specs.Pipe.{AreFaithful};
 ghost use Rattle.tds_play.specs.Reads.{TellsGiven};
-ghost use Rattle.tds_play.specs.Refused.{first_refusal, play_refusal_number};
+ghost use Rattle.tds_play.specs.Refused.{first_refusal};
 ghost use Rattle.tds_play.specs.WholePlay.{CarriesBytesOf, CutsThoseOf, HandsBytesOf, IsReportOfPlay, IsWholePlayOf, world_of};
 ghost use Rattle.tds_play.specs.Steps.{AreFew, StandsThen};
 ghost use Rattle.tds_play.specs.Stopping.{AllStop};
-ghost use Rattle.tds_play.specs.declared.playing.PlayRefusal.TheVariants.{Memory};
-ghost use Rattle.tds_play.specs.declared.playing.PlayRefusal.{PlayRefusal};
+ghost use Rattle.tds_play.specs.declared.refusal.PlayRefusal.TheVariants.{Memory};
+ghost use Rattle.tds_play.specs.declared.refusal.PlayRefusal.{PlayRefusal};
 ghost use Rattle.tds_session.specs.Answer.{answer_of, script_answers};
 ghost use Rattle.tds_world.specs.Descriptors.{UseFewDescriptors};
 ghost use Rattle.tds_world.specs.LeftClean.{AnswersClean};
@@ -34,8 +34,9 @@ use crate::NoMemory;
 use crate::carrier::Carrier;
 use crate::player::Player;
 use crate::pool::next_number;
+use crate::refusal::PlayRefusal;
 use crate::worlds::worlds_hold;
-use std::alloc::{AllocError, AllocFailed, Global};
+use std::alloc::Global;
 use tds_packet::PacketSize;
 use tds_request::Request;
 use tds_session::{Engine, ScriptEngine};
@@ -51,50 +52,6 @@ use tds_world::{Event, EventReport, Report, Sequence, Setup};
 
 /// How many events a schedule may have.
 const EVENT_LIMIT: usize = 10_000;
-
-/// Why there is no report.
-#[derive(Debug, Drop)]
-pub enum PlayRefusal {
-    /// 1: there are more than 10,000 events.
-    TooManyEvents,
-    /// 2: the packet size is not 512 to 32,767, or the number of connections not 1 to 64.
-    WrongSetup,
-    /// 3: a growth was refused. The carrier may have been used.
-    Memory,
-}
-
-impl PlayRefusal {
-    /// The refusal's number, 1 to 3.
-    pub fn number(&self) -> u8
-        ensures { result ≡ play_refusal_number self.now }
-    {
-        match self {
-            PlayRefusal::TooManyEvents => 1,
-            PlayRefusal::WrongSetup => 2,
-            PlayRefusal::Memory => 3,
-        }
-    }
-}
-
-impl From<AllocError> for PlayRefusal {
-    ghost use Rattle.tds_play.specs.declared.playing.PlayRefusal.TheVariants.{Memory};
-
-    ghost from_gives = { λ _ refusal. refusal ≡ Memory };
-
-    fn from(_: AllocError) -> PlayRefusal {
-        PlayRefusal::Memory
-    }
-}
-
-impl<T: Drop> From<AllocFailed<T>> for PlayRefusal {
-    ghost use Rattle.tds_play.specs.declared.playing.PlayRefusal.TheVariants.{Memory};
-
-    ghost from_gives = { λ _ refusal. refusal ≡ Memory };
-
-    fn from(_: AllocFailed<T>) -> PlayRefusal {
-        PlayRefusal::Memory
-    }
-}
 
 /// Plays a schedule from nothing: both ends of each connection, over bytes that the carrier brings.
 /// The servers know the batch language.
@@ -156,8 +113,8 @@ pub fn play<C: Carrier>(
         (C.began carrier.new) (C.pipes carrier.new)) }
     ensures unfailing { AreFaithful (C.pipes carrier.new) → FailNowhere (C.pipes carrier.new)
         → IfOk result MarksNothing }
-    // Each caller gets the answer to its own request, run in the transaction that it was in, and
-    // nothing of it after a cancel.
+    // Each caller gets a beginning of the answer to its own request, all of it where finished, run in
+    // the transaction that it was in; and nothing more of one that stands as cancelled.
     ensures own_answers { AreFaithful (C.pipes carrier.new)
         → IfOk result (ShowsOwnAnswers script_answers events.now) }
     ensures own_transaction { AreFaithful (C.pipes carrier.new)

@@ -9,7 +9,8 @@ ghost use Rattle.tds_play.specs.declared.run.RunFault.{RunFault};
 ghost use Rattle.tds_play.specs.declared.run.RunFault.TheVariants.{Output, Memory};
 
 use crate::carrier::Carrier;
-use crate::playing::{PlayRefusal, play};
+use crate::playing::play;
+use crate::refusal::PlayRefusal;
 use std::alloc::{AllocError, Global};
 use std::io::{ErrorKind, Read, Write};
 use tds_text::{RenderFault, ScheduleFault, read_schedule, render, write_whole};

@@ -3,8 +3,8 @@ use Rattle.std.specs.Prelude.{ℕ, ◌≡◌, ◌⊎◌, ◌++◌, List, Option,
 use Rattle.std.specs.Io.KnownBytes.{Keeps}
 use Rattle.tds_play.specs.Refused.{play_refusal_number}
 use Rattle.tds_play.specs.Runs.{AreLeft, IsRefused}
-use Rattle.tds_play.specs.declared.playing.PlayRefusal.{PlayRefusal}
-use Rattle.tds_play.specs.declared.playing.PlayRefusal.TheVariants as play
+use Rattle.tds_play.specs.declared.refusal.PlayRefusal.{PlayRefusal}
+use Rattle.tds_play.specs.declared.refusal.PlayRefusal.TheVariants as play
 use Rattle.tds_text.specs.Files.{IsNoJson, IsWrongAt}
 use Rattle.tds_text.specs.Texts.{line_feed}
 use Rattle.tds_text.specs.Written.{WritesBeginning}

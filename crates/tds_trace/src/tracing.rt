@@ -3,8 +3,8 @@ ghost use Rattle.std.specs.Prelude.{◌≡◌, ◌≢◌, length, None, Some, Er
 ghost use Rattle.tds_trace.specs.Calls.{AreCallsOf};
 ghost use Rattle.tds_trace.specs.Turns.{AreCallsOfPlay};
 ghost use Rattle.tds_play.specs.Refused.{first_refusal};
-ghost use Rattle.tds_play.specs.declared.playing.PlayRefusal.{PlayRefusal};
-ghost use Rattle.tds_play.specs.declared.playing.PlayRefusal.TheVariants.{Memory};
+ghost use Rattle.tds_play.specs.declared.refusal.PlayRefusal.{PlayRefusal};
+ghost use Rattle.tds_play.specs.declared.refusal.PlayRefusal.TheVariants.{Memory};
 ghost use Rattle.tds_session.specs.Answer.{script_answers};
 ghost use Rattle.tds_world.specs.Events.{world_after};
 ghost use Rattle.tds_world.specs.Losses.{marked};
