@@ -1,6 +1,6 @@
 //! What an application's end promises whoever connects, over any list of packets and of what is heard
 //! of the server. Each function does nothing when it runs: its contract is the law.
-ghost use Rattle.std.specs.Prelude.{◌≡◌, ◌≤◌, ◌+◌, List, true, false, Ok, Err};
+ghost use Rattle.std.specs.Prelude.{◌≡◌, ◌≤◌, ◌+◌, List, None, true, false, Ok, Err};
 ghost use Rattle.tds_packet.specs.Layout.{bits_of, has_bit};
 ghost use Rattle.tds_front.specs.declared.fault.FrontFault.{FrontFault};
 ghost use Rattle.tds_front.specs.declared.stage.Head.{Head};
@@ -9,7 +9,17 @@ ghost use Rattle.tds_front.specs.declared.stage.Stage.TheVariants as stages;
 ghost use Rattle.tds_front.specs.declared.stage.Deed.TheVariants as deeds;
 ghost use Rattle.tds_front.specs.Promises.{Event, count, handed_in, here_in, is_gone, is_passed, is_whole};
 ghost use Rattle.tds_front.specs.Promises.{settled_in, taken_in};
+ghost use Rattle.tds_front.specs.Passing as passing;
 ghost use Rattle.tds_front.specs.Rules.{taken};
+ghost use Rattle.tds_front.specs.Serving.{IsLawful, Ready};
+
+/// An application's end is a lawful server's towards whoever connects, where what is behind it is a
+/// lawful server's end towards what goes on.
+pub fn lawful_front()
+    ensures { (events : List passing.Event) → passing.EndsWhole stages.Quiet events
+        → IsLawful Ready (passing.behind stages.Quiet events)
+        → IsLawful Ready (passing.towards None stages.Quiet events) }
+{}
 
 /// Each attention that is taken has one acknowledgement: the relay's, or the server's, which is handed
 /// it. And of those that were handed on no second one is before the first one's acknowledgement.
