@@ -4,3 +4,4 @@ pub mod Bytes
 pub mod Promises
 pub mod Serving
 pub mod Passing
+pub mod Exchanges

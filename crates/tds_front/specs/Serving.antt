@@ -73,8 +73,8 @@ MayGo place reply = ⊥
 abbrev pub behind_reply : Place → Reply → Place
 behind_reply place Tokens = place
 behind_reply (Stopping answering) Ends = Stopping false
-behind_reply place Ends = Ready
-behind_reply place Acknowledges = Ready
+behind_reply Broken reply = Broken
+behind_reply place reply = Ready
 
 -- It closes the connection only where the client broke the protocol.
 abbrev pub IsLawful : Place → List Happening → Type 0

@@ -11,7 +11,8 @@ ghost use Rattle.tds_front.specs.Promises.{Event, count, handed_in, here_in, is_
 ghost use Rattle.tds_front.specs.Promises.{settled_in, taken_in};
 ghost use Rattle.tds_front.specs.Passing as passing;
 ghost use Rattle.tds_front.specs.Rules.{taken};
-ghost use Rattle.tds_front.specs.Serving.{IsLawful, Ready};
+ghost use Rattle.tds_front.specs.Serving.{Broken, Happening, IsLawful, Ready};
+ghost use Rattle.tds_front.specs.Exchanges.{IsFront, IsSilent, place_after};
 
 /// An application's end is a lawful server's towards whoever connects, where what is behind it is a
 /// lawful server's end towards what goes on.
@@ -19,6 +20,17 @@ pub fn lawful_front()
     ensures { (events : List passing.Event) → passing.EndsWhole stages.Quiet events
         → IsLawful Ready (passing.behind stages.Quiet events)
         → IsLawful Ready (passing.towards None stages.Quiet events) }
+{}
+
+/// What is lawful is exchanges, one behind the other, of which the last may go on: up to a fault, and no
+/// packet of an exchange is one. Behind a fault nothing goes to the client.
+pub fn exchanges()
+    ensures each { (happenings : List Happening) → IsFront happenings → IsLawful Ready happenings }
+    ensures only { (happenings : List Happening) → IsLawful Ready happenings
+        → (place_after Ready happenings ≡ Broken → ⊥) → IsFront happenings }
+    ensures no_fault { (happenings : List Happening) → IsFront happenings
+        → place_after Ready happenings ≡ Broken → ⊥ }
+    ensures silent { (happenings : List Happening) → IsLawful Broken happenings → IsSilent happenings }
 {}
 
 /// Each attention that is taken has one acknowledgement: the relay's, or the server's, which is handed
