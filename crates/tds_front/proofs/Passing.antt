@@ -15,7 +15,7 @@ use Rattle.tds_front.specs.declared.stage.Stage.TheVariants.{Quiet, Receiving, U
 use Rattle.tds_front.specs.Rules.{attended, attention, breaks, moves, of_request, refuses, stops, taken, taken_as}
 use Rattle.tds_front.specs.Serving as serving
 use Rattle.tds_front.specs.Serving.{Brought, More, Whole, Ignored, Attention, Wrong, Reply, Tokens, Ends, Acknowledges, Place, Ready, Executing, IsLawful, MayGo, begun_behind, begun_by, behind_brought, brings, brought_apart, brought_as, brought_by, brought_first, brought_in}
-use Rattle.tds_front.specs.Passing.{Event, Packet, GoesOn, Says, EndsWhole, behind, towards, with_own, with_told}
+use Rattle.tds_front.specs.Passing.{Event, Packet, Refuses, GoesOn, Says, EndsWhole, behind, towards, with_own, with_told}
 
 -- ---- Behind a fault
 
@@ -37,6 +37,7 @@ closed fault begun [] = tt
 closed fault begun (Packet head ∷ events) =
     subst (λ (m : Move). IsLawful serving.Broken (with_own m.does (towards (begun_behind begun head) m.stage events)))
     (sym (breaks_again fault head head.kind)) (refl, closed fault (begun_behind begun head) events)
+closed fault begun (Refuses other ∷ events) = (refl, closed fault None events)
 closed fault begun (GoesOn last ∷ events) = closed fault begun events
 closed fault begun (Says Tokens ∷ events) = closed fault begun events
 closed fault begun (Says Ends ∷ events) = closed fault begun events
@@ -231,6 +232,14 @@ packet_step events later stage answering place ties head kinds.Answer = wrong_st
 packet_step events later stage answering place ties head kinds.Attention =
     attended_step events later stage answering place ties head.kind ((bits_of head.status == 1) && (head.count == 0))
 
+refuses_on : (events : List Event) (stage : Stage) (answering : Bool) (place : Place) (fault : FrontFault) → EndsWhole stage (Refuses fault ∷ events)
+    → IsLawful place (behind stage (Refuses fault ∷ events)) → IsLawful (place_of stage answering) (towards (begun_of stage) stage (Refuses fault ∷ events))
+refuses_on events Quiet answering place fault w l = wrong_step events Quiet answering place kinds.Batch fault w l
+refuses_on events (Receiving kind gone) answering place fault w l = wrong_step events (Receiving kind gone) answering place kinds.Batch fault w l
+refuses_on events (Underway gone) answering place fault w l = wrong_step events (Underway gone) answering place kinds.Batch fault w l
+refuses_on events Stopping answering place fault w l = wrong_step events Stopping answering place kinds.Batch fault w l
+refuses_on events (Broken first) answering place fault w l = wrong_step events (Broken first) answering place kinds.Batch fault w l
+
 -- ---- What goes on
 
 still_idle : (place : Place) → IsIdle place → IsIdle (behind_brought place More)
@@ -320,5 +329,6 @@ says events later (Broken fault) answering place ties reply w l = closed fault N
 pub passes : (events : List Event) → Passes events
 passes [] stage answering place ties w l = tt
 passes (Packet head ∷ events) stage answering place ties w l = packet_step events (passes events) stage answering place ties head head.kind w l
+passes (Refuses fault ∷ events) stage answering place ties w l = refuses_on events stage answering place fault w l
 passes (GoesOn last ∷ events) stage answering place ties w l = goes_on events (passes events) stage answering place ties last w l
 passes (Says reply ∷ events) stage answering place ties w l = says events (passes events) stage answering place ties reply w l

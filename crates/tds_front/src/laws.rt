@@ -1,6 +1,6 @@
 //! What an application's end promises whoever connects, over any list of packets and of what is heard
 //! of the server. Each function does nothing when it runs: its contract is the law.
-ghost use Rattle.std.specs.Prelude.{◌≡◌, ◌≤◌, ◌+◌, List, None, true, false, Ok, Err};
+ghost use Rattle.std.specs.Prelude.{◌≡◌, ◌≤◌, ◌+◌, ℕ, List, None, true, false, Ok, Err};
 ghost use Rattle.tds_packet.specs.Layout.{bits_of, has_bit};
 ghost use Rattle.tds_front.specs.declared.fault.FrontFault.{FrontFault};
 ghost use Rattle.tds_front.specs.declared.stage.Head.{Head};
@@ -9,7 +9,10 @@ ghost use Rattle.tds_front.specs.declared.stage.Stage.TheVariants as stages;
 ghost use Rattle.tds_front.specs.declared.stage.Deed.TheVariants as deeds;
 ghost use Rattle.tds_front.specs.Promises.{Event, count, handed_in, here_in, is_gone, is_passed, is_whole};
 ghost use Rattle.tds_front.specs.Promises.{settled_in, taken_in};
+ghost use Rattle.tds_front.specs.declared.front.Front.{Front};
+ghost use Rattle.tds_front.specs.Bytes.{fed};
 ghost use Rattle.tds_front.specs.Passing as passing;
+ghost use Rattle.tds_front.specs.Passing.{SaysOf, judged, stage_fed};
 ghost use Rattle.tds_front.specs.Rules.{taken};
 ghost use Rattle.tds_front.specs.Serving.{Broken, Happening, IsLawful, Ready};
 ghost use Rattle.tds_front.specs.Exchanges.{IsFront, IsSilent, place_after};
@@ -20,6 +23,15 @@ pub fn lawful_front()
     ensures { (events : List passing.Event) → passing.EndsWhole stages.Quiet events
         → IsLawful Ready (passing.behind stages.Quiet events)
         → IsLawful Ready (passing.towards None stages.Quiet events) }
+{}
+
+/// A call with bytes is what `lawful_front` calls a packet where a packet's header ends with them, and
+/// a refusal where it answers one; it says of the packet what is done.
+pub fn bytes_are_packets()
+    ensures stage { (front : Front) (bytes : List ℕ) → (fed front bytes).front.stage
+        ≡ stage_fed front.stage (judged front.due bytes) (fed front bytes).brings }
+    ensures says { (front : Front) (bytes : List ℕ)
+        → SaysOf front.stage (judged front.due bytes) (fed front bytes).brings }
 {}
 
 /// What is lawful is exchanges, one behind the other, of which the last may go on: up to a fault, and no

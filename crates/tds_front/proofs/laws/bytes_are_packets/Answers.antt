@@ -1,0 +1,8 @@
+use Rattle.tds_front.proofs.Packets.{fits}
+use Rattle.tds_front.proofs.laws.bytes_are_packets.Goals as goal
+
+pub returns-clause-stage : goal.returns-clause-stage
+returns-clause-stage c = λ front bytes. (fits front bytes).0
+
+pub returns-clause-says : goal.returns-clause-says
+returns-clause-says c = λ front bytes. (fits front bytes).1
