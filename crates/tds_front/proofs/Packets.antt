@@ -3,7 +3,6 @@ use Rattle.std.proofs.Common.{◌≡◌, ℕ, ◌==◌, ◌&&◌, nat_lt, Bool, 
 use Rattle.std.specs.Prelude.{Option, Some, None, Result, Ok, Err, if◌then◌else◌, min, not, ◌||◌, ◌-◌, ◌+◌, ◌*◌}
 use Rattle.tds_packet.specs.declared.kind.Kind.{Kind}
 use Rattle.tds_packet.specs.declared.kind.Kind.TheVariants as kinds
-use Rattle.tds_packet.specs.declared.status.Status.{Status}
 use Rattle.tds_packet.specs.Layout.{bits_of, has_bit, is_status, status_of}
 use Rattle.tds_packet.specs.declared.kind.Direction.TheVariants.{ToServer}
 use Rattle.tds_front.specs.declared.fault.FrontFault.{FrontFault}
@@ -13,18 +12,15 @@ use Rattle.tds_front.specs.declared.front.Due.TheVariants as dues
 use Rattle.tds_front.specs.declared.front.Fed.{Fed}
 use Rattle.tds_front.specs.declared.front.Front.{Front}
 use Rattle.tds_front.specs.declared.front.Part.{Part}
-use Rattle.tds_front.specs.declared.front.Part.TheVariants.{Low, High, Third, Fourth, Headers, Body, Dropped}
 use Rattle.tds_front.specs.declared.front.Said.TheVariants as said
 use Rattle.tds_front.specs.declared.stage.Deed.{Deed}
 use Rattle.tds_front.specs.declared.stage.Deed.TheVariants as deeds
 use Rattle.tds_front.specs.declared.stage.Head.{Head}
-use Rattle.tds_front.specs.declared.stage.Move.{Move}
 use Rattle.tds_front.specs.declared.stage.Stage.{Stage}
 use Rattle.tds_front.specs.declared.stage.Stage.TheVariants.{Quiet, Receiving, Underway, Stopping, Broken}
-use Rattle.tds_front.specs.Bytes as bytes
-use Rattle.tds_front.specs.Bytes.{Step, behind_data, body_of, data_taken, deed_done, due_for, ended_in, fails, fed, fed_by, fed_unless, gone_on, headed, kind_from, packet_done, part_behind, part_of, run_of, says, told, with_due, with_kind, with_length, with_part, with_rest, with_status}
+use Rattle.tds_front.specs.Bytes.{Step, body_of, deed_done, due_for, ended_in, fails, fed, fed_by, fed_unless, kind_from, packet_done, part_behind, run_of, says, told, with_due, with_kind, with_part}
 use Rattle.tds_front.specs.Rules.{attention, begins, breaks, goes_on, of_request, refuses, taken, taken_as}
-use Rattle.tds_front.specs.Passing.{IsData, IsSaid, SaysOf, judged, stage_fed, stage_judged}
+use Rattle.tds_front.specs.Passing.{IsData, IsSaid, SaysOf, judged, stage_fed}
 
 -- a step leads from there to there, and says no more than of data
 abbrev pub Leads : Stage → Step → Type 0

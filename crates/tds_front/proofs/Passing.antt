@@ -1,6 +1,6 @@
 -- An application's end passes on what is lawful behind it.
-use Rattle.std.proofs.Common.{◌≡◌, ℕ, ◌==◌, ◌&&◌, not, Bool, true, false, List, [], ◌∷◌, refl, sym, subst}
-use Rattle.std.specs.Prelude.{Option, Some, None, Ok, Err, if◌then◌else◌}
+use Rattle.std.proofs.Common.{◌≡◌, ◌==◌, ◌&&◌, not, Bool, true, false, List, [], ◌∷◌, refl, sym, subst}
+use Rattle.std.specs.Prelude.{Option, Some, None, if◌then◌else◌}
 use Rattle.tds_packet.specs.declared.kind.Kind.{Kind}
 use Rattle.tds_packet.specs.declared.kind.Kind.TheVariants as kinds
 use Rattle.tds_packet.specs.declared.status.Reset.{Reset}
@@ -12,7 +12,7 @@ use Rattle.tds_front.specs.declared.stage.Head.{Head}
 use Rattle.tds_front.specs.declared.stage.Move.{Move}
 use Rattle.tds_front.specs.declared.stage.Stage.{Stage}
 use Rattle.tds_front.specs.declared.stage.Stage.TheVariants.{Quiet, Receiving, Underway, Stopping, Broken}
-use Rattle.tds_front.specs.Rules.{attended, attention, breaks, moves, of_request, refuses, stops, taken, taken_as}
+use Rattle.tds_front.specs.Rules.{attention, breaks, moves, of_request, refuses, stops, taken_as}
 use Rattle.tds_front.specs.Serving as serving
 use Rattle.tds_front.specs.Serving.{Brought, More, Whole, Ignored, Attention, Wrong, Reply, Tokens, Ends, Acknowledges, Place, Ready, Executing, IsLawful, MayGo, begun_behind, begun_by, behind_brought, brings, brought_apart, brought_as, brought_by, brought_first, brought_in}
 use Rattle.tds_front.specs.Passing.{Event, Packet, Refuses, GoesOn, Says, EndsWhole, behind, towards, with_own, with_told}

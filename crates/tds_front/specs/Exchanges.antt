@@ -1,6 +1,6 @@
 -- A lawful server's end, said once more: exchanges, one behind the other.
 use Rattle.std.specs.Prelude.{◌≡◌, ℕ, zero, suc, List, [], ◌∷◌, ◌++◌}
-use Rattle.tds_front.specs.Serving.{More, Whole, Ignored, Attention, Tokens, Ends, Acknowledges, Place, Broken, Happening, Comes, Goes, Closes, behind_brought, behind_reply}
+use Rattle.tds_front.specs.Serving.{More, Whole, Ignored, Attention, Tokens, Ends, Acknowledges, Place, Happening, Comes, Goes, Closes, behind_brought, behind_reply}
 
 -- What comes behind an attention that stops an answer: so many tokens; or the answer's end crosses it (MS-TDS 2.2.1.7).
 pub data Stop : Type 0 where
