@@ -47,7 +47,7 @@ abbrev pub all_of : List Exchange → List Happening
 all_of [] = []
 all_of (exchange ∷ exchanges) = exchanged exchange (all_of exchanges)
 
--- What has happened is a front of them: the last one may go on.
+-- What has happened is exchanges, one behind the other, or a front of them: the last one may go on.
 pub record IsFront (happenings : List Happening) : Type 0 where
   pub exchanges : List Exchange
   pub rest : List Happening

@@ -70,12 +70,13 @@ behind stage (Refuses fault ∷ events) = behind (rules.refuses stage fault).sta
 behind stage (GoesOn last ∷ events) = Comes (if last then Whole else More) ∷ behind (rules.went_on stage) events
 behind stage (Says reply ∷ events) = Goes reply ∷ behind (stage_behind stage reply) events
 
--- The last of a request goes on only where its end has come.
+-- where its end has come
 abbrev pub EndsAt : Bool → Stage → Type 0
 EndsAt true stages.Quiet = ⊥
 EndsAt true (stages.Receiving kind gone) = ⊥
 EndsAt last stage = Unit {0}
 
+-- The last of a request goes on only where its end has come.
 abbrev pub EndsWhole : Stage → List Event → Type 0
 EndsWhole stage [] = Unit {0}
 EndsWhole stage (Packet head ∷ events) = EndsWhole (taken stage head).stage events

@@ -76,7 +76,7 @@ behind_reply (Stopping answering) Ends = Stopping false
 behind_reply Broken reply = Broken
 behind_reply place reply = Ready
 
--- It closes the connection only where the client broke the protocol.
+-- Only what may go at that moment goes, one thing after the other; and the server closes only where the client broke the protocol.
 abbrev pub IsLawful : Place → List Happening → Type 0
 IsLawful place [] = Unit {0}
 IsLawful place (Comes brought ∷ later) = IsLawful (behind_brought place brought) later

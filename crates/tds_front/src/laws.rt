@@ -12,7 +12,7 @@ ghost use Rattle.tds_front.specs.Promises.{settled_in, taken_in};
 ghost use Rattle.tds_front.specs.declared.front.Front.{Front};
 ghost use Rattle.tds_front.specs.Bytes.{fed};
 ghost use Rattle.tds_front.specs.Passing as passing;
-ghost use Rattle.tds_front.specs.Passing.{SaysOf, judged, stage_fed};
+ghost use Rattle.tds_front.specs.Passing.{EndsWhole, SaysOf, behind, judged, stage_fed, towards};
 ghost use Rattle.tds_front.specs.Rules.{taken};
 ghost use Rattle.tds_front.specs.Serving.{Broken, Happening, IsLawful, Ready};
 ghost use Rattle.tds_front.specs.Exchanges.{IsFront, IsSilent, place_after};
@@ -20,9 +20,9 @@ ghost use Rattle.tds_front.specs.Exchanges.{IsFront, IsSilent, place_after};
 /// An application's end is a lawful server's towards whoever connects, where what is behind it is a
 /// lawful server's end towards what goes on.
 pub fn lawful_front()
-    ensures { (events : List passing.Event) → passing.EndsWhole stages.Quiet events
-        → IsLawful Ready (passing.behind stages.Quiet events)
-        → IsLawful Ready (passing.towards None stages.Quiet events) }
+    ensures { (events : List passing.Event) → EndsWhole stages.Quiet events
+        → IsLawful Ready (behind stages.Quiet events)
+        → IsLawful Ready (towards None stages.Quiet events) }
 {}
 
 /// A call with bytes is what `lawful_front` calls a packet where a packet's header ends with them, and
