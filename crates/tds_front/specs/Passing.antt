@@ -118,7 +118,20 @@ IsData (said.Body count) = Unit {0}
 IsData (said.End count) = Unit {0}
 IsData answer = ⊥
 
+-- a request's end is told where it is whole
+abbrev pub IsWhole : Stage → Type 0
+IsWhole (stages.Underway gone) = Unit {0}
+IsWhole stage = ⊥
+
+abbrev pub EndsOf : Said → Stage → Type 0
+EndsOf (said.End count) stage = IsWhole stage
+EndsOf answer stage = Unit {0}
+
 abbrev pub SaysOf : Stage → Option Head → Result Fed FrontFault → Type 0
 SaysOf stage None (Ok fed) = IsData fed.said
 SaysOf stage (Some head) (Ok fed) = IsSaid (taken stage head).does fed.said
 SaysOf stage packet (Err fault) = Unit {0}
+
+abbrev pub EndsWhere : Stage → Result Fed FrontFault → Type 0
+EndsWhere stage (Ok fed) = EndsOf fed.said stage
+EndsWhere stage (Err fault) = Unit {0}

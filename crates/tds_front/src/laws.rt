@@ -12,7 +12,7 @@ ghost use Rattle.tds_front.specs.Promises.{settled_in, taken_in};
 ghost use Rattle.tds_front.specs.declared.front.Front.{Front};
 ghost use Rattle.tds_front.specs.Bytes.{fed};
 ghost use Rattle.tds_front.specs.Passing as passing;
-ghost use Rattle.tds_front.specs.Passing.{EndsWhole, SaysOf, behind, judged, stage_fed, towards};
+ghost use Rattle.tds_front.specs.Passing.{EndsWhere, EndsWhole, SaysOf, behind, judged, stage_fed, towards};
 ghost use Rattle.tds_front.specs.Rules.{taken};
 ghost use Rattle.tds_front.specs.Serving.{Broken, Happening, IsLawful, Ready};
 ghost use Rattle.tds_front.specs.Exchanges.{IsFront, IsSilent, place_after};
@@ -26,12 +26,15 @@ pub fn lawful_front()
 {}
 
 /// A call with bytes is what `lawful_front` calls a packet where a packet's header ends with them, and
-/// a refusal where it answers one; it says of the packet what is done.
+/// a refusal where it answers one; it says of the packet what is done, and a request's end where it is
+/// whole.
 pub fn bytes_are_packets()
     ensures stage { (front : Front) (bytes : List ℕ) → (fed front bytes).front.stage
         ≡ stage_fed front.stage (judged front.due bytes) (fed front bytes).brings }
     ensures says { (front : Front) (bytes : List ℕ)
         → SaysOf front.stage (judged front.due bytes) (fed front bytes).brings }
+    ensures ends { (front : Front) (bytes : List ℕ)
+        → EndsWhere (fed front bytes).front.stage (fed front bytes).brings }
 {}
 
 /// What is lawful is exchanges, one behind the other, of which the last may go on: up to a fault, and no
