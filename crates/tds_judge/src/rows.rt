@@ -122,7 +122,7 @@ fn row_length(memory: &Memory, bytes: &[u8]) -> usize
 /// Passes the row that bytes begin with, where it is whole: how many bytes it has. Else nothing is done, and the
 /// answer is 0.
 #[inline(always)]
-pub fn pass_row(walk: &mut LentWalk, memory: &Memory, piece: &[u8]) -> usize
+pub(crate) fn pass_row(walk: &mut LentWalk, memory: &Memory, piece: &[u8]) -> usize
     requires { IsReady (reading_of walk.old memory.now) }
     ensures within { result ≤ length piece.now }
     ensures same { result ≡ 0 → walk.new ≡ walk.old }
