@@ -108,7 +108,7 @@ impl Walker {
     /// Passes the row that bytes begin with, where it is whole: how many bytes it has. Else nothing is done,
     /// and the answer is 0.
     #[inline(always)]
-    pub fn pass_row(&mut self, piece: &[u8]) -> usize
+    pub(crate) fn pass_row(&mut self, piece: &[u8]) -> usize
         requires { IsReady self.old }
         ensures within { result ≤ length piece.now }
         ensures same { result ≡ 0 → self.new ≡ self.old }
