@@ -2,7 +2,6 @@
 
 use super::{CONNECTIONS, Group};
 use crate::tally::{Tally, Wrong};
-use std::alloc::AllocError;
 use tds_relay::{Place, PlaceOn};
 
 /// The connection that an application holds.
@@ -21,7 +20,7 @@ impl Group {
         &mut self,
         cause: Option<usize>,
         tally: &mut Tally,
-    ) -> Result<(), AllocError> {
+    ) {
         let Group {
             relay,
             connections,
@@ -40,13 +39,10 @@ impl Group {
             if connection.is_open && connection.is_told {
                 connection.is_told = false;
                 let is_cause = cause.is_some() && before == cause;
-                connection.post(relay.unsent_on(number), is_cause, tally)?;
-                let count = relay.unsent_on(number).len();
-                let _ = relay.sent_on(number, count);
+                connection.look(relay.unsent_on(number), is_cause, tally);
             }
             connection.look_behind(tally);
         }
-        Ok(())
     }
 
     /// Who has begun to wait, and who has got a connection: the first one of those who waited, if
