@@ -2,8 +2,8 @@
 
 use crate::answers::{ACKNOWLEDGED, DONE, State, token_end};
 use crate::packets::{
-    ANSWER, ATTENTION, BULK_LOAD, ENDS, IGNORED, MOST, Packet, RESETS, RESETS_BUT_TRANSACTION, Stream,
-    packet_in, put_packet,
+    ANSWER, ATTENTION, BULK_LOAD, ENDS, IGNORED, MOST, Packet, RESETS, RESETS_BUT_TRANSACTION,
+    Stream, packet_in, put_packet,
 };
 use crate::random::Random;
 use crate::request::Request;
@@ -291,9 +291,17 @@ impl Server {
     /// Sends a part of the answer, cut anywhere, or much of a long one.
     fn send(&mut self, random: &mut Random, back: &mut Vec<u8>) -> Result<(), AllocError> {
         let most = if random.once_in(3) { 20 } else { MOST };
-        let packets = if random.once_in(4) { random.up_to(40) } else { 1 };
+        let packets = if random.once_in(4) {
+            random.up_to(40)
+        } else {
+            1
+        };
         for _ in 0..packets {
-            let count = if packets > 1 { MOST } else { random.up_to(most) };
+            let count = if packets > 1 {
+                MOST
+            } else {
+                random.up_to(most)
+            };
             self.send_packet(count, back)?;
             if !self.is_answering {
                 break;

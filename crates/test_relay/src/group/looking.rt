@@ -16,11 +16,7 @@ pub(super) fn number_of(place: Option<Place>) -> Option<u64> {
 
 impl Group {
     /// Who holds each connection now, and what is sent on it. This application has caused it, or none.
-    pub(super) fn look_at_connections(
-        &mut self,
-        cause: Option<usize>,
-        tally: &mut Tally,
-    ) {
+    pub(super) fn look_at_connections(&mut self, cause: Option<usize>, tally: &mut Tally) {
         let Group {
             relay,
             connections,
