@@ -1,7 +1,17 @@
 -- How much is kept.
-use Rattle.std.specs.Prelude.{ℕ, ◌-◌, vec_len}
+use Rattle.std.specs.Prelude.{ℕ, ◌+◌, ◌-◌, Option, Some, None, vec_len}
+use Rattle.tds_relay.specs.declared.application.Application.{Application}
 use Rattle.tds_relay.specs.declared.outgoing.Outgoing.{Outgoing}
 
 -- the bytes that wait to be sent
 abbrev pub waiting_in : Outgoing → ℕ
 waiting_in o = vec_len o.bytes - o.sent
+
+-- the bytes that wait for an application, and how many may: as many as a packet has, and 8 KB
+abbrev pub waiting_for : Option Application → ℕ
+waiting_for None = 0
+waiting_for (Some a) = waiting_in a.out
+
+abbrev pub most_for : Option Application → ℕ
+most_for None = 0
+most_for (Some a) = a.out.size + 8192

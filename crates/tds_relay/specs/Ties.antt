@@ -60,16 +60,23 @@ CausesDeed by key (Puts count) = Unit {0}
 CausesDeed by key (Ends count) = Unit {0}
 CausesDeed by key Stops = by ≡ Application key
 
--- It alone begins to wait, waits no more, lets its connection go and keeps it; what comes is its connection's. Whoever waits is lent a
--- connection, and a connection is lost, whoever caused that.
+-- An application begins to wait, and keeps its connection, by what it says; or by what comes on a connection, where its request has
+-- waited for that.
+abbrev pub CausesRequest : Cause → ℕ → Type 0
+CausesRequest (Application other) key = other ≡ key
+CausesRequest (Connection number) key = Unit {0}
+CausesRequest Neither key = ⊥
+
+-- It alone waits no more, and lets its connection go; what comes is its connection's. Whoever waits is lent a connection, and a connection
+-- is lost, whoever caused that.
 abbrev pub Causes : Cause → Event → Type 0
-Causes by (Waits key) = by ≡ Application key
+Causes by (Waits key) = CausesRequest by key
 Causes by (Unwaits key) = by ≡ Application key
 Causes by Serves = Unit {0}
 Causes by (Brings gives way) = by ≡ Neither
 Causes by (Does key deed) = CausesDeed by key deed
 Causes by (Leaves key gives way) = by ≡ Application key
-Causes by (Renews key resumes) = by ≡ Application key
+Causes by (Renews key resumes) = CausesRequest by key
 Causes by (Comes number part way) = by ≡ Connection number
 Causes by (Loses number) = Unit {0}
 

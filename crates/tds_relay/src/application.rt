@@ -1,12 +1,13 @@
 //! An application, as the relay knows it.
-ghost use Rattle.std.specs.Prelude.{◌≡◌, ◌≤◌, ◌-◌, vec_len};
+ghost use Rattle.std.specs.Prelude.{◌≤◌, ◌-◌, vec_len};
 ghost use Rattle.tds_relay.specs.declared.application.TheConstants.{MOST_HELD};
+ghost use Rattle.tds_relay.specs.declared.outgoing.TheConstants.{PIECE};
 
 use crate::NoMemory;
-use crate::outgoing::Outgoing;
+use crate::outgoing::{BESIDE, Outgoing, PIECE};
 use std::alloc::Global;
 use tds_client::MessageKind;
-use tds_front::Front;
+use tds_front::{Front, Stage};
 use tds_packet::{PacketSize, Reset};
 
 /// The most bytes of a request that are kept while it waits for a connection.
@@ -46,7 +47,7 @@ impl Application {
         Application {
             tag,
             front: Front::new(size),
-            out: Outgoing::new(alloc),
+            out: Outgoing::new(alloc, size),
             asking: Asking::Nothing,
             reset: None,
             held: Vec::new(alloc),
@@ -55,21 +56,41 @@ impl Application {
         }
     }
 
+    /// Whether it waits with a request that asks for a reset but for the transaction.
+    pub(crate) fn asks_to_keep(&self) -> bool {
+        matches!(self.asking, Asking::Waits { .. })
+            && matches!(self.reset, Some(Reset::KeepTransaction))
+    }
+
     /// What is kept of its request.
     pub(crate) fn held(&self) -> &[u8] {
         self.held.as_slice()
     }
 
-    /// How many more bytes of it may be kept.
+    /// How many bytes of it may be read, so that what is kept of them may be, and what they are answered
+    /// here. An attention for what the server has is answered there.
     pub(crate) fn room(&self) -> usize
-        ensures { result ≡ MOST_HELD - vec_len self.now.held }
+        ensures { result ≤ PIECE }
     {
-        MOST_HELD.saturating_sub(self.held.len())
+        let room = self.room_to_keep().min(PIECE);
+        match self.front.stage() {
+            Stage::Underway { gone: true } | Stage::Stopping => room,
+            _ => room.min(self.out.attentions()),
+        }
+    }
+
+    /// How many more bytes of its request may be kept: no more than fit on a connection to which nothing is
+    /// to be sent.
+    fn room_to_keep(&self) -> usize
+        ensures { result ≤ MOST_HELD - vec_len self.now.held }
+    {
+        let most = self.out.most().saturating_sub(BESIDE).min(MOST_HELD);
+        most.saturating_sub(self.held.len())
     }
 
     /// Keeps these bytes of its request. False where they are too many.
     pub(crate) fn keep(&mut self, bytes: &[u8]) -> Result<bool, NoMemory> {
-        if bytes.len() > self.room() {
+        if bytes.len() > self.room_to_keep() {
             return Ok(false);
         }
         self.held.extend_from_slice(bytes)?;

@@ -1,6 +1,6 @@
-//! What a desk promises, over any list of events, and a relay over any bytes. Each function does nothing
-//! when it runs but what its law speaks of: its contract is the law.
-ghost use Rattle.std.specs.Prelude.{◌≡◌, ◌<◌, ◌≤◌, ◌++◌, ℕ, List, OnOk, Some, vec_len};
+//! What a desk promises, over any list of events, and a relay behind any calls. Each function does nothing
+//! when it runs: its contract is the law.
+ghost use Rattle.std.specs.Prelude.{◌≡◌, ◌+◌, ◌<◌, ◌≤◌, ◌++◌, ℕ, List, Some, vec_len};
 ghost use Rattle.tds_wire.specs.declared.told.Token.{Token};
 ghost use Rattle.tds_service.specs.Service.{Lease, step};
 ghost use Rattle.tds_relay.specs.Desk.{Desk, Event, desk_after, new_desk, turn, whose};
@@ -10,9 +10,7 @@ ghost use Rattle.tds_relay.specs.Bounds.{waiting_in};
 ghost use Rattle.tds_relay.specs.declared.application.Application.{Application};
 ghost use Rattle.tds_relay.specs.declared.link.Link.{Link};
 ghost use Rattle.tds_relay.specs.declared.outgoing.Outgoing.{Outgoing};
-ghost use Rattle.tds_relay.specs.Ties.{Cause, Causes, IsReached, Owns, desk_in};
-
-use crate::{NoMemory, Relay};
+ghost use Rattle.tds_relay.specs.Ties.{Cause, Causes, Goes, IsReached, Owns};
 
 /// An attention goes out on a connection only where the application that holds it cancels or leaves, with
 /// something of a request out there; so none does during a cleaning.
@@ -74,27 +72,18 @@ pub fn never_asked_twice()
 pub fn bounds()
     /// Of a request that waits for a connection 16,384 bytes are kept at most.
     ensures kept { (a : Application) → vec_len a.held ≤ 16384 }
-    /// For an application 131,072 bytes wait at most.
-    ensures for_application { (a : Application) → waiting_in a.out ≤ 131072 }
-    /// On a connection 131,072 bytes wait at most.
-    ensures on_connection { (l : Link) → waiting_in l.out ≤ 131072 }
-    /// With those that were sent and aren't forgotten, fewer than 196,608 bytes are kept in the place where
-    /// they wait.
-    ensures in_memory { (o : Outgoing) → vec_len o.bytes < 196608 }
+    /// For an application at most as many bytes wait as a packet has, and 8,192.
+    ensures for_application { (a : Application) → waiting_in a.out ≤ a.out.size + 8192 }
+    /// On a connection at most as many bytes wait as a packet has, and 8,192.
+    ensures on_connection { (l : Link) → waiting_in l.out ≤ l.out.size + 8192 }
+    /// With those that were sent and aren't forgotten, fewer than a packet and 16,384 bytes are kept in the
+    /// place where they wait.
+    ensures in_memory { (o : Outgoing) → vec_len o.bytes < o.size + 16384 }
 {}
 
-/// Whatever bytes an application says, and whatever bytes come on a connection: both are taken, or memory was
-/// refused. Where events led to the desk, they do again: so what is said here of desks holds behind any
-/// bytes.
-pub fn any_bytes(
-    relay: &mut Relay,
-    key: usize,
-    said: &[u8],
-    number: u64,
-    came: &[u8],
-) -> Result<(), NoMemory>
-    ensures { IsReached (desk_in relay.old.desk) → OnOk result (IsReached (desk_in relay.new.desk)) }
-{
-    relay.said(key, said)?;
-    relay.came(number, came)
-}
+/// Each call of a relay leaves the desk where events lead that it may cause: its own contract says so, for
+/// any bytes. So where events led to the desk, they do again, and what is said here of desks holds behind any
+/// calls.
+pub fn any_bytes()
+    ensures { (by : Cause) (old new : Desk) → Goes by old new → IsReached old → IsReached new }
+{}

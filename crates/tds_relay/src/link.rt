@@ -61,7 +61,7 @@ impl Link {
             is_open: false,
             is_muted: false,
             cuts: false,
-            out: Outgoing::new(alloc),
+            out: Outgoing::new(alloc, size),
             reader: PacketReader::new(alloc, size, Direction::ToClient)?,
             answer,
         })

@@ -1,38 +1,56 @@
 //! What is to be sent to an application, or on a connection.
-ghost use Rattle.std.specs.Prelude.{◌≡◌, ◌+◌, ◌-◌, ◌<◌, ◌≤◌, ◌++◌, [], drop, length, vec_len, OnErr, OnOk};
+ghost use Rattle.std.specs.Prelude.{◌≡◌, ◌+◌, ◌-◌, ◌<◌, ◌≤◌, ◌++◌, [], false, drop, length, vec_len, OnErr, OnOk};
 ghost use Rattle.std.specs.Prelude.{if◌then◌else◌};
 ghost use Rattle.tds_packet.specs.Layout.{header_bytes};
-ghost use Rattle.tds_relay.specs.declared.outgoing.TheConstants.{MOST_WAITING, MOVED};
+ghost use Rattle.tds_relay.specs.declared.outgoing.TheConstants.{PIECE};
 
 use crate::NoMemory;
 use std::alloc::Global;
-use tds_packet::{Header, put_packet};
+use tds_packet::{Header, PacketSize, put_packet};
 
-/// The most bytes that wait to be sent.
-pub(crate) const MOST_WAITING: usize = 131_072;
+/// The most bytes of an application or of a connection that are read at once. So many may wait at the other
+/// end, with a packet that they complete.
+pub(crate) const PIECE: usize = 8_192;
 
-/// Behind so many bytes that were sent, what is left is moved to the front.
-const MOVED: usize = 65_536;
+/// At most so many bytes more than were read go out: ALL_HEADERS (22 bytes), the headers of packets that are
+/// set anew (8 of each, of 18 at most), and behind a request an end of it that is ignored, an attention (8
+/// each) and a cleaning (122).
+pub(crate) const BESIDE: usize = 320;
+
+/// The length of an attention, and of an acknowledgement by the relay (MS-TDS 2.2.1.7, 2.2.7.6).
+const ATTENTION: usize = 8;
+
+const ACKNOWLEDGED: usize = 21;
+
+/// The length of the news of a reset that is done, in a packet of its own.
+const NEWS: usize = 14;
 
 /// Bytes, of which the first ones were sent.
 #[derive(Drop)]
 pub(crate) struct Outgoing {
     bytes: Vec<u8>,
     sent: usize,
+    /// The packet size of the end that they go to.
+    size: PacketSize,
     /// Whether something didn't fit: then nothing more is appended.
     is_full: bool,
     ghost within: { sent ≤ vec_len bytes },
-    ghost waiting: { vec_len bytes - sent ≤ MOST_WAITING },
-    ghost moved: { sent < MOVED },
+    ghost waiting: { vec_len bytes - sent ≤ size + PIECE },
+    ghost moved: { sent < PIECE },
 }
 
 impl Outgoing {
-    pub(crate) fn new(alloc: Global) -> Outgoing
-        ensures { (result.bytes.items ≡ []) × (result.sent ≡ 0) }
+    ghost use Rattle.tds_relay.specs.Bounds.{waiting_in};
+
+    pub(crate) fn new(alloc: Global, size: PacketSize) -> Outgoing
+        ensures nothing { (result.bytes.items ≡ []) × (result.sent ≡ 0) }
+        ensures size { result.size ≡ size }
+        ensures open { result.is_full ≡ false }
     {
         Outgoing {
             bytes: Vec::new(alloc),
             sent: 0,
+            size,
             is_full: false,
         }
     }
@@ -40,7 +58,7 @@ impl Outgoing {
     /// What is still to be sent.
     pub(crate) fn unsent(&self) -> &[u8]
         ensures is { result.now ≡ drop self.now.sent self.now.bytes.items }
-        ensures bounded { length result.now ≤ MOST_WAITING }
+        ensures bounded { length result.now ≤ self.now.size + PIECE }
     {
         match self.bytes.as_slice().get(self.sent..) {
             Some(rest) => rest,
@@ -50,14 +68,30 @@ impl Outgoing {
 
     /// How many bytes that are.
     pub(crate) fn count(&self) -> usize
-        ensures { result ≡ vec_len self.now.bytes - self.now.sent }
+        ensures { result ≡ waiting_in self.now }
     {
         self.bytes.len().saturating_sub(self.sent)
     }
 
     /// Whether something didn't fit.
-    pub(crate) fn is_full(&self) -> bool {
+    pub(crate) fn is_full(&self) -> bool
+        ensures { result ≡ self.now.is_full }
+    {
         self.is_full
+    }
+
+    /// How many bytes may be read that go here, so that they fit with a packet that they complete.
+    pub(crate) fn piece(&self) -> usize
+        ensures { result ≡ PIECE - waiting_in self.now }
+    {
+        PIECE.saturating_sub(self.count())
+    }
+
+    /// How many bytes of attentions may be read, so that their acknowledgements fit here, and the news of a
+    /// reset behind them.
+    pub(crate) fn attentions(&self) -> usize {
+        let acknowledgements = self.room().saturating_sub(NEWS) / ACKNOWLEDGED;
+        ATTENTION * acknowledgements
     }
 
     /// Appends bytes that are to be sent, all of them or none.
@@ -65,6 +99,10 @@ impl Outgoing {
         ensures ok { OnOk result (self.new.bytes.items ≡ (if self.new.is_full
             then self.old.bytes.items else self.old.bytes.items ++ bytes.now)) }
         ensures err { OnErr result (self.new.bytes.items ≡ self.old.bytes.items) }
+        ensures fits { self.old.is_full ≡ false
+            → waiting_in self.old + length bytes.now ≤ self.old.size + PIECE
+            → self.new.is_full ≡ false }
+        ensures size { self.new.size ≡ self.old.size }
     {
         if self.is_full || bytes.len() > self.room() {
             self.is_full = true;
@@ -80,6 +118,10 @@ impl Outgoing {
             then self.old.bytes.items
             else self.old.bytes.items ++ (header_bytes header ++ content.now))) }
         ensures err { OnErr result (self.new.bytes.items ≡ self.old.bytes.items) }
+        ensures fits { self.old.is_full ≡ false
+            → waiting_in self.old + header.length ≤ self.old.size + PIECE
+            → self.new.is_full ≡ false }
+        ensures size { self.new.size ≡ self.old.size }
     {
         if self.is_full || usize::from(header.length) > self.room() {
             self.is_full = true;
@@ -88,20 +130,32 @@ impl Outgoing {
         put_packet(&mut self.bytes, header, content)
     }
 
+    /// How many bytes may wait at most.
+    pub(crate) fn most(&self) -> usize
+        ensures is { result ≡ self.now.size + PIECE }
+        ensures range { (512 ≤ self.now.size) × (self.now.size ≤ 32767) }
+    {
+        usize::from(self.size.get()) + PIECE
+    }
+
     /// How many more bytes may wait.
     fn room(&self) -> usize
-        ensures { result ≡ MOST_WAITING - (vec_len self.now.bytes - self.now.sent) }
+        ensures { result ≡ (self.now.size + PIECE) - waiting_in self.now }
     {
-        MOST_WAITING.saturating_sub(self.count())
+        self.most().saturating_sub(self.count())
     }
 
     /// So many more of them were sent.
-    pub(crate) fn sent(&mut self, count: usize) {
+    pub(crate) fn sent(&mut self, count: usize)
+        ensures size { self.new.size ≡ self.old.size }
+        ensures full { self.new.is_full ≡ self.old.is_full }
+        ensures fewer { waiting_in self.new ≡ waiting_in self.old - count }
+    {
         let sent = self.sent.saturating_add(count).min(self.bytes.len());
         if sent == self.bytes.len() {
             self.bytes.clear();
             self.sent = 0;
-        } else if sent >= MOVED {
+        } else if sent >= PIECE {
             let left = self.bytes.len() - sent;
             self.bytes.copy_within(sent.., 0);
             self.bytes.truncate(left);

@@ -1,9 +1,10 @@
 //! The relay: who is there, and what whoever carries its bytes asks of it.
-ghost use Rattle.std.specs.Prelude.{◌≡◌, ◌≤◌, IfOk, OnOk, length, vec_len};
-ghost use Rattle.slab.specs.Slab.{slab_len};
-ghost use Rattle.tds_relay.specs.Desk.{new_desk};
+ghost use Rattle.std.specs.Prelude.{◌≡◌, ◌+◌, ◌-◌, ◌≤◌, ℕ, IfOk, OnOk, Some, length, vec_len};
+ghost use Rattle.slab.specs.Slab.{get, slab_len};
+ghost use Rattle.tds_relay.specs.Bounds.{most_for, waiting_for};
+ghost use Rattle.tds_relay.specs.Desk.{find_number, key_of, new_desk};
 ghost use Rattle.tds_relay.specs.Ties.{GoesOn, desk_in};
-ghost use Rattle.tds_relay.specs.declared.outgoing.TheConstants.{MOST_WAITING};
+ghost use Rattle.tds_relay.specs.declared.outgoing.TheConstants.{PIECE};
 
 mod asking;
 mod coming;
@@ -12,22 +13,17 @@ mod lending;
 mod places;
 
 use crate::NoMemory;
-use crate::application::{Application, Asking};
+use crate::application::Application;
 use crate::desk::Desk;
 use crate::link::Link;
 use crate::order::Order;
+use crate::outgoing::{BESIDE, PIECE};
 pub use places::{Counts, Place, PlaceOn};
 use slab::Slab;
 use std::alloc::{AllocError, Global};
 use std::mem;
 use tds_packet::PacketSize;
 use tds_wire::{Features, Token};
-
-/// How many bytes may wait for an application or on a connection before the other end isn't read.
-const CROWDED: usize = 65_536;
-
-/// The most bytes of an application or of a connection that are read at once.
-const PIECE: usize = 8_192;
 
 /// Many applications, and the connections of one service that they share.
 ///
@@ -95,58 +91,62 @@ impl Relay {
         mem::replace(&mut self.orders, Vec::new(self.alloc))
     }
 
-    /// How many bytes of an application may be read now, at most 8,192.
+    /// How many bytes of an application may be read now, at most 8,192: so many that what goes on of them
+    /// fits on its connection, and what they are answered here fits with what waits for it.
     pub fn room(&self, key: usize) -> usize
         ensures { result ≤ PIECE }
     {
         let Some(application) = self.applications.get(key) else {
             return 0;
         };
-        if application.is_over || application.out.count() >= CROWDED {
+        if application.is_over {
             return 0;
         }
-        let room = match application.asking {
-            Asking::Nothing => PIECE,
-            Asking::Waits { .. } => PIECE,
-            Asking::Goes => PIECE,
+        let room = match self.desk.hold_of(key) {
+            Some(hold) => self.room_to(hold.number),
+            None => PIECE,
         };
-        let is_crowded = match self.desk.hold_of(key) {
-            Some(hold) => self.is_crowded(hold.number),
-            None => false,
-        };
-        if is_crowded {
-            0
-        } else {
-            room.min(application.room())
-        }
+        room.min(application.room())
     }
 
-    fn is_crowded(&self, number: u64) -> bool {
-        match self.link(number) {
-            Some(link) => link.out.count() >= CROWDED,
-            None => false,
-        }
-    }
-
-    /// How many bytes of a connection may be read now, at most 8,192.
-    pub fn room_on(&self, number: u64) -> usize
+    /// How many bytes may be read that go out on a connection.
+    fn room_to(&self, number: u64) -> usize
         ensures { result ≤ PIECE }
     {
-        if self.link(number).is_none() {
-            return 0;
+        match self.link(number) {
+            Some(link) => link.out.piece().saturating_sub(BESIDE),
+            None => PIECE,
         }
+    }
+
+    /// How many bytes of a connection may be read now, at most 8,192: so many that they fit with what waits
+    /// for who holds it.
+    pub fn room_on(&self, number: u64) -> usize
+        ensures most { result ≤ PIECE }
+        ensures fits { (key : ℕ) → key_of (find_number number (desk_in self.now.desk).holds) ≡ Some key
+            → result ≤ PIECE - waiting_for (get self.now.applications key) }
+    {
+        let Some(link) = self.link(number) else {
+            return 0;
+        };
         let Some(key) = self.desk.key_on(number) else {
             return PIECE;
         };
-        match self.applications.get(key) {
-            Some(application) if application.out.count() >= CROWDED => 0,
-            _ => PIECE,
+        let room = match self.applications.get(key) {
+            Some(application) => application.out.piece(),
+            None => PIECE,
+        };
+        if link.cuts {
+            // Its packets are set anew.
+            room.saturating_sub(BESIDE)
+        } else {
+            room
         }
     }
 
     /// What is to be sent to an application.
     pub fn unsent(&self, key: usize) -> &[u8]
-        ensures { length result.now ≤ MOST_WAITING }
+        ensures { length result.now ≤ most_for (get self.now.applications key) }
     {
         match self.applications.get(key) {
             Some(application) => application.out.unsent(),
@@ -156,7 +156,7 @@ impl Relay {
 
     /// What is to be sent on a connection.
     pub fn unsent_on(&self, number: u64) -> &[u8]
-        ensures { length result.now ≤ MOST_WAITING }
+        ensures { length result.now ≤ 32767 + PIECE }
     {
         match self.link(number) {
             Some(link) => link.out.unsent(),

@@ -67,7 +67,8 @@ impl State {
             }
             Deed::Begin => self.begin(request, out),
             Deed::Commit => self.commit(out),
-            Deed::Rows(count) => put_rows(request, count, out),
+            Deed::Rows(count) => put_rows(request, u16::from(count), out),
+            Deed::Many(count) => put_rows(request, 64 * u16::from(count), out),
             Deed::Use(name) => {
                 let old = self.database;
                 self.database = name;
@@ -106,7 +107,7 @@ fn put_error(out: &mut Vec<u8>) -> Result<(), AllocError> {
 }
 
 /// Rows whose values name the request.
-fn put_rows(request: &Request, count: u8, out: &mut Vec<u8>) -> Result<(), AllocError> {
+fn put_rows(request: &Request, count: u16, out: &mut Vec<u8>) -> Result<(), AllocError> {
     out.extend_from_slice(&COLUMNS)?;
     let first = request
         .session
@@ -117,7 +118,8 @@ fn put_rows(request: &Request, count: u8, out: &mut Vec<u8>) -> Result<(), Alloc
         out.extend_from_slice(&[0xD1])?;
         out.extend_from_slice(&value.to_le_bytes())?;
     }
-    out.extend_from_slice(&[0xFD, 0x10, 0, 0, 0, count, 0, 0, 0, 0, 0, 0, 0])
+    let [low, high] = count.to_le_bytes();
+    out.extend_from_slice(&[0xFD, 0x10, 0, 0, 0, low, high, 0, 0, 0, 0, 0, 0])
 }
 
 /// How long the token is that these bytes begin with.

@@ -15,6 +15,9 @@ use tds_relay::Relay;
 /// More than a relay keeps of a request that waits: 16,384 bytes.
 const LONG: u16 = 20_000;
 
+/// Their acknowledgements are more than may wait for it.
+const MOST_STOPS: usize = 1_500;
+
 #[derive(Clone, Copy, Debug, PartialEq, Eq)]
 enum Phase {
     Quiet,
@@ -45,6 +48,8 @@ pub(crate) struct Application {
     /// The session that a server of its own would have.
     state: State,
     may_cancel: bool,
+    /// How many acknowledgements it waits for, where it waits for nothing else.
+    stops: usize,
     /// Whether it has taken a request back, and nothing was answered since: the server may not have
     /// acknowledged that.
     took_back: bool,
@@ -72,6 +77,7 @@ impl Application {
             phase: Phase::Quiet,
             state: State::fresh(),
             may_cancel: false,
+            stops: 0,
             took_back: false,
             is_long: false,
             expected: Vec::new(alloc),
@@ -111,7 +117,7 @@ impl Application {
             return Ok(());
         }
         match random.below(12) {
-            0 => self.stop(),
+            0 => self.stop_often(random),
             1 => self.begin_and_stop(alloc, random),
             2 => self.begin_and_forget(alloc, random),
             _ => self.ask(alloc, random, tally),
@@ -127,7 +133,20 @@ impl Application {
     /// An attention for nothing.
     fn stop(&mut self) -> Result<(), AllocError> {
         self.phase = Phase::Stopped;
+        self.stops = 1;
         put_packet(self.input.bytes(), ATTENTION, ENDS, &[])
+    }
+
+    /// The same, and sometimes so many more that a relay can't take them all at once.
+    fn stop_often(&mut self, random: &mut Random) -> Result<(), AllocError> {
+        self.stop()?;
+        if random.once_in(8) {
+            for _ in 0..random.up_to(MOST_STOPS) {
+                put_packet(self.input.bytes(), ATTENTION, ENDS, &[])?;
+                self.stops = self.stops.saturating_add(1);
+            }
+        }
+        Ok(())
     }
 
     /// The next request.
@@ -143,7 +162,11 @@ impl Application {
 
     /// Some packets of a request that isn't whole.
     fn begin(&mut self, alloc: Global, random: &mut Random) -> Result<u8, AllocError> {
-        let request = self.next(random, Deed::Get);
+        let mut request = self.next(random, Deed::Get);
+        if random.once_in(2) {
+            // Of some packets the server has something then.
+            request.padding = random.below(3_000) as u16;
+        }
         let kind = any_kind(random);
         let bytes = message_data(alloc, kind, self.state.transaction, &request)?;
         let size = any_size(random, &request);
@@ -171,11 +194,7 @@ impl Application {
     ) -> Result<(), AllocError> {
         let deed = any_deed(random);
         let request = self.next(random, deed);
-        let reset = match any_reset(random) {
-            // A relay ends the transaction then.
-            Some(Reset::KeepTransaction) if self.took_back => None,
-            reset => reset,
-        };
+        let reset = any_reset(self.took_back, random);
         let kind = any_kind(random);
         let bytes = message_data(alloc, kind, self.state.transaction, &request)?;
         let size = any_size(random, &request);
@@ -205,6 +224,11 @@ impl Application {
     /// How many bytes it has still to send.
     pub(crate) fn unsaid(&self) -> usize {
         self.input.rest().len()
+    }
+
+    /// Whether that is more attentions than acknowledgements may wait for it.
+    pub(crate) fn floods(&self) -> bool {
+        self.stops > 500 && self.unsaid() > 8 * 500
     }
 
     /// Hands so many of its bytes to the relay, if there are so many. False where there are none.
@@ -259,6 +283,7 @@ impl Application {
             Phase::Cancelled => {
                 if message == self.expected.as_slice() {
                     self.phase = Phase::Stopped;
+                    self.stops = 1;
                     raise(&mut tally.answers);
                     return;
                 }
@@ -271,7 +296,10 @@ impl Application {
                 }
             }
             Phase::Stopped => {
-                self.phase = Phase::Quiet;
+                self.stops = self.stops.saturating_sub(1);
+                if self.stops == 0 {
+                    self.phase = Phase::Quiet;
+                }
                 raise(&mut tally.cancels);
                 if message != ACKNOWLEDGED.as_slice() {
                     tally.note(Wrong::Acknowledgement);
@@ -300,12 +328,15 @@ fn any_deed(random: &mut Random) -> Deed {
         4 | 5 => Deed::Begin,
         6 => Deed::Commit,
         7 => Deed::Use((random.below(26) as u8).saturating_add(b'a')),
+        // Of packets of 512 bytes more than may wait for it.
+        8 if random.once_in(4) => Deed::Many(random.up_to(100) as u8),
         _ => Deed::Rows(random.below(120) as u8),
     }
 }
 
-fn any_reset(random: &mut Random) -> Option<Reset> {
-    match random.below(20) {
+/// Which reset a request asks for: often one behind a request that was taken back.
+fn any_reset(took_back: bool, random: &mut Random) -> Option<Reset> {
+    match random.below(if took_back { 4 } else { 20 }) {
         0 => Some(Reset::Full),
         1 => Some(Reset::KeepTransaction),
         _ => None,

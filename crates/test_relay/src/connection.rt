@@ -2,14 +2,15 @@
 
 use crate::answers::{ACKNOWLEDGED, DONE, State, token_end};
 use crate::packets::{
-    ANSWER, ATTENTION, BULK_LOAD, ENDS, IGNORED, Packet, RESETS, RESETS_BUT_TRANSACTION, Stream,
-    packet_in, put_packet,
+    ANSWER, ATTENTION, BULK_LOAD, ENDS, IGNORED, MOST, Packet, RESETS, RESETS_BUT_TRANSACTION,
+    Stream, packet_in, put_packet,
 };
 use crate::random::Random;
 use crate::request::Request;
 use crate::tally::{Tally, Wrong, raise};
 use std::alloc::{AllocError, Global};
 use tds_packet::Reset;
+use tds_relay::Relay;
 
 /// What the text of a cleaning begins with.
 const CLEANING: [u8; 8] = *b"s\0e\0t\0 \0";
@@ -31,6 +32,8 @@ pub(crate) struct Connection {
     /// Whether a request was sent whose end the relay hasn't heard, and an attention behind it.
     is_underway: bool,
     is_cancelled: bool,
+    /// How many bytes were looked at that wait in the relay.
+    looked: usize,
     /// What is on its way to the server, and back.
     there: Stream,
     pub(crate) back: Stream,
@@ -67,6 +70,7 @@ impl Connection {
             is_broken: false,
             is_underway: false,
             is_cancelled: false,
+            looked: 0,
             there: Stream::new(alloc),
             back: Stream::new(alloc),
             heard: Stream::new(alloc),
@@ -103,17 +107,15 @@ impl Connection {
         self.holder = holder;
     }
 
-    /// A relay sends these bytes, whole packets. An attention must be caused by `before`, who held the
-    /// connection before the call.
-    pub(crate) fn post(
-        &mut self,
-        bytes: &[u8],
-        is_cause: bool,
-        tally: &mut Tally,
-    ) -> Result<(), AllocError> {
-        self.there.bytes().extend_from_slice(bytes)?;
-        let mut rest = bytes;
-        for _ in 0..bytes.len() {
+    /// These bytes wait in the relay, of which the last ones are new: whole packets. An attention must be
+    /// caused by `before`, who held the connection before the call.
+    pub(crate) fn look(&mut self, unsent: &[u8], is_cause: bool, tally: &mut Tally) {
+        let mut rest = match unsent.get(self.looked..) {
+            Some(new) => new,
+            None => &[],
+        };
+        self.looked = unsent.len();
+        for _ in 0..unsent.len() {
             let Some(packet) = packet_in(rest) else {
                 break;
             };
@@ -123,6 +125,16 @@ impl Connection {
                 None => &[],
             };
         }
+    }
+
+    /// So many bytes come to the server of those that wait in the relay, if there are so many.
+    pub(crate) fn get(&mut self, relay: &mut Relay, count: usize) -> Result<(), AllocError> {
+        let unsent = relay.unsent_on(self.number);
+        let count = count.min(self.looked).min(unsent.len());
+        let (first, _) = unsent.split_at(count);
+        self.there.bytes().extend_from_slice(first)?;
+        self.looked -= count;
+        let _ = relay.sent_on(self.number, count);
         Ok(())
     }
 
@@ -276,14 +288,34 @@ impl Server {
         Ok(true)
     }
 
-    /// Sends a part of the answer, cut anywhere.
+    /// Sends a part of the answer, cut anywhere, or much of a long one.
     fn send(&mut self, random: &mut Random, back: &mut Vec<u8>) -> Result<(), AllocError> {
+        let most = if random.once_in(3) { 20 } else { MOST };
+        let packets = if random.once_in(4) {
+            random.up_to(40)
+        } else {
+            1
+        };
+        for _ in 0..packets {
+            let count = if packets > 1 {
+                MOST
+            } else {
+                random.up_to(most)
+            };
+            self.send_packet(count, back)?;
+            if !self.is_answering {
+                break;
+            }
+        }
+        Ok(())
+    }
+
+    fn send_packet(&mut self, count: usize, back: &mut Vec<u8>) -> Result<(), AllocError> {
         let rest = match self.answer.as_slice().get(self.sent..) {
             Some(rest) => rest,
             None => &[],
         };
-        let most = if random.once_in(3) { 20 } else { 504 };
-        let count = random.up_to(most).min(rest.len());
+        let count = count.min(rest.len());
         let (part, others) = rest.split_at(count);
         let status = if others.is_empty() { ENDS } else { 0 };
         put_packet(back, ANSWER, status, part)?;

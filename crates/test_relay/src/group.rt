@@ -108,6 +108,14 @@ impl Group {
         }
     }
 
+    /// The relay, and the application at this place.
+    fn relay_and(&mut self, place: usize) -> Option<(&mut Relay, &mut Application)> {
+        match self.applications.get_mut(place) {
+            Some(Some(application)) => Some((&mut self.relay, application)),
+            _ => None,
+        }
+    }
+
     // ---- Applications
 
     /// One comes, or does the next thing, or leaves since it has done all.
@@ -163,19 +171,15 @@ impl Group {
     }
 
     /// Some of what it has to say comes to the relay: no more than that has room for. But where a long
-    /// request has no connection, all of it may come at once, which the relay has to refuse.
+    /// request has no connection, all of it may come at once, which the relay has to refuse; and so may more
+    /// attentions than acknowledgements may wait.
     fn say(
         &mut self,
         place: usize,
         random: &mut Random,
         tally: &mut Tally,
     ) -> Result<(), AllocError> {
-        let Group {
-            relay,
-            applications,
-            ..
-        } = self;
-        let Some(Some(application)) = applications.get_mut(place) else {
+        let Some((relay, application)) = self.relay_and(place) else {
             return Ok(());
         };
         let key = application.key;
@@ -184,7 +188,8 @@ impl Group {
             _ => false,
         };
         let all = application.unsaid();
-        let count = if is_unheld && application.is_long && all > 20_000 {
+        let is_too_long = is_unheld && application.is_long && all > 20_000;
+        let count = if is_too_long || (application.floods() && random.once_in(2)) {
             application.is_doomed = true;
             all
         } else {
@@ -204,12 +209,7 @@ impl Group {
         random: &mut Random,
         tally: &mut Tally,
     ) -> Result<(), AllocError> {
-        let Group {
-            relay,
-            applications,
-            ..
-        } = self;
-        let Some(Some(application)) = applications.get_mut(place) else {
+        let Some((relay, application)) = self.relay_and(place) else {
             return Ok(());
         };
         if !application.is_told {
@@ -226,16 +226,23 @@ impl Group {
 
     // ---- Connections
 
+    /// Some of what the relay sends comes to a connection's server, which does something.
     fn work(
         &mut self,
         index: usize,
         random: &mut Random,
         tally: &mut Tally,
     ) -> Result<(), AllocError> {
-        match self.connections.get_mut(index) {
-            Some(connection) => connection.work(random, tally),
-            None => Ok(()),
-        }
+        let Group {
+            relay,
+            connections,
+            ..
+        } = self;
+        let Some(connection) = connections.get_mut(index) else {
+            return Ok(());
+        };
+        connection.get(relay, piece(random))?;
+        connection.work(random, tally)
     }
 
     /// Some of what its server has sent comes to the relay.

@@ -11,8 +11,9 @@ pub(crate) enum Deed {
     Set(u8),
     Begin,
     Commit,
-    /// So many rows.
+    /// So many rows, and 64 times so many.
     Rows(u8),
+    Many(u8),
     /// Another database, which the server tells.
     Use(u8),
 }
@@ -20,7 +21,7 @@ pub(crate) enum Deed {
 impl Deed {
     /// Whether it leaves the session as it is.
     pub(crate) fn only_reads(self) -> bool {
-        matches!(self, Deed::Get | Deed::Rows(_))
+        matches!(self, Deed::Get | Deed::Rows(_) | Deed::Many(_))
     }
 
     fn bytes(self) -> (u8, u8) {
@@ -31,6 +32,7 @@ impl Deed {
             Deed::Commit => (4, 0),
             Deed::Rows(count) => (5, count),
             Deed::Use(name) => (6, name),
+            Deed::Many(count) => (7, count),
         }
     }
 
@@ -42,6 +44,7 @@ impl Deed {
             4 => Some(Deed::Commit),
             5 => Some(Deed::Rows(value)),
             6 => Some(Deed::Use(value)),
+            7 => Some(Deed::Many(value)),
             _ => None,
         }
     }

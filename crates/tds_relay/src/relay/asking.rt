@@ -76,7 +76,8 @@ impl Relay {
     }
 
     /// A request begins. Where it asks for a reset itself, its application gives back what it holds; but
-    /// where the transaction is to stay, its connection stays too.
+    /// where the transaction is to stay, its connection stays too: whether there is one is known once the
+    /// server has acknowledged what was taken back before.
     #[tactic(auto, using(crate::proofs::Reaching::reaches_turn, crate::proofs::Reaching::reaches_left))]
     fn begin(&mut self, key: usize, kind: Kind, reset: Option<Reset>) -> Result<(), NoMemory>
         ensures { OnOk result (Goes (Application key)
@@ -96,9 +97,28 @@ impl Relay {
         match (holds, reset) {
             (false, _) => self.desk.wait(key),
             (true, None) => self.start(key),
-            (true, Some(Reset::KeepTransaction)) => self.renew(key),
+            (true, Some(Reset::KeepTransaction)) => {
+                if self.may_keep_later(key) {
+                    Ok(())
+                } else {
+                    self.renew(key)
+                }
+            }
             (true, Some(Reset::Full)) => self.change(key),
         }
+    }
+
+    /// Whether an application holds a connection with an open transaction, on which the server hasn't
+    /// acknowledged yet that its last request was taken back.
+    fn may_keep_later(&self, key: usize) -> bool {
+        let Some(hold) = self.desk.hold_of(key) else {
+            return false;
+        };
+        let is_muted = match self.link(hold.number) {
+            Some(link) => link.is_muted,
+            None => false,
+        };
+        is_muted && self.desk.is_open_on(hold.number) == Some(true)
     }
 
     /// The application lets its connection go, and waits for one like who has come.

@@ -1,11 +1,13 @@
 //! What comes on connections.
-ghost use Rattle.std.specs.Prelude.{◌≡◌, ◌+◌, length, OnOk};
+ghost use Rattle.std.specs.Prelude.{◌≡◌, ◌+◌, ◌≤◌, false, length, OnOk};
+ghost use Rattle.tds_relay.specs.Bounds.{waiting_in};
 ghost use Rattle.tds_relay.specs.Ties.{Connection, Goes, GoesOn, NobodyWaits, desk_in};
+ghost use Rattle.tds_relay.specs.declared.outgoing.TheConstants.{PIECE};
 
 use super::{Relay, link_in};
 use crate::NoMemory;
 use crate::application::{Application, Asking};
-use crate::desk::{Desk, Heard, What};
+use crate::desk::{Desk, Heard, Renewed, What};
 use crate::link::{Answer, Link};
 use slab::Slab;
 use tds_packet::PacketRef;
@@ -56,7 +58,8 @@ impl Relay {
 
     /// What came of a packet is done.
     fn heard(&mut self, number: u64, heard: Option<Heard>) -> Result<(), NoMemory>
-        ensures { OnOk result (GoesOn (desk_in self.old.desk) (desk_in self.new.desk)) }
+        ensures { OnOk result (Goes (Connection number)
+            (desk_in self.old.desk) (desk_in self.new.desk)) }
     {
         self.send_on(number)?;
         let Some(heard) = heard else {
@@ -69,7 +72,7 @@ impl Relay {
             (What::Finished, None) => Ok(()),
             (What::Acknowledged, Some(key)) => {
                 if self.unmute(number) {
-                    self.start(key)
+                    self.resume(number, key)
                 } else {
                     self.settled(key, true)
                 }
@@ -81,6 +84,42 @@ impl Relay {
                 self.close(number, None)
             }
         }
+    }
+
+    /// The server has acknowledged that an application's request was taken back: its next one goes on,
+    /// for which the connection is kept first where that asks for a reset and the transaction.
+    #[tactic(auto, using(crate::proofs::Reaching::reaches_turn))]
+    fn resume(&mut self, number: u64, key: usize) -> Result<(), NoMemory>
+        ensures { OnOk result (Goes (Connection number)
+            (desk_in self.old.desk) (desk_in self.new.desk)) }
+    {
+        let keeps = match self.applications.get(key) {
+            Some(application) => application.asks_to_keep(),
+            None => false,
+        };
+        if !keeps {
+            return self.start(key);
+        }
+        match self.desk.renew(key)? {
+            Renewed::Kept(hold) => {
+                self.cut(hold.number, false);
+                self.start(key)
+            }
+            Renewed::NotKept => self.replace(number, key),
+            Renewed::Closed(number) => self.close(number, Some(key)),
+        }
+    }
+
+    /// The transaction that was to be kept has ended: the connection is closed, and its application waits
+    /// for another.
+    #[tactic(auto, using(crate::proofs::Reaching::reaches_turn))]
+    fn replace(&mut self, number: u64, key: usize) -> Result<(), NoMemory>
+        ensures { OnOk result (Goes (Connection number)
+            (desk_in self.old.desk) (desk_in self.new.desk)) }
+    {
+        self.desk.lose(number)?;
+        self.close(number, None)?;
+        self.desk.wait(key)
     }
 
     /// What comes on a connection is handed on again. False where it was.
@@ -167,7 +206,8 @@ fn hear_packet(
     Ok(heard)
 }
 
-/// Hands a packet on as it came, or without the news of a reset.
+/// Hands a packet on as it came, or without the news of a reset. One that comes as it is doesn't make its
+/// application full where it fits in what may wait.
 fn hand_on(
     answer: &mut Answer,
     cuts: &mut bool,
@@ -175,6 +215,9 @@ fn hand_on(
     application: &mut Application,
 ) -> Result<(), NoMemory>
     requires { packet.header.length ≡ 8 + length packet.«data».now }
+    ensures fits { cuts.old ≡ false → application.old.out.is_full ≡ false
+        → waiting_in application.old.out + packet.entry.header.length ≤ application.old.out.size + PIECE
+        → application.new.out.is_full ≡ false }
 {
     if *cuts {
         *cuts = !answer.put_without_news(packet.header, packet.data, &mut application.out)?;

@@ -2,7 +2,6 @@
 
 use super::{CONNECTIONS, Group};
 use crate::tally::{Tally, Wrong};
-use std::alloc::AllocError;
 use tds_relay::{Place, PlaceOn};
 
 /// The connection that an application holds.
@@ -17,11 +16,7 @@ pub(super) fn number_of(place: Option<Place>) -> Option<u64> {
 
 impl Group {
     /// Who holds each connection now, and what is sent on it. This application has caused it, or none.
-    pub(super) fn look_at_connections(
-        &mut self,
-        cause: Option<usize>,
-        tally: &mut Tally,
-    ) -> Result<(), AllocError> {
+    pub(super) fn look_at_connections(&mut self, cause: Option<usize>, tally: &mut Tally) {
         let Group {
             relay,
             connections,
@@ -40,13 +35,10 @@ impl Group {
             if connection.is_open && connection.is_told {
                 connection.is_told = false;
                 let is_cause = cause.is_some() && before == cause;
-                connection.post(relay.unsent_on(number), is_cause, tally)?;
-                let count = relay.unsent_on(number).len();
-                let _ = relay.sent_on(number, count);
+                connection.look(relay.unsent_on(number), is_cause, tally);
             }
             connection.look_behind(tally);
         }
-        Ok(())
     }
 
     /// Who has begun to wait, and who has got a connection: the first one of those who waited, if

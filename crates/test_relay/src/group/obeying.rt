@@ -54,7 +54,8 @@ impl Group {
             }
         }
         orders.extend_from_slice(new.as_slice())?;
-        self.look_at_connections(cause, tally)
+        self.look_at_connections(cause, tally);
+        Ok(())
     }
 
     fn tell(&mut self, tag: usize) {
