@@ -1,6 +1,6 @@
 //! What an application's end promises whoever connects, over any list of packets and of what is heard
 //! of the server. Each function does nothing when it runs: its contract is the law.
-ghost use Rattle.std.specs.Prelude.{◌≡◌, ◌≤◌, ◌+◌, List, true, false, Ok, Err};
+ghost use Rattle.std.specs.Prelude.{◌≡◌, ◌≤◌, ◌+◌, ℕ, List, None, true, false, Ok, Err};
 ghost use Rattle.tds_packet.specs.Layout.{bits_of, has_bit};
 ghost use Rattle.tds_front.specs.declared.fault.FrontFault.{FrontFault};
 ghost use Rattle.tds_front.specs.declared.stage.Head.{Head};
@@ -9,7 +9,44 @@ ghost use Rattle.tds_front.specs.declared.stage.Stage.TheVariants as stages;
 ghost use Rattle.tds_front.specs.declared.stage.Deed.TheVariants as deeds;
 ghost use Rattle.tds_front.specs.Promises.{Event, count, handed_in, here_in, is_gone, is_passed, is_whole};
 ghost use Rattle.tds_front.specs.Promises.{settled_in, taken_in};
+ghost use Rattle.tds_front.specs.declared.front.Front.{Front};
+ghost use Rattle.tds_front.specs.Bytes.{fed};
+ghost use Rattle.tds_front.specs.Passing as passing;
+ghost use Rattle.tds_front.specs.Passing.{EndsWhere, EndsWhole, SaysOf, behind, judged, stage_fed, towards};
 ghost use Rattle.tds_front.specs.Rules.{taken};
+ghost use Rattle.tds_front.specs.Serving.{Broken, Happening, IsLawful, Ready};
+ghost use Rattle.tds_front.specs.Exchanges.{IsFront, IsSilent, place_after};
+
+/// An application's end is a lawful server's towards whoever connects, where what is behind it is a
+/// lawful server's end towards what goes on.
+pub fn lawful_front()
+    ensures { (events : List passing.Event) → EndsWhole stages.Quiet events
+        → IsLawful Ready (behind stages.Quiet events)
+        → IsLawful Ready (towards None stages.Quiet events) }
+{}
+
+/// A call with bytes is what `lawful_front` calls a packet where a packet's header ends with them, and
+/// a refusal where it answers one; it says of the packet what is done, and a request's end where it is
+/// whole.
+pub fn bytes_are_packets()
+    ensures stage { (front : Front) (bytes : List ℕ) → (fed front bytes).front.stage
+        ≡ stage_fed front.stage (judged front.due bytes) (fed front bytes).brings }
+    ensures says { (front : Front) (bytes : List ℕ)
+        → SaysOf front.stage (judged front.due bytes) (fed front bytes).brings }
+    ensures ends { (front : Front) (bytes : List ℕ)
+        → EndsWhere (fed front bytes).front.stage (fed front bytes).brings }
+{}
+
+/// What is lawful is exchanges, one behind the other, of which the last may go on: up to a fault, and no
+/// packet of an exchange is one. Behind a fault nothing goes to the client.
+pub fn exchanges()
+    ensures each { (happenings : List Happening) → IsFront happenings → IsLawful Ready happenings }
+    ensures only { (happenings : List Happening) → IsLawful Ready happenings
+        → (place_after Ready happenings ≡ Broken → ⊥) → IsFront happenings }
+    ensures no_fault { (happenings : List Happening) → IsFront happenings
+        → place_after Ready happenings ≡ Broken → ⊥ }
+    ensures silent { (happenings : List Happening) → IsLawful Broken happenings → IsSilent happenings }
+{}
 
 /// Each attention that is taken has one acknowledgement: the relay's, or the server's, which is handed
 /// it. And of those that were handed on no second one is before the first one's acknowledgement.

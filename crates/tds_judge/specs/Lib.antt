@@ -7,3 +7,4 @@ pub mod Told
 pub mod Conversation
 pub mod Walker
 pub mod Runs
+pub mod Rows

@@ -10,6 +10,7 @@ mod judge;
 pub mod laws;
 mod noting;
 mod packets;
+mod rows;
 mod runs;
 mod talk;
 mod walker;

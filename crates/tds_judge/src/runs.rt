@@ -1,9 +1,11 @@
 //! Runs of a packet's data, as one step whatever their length.
 
-ghost use Rattle.std.specs.Prelude.{◌≡◌, ◌≤◌, ◌<◌, ◌+◌, vec_len, vec_capacity, length, take, IfSome};
+ghost use Rattle.std.specs.Prelude.{◌≡◌, ◌≤◌, ◌<◌, ◌+◌, ◌-◌, ℕ, List, true, vec_len, vec_capacity, length, take, IfSome};
 ghost use Rattle.tds_judge.specs.Framing as framing;
 ghost use Rattle.tds_judge.specs.Framing.{run_of};
+ghost use Rattle.tds_judge.specs.Rows.{IsAtRow};
 ghost use Rattle.tds_judge.specs.Runs as runs;
+ghost use Rattle.tds_judge.specs.declared.finding.Finding.{Finding};
 ghost use Rattle.tds_judge.specs.declared.finding.Direction.TheVariants.{ToClient};
 ghost use Rattle.tds_judge.specs.declared.frame.Due.TheVariants as dues;
 ghost use Rattle.tds_judge.specs.declared.frame.Inside.TheVariants as insides;
@@ -130,6 +132,64 @@ impl Judge {
         }
     }
 
+    /// Whether a row may come next of which nothing need be known but where it ends.
+    fn is_at_row(&self) -> bool
+        ensures { result ≡ true → (left : ℕ) → self.now.server.due ≡ dues.Data left
+            → self.now.server.inside ≡ insides.Walked → IsAtRow left self.now }
+    {
+        match &self.walker {
+            Some(walker) => !self.talk.is_final && walker.is_between(),
+            None => false,
+        }
+    }
+
+    /// Passes the row that bytes begin with, where it is whole: how many bytes it has, or 0.
+    #[inline(always)]
+    fn pass_row(&mut self, left: u16, run: &[u8]) -> usize
+        requires at { IsAtRow left self.old }
+        requires few { length run.now < left }
+        ensures within { result ≤ length run.now }
+        ensures at { IsAtRow (left - result) self.new }
+        ensures same { result ≡ 0 → self.new ≡ self.old }
+        ensures run { (time : ℕ) → (told : List Finding) → run_of self.new told
+            ≡ framing.steps ToClient time (take result run.now) (run_of self.old told) }
+    {
+        let Some(walker) = &mut self.walker else {
+            return 0;
+        };
+        cuts_do_not_matter();
+        let count = walker.pass_row(run);
+        if count > 0 {
+            self.pass(Direction::ToClient, left, count as u16);
+        }
+        count
+    }
+
+    /// Passes the rows that bytes begin with and that are whole: how many bytes they have.
+    #[inline(always)]
+    fn pass_rows(&mut self, left: u16, run: &[u8]) -> usize
+        requires few { length run.now < left }
+        requires due { self.old.server.due ≡ dues.Data left }
+        requires inside { self.old.server.inside ≡ insides.Walked }
+        ensures within { result ≤ length run.now }
+        ensures same { result ≡ 0 → self.new ≡ self.old }
+        ensures run { (time : ℕ) → (told : List Finding) → run_of self.new told
+            ≡ framing.steps ToClient time (take result run.now) (run_of self.old told) }
+    {
+        if !self.is_at_row() {
+            return 0;
+        }
+        let mut done = 0;
+        'rows: while done < run.len() {
+            let count = self.pass_row(left - done as u16, &run[done..]);
+            if count == 0 {
+                return done;
+            }
+            done += count;
+        }
+        done
+    }
+
     /// Where the last of so many bytes to the client stands.
     fn spot_of_last(&self, time: u64, count: u16) -> Spot
         ensures { result ≡ runs.spot_at (runs.place self.now.server.offset count) time }
@@ -174,7 +234,12 @@ impl Judge {
             }
             (Due::Data { left }, Inside::Walked, Direction::ToClient) if left > 1 => {
                 let count = bytes.len().min(usize::from(left) - 1);
-                self.walk_run(out, time, left, &bytes[..count])
+                let rows = self.pass_rows(left, &bytes[..count]);
+                if rows > 0 {
+                    rows
+                } else {
+                    self.walk_run(out, time, left, &bytes[..count])
+                }
             }
             _ => {
                 self.step(out, direction, time, bytes[0]);

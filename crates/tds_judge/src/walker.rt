@@ -2,9 +2,11 @@
 
 ghost use Rattle.std.specs.Prelude.{◌≡◌, ◌≤◌, ◌<◌, ◌+◌, None, true, IfOk, length};
 ghost use Rattle.tds_wire.specs.Reading.{IsReady, found_of, is_between, next_token, restarted};
+ghost use Rattle.tds_judge.specs.Rows.{IsPassed};
 ghost use Rattle.tds_judge.specs.Runs.{IsWent};
 
 use crate::NoMemory;
+use crate::rows::pass_row;
 use std::alloc::Global;
 use std::marker::Model;
 use tds_wire::{Features, Fed, LentWalk, Memory, Refusal, Token, WireFault};
@@ -103,9 +105,23 @@ impl Walker {
         }
     }
 
+    /// Passes the row that bytes begin with, where it is whole: how many bytes it has. Else nothing is done,
+    /// and the answer is 0.
+    #[inline(always)]
+    pub(crate) fn pass_row(&mut self, piece: &[u8]) -> usize
+        requires { IsReady self.old }
+        ensures within { result ≤ length piece.now }
+        ensures same { result ≡ 0 → self.new ≡ self.old }
+        ensures ready { IsReady self.new }
+        ensures row { 0 < result → IsPassed result self.old self.new piece.now }
+    {
+        pass_row(&mut self.walk, &self.memory, piece)
+    }
+
     /// Whether it is between two tokens, so that a message may end here.
     pub fn is_between(&self) -> bool
         ensures between { result ≡ is_between self.now }
+        ensures ready { result ≡ true → IsReady self.now }
     {
         self.walk.is_between(&self.memory)
     }

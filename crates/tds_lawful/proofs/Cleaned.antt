@@ -4,7 +4,8 @@ use Rattle.std.specs.Prelude.{Option, Some, None}
 use Rattle.tds_service.specs.Line.{Line, Stage, Idle, Sending, Reading, Cancelling, Broken, new_line}
 use Rattle.tds_service.specs.Service.{Place, Leased, Cleaning, Kept, Free, Draining, Seat, Service, Call, Back, Step, cleaned, clean_place, find_by, has_lease, is_clean, new_service, rests_clean, rests_cleaned, seat_numbered, service_after, on, step, steps}
 use Rattle.tds_service.specs.History.{acts_of, line_after}
-use Rattle.tds_service.proofs.Alone.{FitsIn, IsAlone, Tidy, is_found, step_alone}
+use Rattle.tds_service.proofs.Alone.{FitsIn, IsAlone, Tidy, step_alone}
+use Rattle.tds_service.proofs.Numbered.{is_found}
 use Rattle.tds_lawful.specs.Lawful.{Engine, IsLawful}
 use Rattle.tds_lawful.specs.Link.{IsRun, Move, link_after, new_link}
 use Rattle.tds_lawful.specs.Starting.{IsLeftClean, cleaning_over, owed_after}

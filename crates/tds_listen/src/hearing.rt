@@ -33,6 +33,7 @@ pub struct Heard {
 ///
 /// `Client` where the client refuses the token, and `Wire` where the bytes are none. The client is
 /// broken then, and nothing is told.
+#[inline(always)]
 pub fn next(client: &mut Client, walker: &mut Walker, piece: &[u8]) -> Result<Heard, ListenFault>
     ensures within { IfOk result (λ heard. heard.count ≤ length piece.now) }
     ensures moves { IfOk result (λ heard. 0 < length piece.now → 0 < heard.count) }

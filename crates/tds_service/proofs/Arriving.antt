@@ -15,7 +15,7 @@ use Rattle.tds_service.specs.Packets.{told_of_part}
 use Rattle.tds_service.specs.Service.{Seat, Service, Did, lease_in, lease_at, drained, find_by, has_number, hears}
 use Rattle.tds_service.specs.Table.{Comes, StepsIn, AllTo, answers_in, told_in, RefusesIn, met, reading_by, place_of, seat_in, seats_in}
 use Rattle.tds_service.specs.Ties.{Hears, IsTo, Appends, line_in, tokens_in}
-use Rattle.tds_service.proofs.Alone.{same_number}
+use Rattle.tds_service.proofs.Numbered.{same_number}
 use Rattle.tds_service.proofs.Tables.{Here, with_seats, found_here, meets_here, does_alike}
 
 pub comes_here : (s : Service) (number : ℕ) (part : Part Token) (lease : Option ℕ) (request : ℕ) (answer : Answer) (items lent news : List code.Seat) (i : ℕ) (here : Here (has_number number) items lent i)

@@ -18,7 +18,7 @@ use Rattle.tds_service.specs.Line.{Stage}
 use Rattle.tds_service.specs.Service.{Place, Leased, Cleaning, Kept, Free, Draining, Seat, drained, find_by, has_lease, has_number, holds, is_free, is_idle, is_lendable, keeps, lease_in}
 use Rattle.tds_service.specs.Table.{client_by, met, place_of, rest_of, seat_in, seats_in, without_closed, DoesAt, IsAt, Moves, Opens}
 use Rattle.tds_service.specs.Ties.{line_in}
-use Rattle.tds_service.proofs.Alone.{same_number}
+use Rattle.tds_service.proofs.Numbered.{same_number}
 use Rattle.tds_service.proofs.Tables.{Here, meets_here, taken_set}
 
 pub on_done : {A E : Type 0} (r : Result A E) (P : A → Type 0) (Q : Type 0) → ((x : A) → P x → Q) → IfOk r P → OnOk r Q

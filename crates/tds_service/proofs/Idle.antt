@@ -18,7 +18,8 @@ use Rattle.tds_service.specs.Service as calls
 use Rattle.tds_service.specs.Service.{Place, Cleaning, Free, Draining, acts_unless, cleans, cleaned, clean_place, rests_cleaned, is_free, Seat, Service, new_service, Call, Step, Leased, Kept, Lent, Ticket, NotNow, nothing, does, find_by, seat_numbered, has_lease, has_ticket, has_number, is_lendable, is_idle, is_open, acts, opens, lends, resumes, gives_back, keeps_it, abandons, hears, loses, step, steps, service_after, on, on_one}
 use Rattle.tds_service.proofs.Pairing.{line, with_mark}
 use Rattle.tds_service.proofs.Walks.{awaits}
-use Rattle.tds_service.proofs.Alone.{Tidy, FitsIn, IsAlone, step_alone, is_found, fits_here, acts_of_history, acts_of_both, each_alone}
+use Rattle.tds_service.proofs.Alone.{Tidy, FitsIn, IsAlone, step_alone, fits_here, acts_of_history, acts_of_both, each_alone}
+use Rattle.tds_service.proofs.Numbered.{is_found}
 use Rattle.tds_service.proofs.Lends.{free_idle, idle_both, idle_stage}
 
 awaits_along_reads : {T : Type 0} (n : ℕ) (h : Heard) (part : Part T) (ends : Bool) (u : Heard) (result : Result Heard ListenFault) (acts : List (Act T))

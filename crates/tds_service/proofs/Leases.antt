@@ -3,7 +3,7 @@ use Rattle.std.proofs.Common.{◌≡◌, ◌∙◌, ℕ, Bool, true, false, List
 use Rattle.std.specs.Prelude.{Option, Some, if◌then◌else◌}
 use Rattle.tds_service.specs.Line.{new_line}
 use Rattle.tds_service.specs.Service.{Place, Leased, Cleaning, Kept, Free, Draining, Seat, new_service, Call, find_by, seat_numbered, has_lease, holds, service_after}
-use Rattle.tds_service.proofs.Alone.{is_found, same_number}
+use Rattle.tds_service.proofs.Numbered.{is_found, same_number}
 use Rattle.tds_service.proofs.Idle.{behind}
 
 meets_by : (test : Seat → Bool) (c d : Seat) (cs : List Seat) (b : Bool) → test c ≡ b → (if b then Some c else find_by test cs) ≡ Some d

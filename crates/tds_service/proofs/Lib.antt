@@ -1,5 +1,6 @@
 pub mod Tests
 pub mod Tables
+pub mod Numbered
 pub mod Joining
 pub mod Packeting
 pub mod Answering
@@ -7,6 +8,7 @@ pub mod Arriving
 pub mod Keeping
 pub mod Holding
 pub mod Sizing
+pub mod Reached
 pub mod Spelling
 pub mod Pairing
 pub mod Walks

@@ -10,7 +10,7 @@ use Rattle.tds_service.specs.Line.{Act}
 use Rattle.tds_service.specs.History.{line_after}
 use Rattle.tds_service.specs.Refusing.{packets, refusal_in}
 use Rattle.tds_service.specs.Service.{Place, Leased, Cleaning, Kept, Seat, Service, Call, Lease, Resume, Ask, Put, Finish, Cancel, GiveBack, Clean, Cleaned, Keep, Abandon, Came, Lost, Without, Reply, Unknown, NotNow, No, NoMemory, AllInUse, Lent, Ticket, Did, Back, Step, nothing, seat_numbered, find_by, has_lease, has_ticket, has_number, is_lendable, does, rests, drained, is_idle, may_keep, acts, acts_unless, cleans, cleaned, clean_place, rests_cleaned, opens, lends, resumes, gives_back, keeps_it, abandons, hears, loses, step}
-use Rattle.tds_service.proofs.Alone.{change_other}
+use Rattle.tds_service.proofs.Numbered.{change_other}
 
 added_by : (b : Bool) (c d : Seat) (x y : Option Seat) → (x ≡ Some c → y ≡ Some c) → (if b then Some d else x) ≡ Some c → (if b then Some d else y) ≡ Some c
 added_by true c d x y f e = e

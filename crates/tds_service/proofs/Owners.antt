@@ -11,7 +11,8 @@ use Rattle.tds_service.specs.Refusing.{packets, refusal_in}
 use Rattle.tds_service.specs.Owning.{Asker, asker_by, AreOwn, OwnHere, asker_here, OwnAlong}
 use Rattle.tds_service.specs.Service as calls
 use Rattle.tds_service.specs.Service.{Place, Leased, Cleaning, Kept, Free, Draining, Seat, Service, new_service, Call, Reply, Unknown, NotNow, AllInUse, No, NoMemory, Lent, Ticket, Did, Back, Step, nothing, seat_numbered, find_by, change_by, has_lease, has_ticket, has_number, holds, keeps, is_lendable, is_idle, is_free, may_keep, rests, rests_clean, clean_place, drained, is_clean, lease_in, lease_at, does, acts_unless, rests_cleaned, step}
-use Rattle.tds_service.proofs.Alone.{Tidy, Fits, FitsIn, is_found, change_other, change_out, change_here, added_other, added_here, same_number, step_alone}
+use Rattle.tds_service.proofs.Alone.{Tidy, Fits, FitsIn, step_alone}
+use Rattle.tds_service.proofs.Numbered.{is_found, change_other, change_out, change_here, added_other, added_here, same_number}
 use Rattle.tds_service.proofs.Lends.{free_idle, idle_both}
 use Rattle.tds_service.proofs.Leases.{meets}
 use Rattle.tds_service.proofs.Owned.{OwnedAt, Owned, OwnedIn, seat_behind, Keeps, marked_keeps, ask_keeps, put_keeps, finish_keeps, cancel_keeps, lost_keeps, kept_keeps, cleaned_keeps, abandon_keeps, came_keeps}

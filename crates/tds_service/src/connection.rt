@@ -211,6 +211,7 @@ impl Connection {
     /// # Errors
     ///
     /// The fault that breaks the connection: of a client that awaits nothing at once, whatever came.
+    #[inline(always)]
     pub fn came(&mut self, piece: &[u8]) -> Result<Heard, ListenFault>
         ensures ok { IfOk result (λ heard. Hears
             (part_of (next_token self.old.walker piece.now)) (line_in self.old)

@@ -54,6 +54,7 @@ impl Cursor {
     }
 
     /// A value has been passed.
+    #[inline(always)]
     pub fn end_value(&mut self, memory: &mut Memory)
         ensures { walk_of self.new memory.new ≡
             valued self.old.at.inside (walk_of self.old memory.old) }

@@ -47,6 +47,7 @@ impl Cursor {
     }
 
     /// Goes on behind a run of bytes.
+    #[inline(always)]
     pub fn go(&mut self, memory: &mut Memory, next: Next)
         ensures { walk_of self.new memory.new ≡ go (walk_of self.old memory.old) next }
     {

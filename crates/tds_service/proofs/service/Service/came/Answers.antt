@@ -8,7 +8,7 @@ use Rattle.tds_listen.specs.Hearing.{tokens_in}
 use Rattle.tds_service.specs.Packets.{Reads, packet_part, outcome_answer}
 use Rattle.tds_service.specs.Service.{Service, has_number, find_by, hears}
 use Rattle.tds_service.specs.Table.{Comes, ReadsAt, RefusesIn, reading_by, service_in, seats_in}
-use Rattle.tds_service.proofs.Alone.{same_number}
+use Rattle.tds_service.proofs.Numbered.{same_number}
 use Rattle.tds_service.proofs.Tables.{with_seats, here_in, found_here, meets_here, on_err}
 use Rattle.tds_service.proofs.Arriving.{comes_here, reading_here, reading_behind, same_reading, wants_memory}
 use Rattle.tds_service.proofs.Holding.{off_here, on_done}

@@ -1,83 +1,52 @@
-use Rattle.std.proofs.Common.{◌≡◌, ◌∙◌, List, [], ◌∷◌, length, refl, sym, ap, arith, rules}
-use Rattle.std.proofs.Math.ListN.{set}
-use Rattle.std.proofs.lemmas.List.{with_items_is}
+use Rattle.std.proofs.Common.{[], ◌∷◌, ◌∙◌, refl, ap, arith, rules}
 use Rattle.std.proofs.lemmas.Result.{IfOk-weaker}
-use Rattle.tds_service.specs.declared.seat.Seat.{Seat}
 use Rattle.tds_service.specs.Line as line
 use Rattle.tds_service.specs.Refusing.{refusal_in}
-use Rattle.tds_service.specs.Service.{Service, has_lease}
-use Rattle.tds_service.specs.Table.{service_in, seats_in}
+use Rattle.tds_service.specs.Service.{has_lease}
 use Rattle.tds_service.specs.Ties.{line_in, cancel_answer}
-use Rattle.tds_service.proofs.Answering.{answered}
-use Rattle.tds_service.proofs.Tables.{here_in, acts_alike, refuses_alike, one_is_all, on_err, cancel_never, cancelled_fine}
-use Rattle.tds_service.proofs.Holding.{keeps_clients, on_done}
-use Rattle.tds_service.proofs.Sizing.{keeps_sizes}
+use Rattle.tds_service.proofs.Tables.{one_is_all, on_err, cancel_never, cancelled_fine}
+use Rattle.tds_service.proofs.Holding.{on_done}
+use Rattle.tds_service.proofs.Reached.{reached_at, acts_there, answers_there, refuses_there, clients_there, sizes_there}
 use Rattle.tds_service.proofs.service.Service.cancel.Goals as goal
 
 pub returns-in-Some-clause-ok : goal.returns-in-Some-clause-ok
 returns-in-Some-clause-ok c =
-    let old = service_in c.args.self.now in
-    let items = c.args.self.now.seats.items in
-    let index = c.in-Some.index in
-    let here = here_in (has_lease c.args.lease) items c.deref.result.now c.deref_mut.result.now index c.deref.ensures.value c.deref_mut.ensures.value c.in-Some.ensures.first in
-    let len : length c.cancel_at.new.seats ≡ c.args.self.now.seats.len = first_of (omega arith, search rules) in
-    let items_are = with_items_is c.args.self.now.seats c.cancel_at.new.seats len in
+    let at = reached_at (has_lease c.args.lease) c.args.self.now c.cancel_at.new.seats c.deref.ensures.value c.deref_mut.ensures.value c.in-Some.ensures.first (first_of (omega arith, search rules)) in
+    let seat = at.here.seat in
+    let n = seat.connection.asked in
     IfOk-weaker c.cancel_at.result _ _
     (λ done h.
-    let k = h here.seat here.at_lent in
-    let table = k.1 ∙ ap (λ (cs : List Seat). set cs index k.0) c.deref_mut.ensures.value in
-    let r = acts_alike old (has_lease c.args.lease) line.Cancel (line.Cancel ∷ []) items index here.seat k.0 c.args.out.now.items c.cancel_at.new.out.items refl here.first here.at k.2 k.3
-    (one_is_all line.Cancel (line_in here.seat.connection) (line_in k.0.connection) (cancel_answer here.seat.connection.asked done.1) c.args.out.now.items c.cancel_at.new.out.items k.5)
-    (ap refusal_in k.5.answer_is ∙ cancelled_fine here.seat.connection.asked done.1) in
-    record {
-      service_is = ap (λ (cs : List Seat). let t : Service = record { max = old.max; last = old.last; given = old.given; seats = seats_in cs } in t) (items_are ∙ table) ∙ r.0;
-      reply_is = r.1;
-      number_is = r.2 ∙ sym k.4;
-      bytes = r.3;
-    })
+    let k = h seat at.here.at_lent in
+    acts_there at k.0 done.0 line.Cancel (line.Cancel ∷ []) c.args.out.now.items c.cancel_at.new.out.items k.1 k.2 k.3 k.4
+    (one_is_all line.Cancel (line_in seat.connection) (line_in k.0.connection) (cancel_answer n done.1) c.args.out.now.items c.cancel_at.new.out.items k.5)
+    (ap refusal_in k.5.answer_is ∙ cancelled_fine n done.1))
     c.cancel_at.ensures.ok
 
 pub returns-in-Some-clause-how : goal.returns-in-Some-clause-how
 returns-in-Some-clause-how c =
-    let old = service_in c.args.self.now in
-    let items = c.args.self.now.seats.items in
-    let index = c.in-Some.index in
-    let here = here_in (has_lease c.args.lease) items c.deref.result.now c.deref_mut.result.now index c.deref.ensures.value c.deref_mut.ensures.value c.in-Some.ensures.first in
+    let at = reached_at (has_lease c.args.lease) c.args.self.now c.cancel_at.new.seats c.deref.ensures.value c.deref_mut.ensures.value c.in-Some.ensures.first (first_of (omega arith, search rules)) in
+    let n = at.here.seat.connection.asked in
     IfOk-weaker c.cancel_at.result _ _
-    (λ done h.
-    let n = here.seat.connection.asked in (
-      n,
-      answered old (has_lease c.args.lease) line.Cancel items index here.seat (cancel_answer n done.1) refl here.first here.at (h here.seat here.at_lent).5.answer_is (cancelled_fine n done.1),
-    ))
+    (λ done h. (n, answers_there at line.Cancel (cancel_answer n done.1) (h at.here.seat at.here.at_lent).5.answer_is (cancelled_fine n done.1)))
     c.cancel_at.ensures.ok
 
 pub returns-in-Some-clause-refused : goal.returns-in-Some-clause-refused
 returns-in-Some-clause-refused c =
-    let old = service_in c.args.self.now in
-    let items = c.args.self.now.seats.items in
-    let index = c.in-Some.index in
-    let here = here_in (has_lease c.args.lease) items c.deref.result.now c.deref_mut.result.now index c.deref.ensures.value c.deref_mut.ensures.value c.in-Some.ensures.first in
+    let at = reached_at (has_lease c.args.lease) c.args.self.now c.cancel_at.new.seats c.deref.ensures.value c.deref_mut.ensures.value c.in-Some.ensures.first (first_of (omega arith, search rules)) in
     on_err c.cancel_at.result _ _
-    (λ refusal h. refuses_alike old (has_lease c.args.lease) line.Cancel (line.Cancel ∷ []) items index here.seat refusal refl here.first here.at (h here.seat here.at_lent) (cancel_never (line_in here.seat.connection)))
+    (λ refusal h. refuses_there at line.Cancel (line.Cancel ∷ []) refusal (h at.here.seat at.here.at_lent) (cancel_never (line_in at.here.seat.connection)))
     c.cancel_at.ensures.refused
 
 pub returns-in-Some-clause-clients : goal.returns-in-Some-clause-clients
 returns-in-Some-clause-clients c =
-    let items = c.args.self.now.seats.items in
-    let index = c.in-Some.index in
-    let lent = c.deref_mut.result.now in
-    let news = c.cancel_at.new.seats in
-    let here = here_in (has_lease c.args.lease) items c.deref.result.now lent index c.deref.ensures.value c.deref_mut.ensures.value c.in-Some.ensures.first in
-    let len : length news ≡ c.args.self.now.seats.len = first_of (omega arith, search rules) in
-    let items_are = with_items_is c.args.self.now.seats news len in
+    let at = reached_at (has_lease c.args.lease) c.args.self.now c.cancel_at.new.seats c.deref.ensures.value c.deref_mut.ensures.value c.in-Some.ensures.first (first_of (omega arith, search rules)) in
     on_done c.cancel_at.result _ _
     (λ done h.
-    let k = h here.seat here.at_lent in
-    keeps_clients c.args.lease items _ lent news index here k.0 c.deref_mut.ensures.value k.1 items_are k.3)
+    let k = h at.here.seat at.here.at_lent in
+    clients_there c.args.lease at k.0 k.1 k.3)
     c.cancel_at.ensures.ok
 
 pub returns-in-Some-clause-sizes : goal.returns-in-Some-clause-sizes
 returns-in-Some-clause-sizes c =
-    let news = c.cancel_at.new.seats in
-    let len : length news ≡ c.args.self.now.seats.len = first_of (omega arith, search rules) in
-    keeps_sizes c.args.self.now _ c.deref_mut.result.now news c.deref_mut.ensures.value (with_items_is c.args.self.now.seats news len) c.cancel_at.ensures.sizes refl
+    let at = reached_at (has_lease c.args.lease) c.args.self.now c.cancel_at.new.seats c.deref.ensures.value c.deref_mut.ensures.value c.in-Some.ensures.first (first_of (omega arith, search rules)) in
+    sizes_there at _ refl c.cancel_at.ensures.sizes refl

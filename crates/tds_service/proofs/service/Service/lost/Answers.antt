@@ -6,7 +6,7 @@ use Rattle.tds_service.specs.Line.{Line}
 use Rattle.tds_service.specs.Service.{Seat, Back, loses, has_number}
 use Rattle.tds_service.specs.Table.{StepsIn, reading_by, service_in, seats_in}
 use Rattle.tds_service.specs.Ties.{line_in}
-use Rattle.tds_service.proofs.Alone.{same_number}
+use Rattle.tds_service.proofs.Numbered.{same_number}
 use Rattle.tds_service.proofs.Tables.{with_seats, here_in, found_here, meets_here, does_gone, lost_bytes}
 use Rattle.tds_service.proofs.Keeping.{keeps_taken}
 use Rattle.tds_service.proofs.Holding.{off_gone}
