@@ -12,8 +12,8 @@ use Rattle.tds_wire.specs.declared.fault.WireFault.TheVariants as faults
 use Rattle.tds_wire.specs.declared.lent.LentWalk.{LentWalk}
 use Rattle.tds_wire.specs.Memory.{shape_of}
 use Rattle.tds_c.specs.declared.wire.fields.FieldCode.{FieldCode}
+use Rattle.tds_c.specs.declared.wire.due.TdsWireDue.{TdsWireDue}
 use Rattle.tds_c.specs.declared.wire.walk.TdsWire.{TdsWire}
-use Rattle.tds_c.specs.declared.wire.walk.TdsWireDue.{TdsWireDue}
 use Rattle.tds_c.specs.declared.wire.walk.TdsWireInside.{TdsWireInside}
 use Rattle.tds_c.specs.declared.wire.walk.TdsWireRefusal.{TdsWireRefusal}
 use Rattle.tds_c.specs.Plain.{◌>>=◌}

@@ -3,6 +3,7 @@
 ghost use Rattle.std.specs.Prelude.{◌≡◌};
 ghost use Rattle.tds_c.specs.WireCalls.{Begins, Feeds, Restarts, Stands, Tells};
 
+mod due;
 mod fields;
 mod token;
 mod walk;

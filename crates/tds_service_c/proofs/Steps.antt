@@ -15,14 +15,18 @@ use Rattle.tds_service.specs.Line.{Line, Act, Mark, Cancel, Come, Lose, Stage, t
 use Rattle.tds_service.specs.Parts.{Part}
 use Rattle.tds_service.specs.Refusing.{refusal_in}
 use Rattle.tds_service.specs.Service as calls
-use Rattle.tds_service.specs.Service.{Place, Leased, Cleaning, Kept, Seat, Service, Step, Reply, Lent, Ticket, Did, Back, NotNow, drained, has_number, is_free, is_idle, is_lendable, may_keep, clean_place, rests, is_open, does, nothing, opens, find_by, change_by}
+use Rattle.tds_service.specs.Service.{Place, Leased, Cleaning, Kept, Seat, Service, Step, Reply, Lent, Ticket, Did, Back, NotNow, drained, has_number, has_ticket, is_free, is_idle, is_lendable, may_keep, clean_place, rests, does, nothing, opens, find_by}
 use Rattle.tds_service.specs.Table.{StepsIn, rest_of}
 use Rattle.tds_service.specs.Ties.{Appends, AreBytes}
+use Rattle.tds_service_c.specs.declared.keeping.Chosen.{Chosen}
+use Rattle.tds_service_c.specs.declared.keeping.Chosen.TheVariants as chosens
 use Rattle.tds_service_c.specs.declared.plain.TdsSeat.{TdsSeat}
 use Rattle.tds_service_c.specs.declared.plain.TdsService.{TdsService}
+use Rattle.tds_service_c.specs.declared.seat.Wanted.{Wanted}
 use Rattle.tds_service_c.specs.Calls.{Held}
+use Rattle.tds_service_c.specs.Chosen.{chosen_allows, chosen_call, chosen_place, chosen_reset, chosen_test}
 use Rattle.tds_service_c.specs.Plain.{line_of, place_of, seat_of, seats_of, stage_of}
-use Rattle.tds_service_c.specs.Table.{Becomes, FirstMet}
+use Rattle.tds_service_c.specs.Table.{Becomes, FirstMet, wanted_test}
 use Rattle.tds_service_c.proofs.Tables.{met_at, found_at, does_alike, does_gone, put_in, same_get}
 
 -- ---- The connection that is found
@@ -65,6 +69,11 @@ here_in test count seats i le first =
           ap (λ (x : TdsSeat). test (seat_of x)) at_used ∙ (sym (met_at test some.0 (take count seats) i first.within) ∙ first.here);
     }
 
+pub chosen_here : (chosen : Chosen) (wanted : Wanted) (count : ℕ) (seats : List TdsSeat) (i : ℕ)
+    → count ≤ length seats → wanted_test wanted ≡ chosen_test chosen → FirstMet (wanted_test wanted) (take count seats) i → Here (chosen_test chosen) count seats i
+chosen_here chosen wanted count seats i le is first =
+    here_in (chosen_test chosen) count seats i le (subst (λ (test : Seat → Bool). FirstMet test (take count seats) i) is first)
+
 -- ---- By what a call answers
 
 pub both_ok : {A E : Type 0} (r : Result A E) (P Q R : A → Type 0) → ((x : A) → P x → Q x → R x) → IfOk r P → IfOk r Q → IfOk r R
@@ -83,6 +92,10 @@ and_right false b e = absurd (let u : ⊥ = cc in u)
 
 pub lendable_idle : (c : TdsSeat) → is_lendable (seat_of c) ≡ true → is_idle (stage_of c.client) ≡ true
 lendable_idle c e = and_right (is_free (place_of c)) (is_idle (stage_of c.client)) e
+
+pub chosen_idle : (chosen : Chosen) (c : TdsSeat) → chosen_allows chosen (seat_of c) ≡ true → is_idle (stage_of c.client) ≡ true
+chosen_idle (chosens.Kept ticket) c e = e
+chosen_idle (chosens.Unclean number) c e = lendable_idle c e
 
 abbrev had_of : Reply → Bool
 had_of calls.Unknown = true
@@ -124,36 +137,38 @@ module _ (s new : Service) (c : Seat) (lease l n : ℕ) (had : Bool) where
       subst (λ (m : ℕ). StepsIn (calls.lends {T = Token} s (find_by is_lendable s.seats)) new (Lent l n had) m [] []) (reached had n (ap had_of lent.reply_is))
       (subst (λ (x : Option Seat). StepsIn (calls.lends {T = Token} s x) new (Lent l n had) n [] []) (sym found) lent)
 
-  pub resumes : (test : Seat → Bool) → find_by test s.seats ≡ Some c → is_idle c.line.stage ≡ true → lease ≡ s.given + 1
-      → StepsIn (lent_by test (Leased lease) KeepTransaction lease) new (Lent l n had) n [] []
-      → StepsIn (calls.resumes {T = Token} s test (find_by test s.seats)) new (Lent l n had) n [] []
-  resumes test found idle is did =
+  pub lends_chosen : (chosen : Chosen) → find_by (chosen_test chosen) s.seats ≡ Some c → chosen_allows chosen c ≡ true → lease ≡ s.given + 1
+      → StepsIn (lent_by (chosen_test chosen) (chosen_place chosen lease) (chosen_reset chosen) lease) new (Lent l n had) n [] []
+      → StepsIn (calls.step s (chosen_call chosen)) new (Lent l n had) n [] []
+  lends_chosen chosen found allows is did =
       let next : lease ≡ suc s.given = is ∙ (let e : s.given + 1 ≡ suc s.given = omega arith in e) in
-      let lent = subst (λ (g : ℕ). StepsIn (lent_by test (Leased g) KeepTransaction g) new (Lent l n had) n [] []) next did in
-      subst (λ (x : Option Seat). StepsIn (calls.resumes {T = Token} s test x) new (Lent l n had) n [] []) (sym found)
-      (if_done (λ (t : Step Token). StepsIn t new (Lent l n had) n [] []) (lent_by test (Leased (suc s.given)) KeepTransaction (suc s.given)) (nothing s NotNow) (is_idle c.line.stage) idle lent)
+      chosen_lent chosen found allows (subst (λ (g : ℕ). StepsIn (lent_by (chosen_test chosen) (chosen_place chosen g) (chosen_reset chosen) g) new (Lent l n had) n [] []) next did)
+    where
+      steps_lent : Step Token → Type 0
+      steps_lent t = StepsIn t new (Lent l n had) n [] []
 
-  pub cleans : (test : Seat → Bool) → find_by test s.seats ≡ Some c → is_lendable c ≡ true → lease ≡ s.given + 1
-      → StepsIn (lent_by test (Cleaning lease) Full lease) new (Lent l n had) n [] []
-      → StepsIn (calls.cleans {T = Token} s test (find_by test s.seats)) new (Lent l n had) n [] []
-  cleans test found idle is did =
-      let next : lease ≡ suc s.given = is ∙ (let e : s.given + 1 ≡ suc s.given = omega arith in e) in
-      let lent = subst (λ (g : ℕ). StepsIn (lent_by test (Cleaning g) Full g) new (Lent l n had) n [] []) next did in
-      subst (λ (x : Option Seat). StepsIn (calls.cleans {T = Token} s test x) new (Lent l n had) n [] []) (sym found)
-      (if_done (λ (t : Step Token). StepsIn t new (Lent l n had) n [] []) (lent_by test (Cleaning (suc s.given)) Full (suc s.given)) (nothing s NotNow) (is_lendable c) idle lent)
+      chosen_lent : (chosen : Chosen) → find_by (chosen_test chosen) s.seats ≡ Some c → chosen_allows chosen c ≡ true
+          → steps_lent (lent_by (chosen_test chosen) (chosen_place chosen (suc s.given)) (chosen_reset chosen) (suc s.given)) → steps_lent (calls.step s (chosen_call chosen))
+      chosen_lent (chosens.Kept ticket) found idle lent =
+          subst (λ (x : Option Seat). steps_lent (calls.resumes {T = Token} s (has_ticket ticket) x)) (sym found)
+          (if_done steps_lent (lent_by (has_ticket ticket) (Leased (suc s.given)) KeepTransaction (suc s.given)) (nothing s NotNow) (is_idle c.line.stage) idle lent)
+      chosen_lent (chosens.Unclean number) found lendable lent =
+          subst (λ (x : Option Seat). steps_lent (calls.cleans {T = Token} s (has_number number) x)) (sym found)
+          (if_done steps_lent (lent_by (has_number number) (Cleaning (suc s.given)) Full (suc s.given)) (nothing s NotNow) (is_lendable c) lendable lent)
 
--- one that isn't idle, or can't be lent
-pub not_resumed : (s : Service) (test : Seat → Bool) (c : Seat) → find_by test s.seats ≡ Some c → is_idle c.line.stage ≡ false
-    → calls.resumes {T = Token} s test (find_by test s.seats) ≡ nothing s NotNow
-not_resumed s test c found e =
-    ap (calls.resumes {T = Token} s test) found
-    ∙ if_refused s (does s (suc s.given) test c (Some (Leased (suc s.given))) (Mark KeepTransaction ∷ []) (Lent (suc s.given) c.number true)) (is_idle c.line.stage) e
+-- one that isn't there, or can't be lent
+pub chosen_unknown : (s : Service) (chosen : Chosen) → find_by (chosen_test chosen) s.seats ≡ None → calls.step {T = Token} s (chosen_call chosen) ≡ nothing s calls.Unknown
+chosen_unknown s (chosens.Kept ticket) none = ap (calls.resumes {T = Token} s (has_ticket ticket)) none
+chosen_unknown s (chosens.Unclean number) none = ap (calls.cleans {T = Token} s (has_number number)) none
 
-pub not_lent : (s : Service) (test : Seat → Bool) (c : Seat) → find_by test s.seats ≡ Some c → is_lendable c ≡ false
-    → calls.cleans {T = Token} s test (find_by test s.seats) ≡ nothing s NotNow
-not_lent s test c found e =
-    ap (calls.cleans {T = Token} s test) found
-    ∙ if_refused s (does s (suc s.given) test c (Some (Cleaning (suc s.given))) (Mark Full ∷ []) (Lent (suc s.given) c.number true)) (is_lendable c) e
+pub not_lent : (s : Service) (chosen : Chosen) (c : Seat) → find_by (chosen_test chosen) s.seats ≡ Some c → chosen_allows chosen c ≡ false
+    → calls.step {T = Token} s (chosen_call chosen) ≡ nothing s NotNow
+not_lent s (chosens.Kept ticket) c found e =
+    ap (calls.resumes {T = Token} s (has_ticket ticket)) found
+    ∙ if_refused s (does s (suc s.given) (has_ticket ticket) c (Some (Leased (suc s.given))) (Mark KeepTransaction ∷ []) (Lent (suc s.given) c.number true)) (is_idle c.line.stage) e
+not_lent s (chosens.Unclean number) c found e =
+    ap (calls.cleans {T = Token} s (has_number number)) found
+    ∙ if_refused s (does s (suc s.given) (has_number number) c (Some (Cleaning (suc s.given))) (Mark Full ∷ []) (Lent (suc s.given) c.number true)) (is_lendable c) e
 
 pub not_kept : (s : Service) (test : Seat → Bool) (c : Seat) → find_by test s.seats ≡ Some c → may_keep c ≡ false
     → calls.keeps_it {T = Token} s test (find_by test s.seats) ≡ nothing s NotNow

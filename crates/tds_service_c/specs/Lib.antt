@@ -1,6 +1,7 @@
 pub mod Plain
 pub mod Clients
 pub mod Table
+pub mod Chosen
 pub mod Answers
 pub mod Calls
 pub mod Asking

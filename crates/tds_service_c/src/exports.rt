@@ -8,6 +8,7 @@ ghost use Rattle.tds_service_c.specs.Calls.{done_number, ended_number, plain_len
 ghost use Rattle.tds_service_c.specs.Table.{wanted_test};
 
 use crate::answers::{Stop, rest_number};
+use crate::keeping::{Chosen, lend_chosen};
 use crate::plain::{TdsLent, TdsSeat, TdsService};
 use crate::seat::Wanted;
 use crate::table::find;
@@ -96,7 +97,7 @@ pub extern "C" fn tds_service_resume(
     if let Err(stop) = fits(service, seats) {
         return write_lent(Err(stop), lent);
     }
-    match keeping::resume(service, seats, ticket) {
+    match lend_chosen(service, seats, Chosen::Kept(ticket)) {
         Ok(l) => write_lent(Ok(l), lent),
         Err(refusal) => write_lent(Err(Stop::Refused(refusal)), lent),
     }
@@ -118,7 +119,7 @@ pub extern "C" fn tds_service_clean(
     if let Err(stop) = fits(service, seats) {
         return write_lent(Err(stop), lent);
     }
-    match keeping::clean(service, seats, number) {
+    match lend_chosen(service, seats, Chosen::Unclean(number)) {
         Ok(l) => write_lent(Ok(l), lent),
         Err(refusal) => write_lent(Err(Stop::Refused(refusal)), lent),
     }

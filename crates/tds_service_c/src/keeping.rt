@@ -3,8 +3,11 @@
 ghost use Rattle.std.specs.Prelude.{◌≡◌, ◌≤◌, [], ℕ, length, IfOk, IfErr, OnErr, OnOk};
 ghost use Rattle.tds_service.specs.Service as calls;
 ghost use Rattle.tds_service.specs.Table.{Refuses, Steps, rest_of};
+ghost use Rattle.tds_service.specs.Table.{place_of as place_named};
 ghost use Rattle.tds_service_c.specs.Calls.{Leaves};
-ghost use Rattle.tds_service_c.specs.Plain.{table_of};
+ghost use Rattle.tds_service_c.specs.Chosen.{chosen_allows, chosen_call, chosen_place, chosen_reset, chosen_test};
+ghost use Rattle.tds_service_c.specs.Plain.{seat_of, table_of};
+ghost use Rattle.tds_service_c.specs.Table.{wanted_test};
 
 use crate::giving::settle;
 use crate::lending::{lend_at, next_given};
@@ -14,60 +17,81 @@ use crate::table::find;
 use tds_packet::Reset;
 use tds_service::{Lent, Place, Refusal, Rest};
 
-/// Lends a connection that was kept, to go on with its transaction. The ticket is spent.
-pub(crate) fn resume(
-    service: &mut TdsService,
-    seats: &mut [TdsSeat],
-    ticket: u64,
-) -> Result<Lent, Refusal>
-    requires fits { service.old.count ≤ length seats.old }
-    ensures ok { IfOk result (λ lent. Steps (calls.Resume ticket) (table_of service.old seats.old)
-        (table_of service.new seats.new) (calls.Lent lent.lease lent.number lent.had)
-        lent.number [] []) }
-    ensures leaves { OnOk result (Leaves (record { service = service.old; seats = seats.old })
-        (record { service = service.new; seats = seats.new })) }
-    ensures refused { IfErr result (Refuses (calls.Resume ticket)
-        (table_of service.old seats.old)) }
-    ensures err { OnErr result (service.new ≡ service.old) }
-    ensures same { OnErr result (seats.new ≡ seats.old) }
-{
-    let lease = next_given(service)?;
-    let Some(index) = find(&seats[..service.count], Wanted::Ticket(ticket)) else {
-        return Err(Refusal::Unknown);
-    };
-    if !seats[index].is_idle() {
-        return Err(Refusal::NotNow);
-    }
-    let place = Place::Leased(lease);
-    Ok(lend_at(service, seats, index, lease, place, Reset::KeepTransaction))
+/// A connection that a caller chooses: one that was kept, by its ticket; one to be cleaned, by its number.
+#[derive(Clone, Copy)]
+pub(crate) enum Chosen {
+    Kept(u64),
+    Unclean(u64),
 }
 
-/// Lends the connection of this number, where it can be lent, to be cleaned.
-pub(crate) fn clean(
+impl Chosen {
+    fn wanted(self) -> Wanted
+        ensures { wanted_test result ≡ chosen_test self }
+    {
+        match self {
+            Chosen::Kept(ticket) => Wanted::Ticket(ticket),
+            Chosen::Unclean(number) => Wanted::Number(number),
+        }
+    }
+
+    /// Whether it can be lent now.
+    fn allows(self, seat: &TdsSeat) -> bool
+        ensures { result ≡ chosen_allows self (seat_of seat.now) }
+    {
+        match self {
+            Chosen::Kept(_) => seat.is_idle(),
+            Chosen::Unclean(_) => seat.is_wanted(Wanted::Lendable),
+        }
+    }
+
+    /// Where it is, lent by this lease.
+    fn place(self, lease: u64) -> Place
+        ensures { place_named result ≡ chosen_place self lease }
+    {
+        match self {
+            Chosen::Kept(_) => Place::Leased(lease),
+            Chosen::Unclean(_) => Place::Cleaning(lease),
+        }
+    }
+
+    /// The reset that its next request asks for.
+    fn reset(self) -> Reset
+        ensures { result ≡ chosen_reset self }
+    {
+        match self {
+            Chosen::Kept(_) => Reset::KeepTransaction,
+            Chosen::Unclean(_) => Reset::Full,
+        }
+    }
+}
+
+/// Lends the connection that is chosen: one that was kept, to go on with its transaction, whose ticket
+/// is spent; or one that can be lent, to be cleaned.
+pub(crate) fn lend_chosen(
     service: &mut TdsService,
     seats: &mut [TdsSeat],
-    number: u64,
+    chosen: Chosen,
 ) -> Result<Lent, Refusal>
     requires fits { service.old.count ≤ length seats.old }
-    ensures ok { IfOk result (λ lent. Steps (calls.Clean number) (table_of service.old seats.old)
+    ensures ok { IfOk result (λ lent. Steps (chosen_call chosen) (table_of service.old seats.old)
         (table_of service.new seats.new) (calls.Lent lent.lease lent.number lent.had)
         lent.number [] []) }
     ensures leaves { OnOk result (Leaves (record { service = service.old; seats = seats.old })
         (record { service = service.new; seats = seats.new })) }
-    ensures refused { IfErr result (Refuses (calls.Clean number)
+    ensures refused { IfErr result (Refuses (chosen_call chosen)
         (table_of service.old seats.old)) }
     ensures err { OnErr result (service.new ≡ service.old) }
     ensures same { OnErr result (seats.new ≡ seats.old) }
 {
     let lease = next_given(service)?;
-    let Some(index) = find(&seats[..service.count], Wanted::Number(number)) else {
+    let Some(index) = find(&seats[..service.count], chosen.wanted()) else {
         return Err(Refusal::Unknown);
     };
-    if !seats[index].is_wanted(Wanted::Lendable) {
+    if !chosen.allows(&seats[index]) {
         return Err(Refusal::NotNow);
     }
-    let place = Place::Cleaning(lease);
-    Ok(lend_at(service, seats, index, lease, place, Reset::Full))
+    let place = chosen.place(lease);
+    Ok(lend_at(service, seats, index, lease, place, chosen.reset()))
 }
 
 /// Keeps a connection with its transaction, and answers a ticket. The lease is spent.

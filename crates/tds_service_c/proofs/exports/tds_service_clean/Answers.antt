@@ -13,13 +13,13 @@ returns-in-Err c = (Err c.in-Err.stop, c.write_lent.ensures.number, (refl, c.wri
 pub returns-in-Ok : goal.returns-in-Ok
 returns-in-Ok c = (Ok c.in-Ok.l, c.write_lent-in-Ok.ensures.number, (_, c.write_lent-in-Ok.ensures.ok, (c.in_default.ensures.yes, c.in-Ok.ensures.ok), c.in-Ok.ensures.leaves))
 
-pub returns-in-Err-clean : goal.returns-in-Err-clean
-returns-in-Err-clean c = (
-  Err (stops.Refused c.in-Err-clean.refusal),
-  c.write_lent-in-Err-clean.ensures.number,
+pub returns-in-Err-lend_chosen : goal.returns-in-Err-lend_chosen
+returns-in-Err-lend_chosen c = (
+  Err (stops.Refused c.in-Err-lend_chosen.refusal),
+  c.write_lent-in-Err-lend_chosen.ensures.number,
   (
-    held_same c.clean.new.service c.args.service.now c.clean.new.seats c.args.seats.now c.in-Err-clean.ensures.err c.in-Err-clean.ensures.same,
-    c.write_lent-in-Err-clean.ensures.err,
-    (c.in_default.ensures.yes, c.in-Err-clean.ensures.refused),
+    held_same c.lend_chosen.new.service c.args.service.now c.lend_chosen.new.seats c.args.seats.now c.in-Err-lend_chosen.ensures.err c.in-Err-lend_chosen.ensures.same,
+    c.write_lent-in-Err-lend_chosen.ensures.err,
+    (c.in_default.ensures.yes, c.in-Err-lend_chosen.ensures.refused),
   ),
 )

@@ -13,13 +13,13 @@ returns-in-Err c = (Err c.in-Err.stop, c.write_lent.ensures.number, (refl, c.wri
 pub returns-in-Ok : goal.returns-in-Ok
 returns-in-Ok c = (Ok c.in-Ok.l, c.write_lent-in-Ok.ensures.number, (_, c.write_lent-in-Ok.ensures.ok, (c.in_default.ensures.yes, c.in-Ok.ensures.ok), c.in-Ok.ensures.leaves))
 
-pub returns-in-Err-resume : goal.returns-in-Err-resume
-returns-in-Err-resume c = (
-  Err (stops.Refused c.in-Err-resume.refusal),
-  c.write_lent-in-Err-resume.ensures.number,
+pub returns-in-Err-lend_chosen : goal.returns-in-Err-lend_chosen
+returns-in-Err-lend_chosen c = (
+  Err (stops.Refused c.in-Err-lend_chosen.refusal),
+  c.write_lent-in-Err-lend_chosen.ensures.number,
   (
-    held_same c.resume.new.service c.args.service.now c.resume.new.seats c.args.seats.now c.in-Err-resume.ensures.err c.in-Err-resume.ensures.same,
-    c.write_lent-in-Err-resume.ensures.err,
-    (c.in_default.ensures.yes, c.in-Err-resume.ensures.refused),
+    held_same c.lend_chosen.new.service c.args.service.now c.lend_chosen.new.seats c.args.seats.now c.in-Err-lend_chosen.ensures.err c.in-Err-lend_chosen.ensures.same,
+    c.write_lent-in-Err-lend_chosen.ensures.err,
+    (c.in_default.ensures.yes, c.in-Err-lend_chosen.ensures.refused),
   ),
 )
