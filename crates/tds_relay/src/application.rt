@@ -1,5 +1,5 @@
 //! An application, as the relay knows it.
-ghost use Rattle.std.specs.Prelude.{◌≤◌, ◌-◌, vec_len};
+ghost use Rattle.std.specs.Prelude.{◌≡◌, ◌≤◌, ◌-◌, vec_len};
 ghost use Rattle.tds_relay.specs.declared.application.TheConstants.{MOST_HELD};
 ghost use Rattle.tds_relay.specs.declared.outgoing.TheConstants.{PIECE};
 
@@ -43,7 +43,9 @@ pub(crate) struct Application {
 }
 
 impl Application {
-    pub(crate) fn new(alloc: Global, tag: usize, size: PacketSize) -> Application {
+    pub(crate) fn new(alloc: Global, tag: usize, size: PacketSize) -> Application
+        ensures size { result.out.size ≡ size }
+    {
         Application {
             tag,
             front: Front::new(size),

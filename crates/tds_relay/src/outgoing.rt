@@ -31,12 +31,13 @@ pub(crate) struct Outgoing {
     bytes: Vec<u8>,
     sent: usize,
     /// The packet size of the end that they go to.
-    size: PacketSize,
+    size: u16,
     /// Whether something didn't fit: then nothing more is appended.
     is_full: bool,
     ghost within: { sent ≤ vec_len bytes },
     ghost waiting: { vec_len bytes - sent ≤ size + PIECE },
     ghost moved: { sent < PIECE },
+    ghost longest: { size ≤ 32767 },
 }
 
 impl Outgoing {
@@ -50,7 +51,7 @@ impl Outgoing {
         Outgoing {
             bytes: Vec::new(alloc),
             sent: 0,
-            size,
+            size: size.get(),
             is_full: false,
         }
     }
@@ -59,6 +60,7 @@ impl Outgoing {
     pub(crate) fn unsent(&self) -> &[u8]
         ensures is { result.now ≡ drop self.now.sent self.now.bytes.items }
         ensures bounded { length result.now ≤ self.now.size + PIECE }
+        ensures longest { length result.now ≤ 32767 + PIECE }
     {
         match self.bytes.as_slice().get(self.sent..) {
             Some(rest) => rest,
@@ -132,10 +134,9 @@ impl Outgoing {
 
     /// How many bytes may wait at most.
     pub(crate) fn most(&self) -> usize
-        ensures is { result ≡ self.now.size + PIECE }
-        ensures range { (512 ≤ self.now.size) × (self.now.size ≤ 32767) }
+        ensures { result ≡ self.now.size + PIECE }
     {
-        usize::from(self.size.get()) + PIECE
+        usize::from(self.size) + PIECE
     }
 
     /// How many more bytes may wait.

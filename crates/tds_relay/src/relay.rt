@@ -1,9 +1,10 @@
 //! The relay: who is there, and what whoever carries its bytes asks of it.
-ghost use Rattle.std.specs.Prelude.{◌≡◌, ◌+◌, ◌-◌, ◌≤◌, ℕ, IfOk, OnOk, Some, length, vec_len};
+ghost use Rattle.std.specs.Prelude.{◌≡◌, ◌+◌, ◌-◌, ◌≤◌, ℕ, IfOk, IfSome, OnOk, Some, length, vec_len};
 ghost use Rattle.slab.specs.Slab.{get, slab_len};
 ghost use Rattle.tds_relay.specs.Bounds.{most_for, waiting_for};
 ghost use Rattle.tds_relay.specs.Desk.{find_number, key_of, new_desk};
 ghost use Rattle.tds_relay.specs.Ties.{GoesOn, desk_in};
+ghost use Rattle.tds_relay.specs.declared.application.Application.{Application};
 ghost use Rattle.tds_relay.specs.declared.outgoing.TheConstants.{PIECE};
 
 mod asking;
@@ -75,7 +76,9 @@ impl Relay {
 
     /// An application has come that is logged in, which is called so. Answers its key.
     pub fn enter(&mut self, tag: usize) -> Result<usize, NoMemory>
-        ensures { self.new.desk ≡ self.old.desk }
+        ensures desk { self.new.desk ≡ self.old.desk }
+        ensures size { IfOk result (λ key. IfSome (get self.new.applications key)
+            (λ (a : Application). a.out.size ≡ self.old.size)) }
     {
         let application = Application::new(self.alloc, tag, self.size);
         match self.applications.insert(application) {

@@ -86,20 +86,31 @@ impl Relay {
         }
     }
 
-    /// The server has acknowledged that an application's request was taken back: its next one goes on,
-    /// for which the connection is kept first where that asks for a reset and the transaction.
-    #[tactic(auto, using(crate::proofs::Reaching::reaches_turn))]
+    /// The server has acknowledged that an application's request was taken back: its next one goes on.
     fn resume(&mut self, number: u64, key: usize) -> Result<(), NoMemory>
         ensures { OnOk result (Goes (Connection number)
             (desk_in self.old.desk) (desk_in self.new.desk)) }
     {
-        let keeps = match self.applications.get(key) {
+        if self.asks_to_keep(key) {
+            self.keep(number, key)
+        } else {
+            self.start(key)
+        }
+    }
+
+    fn asks_to_keep(&self, key: usize) -> bool {
+        match self.applications.get(key) {
             Some(application) => application.asks_to_keep(),
             None => false,
-        };
-        if !keeps {
-            return self.start(key);
         }
+    }
+
+    /// The application keeps its connection with its transaction, for a request that has waited.
+    #[tactic(auto, using(crate::proofs::Reaching::reaches_turn))]
+    fn keep(&mut self, number: u64, key: usize) -> Result<(), NoMemory>
+        ensures { OnOk result (Goes (Connection number)
+            (desk_in self.old.desk) (desk_in self.new.desk)) }
+    {
         match self.desk.renew(key)? {
             Renewed::Kept(hold) => {
                 self.cut(hold.number, false);

@@ -2,7 +2,7 @@ use Rattle.std.proofs.Common.{subst, sym}
 use Rattle.tds_relay.specs.declared.desk.Desk as code
 use Rattle.tds_relay.specs.Ties.{Connection, Reaches, desk_in}
 use Rattle.tds_relay.proofs.Reaching.{ok_if, ok_more, reaches_turn}
-use Rattle.tds_relay.proofs.relay.Relay.resume.Goals as goal
+use Rattle.tds_relay.proofs.relay.Relay.keep.Goals as goal
 
 pub returns-in-Kept : goal.returns-in-Kept
 returns-in-Kept c =
