@@ -17,9 +17,10 @@
  *    may run at the same time. A value may go from thread to thread.
  *  - There is stack for the call (64 KB will do), and it isn't made from a signal handler or from
  *    the child of a fork in a process with threads.
- *  - Behind the player's library link liblibc_c.a of the toolchain; malloc, realloc and free are one
- *    allocator then, and align a block to each power of two up to 16 that divides its size. This
- *    library takes no memory, and needs of the C library memcpy and memmove alone.
+ *  - libtds_c.a takes no memory, and needs of the C library memcpy and memmove alone. The libraries
+ *    of the player, the views and the judge take memory: behind each of them on the linker's line
+ *    stands liblibc_c.a of the toolchain, which what a release installs has inside. malloc, realloc and
+ *    free are one allocator, and align a block to each power of two up to 16 that divides its size.
  *  - `message` of tds_client_send is what the start of that request wrote, all of it; what waits in
  *    `kept` for tds_client_put and tds_client_finish is what the call before left there.
  *  - Numbers have this machine's byte order; the library is for 64-bit machines with the low byte
