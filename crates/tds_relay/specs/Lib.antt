@@ -1,6 +1,10 @@
 pub mod Bounds
+pub mod Cutting
+pub mod Dealing
 pub mod Desk
 pub mod News
+pub mod Owning
 pub mod Places
+pub mod Posts
 pub mod Promises
 pub mod Ties

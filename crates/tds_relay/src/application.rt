@@ -43,8 +43,11 @@ pub(crate) struct Application {
 }
 
 impl Application {
+    ghost use Rattle.tds_relay.specs.Posts.{nothing, post_of};
+
     pub(crate) fn new(alloc: Global, tag: usize, size: PacketSize) -> Application
         ensures size { result.out.size ≡ size }
+        ensures post { post_of result ≡ nothing size }
     {
         Application {
             tag,
@@ -91,7 +94,9 @@ impl Application {
     }
 
     /// Keeps these bytes of its request. False where they are too many.
-    pub(crate) fn keep(&mut self, bytes: &[u8]) -> Result<bool, NoMemory> {
+    pub(crate) fn keep(&mut self, bytes: &[u8]) -> Result<bool, NoMemory>
+        ensures { post_of self.new ≡ post_of self.old }
+    {
         if bytes.len() > self.room_to_keep() {
             return Ok(false);
         }
@@ -100,7 +105,9 @@ impl Application {
     }
 
     /// Its request has its answer, or its attention the acknowledgement.
-    pub(crate) fn settle(&mut self, is_acknowledged: bool) {
+    pub(crate) fn settle(&mut self, is_acknowledged: bool)
+        ensures { post_of self.new ≡ post_of self.old }
+    {
         self.asking = Asking::Nothing;
         if is_acknowledged {
             self.front.acknowledged();
@@ -110,7 +117,9 @@ impl Application {
     }
 
     /// Nothing is kept of its request any more.
-    pub(crate) fn forget(&mut self) {
+    pub(crate) fn forget(&mut self)
+        ensures { post_of self.new ≡ post_of self.old }
+    {
         self.held.clear();
     }
 }

@@ -1,6 +1,6 @@
 //! What a desk promises, over any list of events, and a relay behind any calls. Each function does nothing
 //! when it runs: its contract is the law.
-ghost use Rattle.std.specs.Prelude.{◌≡◌, ◌+◌, ◌<◌, ◌≤◌, ◌++◌, ℕ, List, Some, vec_len};
+ghost use Rattle.std.specs.Prelude.{◌≡◌, ◌+◌, ◌<◌, ◌≤◌, ◌++◌, ℕ, List, OnOk, Some, vec_len};
 ghost use Rattle.tds_wire.specs.declared.told.Token.{Token};
 ghost use Rattle.tds_service.specs.Service.{Lease, step};
 ghost use Rattle.tds_relay.specs.Desk.{Desk, Event, desk_after, new_desk, turn, whose};
@@ -10,7 +10,12 @@ ghost use Rattle.tds_relay.specs.Bounds.{waiting_in};
 ghost use Rattle.tds_relay.specs.declared.application.Application.{Application};
 ghost use Rattle.tds_relay.specs.declared.link.Link.{Link};
 ghost use Rattle.tds_relay.specs.declared.outgoing.Outgoing.{Outgoing};
-ghost use Rattle.tds_relay.specs.Ties.{Cause, Causes, Goes, IsReached, Owns};
+ghost use Rattle.tds_relay.specs.Dealing.{Floor, floor_in};
+ghost use Rattle.tds_relay.specs.Owning.{Gives};
+ghost use Rattle.tds_relay.specs.Ties as causes;
+ghost use Rattle.tds_relay.specs.Ties.{Cause, Causes, Connection, Goes, IsReached, Owns};
+
+use crate::{NoMemory, Relay};
 
 /// An attention goes out on a connection only where the application that holds it cancels or leaves, with
 /// something of a request out there; so none does during a cleaning.
@@ -87,3 +92,20 @@ pub fn bounds()
 pub fn any_bytes()
     ensures { (by : Cause) (old new : Desk) → Goes by old new → IsReached old → IsReached new }
 {}
+
+/// What is given to an application, in order, is what this says: each packet that comes on the connection
+/// that it is lent, as it came or without the news of a reset; the news of its own reset, where it is lent a
+/// connection that nobody had; and the acknowledgement of its own attention. All of it, until it doesn't fit.
+pub fn own_bytes(
+    relay: &mut Relay,
+    key: usize,
+    said: &[u8],
+    number: u64,
+    came: &[u8],
+) -> Result<(), NoMemory>
+    ensures { OnOk result ((mid : Floor) × Gives (causes.Application key) (floor_in relay.old) mid
+        × Gives (Connection number) mid (floor_in relay.new)) }
+{
+    relay.said(key, said)?;
+    relay.came(number, came)
+}

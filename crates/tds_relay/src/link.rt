@@ -1,5 +1,6 @@
 //! A connection to the server, as the relay knows it beside its service.
-ghost use Rattle.std.specs.Prelude.{◌≡◌};
+ghost use Rattle.std.specs.Prelude.{◌≡◌, ◌++◌, ℕ, List, OnOk, if◌then◌else◌};
+ghost use Rattle.tds_relay.specs.Cutting.{IsAnew};
 ghost use Rattle.tds_packet.specs.declared.kind.Direction.TheVariants.{ToClient};
 
 use crate::NoMemory;
@@ -69,6 +70,10 @@ impl Link {
 }
 
 impl Answer {
+    ghost use Rattle.tds_relay.specs.Cutting.{IsCut, known_behind, left_of, passed_on};
+    ghost use Rattle.tds_relay.specs.News.{held};
+    ghost use Rattle.tds_relay.specs.Posts.{post_in, put};
+
     /// Nothing has come of the message that comes next.
     pub(crate) fn restart(&mut self) {
         self.walker.restart();
@@ -83,14 +88,14 @@ impl Answer {
         header: Header,
         bytes: &[u8],
         on: &mut Outgoing,
-    ) -> Result<bool, NoMemory> {
+    ) -> Result<bool, NoMemory>
+        ensures { OnOk result ((sent : List ℕ) × IsCut self.old header bytes.now sent
+            × (post_in on.new ≡ put sent (post_in on.old))) }
+    {
         let ends = header.status.ends();
         let mut kept = Vec::new(self.alloc);
         self.cut(bytes, &mut kept)?;
-        if ends {
-            self.known.end(&mut kept)?;
-            self.walker.restart();
-        }
+        self.close(ends, &mut kept)?;
         let mut packets = Vec::new(self.alloc);
         put_data(&mut packets, self.size, header.packet_id, ends, &kept)?;
         on.append(&packets)?;
@@ -101,23 +106,51 @@ impl Answer {
         Ok(is_over)
     }
 
+    /// Appends what was held back, where the message ends here.
+    fn close(&mut self, ends: bool, kept: &mut Vec<u8>) -> Result<(), NoMemory>
+        ensures kept { OnOk result (kept.new.items
+            ≡ (if ends then kept.old.items ++ held self.old.known else kept.old.items)) }
+        ensures size { self.new.size ≡ self.old.size }
+    {
+        if ends {
+            self.known.end(kept)?;
+            self.walker.restart();
+        }
+        Ok(())
+    }
+
+    /// Appends what goes on of these bytes of one token, which they end or not.
+    fn pass(&mut self, bytes: &[u8], ends: bool, kept: &mut Vec<u8>) -> Result<(), NoMemory>
+        ensures kept { OnOk result (kept.new.items
+            ≡ kept.old.items ++ passed_on ends self.old.known bytes.now) }
+        ensures known { OnOk result (self.new.known ≡ known_behind ends self.old.known bytes.now) }
+        ensures walker { self.new.walker ≡ self.old.walker }
+        ensures size { self.new.size ≡ self.old.size }
+    {
+        self.known.pass(bytes, kept)?;
+        if ends {
+            self.was_cut = self.known.end(kept)? || self.was_cut;
+        }
+        Ok(())
+    }
+
     /// Appends what goes on of these bytes.
-    fn cut(&mut self, bytes: &[u8], kept: &mut Vec<u8>) -> Result<(), NoMemory> {
+    fn cut(&mut self, bytes: &[u8], kept: &mut Vec<u8>) -> Result<(), NoMemory>
+        ensures kept { OnOk result (kept.new.items
+            ≡ kept.old.items ++ (left_of self.old.known self.old.walker bytes.now).bytes) }
+        ensures known { OnOk result (self.new.known
+            ≡ (left_of self.old.known self.old.walker bytes.now).known) }
+        ensures size { self.new.size ≡ self.old.size }
+    {
         let mut rest = bytes;
-        for _ in 0..bytes.len() {
-            if rest.is_empty() {
-                break;
-            }
+        'tokens: while !rest.is_empty() {
             let Ok(fed) = self.walker.feed(rest) else {
                 // The service has refused this packet, so it isn't handed on at all.
                 break;
             };
             let (token, others) = rest.split_at(fed.count);
-            self.known.pass(token, kept)?;
+            self.pass(token, fed.token.is_some(), kept)?;
             rest = others;
-            if fed.token.is_some() {
-                self.was_cut = self.known.end(kept)? || self.was_cut;
-            }
         }
         Ok(())
     }
@@ -131,18 +164,18 @@ fn put_data(
     packet_id: u8,
     ends: bool,
     data: &[u8],
-) -> Result<(), NoMemory> {
+) -> Result<(), NoMemory>
+    ensures { OnOk result ((sent : List ℕ) × IsAnew size packet_id ends «data».now sent
+        × (on.new.items ≡ on.old.items ++ sent)) }
+{
     let room = usize::from(size.get()) - 8;
     let mut rest = data;
-    for _ in 0..data.len() {
-        if rest.len() <= room {
-            break;
-        }
+    'packets: while rest.len() > room {
         let (first, others) = rest.split_at(room);
         put_sent(on, Kind::Answer, Status::of_answer(false), packet_id, first)?;
         rest = others;
     }
-    if rest.len() > room || (rest.is_empty() && !ends) {
+    if rest.is_empty() && !ends {
         return Ok(());
     }
     put_sent(on, Kind::Answer, Status::of_answer(ends), packet_id, rest)

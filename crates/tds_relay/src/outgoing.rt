@@ -42,11 +42,13 @@ pub(crate) struct Outgoing {
 
 impl Outgoing {
     ghost use Rattle.tds_relay.specs.Bounds.{waiting_in};
+    ghost use Rattle.tds_relay.specs.Posts.{nothing, post_in, put, without_first};
 
     pub(crate) fn new(alloc: Global, size: PacketSize) -> Outgoing
         ensures nothing { (result.bytes.items ≡ []) × (result.sent ≡ 0) }
         ensures size { result.size ≡ size }
         ensures open { result.is_full ≡ false }
+        ensures post { post_in result ≡ nothing size }
     {
         Outgoing {
             bytes: Vec::new(alloc),
@@ -97,6 +99,7 @@ impl Outgoing {
     }
 
     /// Appends bytes that are to be sent, all of them or none.
+    #[tactic(auto, unfolding(crate::specs::Posts::put))]
     pub(crate) fn append(&mut self, bytes: &[u8]) -> Result<(), NoMemory>
         ensures ok { OnOk result (self.new.bytes.items ≡ (if self.new.is_full
             then self.old.bytes.items else self.old.bytes.items ++ bytes.now)) }
@@ -105,6 +108,7 @@ impl Outgoing {
             → waiting_in self.old + length bytes.now ≤ self.old.size + PIECE
             → self.new.is_full ≡ false }
         ensures size { self.new.size ≡ self.old.size }
+        ensures post { OnOk result (post_in self.new ≡ put bytes.now (post_in self.old)) }
     {
         if self.is_full || bytes.len() > self.room() {
             self.is_full = true;
@@ -114,6 +118,7 @@ impl Outgoing {
     }
 
     /// Appends a packet, all of it or nothing.
+    #[tactic(auto, unfolding(crate::specs::Posts::put))]
     pub(crate) fn put_packet(&mut self, header: Header, content: &[u8]) -> Result<(), NoMemory>
         requires { header.length ≡ 8 + length content.now }
         ensures ok { OnOk result (self.new.bytes.items ≡ (if self.new.is_full
@@ -124,6 +129,8 @@ impl Outgoing {
             → waiting_in self.old + header.length ≤ self.old.size + PIECE
             → self.new.is_full ≡ false }
         ensures size { self.new.size ≡ self.old.size }
+        ensures post { OnOk result (post_in self.new
+            ≡ put (header_bytes header ++ content.now) (post_in self.old)) }
     {
         if self.is_full || usize::from(header.length) > self.room() {
             self.is_full = true;
@@ -151,6 +158,7 @@ impl Outgoing {
         ensures size { self.new.size ≡ self.old.size }
         ensures full { self.new.is_full ≡ self.old.is_full }
         ensures fewer { waiting_in self.new ≡ waiting_in self.old - count }
+        ensures post { post_in self.new ≡ without_first count (post_in self.old) }
     {
         let sent = self.sent.saturating_add(count).min(self.bytes.len());
         if sent == self.bytes.len() {

@@ -3,6 +3,7 @@ ghost use Rattle.std.specs.Prelude.{◌≡◌, ◌+◌, ◌-◌, ◌≤◌, ℕ,
 ghost use Rattle.slab.specs.Slab.{get, slab_len};
 ghost use Rattle.tds_relay.specs.Bounds.{most_for, waiting_for};
 ghost use Rattle.tds_relay.specs.Desk.{find_number, key_of, new_desk};
+ghost use Rattle.tds_relay.specs.Posts.{change, posts_in, unsent_of, without_first};
 ghost use Rattle.tds_relay.specs.Ties.{GoesOn, desk_in};
 ghost use Rattle.tds_relay.specs.declared.application.Application.{Application};
 ghost use Rattle.tds_relay.specs.declared.outgoing.TheConstants.{PIECE};
@@ -89,7 +90,8 @@ impl Relay {
 
     /// What is to be done, in order. It is to be done before the next call.
     pub fn orders(&mut self) -> Vec<Order>
-        ensures { self.new.desk ≡ self.old.desk }
+        ensures desk { self.new.desk ≡ self.old.desk }
+        ensures kept { posts_in self.new.applications ≡ posts_in self.old.applications }
     {
         mem::replace(&mut self.orders, Vec::new(self.alloc))
     }
@@ -149,7 +151,8 @@ impl Relay {
 
     /// What is to be sent to an application.
     pub fn unsent(&self, key: usize) -> &[u8]
-        ensures { length result.now ≤ most_for (get self.now.applications key) }
+        ensures bounded { length result.now ≤ most_for (get self.now.applications key) }
+        ensures is { result.now ≡ unsent_of (get self.now.applications key) }
     {
         match self.applications.get(key) {
             Some(application) => application.out.unsent(),
@@ -169,8 +172,11 @@ impl Relay {
 
     /// So many bytes of that were sent. Answers the tag of the connection that it holds, which may be read
     /// again.
+    #[tactic(auto, using(crate::proofs::Posting::posts_changed, crate::proofs::Posting::posts_nobody))]
     pub fn sent(&mut self, key: usize, count: usize) -> Option<usize>
-        ensures { self.new.desk ≡ self.old.desk }
+        ensures desk { self.new.desk ≡ self.old.desk }
+        ensures sent { posts_in self.new.applications
+            ≡ change key (without_first count) (posts_in self.old.applications) }
     {
         let application = self.applications.get_mut(key)?;
         application.out.sent(count);
@@ -181,7 +187,8 @@ impl Relay {
     /// So many bytes of that were sent. Answers the tag of the application that holds it, which may be read
     /// again.
     pub fn sent_on(&mut self, number: u64, count: usize) -> Option<usize>
-        ensures { self.new.desk ≡ self.old.desk }
+        ensures desk { self.new.desk ≡ self.old.desk }
+        ensures kept { posts_in self.new.applications ≡ posts_in self.old.applications }
     {
         let link = link_in(&mut self.links, number)?;
         link.out.sent(count);
@@ -212,7 +219,8 @@ impl Relay {
 
     /// Whether what comes on a connection is handed on.
     fn mute(&mut self, number: u64, is_muted: bool)
-        ensures { self.new.desk ≡ self.old.desk }
+        ensures desk { self.new.desk ≡ self.old.desk }
+        ensures kept { posts_in self.new.applications ≡ posts_in self.old.applications }
     {
         match link_in(&mut self.links, number) {
             Some(link) => link.is_muted = is_muted,
@@ -223,7 +231,8 @@ impl Relay {
     /// Whether the news of a reset is cut out of what comes next on a connection: a message's first
     /// packet. Who held it before may have left in the middle of one.
     fn cut(&mut self, number: u64, cuts: bool)
-        ensures { self.new.desk ≡ self.old.desk }
+        ensures desk { self.new.desk ≡ self.old.desk }
+        ensures kept { posts_in self.new.applications ≡ posts_in self.old.applications }
     {
         match link_in(&mut self.links, number) {
             Some(link) => {
@@ -237,7 +246,9 @@ impl Relay {
     /// What the desk has to send on a connection waits there. One for which more would wait than may is
     /// closed.
     fn send_on(&mut self, number: u64) -> Result<(), NoMemory>
-        ensures { OnOk result (GoesOn (desk_in self.old.desk) (desk_in self.new.desk)) }
+        ensures goes { OnOk result (GoesOn (desk_in self.old.desk) (desk_in self.new.desk)) }
+        ensures kept { OnOk result (posts_in self.new.applications
+            ≡ posts_in self.old.applications) }
     {
         let fits = match link_in(&mut self.links, number) {
             Some(link) => {
@@ -256,7 +267,9 @@ impl Relay {
 
     /// Something is to be sent to an application. One for which more would wait than may is closed.
     fn order_write(&mut self, key: usize) -> Result<(), NoMemory>
-        ensures { self.new.desk ≡ self.old.desk }
+        ensures desk { self.new.desk ≡ self.old.desk }
+        ensures kept { OnOk result (posts_in self.new.applications
+            ≡ posts_in self.old.applications) }
     {
         let Some(application) = self.applications.get(key) else {
             return Ok(());
@@ -270,7 +283,9 @@ impl Relay {
 
     /// Something is to be sent on a connection.
     fn order_write_on(&mut self, number: u64) -> Result<(), NoMemory>
-        ensures { self.new.desk ≡ self.old.desk }
+        ensures desk { self.new.desk ≡ self.old.desk }
+        ensures kept { OnOk result (posts_in self.new.applications
+            ≡ posts_in self.old.applications) }
     {
         let Some(link) = self.link(number) else {
             return Ok(());

@@ -1,5 +1,7 @@
 //! What applications say: requests, and cancels.
 ghost use Rattle.std.specs.Prelude.{◌≡◌, OnOk};
+ghost use Rattle.tds_relay.specs.Dealing.{Deals, floor_in};
+ghost use Rattle.tds_relay.specs.Posts.{acknowledgement, give, posts_in};
 ghost use Rattle.tds_relay.specs.Ties.{Application, Goes, GoesOn, NobodyWaits, desk_in};
 
 use super::Relay;
@@ -20,6 +22,8 @@ impl Relay {
     pub fn said(&mut self, key: usize, piece: &[u8]) -> Result<(), NoMemory>
         ensures goes { OnOk result (Goes (Application key)
             (desk_in self.old.desk) (desk_in self.new.desk)) }
+        ensures deals { OnOk result (Deals (Application key) (floor_in self.old)
+            (floor_in self.new)) }
         ensures served { OnOk result (NobodyWaits (desk_in self.new.desk)) }
     {
         let mut rest = piece;
@@ -28,18 +32,17 @@ impl Relay {
                 break;
             }
             let count = self.take(key, rest)?;
-            rest = match rest.get(count..) {
-                Some(left) => left,
-                None => &[],
-            };
+            rest = behind(rest, count);
         }
         self.serve_line()
     }
 
     /// Takes some of them, and answers how many.
     fn take(&mut self, key: usize, piece: &[u8]) -> Result<usize, NoMemory>
-        ensures { OnOk result (Goes (Application key)
+        ensures goes { OnOk result (Goes (Application key)
             (desk_in self.old.desk) (desk_in self.new.desk)) }
+        ensures deals { OnOk result (Deals (Application key) (floor_in self.old)
+            (floor_in self.new)) }
     {
         let Some(application) = self.applications.get_mut(key) else {
             return Ok(piece.len());
@@ -58,8 +61,10 @@ impl Relay {
 
     /// Does what is to be done with these bytes.
     fn obey(&mut self, key: usize, bytes: &[u8], said: Said) -> Result<(), NoMemory>
-        ensures { OnOk result (Goes (Application key)
+        ensures goes { OnOk result (Goes (Application key)
             (desk_in self.old.desk) (desk_in self.new.desk)) }
+        ensures deals { OnOk result (Deals (Application key) (floor_in self.old)
+            (floor_in self.new)) }
     {
         match said {
             Said::Nothing => Ok(()),
@@ -78,10 +83,12 @@ impl Relay {
     /// A request begins. Where it asks for a reset itself, its application gives back what it holds; but
     /// where the transaction is to stay, its connection stays too: whether there is one is known once the
     /// server has acknowledged what was taken back before.
-    #[tactic(auto, using(crate::proofs::Reaching::reaches_turn, crate::proofs::Reaching::reaches_left))]
+    #[tactic(auto, using(crate::proofs::Reaching::reaches_turn, crate::proofs::Reaching::reaches_left, crate::proofs::Posting::kept_more, crate::proofs::Posting::posts_kept))]
     fn begin(&mut self, key: usize, kind: Kind, reset: Option<Reset>) -> Result<(), NoMemory>
-        ensures { OnOk result (Goes (Application key)
+        ensures goes { OnOk result (Goes (Application key)
             (desk_in self.old.desk) (desk_in self.new.desk)) }
+        ensures kept { OnOk result (posts_in self.new.applications
+            ≡ posts_in self.old.applications) }
     {
         let Some(application) = self.applications.get_mut(key) else {
             return Ok(());
@@ -124,8 +131,10 @@ impl Relay {
     /// The application lets its connection go, and waits for one like who has come.
     #[tactic(auto, using(crate::proofs::Reaching::reaches_turn, crate::proofs::Reaching::reaches_left))]
     fn change(&mut self, key: usize) -> Result<(), NoMemory>
-        ensures { OnOk result (Goes (Application key)
+        ensures goes { OnOk result (Goes (Application key)
             (desk_in self.old.desk) (desk_in self.new.desk)) }
+        ensures kept { OnOk result (posts_in self.new.applications
+            ≡ posts_in self.old.applications) }
     {
         self.release(key)?;
         self.desk.wait(key)
@@ -134,8 +143,10 @@ impl Relay {
     /// The application keeps its connection with its transaction, and its next request resets the rest.
     #[tactic(auto, using(crate::proofs::Reaching::reaches_turn, crate::proofs::Reaching::reaches_left))]
     fn renew(&mut self, key: usize) -> Result<(), NoMemory>
-        ensures { OnOk result (Goes (Application key)
+        ensures goes { OnOk result (Goes (Application key)
             (desk_in self.old.desk) (desk_in self.new.desk)) }
+        ensures kept { OnOk result (posts_in self.new.applications
+            ≡ posts_in self.old.applications) }
     {
         match self.desk.renew(key)? {
             Renewed::Kept(hold) => {
@@ -148,9 +159,12 @@ impl Relay {
     }
 
     /// The next bytes of its request's body, with which it is whole or not.
+    #[tactic(auto, using(crate::proofs::Posting::kept_more, crate::proofs::Posting::posts_kept))]
     fn go_on(&mut self, key: usize, bytes: &[u8], whole: bool) -> Result<(), NoMemory>
-        ensures { OnOk result (Goes (Application key)
+        ensures goes { OnOk result (Goes (Application key)
             (desk_in self.old.desk) (desk_in self.new.desk)) }
+        ensures kept { OnOk result (posts_in self.new.applications
+            ≡ posts_in self.old.applications) }
     {
         let Some(application) = self.applications.get_mut(key) else {
             return Ok(());
@@ -171,7 +185,9 @@ impl Relay {
     /// Puts bytes of a request on its connection, and its end.
     #[tactic(auto, using(crate::proofs::Reaching::reaches_turn, crate::proofs::Reaching::reaches_turned))]
     pub(super) fn put(&mut self, key: usize, bytes: &[u8], whole: bool) -> Result<(), NoMemory>
-        ensures { OnOk result (GoesOn (desk_in self.old.desk) (desk_in self.new.desk)) }
+        ensures goes { OnOk result (GoesOn (desk_in self.old.desk) (desk_in self.new.desk)) }
+        ensures kept { OnOk result (posts_in self.new.applications
+            ≡ posts_in self.old.applications) }
     {
         let Some(hold) = self.desk.hold_of(key) else {
             return Ok(());
@@ -186,7 +202,8 @@ impl Relay {
 
     /// Something of a request goes on, where the desk has something to send.
     fn note_went_on(&mut self, key: usize)
-        ensures { self.new.desk ≡ self.old.desk }
+        ensures desk { self.new.desk ≡ self.old.desk }
+        ensures kept { posts_in self.new.applications ≡ posts_in self.old.applications }
     {
         if self.outbox.is_empty() {
             return;
@@ -199,10 +216,12 @@ impl Relay {
 
     /// What has come of its request is forgotten; where something of it has gone on, the server is to
     /// forget it too, and its acknowledgement is nobody's.
-    #[tactic(auto, using(crate::proofs::Reaching::reaches_turn, crate::proofs::Reaching::reaches_left))]
+    #[tactic(auto, using(crate::proofs::Reaching::reaches_turn, crate::proofs::Reaching::reaches_left, crate::proofs::Posting::kept_more, crate::proofs::Posting::posts_kept))]
     fn take_back(&mut self, key: usize) -> Result<(), NoMemory>
-        ensures { OnOk result (Goes (Application key)
+        ensures goes { OnOk result (Goes (Application key)
             (desk_in self.old.desk) (desk_in self.new.desk)) }
+        ensures kept { OnOk result (posts_in self.new.applications
+            ≡ posts_in self.old.applications) }
     {
         let Some(application) = self.applications.get_mut(key) else {
             return Ok(());
@@ -229,7 +248,9 @@ impl Relay {
 
     /// The relay acknowledges an attention.
     fn acknowledge(&mut self, key: usize) -> Result<(), NoMemory>
-        ensures { self.new.desk ≡ self.old.desk }
+        ensures desk { self.new.desk ≡ self.old.desk }
+        ensures given { OnOk result (posts_in self.new.applications
+            ≡ give key acknowledgement (posts_in self.old.applications)) }
     {
         match self.applications.get_mut(key) {
             Some(application) => {
@@ -242,8 +263,10 @@ impl Relay {
 
     /// The server acknowledges an attention.
     fn hand_on(&mut self, key: usize) -> Result<(), NoMemory>
-        ensures { OnOk result (Goes (Application key)
+        ensures goes { OnOk result (Goes (Application key)
             (desk_in self.old.desk) (desk_in self.new.desk)) }
+        ensures kept { OnOk result (posts_in self.new.applications
+            ≡ posts_in self.old.applications) }
     {
         let Some(hold) = self.desk.hold_of(key) else {
             return self.expel(key);
@@ -260,8 +283,10 @@ impl Relay {
     /// Cancels what is underway of an application. None where its connection is of no use any more.
     #[tactic(auto, using(crate::proofs::Reaching::reaches_turn, crate::proofs::Reaching::reaches_left))]
     fn cancel(&mut self, key: usize) -> Result<Option<Cancelled>, NoMemory>
-        ensures { OnOk result (Goes (Application key)
+        ensures goes { OnOk result (Goes (Application key)
             (desk_in self.old.desk) (desk_in self.new.desk)) }
+        ensures kept { OnOk result (posts_in self.new.applications
+            ≡ posts_in self.old.applications) }
     {
         self.outbox.clear();
         match self.desk.cancel(key, &mut self.outbox) {
@@ -287,6 +312,14 @@ fn put_on(desk: &mut Desk, key: usize, bytes: &[u8], whole: bool, out: &mut Vec<
     match desk.finish(key, out) {
         Ok(_) => true,
         Err(_) => false,
+    }
+}
+
+/// What stands behind so many of these bytes.
+pub(super) fn behind(bytes: &[u8], count: usize) -> &[u8] {
+    match bytes.get(count..) {
+        Some(rest) => rest,
+        None => &[],
     }
 }
 

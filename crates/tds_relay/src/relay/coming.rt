@@ -1,9 +1,12 @@
 //! What comes on connections.
 ghost use Rattle.std.specs.Prelude.{◌≡◌, ◌+◌, ◌≤◌, false, length, OnOk};
+ghost use Rattle.tds_relay.specs.Dealing.{Deals, Passes, floor_in, floor_of};
+ghost use Rattle.tds_relay.specs.Posts.{post_of, posts_in};
 ghost use Rattle.tds_relay.specs.Bounds.{waiting_in};
 ghost use Rattle.tds_relay.specs.Ties.{Connection, Goes, GoesOn, NobodyWaits, desk_in};
 ghost use Rattle.tds_relay.specs.declared.outgoing.TheConstants.{PIECE};
 
+use super::asking::behind;
 use super::{Relay, link_in};
 use crate::NoMemory;
 use crate::application::{Application, Asking};
@@ -18,6 +21,8 @@ impl Relay {
     pub fn came(&mut self, number: u64, piece: &[u8]) -> Result<(), NoMemory>
         ensures goes { OnOk result (Goes (Connection number)
             (desk_in self.old.desk) (desk_in self.new.desk)) }
+        ensures deals { OnOk result (Deals (Connection number) (floor_in self.old)
+            (floor_in self.new)) }
         ensures served { OnOk result (NobodyWaits (desk_in self.new.desk)) }
     {
         let mut rest = piece;
@@ -26,10 +31,7 @@ impl Relay {
                 break;
             }
             let (count, heard) = self.hear(number, rest)?;
-            rest = match rest.get(count..) {
-                Some(left) => left,
-                None => &[],
-            };
+            rest = behind(rest, count);
             self.heard(number, heard)?;
         }
         self.serve_line()
@@ -38,8 +40,10 @@ impl Relay {
     /// Takes bytes up to the end of a packet, and hands on what is an application's. None where they
     /// are no packet of an answer.
     fn hear(&mut self, number: u64, piece: &[u8]) -> Result<(usize, Option<Heard>), NoMemory>
-        ensures { OnOk result (Goes (Connection number)
+        ensures goes { OnOk result (Goes (Connection number)
             (desk_in self.old.desk) (desk_in self.new.desk)) }
+        ensures deals { OnOk result (Deals (Connection number) (floor_in self.old)
+            (floor_in self.new)) }
     {
         let Relay {
             desk,
@@ -58,8 +62,10 @@ impl Relay {
 
     /// What came of a packet is done.
     fn heard(&mut self, number: u64, heard: Option<Heard>) -> Result<(), NoMemory>
-        ensures { OnOk result (Goes (Connection number)
+        ensures goes { OnOk result (Goes (Connection number)
             (desk_in self.old.desk) (desk_in self.new.desk)) }
+        ensures kept { OnOk result (posts_in self.new.applications
+            ≡ posts_in self.old.applications) }
     {
         self.send_on(number)?;
         let Some(heard) = heard else {
@@ -88,8 +94,10 @@ impl Relay {
 
     /// The server has acknowledged that an application's request was taken back: its next one goes on.
     fn resume(&mut self, number: u64, key: usize) -> Result<(), NoMemory>
-        ensures { OnOk result (Goes (Connection number)
+        ensures goes { OnOk result (Goes (Connection number)
             (desk_in self.old.desk) (desk_in self.new.desk)) }
+        ensures kept { OnOk result (posts_in self.new.applications
+            ≡ posts_in self.old.applications) }
     {
         if self.asks_to_keep(key) {
             self.keep(number, key)
@@ -108,8 +116,10 @@ impl Relay {
     /// The application keeps its connection with its transaction, for a request that has waited.
     #[tactic(auto, using(crate::proofs::Reaching::reaches_turn))]
     fn keep(&mut self, number: u64, key: usize) -> Result<(), NoMemory>
-        ensures { OnOk result (Goes (Connection number)
+        ensures goes { OnOk result (Goes (Connection number)
             (desk_in self.old.desk) (desk_in self.new.desk)) }
+        ensures kept { OnOk result (posts_in self.new.applications
+            ≡ posts_in self.old.applications) }
     {
         match self.desk.renew(key)? {
             Renewed::Kept(hold) => {
@@ -125,8 +135,10 @@ impl Relay {
     /// for another.
     #[tactic(auto, using(crate::proofs::Reaching::reaches_turn))]
     fn replace(&mut self, number: u64, key: usize) -> Result<(), NoMemory>
-        ensures { OnOk result (Goes (Connection number)
+        ensures goes { OnOk result (Goes (Connection number)
             (desk_in self.old.desk) (desk_in self.new.desk)) }
+        ensures kept { OnOk result (posts_in self.new.applications
+            ≡ posts_in self.old.applications) }
     {
         self.desk.lose(number)?;
         self.close(number, None)?;
@@ -135,7 +147,8 @@ impl Relay {
 
     /// What comes on a connection is handed on again. False where it was.
     fn unmute(&mut self, number: u64) -> bool
-        ensures { self.new.desk ≡ self.old.desk }
+        ensures desk { self.new.desk ≡ self.old.desk }
+        ensures kept { posts_in self.new.applications ≡ posts_in self.old.applications }
     {
         match link_in(&mut self.links, number) {
             Some(link) => {
@@ -149,7 +162,9 @@ impl Relay {
 
     /// An application's request has its answer, or its attention the acknowledgement.
     fn settled(&mut self, key: usize, is_acknowledged: bool) -> Result<(), NoMemory>
-        ensures { self.new.desk ≡ self.old.desk }
+        ensures desk { self.new.desk ≡ self.old.desk }
+        ensures kept { OnOk result (posts_in self.new.applications
+            ≡ posts_in self.old.applications) }
     {
         match self.applications.get_mut(key) {
             Some(application) => {
@@ -176,8 +191,10 @@ fn hear_on(
     outbox: &mut Vec<u8>,
     piece: &[u8],
 ) -> Result<(usize, Option<Heard>), NoMemory>
-    ensures { OnOk result (Goes (Connection number) (desk_in desk.old)
+    ensures goes { OnOk result (Goes (Connection number) (desk_in desk.old)
         (desk_in desk.new)) }
+    ensures deals { OnOk result (Deals (Connection number)
+        (floor_of desk.old applications.old) (floor_of desk.new applications.new)) }
 {
     let Ok(count) = link.reader.feed(piece) else {
         return Ok((piece.len(), None));
@@ -196,8 +213,10 @@ fn hear_packet(
     told: &mut Vec<Token>,
     outbox: &mut Vec<u8>,
 ) -> Result<Heard, NoMemory>
-    ensures { OnOk result (Goes (Connection number) (desk_in desk.old)
+    ensures goes { OnOk result (Goes (Connection number) (desk_in desk.old)
         (desk_in desk.new)) }
+    ensures deals { OnOk result (Deals (Connection number)
+        (floor_of desk.old applications.old) (floor_of desk.new applications.new)) }
 {
     let Some(packet) = link.reader.packet() else {
         return Ok(NOTHING);
@@ -226,6 +245,8 @@ fn hand_on(
     application: &mut Application,
 ) -> Result<(), NoMemory>
     requires { packet.header.length ≡ 8 + length packet.«data».now }
+    ensures passes { OnOk result (Passes cuts.old answer.old packet.entry.header packet.entry.«data».now
+        (post_of application.old) (post_of application.new)) }
     ensures fits { cuts.old ≡ false → application.old.out.is_full ≡ false
         → waiting_in application.old.out + packet.entry.header.length ≤ application.old.out.size + PIECE
         → application.new.out.is_full ≡ false }

@@ -1,6 +1,8 @@
 //! Applications that leave, and connections that are lost.
 ghost use Rattle.std.specs.Prelude.{◌≡◌, OnOk};
 ghost use Rattle.tds_relay.specs.Desk.{Loses, turn};
+ghost use Rattle.tds_relay.specs.Dealing.{Deals, DealsOn, floor_in};
+ghost use Rattle.tds_relay.specs.Posts.{posts_in};
 ghost use Rattle.tds_relay.specs.Ties.{Application, Goes, GoesOn, Leaving, NobodyWaits, desk_in};
 
 use super::Relay;
@@ -14,6 +16,8 @@ impl Relay {
     #[tactic(auto, using(crate::proofs::Reaching::reaches_turn, crate::proofs::Reaching::reaches_turned))]
     pub fn left(&mut self, key: usize) -> Result<(), NoMemory>
         ensures left { OnOk result (Leaving key (desk_in self.old.desk) (desk_in self.new.desk)) }
+        ensures deals { OnOk result (Deals (Application key) (floor_in self.old)
+            (floor_in self.new)) }
         ensures served { OnOk result (NobodyWaits (desk_in self.new.desk)) }
     {
         let _ = self.applications.try_remove(key).is_some();
@@ -26,6 +30,7 @@ impl Relay {
     pub fn lost(&mut self, number: u64) -> Result<(), NoMemory>
         ensures lost { OnOk result (GoesOn (turn (desk_in self.old.desk) (Loses number)).desk
             (desk_in self.new.desk)) }
+        ensures deals { OnOk result (DealsOn (floor_in self.old) (floor_in self.new)) }
         ensures served { OnOk result (NobodyWaits (desk_in self.new.desk)) }
     {
         self.lose(number)?;
@@ -35,8 +40,10 @@ impl Relay {
     /// Nothing more of an application is taken, and it is to be closed. Its connection is given back.
     #[tactic(auto, using(crate::proofs::Reaching::reaches_left))]
     pub(super) fn expel(&mut self, key: usize) -> Result<(), NoMemory>
-        ensures { OnOk result (Goes (Application key)
+        ensures goes { OnOk result (Goes (Application key)
             (desk_in self.old.desk) (desk_in self.new.desk)) }
+        ensures kept { OnOk result (posts_in self.new.applications
+            ≡ posts_in self.old.applications) }
     {
         self.end(key)?;
         self.release(key)
@@ -44,7 +51,9 @@ impl Relay {
 
     /// It is to be closed.
     pub(super) fn end(&mut self, key: usize) -> Result<(), NoMemory>
-        ensures { self.new.desk ≡ self.old.desk }
+        ensures desk { self.new.desk ≡ self.old.desk }
+        ensures kept { OnOk result (posts_in self.new.applications
+            ≡ posts_in self.old.applications) }
     {
         match self.applications.get_mut(key) {
             Some(application) => {
@@ -62,7 +71,9 @@ impl Relay {
     /// An application waits no more, and what it holds is nobody's any more.
     #[tactic(auto, using(crate::proofs::Reaching::reaches_turn, crate::proofs::Reaching::reaches_turned))]
     pub(super) fn release(&mut self, key: usize) -> Result<(), NoMemory>
-        ensures { OnOk result (Leaving key (desk_in self.old.desk) (desk_in self.new.desk)) }
+        ensures leaving { OnOk result (Leaving key (desk_in self.old.desk) (desk_in self.new.desk)) }
+        ensures kept { OnOk result (posts_in self.new.applications
+            ≡ posts_in self.old.applications) }
     {
         self.outbox.clear();
         let Some(left) = self.desk.leave(key, &mut self.outbox)? else {
@@ -84,13 +95,17 @@ impl Relay {
         ensures lost { OnOk result (GoesOn (turn (desk_in self.old.desk) (Loses number)).desk
             (desk_in self.new.desk)) }
         ensures goes { OnOk result (GoesOn (desk_in self.old.desk) (desk_in self.new.desk)) }
+        ensures kept { OnOk result (posts_in self.new.applications
+            ≡ posts_in self.old.applications) }
     {
         let key = self.desk.lose(number)?;
         self.close(number, key)
     }
 
     fn close_link(&mut self, number: u64) -> Result<(), NoMemory>
-        ensures { self.new.desk ≡ self.old.desk }
+        ensures desk { self.new.desk ≡ self.old.desk }
+        ensures kept { OnOk result (posts_in self.new.applications
+            ≡ posts_in self.old.applications) }
     {
         let Some(link) = take_out(&mut self.links, number) else {
             return Ok(());
@@ -106,7 +121,9 @@ impl Relay {
 
     /// A connection that the desk has no more is closed, and the application that held it.
     pub(super) fn close(&mut self, number: u64, key: Option<usize>) -> Result<(), NoMemory>
-        ensures { self.new.desk ≡ self.old.desk }
+        ensures desk { self.new.desk ≡ self.old.desk }
+        ensures kept { OnOk result (posts_in self.new.applications
+            ≡ posts_in self.old.applications) }
     {
         self.close_link(number)?;
         match key {

@@ -1,5 +1,8 @@
 //! Connections that are lent to those who wait, opened, and asked.
-ghost use Rattle.std.specs.Prelude.{◌≡◌, OnOk};
+ghost use Rattle.std.specs.Prelude.{◌≡◌, ◌&&◌, OnOk, not};
+ghost use Rattle.slab.specs.Slab.{get};
+ghost use Rattle.tds_relay.specs.Dealing.{Deals, DealsOn, floor_in};
+ghost use Rattle.tds_relay.specs.Posts.{asks_reset, posts_in, told_if};
 ghost use Rattle.tds_relay.specs.Ties.{Goes, GoesOn, Neither, NobodyWaits, desk_in};
 
 use super::{Relay, link_in};
@@ -19,7 +22,8 @@ impl Relay {
     /// all. It is cleaned first. Answers its number, or none where it isn't wanted.
     #[tactic(auto, using(crate::proofs::Reaching::reaches_turn, crate::proofs::Reaching::reaches_turned))]
     pub fn bring(&mut self, tag: usize) -> Result<Option<u64>, NoMemory>
-        ensures { OnOk result (Goes Neither (desk_in self.old.desk) (desk_in self.new.desk)) }
+        ensures goes { OnOk result (Goes Neither (desk_in self.old.desk) (desk_in self.new.desk)) }
+        ensures deals { OnOk result (Deals Neither (floor_in self.old) (floor_in self.new)) }
     {
         if !self.links.is_empty() {
             return Ok(None);
@@ -46,7 +50,8 @@ impl Relay {
 
     /// The connection of this number is being opened, and is called so.
     pub fn opening(&mut self, number: u64, tag: usize)
-        ensures { self.new.desk ≡ self.old.desk }
+        ensures desk { self.new.desk ≡ self.old.desk }
+        ensures kept { posts_in self.new.applications ≡ posts_in self.old.applications }
     {
         match link_in(&mut self.links, number) {
             Some(link) => link.tag = Some(tag),
@@ -57,6 +62,7 @@ impl Relay {
     /// The connection of this number is open and logged in.
     pub fn opened(&mut self, number: u64) -> Result<(), NoMemory>
         ensures goes { OnOk result (GoesOn (desk_in self.old.desk) (desk_in self.new.desk)) }
+        ensures deals { OnOk result (DealsOn (floor_in self.old) (floor_in self.new)) }
         ensures served { OnOk result (NobodyWaits (desk_in self.new.desk)) }
     {
         self.set_open(number);
@@ -66,7 +72,8 @@ impl Relay {
     }
 
     fn set_open(&mut self, number: u64)
-        ensures { self.new.desk ≡ self.old.desk }
+        ensures desk { self.new.desk ≡ self.old.desk }
+        ensures kept { posts_in self.new.applications ≡ posts_in self.old.applications }
     {
         match link_in(&mut self.links, number) {
             Some(link) => link.is_open = true,
@@ -76,7 +83,9 @@ impl Relay {
 
     /// Asks what the application asks that holds a connection.
     fn start_on(&mut self, number: u64) -> Result<(), NoMemory>
-        ensures { OnOk result (GoesOn (desk_in self.old.desk) (desk_in self.new.desk)) }
+        ensures goes { OnOk result (GoesOn (desk_in self.old.desk) (desk_in self.new.desk)) }
+        ensures kept { OnOk result (posts_in self.new.applications
+            ≡ posts_in self.old.applications) }
     {
         match self.desk.key_on(number) {
             Some(key) => self.start(key),
@@ -88,6 +97,7 @@ impl Relay {
     #[tactic(auto, using(crate::proofs::Reaching::reaches_turn, crate::proofs::Reaching::reaches_turned))]
     pub(super) fn serve_line(&mut self) -> Result<(), NoMemory>
         ensures goes { OnOk result (GoesOn (desk_in self.old.desk) (desk_in self.new.desk)) }
+        ensures deals { OnOk result (DealsOn (floor_in self.old) (floor_in self.new)) }
         ensures served { OnOk result (NobodyWaits (desk_in self.new.desk)) }
     {
         'line: for _ in 0..u64::MAX {
@@ -102,14 +112,14 @@ impl Relay {
     /// A connection is lent to an application.
     #[tactic(auto, using(crate::proofs::Reaching::reaches_turn, crate::proofs::Reaching::reaches_turned))]
     fn lend(&mut self, served: Served) -> Result<(), NoMemory>
-        ensures { OnOk result (GoesOn (desk_in self.old.desk) (desk_in self.new.desk)) }
+        ensures goes { OnOk result (GoesOn (desk_in self.old.desk) (desk_in self.new.desk)) }
+        ensures told { OnOk result (posts_in self.new.applications
+            ≡ told_if (not served.had && asks_reset (get self.old.applications served.hold.key))
+            served.hold.key (posts_in self.old.applications)) }
     {
         let key = served.hold.key;
         let number = served.hold.number;
-        let asks_for_reset = match self.applications.get(key) {
-            Some(application) => application.reset.is_some(),
-            None => false,
-        };
+        let asks_for_reset = self.asks_for_reset(key);
         if served.had {
             self.cut(number, !asks_for_reset);
             return self.start(key);
@@ -121,9 +131,21 @@ impl Relay {
         Ok(())
     }
 
+    /// Whether an application's request asks for a reset itself.
+    fn asks_for_reset(&self, key: usize) -> bool
+        ensures { result ≡ asks_reset (get self.now.applications key) }
+    {
+        match self.applications.get(key) {
+            Some(application) => application.reset.is_some(),
+            None => false,
+        }
+    }
+
     /// The reset that an application asks for, if it does, is done: nobody had its connection before.
     fn tell_news(&mut self, key: usize, asks_for_reset: bool) -> Result<(), NoMemory>
-        ensures { self.new.desk ≡ self.old.desk }
+        ensures desk { self.new.desk ≡ self.old.desk }
+        ensures told { OnOk result (posts_in self.new.applications
+            ≡ told_if asks_for_reset key (posts_in self.old.applications)) }
     {
         if !asks_for_reset {
             return Ok(());
@@ -140,7 +162,9 @@ impl Relay {
     /// Asks what an application asks, where its connection is open and idle.
     #[tactic(auto, using(crate::proofs::Reaching::reaches_turn, crate::proofs::Reaching::reaches_turned))]
     pub(super) fn start(&mut self, key: usize) -> Result<(), NoMemory>
-        ensures { OnOk result (GoesOn (desk_in self.old.desk) (desk_in self.new.desk)) }
+        ensures goes { OnOk result (GoesOn (desk_in self.old.desk) (desk_in self.new.desk)) }
+        ensures kept { OnOk result (posts_in self.new.applications
+            ≡ posts_in self.old.applications) }
     {
         let Some(application) = self.applications.get(key) else {
             return Ok(());
@@ -169,8 +193,11 @@ impl Relay {
     }
 
     /// Puts what is kept of a request on its connection.
+    #[tactic(auto, using(crate::proofs::Posting::kept_more, crate::proofs::Posting::posts_kept))]
     fn put_held(&mut self, key: usize, whole: bool) -> Result<(), NoMemory>
-        ensures { OnOk result (GoesOn (desk_in self.old.desk) (desk_in self.new.desk)) }
+        ensures goes { OnOk result (GoesOn (desk_in self.old.desk) (desk_in self.new.desk)) }
+        ensures kept { OnOk result (posts_in self.new.applications
+            ≡ posts_in self.old.applications) }
     {
         let Some(application) = self.applications.get_mut(key) else {
             return Ok(());

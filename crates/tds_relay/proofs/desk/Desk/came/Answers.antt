@@ -1,6 +1,5 @@
-use Rattle.std.proofs.Common.{◌≡◌, ◌∙◌, refl, sym, ap, subst, rules, ℕ, Bool, [], List}
-use Rattle.std.specs.Prelude.{Option, Some, None, ◌≢◌}
-use Rattle.std.proofs.lemmas.Result.{IfOk-weaker}
+use Rattle.std.proofs.Common.{◌≡◌, ◌∙◌, refl, sym, ap, subst, rules}
+use Rattle.std.specs.Prelude.{Option, None, ◌≢◌}
 use Rattle.tds_wire.specs.Reading.{Reading}
 use Rattle.tds_service.specs.Line as line
 use Rattle.tds_service.specs.Packets.{packet_part}

@@ -1,4 +1,4 @@
-use Rattle.std.proofs.Common.{ℕ, ◌==◌, not, rules}
+use Rattle.std.proofs.Common.{◌==◌, not, rules}
 use Rattle.std.proofs.lemmas.Fn.{filter_same}
 use Rattle.tds_relay.specs.declared.desk.Hold.{Hold}
 use Rattle.tds_relay.proofs.desk.lists.remove_number.Goals as goal

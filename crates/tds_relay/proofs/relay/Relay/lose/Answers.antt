@@ -1,16 +1,15 @@
 use Rattle.std.proofs.Common.{subst, sym}
 use Rattle.tds_relay.specs.declared.desk.Desk as code
-use Rattle.tds_relay.specs.Ties.{GoesOn, Reaches, desk_in}
-use Rattle.tds_relay.specs.Desk.{Loses, turn}
+use Rattle.tds_relay.specs.Ties.{Reaches, desk_in}
 use Rattle.tds_relay.proofs.Reaching.{ok_if, reaches_turn, reaches_turned}
 use Rattle.tds_relay.proofs.relay.Relay.lose.Goals as goal
 
 pub returns-clause-lost : goal.returns-clause-lost
 returns-clause-lost c =
-    ok_if c.close.result _ (λ by from h. subst (λ (d : code.Desk). Reaches by from (desk_in d)) (sym c.close.ensures)
+    ok_if c.close.result _ (λ by from h. subst (λ (d : code.Desk). Reaches by from (desk_in d)) (sym c.close.ensures.desk)
     (reaches_turned by from _ _ _ _ _ c.in_ok-key.ensures.turns h))
 
 pub returns-clause-goes : goal.returns-clause-goes
 returns-clause-goes c =
-    ok_if c.close.result _ (λ by from h. subst (λ (d : code.Desk). Reaches by from (desk_in d)) (sym c.close.ensures)
+    ok_if c.close.result _ (λ by from h. subst (λ (d : code.Desk). Reaches by from (desk_in d)) (sym c.close.ensures.desk)
     (reaches_turn by from _ _ _ _ _ c.in_ok-key.ensures.turns tt h))

@@ -1,5 +1,9 @@
+use Rattle.tds_relay.specs.Dealing.{Deals, floor_in}
 use Rattle.tds_relay.specs.Ties.{Application, Goes, desk_in}
 use Rattle.tds_relay.proofs.relay.Relay.said.Given as goal
 
 abbrev pub invariant-taking : goal.invariant-taking
-invariant-taking l = Goes (Application l.fn.key) (desk_in l.fn.self.desk) (desk_in l.self.desk)
+invariant-taking l = record {
+  goes : Goes (Application l.fn.key) (desk_in l.fn.self.desk) (desk_in l.self.desk);
+  deals : Deals (Application l.fn.key) (floor_in l.fn.self) (floor_in l.self);
+}

@@ -1,5 +1,9 @@
+use Rattle.tds_relay.specs.Dealing.{DealsOn, floor_in}
 use Rattle.tds_relay.specs.Ties.{GoesOn, desk_in}
 use Rattle.tds_relay.proofs.relay.Relay.serve_line.Given as goal
 
 abbrev pub invariant-line : goal.invariant-line
-invariant-line l = GoesOn (desk_in l.fn.self.desk) (desk_in l.self.desk)
+invariant-line l = record {
+  goes : GoesOn (desk_in l.fn.self.desk) (desk_in l.self.desk);
+  deals : DealsOn (floor_in l.fn.self) (floor_in l.self);
+}

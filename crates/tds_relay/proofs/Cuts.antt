@@ -1,0 +1,120 @@
+-- What is left of an answer's data, one token after the other.
+use Rattle.std.proofs.Common.{◌≡◌, ◌∙◌, ◌≤◌, ◌<◌, ◌++◌, ◌-◌, ℕ, zero, suc, Bool, true, false, List, [], ◌∷◌, Option, Some, None, length, take, drop, is_some, if◌then◌else◌, refl, sym, ap, subst, arith}
+use Rattle.std.proofs.lemmas.List.{append-nil, append_assoc, length-drop}
+use Rattle.std.proofs.Math.Seq.{drop-length, take-length}
+use Rattle.tds_wire.specs.declared.fault.Refusal.{Refusal}
+use Rattle.tds_wire.specs.declared.told.Token.{Token}
+use Rattle.tds_wire.specs.Reading.{Reading, Found, Sees, Inside, Refuses, found_to, front_of, next_token}
+use Rattle.tds_listen.proofs.Fewer.{TakesSome, takes_some}
+use Rattle.tds_relay.specs.declared.news.Known.{Known}
+use Rattle.tds_relay.specs.declared.news.Known.TheVariants as knowns
+use Rattle.tds_packet.specs.declared.header.Header.{Header}
+use Rattle.tds_relay.specs.declared.link.Answer.{Answer}
+use Rattle.tds_relay.specs.Cutting.{IsAnew, IsCut, Left, ends_in, known_behind, led, left_by, left_in, left_of, left_within, passed_on}
+use Rattle.tds_relay.specs.News.{goes_on, goes_on_to_end, held, known_after}
+
+by_same : (known : Known) (bytes : List ℕ) (found : Found) (n : ℕ) (f g : Reading → List ℕ → Left) → TakesSome (suc n) found → ((r : Reading) (rest : List ℕ) → length rest ≤ n → f r rest ≡ g r rest)
+    → left_by known bytes found f ≡ left_by known bytes found g
+by_same known bytes (Sees token r rest) n f g h same = ap (led (goes_on_to_end known (front_of bytes rest))) (same r rest (omega (arith, h)))
+by_same known bytes (Inside r) n f g h same = refl
+by_same known bytes (Refuses refusal) n f g h same = refl
+
+pub none_left : (most : ℕ) (known : Known) (r : Reading) → left_within most known r [] ≡ record { bytes = []; known = known }
+unfolding left_within
+none_left zero known r = refl
+none_left (suc most) known r = refl
+
+same : (a b : ℕ) (known : Known) (r : Reading) (bytes : List ℕ) → length bytes ≤ a → length bytes ≤ b → left_within a known r bytes ≡ left_within b known r bytes
+unfolding left_within
+same a b known r [] ha hb = none_left a known r ∙ sym (none_left b known r)
+same zero b known r (x ∷ xs) ha hb = absurd (omega (arith, ha))
+same (suc a) zero known r (x ∷ xs) ha hb = absurd (omega (arith, hb))
+same (suc a) (suc b) known r (x ∷ xs) ha hb =
+    by_same known (x ∷ xs) (next_token r (x ∷ xs)) (length xs) (λ r rest. left_within a knowns.None r rest) (λ r rest. left_within b knowns.None r rest) (takes_some r x xs)
+    (λ r rest few. same a b knowns.None r rest (omega (arith, few, ha)) (omega (arith, few, hb)))
+
+step_is : (known : Known) (r : Reading) (x : ℕ) (xs : List ℕ) → left_of known r (x ∷ xs) ≡ left_by known (x ∷ xs) (next_token r (x ∷ xs)) (λ next rest. left_of knowns.None next rest)
+unfolding left_within
+step_is known r x xs =
+    by_same known (x ∷ xs) (next_token r (x ∷ xs)) (length xs) (λ next rest. left_within (length xs) knowns.None next rest) (λ next rest. left_of knowns.None next rest) (takes_some r x xs)
+    (λ next rest few. same (length xs) (length rest) knowns.None next rest few (omega arith))
+
+-- bytes that no answer has there
+pub refused_is : (known : Known) (r : Reading) (bytes : List ℕ) (refusal : Refusal) → 0 < length bytes → next_token r bytes ≡ Refuses refusal → left_of known r bytes ≡ record { bytes = []; known = known }
+refused_is known r [] refusal some is = absurd (omega (arith, some))
+refused_is known r (x ∷ xs) refusal some is = step_is known r x xs ∙ ap (λ (f : Found). left_by known (x ∷ xs) f (λ next rest. left_of knowns.None next rest)) is
+
+front_is : (bytes : List ℕ) (count : ℕ) → count ≤ length bytes → front_of bytes (drop count bytes) ≡ take count bytes
+front_is bytes count within =
+    let left : length (drop count bytes) ≡ length bytes - count = length-drop count bytes in
+    ap (λ (n : ℕ). take n bytes) (omega (arith, left, within))
+
+inside_is : (known : Known) (r : Reading) (bytes taken dropped : List ℕ) → taken ≡ bytes → dropped ≡ []
+    → record { bytes = goes_on known bytes; known = known_after known bytes } ≡ led (goes_on known taken) (left_of (known_after known taken) r dropped)
+inside_is known r bytes taken dropped whole none =
+    subst (λ (t : List ℕ). record { bytes = goes_on known bytes; known = known_after known bytes } ≡ led (goes_on known t) (left_of (known_after known t) r dropped)) (sym whole)
+    (subst (λ (rest : List ℕ). record { bytes = goes_on known bytes; known = known_after known bytes } ≡ led (goes_on known bytes) (left_of (known_after known bytes) r rest)) (sym none)
+    (ap (λ (front : List ℕ). record { bytes = front; known = known_after known bytes }) (sym (append-nil (goes_on known bytes)))
+    ∙ ap (led (goes_on known bytes)) (sym (none_left 0 (known_after known bytes) r))))
+
+-- a token ends with these bytes, or they are all inside one
+pub token_is : (known : Known) (r r2 : Reading) (bytes : List ℕ) (count : ℕ) (token : Option Token)
+    → 0 < length bytes → count ≤ length bytes → (token ≡ None → count ≡ length bytes) → found_to token r2 (drop count bytes) ≡ next_token r bytes
+    → left_of known r bytes ≡ led (passed_on (is_some token) known (take count bytes)) (left_of (known_behind (is_some token) known (take count bytes)) r2 (drop count bytes))
+token_is known r r2 [] count token some within all found = absurd (omega (arith, some))
+token_is known r r2 (x ∷ xs) count None some within all found =
+    let whole : count ≡ length (x ∷ xs) = all refl in
+    step_is known r x xs ∙ ap (λ (f : Found). left_by known (x ∷ xs) f (λ next rest. left_of knowns.None next rest)) (sym found)
+    ∙ inside_is known r2 (x ∷ xs) (take count (x ∷ xs)) (drop count (x ∷ xs))
+    (ap (λ (n : ℕ). take n (x ∷ xs)) whole ∙ take-length (x ∷ xs)) (ap (λ (n : ℕ). drop n (x ∷ xs)) whole ∙ drop-length (x ∷ xs))
+token_is known r r2 (x ∷ xs) count (Some token) some within all found =
+    step_is known r x xs ∙ ap (λ (f : Found). left_by known (x ∷ xs) f (λ next rest. left_of knowns.None next rest)) (sym found)
+    ∙ ap (λ (front : List ℕ). led (goes_on_to_end known front) (left_of knowns.None r2 (drop count (x ∷ xs)))) (front_is (x ∷ xs) count within)
+
+abbrev KeepsOn : List ℕ → List ℕ → Left → Left → Type 0
+KeepsOn more kept later earlier = (more ++ later.bytes ≡ kept ++ earlier.bytes) × (later.known ≡ earlier.known)
+
+-- one token more, or all that is left of the bytes
+pub kept_on : (kept more : List ℕ) (known known2 : Known) (r r2 : Reading) (bytes taken rest : List ℕ) (count : ℕ) (token : Option Token)
+    → 0 < length bytes → count ≤ length bytes → (token ≡ None → count ≡ length bytes) → found_to token r2 (drop count bytes) ≡ next_token r bytes
+    → taken ≡ take count bytes → rest ≡ drop count bytes → more ≡ kept ++ passed_on (is_some token) known taken → known2 ≡ known_behind (is_some token) known taken
+    → KeepsOn more kept (left_of known2 r2 rest) (left_of known r bytes)
+kept_on kept more known known2 r r2 bytes taken rest count token some within all found taken_is rest_is more_is known_is =
+    let ends : Bool = is_some token in
+    let step = token_is known r r2 bytes count token some within all found in
+    let behind : known2 ≡ known_behind ends known (take count bytes) = known_is ∙ ap (known_behind ends known) taken_is in
+    let later : left_of known2 r2 rest ≡ left_of (known_behind ends known (take count bytes)) r2 (drop count bytes) =
+    ap (λ (k : Known). left_of k r2 rest) behind ∙ ap (left_of (known_behind ends known (take count bytes)) r2) rest_is in
+    let inner : passed_on ends known taken ++ (left_of known2 r2 rest).bytes ≡ (left_of known r bytes).bytes =
+    ap (λ (t : List ℕ). passed_on ends known t ++ (left_of known2 r2 rest).bytes) taken_is
+    ∙ ap (λ (l : Left). passed_on ends known (take count bytes) ++ l.bytes) later
+    ∙ ap (λ (l : Left). l.bytes) (sym step) in (
+      ap (λ (m : List ℕ). m ++ (left_of known2 r2 rest).bytes) more_is ∙ append_assoc kept (passed_on ends known taken) (left_of known2 r2 rest).bytes ∙ ap (λ (l : List ℕ). kept ++ l) inner,
+      ap (λ (l : Left). l.known) later ∙ ap (λ (l : Left). l.known) (sym step),
+    )
+
+-- nothing is left of the bytes
+pub ended_is : (known : Known) (r : Reading) (bytes : List ℕ) → bytes ≡ [] → left_of known r bytes ≡ record { bytes = []; known = known }
+ended_is known r bytes none = ap (left_of known r) none ∙ none_left 0 known r
+
+pub kept_all : (kept target : List ℕ) (known : Known) (left : Left) → left ≡ record { bytes = []; known = known } → kept ++ left.bytes ≡ target → kept ≡ target
+kept_all kept target known left none is = sym (append-nil kept) ∙ ap (λ (l : Left). kept ++ l.bytes) (sym none) ∙ is
+
+pub known_all : (target known : Known) (left : Left) → left ≡ record { bytes = []; known = known } → left.known ≡ target → known ≡ target
+known_all target known left none is = ap (λ (l : Left). l.known) (sym none) ∙ is
+
+-- what is left is laid out anew
+pub cut_is : (a : Answer) (header : Header) (content : List ℕ) (size : ℕ) (ends : Bool) (kept all sent : List ℕ) (known : Known)
+    → size ≡ a.size → ends ≡ ends_in header → kept ≡ (left_of a.known a.walker content).bytes → known ≡ (left_of a.known a.walker content).known
+    → all ≡ (if ends then kept ++ held known else kept) → IsAnew size header.packet_id ends all sent → IsCut a header content sent
+cut_is a header content size ends kept all sent known size_is ends_is kept_is known_is all_is anew =
+    let left : Left = left_of a.known a.walker content in
+    let whole : all ≡ left_in ends left =
+    all_is ∙ ap (λ (k : Known). if ends then kept ++ held k else kept) known_is ∙ ap (λ (front : List ℕ). if ends then front ++ held left.known else front) kept_is in
+    subst (λ (b : Bool). IsAnew a.size header.packet_id b (left_in b left) sent) ends_is
+    (subst (λ (n : ℕ). IsAnew n header.packet_id ends (left_in ends left) sent) size_is
+    (subst (λ (bytes : List ℕ). IsAnew size header.packet_id ends bytes sent) whole anew))
+
+pub no_bytes : (bytes : List ℕ) → length bytes ≡ 0 → bytes ≡ []
+no_bytes [] none = refl
+no_bytes (x ∷ xs) none = absurd (omega (arith, none))

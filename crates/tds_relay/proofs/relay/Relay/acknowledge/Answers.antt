@@ -1,0 +1,8 @@
+use Rattle.tds_relay.specs.Posts.{acknowledgement, put}
+use Rattle.tds_relay.proofs.Posting.{kept_more, posts_changed}
+use Rattle.tds_relay.proofs.relay.Relay.acknowledge.Goals as goal
+
+pub returns-in_ok-append-in-Some-clause-given : goal.returns-in_ok-append-in-Some-clause-given
+returns-in_ok-append-in-Some-clause-given c =
+    kept_more c.order_write.result _ _ _ c.order_write.ensures.kept
+    (posts_changed c.args.self.now.applications c.args.key c.in-Some.application.now _ (put acknowledgement) c.in-Some.ensures.value c.in_ok-append-in-Some.ensures.post)

@@ -1,0 +1,75 @@
+-- An answer's data without the news of a reset that nobody asked for (MS-TDS 2.2.7.9, type 18): token by token, as its walker sees
+-- them; and what is left, in packets whose lengths are their own.
+use Rattle.std.specs.Prelude.{◌≡◌, ℕ, zero, suc, ◌+◌, ◌≤◌, ◌&&◌, not, Bool, true, false, List, [], ◌∷◌, ◌++◌, length, if◌then◌else◌}
+use Rattle.tds_packet.specs.declared.header.Header.{Header}
+use Rattle.tds_packet.specs.declared.kind.Kind.TheVariants.{Answer}
+use Rattle.tds_packet.specs.Layout.{bits_of, has_bit}
+use Rattle.tds_packet.specs.Reading.{joined}
+use Rattle.tds_packet.specs.Sent.{end_bit, sent_bytes}
+use Rattle.tds_wire.specs.Reading.{Reading, Found, Sees, Inside, Refuses, front_of, next_token}
+use Rattle.tds_relay.specs.declared.link.Answer as code
+use Rattle.tds_relay.specs.declared.news.Known.{Known}
+use Rattle.tds_relay.specs.declared.news.Known.TheVariants as knowns
+use Rattle.tds_relay.specs.News.{goes_on, goes_on_to_end, held, known_after}
+use Rattle.tds_relay.specs.Promises.{Each}
+
+-- What is left of bytes, and what is known of the token that they end in.
+pub record Left : Type 0 where
+  pub bytes : List ℕ
+  pub known : Known
+
+abbrev pub led : List ℕ → Left → Left
+led before left = record { bytes = before ++ left.bytes; known = left.known }
+
+-- what goes on of bytes of one token, which they end or not, and what is known behind them
+abbrev pub passed_on : Bool → Known → List ℕ → List ℕ
+passed_on ends known bytes = if ends then goes_on_to_end known bytes else goes_on known bytes
+
+abbrev pub known_behind : Bool → Known → List ℕ → Known
+known_behind ends known bytes = if ends then knowns.None else known_after known bytes
+
+-- Of a token that ends the news alone is left out. Behind one that no answer has nothing goes on.
+abbrev pub left_by : Known → List ℕ → Found → (Reading → List ℕ → Left) → Left
+left_by known bytes (Sees token next rest) others = led (goes_on_to_end known (front_of bytes rest)) (others next rest)
+left_by known bytes (Inside next) others = record { bytes = goes_on known bytes; known = known_after known bytes }
+left_by known bytes (Refuses refusal) others = record { bytes = []; known = known }
+
+unfoldable pub left_within : ℕ → Known → Reading → List ℕ → Left
+left_within most known r [] = record { bytes = []; known = known }
+left_within zero known r (byte ∷ bytes) = record { bytes = []; known = known }
+left_within (suc most) known r (byte ∷ bytes) =
+    left_by known (byte ∷ bytes) (next_token r (byte ∷ bytes)) (λ next rest. left_within most knowns.None next rest)
+
+abbrev pub left_of : Known → Reading → List ℕ → Left
+left_of known r bytes = left_within (length bytes) known r bytes
+
+-- and with the message's end what was held back
+abbrev pub left_in : Bool → Left → List ℕ
+left_in ends l = if ends then l.bytes ++ held l.known else l.bytes
+
+-- ---- In packets
+
+abbrev pub all_sent : ℕ → List (List ℕ) → List ℕ
+all_sent id [] = []
+all_sent id (part ∷ parts) = sent_bytes Answer 0 id part ++ all_sent id parts
+
+-- the last one: none where there are no data and no end
+abbrev pub last_sent : ℕ → Bool → List ℕ → List ℕ
+last_sent id ends [] = if ends then sent_bytes Answer (end_bit ends) id [] else []
+last_sent id ends (byte ∷ bytes) = sent_bytes Answer (end_bit ends) id (byte ∷ bytes)
+
+-- The bytes are packets of this PacketID, no longer than this, with these data, of which the last one ends the message or not.
+pub record IsAnew (size id : ℕ) (ends : Bool) (content bytes : List ℕ) : Type 0 where
+  pub parts : List (List ℕ)
+  pub last : List ℕ
+  pub content_is : content ≡ joined parts ++ last
+  pub bytes_are : bytes ≡ all_sent id parts ++ last_sent id ends last
+  pub fit : Each (λ part. 8 + length part ≤ size) parts
+  pub last_fits : 8 + length last ≤ size
+
+abbrev pub ends_in : Header → Bool
+ends_in header = has_bit (bits_of header.status) 1
+
+-- The bytes are a packet of an answer without the news.
+abbrev pub IsCut : code.Answer → Header → List ℕ → List ℕ → Type 0
+IsCut a header content bytes = IsAnew a.size header.packet_id (ends_in header) (left_in (ends_in header) (left_of a.known a.walker content)) bytes

@@ -1,0 +1,87 @@
+-- What waits to be sent to each application.
+use Rattle.std.specs.Prelude.{ℕ, ◌+◌, nat_le, Bool, true, false, not, ◌&&◌, List, ◌∷◌, [], ◌++◌, drop, length, map, Option, Some, None, option_map, is_some, if◌then◌else◌, slice_index_or, slice_set}
+use Rattle.slab.specs.Slab.{Slab}
+use Rattle.tds_packet.specs.declared.header.Header.{Header}
+use Rattle.tds_packet.specs.declared.kind.Kind.TheVariants.{Answer}
+use Rattle.tds_packet.specs.Layout.{header_bytes, status_of}
+use Rattle.tds_relay.specs.declared.application.Application.{Application}
+use Rattle.tds_relay.specs.declared.outgoing.Outgoing.{Outgoing}
+
+-- The bytes that wait for one application, whose packets have this size; and whether something didn't fit behind them: then nothing
+-- more is put there.
+pub record Post : Type 0 where
+  pub size : ℕ
+  pub bytes : List ℕ
+  pub is_full : Bool
+
+abbrev pub nothing : ℕ → Post
+nothing size = record { size = size; bytes = []; is_full = false }
+
+-- at most as many bytes wait as a packet has, and 8,192
+abbrev pub fits : Post → List ℕ → Bool
+fits p bytes = not p.is_full && nat_le (length p.bytes + length bytes) (p.size + 8192)
+
+-- these bytes are put behind those that wait, all of them or none
+unfoldable pub put : List ℕ → Post → Post
+put bytes p =
+    if fits p bytes then record { size = p.size; bytes = p.bytes ++ bytes; is_full = false }
+    else record { size = p.size; bytes = p.bytes; is_full = true }
+
+-- so many of them are sent
+abbrev pub without_first : ℕ → Post → Post
+without_first count p = record { size = p.size; bytes = drop count p.bytes; is_full = p.is_full }
+
+-- ---- Of all applications, by their keys
+
+abbrev pub Posts : Type 0
+Posts = List (Option Post)
+
+abbrev pub post_at : Posts → ℕ → Option Post
+post_at posts key = slice_index_or posts key None
+
+-- that of one application changes so, if there is this application
+abbrev pub change : ℕ → (Post → Post) → Posts → Posts
+change key by posts = slice_set posts key (option_map by (post_at posts key))
+
+-- these bytes are for this application
+abbrev pub give : ℕ → List ℕ → Posts → Posts
+give key bytes posts = change key (put bytes) posts
+
+-- ---- What the relay says itself
+
+-- the acknowledgement of an attention: a message of one DONE with bit 0020 (MS-TDS 2.2.7.6)
+abbrev pub acknowledgement : List ℕ
+acknowledgement =
+    header_bytes (record { kind = Answer; status = status_of 1; length = 21; spid = 0; packet_id = 1; window = 0 })
+    ++ 0xfd ∷ 0x20 ∷ 0 ∷ 0 ∷ 0 ∷ 0 ∷ 0 ∷ 0 ∷ 0 ∷ 0 ∷ 0 ∷ 0 ∷ 0 ∷ []
+
+-- the news of a reset that is done: an ENVCHANGE of type 18, in a packet that doesn't end its message (MS-TDS 2.2.7.9)
+abbrev pub news : List ℕ
+news =
+    header_bytes (record { kind = Answer; status = status_of 0; length = 14; spid = 0; packet_id = 1; window = 0 })
+    ++ 0xe3 ∷ 3 ∷ 0 ∷ 18 ∷ 0 ∷ 0 ∷ []
+
+-- an application is told it, or not
+abbrev pub told_if : Bool → ℕ → Posts → Posts
+told_if tells key posts = if tells then give key news posts else posts
+
+-- ---- As the code has them
+
+abbrev pub post_in : Outgoing → Post
+post_in o = record { size = o.size; bytes = drop o.sent o.bytes.items; is_full = o.is_full }
+
+abbrev pub post_of : Application → Post
+post_of a = post_in a.out
+
+abbrev pub posts_in : Slab Application → Posts
+posts_in s = map (option_map post_of) s.slots
+
+-- whether its request asks for a reset itself
+abbrev pub asks_reset : Option Application → Bool
+asks_reset None = false
+asks_reset (Some a) = is_some a.reset
+
+-- what of it is still to be sent
+abbrev pub unsent_of : Option Application → List ℕ
+unsent_of None = []
+unsent_of (Some a) = (post_of a).bytes
