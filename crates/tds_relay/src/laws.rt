@@ -93,9 +93,10 @@ pub fn any_bytes()
     ensures { (by : Cause) (old new : Desk) → Goes by old new → IsReached old → IsReached new }
 {}
 
-/// What is given to an application, in order, is what this says: each packet that comes on the connection
-/// that it is lent, as it came or without the news of a reset; the news of its own reset, where it is lent a
-/// connection that nobody had; and the acknowledgement of its own attention. All of it, until it doesn't fit.
+/// What waits for each application grows, in a call, by what deals give it that this call causes, in order,
+/// until one doesn't fit, and by nothing else. A deal gives a packet that comes on the connection that it is
+/// lent, as it came or without the news of a reset; or the news of a reset, where it is lent a connection
+/// that nobody had; or the acknowledgement of its own attention.
 pub fn own_bytes(
     relay: &mut Relay,
     key: usize,
