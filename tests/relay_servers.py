@@ -80,8 +80,10 @@ class Before:
             link.close()
 
     def send(self, link, data):
-        header = struct.pack(">BBHHBB", 4, 1, len(data) + 8, self.spid, 1, 0)
-        link.sendall(header + data)
+        parts = [data[at:at + 4088] for at in range(0, len(data), 4088)]
+        link.sendall(b"".join(
+            struct.pack(">BBHHBB", 4, int(at + 1 == len(parts)), len(part) + 8, self.spid, 1, 0) + part
+            for at, part in enumerate(parts)))
 
     def one(self, link):
         whole(link)

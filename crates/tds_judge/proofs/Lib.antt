@@ -12,5 +12,4 @@ pub mod Lawful
 pub mod Conversations
 pub mod SomeRuns
 pub mod Mute
-pub mod WholeRows
 pub mod RowRuns

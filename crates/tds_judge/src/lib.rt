@@ -10,7 +10,6 @@ mod judge;
 pub mod laws;
 mod noting;
 mod packets;
-mod rows;
 mod runs;
 mod talk;
 mod walker;

@@ -2,11 +2,10 @@
 
 ghost use Rattle.std.specs.Prelude.{◌≡◌, ◌≤◌, ◌<◌, ◌+◌, None, true, IfOk, length};
 ghost use Rattle.tds_wire.specs.Reading.{IsReady, found_of, is_between, next_token, restarted};
-ghost use Rattle.tds_judge.specs.Rows.{IsPassed};
+ghost use Rattle.tds_wire.specs.Rows.{IsPassed};
 ghost use Rattle.tds_judge.specs.Runs.{IsWent};
 
 use crate::NoMemory;
-use crate::rows::pass_row;
 use std::alloc::Global;
 use std::marker::Model;
 use tds_wire::{Features, Fed, LentWalk, Memory, Refusal, Token, WireFault};
@@ -115,7 +114,7 @@ impl Walker {
         ensures ready { IsReady self.new }
         ensures row { 0 < result → IsPassed result self.old self.new piece.now }
     {
-        pass_row(&mut self.walk, &self.memory, piece)
+        self.walk.pass_row(&self.memory, piece)
     }
 
     /// Whether it is between two tokens, so that a message may end here.

@@ -65,3 +65,18 @@ fewer_onward w byte bytes = fewer_on (standing w.at.due) (byte ∷ bytes) (lengt
 pub takes_some : (r : Reading) (byte : ℕ) (bytes : List ℕ) → TakesSome (suc (length bytes)) (next_token r (byte ∷ bytes))
 unfolding next_token
 takes_some r byte bytes = takes_on r.refused r (byte ∷ bytes) (suc (length bytes)) (fewer_onward r.walk byte bytes)
+
+none_on : (st : Standing) (w : Walk) → OverFewer 0 (went_on st [] (Within w))
+none_on Between w = tt
+none_on Going w = tt
+none_on (Failing fault) w = tt
+
+fewer_any : (w : Walk) (bytes : List ℕ) → OverFewer (length bytes) (onward w bytes)
+unfolding onward
+fewer_any w [] = none_on (standing w.at.due) w
+fewer_any w (byte ∷ bytes) = fewer_onward w byte bytes
+
+-- of any bytes
+pub takes_any : (r : Reading) (bytes : List ℕ) → TakesSome (length bytes) (next_token r bytes)
+unfolding next_token
+takes_any r bytes = takes_on r.refused r bytes (length bytes) (fewer_any r.walk bytes)

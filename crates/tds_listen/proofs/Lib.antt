@@ -7,3 +7,4 @@ pub mod Same
 pub mod Lost
 pub mod Laid
 pub mod Agree
+pub mod Rows

@@ -1,7 +1,9 @@
 //! What a client hears of an answer's bytes.
 
-ghost use Rattle.std.specs.Prelude.{◌≡◌, ◌≤◌, ◌<◌, Ok, Err, None, IfOk, IfErr, MatchResult, drop, length};
+ghost use Rattle.std.specs.Prelude.{◌≡◌, ◌≤◌, ◌<◌, Ok, Err, None, IfOk, IfErr, MatchResult, drop, length, take};
 ghost use Rattle.std.specs.Prelude.{if◌then◌else◌};
+ghost use Rattle.tds_client.specs.Machine.{Listens};
+ghost use Rattle.tds_client.specs.Session.{ClientSession};
 ghost use Rattle.tds_listen.specs.Faults.{IsBroken, broken_at, broken_at_end};
 ghost use Rattle.tds_listen.specs.Hearing.{Both, heard_data, heard_end, heard_packet, next_heard};
 ghost use Rattle.tds_packet.specs.Layout.{bits_of, has_bit};
@@ -9,7 +11,7 @@ ghost use Rattle.tds_wire.specs.Reading.{IsReady, restarted};
 
 use crate::fault::ListenFault;
 use crate::sign::sign_of;
-use tds_client::{Client, Rules, Taken};
+use tds_client::{Client, ClientState, Rules, Taken};
 use tds_packet::PacketRef;
 use tds_wire::{Token, Walker};
 
@@ -75,6 +77,58 @@ pub fn next(client: &mut Client, walker: &mut Walker, piece: &[u8]) -> Result<He
     })
 }
 
+/// The walker passes the whole rows that bytes begin with: how many bytes they have. No client that
+/// listens does anything with them.
+fn walk_rows(walker: &mut Walker, piece: &[u8]) -> usize
+    ensures within { result ≤ length piece.now }
+    ensures same { result ≡ 0 → walker.new ≡ walker.old }
+    ensures ready { 0 < result → IsReady walker.new }
+    ensures exact { (s : ClientSession) → Listens s.stage
+        → heard_data s walker.old (take result piece.now)
+        ≡ Ok (record { session = s; reading = walker.new }) }
+    ensures most { walker.new.walk.most ≡ walker.old.walk.most }
+    ensures features { walker.new.walk.features ≡ walker.old.walk.features }
+{
+    if !walker.is_between() {
+        return 0;
+    }
+    tds_wire::cuts_do_not_matter();
+    let mut done = 0;
+    'rows: while done < piece.len() {
+        let count = walker.pass_row(&piece[done..]);
+        if count == 0 {
+            return done;
+        }
+        done += count;
+    }
+    done
+}
+
+/// Passes the whole rows that bytes of an answer's data begin with: how many bytes they have, or 0
+/// where none stands there whole, where the walker isn't between two tokens, or where the client
+/// awaits no answer. A row changes nothing of the client. Behind it go on with `next` or `hear_data`.
+/// It is for callers who want no token, and takes no memory.
+///
+/// A row with a null bitmap, or with a value behind a longer count than of two bytes, is left to them.
+pub fn pass_rows(client: &Client, walker: &mut Walker, piece: &[u8]) -> usize
+    ensures within { result ≤ length piece.now }
+    ensures same { result ≡ 0 → walker.new ≡ walker.old }
+    ensures ready { 0 < result → IsReady walker.new }
+    ensures exact { heard_data client.now walker.old (take result piece.now)
+        ≡ Ok (record { session = client.now; reading = walker.new }) }
+    // It has room for as many columns as before, and knows what the login acknowledged.
+    ensures most { walker.new.walk.most ≡ walker.old.walk.most }
+    ensures features { walker.new.walk.features ≡ walker.old.walk.features }
+{
+    match client.state() {
+        ClientState::Reading => walk_rows(walker, piece),
+        ClientState::Cancelling => walk_rows(walker, piece),
+        ClientState::Idle => 0,
+        ClientState::Sending => 0,
+        ClientState::Broken(_) => 0,
+    }
+}
+
 /// Hears all these bytes of an answer's data, and tells of no token: `next` up to their end. It takes
 /// no memory.
 ///
@@ -88,8 +142,14 @@ pub fn hear_data(client: &mut Client, walker: &mut Walker, bytes: &[u8]) -> Resu
         (λ fault. heard_data client.old walker.old bytes.now ≡ Err fault) }
     ensures broken { IfErr result (λ fault. IsBroken fault client.new.stage) }
 {
+    tds_wire::cuts_do_not_matter();
     let mut done = 0;
     'tokens: while done < bytes.len() {
+        let rows = pass_rows(client, walker, &bytes[done..]);
+        if rows > 0 {
+            done += rows;
+            continue;
+        }
         match next(client, walker, &bytes[done..]) {
             Ok(heard) => done += heard.count,
             Err(fault) => return Err(fault),

@@ -8,5 +8,5 @@ pub mod laws;
 mod sign;
 
 pub use fault::ListenFault;
-pub use hearing::{Heard, hear_data, hear_end, hear_packet, next};
+pub use hearing::{Heard, hear_data, hear_end, hear_packet, next, pass_rows};
 pub use sign::sign_of;

@@ -1,9 +1,8 @@
 -- Each connection is cared for where one comes that nobody asked for; and so behind any events.
-use Rattle.std.proofs.Common.{◌≡◌, ◌∙◌, ◌==◌, ◌&&◌, ◌<◌, ◌≤◌, ℕ, zero, suc, not, Bool, true, false, List, [], ◌∷◌, ◌++◌, length, refl, sym, ap, subst, arith, inl, inr}
-use Rattle.std.specs.Prelude.{Option, Some, None, ◌⊎◌, filter, nat_lt, if◌then◌else◌}
+use Rattle.std.proofs.Common.{◌≡◌, ◌∙◌, ◌==◌, ◌&&◌, ◌≤◌, ℕ, suc, Bool, true, false, List, [], ◌∷◌, ◌++◌, length, refl, sym, subst, arith, inl, inr}
+use Rattle.std.specs.Prelude.{Option, Some, None, ◌⊎◌, nat_lt}
 use Rattle.std.proofs.lemmas.Bool.{eqb-true, eq-eqb}
 use Rattle.tds_wire.specs.declared.told.Token.{Token}
-use Rattle.tds_service.specs.Parts.{Part}
 use Rattle.tds_packet.specs.declared.status.Reset.TheVariants.{Full}
 use Rattle.tds_relay.specs.declared.desk.Hold.{Hold}
 use Rattle.tds_service.specs.Line as line
@@ -14,10 +13,10 @@ use Rattle.tds_service.specs.Service.{Service, Call, Reply, Place, Leased, Clean
 use Rattle.tds_relay.specs.Desk as desk
 use Rattle.tds_relay.specs.Desk.{Desk, Event, Way, find_key, find_lease, moves, releasing, frees, lent_in, brings_by, turn, desk_after, new_desk}
 use Rattle.tds_relay.specs.Promises.{Each, CaresFor}
-use Rattle.tds_relay.proofs.Seats.{Distinct, Fits, each_weaker, each_added, each_found, each_changed, each_fails, found_meets}
+use Rattle.tds_relay.proofs.Seats.{each_weaker, each_added, each_found, each_fails, found_meets}
 use Rattle.tds_relay.proofs.Tidy.{Tidy, UpTo, step_rises, next_is_new}
 use Rattle.tds_relay.proofs.Holding.{none_above}
-use Rattle.tds_relay.proofs.Phases.{Choose, Phase, Other, IsIdleAt, of_other, as_one, as_other, others_apart, phase_changed, lost_leaves}
+use Rattle.tds_relay.proofs.Phases.{Choose, Phase, Other, IsIdleAt, of_other, as_one, as_other, phase_changed, lost_leaves}
 use Rattle.tds_relay.proofs.Caring.{Sound, Given, sound_by, rests_sound, same_phase, each_both, released, rested, does_sound, leaves_sound, loses_sound, serves_sound}
 use Rattle.tds_relay.proofs.Hearing.{comes_sound}
 use Rattle.tds_relay.proofs.Renewing.{idle_is, one_by, renews_sound}

@@ -1,11 +1,10 @@
 -- Each connection is somebody's, or cared for, behind any event.
-use Rattle.std.proofs.Common.{◌≡◌, ◌∙◌, ◌==◌, ◌&&◌, ◌<◌, ◌≤◌, ℕ, zero, suc, not, Bool, true, false, List, [], ◌∷◌, ◌++◌, length, refl, sym, ap, subst, arith}
-use Rattle.std.specs.Prelude.{Option, Some, None, filter, nat_lt, if◌then◌else◌}
+use Rattle.std.proofs.Common.{◌≡◌, ◌∙◌, ◌==◌, ◌<◌, ℕ, suc, not, Bool, true, false, List, [], ◌∷◌, ◌++◌, length, refl, sym, ap, subst, arith}
+use Rattle.std.specs.Prelude.{Option, Some, None, nat_lt, if◌then◌else◌}
 use Rattle.std.proofs.lemmas.Bool.{eqb-true, eq-eqb}
 use Rattle.tds_client.specs.declared.fault.ClientRefusal.{ClientRefusal}
 use Rattle.tds_wire.specs.declared.told.Token.{Token}
-use Rattle.tds_service.specs.Parts.{Part}
-use Rattle.tds_packet.specs.declared.status.Reset.TheVariants.{Full, KeepTransaction}
+use Rattle.tds_packet.specs.declared.status.Reset.TheVariants.{Full}
 use Rattle.tds_relay.specs.declared.desk.Hold.{Hold}
 use Rattle.tds_service.specs.Line as line
 use Rattle.tds_service.specs.Line.{Line, Act, Stage, turn, new_line, sends, marks, asks, cancels}
@@ -15,11 +14,11 @@ use Rattle.tds_service.specs.Service as calls
 use Rattle.tds_service.specs.Service.{Service, Call, Reply, Step, Back, Place, Leased, Cleaning, Kept, Free, Draining, Seat, find_by, change_by, has_lease, has_ticket, has_number, holds, is_lendable, is_free, is_idle, rests, acts_unless, step, service_after, does, nothing}
 use Rattle.tds_relay.specs.Desk as desk
 use Rattle.tds_relay.specs.Desk.{Desk, Way, Event, Deed, Turn, find_key, find_lease, without_lease, without_number, holding, moves, cleaning, releasing, frees, lent_in}
-use Rattle.tds_relay.specs.Promises.{Each, CaresFor, IsCaredFor, IsHeld, IsBeingCleaned, IsClean}
-use Rattle.tds_relay.proofs.Seats.{Distinct, Fits, each_weaker, each_added, each_found, each_changed, each_fails, found_meets, found_other}
-use Rattle.tds_relay.proofs.Tidy.{Tidy, Rises, WithinAt, WithinIn, UpTo, step_rises, all_rise, next_is_new}
+use Rattle.tds_relay.specs.Promises.{Each, CaresFor, IsCaredFor, IsHeld}
+use Rattle.tds_relay.proofs.Seats.{Distinct, each_weaker, each_added, each_found, each_changed, each_fails, found_meets}
+use Rattle.tds_relay.proofs.Tidy.{Tidy, WithinAt, WithinIn, step_rises, all_rise}
 use Rattle.tds_relay.proofs.Holding.{Rising, rising_more, rising_filtered, rising_added, found_lease, none_above, found_by_lease, added_some, added_none, added_new, filtered_some, filtered_none}
-use Rattle.tds_relay.proofs.Phases.{Choose, Phase, IsIdleAt, of_one, of_other, as_one, as_other, phase_changed, phase_none, lost_leaves, cleaning_cares}
+use Rattle.tds_relay.proofs.Phases.{Choose, Phase, IsIdleAt, as_one, as_other, lost_leaves, cleaning_cares}
 
 pub record Sound (d : Desk) : Type 0 where
   pub tidy : Tidy d.service

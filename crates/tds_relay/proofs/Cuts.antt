@@ -1,5 +1,5 @@
 -- What is left of an answer's data, one token after the other.
-use Rattle.std.proofs.Common.{◌≡◌, ◌∙◌, ◌≤◌, ◌<◌, ◌++◌, ◌-◌, ℕ, zero, suc, Bool, true, false, List, [], ◌∷◌, Option, Some, None, length, take, drop, is_some, if◌then◌else◌, refl, sym, ap, subst, arith}
+use Rattle.std.proofs.Common.{◌≡◌, ◌∙◌, ◌≤◌, ◌<◌, ◌++◌, ◌-◌, ℕ, zero, suc, Bool, List, [], ◌∷◌, Option, Some, None, length, take, drop, is_some, if◌then◌else◌, refl, sym, ap, subst, arith}
 use Rattle.std.proofs.lemmas.List.{append-nil, append_assoc, length-drop}
 use Rattle.std.proofs.Math.Seq.{drop-length, take-length}
 use Rattle.tds_wire.specs.declared.fault.Refusal.{Refusal}

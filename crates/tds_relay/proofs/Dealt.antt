@@ -1,22 +1,17 @@
 -- Floors that are led to by deals.
-use Rattle.std.proofs.Common.{◌≡◌, ◌∙◌, ◌&&◌, ℕ, Bool, true, false, not, List, [], ◌∷◌, ◌++◌, Some, None, Option, refl, sym, ap, subst}
-use Rattle.std.proofs.lemmas.Bool.{false≢true}
+use Rattle.std.proofs.Common.{◌≡◌, ◌∙◌, ℕ, List, [], ◌∷◌, ◌++◌, refl, sym, ap, subst}
 use Rattle.std.specs.Prelude.{Result, Ok, Err, OnOk}
-use Rattle.tds_wire.specs.declared.told.Token.{Token}
-use Rattle.tds_service.specs.Service as calls
-use Rattle.tds_service.specs.Service.{Lent, step}
-use Rattle.tds_relay.specs.declared.desk.Served.{Served}
-use Rattle.tds_relay.specs.Dealing.{Floor, Deal, Deals, DealsOn, Does, Acknowledges, Lends, Leads, Due, IsDue, LendsNew, dealt, dealt_all, told_first}
-use Rattle.tds_relay.specs.Desk.{Desk, Event, Serves, desk_after, turn}
-use Rattle.tds_relay.specs.Posts.{Post, Posts, acknowledgement, give, told_if}
+use Rattle.tds_relay.specs.Dealing.{Floor, Deal, Deals, Does, Acknowledges, Leads, Due, IsDue, dealt, dealt_all}
+use Rattle.tds_relay.specs.Desk.{Desk, Event, desk_after}
+use Rattle.tds_relay.specs.Posts.{Posts, acknowledgement, give}
 use Rattle.tds_relay.specs.Promises.{Each}
-use Rattle.tds_relay.specs.Ties.{Application, Cause, Causes, Goes, GoesOn, Reaches, Serving, Turns}
+use Rattle.tds_relay.specs.Ties.{Application, Cause, Causes, Goes, Reaches, Turns}
 
-dealt_both : (f : Floor) (xs ys : List Deal) → dealt_all f (xs ++ ys) ≡ dealt_all (dealt_all f xs) ys
+pub dealt_both : (f : Floor) (xs ys : List Deal) → dealt_all f (xs ++ ys) ≡ dealt_all (dealt_all f xs) ys
 dealt_both f [] ys = refl
 dealt_both f (x ∷ xs) ys = dealt_both (dealt f x) xs ys
 
-due_both : (by : Cause) (f : Floor) (xs ys : List Deal) → Due by f xs → Due by (dealt_all f xs) ys → Due by f (xs ++ ys)
+pub due_both : (by : Cause) (f : Floor) (xs ys : List Deal) → Due by f xs → Due by (dealt_all f xs) ys → Due by f (xs ++ ys)
 due_both by f [] ys h k = k
 due_both by f (x ∷ xs) ys h k = (h.0, due_both by (dealt f x) xs ys h.1 k)
 
@@ -33,15 +28,15 @@ leads_deal by from old deal due h = leads_both by from old (deal ∷ []) (due, t
 
 -- ---- What is done at the desk alone
 
-abbrev does_all : List Event → List Deal
+abbrev pub does_all : List Event → List Deal
 does_all [] = []
 does_all (event ∷ events) = Does event ∷ does_all events
 
-dealt_does : (f : Floor) (events : List Event) → dealt_all f (does_all events) ≡ record { desk = desk_after f.desk events; posts = f.posts }
+pub dealt_does : (f : Floor) (events : List Event) → dealt_all f (does_all events) ≡ record { desk = desk_after f.desk events; posts = f.posts }
 dealt_does f [] = refl
 dealt_does f (event ∷ events) = dealt_does (dealt f (Does event)) events
 
-due_does : (by : Cause) (f : Floor) (events : List Event) → Each (Causes by) events → Due by f (does_all events)
+pub due_does : (by : Cause) (f : Floor) (events : List Event) → Each (Causes by) events → Due by f (does_all events)
 due_does by f [] h = tt
 due_does by f (event ∷ events) h = (h.0, due_does by (dealt f (Does event)) events h.1)
 
@@ -55,28 +50,6 @@ pub deals_on : (by : Cause) (old new : Floor) → Goes by old.desk new.desk → 
 deals_on by old new goes kept from h =
     subst (λ (ps : Posts). Leads by from (record { desk = new.desk; posts = ps })) (sym kept)
     (leads_events by from old new.desk (goes old.desk (record { events = []; are = refl; caused = tt })) h)
-
--- ---- Who is lent a connection
-
-had_false : (had asks : Bool) → (not had && asks) ≡ true → had ≡ false
-had_false false asks h = refl
-had_false true asks h = absurd (false≢true h)
-
-lends_new : (d : Desk) (served : Served) (asks : Bool) → (step {T = Token} d.service calls.Lease).reply ≡ Lent served.hold.lease served.hold.number served.had → (not served.had && asks) ≡ true → LendsNew d
-lends_new d served asks reply tells = (served.hold.lease, served.hold.number, reply ∙ ap (Lent served.hold.lease served.hold.number) (had_false served.had asks tells))
-
-pub leads_lent : (by : Cause) (from : Floor) (d d1 d2 : Desk) (p p2 : Posts) (served : Served) (asks : Bool)
-    → Turns Serves d d1 [] [] → Serving d (Some served) → GoesOn d1 d2 → p2 ≡ told_if (not served.had && asks) served.hold.key p
-    → Leads by from (record { desk = d; posts = p }) → Leads by from (record { desk = d2; posts = p2 })
-leads_lent by from d d1 d2 p p2 served asks turned serving goes told h =
-    let old : Floor = record { desk = d; posts = p } in
-    let tells : Bool = not served.had && asks in
-    let first : told_first tells d.line p ≡ p2 = ap (λ (line : List ℕ). told_first tells line p) serving.1 ∙ sym told in
-    let lent : Leads by from (dealt old (Lends tells)) = leads_deal by from old (Lends tells) (lends_new d served asks serving.2) h in
-    let mid : Leads by from (record { desk = d1; posts = p2 }) =
-    subst (λ (ps : Posts). Leads by from (record { desk = d1; posts = ps })) first
-    (subst (λ (e : Desk). Leads by from (record { desk = e; posts = told_first tells d.line p })) (sym turned.desk_is) lent) in
-    deals_on by (record { desk = d1; posts = p2 }) (record { desk = d2; posts = p2 }) (goes by) refl from mid
 
 -- ---- Some forms of the code
 

@@ -1,13 +1,13 @@
 -- What deals give to one application.
-use Rattle.std.proofs.Common.{◌≡◌, ◌≢◌, ◌⊎◌, ◌∙◌, ◌==◌, ◌≤◌, ◌<◌, ◌++◌, ℕ, Bool, true, false, List, [], ◌∷◌, Option, Some, None, inl, inr, length, option_map, slice_set, eqb, if◌then◌else◌, refl, sym, ap, subst, arith}
-use Rattle.std.proofs.lemmas.List.{get_or-set_same, get_or-set_other, length-set, set-get_or}
+use Rattle.std.proofs.Common.{◌≡◌, ◌≢◌, ◌⊎◌, ◌∙◌, ◌==◌, ◌≤◌, ◌<◌, ◌++◌, ℕ, Bool, true, false, List, [], ◌∷◌, Option, Some, None, inl, inr, length, option_map, slice_set, eqb, if◌then◌else◌, refl, sym, ap, subst}
+use Rattle.std.proofs.lemmas.List.{get_or-set_same, get_or-set_other, length-set}
 use Rattle.std.proofs.lemmas.Bool.{cases_lt}
 use Rattle.std.proofs.lemmas.Bool.Decides.{eqb_tells}
 use Rattle.std.proofs.Math.ListN.{get_or-eq_default}
-use Rattle.tds_relay.specs.Dealing.{Floor, Manner, Whole, Without, Withheld, Deal, Does, Hands, Lends, Acknowledges, Quits, Deals, Due, Leads, dealt, dealt_all, handed, passed, told_first}
+use Rattle.tds_relay.specs.Dealing.{Floor, Manner, Whole, Preceded, Without, Withheld, Deal, Does, Hands, Acknowledges, Quits, Deals, Leads, dealt, dealt_all, handed, passed}
 use Rattle.tds_relay.specs.Desk.{whose}
-use Rattle.tds_relay.specs.Owning.{Gives, Stays, first, given, given_all, if_its, news_if, piece_of, put_all}
-use Rattle.tds_relay.specs.Posts.{Post, Posts, acknowledgement, change, give, news, post_at, put, told_if}
+use Rattle.tds_relay.specs.Owning.{Gives, Stays, given, given_all, if_its, piece_of, put_all}
+use Rattle.tds_relay.specs.Posts.{Post, Posts, acknowledgement, change, give, post_at, put}
 use Rattle.tds_relay.specs.Ties.{Cause}
 use Rattle.tds_packet.specs.declared.header.Header.{Header}
 
@@ -32,7 +32,7 @@ change_by posts k key by (inr (e, other)) =
     (get_or-set_other posts k key (option_map by (post_at posts k)) None (λ same. other (sym same)))
 
 -- of one application alone something changes
-change_at : (posts : Posts) (k key : ℕ) (by : Post → Post) → post_at (change k by posts) key ≡ (if k == key then option_map by (post_at posts key) else post_at posts key)
+pub change_at : (posts : Posts) (k key : ℕ) (by : Post → Post) → post_at (change k by posts) key ≡ (if k == key then option_map by (post_at posts key) else post_at posts key)
 change_at posts k key by = change_by posts k key by (eqb_tells k key)
 
 no_pieces : (o : Option Post) → o ≡ option_map (put_all []) o
@@ -41,6 +41,7 @@ no_pieces (Some p) = refl
 
 passed_is : (manner : Manner) (h : Header) (content : List ℕ) (p : Post) → passed manner h content p ≡ put_all (piece_of manner h content) p
 passed_is Whole h content p = refl
+passed_is Preceded h content p = refl
 passed_is (Without bytes) h content p = refl
 passed_is Withheld h content p = refl
 
@@ -70,15 +71,6 @@ given_one other key piece posts =
     change_at posts other key (put piece)
     ∙ for_one (other == key) (piece ∷ []) (post_at posts key) (option_map (put piece) (post_at posts key)) (one_piece piece (post_at posts key))
 
-nothing_for : (its : Bool) (o : Option Post) → option_map (put_all []) o ≡ option_map (put_all (if its then [] else [])) o
-nothing_for true o = refl
-nothing_for false o = refl
-
-told_at : (tells : Bool) (line : List ℕ) (key : ℕ) (posts : Posts) → post_at (told_first tells line posts) key ≡ option_map (put_all (if_its key (first line) (news_if tells))) (post_at posts key)
-told_at tells [] key posts = no_pieces (post_at posts key)
-told_at true (other ∷ others) key posts = given_one other key news posts
-told_at false (other ∷ others) key posts = no_pieces (post_at posts key) ∙ nothing_for (other == key) (post_at posts key)
-
 quit_at : (posts : Posts) (other key : ℕ) → ((eqb other key ≡ true) × (other ≡ key)) ⊎ ((eqb other key ≡ false) × (other ≢ key)) → (other == key) ≡ false → post_at (slice_set posts other None) key ≡ post_at posts key
 quit_at posts other key (inl (e, is)) stays = absurd (let u : true ≡ false = sym e ∙ stays in let v : ⊥ = cc in v)
 quit_at posts other key (inr (e, differ)) stays = get_or-set_other posts other key None None (λ same. differ (sym same))
@@ -86,7 +78,6 @@ quit_at posts other key (inr (e, differ)) stays = get_or-set_other posts other k
 given_at : (f : Floor) (deal : Deal) (key : ℕ) → Stays key (deal ∷ []) → post_at (dealt f deal).posts key ≡ option_map (put_all (given key f deal)) (post_at f.posts key)
 given_at f (Does event) key stays = no_pieces (post_at f.posts key)
 given_at f (Hands number h content part way manner) key stays = handed_at (whose f.desk number) key h content manner f.posts
-given_at f (Lends tells) key stays = told_at tells f.desk.line key f.posts
 given_at f (Acknowledges other) key stays = given_one other key acknowledgement f.posts
 given_at f (Quits other) key stays = quit_at f.posts other key (eqb_tells other key) stays.0 ∙ no_pieces (post_at f.posts key)
 
@@ -101,7 +92,6 @@ put_to_both xs ys (Some p) = ap Some (sym (put_both xs ys p))
 stays_first : (key : ℕ) (deal : Deal) (deals : List Deal) → Stays key (deal ∷ deals) → Stays key (deal ∷ []) × Stays key deals
 stays_first key (Does event) deals h = (tt, h)
 stays_first key (Hands number header content part way manner) deals h = (tt, h)
-stays_first key (Lends tells) deals h = (tt, h)
 stays_first key (Acknowledges other) deals h = (tt, h)
 stays_first key (Quits other) deals h = ((h.0, tt), h.1)
 

@@ -1,11 +1,9 @@
 -- Each connection is cared for behind what comes.
-use Rattle.std.proofs.Common.{◌≡◌, ◌∙◌, ◌==◌, ◌&&◌, ◌<◌, ◌≤◌, ℕ, zero, suc, not, Bool, true, false, List, [], ◌∷◌, ◌++◌, length, refl, sym, ap, subst, arith}
-use Rattle.std.specs.Prelude.{Option, Some, None, Result, Ok, Err, filter, nat_lt, if◌then◌else◌}
-use Rattle.std.proofs.lemmas.Bool.{eqb-true, eq-eqb}
-use Rattle.tds_client.specs.declared.fault.ClientRefusal.{ClientRefusal}
+use Rattle.std.proofs.Common.{◌≡◌, ◌∙◌, ◌==◌, ℕ, suc, not, Bool, true, false, List, [], ◌∷◌, refl, sym, ap, subst, arith}
+use Rattle.std.specs.Prelude.{Option, Some, None, Result, Ok, Err, if◌then◌else◌}
+use Rattle.std.proofs.lemmas.Bool.{eqb-true}
 use Rattle.tds_wire.specs.declared.told.Token.{Token}
 use Rattle.tds_service.specs.Parts.{Part, is_end, hear_part, heard_until}
-use Rattle.tds_packet.specs.declared.status.Reset.TheVariants.{Full, KeepTransaction}
 use Rattle.tds_relay.specs.declared.desk.Hold.{Hold}
 use Rattle.tds_client.specs.declared.heard.Heard.{Heard}
 use Rattle.tds_client.specs.declared.heard.FinalDone.{FinalDone}
@@ -13,17 +11,16 @@ use Rattle.tds_client.specs.declared.heard.FinalDone.TheVariants.{Awaited, Answe
 use Rattle.tds_listen.specs.declared.fault.ListenFault.{ListenFault}
 use Rattle.tds_service.specs.Line as line
 use Rattle.tds_service.specs.Line.{Line, Act, Stage, turn, comes, reads, skips, skips_to_end}
-use Rattle.tds_service.specs.History.{line_after}
 use Rattle.tds_service.specs.Service as calls
 use Rattle.tds_service.specs.Service.{Service, Call, Reply, Step, Back, Place, Leased, Cleaning, Kept, Free, Draining, Seat, find_by, change_by, has_lease, has_number, holds, is_idle, is_clean, drained, lease_in, lease_at, rests_clean, clean_place, rests_cleaned, step, service_after, does, nothing}
 use Rattle.tds_relay.specs.Desk as desk
 use Rattle.tds_relay.specs.Desk.{Desk, Way, find_lease, without_number, moves, cleaning, frees, Hearing, Goes, Settled, Wrong, hearing_of, settles, settles_of, comes_by}
-use Rattle.tds_relay.specs.Promises.{Each, CaresFor, IsCaredFor, IsHeld, IsBeingCleaned, IsClean}
-use Rattle.tds_relay.proofs.Seats.{Distinct, Fits, each_weaker, each_found, each_changed, each_fails, found_meets}
+use Rattle.tds_relay.specs.Promises.{Each, CaresFor, IsCaredFor}
+use Rattle.tds_relay.proofs.Seats.{Distinct, each_weaker, each_found, each_changed, found_meets}
 use Rattle.tds_relay.proofs.Tidy.{Tidy, step_rises}
 use Rattle.tds_relay.proofs.Holding.{rising_filtered, none_above}
-use Rattle.tds_relay.proofs.Phases.{Choose, Phase, IsIdleAt, of_one, of_other, as_one, as_other, phase_changed, phase_none, lost_leaves, cleaning_cares}
-use Rattle.tds_relay.proofs.Caring.{Sound, sound_by, rests_sound, numbered, same_phase}
+use Rattle.tds_relay.proofs.Phases.{Choose, Phase, IsIdleAt, of_other, phase_changed, lost_leaves, cleaning_cares}
+use Rattle.tds_relay.proofs.Caring.{Sound, sound_by, numbered, same_phase}
 
 -- ---- The machine
 

@@ -1,14 +1,18 @@
 pub mod Anew
 pub mod Astray
 pub mod Bringing
+pub mod Calling
 pub mod Caring
 pub mod Changing
 pub mod Cuts
 pub mod Dealt
+pub mod Fronting
+pub mod Fronts
 pub mod Given
 pub mod Handed
 pub mod Hearing
 pub mod Holding
+pub mod Lasting
 pub mod Lining
 pub mod Made
 pub mod Owning
@@ -19,4 +23,7 @@ pub mod Reaching
 pub mod Renewing
 pub mod Saying
 pub mod Seats
+pub mod Staying
+pub mod Streaming
+pub mod Taking
 pub mod Tidy

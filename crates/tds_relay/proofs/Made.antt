@@ -18,7 +18,7 @@ use Rattle.tds_service.specs.Service.{Service, Call, Reply, Back, Free, Lent, Se
 use Rattle.tds_service.specs.Table.{Answers, Refuses, RefusesIn, StepsIn, answers_in, seat_in, seats_in, service_in}
 use Rattle.tds_service.specs.declared.refusal.Refusal.{Refusal}
 use Rattle.tds_service.specs.declared.refusal.Refusal.TheVariants as refusals
-use Rattle.tds_service.specs.Ties.{AreBytes, Appends, IsBytes, sent_in}
+use Rattle.tds_service.specs.Ties.{AreBytes, Appends, sent_in}
 use Rattle.tds_relay.specs.declared.desk.Hold.{Hold}
 use Rattle.tds_relay.specs.Desk as desk
 use Rattle.tds_relay.specs.Desk.{Desk, Event, Turn, Way, find_key, holding, moves, turn, without_lease, cleaning, releasing, frees}

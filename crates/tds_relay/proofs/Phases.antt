@@ -1,11 +1,9 @@
 -- One connection that is being let go, beside others that are cared for.
-use Rattle.std.proofs.Common.{◌≡◌, ◌∙◌, ◌==◌, ◌&&◌, ◌<◌, ◌≤◌, ℕ, zero, suc, Bool, true, false, List, [], ◌∷◌, ◌++◌, refl, sym, ap, subst, arith}
-use Rattle.std.specs.Prelude.{Option, Some, None, if◌then◌else◌}
+use Rattle.std.proofs.Common.{◌≡◌, ◌∙◌, ◌==◌, ℕ, zero, suc, Bool, true, false, List, [], ◌∷◌, ◌++◌, refl, sym, subst}
+use Rattle.std.specs.Prelude.{Option, Some, None}
 use Rattle.std.proofs.lemmas.Bool.{eqb-true, eq-eqb}
-use Rattle.tds_client.specs.declared.fault.ClientRefusal.{ClientRefusal}
 use Rattle.tds_wire.specs.declared.told.Token.{Token}
-use Rattle.tds_service.specs.Parts.{Part}
-use Rattle.tds_packet.specs.declared.status.Reset.TheVariants.{Full, KeepTransaction}
+use Rattle.tds_packet.specs.declared.status.Reset.TheVariants.{Full}
 use Rattle.tds_relay.specs.declared.desk.Hold.{Hold}
 use Rattle.tds_service.specs.Line as line
 use Rattle.tds_service.specs.Line.{Line, Act, Stage, turn, sends, marks, asks, cancels}
@@ -13,9 +11,9 @@ use Rattle.tds_service.specs.History.{line_after}
 use Rattle.tds_service.specs.Refusing.{packets, refusal_in}
 use Rattle.tds_service.specs.Service as calls
 use Rattle.tds_service.specs.Service.{Service, Call, Reply, Step, Place, Leased, Cleaning, Kept, Free, Draining, Seat, find_by, change_by, has_lease, has_ticket, has_number, holds, is_lendable, is_free, is_idle, step, service_after, does, nothing}
-use Rattle.tds_relay.specs.Desk.{Way, Sent, NotLent, NotAsked, NotPut, NotEnded, cleaning, cleaning_by, find_lease}
-use Rattle.tds_relay.specs.Promises.{Each, CaresFor, IsCaredFor, IsBeingCleaned}
-use Rattle.tds_relay.proofs.Seats.{Distinct, Fits, each_weaker, each_found, each_changed, each_fails, found_meets, found_other}
+use Rattle.tds_relay.specs.Desk.{Way, Sent, NotLent, NotAsked, NotPut, NotEnded, cleaning, find_lease}
+use Rattle.tds_relay.specs.Promises.{Each, CaresFor, IsCaredFor}
+use Rattle.tds_relay.proofs.Seats.{Distinct, Fits, each_weaker, each_found, each_changed, each_fails, found_meets}
 use Rattle.tds_relay.proofs.Tidy.{Tidy, step_rises, next_is_new}
 
 -- The one with this number is so, and the others are so.

@@ -1,12 +1,12 @@
 -- What waits for each application, where one of them changes.
-use Rattle.std.proofs.Common.{◌≡◌, ◌∙◌, ◌&&◌, ℕ, Bool, true, false, not, List, Option, Some, None, refl, sym, ap, map, slice_index_or, slice_set, option_map}
+use Rattle.std.proofs.Common.{◌≡◌, ◌∙◌, ℕ, Option, Some, None, sym, ap, map, slice_set, option_map}
 use Rattle.std.proofs.lemmas.List.{map-set, set-get_or}
 use Rattle.std.proofs.Math.Seq.{map-set_same}
 use Rattle.std.proofs.Math.ListN.{get_or-map}
-use Rattle.slab.specs.Slab.{Slab, get, with_value}
+use Rattle.slab.specs.Slab.{Slab, Updates, get, with_value}
 use Rattle.std.specs.Prelude.{Result, Ok, Err, OnOk, OnSome, IfNone}
 use Rattle.tds_relay.specs.declared.application.Application.{Application}
-use Rattle.tds_relay.specs.Posts.{Post, Posts, change, give, news, post_at, post_of, posts_in, told_if}
+use Rattle.tds_relay.specs.Posts.{Enters, Post, Posts, change, nothing, post_at, post_of, posts_in}
 
 -- an application is written back of which the same waits
 pub posts_kept : (s : Slab Application) (key : ℕ) (a b : Application) → Some a ≡ get s key → post_of b ≡ post_of a → posts_in (with_value s key b) ≡ posts_in s
@@ -33,20 +33,6 @@ pub kept_more : {A E : Type 0} (r : Result A E) (p q s : Posts) → OnOk r (p �
 kept_more (Ok x) p q s h k = h ∙ k
 kept_more (Err e) p q s h k = tt
 
--- ---- Who is told of a reset
-
-pub told_is : (asks : Bool) (key : ℕ) (posts : Posts) → asks ≡ true → give key news posts ≡ told_if asks key posts
-told_is true key posts asks = refl
-told_is false key posts asks = absurd (let u : ⊥ = cc in u)
-
-pub had_is : (had asks : Bool) (key : ℕ) (posts : Posts) → had ≡ true → posts ≡ told_if (not had && asks) key posts
-had_is true asks key posts had = refl
-had_is false asks key posts had = absurd (let u : ⊥ = cc in u)
-
-pub new_is : (had asks : Bool) (key : ℕ) (posts : Posts) → had ≡ false → told_if asks key posts ≡ told_if (not had && asks) key posts
-new_is false asks key posts had = refl
-new_is true asks key posts had = absurd (let u : ⊥ = cc in u)
-
 -- an application is there no more
 pub quits_is : (s s1 : Slab Application) (key : ℕ) (r : Option Application) → r ≡ get s key → OnSome r (s1.slots ≡ slice_set s.slots key None) → IfNone r (s1 ≡ s)
     → posts_in s1 ≡ slice_set (posts_in s) key None
@@ -54,3 +40,11 @@ quits_is s s1 key (Some a) is slots absent = ap (map (option_map post_of)) slots
 quits_is s s1 key None is slots absent =
     let none : post_at (posts_in s) key ≡ None = post_is s key ∙ ap (option_map post_of) (sym is) in
     ap posts_in absent ∙ sym (set-get_or (posts_in s) key None) ∙ ap (λ (o : Option Post). slice_set (posts_in s) key o) none
+
+-- an application has come
+pub enters_is : (s s1 : Slab Application) (size key : ℕ) (a : Application) → get s key ≡ None → Updates s s1 key (Some a) → post_of a ≡ nothing size → Enters size key (posts_in s) (posts_in s1)
+enters_is s s1 size key a none updates is = record {
+  was_free = post_is s key ∙ ap (option_map post_of) none;
+  nothing_waits = post_is s1 key ∙ ap (option_map post_of) updates.changed ∙ ap Some is;
+  others_stay = λ other apart. post_is s1 other ∙ ap (option_map post_of) (updates.others other apart) ∙ sym (post_is s other);
+}

@@ -50,3 +50,8 @@ ok_if (Err e) P h = tt
 pub ok_more : {A E : Type 0} (r : Result A E) (P Q : Type 0) → (P → Q) → OnOk r P → OnOk r Q
 ok_more (Ok x) P Q f h = f h
 ok_more (Err e) P Q f h = tt
+
+-- what is known of two things
+pub ok_with : {A E : Type 0} (r : Result A E) (P Q R : Type 0) → (P → Q → R) → OnOk r P → OnOk r Q → OnOk r R
+ok_with (Ok x) P Q R f h g = f h g
+ok_with (Err e) P Q R f h g = tt

@@ -1,10 +1,9 @@
 -- Each connection is cared for behind a renewal, and where one comes that nobody asked for.
-use Rattle.std.proofs.Common.{◌≡◌, ◌∙◌, ◌==◌, ◌&&◌, ◌<◌, ◌≤◌, ℕ, zero, suc, not, Bool, true, false, List, [], ◌∷◌, ◌++◌, length, refl, sym, ap, subst, arith}
-use Rattle.std.specs.Prelude.{Option, Some, None, filter, nat_lt, if◌then◌else◌}
+use Rattle.std.proofs.Common.{◌≡◌, ◌∙◌, ◌==◌, ◌&&◌, ◌<◌, ◌≤◌, ℕ, suc, not, Bool, true, false, List, [], ◌∷◌, ◌++◌, refl, sym, ap, subst, arith}
+use Rattle.std.specs.Prelude.{Option, Some, None}
 use Rattle.std.proofs.lemmas.Bool.{eqb-true, eq-eqb}
 use Rattle.tds_wire.specs.declared.told.Token.{Token}
-use Rattle.tds_service.specs.Parts.{Part}
-use Rattle.tds_packet.specs.declared.status.Reset.TheVariants.{Full, KeepTransaction}
+use Rattle.tds_packet.specs.declared.status.Reset.TheVariants.{KeepTransaction}
 use Rattle.tds_relay.specs.declared.desk.Hold.{Hold}
 use Rattle.tds_service.specs.Line as line
 use Rattle.tds_service.specs.Line.{Line, Stage, cancels, new_line}
@@ -13,12 +12,12 @@ use Rattle.tds_service.specs.Service as calls
 use Rattle.tds_service.specs.Service.{Service, Call, Reply, Place, Leased, Cleaning, Kept, Free, Draining, Seat, find_by, change_by, has_lease, has_ticket, has_number, is_lendable, is_idle, is_free, is_open, may_keep, rests, step, service_after, does, nothing}
 use Rattle.tds_relay.specs.Desk as desk
 use Rattle.tds_relay.specs.Desk.{Desk, Way, Turn, find_key, find_lease, without_lease, without_number, holding, moves, cleaning, releasing, frees, lent_in, ticket_in, renews_by, keeps_by, brings_by}
-use Rattle.tds_relay.specs.Promises.{Each, CaresFor, IsCaredFor, IsHeld}
-use Rattle.tds_relay.proofs.Seats.{Distinct, Fits, each_weaker, each_added, each_found, each_changed, each_fails, found_meets}
-use Rattle.tds_relay.proofs.Tidy.{Tidy, WithinAt, WithinIn, UpTo, step_rises, all_rise, next_is_new}
-use Rattle.tds_relay.proofs.Holding.{Rising, rising_more, rising_filtered, rising_added, none_above, found_by_lease, filtered_none}
-use Rattle.tds_relay.proofs.Phases.{Choose, Phase, Other, IsIdleAt, of_one, of_other, as_one, as_other, others_apart, phase_changed, phase_none, lost_leaves, cleaning_cares}
-use Rattle.tds_relay.proofs.Caring.{Sound, Given, sound_by, rests_sound, numbered, same_phase, each_both, found_held, dropped, more_cares, released, rested, with_seats, lent_held}
+use Rattle.tds_relay.specs.Promises.{Each, CaresFor, IsCaredFor}
+use Rattle.tds_relay.proofs.Seats.{each_found, each_changed, found_meets}
+use Rattle.tds_relay.proofs.Tidy.{Tidy, WithinIn, step_rises, all_rise}
+use Rattle.tds_relay.proofs.Holding.{Rising, rising_more, rising_filtered, rising_added, found_by_lease}
+use Rattle.tds_relay.proofs.Phases.{Choose, Phase, IsIdleAt, of_other, phase_changed, lost_leaves}
+use Rattle.tds_relay.proofs.Caring.{Sound, sound_by, rests_sound, numbered, same_phase, each_both, found_held, dropped, more_cares, lent_held}
 
 -- ---- A renewal
 

@@ -1,5 +1,5 @@
 -- Numbers of connections and of leases are new, along any calls.
-use Rattle.std.proofs.Common.{◌≡◌, ◌∙◌, ◌==◌, ◌&&◌, ◌<◌, ◌≤◌, ℕ, suc, Bool, true, false, List, [], ◌∷◌, ◌++◌, length, refl, sym, ap, subst, arith}
+use Rattle.std.proofs.Common.{◌≡◌, ◌==◌, ◌≤◌, ℕ, suc, Bool, true, false, List, [], ◌∷◌, ◌++◌, length, refl, arith}
 use Rattle.std.specs.Prelude.{Option, Some, None, nat_lt, if◌then◌else◌}
 use Rattle.tds_client.specs.declared.fault.ClientRefusal.{ClientRefusal}
 use Rattle.tds_wire.specs.declared.told.Token.{Token}
@@ -12,7 +12,7 @@ use Rattle.tds_service.specs.Refusing.{packets, refusal_in}
 use Rattle.tds_service.specs.Service as calls
 use Rattle.tds_service.specs.Service.{Service, Call, Reply, Step, AllInUse, Place, Leased, Cleaning, Kept, Free, Draining, Seat, find_by, change_by, has_lease, has_ticket, has_number, holds, is_lendable, is_idle, may_keep, clean_place, drained, is_clean, rests_clean, rests_cleaned, does, nothing, acts_unless, opens, step, service_after, rests}
 use Rattle.tds_relay.specs.Promises.{Each}
-use Rattle.tds_relay.proofs.Seats.{Distinct, Fits, each_weaker, each_added, each_found, each_changed, each_fails, distinct_changed, distinct_added}
+use Rattle.tds_relay.proofs.Seats.{Distinct, Fits, each_weaker, each_added, each_found, each_changed, distinct_changed, distinct_added}
 
 -- a lease that was given
 abbrev pub WithinAt : ℕ → Place → Type 0

@@ -1,6 +1,6 @@
 -- An answer's data without the news of a reset that nobody asked for (MS-TDS 2.2.7.9, type 18): token by token, as its walker sees
 -- them; and what is left, in packets whose lengths are their own.
-use Rattle.std.specs.Prelude.{◌≡◌, ℕ, zero, suc, ◌+◌, ◌≤◌, ◌&&◌, not, Bool, true, false, List, [], ◌∷◌, ◌++◌, length, if◌then◌else◌}
+use Rattle.std.specs.Prelude.{◌≡◌, ℕ, zero, suc, ◌+◌, ◌≤◌, Bool, List, [], ◌∷◌, ◌++◌, length, if◌then◌else◌}
 use Rattle.tds_packet.specs.declared.header.Header.{Header}
 use Rattle.tds_packet.specs.declared.kind.Kind.TheVariants.{Answer}
 use Rattle.tds_packet.specs.Layout.{bits_of, has_bit}

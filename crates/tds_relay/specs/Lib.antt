@@ -2,9 +2,14 @@ pub mod Bounds
 pub mod Cutting
 pub mod Dealing
 pub mod Desk
+pub mod Fronting
+pub mod Fronts
+pub mod Handing
+pub mod Lasting
 pub mod News
 pub mod Owning
 pub mod Places
 pub mod Posts
 pub mod Promises
+pub mod Reads
 pub mod Ties

@@ -1,14 +1,15 @@
 -- What deals give to one application, piece by piece.
-use Rattle.std.specs.Prelude.{◌≡◌, ℕ, ◌==◌, Bool, true, false, List, [], ◌∷◌, ◌++◌, Option, Some, None, option_map, if◌then◌else◌}
+use Rattle.std.specs.Prelude.{◌≡◌, ℕ, ◌==◌, false, List, [], ◌∷◌, ◌++◌, Option, Some, None, option_map, if◌then◌else◌}
 use Rattle.tds_packet.specs.declared.header.Header.{Header}
 use Rattle.tds_packet.specs.Layout.{header_bytes}
-use Rattle.tds_relay.specs.Dealing.{Floor, Manner, Whole, Without, Withheld, Deal, Does, Hands, Lends, Acknowledges, Quits, Due, dealt, dealt_all}
+use Rattle.tds_relay.specs.Dealing.{Floor, Manner, Whole, Preceded, Without, Withheld, Deal, Does, Hands, Acknowledges, Quits, Due, dealt, dealt_all}
 use Rattle.tds_relay.specs.Desk.{whose}
 use Rattle.tds_relay.specs.Posts.{Post, acknowledgement, news, post_at, put}
 use Rattle.tds_relay.specs.Ties.{Cause}
 
 abbrev pub piece_of : Manner → Header → List ℕ → List (List ℕ)
 piece_of Whole header content = (header_bytes header ++ content) ∷ []
+piece_of Preceded header content = news ∷ (header_bytes header ++ content) ∷ []
 piece_of (Without bytes) header content = bytes ∷ []
 piece_of Withheld header content = []
 
@@ -17,19 +18,11 @@ abbrev pub if_its : ℕ → Option ℕ → List (List ℕ) → List (List ℕ)
 if_its key None pieces = []
 if_its key (Some other) pieces = if other == key then pieces else []
 
-abbrev pub first : List ℕ → Option ℕ
-first [] = None
-first (key ∷ others) = Some key
-
-abbrev pub news_if : Bool → List (List ℕ)
-news_if tells = if tells then news ∷ [] else []
-
--- What a deal gives it: a packet that comes on the connection that it is lent; the news of its reset, where it is the next that is
--- lent one; the acknowledgement of its own attention.
+-- What a deal gives it: a packet that comes on the connection that it is lent, behind the news of its reset or not; the
+-- acknowledgement of its own attention.
 abbrev pub given : ℕ → Floor → Deal → List (List ℕ)
 given key f (Does event) = []
 given key f (Hands number header content part way manner) = if_its key (whose f.desk number) (piece_of manner header content)
-given key f (Lends tells) = if_its key (first f.desk.line) (news_if tells)
 given key f (Acknowledges other) = if_its key (Some other) (acknowledgement ∷ [])
 given key f (Quits other) = []
 
@@ -46,7 +39,6 @@ abbrev pub Stays : ℕ → List Deal → Type 0
 Stays key [] = Unit {0}
 Stays key (Does event ∷ deals) = Stays key deals
 Stays key (Hands number header content part way manner ∷ deals) = Stays key deals
-Stays key (Lends tells ∷ deals) = Stays key deals
 Stays key (Acknowledges other ∷ deals) = Stays key deals
 Stays key (Quits other ∷ deals) = ((other == key) ≡ false) × Stays key deals
 

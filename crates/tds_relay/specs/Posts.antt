@@ -1,7 +1,6 @@
 -- What waits to be sent to each application.
-use Rattle.std.specs.Prelude.{ℕ, ◌+◌, nat_le, Bool, true, false, not, ◌&&◌, List, ◌∷◌, [], ◌++◌, drop, length, map, Option, Some, None, option_map, is_some, if◌then◌else◌, slice_index_or, slice_set}
+use Rattle.std.specs.Prelude.{◌≡◌, ◌≢◌, ℕ, ◌+◌, nat_le, Bool, true, false, not, ◌&&◌, List, ◌∷◌, [], ◌++◌, drop, length, map, Option, Some, None, option_map, is_some, if◌then◌else◌, slice_index_or, slice_set}
 use Rattle.slab.specs.Slab.{Slab}
-use Rattle.tds_packet.specs.declared.header.Header.{Header}
 use Rattle.tds_packet.specs.declared.kind.Kind.TheVariants.{Answer}
 use Rattle.tds_packet.specs.Layout.{header_bytes, status_of}
 use Rattle.tds_relay.specs.declared.application.Application.{Application}
@@ -47,6 +46,12 @@ change key by posts = slice_set posts key (option_map by (post_at posts key))
 abbrev pub give : ℕ → List ℕ → Posts → Posts
 give key bytes posts = change key (put bytes) posts
 
+-- An application has come by a key that nobody had: nothing waits for it, and for the others what did.
+pub record Enters (size key : ℕ) (old new : Posts) : Type 0 where
+  pub was_free : post_at old key ≡ None
+  pub nothing_waits : post_at new key ≡ Some (nothing size)
+  pub others_stay : (other : ℕ) → other ≢ key → post_at new other ≡ post_at old other
+
 -- ---- What the relay says itself
 
 -- the acknowledgement of an attention: a message of one DONE with bit 0020 (MS-TDS 2.2.7.6)
@@ -60,10 +65,6 @@ abbrev pub news : List ℕ
 news =
     header_bytes (record { kind = Answer; status = status_of 0; length = 14; spid = 0; packet_id = 1; window = 0 })
     ++ 0xe3 ∷ 3 ∷ 0 ∷ 18 ∷ 0 ∷ 0 ∷ []
-
--- an application is told it, or not
-abbrev pub told_if : Bool → ℕ → Posts → Posts
-told_if tells key posts = if tells then give key news posts else posts
 
 -- ---- As the code has them
 

@@ -14,7 +14,7 @@ use Rattle.tds_relay.specs.declared.desk.Desk as code
 use Rattle.tds_relay.specs.declared.desk.Hold.{Hold}
 use Rattle.tds_relay.specs.declared.desk.Served.{Served}
 use Rattle.tds_relay.specs.declared.desk.leaving.Left.{Left}
-use Rattle.tds_relay.specs.Desk.{Desk, Event, Deed, Waits, Unwaits, Serves, Brings, Does, Leaves, Renews, Comes, Loses, Asks, Puts, Ends, Stops, Way, Sent, NotLent, NotAsked, NotPut, NotEnded, desk_after, holding, new_desk, turn}
+use Rattle.tds_relay.specs.Desk.{Desk, Event, Deed, Waits, Unwaits, Serves, Brings, Does, Leaves, Renews, Comes, Loses, Asks, Puts, Ends, Stops, Way, Sent, NotLent, NotAsked, NotPut, NotEnded, desk_after, new_desk, turn}
 use Rattle.tds_relay.specs.Promises.{Cancels, Each, attentions_on}
 
 abbrev pub desk_in : code.Desk → Desk

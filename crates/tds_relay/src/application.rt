@@ -26,6 +26,7 @@ pub(crate) enum Asking {
 
 #[derive(Drop)]
 pub(crate) struct Application {
+    alloc: Global,
     /// What whoever carries its bytes calls it.
     pub(crate) tag: usize,
     pub(crate) front: Front,
@@ -43,6 +44,7 @@ pub(crate) struct Application {
 }
 
 impl Application {
+    ghost use Rattle.tds_relay.specs.Fronts.{settles, stage_of};
     ghost use Rattle.tds_relay.specs.Posts.{nothing, post_of};
 
     pub(crate) fn new(alloc: Global, tag: usize, size: PacketSize) -> Application
@@ -50,6 +52,7 @@ impl Application {
         ensures post { post_of result ≡ nothing size }
     {
         Application {
+            alloc,
             tag,
             front: Front::new(size),
             out: Outgoing::new(alloc, size),
@@ -95,7 +98,8 @@ impl Application {
 
     /// Keeps these bytes of its request. False where they are too many.
     pub(crate) fn keep(&mut self, bytes: &[u8]) -> Result<bool, NoMemory>
-        ensures { post_of self.new ≡ post_of self.old }
+        ensures post { post_of self.new ≡ post_of self.old }
+        ensures end { stage_of self.new ≡ stage_of self.old }
     {
         if bytes.len() > self.room_to_keep() {
             return Ok(false);
@@ -105,10 +109,13 @@ impl Application {
     }
 
     /// Its request has its answer, or its attention the acknowledgement.
+    #[tactic(auto, using(crate::proofs::Fronts::answered_known, crate::proofs::Fronts::acknowledged_known))]
     pub(crate) fn settle(&mut self, is_acknowledged: bool)
-        ensures { post_of self.new ≡ post_of self.old }
+        ensures post { post_of self.new ≡ post_of self.old }
+        ensures end { stage_of self.new ≡ settles is_acknowledged (stage_of self.old) }
     {
         self.asking = Asking::Nothing;
+        self.reset = None;
         if is_acknowledged {
             self.front.acknowledged();
         } else {
@@ -118,8 +125,9 @@ impl Application {
 
     /// Nothing is kept of its request any more.
     pub(crate) fn forget(&mut self)
-        ensures { post_of self.new ≡ post_of self.old }
+        ensures post { post_of self.new ≡ post_of self.old }
+        ensures end { stage_of self.new ≡ stage_of self.old }
     {
-        self.held.clear();
+        self.held = Vec::new(self.alloc);
     }
 }

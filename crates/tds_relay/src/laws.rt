@@ -1,21 +1,31 @@
 //! What a desk promises, over any list of events, and a relay behind any calls. Each function does nothing
 //! when it runs: its contract is the law.
-ghost use Rattle.std.specs.Prelude.{◌≡◌, ◌+◌, ◌<◌, ◌≤◌, ◌++◌, ℕ, List, OnOk, Some, vec_len};
+ghost use Rattle.std.specs.Prelude.{◌≡◌, ◌+◌, ◌<◌, ◌≤◌, ◌++◌, ℕ, List, OnOk, Some, false, vec_len};
 ghost use Rattle.tds_wire.specs.declared.told.Token.{Token};
-ghost use Rattle.tds_service.specs.Service.{Lease, step};
+ghost use Rattle.tds_service.specs.Line.{Idle};
+ghost use Rattle.tds_service.specs.Service.{Lease, Seat, seat_numbered, step};
 ghost use Rattle.tds_relay.specs.Desk.{Desk, Event, desk_after, new_desk, turn, whose};
 ghost use Rattle.tds_relay.specs.Promises.{CaresFor, Each, IsAmong, IsHandedTo, LendsClean, LendsFirst};
 ghost use Rattle.tds_relay.specs.Promises.{NoneAstray, SaysOnce, TakesOne, comes_to_wait};
+ghost use Rattle.tds_front.specs.Exchanges.{place_after};
+ghost use Rattle.tds_front.specs.Serving.{IsLawful, Ready};
 ghost use Rattle.tds_relay.specs.Bounds.{waiting_in};
 ghost use Rattle.tds_relay.specs.declared.application.Application.{Application};
 ghost use Rattle.tds_relay.specs.declared.link.Link.{Link};
 ghost use Rattle.tds_relay.specs.declared.outgoing.Outgoing.{Outgoing};
 ghost use Rattle.tds_relay.specs.Dealing.{Floor, floor_in};
+ghost use Rattle.tds_relay.specs.Fronting.{AnswersOnce, done_on, happened};
 ghost use Rattle.tds_relay.specs.Owning.{Gives};
+ghost use Rattle.tds_relay.specs.Fronts.{Hall, Moves, hall_in};
+ghost use Rattle.tds_relay.specs.Lasting.{Follow, IsKept, Next, StaysAlong};
+ghost use Rattle.tds_relay.specs.Posts.{Post, post_at};
+ghost use Rattle.tds_relay.specs.Reads.{Comes, reader_at, seen_at};
 ghost use Rattle.tds_relay.specs.Ties as causes;
 ghost use Rattle.tds_relay.specs.Ties.{Cause, Causes, Connection, Goes, IsReached, Owns};
 
 use crate::{NoMemory, Relay};
+use tds_service::table_laws::{each_alone, line_by_history};
+use tds_wire::Token;
 
 /// An attention goes out on a connection only where the application that holds it cancels or leaves, with
 /// something of a request out there; so none does during a cleaning.
@@ -73,6 +83,21 @@ pub fn never_asked_twice()
         → SaysOnce (desk_after (new_desk max) events) event }
 {}
 
+/// On each connection, what goes out and what comes is a lawful server's end (`tds_front`), where its
+/// server ends each answer once at most, also behind an attention. So it is from where the connection is
+/// idle, as it is lent (`fresh`): its server is ready there.
+pub fn lawful_connections()
+    ensures lawful { (max number : ℕ) (events : List Event)
+        → AnswersOnce false (done_on max number events)
+        → IsLawful Ready (happened (done_on max number events)) }
+    ensures ready { (max number : ℕ) (events : List Event) (c : Seat)
+        → seat_numbered number (desk_after (new_desk max) events).service.seats ≡ Some c
+        → c.line.stage ≡ Idle → place_after Ready (happened (done_on max number events)) ≡ Ready }
+{
+    each_alone::<Token>();
+    line_by_history::<Token>();
+}
+
 /// Whatever comes, and whatever isn't taken, so much is kept at most.
 pub fn bounds()
     /// Of a request that waits for a connection 16,384 bytes are kept at most.
@@ -95,8 +120,7 @@ pub fn any_bytes()
 
 /// What waits for each application grows, in a call, by what deals give it that this call causes, in order,
 /// until one doesn't fit, and by nothing else. A deal gives a packet that comes on the connection that it is
-/// lent, as it came or without the news of a reset; or the news of a reset, where it is lent a connection
-/// that nobody had; or the acknowledgement of its own attention.
+/// lent, as it came, without the news of a reset, or behind it; or the acknowledgement of its own attention.
 pub fn own_bytes(
     relay: &mut Relay,
     key: usize,
@@ -110,3 +134,40 @@ pub fn own_bytes(
     relay.said(key, said)?;
     relay.came(number, came)
 }
+
+/// What a connection's reader had of a packet, and behind it the bytes that come in a call, are the packets
+/// that the call's deals hand on or withhold, whole and in order, and less than a packet, which the reader has
+/// then. Or the connection is lost in that call: then they are a front of those bytes, and there is no
+/// connection of its number that is open. For a reader that had less than a packet: each call leaves it so.
+pub fn packets_that_came(relay: &mut Relay, number: u64, came: &[u8]) -> Result<(), NoMemory>
+    ensures { OnOk result (Comes number (reader_at number relay.old.links.items)
+        (floor_in relay.old) came.now (seen_at number relay.new.links.items) (floor_in relay.new)) }
+{
+    relay.came(number, came)
+}
+
+/// An application's end moves, in a call, by bytes of its own, in a call with these; and by what its
+/// connection's service answers to a packet that comes there, in a call with that: its request is answered
+/// where the service has its whole answer, and its attention acknowledged where the service has the
+/// acknowledgement, unless that is of what it has taken back. By nothing else.
+pub fn ends_move(
+    relay: &mut Relay,
+    key: usize,
+    said: &[u8],
+    number: u64,
+    came: &[u8],
+) -> Result<(), NoMemory>
+    ensures { OnOk result ((mid : Hall) × Moves (causes.Application key) (hall_in relay.old) mid
+        × Moves (Connection number) mid (hall_in relay.new)) }
+{
+    relay.said(key, said)?;
+    relay.came(number, came)
+}
+
+/// Over any calls, and all that is sent in between: what an application is sent, and then what waits for
+/// it, are the pieces that deals give it (`own_bytes`), in order, each whole; all of them, unless one
+/// didn't fit: then a front of them.
+pub fn own_bytes_over_calls()
+    ensures { (key : ℕ) (f : Floor) (nexts : List Next) (p : Post) → Follow f nexts
+        → StaysAlong key nexts → post_at f.posts key ≡ Some p → IsKept key p f nexts }
+{}

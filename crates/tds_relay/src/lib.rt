@@ -10,9 +10,11 @@ mod application;
 mod desk;
 pub mod laws;
 mod link;
+mod links;
 mod news;
 mod order;
 mod outgoing;
+mod reading;
 mod relay;
 
 pub use desk::{Desk, Heard, Hold, Left, Renewed, Served, What};

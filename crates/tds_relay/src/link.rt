@@ -1,5 +1,5 @@
 //! A connection to the server, as the relay knows it beside its service.
-ghost use Rattle.std.specs.Prelude.{◌≡◌, ◌++◌, ℕ, List, OnOk, if◌then◌else◌};
+ghost use Rattle.std.specs.Prelude.{◌≡◌, ◌++◌, ℕ, List, IfOk, OnOk, false, if◌then◌else◌};
 ghost use Rattle.tds_relay.specs.Cutting.{IsAnew};
 ghost use Rattle.tds_packet.specs.declared.kind.Direction.TheVariants.{ToClient};
 
@@ -13,6 +13,17 @@ use tds_wire::{Features, Walker};
 /// The most columns of a result.
 pub(crate) const COLUMNS: u16 = 4096;
 
+/// How the news of a reset goes with what comes on a connection.
+#[derive(Clone, Copy, Debug)]
+pub(crate) enum News {
+    /// As it comes.
+    Comes,
+    /// It is cut out, until it was: its application didn't ask for that reset.
+    IsCut,
+    /// It is told before the next packet: its application asked for a reset, and nobody had the connection.
+    IsTold,
+}
+
 #[derive(Drop)]
 pub(crate) struct Link {
     pub(crate) number: u64,
@@ -23,8 +34,7 @@ pub(crate) struct Link {
     /// Whether its application took its request back, so that nothing is handed on until the
     /// acknowledgement of that.
     pub(crate) is_muted: bool,
-    /// Whether the news of a reset is cut out, until it was.
-    pub(crate) cuts: bool,
+    pub(crate) news: News,
     pub(crate) out: Outgoing,
     pub(crate) reader: PacketReader,
     pub(crate) answer: Answer,
@@ -48,7 +58,11 @@ impl Link {
         number: u64,
         size: PacketSize,
         features: Features,
-    ) -> Result<Link, NoMemory> {
+        news: News,
+    ) -> Result<Link, NoMemory>
+        ensures closed { IfOk result (λ link. link.is_open ≡ false) }
+        ensures news { IfOk result (λ link. link.news ≡ news) }
+    {
         let answer = Answer {
             alloc,
             size,
@@ -61,7 +75,7 @@ impl Link {
             tag: None,
             is_open: false,
             is_muted: false,
-            cuts: false,
+            news,
             out: Outgoing::new(alloc, size),
             reader: PacketReader::new(alloc, size, Direction::ToClient)?,
             answer,

@@ -22,12 +22,13 @@ const ATTENTION: usize = 8;
 
 const ACKNOWLEDGED: usize = 21;
 
-/// The length of the news of a reset that is done, in a packet of its own.
-const NEWS: usize = 14;
+/// The news of a reset that is done, in a packet of its own (MS-TDS 2.2.7.9, type 18).
+const NEWS: [u8; 14] = [4, 0, 0, 14, 0, 0, 1, 0, 0xe3, 3, 0, 18, 0, 0];
 
-/// Bytes, of which the first ones were sent.
+/// Bytes, of which the first ones were sent. Where none wait it keeps no memory.
 #[derive(Drop)]
 pub(crate) struct Outgoing {
+    alloc: Global,
     bytes: Vec<u8>,
     sent: usize,
     /// The packet size of the end that they go to.
@@ -42,7 +43,7 @@ pub(crate) struct Outgoing {
 
 impl Outgoing {
     ghost use Rattle.tds_relay.specs.Bounds.{waiting_in};
-    ghost use Rattle.tds_relay.specs.Posts.{nothing, post_in, put, without_first};
+    ghost use Rattle.tds_relay.specs.Posts.{news, nothing, post_in, put, without_first};
 
     pub(crate) fn new(alloc: Global, size: PacketSize) -> Outgoing
         ensures nothing { (result.bytes.items ≡ []) × (result.sent ≡ 0) }
@@ -51,6 +52,7 @@ impl Outgoing {
         ensures post { post_in result ≡ nothing size }
     {
         Outgoing {
+            alloc,
             bytes: Vec::new(alloc),
             sent: 0,
             size: size.get(),
@@ -91,10 +93,9 @@ impl Outgoing {
         PIECE.saturating_sub(self.count())
     }
 
-    /// How many bytes of attentions may be read, so that their acknowledgements fit here, and the news of a
-    /// reset behind them.
+    /// How many bytes of attentions may be read, so that their acknowledgements fit here.
     pub(crate) fn attentions(&self) -> usize {
-        let acknowledgements = self.room().saturating_sub(NEWS) / ACKNOWLEDGED;
+        let acknowledgements = self.room() / ACKNOWLEDGED;
         ATTENTION * acknowledgements
     }
 
@@ -108,6 +109,8 @@ impl Outgoing {
             → waiting_in self.old + length bytes.now ≤ self.old.size + PIECE
             → self.new.is_full ≡ false }
         ensures size { self.new.size ≡ self.old.size }
+        ensures more { OnOk result (self.new.is_full ≡ false
+            → waiting_in self.new ≡ waiting_in self.old + length bytes.now) }
         ensures post { OnOk result (post_in self.new ≡ put bytes.now (post_in self.old)) }
     {
         if self.is_full || bytes.len() > self.room() {
@@ -139,6 +142,19 @@ impl Outgoing {
         put_packet(&mut self.bytes, header, content)
     }
 
+    /// Appends the news of a reset that is done, and a packet behind it.
+    pub(crate) fn put_behind_news(&mut self, header: Header, content: &[u8]) -> Result<(), NoMemory>
+        requires { header.length ≡ 8 + length content.now }
+        ensures fits { self.old.is_full ≡ false
+            → waiting_in self.old + (14 + header.length) ≤ self.old.size + PIECE
+            → self.new.is_full ≡ false }
+        ensures post { OnOk result (post_in self.new
+            ≡ put (header_bytes header ++ content.now) (put news (post_in self.old))) }
+    {
+        self.append(&NEWS)?;
+        self.put_packet(header, content)
+    }
+
     /// How many bytes may wait at most.
     pub(crate) fn most(&self) -> usize
         ensures { result ≡ self.now.size + PIECE }
@@ -162,7 +178,8 @@ impl Outgoing {
     {
         let sent = self.sent.saturating_add(count).min(self.bytes.len());
         if sent == self.bytes.len() {
-            self.bytes.clear();
+            // An idle application, or connection, is one of very many.
+            self.bytes = Vec::new(self.alloc);
             self.sent = 0;
         } else if sent >= PIECE {
             let left = self.bytes.len() - sent;

@@ -3,7 +3,9 @@ ghost use Rattle.std.specs.Prelude.{◌≡◌, ◌+◌, ◌-◌, ◌≤◌, ℕ,
 ghost use Rattle.slab.specs.Slab.{get, slab_len};
 ghost use Rattle.tds_relay.specs.Bounds.{most_for, waiting_for};
 ghost use Rattle.tds_relay.specs.Desk.{find_number, key_of, new_desk};
-ghost use Rattle.tds_relay.specs.Posts.{change, posts_in, unsent_of, without_first};
+ghost use Rattle.tds_relay.specs.Fronts.{fronts_in};
+ghost use Rattle.tds_relay.specs.Posts.{Enters, change, posts_in, unsent_of, without_first};
+ghost use Rattle.tds_relay.specs.Reads.{Stays};
 ghost use Rattle.tds_relay.specs.Ties.{GoesOn, desk_in};
 ghost use Rattle.tds_relay.specs.declared.application.Application.{Application};
 ghost use Rattle.tds_relay.specs.declared.outgoing.TheConstants.{PIECE};
@@ -17,7 +19,8 @@ mod places;
 use crate::NoMemory;
 use crate::application::Application;
 use crate::desk::Desk;
-use crate::link::Link;
+use crate::link::{Link, News};
+use crate::links::{append_to, set_cuts, set_muted};
 use crate::order::Order;
 use crate::outgoing::{BESIDE, PIECE};
 pub use places::{Counts, Place, PlaceOn};
@@ -25,7 +28,7 @@ use slab::Slab;
 use std::alloc::{AllocError, Global};
 use std::mem;
 use tds_packet::PacketSize;
-use tds_wire::{Features, Token};
+use tds_wire::Features;
 
 /// Many applications, and the connections of one service that they share.
 ///
@@ -42,8 +45,6 @@ pub struct Relay {
     applications: Slab<Application>,
     links: Vec<Link>,
     orders: Vec<Order>,
-    /// Where what is told of a packet is put: nobody looks at it.
-    told: Vec<Token>,
     /// Where the desk puts what is to be sent on a connection.
     outbox: Vec<u8>,
     counts: Counts,
@@ -69,7 +70,6 @@ impl Relay {
             applications: Slab::new(alloc),
             links: Vec::new(alloc),
             orders: Vec::new(alloc),
-            told: Vec::new(alloc),
             outbox: Vec::new(alloc),
             counts: Counts::none(),
         })
@@ -80,18 +80,21 @@ impl Relay {
         ensures desk { self.new.desk ≡ self.old.desk }
         ensures size { IfOk result (λ key. IfSome (get self.new.applications key)
             (λ (a : Application). a.out.size ≡ self.old.size)) }
+        ensures posts { IfOk result (λ key. Enters self.old.size key
+            (posts_in self.old.applications) (posts_in self.new.applications)) }
     {
         let application = Application::new(self.alloc, tag, self.size);
-        match self.applications.insert(application) {
-            Ok(key) => Ok(key),
-            Err(_) => Err(AllocError),
-        }
+        let Ok(key) = self.applications.insert(application) else {
+            return Err(AllocError);
+        };
+        Ok(key)
     }
 
     /// What is to be done, in order. It is to be done before the next call.
     pub fn orders(&mut self) -> Vec<Order>
         ensures desk { self.new.desk ≡ self.old.desk }
         ensures kept { posts_in self.new.applications ≡ posts_in self.old.applications }
+        ensures fronts { fronts_in self.new.applications ≡ fronts_in self.old.applications }
     {
         mem::replace(&mut self.orders, Vec::new(self.alloc))
     }
@@ -141,11 +144,10 @@ impl Relay {
             Some(application) => application.out.piece(),
             None => PIECE,
         };
-        if link.cuts {
-            // Its packets are set anew.
-            room.saturating_sub(BESIDE)
-        } else {
-            room
+        match link.news {
+            News::Comes => room,
+            // Its packets are set anew, or the news goes before them.
+            News::IsCut | News::IsTold => room.saturating_sub(BESIDE),
         }
     }
 
@@ -189,6 +191,7 @@ impl Relay {
     pub fn sent_on(&mut self, number: u64, count: usize) -> Option<usize>
         ensures desk { self.new.desk ≡ self.old.desk }
         ensures kept { posts_in self.new.applications ≡ posts_in self.old.applications }
+        ensures fronts { fronts_in self.new.applications ≡ fronts_in self.old.applications }
     {
         let link = link_in(&mut self.links, number)?;
         link.out.sent(count);
@@ -221,11 +224,10 @@ impl Relay {
     fn mute(&mut self, number: u64, is_muted: bool)
         ensures desk { self.new.desk ≡ self.old.desk }
         ensures kept { posts_in self.new.applications ≡ posts_in self.old.applications }
+        ensures fronts { fronts_in self.new.applications ≡ fronts_in self.old.applications }
+        ensures read { Stays self.old.links.items self.new.links.items }
     {
-        match link_in(&mut self.links, number) {
-            Some(link) => link.is_muted = is_muted,
-            None => {}
-        }
+        let _ = set_muted(&mut self.links, number, is_muted);
     }
 
     /// Whether the news of a reset is cut out of what comes next on a connection: a message's first
@@ -233,14 +235,10 @@ impl Relay {
     fn cut(&mut self, number: u64, cuts: bool)
         ensures desk { self.new.desk ≡ self.old.desk }
         ensures kept { posts_in self.new.applications ≡ posts_in self.old.applications }
+        ensures fronts { fronts_in self.new.applications ≡ fronts_in self.old.applications }
+        ensures read { Stays self.old.links.items self.new.links.items }
     {
-        match link_in(&mut self.links, number) {
-            Some(link) => {
-                link.cuts = cuts;
-                link.answer.restart();
-            }
-            None => {}
-        }
+        set_cuts(&mut self.links, number, cuts);
     }
 
     /// What the desk has to send on a connection waits there. One for which more would wait than may is
@@ -249,14 +247,11 @@ impl Relay {
         ensures goes { OnOk result (GoesOn (desk_in self.old.desk) (desk_in self.new.desk)) }
         ensures kept { OnOk result (posts_in self.new.applications
             ≡ posts_in self.old.applications) }
+        ensures fronts { OnOk result (fronts_in self.new.applications
+            ≡ fronts_in self.old.applications) }
+        ensures read { OnOk result (Stays self.old.links.items self.new.links.items) }
     {
-        let fits = match link_in(&mut self.links, number) {
-            Some(link) => {
-                link.out.append(&self.outbox)?;
-                !link.out.is_full()
-            }
-            None => true,
-        };
+        let fits = append_to(&mut self.links, number, &self.outbox)?;
         self.outbox.clear();
         if fits {
             self.order_write_on(number)
@@ -270,6 +265,9 @@ impl Relay {
         ensures desk { self.new.desk ≡ self.old.desk }
         ensures kept { OnOk result (posts_in self.new.applications
             ≡ posts_in self.old.applications) }
+        ensures fronts { OnOk result (fronts_in self.new.applications
+            ≡ fronts_in self.old.applications) }
+        ensures links { OnOk result (self.new.links.items ≡ self.old.links.items) }
     {
         let Some(application) = self.applications.get(key) else {
             return Ok(());
@@ -286,6 +284,9 @@ impl Relay {
         ensures desk { self.new.desk ≡ self.old.desk }
         ensures kept { OnOk result (posts_in self.new.applications
             ≡ posts_in self.old.applications) }
+        ensures fronts { OnOk result (fronts_in self.new.applications
+            ≡ fronts_in self.old.applications) }
+        ensures links { OnOk result (self.new.links.items ≡ self.old.links.items) }
     {
         let Some(link) = self.link(number) else {
             return Ok(());

@@ -2,7 +2,7 @@
 use Rattle.std.proofs.Common.{◌≡◌, ◌≢◌, ◌∙◌, ◌==◌, ◌<◌, ◌+◌, ℕ, zero, suc, Bool, true, false, List, [], ◌∷◌, ◌++◌, length, get_or, take, drop, refl, sym, ap, arith}
 use Rattle.std.proofs.Math.ListN.{set}
 use Rattle.std.proofs.lemmas.Bool.Decides.{nat_tests}
-use Rattle.std.specs.Prelude.{Option, Some, if◌then◌else◌}
+use Rattle.std.specs.Prelude.{Option, None, Some, if◌then◌else◌}
 use Rattle.tds_client.specs.Parts.{left_of}
 use Rattle.tds_wire.specs.Reading.{Reading}
 use Rattle.tds_service.specs.declared.place.Rest.{Rest}
@@ -53,6 +53,16 @@ added_by false r s x y f e = f e
 pub keeps_added : (test : Seat → Bool) (r : Reading) (d : code.Seat) (cs : List code.Seat) → reading_by test cs ≡ Some r → reading_by test (cs ++ d ∷ []) ≡ Some r
 keeps_added test r d [] e = absurd (let u : ⊥ = cc in u)
 keeps_added test r d (c ∷ cs) e = added_by (test (seat_in c)) r c.connection.walker (reading_by test cs) (reading_by test (cs ++ d ∷ [])) (keeps_added test r d cs) e
+
+-- what is added is found where nothing was
+first_none : (b : Bool) (r s : Reading) (x y : Option Reading) → (x ≡ None → y ≡ Some s) → (if b then Some r else x) ≡ None → (if b then Some r else y) ≡ Some s
+first_none true r s x y f e = absurd (let u : ⊥ = cc in u)
+first_none false r s x y f e = f e
+
+pub reads_added : (test : Seat → Bool) (d : code.Seat) (cs : List code.Seat) → reading_by test cs ≡ None → test (seat_in d) ≡ true → reading_by test (cs ++ d ∷ []) ≡ Some d.connection.walker
+reads_added test d [] none e = rw e refl
+reads_added test d (c ∷ cs) none e =
+    first_none (test (seat_in c)) c.connection.walker d.connection.walker (reading_by test cs) (reading_by test (cs ++ d ∷ [])) (λ f. reads_added test d cs f e) none
 
 -- ---- In a service
 

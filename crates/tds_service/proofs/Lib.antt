@@ -4,6 +4,7 @@ pub mod Numbered
 pub mod Joining
 pub mod Packeting
 pub mod Answering
+pub mod Noting
 pub mod Arriving
 pub mod Keeping
 pub mod Holding

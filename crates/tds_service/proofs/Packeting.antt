@@ -1,7 +1,7 @@
 -- A packet is heard token by token.
 use Rattle.std.proofs.Common.{◌≡◌, ◌∙◌, ◌+◌, ◌-◌, ◌<◌, ◌≤◌, ℕ, Bool, true, false, List, [], ◌∷◌, ◌++◌, length, take, drop, refl, sym, ap, subst, arith, append_assoc}
 use Rattle.std.proofs.lemmas.List.{append-nil, take_all, drop_all, drop-drop, length-drop}
-use Rattle.std.specs.Prelude.{Option, Some, None, Result, Ok, Err}
+use Rattle.std.specs.Prelude.{Result, Ok, Err}
 use Rattle.tds_wire.specs.declared.told.Token.{Token}
 use Rattle.tds_wire.specs.Reading.{Reading, Found, Sees, Inside, Refuses, next_token}
 use Rattle.tds_client.specs.declared.fault.ClientFault.{ClientFault}
@@ -289,26 +289,18 @@ stop_is c l k r reading bytes before after some =
 
 -- ---- Room for what is told
 
-pub listed_short : (token : Option Token) → length (listed token) ≤ 1
-listed_short None = omega arith
-listed_short (Some token) = omega arith
-
 no_tokens_told : (n : ℕ) (h : Heard) (f : Found) (new : Line) (toks : List Token) → Hears (part_of f) (line_at n line.Cancelling h) new line.More toks → length toks ≡ 0
 no_tokens_told n h f new toks k = ap length (goes_in true n h f new toks k).told_is
 
-pub fits : (c : Bool) (l k new : Line) (r reading : Reading) (bytes left : List ℕ) (before after : List Token) (f : Found) (token : Option Token) (len cap rest : ℕ)
-    → HeardSome c l r bytes k reading left before after → Hears (part_of f) k new line.More (listed token) → len ≤ cap → 0 < rest
-    → (l.stage ≡ line.Reading → len + rest ≤ cap) → len + length (listed token) ≤ cap
-fits false l k new r reading bytes left before after f token len cap rest some h under lt room =
+pub fits : (c : Bool) (l k new : Line) (r reading : Reading) (bytes left : List ℕ) (before after : List Token) (f : Found) (toks : List Token) (len cap rest : ℕ)
+    → HeardSome c l r bytes k reading left before after → length toks ≤ 1 → Hears (part_of f) k new line.More toks → len ≤ cap → 0 < rest
+    → (l.stage ≡ line.Reading → len + rest ≤ cap) → len + length toks ≤ cap
+fits false l k new r reading bytes left before after f toks len cap rest some short h under lt room =
     let fit = room (ap (λ (x : Line). x.stage) some.old_is) in
-    let short = listed_short token in
     omega (arith, fit, short, lt)
-fits true l k new r reading bytes left before after f token len cap rest some h under lt room =
-    let none = no_tokens_told l.asked k.heard f new (listed token) (subst (λ (x : Line). Hears (part_of f) x new line.More (listed token)) some.new_is h) in
+fits true l k new r reading bytes left before after f toks len cap rest some short h under lt room =
+    let none = no_tokens_told l.asked k.heard f new toks (subst (λ (x : Line). Hears (part_of f) x new line.More toks) some.new_is h) in
     omega (arith, none, under)
-
-pub still_fits : (token : Option Token) (len cap rest count : ℕ) → len + rest ≤ cap → 0 < count → count ≤ rest → len + length (listed token) + (rest - count) ≤ cap
-still_fits token len cap rest count fit some within = let short = listed_short token in omega (arith, short, fit, some, within)
 
 pub front_is : (before after xs : List Token) → after ≡ before ++ xs → take (length before) after ≡ before
 front_is before after xs e = ap (take (length before)) e ∙ taken before xs
@@ -349,10 +341,10 @@ module _ (c : Bool) (l k new : Line) (r reading : Reading) (bytes : List ℕ) (b
   pub moves_at : (count : ℕ) → (0 < length piece → 0 < count) → 0 < count
   moves_at count h = let e : length piece ≡ length bytes - done = ap length piece_is ∙ length-drop done bytes in h (omega (arith, e, more))
 
-  pub fits_at : (token : Option Token) (len cap : ℕ) → Hears (part_of (next_token reading piece)) k new line.More (listed token) → len ≤ cap
-      → (l.stage ≡ line.Reading → len + (length bytes - done) ≤ cap) → len + length (listed token) ≤ cap
-  fits_at token len cap h under room =
-      fits c l k new r reading bytes (drop done bytes) before after (next_token reading piece) token len cap (length bytes - done) some h under (omega (arith, more)) room
+  pub fits_at : (toks : List Token) (len cap : ℕ) → length toks ≤ 1 → Hears (part_of (next_token reading piece)) k new line.More toks → len ≤ cap
+      → (l.stage ≡ line.Reading → len + (length bytes - done) ≤ cap) → len + length toks ≤ cap
+  fits_at toks len cap short h under room =
+      fits c l k new r reading bytes (drop done bytes) before after (next_token reading piece) toks len cap (length bytes - done) some short h under (omega (arith, more)) room
 
 -- at the end nothing is left
 pub all_heard : (c : Bool) (l k : Line) (r reading : Reading) (bytes : List ℕ) (before after : List Token) (done : ℕ) → length bytes ≤ done

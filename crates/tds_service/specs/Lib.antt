@@ -13,3 +13,4 @@ pub mod Table
 pub mod Newest
 pub mod Spelling
 pub mod Sizes
+pub mod Beginning

@@ -33,6 +33,11 @@ packet_part r bytes ends = part_from ends (tokens_in r bytes)
 abbrev pub told_of_part : Line → Part Token → List Token
 told_of_part l part = ties.tokens_in (turn l (line.Come part)).told
 
+-- What a caller notes of tokens: one who is told all of them, and one who isn't none.
+abbrev pub noted : Bool → List Token → List Token
+noted true tokens = tokens
+noted false tokens = []
+
 -- What the machine answers.
 abbrev pub outcome_answer : ℕ → Outcome → Answer
 outcome_answer n outcomes.More = line.More

@@ -165,6 +165,10 @@ pub record Comes (s new : Service) (number : ℕ) (part : Part Token) (lease : O
   pub owner : AllTo request (step s (calls.Came number part)).dones
   pub holder : lease_at (find_by (has_number number) s.seats) ≡ lease
 
+-- The same where nobody is told: what would be told is such a list.
+abbrev pub ComesUntold : (s new : Service) → ℕ → Part Token → Option ℕ → ℕ → Answer → Type 0
+ComesUntold s new number part lease request answer = (tokens : List Token) × Comes s new number part lease request answer [] tokens
+
 -- Where the walker of the connection of this number stands.
 abbrev pub reading_by : (Seat → Bool) → List seats.Seat → Option Reading
 reading_by test [] = None

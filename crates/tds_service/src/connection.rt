@@ -1,17 +1,18 @@
 ghost use Rattle.std.specs.Prelude.{◌≡◌, ◌≤◌, ◌<◌, ◌+◌, ℕ, List, [], Ok, Err, IfOk, IfErr, OnOk, OnErr};
-ghost use Rattle.std.specs.Prelude.{drop, length, Bool, true, false, None};
+ghost use Rattle.std.specs.Prelude.{drop, length, Bool, true, false, None, Some};
 ghost use Rattle.tds_client.specs.Sending.{Does as ClientDoes, IsRefusal};
 ghost use Rattle.tds_client.specs.Session.{new_session, state_of, unless_idle};
 ghost use Rattle.tds_client.specs.Streams.{finished, opened, put};
 ghost use Rattle.tds_wire.specs.Reading.{next_token, restarted};
 ghost use Rattle.tds_wire.specs.declared.told.Token.{Token};
-ghost use Rattle.tds_service.specs.Packets.{awaiting};
+ghost use Rattle.tds_service.specs.Packets.{awaiting, noted};
 ghost use Rattle.tds_service.specs.Parts.{Part, told};
 ghost use Rattle.tds_service.specs.Line as line;
 ghost use Rattle.tds_service.specs.Ties.{Does, DoesAll, Hears, Stands, answer_to, asked_answer};
 ghost use Rattle.tds_service.specs.Ties.{cancel_answer, end_at, finishing, line_in, listed, part_of};
 ghost use Rattle.tds_service.specs.Refusing.{refusal_in};
 ghost use Rattle.tds_service.specs.Service.{is_clean, is_open};
+ghost use Rattle.tds_service.specs.Beginning.{Begins};
 ghost use Rattle.tds_service.specs.Sizes.{Sized};
 ghost use Rattle.tds_service.specs.Ties.{items_of, putting, taken_answer};
 
@@ -43,6 +44,7 @@ impl Connection {
         ensures line { IfOk result (λ connection. line_in connection ≡ line.new_line) }
         ensures client { IfOk result (λ connection. connection.client ≡ new_session size) }
         ensures sized { IfOk result (Sized size) }
+        ensures begins { IfOk result (λ connection. Begins most features connection.walker) }
     {
         let walker = Walker::new(alloc, most, features)?;
         Ok(Connection {
@@ -237,6 +239,76 @@ impl Connection {
         }
     }
 
+    /// The same where it is known that an answer or an acknowledgement is awaited. The token may be a change
+    /// of a transaction or the end of a reset: `is_told` says which tokens are told.
+    #[inline(always)]
+    pub(crate) fn hear_next(&mut self, piece: &[u8]) -> Result<Heard, ListenFault>
+        requires awaits { (cancelling : Bool)
+            × ((line_in self.old).stage ≡ awaiting cancelling) }
+        ensures ok { IfOk result (λ heard. Hears
+            (part_of (next_token self.old.walker piece.now)) (line_in self.old)
+            (line_in self.new) line.More (told (items_of heard.token))) }
+        ensures fault { IfErr result (λ fault. Hears
+            (part_of (next_token self.old.walker piece.now)) (line_in self.old)
+            (line_in self.new) (line.Fault fault) []) }
+        ensures stands { IfOk result (λ heard. Stands (next_token self.old.walker piece.now)
+            self.new.walker (drop heard.count piece.now)) }
+        ensures within { IfOk result (λ heard. heard.count ≤ length piece.now) }
+        ensures moves { IfOk result (λ heard. 0 < length piece.now → 0 < heard.count) }
+        ensures size { self.new.client.size ≡ self.old.client.size }
+    {
+        next(&mut self.client, &mut self.walker, piece)
+    }
+
+    /// Passes the row that bytes begin with, where it is whole: how many bytes it has. Else nothing is done,
+    /// and the answer is 0.
+    #[inline(always)]
+    fn pass_row(&mut self, piece: &[u8]) -> usize
+        requires awaits { (cancelling : Bool)
+            × ((line_in self.old).stage ≡ awaiting cancelling) }
+        ensures within { result ≤ length piece.now }
+        ensures same { result ≡ 0 → self.new ≡ self.old }
+        ensures ok { 0 < result → (tokens : List Token) × Hears
+            (part_of (next_token self.old.walker piece.now)) (line_in self.old)
+            (line_in self.new) line.More tokens }
+        ensures stands { 0 < result → Stands (next_token self.old.walker piece.now)
+            self.new.walker (drop result piece.now) }
+        ensures client { self.new.client ≡ self.old.client }
+    {
+        if !self.walker.is_between() {
+            return 0;
+        }
+        self.walker.pass_row(piece)
+    }
+
+    /// As `hear_next`; where the caller doesn't tell, a row that stands whole is passed, and not answered.
+    #[inline(always)]
+    pub(crate) fn hear_some(&mut self, piece: &[u8], tells: bool) -> Result<Heard, ListenFault>
+        requires awaits { (cancelling : Bool)
+            × ((line_in self.old).stage ≡ awaiting cancelling) }
+        ensures ok { IfOk result (λ heard. (tokens : List Token) × Hears
+            (part_of (next_token self.old.walker piece.now)) (line_in self.old)
+            (line_in self.new) line.More tokens
+            × (noted tells (told (items_of heard.token)) ≡ noted tells tokens)) }
+        ensures fault { IfErr result (λ fault. Hears
+            (part_of (next_token self.old.walker piece.now)) (line_in self.old)
+            (line_in self.new) (line.Fault fault) []) }
+        ensures stands { IfOk result (λ heard. Stands (next_token self.old.walker piece.now)
+            self.new.walker (drop heard.count piece.now)) }
+        ensures within { IfOk result (λ heard. heard.count ≤ length piece.now) }
+        ensures moves { IfOk result (λ heard. 0 < length piece.now → 0 < heard.count) }
+        ensures size { self.new.client.size ≡ self.old.client.size }
+    {
+        if tells {
+            return self.hear_next(piece);
+        }
+        let count = self.pass_row(piece);
+        if count == 0 {
+            return self.hear_next(piece);
+        }
+        Ok(Heard { count, token: None })
+    }
+
     /// Whether an answer or an acknowledgement is awaited. Where none is, whatever comes is a fault, which
     /// breaks the connection.
     pub(crate) fn expects(&mut self) -> Result<(), ListenFault>
@@ -284,14 +356,22 @@ impl Connection {
     }
 }
 
-/// The token, where it is no change of a transaction and no end of a reset.
+/// Whether a token is told: it is no change of a transaction and no end of a reset.
+#[inline(always)]
+pub(crate) fn is_told(token: &Token) -> bool
+    ensures { told (items_of (Some token.now)) ≡ noted result (listed (Some token.now)) }
+{
+    match sign_of(token) {
+        Sign::Change(_) => false,
+        Sign::Nothing => true,
+        Sign::Done { .. } => true,
+    }
+}
+
+/// The token, where it is told.
 fn unless_change(token: Option<Token>) -> Option<Token>
     ensures { listed result ≡ told (items_of token) }
 {
     let told = token?;
-    match sign_of(&told) {
-        Sign::Change(_) => None,
-        Sign::Nothing => Some(told),
-        Sign::Done { .. } => Some(told),
-    }
+    if is_told(&told) { Some(told) } else { None }
 }

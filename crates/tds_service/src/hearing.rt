@@ -1,41 +1,55 @@
 //! What a connection hears of a packet's data.
-ghost use Rattle.std.specs.Prelude.{◌≡◌, ◌≤◌, ◌<◌, ◌+◌, ◌++◌, ℕ, Bool, [], length, take, vec_len, vec_capacity, IfOk, IfErr, OnOk, OnErr};
+ghost use Rattle.std.specs.Prelude.{◌≡◌, ◌≤◌, ◌<◌, ◌+◌, ◌++◌, ℕ, Bool, List, [], true, length, take, vec_len, vec_capacity, IfOk, IfErr, OnOk, OnErr};
 ghost use Rattle.tds_listen.specs.Hearing.{Stands, tokens_in};
 ghost use Rattle.tds_wire.specs.Reading.{Reading};
+ghost use Rattle.tds_wire.specs.declared.told.Token.{Token};
 ghost use Rattle.tds_service.specs.Line as line;
-ghost use Rattle.tds_service.specs.Packets.{HeardSome, Reads, awaiting, behind_packet, outcome_answer, packet_part, told_of_part};
-ghost use Rattle.tds_service.specs.Ties.{Hears, line_in, listed, taken_answer};
+ghost use Rattle.tds_service.specs.Packets.{HeardSome, Reads, awaiting, behind_packet, noted, outcome_answer, packet_part, told_of_part};
+ghost use Rattle.tds_service.specs.Parts as parts;
+ghost use Rattle.tds_service.specs.Ties.{Hears, items_of, line_in, taken_answer};
 
-use crate::connection::Connection;
+use crate::connection::{Connection, is_told};
 use crate::outcome::Outcome;
 use tds_client::Taken;
 use tds_listen::ListenFault;
 use tds_wire::Token;
 
-/// Notes a token, where there is one.
-fn note(told: &mut Vec<Token>, token: Option<Token>)
-    requires { vec_len told.old + length (listed token) ≤ vec_capacity told.old }
-    ensures items { told.new.items ≡ told.old.items ++ listed token }
-    ensures len { vec_len told.new ≡ vec_len told.old + length (listed token) }
+/// Notes a token, where there is one that is told and the caller `tells`.
+#[inline(always)]
+fn note(told: &mut Vec<Token>, tells: bool, token: &Option<Token>)
+    requires { vec_len told.old + length (noted tells (parts.told (items_of token.now)))
+        ≤ vec_capacity told.old }
+    ensures items { told.new.items ≡ told.old.items
+        ++ noted tells (parts.told (items_of token.now)) }
+    ensures len { vec_len told.new
+        ≡ vec_len told.old + length (noted tells (parts.told (items_of token.now))) }
     ensures capacity { vec_capacity told.new ≡ vec_capacity told.old }
 {
+    if !tells {
+        return;
+    }
     if let Some(token) = token {
-        told.push_reserved(token);
+        if is_told(token) {
+            told.push_reserved(*token);
+        }
     }
 }
 
 /// Hears the tokens that end among these bytes.
+#[inline(always)]
 fn hear_tokens(
     connection: &mut Connection,
     bytes: &[u8],
+    tells: bool,
     told: &mut Vec<Token>,
 ) -> Result<(), ListenFault>
     requires awaits { (cancelling : Bool) × ((line_in connection.old).stage ≡ awaiting cancelling) }
-    requires room { (line_in connection.old).stage ≡ line.Reading
+    requires room { tells ≡ true → (line_in connection.old).stage ≡ line.Reading
         → vec_len told.old + length bytes.now ≤ vec_capacity told.old }
-    ensures ok { OnOk result ((cancelling : Bool) × HeardSome cancelling (line_in connection.old)
-        connection.old.walker bytes.now (line_in connection.new) connection.new.walker []
-        told.old.items told.new.items) }
+    ensures ok { OnOk result ((cancelling : Bool) × (tokens : List Token)
+        × HeardSome cancelling (line_in connection.old) connection.old.walker bytes.now
+        (line_in connection.new) connection.new.walker [] [] tokens
+        × (told.new.items ≡ told.old.items ++ noted tells tokens)) }
     ensures fault { IfErr result (λ fault. (ends : Bool)
         → Hears (packet_part connection.old.walker bytes.now ends) (line_in connection.old)
         (line_in connection.new) (line.Fault fault) []) }
@@ -44,9 +58,9 @@ fn hear_tokens(
 {
     let mut done = 0;
     'tokens: while done < bytes.len() {
-        match connection.came(&bytes[done..]) {
+        match connection.hear_some(&bytes[done..], tells) {
             Ok(heard) => {
-                note(told, heard.token);
+                note(told, tells, &heard.token);
                 done += heard.count;
             }
             Err(fault) => return Err(fault),
@@ -56,14 +70,17 @@ fn hear_tokens(
 }
 
 /// Hears the data of a packet of an answer, and its message's end where it has one. What may be told
-/// is appended, for the newest request; of a packet with a fault nothing is. It takes no memory.
+/// is appended, for the newest request, if the caller `tells`; of a packet with a fault nothing is.
+/// It takes no memory.
+#[inline(always)]
 pub(crate) fn hear(
     connection: &mut Connection,
     bytes: &[u8],
     ends: bool,
+    tells: bool,
     told: &mut Vec<Token>,
 ) -> Result<Taken, ListenFault>
-    requires { (line_in connection.old).stage ≡ line.Reading
+    requires { tells ≡ true → (line_in connection.old).stage ≡ line.Reading
         → vec_len told.old + length bytes.now ≤ vec_capacity told.old }
     ensures ok { IfOk result (λ answer. Hears
         (packet_part connection.old.walker bytes.now ends) (line_in connection.old)
@@ -71,8 +88,8 @@ pub(crate) fn hear(
         (told_of_part (line_in connection.old)
         (packet_part connection.old.walker bytes.now ends))) }
     ensures told { OnOk result (told.new.items ≡ told.old.items
-        ++ told_of_part (line_in connection.old)
-        (packet_part connection.old.walker bytes.now ends)) }
+        ++ noted tells (told_of_part (line_in connection.old)
+        (packet_part connection.old.walker bytes.now ends))) }
     ensures stands { OnOk result ((r : Reading)
         × ((tokens_in connection.old.walker bytes.now).stop ≡ Stands r)
         × (connection.new.walker ≡ behind_packet ends r)) }
@@ -86,7 +103,7 @@ pub(crate) fn hear(
         return Err(fault);
     }
     let before = told.len();
-    if let Err(fault) = hear_tokens(connection, bytes, told) {
+    if let Err(fault) = hear_tokens(connection, bytes, tells, told) {
         told.truncate(before);
         return Err(fault);
     }
@@ -103,26 +120,29 @@ pub(crate) fn hear(
 }
 
 /// The same, as one outcome.
+#[inline(always)]
 pub(crate) fn hear_packet(
     connection: &mut Connection,
     bytes: &[u8],
     ends: bool,
+    tells: bool,
     told: &mut Vec<Token>,
 ) -> Outcome
-    requires { (line_in connection.old).stage ≡ line.Reading
+    requires { tells ≡ true → (line_in connection.old).stage ≡ line.Reading
         → vec_len told.old + length bytes.now ≤ vec_capacity told.old }
     ensures hears { Hears (packet_part connection.old.walker bytes.now ends)
         (line_in connection.old) (line_in connection.new)
         (outcome_answer connection.old.asked result)
         (told_of_part (line_in connection.old)
         (packet_part connection.old.walker bytes.now ends)) }
-    ensures told { told.new.items ≡ told.old.items ++ told_of_part (line_in connection.old)
-        (packet_part connection.old.walker bytes.now ends) }
+    ensures told { told.new.items ≡ told.old.items ++ noted tells
+        (told_of_part (line_in connection.old)
+        (packet_part connection.old.walker bytes.now ends)) }
     ensures reads { Reads result ends (tokens_in connection.old.walker bytes.now).stop
         connection.new.walker }
     ensures size { connection.new.client.size ≡ connection.old.client.size }
 {
-    match hear(connection, bytes, ends, told) {
+    match hear(connection, bytes, ends, tells, told) {
         Ok(Taken::More) => Outcome::More,
         Ok(Taken::Finished) => Outcome::Finished,
         Ok(Taken::Acknowledged) => Outcome::Acknowledged,

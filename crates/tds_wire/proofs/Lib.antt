@@ -5,6 +5,7 @@ mod Memories
 mod Heads
 mod Agreed
 mod Walks
+mod WholeRows
 mod WhatIsDue
 mod FieldsPassed
 mod ValuesPassed

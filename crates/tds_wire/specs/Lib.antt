@@ -10,3 +10,4 @@ pub mod Told
 pub mod Reading
 pub mod Lent
 pub mod Owned
+pub mod Rows

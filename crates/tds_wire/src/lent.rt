@@ -13,6 +13,7 @@ use crate::fault::{Refusal, WireFault};
 use crate::features::Features;
 use crate::head::Head;
 use crate::memory::Memory;
+use crate::rows::row_token;
 use crate::told::{Token, Told, added, tells, told_of};
 
 /// What came of a piece.
@@ -96,6 +97,15 @@ impl LentWalk {
         if let Some(refusal) = self.refused {
             return Err(refusal);
         }
+        // Most of an answer is rows: one that stands whole is passed by its values' lengths.
+        let start = self.start;
+        let count = self.pass_row_here(memory, piece);
+        if count > 0 {
+            return Ok(Fed {
+                count,
+                token: Some(row_token(start, count)),
+            });
+        }
         match self.cursor.feed(memory, piece) {
             Step::Over(count) => Ok(Fed {
                 count,
@@ -168,6 +178,7 @@ impl LentWalk {
     }
 
     /// Whether it is between two tokens, so that a message may end here.
+    #[inline(always)]
     pub fn is_between(&self, memory: &Memory) -> bool
         ensures between { result ≡ is_between (reading_of self.now memory.now) }
         ensures ready { result ≡ true → IsReady (reading_of self.now memory.now) }

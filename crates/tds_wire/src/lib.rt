@@ -11,6 +11,7 @@ mod head;
 mod laws;
 mod lent;
 mod memory;
+mod rows;
 mod shape;
 mod told;
 mod types;

@@ -3,6 +3,7 @@
 ghost use Rattle.std.specs.Prelude.{◌≡◌, ◌≤◌, ◌<◌, IfOk, IfErr, IfSome, None, Some, [], true, length};
 ghost use Rattle.tds_wire.specs.Told.{added};
 ghost use Rattle.tds_wire.specs.Reading.{IsReady, found_of, is_between, next_token, restarted};
+ghost use Rattle.tds_wire.specs.Rows.{IsPassed};
 
 use crate::NoMemory;
 use crate::fault::Refusal;
@@ -70,6 +71,24 @@ impl Walker {
         ensures refused { IfErr result (λ refusal. self.new.refused ≡ Some refusal) }
     {
         self.walk.feed(&mut self.memory, piece)
+    }
+
+    /// Passes the row that bytes begin with, where it is whole: how many bytes it has. Else nothing is
+    /// done, and the answer is 0. A row with a value behind a longer count than of two bytes is left to
+    /// `feed`, as is one with a null bitmap. It takes no memory.
+    #[inline(always)]
+    pub fn pass_row(&mut self, piece: &[u8]) -> usize
+        requires { IsReady self.old }
+        ensures within { result ≤ length piece.now }
+        ensures same { result ≡ 0 → self.new ≡ self.old }
+        ensures ready { IsReady self.new }
+        ensures row { 0 < result → IsPassed result self.old self.new piece.now }
+        // Behind it the next token starts, and all else stays.
+        ensures start { 0 < result → self.new.start ≡ added self.old.start result }
+        ensures most { self.new.walk.most ≡ self.old.walk.most }
+        ensures features { self.new.walk.features ≡ self.old.walk.features }
+    {
+        self.walk.pass_row(&self.memory, piece)
     }
 
     /// Whether it is between two tokens, so that a message may end here.

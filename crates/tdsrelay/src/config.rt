@@ -10,7 +10,7 @@ use toml::{Table, Value};
 const MOST: usize = 65_536;
 
 /// What a file may set.
-const NAMES: [&str; 15] = [
+const NAMES: [&str; 16] = [
     "most",
     "alone",
     "stats",
@@ -26,6 +26,7 @@ const NAMES: [&str; 15] = [
     "drain",
     "check",
     "away",
+    "spin",
 ];
 
 /// The settings of a file, or none.

@@ -17,9 +17,9 @@ pub enum RelayFault {
     /// The word that stands for an address.
     #[error("error: {0:?} isn't an IP address, a colon and a port, as 127.0.0.1:1433")]
     Address(String),
-    /// The word whose count can't be, and what may be.
-    #[error("error: --{0} takes {1} to {2} connections")]
-    Count(&'static str, usize, usize),
+    /// The word whose count can't be, what may be, and of what.
+    #[error("error: --{0} takes {1} to {2} {3}")]
+    Count(&'static str, usize, usize, &'static str),
     #[error("error: there are more than 8 servers")]
     Servers,
     /// What is wrong with the configuration file.

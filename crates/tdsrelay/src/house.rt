@@ -8,13 +8,14 @@ mod orders;
 mod pairs;
 mod reaching;
 mod telling;
+mod turns;
 mod watching;
 
 use crate::counts::{Counts, raise};
 use crate::gate::Gate;
 use crate::group::Group;
 use crate::latency::Latency;
-use crate::link::{Came, Link};
+use crate::link::{Link, News};
 use crate::servers::MOST as MOST_SERVERS;
 use crate::socket::{Role, Socket, Whose};
 use crate::stats::Asker;
@@ -26,12 +27,10 @@ use slab::Slab;
 use std::alloc::Global;
 use std::fs::Files;
 use std::io::{self, Write};
-use std::mem;
 use std::net::{Net, SocketAddr};
 use std::rt::Clock;
 use std::time::{Duration, Instant};
 use tds_judge::Finding;
-use tds_relay::Place;
 
 /// The token of the listener.
 const LISTENER: Token = Token(usize::MAX);
@@ -85,6 +84,8 @@ pub struct House<W: Write + Drop> {
     now: u64,
     precise: u64,
     swept: u64,
+    /// The microsecond of the last report.
+    reported: u64,
     /// The millisecond from which it ends in order.
     ending: Option<u64>,
     log: W,
@@ -125,6 +126,7 @@ impl<W: Write + Drop> House<W> {
             now: 0,
             precise: 0,
             swept: 0,
+            reported: 0,
             ending: None,
             log,
         })
@@ -159,8 +161,9 @@ impl<W: Write + Drop> House<W> {
     /// Answers how many applications were closed in the middle then.
     pub fn serve<R: Net + Clock + Files>(&mut self, rt: &R) -> io::Result<usize> {
         let mut events = Events::with_capacity(self.alloc, ROUND)?;
+        let mut buffer = [0u8; PIECE];
         for _ in 0..u64::MAX {
-            self.round(rt, &mut events)?;
+            self.round(rt, &mut events, &mut buffer)?;
             if self.has_ended() {
                 break;
             }
@@ -168,23 +171,26 @@ impl<W: Write + Drop> House<W> {
         Ok(self.applications())
     }
 
-    /// Waits for the system, and not at all where a socket has more to do; then each of them has a turn.
+    /// Waits for the system, and not at all where a socket has more to do, or had a moment ago; then they have
+    /// their turns.
     fn round<R: Net + Clock + Files>(
         &mut self,
         rt: &R,
         events: &mut Events<Global>,
+        buffer: &mut [u8; PIECE],
     ) -> io::Result<()> {
-        let longest = if self.waiting.is_empty() { SWEEP } else { 0 };
+        let longest = if self.waiting.is_empty() && !self.spins() {
+            SWEEP
+        } else {
+            0
+        };
         self.poll
             .poll(events, Some(Duration::from_millis(longest)))?;
         let now = self.start.elapsed(rt)?.as_micros();
         self.precise = u64::try_from(now).unwrap_or(u64::MAX);
         self.now = self.precise / 1000;
         self.hear(events)?;
-        let turns = mem::replace(&mut self.waiting, Vec::new(self.alloc));
-        for key in turns.iter() {
-            self.turn(rt, *key)?;
-        }
+        self.take_turns(rt, buffer)?;
         self.reload(rt)?;
         if self.now >= self.swept.saturating_add(SWEEP) {
             self.swept = self.now;
@@ -194,9 +200,15 @@ impl<W: Write + Drop> House<W> {
         Ok(())
     }
 
+    /// Whether it asks the system again at once: to be woken takes longer than a request's own work.
+    fn spins(&self) -> bool {
+        self.precise < self.reported.saturating_add(self.asked.spin)
+    }
+
     /// Does what the system reported asks for.
     fn hear(&mut self, events: &Events<Global>) -> io::Result<()> {
         for event in events.iter() {
+            self.reported = self.precise;
             let token = event.token();
             if token == LISTENER {
                 self.accept()?;
@@ -207,8 +219,14 @@ impl<W: Write + Drop> House<W> {
                     self.end_soon();
                 }
             } else {
-                let readable = event.is_readable() || event.is_read_closed() || event.is_error();
-                self.report(token.0, readable)?;
+                let news = if event.is_read_closed() || event.is_error() {
+                    News::End
+                } else if event.is_readable() {
+                    News::Bytes
+                } else {
+                    News::Turn
+                };
+                self.report(token.0, news)?;
             }
         }
         Ok(())
@@ -222,13 +240,21 @@ impl<W: Write + Drop> House<W> {
     }
 
     /// The system reported a socket, or it has more to do: it is to have a turn.
-    fn report(&mut self, key: usize, readable: bool) -> io::Result<()> {
+    fn report(&mut self, key: usize, news: News) -> io::Result<()> {
         if let Some(socket) = self.sockets.get_mut(key) {
-            if socket.link.report(readable) {
+            if socket.link.report(news) {
                 self.waiting.push(key)?;
             }
         }
         Ok(())
+    }
+
+    /// A socket may be read on: it is to have a turn, where more may be there.
+    fn read_on(&mut self, key: usize) -> io::Result<()> {
+        match self.sockets.get(key) {
+            Some(socket) if socket.link.is_readable() => self.report(key, News::Turn),
+            _ => Ok(()),
+        }
     }
 
     /// Accepts all who wait, and closes them at once where it is to end.
@@ -286,57 +312,6 @@ impl<W: Write + Drop> House<W> {
         Ok(Some(key))
     }
 
-    /// A socket's turn: it sends what the system takes, and reads once.
-    fn turn<R: Net>(&mut self, rt: &R, key: usize) -> io::Result<()> {
-        if let Some(socket) = self.sockets.get_mut(key) {
-            socket.link.listed = false;
-        }
-        if !self.send(key)? {
-            return self.closed(rt, key);
-        }
-        let mut buffer = [0u8; PIECE];
-        let room = self.room(key).min(PIECE);
-        if room == 0 {
-            return Ok(());
-        }
-        let Some(socket) = self.sockets.get_mut(key) else {
-            return Ok(());
-        };
-        match socket.link.read(&mut buffer[..room]) {
-            Ok(Came::Nothing) => Ok(()),
-            Ok(Came::End) => self.closed(rt, key),
-            Err(_) => self.closed(rt, key),
-            Ok(Came::Bytes(count)) => {
-                self.report(key, false)?;
-                let piece = &buffer[..count.min(PIECE)];
-                self.judge(key, piece)?;
-                self.came(rt, key, piece)
-            }
-        }
-    }
-
-    /// How many bytes may be read of a socket.
-    fn room(&mut self, key: usize) -> usize {
-        let House {
-            sockets,
-            groups,
-            ..
-        } = self;
-        let Some(socket) = sockets.get(key) else {
-            return 0;
-        };
-        match socket.whose() {
-            Whose::Gate | Whose::Judged(_) | Whose::First(_) | Whose::Opening(..) => PIECE,
-            Whose::Asker | Whose::Leg(_) => PIECE,
-            Whose::Application(group, key) => room_of(groups, group, key),
-            Whose::Connection(group, number) => match relay_of(groups, group) {
-                Some(relay) => relay.room_on(number),
-                None => PIECE,
-            },
-            Whose::Closing => 0,
-        }
-    }
-
     /// A line of the log about a socket.
     fn say(&mut self, what: &str, key: usize, words: &str) {
         if !self.asked.is_logged {
@@ -347,21 +322,6 @@ impl<W: Write + Drop> House<W> {
             let _ = writeln!(self.log, "{what} {number} {words}");
         }
     }
-}
-
-/// How many bytes of an application may be read: none where its group is paused and it holds nothing.
-fn room_of(groups: &mut Slab<Group>, group: usize, key: usize) -> usize {
-    let Some(group) = groups.get_mut(group) else {
-        return PIECE;
-    };
-    let is_paused = group.is_paused;
-    let Some(relay) = group.relay() else {
-        return PIECE;
-    };
-    if is_paused && matches!(relay.place_of(key), Some(Place::Quiet)) {
-        return 0;
-    }
-    relay.room(key)
 }
 
 /// The relay of a group, once there is one.

@@ -11,27 +11,49 @@ pub enum Came {
     End,
 }
 
+/// What is new of a socket.
+#[derive(Clone, Copy, Debug)]
+pub enum News {
+    /// It has more to do, and nothing is said of what came.
+    Turn,
+    /// Bytes may have come.
+    Bytes,
+    /// The other end sends no more, or the socket has failed. Bytes may stand before that.
+    End,
+}
+
 #[derive(Drop)]
 pub struct Link {
     stream: TcpStream,
     /// Whether more may be there to read.
     readable: bool,
+    /// Whether the system has reported that the other end sends no more, or that the socket has failed.
+    ends: bool,
     /// Whether it is to have a turn.
     pub listed: bool,
 }
 
 impl Link {
+    /// A socket that isn't registered yet: what is there by then is reported.
     pub fn new(stream: TcpStream) -> Link {
         Link {
             stream,
-            readable: true,
+            readable: false,
+            ends: false,
             listed: false,
         }
     }
 
     /// The system reported it, or it has more to do. Answers whether it is to be listed for a turn.
-    pub fn report(&mut self, readable: bool) -> bool {
-        self.readable = self.readable || readable;
+    pub fn report(&mut self, news: News) -> bool {
+        match news {
+            News::Turn => {}
+            News::Bytes => self.readable = true,
+            News::End => {
+                self.readable = true;
+                self.ends = true;
+            }
+        }
         let is_new = !self.listed;
         self.listed = true;
         is_new
@@ -42,15 +64,20 @@ impl Link {
         self.readable
     }
 
-    /// Reads once. More may be there until the system says that nothing is: behind a short read the other
-    /// end's close may stand, which the system has reported already.
+    /// Reads once, with room for a byte at least. A read that leaves room has taken all that was there, so
+    /// none is tried behind it: whatever comes from then on is reported anew, bytes and the other end's close
+    /// alike, and also what came between a report and the read. No close is lost by that: it makes a report
+    /// of its own, and where one has said it, bytes are read up to the end.
     pub fn read(&mut self, buffer: &mut [u8]) -> io::Result<Came> {
         if !self.readable {
             return Ok(Came::Nothing);
         }
         match self.stream.read(buffer) {
             Ok(0) => Ok(Came::End),
-            Ok(count) => Ok(Came::Bytes(count)),
+            Ok(count) => {
+                self.readable = self.ends || count >= buffer.len();
+                Ok(Came::Bytes(count))
+            }
             Err(error) if error.kind() == ErrorKind::WouldBlock => {
                 self.readable = false;
                 Ok(Came::Nothing)

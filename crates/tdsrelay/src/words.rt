@@ -21,7 +21,7 @@ const USUAL_ALONE: usize = 256;
 const MOST_ALONE: usize = 4096;
 
 /// The words that take a value: the name, and what it is.
-const SETTINGS: [(&str, &str); 14] = [
+const SETTINGS: [(&str, &str); 15] = [
     (
         "most",
         "CONNECTIONS at most for equal logins, 1 to 1024 [16]",
@@ -71,6 +71,10 @@ const SETTINGS: [(&str, &str); 14] = [
         "SECONDS for which other servers are preferred to one that has failed [10]",
     ),
     (
+        "spin",
+        "MICROSECONDS behind a report for which the system is asked again at once, 0 to 1000 [0]",
+    ),
+    (
         "config",
         "FILE in TOML that has these settings; a word stands over it",
     ),
@@ -93,13 +97,15 @@ const FLAGS: [(&str, &str); 3] = [
     ),
 ];
 
-/// A word that is a count of connections.
+/// A word that is a count.
 #[derive(Clone, Copy, Debug)]
 struct Count {
     name: &'static str,
     least: usize,
     most: usize,
     usual: usize,
+    /// Of what.
+    unit: &'static str,
 }
 
 const COUNT_MOST: Count = Count {
@@ -107,6 +113,7 @@ const COUNT_MOST: Count = Count {
     least: 1,
     most: MOST,
     usual: USUAL,
+    unit: "connections",
 };
 
 const COUNT_ALONE: Count = Count {
@@ -114,6 +121,15 @@ const COUNT_ALONE: Count = Count {
     least: 0,
     most: MOST_ALONE,
     usual: USUAL_ALONE,
+    unit: "connections",
+};
+
+const COUNT_SPIN: Count = Count {
+    name: "spin",
+    least: 0,
+    most: 1000,
+    usual: 0,
+    unit: "microseconds",
 };
 
 /// What the words ask for.
@@ -126,6 +142,8 @@ pub struct Asked {
     /// The most connections of logins that can't be shared.
     pub alone: usize,
     pub limits: Limits,
+    /// For so many microseconds behind a report it doesn't wait for the next one, but asks for it.
+    pub spin: u64,
     /// Where it tells what it does.
     pub stats: Option<SocketAddr>,
     /// Whether it ends with its standard input.
@@ -147,6 +165,7 @@ pub fn read_words<R: Files>(rt: &R, alloc: Global, words: &[String]) -> Result<A
     let servers = servers_of(alloc, matches.get_strs("SERVER").unwrap_or(&[]))?;
     let most = count_of(&matches, &config, &COUNT_MOST)?;
     let alone = count_of(&matches, &config, &COUNT_ALONE)?;
+    let spin = count_of(&matches, &config, &COUNT_SPIN)?;
     let stats = match (matches.get_str("stats"), config.text("stats")?) {
         (Some(word), _) => Some(address_of(alloc, word)?),
         (None, Some(text)) => Some(address_in(&config, text)?),
@@ -158,6 +177,7 @@ pub fn read_words<R: Files>(rt: &R, alloc: Global, words: &[String]) -> Result<A
         most,
         alone,
         limits: limits_of(&matches, &config)?,
+        spin: spin as u64,
         stats,
         ends_with_input: matches.get_flag("until-input-ends"),
         is_logged: config.flag("log")? || matches.get_flag("log"),
@@ -233,7 +253,7 @@ fn count_of(matches: &ArgMatches, config: &Config, count: &Count) -> Result<usiz
     };
     match word.parse::<usize>() {
         Ok(found) if found >= count.least && found <= count.most => Ok(found),
-        _ => Err(RelayFault::Count(count.name, count.least, count.most)),
+        _ => Err(RelayFault::Count(count.name, count.least, count.most, count.unit)),
     }
 }
 

@@ -10,7 +10,7 @@ use crate::request::{Deed, Request, message_data, put_data};
 use crate::tally::{Tally, Wrong, raise};
 use std::alloc::{AllocError, Global};
 use tds_packet::Reset;
-use tds_relay::Relay;
+use tds_relay::{Place, Relay};
 
 /// More than a relay keeps of a request that waits: 16,384 bytes.
 const LONG: u16 = 20_000;
@@ -160,7 +160,8 @@ impl Application {
         }
     }
 
-    /// Some packets of a request that isn't whole.
+    /// Some packets of a request that isn't whole. Sometimes it asks for a reset: nothing is to tell that
+    /// this is done, and what it asks next finds a session that is reset.
     fn begin(&mut self, alloc: Global, random: &mut Random) -> Result<u8, AllocError> {
         let mut request = self.next(random, Deed::Get);
         if random.once_in(2) {
@@ -170,7 +171,11 @@ impl Application {
         let kind = any_kind(random);
         let bytes = message_data(alloc, kind, self.state.transaction, &request)?;
         let size = any_size(random, &request);
-        put_data(self.input.bytes(), kind, None, bytes.as_slice(), size, 0)?;
+        let reset = random.once_in(4).then_some(Reset::Full);
+        put_data(self.input.bytes(), kind, reset, bytes.as_slice(), size, 0)?;
+        if reset.is_some() {
+            self.state = State::fresh();
+        }
         Ok(kind)
     }
 
@@ -179,8 +184,13 @@ impl Application {
         self.stop()
     }
 
-    /// It ends a message that the server is to forget: nothing answers that (MS-TDS 2.2.3.1.2).
+    /// It ends a message that the server is to forget: nothing answers that (MS-TDS 2.2.3.1.2). Sometimes
+    /// that is all of it.
     fn begin_and_forget(&mut self, alloc: Global, random: &mut Random) -> Result<(), AllocError> {
+        if random.once_in(4) {
+            let kind = any_kind(random);
+            return put_packet(self.input.bytes(), kind, ENDS | IGNORED, &[]);
+        }
         let kind = self.begin(alloc, random)?;
         self.took_back = true;
         put_packet(self.input.bytes(), kind, ENDS | IGNORED, &[])
@@ -241,6 +251,13 @@ impl Application {
         relay.said(self.key, said)?;
         self.input.take(count);
         Ok(true)
+    }
+
+    /// Whether the relay, where it is at this and has nothing to send to it, is done with a request whose
+    /// answer it still waits for.
+    pub(crate) fn is_unanswered(&self, place: Option<Place>) -> bool {
+        let is_done_with = matches!(place, Some(Place::Quiet | Place::Holding(_)));
+        is_done_with && self.phase != Phase::Quiet && self.input.is_empty()
     }
 
     // ---- What it hears

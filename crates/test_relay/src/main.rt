@@ -1,4 +1,5 @@
-//! Random applications before a relay's core, without sockets: `test_relay SESSIONS SEED`.
+//! Random applications before a relay's core, without sockets: `test_relay SESSIONS SEED`; or so many idle
+//! ones: `test_relay idle COUNT`.
 //!
 //! Two groups of applications ask, cancel, reset, and leave at any byte; their connections' servers answer
 //! in pieces, and are cut or break the protocol at any time. Each application compares what it gets with
@@ -9,12 +10,14 @@ mod answers;
 mod application;
 mod connection;
 mod group;
+mod idle;
 mod packets;
 mod random;
 mod request;
 mod tally;
 
 use group::Group;
+use idle::idle;
 use random::Random;
 use std::process::ExitCode;
 use std::{env, io};
@@ -35,17 +38,27 @@ fn main(rt: HostRuntime) -> ExitCode {
     }
 }
 
-/// Plays so many sessions, by random numbers that begin with this one. Whether nothing was wrong.
+/// Does what the words say. Whether nothing was wrong.
 fn run(rt: &HostRuntime) -> io::Result<bool> {
     let mut words = Vec::new(rt.alloc());
     for word in env::args(rt)?.skip(1) {
         words.push(word)?;
     }
-    let [sessions, seed] = words.as_slice() else {
+    let [first, second] = words.as_slice() else {
         return Err(io::Error::from(io::ErrorKind::InvalidInput));
     };
-    let sessions = sessions.as_str().parse::<u64>().unwrap_or(0);
-    let seed = seed.as_str().parse::<u64>().unwrap_or(0);
+    let second = second.as_str().parse::<u64>().unwrap_or(0);
+    if first.as_str() == "idle" {
+        let count = usize::try_from(second).unwrap_or(0);
+        let waiting = idle(rt.alloc(), count)?;
+        println!(rt; "{count} idle applications, {waiting} bytes wait for them")?;
+        return Ok(waiting == 0);
+    }
+    random_sessions(rt, first.as_str().parse::<u64>().unwrap_or(0), second)
+}
+
+/// Plays so many sessions, by random numbers that begin with this one. Whether nothing was wrong.
+fn random_sessions(rt: &HostRuntime, sessions: u64, seed: u64) -> io::Result<bool> {
     let tally = play(rt, sessions, seed)?;
     println!(rt; "{} sessions: {} wrong", tally.sessions, tally.wrong)?;
     if tally.least() >= 5 {

@@ -9,6 +9,8 @@ pub(crate) enum Wrong {
     Unasked,
     /// It got something else than the acknowledgement of its attention.
     Acknowledgement,
+    /// The relay is done with its request, and it got no answer, or not all of it.
+    Unanswered,
     /// It was closed without a reason.
     Closed,
     /// It wasn't closed, or its connection wasn't, though there was a reason.

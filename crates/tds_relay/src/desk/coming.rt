@@ -1,7 +1,8 @@
 //! What comes on connections, and whose it is.
-ghost use Rattle.std.specs.Prelude.{◌≡◌, ◌≢◌, ℕ, List, IfOk, OnOk};
+ghost use Rattle.std.specs.Prelude.{◌≡◌, ◌≢◌, ℕ, List, Some, IfOk, OnOk};
 ghost use Rattle.tds_service.specs.Table.{reading_on, service_in};
 ghost use Rattle.tds_relay.specs.Desk.{Comes, Way, cleaned_by, settles, whose, whose_by};
+ghost use Rattle.tds_relay.specs.Fronts.{IsWhat, done_by};
 ghost use Rattle.tds_relay.specs.Ties.{Makes, Settles, Turns, desk_in, part_on};
 
 use super::Desk;
@@ -10,7 +11,6 @@ use super::lists::{find_lease, remove_number};
 use crate::NoMemory;
 use std::alloc::AllocError;
 use tds_service::{Outcome, Refusal, Rest, Service};
-use tds_wire::Token;
 
 /// What came of a packet.
 #[derive(Clone, Copy, Debug, PartialEq, Eq)]
@@ -81,22 +81,24 @@ fn what_of(is_there: bool) -> What {
 }
 
 impl Desk {
-    /// A packet's data came on the connection of this number, which ends its message or not. `told` is
-    /// scratch, and what is to be sent there is appended to `out`.
+    /// A packet's data came on the connection of this number, which ends its message or not. What is to be
+    /// sent there is appended to `out`.
     pub fn came(
         &mut self,
         number: u64,
         bytes: &[u8],
         ends: bool,
-        told: &mut Vec<Token>,
         out: &mut Vec<u8>,
     ) -> Result<Heard, NoMemory>
         ensures ok { IfOk result (λ heard. (way : Way) × Turns
             (Comes number (part_on (reading_on number self.old.service) bytes.now ends) way)
             (desk_in self.old) (desk_in self.new) out.old.items out.new.items) }
         ensures whose { IfOk result (λ heard. heard.key ≡ whose (desk_in self.old) number) }
+        ensures heard { IfOk result (λ heard. IsWhat heard.key heard.what
+            (done_by (desk_in self.old) number
+            (part_on (reading_on number self.old.service) bytes.now ends))) }
     {
-        let came = match self.service.came(number, bytes, ends, told) {
+        let came = match self.service.heard(number, bytes, ends) {
             Ok(came) => came,
             Err(refusal) => return unheard(refusal),
         };
@@ -135,9 +137,11 @@ impl Desk {
         what: What,
         out: &mut Vec<u8>,
     ) -> Result<What, NoMemory>
-        ensures { OnOk result ((way : Way) × Settles (settles (desk_in self.old).holds
+        ensures settles { OnOk result ((way : Way) × Settles (settles (desk_in self.old).holds
             (service_in self.old.service) number way lease) (desk_in self.old) (desk_in self.new)
             out.old.items out.new.items) }
+        ensures what { IfOk result (λ heard. (key : ℕ)
+            → whose_by lease (desk_in self.old).holds ≡ Some key → heard ≡ what) }
     {
         match lease {
             Some(lease) => match find_lease(&self.holds, lease) {

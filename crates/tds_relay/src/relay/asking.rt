@@ -1,7 +1,9 @@
 //! What applications say: requests, and cancels.
-ghost use Rattle.std.specs.Prelude.{◌≡◌, OnOk};
+ghost use Rattle.std.specs.Prelude.{◌≡◌, OnOk, drop};
 ghost use Rattle.tds_relay.specs.Dealing.{Deals, floor_in};
+ghost use Rattle.tds_relay.specs.Fronts.{Moves, fronts_in, hall_in};
 ghost use Rattle.tds_relay.specs.Posts.{acknowledgement, give, posts_in};
+ghost use Rattle.tds_relay.specs.Reads.{Stays};
 ghost use Rattle.tds_relay.specs.Ties.{Application, Goes, GoesOn, NobodyWaits, desk_in};
 
 use super::Relay;
@@ -24,6 +26,8 @@ impl Relay {
             (desk_in self.old.desk) (desk_in self.new.desk)) }
         ensures deals { OnOk result (Deals (Application key) (floor_in self.old)
             (floor_in self.new)) }
+        ensures moves { OnOk result (Moves (Application key) (hall_in self.old)
+            (hall_in self.new)) }
         ensures served { OnOk result (NobodyWaits (desk_in self.new.desk)) }
     {
         let mut rest = piece;
@@ -38,11 +42,14 @@ impl Relay {
     }
 
     /// Takes some of them, and answers how many.
+    #[tactic(auto, using(crate::proofs::Fronts::no_moves))]
     fn take(&mut self, key: usize, piece: &[u8]) -> Result<usize, NoMemory>
         ensures goes { OnOk result (Goes (Application key)
             (desk_in self.old.desk) (desk_in self.new.desk)) }
         ensures deals { OnOk result (Deals (Application key) (floor_in self.old)
             (floor_in self.new)) }
+        ensures moves { OnOk result (Moves (Application key) (hall_in self.old)
+            (hall_in self.new)) }
     {
         let Some(application) = self.applications.get_mut(key) else {
             return Ok(piece.len());
@@ -65,15 +72,17 @@ impl Relay {
             (desk_in self.old.desk) (desk_in self.new.desk)) }
         ensures deals { OnOk result (Deals (Application key) (floor_in self.old)
             (floor_in self.new)) }
+        ensures fronts { OnOk result (fronts_in self.new.applications
+            ≡ fronts_in self.old.applications) }
     {
         match said {
             Said::Nothing => Ok(()),
             Said::Begin { kind, reset } => self.begin(key, kind, reset),
             Said::Body(count) => self.go_on(key, last(bytes, count), false),
             Said::End(count) => self.go_on(key, last(bytes, count), true),
-            Said::Forget { .. } => self.take_back(key),
+            Said::Forget { .. } => self.forget(key),
             Said::Acknowledge => {
-                self.take_back(key)?;
+                self.forget(key)?;
                 self.acknowledge(key)
             }
             Said::HandOn => self.hand_on(key),
@@ -83,12 +92,14 @@ impl Relay {
     /// A request begins. Where it asks for a reset itself, its application gives back what it holds; but
     /// where the transaction is to stay, its connection stays too: whether there is one is known once the
     /// server has acknowledged what was taken back before.
-    #[tactic(auto, using(crate::proofs::Reaching::reaches_turn, crate::proofs::Reaching::reaches_left, crate::proofs::Posting::kept_more, crate::proofs::Posting::posts_kept))]
+    #[tactic(auto, using(crate::proofs::Reaching::reaches_turn, crate::proofs::Reaching::reaches_left, crate::proofs::Posting::kept_more, crate::proofs::Posting::posts_kept, crate::proofs::Fronts::fronts_more, crate::proofs::Fronts::fronts_kept))]
     fn begin(&mut self, key: usize, kind: Kind, reset: Option<Reset>) -> Result<(), NoMemory>
         ensures goes { OnOk result (Goes (Application key)
             (desk_in self.old.desk) (desk_in self.new.desk)) }
         ensures kept { OnOk result (posts_in self.new.applications
             ≡ posts_in self.old.applications) }
+        ensures fronts { OnOk result (fronts_in self.new.applications
+            ≡ fronts_in self.old.applications) }
     {
         let Some(application) = self.applications.get_mut(key) else {
             return Ok(());
@@ -135,6 +146,8 @@ impl Relay {
             (desk_in self.old.desk) (desk_in self.new.desk)) }
         ensures kept { OnOk result (posts_in self.new.applications
             ≡ posts_in self.old.applications) }
+        ensures fronts { OnOk result (fronts_in self.new.applications
+            ≡ fronts_in self.old.applications) }
     {
         self.release(key)?;
         self.desk.wait(key)
@@ -147,6 +160,8 @@ impl Relay {
             (desk_in self.old.desk) (desk_in self.new.desk)) }
         ensures kept { OnOk result (posts_in self.new.applications
             ≡ posts_in self.old.applications) }
+        ensures fronts { OnOk result (fronts_in self.new.applications
+            ≡ fronts_in self.old.applications) }
     {
         match self.desk.renew(key)? {
             Renewed::Kept(hold) => {
@@ -159,12 +174,14 @@ impl Relay {
     }
 
     /// The next bytes of its request's body, with which it is whole or not.
-    #[tactic(auto, using(crate::proofs::Posting::kept_more, crate::proofs::Posting::posts_kept))]
+    #[tactic(auto, using(crate::proofs::Posting::kept_more, crate::proofs::Posting::posts_kept, crate::proofs::Fronts::fronts_more, crate::proofs::Fronts::fronts_kept))]
     fn go_on(&mut self, key: usize, bytes: &[u8], whole: bool) -> Result<(), NoMemory>
         ensures goes { OnOk result (Goes (Application key)
             (desk_in self.old.desk) (desk_in self.new.desk)) }
         ensures kept { OnOk result (posts_in self.new.applications
             ≡ posts_in self.old.applications) }
+        ensures fronts { OnOk result (fronts_in self.new.applications
+            ≡ fronts_in self.old.applications) }
     {
         let Some(application) = self.applications.get_mut(key) else {
             return Ok(());
@@ -188,6 +205,9 @@ impl Relay {
         ensures goes { OnOk result (GoesOn (desk_in self.old.desk) (desk_in self.new.desk)) }
         ensures kept { OnOk result (posts_in self.new.applications
             ≡ posts_in self.old.applications) }
+        ensures fronts { OnOk result (fronts_in self.new.applications
+            ≡ fronts_in self.old.applications) }
+        ensures read { OnOk result (Stays self.old.links.items self.new.links.items) }
     {
         let Some(hold) = self.desk.hold_of(key) else {
             return Ok(());
@@ -204,6 +224,8 @@ impl Relay {
     fn note_went_on(&mut self, key: usize)
         ensures desk { self.new.desk ≡ self.old.desk }
         ensures kept { posts_in self.new.applications ≡ posts_in self.old.applications }
+        ensures fronts { fronts_in self.new.applications ≡ fronts_in self.old.applications }
+        ensures links { self.new.links.items ≡ self.old.links.items }
     {
         if self.outbox.is_empty() {
             return;
@@ -214,14 +236,30 @@ impl Relay {
         }
     }
 
+    /// Its request is forgotten, and the reset that this asked for.
+    #[tactic(auto, using(crate::proofs::Posting::kept_more, crate::proofs::Fronts::fronts_more))]
+    fn forget(&mut self, key: usize) -> Result<(), NoMemory>
+        ensures goes { OnOk result (Goes (Application key)
+            (desk_in self.old.desk) (desk_in self.new.desk)) }
+        ensures kept { OnOk result (posts_in self.new.applications
+            ≡ posts_in self.old.applications) }
+        ensures fronts { OnOk result (fronts_in self.new.applications
+            ≡ fronts_in self.old.applications) }
+    {
+        self.forget_reset(key);
+        self.take_back(key)
+    }
+
     /// What has come of its request is forgotten; where something of it has gone on, the server is to
     /// forget it too, and its acknowledgement is nobody's.
-    #[tactic(auto, using(crate::proofs::Reaching::reaches_turn, crate::proofs::Reaching::reaches_left, crate::proofs::Posting::kept_more, crate::proofs::Posting::posts_kept))]
+    #[tactic(auto, using(crate::proofs::Reaching::reaches_turn, crate::proofs::Reaching::reaches_left, crate::proofs::Posting::kept_more, crate::proofs::Posting::posts_kept, crate::proofs::Fronts::fronts_more, crate::proofs::Fronts::fronts_kept))]
     fn take_back(&mut self, key: usize) -> Result<(), NoMemory>
         ensures goes { OnOk result (Goes (Application key)
             (desk_in self.old.desk) (desk_in self.new.desk)) }
         ensures kept { OnOk result (posts_in self.new.applications
             ≡ posts_in self.old.applications) }
+        ensures fronts { OnOk result (fronts_in self.new.applications
+            ≡ fronts_in self.old.applications) }
     {
         let Some(application) = self.applications.get_mut(key) else {
             return Ok(());
@@ -251,6 +289,8 @@ impl Relay {
         ensures desk { self.new.desk ≡ self.old.desk }
         ensures given { OnOk result (posts_in self.new.applications
             ≡ give key acknowledgement (posts_in self.old.applications)) }
+        ensures fronts { OnOk result (fronts_in self.new.applications
+            ≡ fronts_in self.old.applications) }
     {
         match self.applications.get_mut(key) {
             Some(application) => {
@@ -267,6 +307,8 @@ impl Relay {
             (desk_in self.old.desk) (desk_in self.new.desk)) }
         ensures kept { OnOk result (posts_in self.new.applications
             ≡ posts_in self.old.applications) }
+        ensures fronts { OnOk result (fronts_in self.new.applications
+            ≡ fronts_in self.old.applications) }
     {
         let Some(hold) = self.desk.hold_of(key) else {
             return self.expel(key);
@@ -287,6 +329,8 @@ impl Relay {
             (desk_in self.old.desk) (desk_in self.new.desk)) }
         ensures kept { OnOk result (posts_in self.new.applications
             ≡ posts_in self.old.applications) }
+        ensures fronts { OnOk result (fronts_in self.new.applications
+            ≡ fronts_in self.old.applications) }
     {
         self.outbox.clear();
         match self.desk.cancel(key, &mut self.outbox) {
@@ -316,7 +360,9 @@ fn put_on(desk: &mut Desk, key: usize, bytes: &[u8], whole: bool, out: &mut Vec<
 }
 
 /// What stands behind so many of these bytes.
-pub(super) fn behind(bytes: &[u8], count: usize) -> &[u8] {
+pub(super) fn behind(bytes: &[u8], count: usize) -> &[u8]
+    ensures { result.now ≡ drop count bytes.now }
+{
     match bytes.get(count..) {
         Some(rest) => rest,
         None => &[],

@@ -1,20 +1,28 @@
 //! What comes on connections.
-ghost use Rattle.std.specs.Prelude.{◌≡◌, ◌+◌, ◌≤◌, false, length, OnOk};
+ghost use Rattle.std.specs.Prelude.{◌≡◌, ◌+◌, ◌≤◌, Bool, None, Some, drop, false, length, true};
+ghost use Rattle.std.specs.Prelude.{IfOk, IsNone, OnOk};
+ghost use Rattle.tds_service.specs.Table.{reading_on};
 ghost use Rattle.tds_relay.specs.Dealing.{Deals, Passes, floor_in, floor_of};
+ghost use Rattle.tds_relay.specs.Fronts.{Came, Moves, fronts_in, hall_in, move_front, owner_of, settles};
+ghost use Rattle.tds_relay.specs.Fronts.{stage_of, told_by};
+ghost use Rattle.tds_relay.specs.Handing.{Brings, HearsBy, news_with};
 ghost use Rattle.tds_relay.specs.Posts.{post_of, posts_in};
-ghost use Rattle.tds_relay.specs.Bounds.{waiting_in};
+ghost use Rattle.tds_relay.specs.Reads.{Comes, Continues, Stays, StreamsAll, if_heard};
+ghost use Rattle.tds_relay.specs.Reads.{reader_at, seen_at};
+ghost use Rattle.tds_relay.specs.Bounds.{IsRoom};
+ghost use Rattle.tds_relay.specs.Ties as causes;
 ghost use Rattle.tds_relay.specs.Ties.{Connection, Goes, GoesOn, NobodyWaits, desk_in};
-ghost use Rattle.tds_relay.specs.declared.outgoing.TheConstants.{PIECE};
 
+use super::Relay;
 use super::asking::behind;
-use super::{Relay, link_in};
 use crate::NoMemory;
 use crate::application::{Application, Asking};
 use crate::desk::{Desk, Heard, Renewed, What};
-use crate::link::{Answer, Link};
+use crate::link::{Answer, Link, News};
+use crate::links::{place_in, set_muted};
+use crate::reading::reads_packets;
 use slab::Slab;
 use tds_packet::PacketRef;
-use tds_wire::Token;
 
 impl Relay {
     /// These bytes came on the connection of this number, behind its login.
@@ -23,18 +31,39 @@ impl Relay {
             (desk_in self.old.desk) (desk_in self.new.desk)) }
         ensures deals { OnOk result (Deals (Connection number) (floor_in self.old)
             (floor_in self.new)) }
+        ensures moves { OnOk result (Moves (Connection number) (hall_in self.old)
+            (hall_in self.new)) }
         ensures served { OnOk result (NobodyWaits (desk_in self.new.desk)) }
+        ensures comes { OnOk result (Comes number (reader_at number self.old.links.items)
+            (floor_in self.old) piece.now (seen_at number self.new.links.items)
+            (floor_in self.new)) }
+    {
+        self.hear_all(number, piece)?;
+        self.serve_line()
+    }
+
+    /// Hears them, packet by packet. A connection of which some aren't heard is lost.
+    fn hear_all(&mut self, number: u64, piece: &[u8]) -> Result<(), NoMemory>
+        ensures goes { OnOk result (Goes (Connection number)
+            (desk_in self.old.desk) (desk_in self.new.desk)) }
+        ensures deals { OnOk result (Deals (Connection number) (floor_in self.old)
+            (floor_in self.new)) }
+        ensures moves { OnOk result (Moves (Connection number) (hall_in self.old)
+            (hall_in self.new)) }
+        ensures streams { OnOk result (StreamsAll number (reader_at number self.old.links.items)
+            (floor_in self.old) piece.now (reader_at number self.new.links.items)
+            (floor_in self.new)) }
     {
         let mut rest = piece;
         'taking: for _ in 0..=piece.len() {
             if rest.is_empty() {
-                break;
+                return Ok(());
             }
             let (count, heard) = self.hear(number, rest)?;
             rest = behind(rest, count);
             self.heard(number, heard)?;
         }
-        self.serve_line()
+        self.lose(number)
     }
 
     /// Takes bytes up to the end of a packet, and hands on what is an application's. None where they
@@ -44,20 +73,28 @@ impl Relay {
             (desk_in self.old.desk) (desk_in self.new.desk)) }
         ensures deals { OnOk result (Deals (Connection number) (floor_in self.old)
             (floor_in self.new)) }
+        ensures came { IfOk result (λ out. Came number (desk_in self.old.desk)
+            (desk_in self.new.desk) out.1) }
+        ensures fronts { OnOk result (fronts_in self.new.applications
+            ≡ fronts_in self.old.applications) }
+        ensures continues { IfOk result (λ heard. Continues number piece.now
+            (drop heard.0 piece.now) (reader_at number self.old.links.items)
+            (if_heard heard.1 (reader_at number self.new.links.items)) (floor_in self.old)
+            (floor_in self.new)) }
     {
         let Relay {
             desk,
             applications,
             links,
-            told,
             outbox,
             ..
         } = self;
         outbox.clear();
-        match link_in(links, number) {
-            Some(link) => hear_on(desk, applications, link, number, told, outbox, piece),
-            None => Ok((piece.len(), Some(NOTHING))),
-        }
+        let Some(place) = place_in(links, number) else {
+            return Ok((piece.len(), Some(NOTHING)));
+        };
+        let link = &mut links[place];
+        hear_on(desk, applications, link, number, outbox, piece)
     }
 
     /// What came of a packet is done.
@@ -66,6 +103,12 @@ impl Relay {
             (desk_in self.old.desk) (desk_in self.new.desk)) }
         ensures kept { OnOk result (posts_in self.new.applications
             ≡ posts_in self.old.applications) }
+        ensures told { OnOk result ((missed : Bool) × (fronts_in self.new.applications
+            ≡ told_by heard missed (fronts_in self.old.applications))) }
+        ensures quiet { OnOk result (Goes (causes.Application (owner_of heard))
+            (desk_in self.old.desk) (desk_in self.new.desk)) }
+        ensures read { OnOk result (Stays self.old.links.items self.new.links.items) }
+        ensures gone { IsNone heard → OnOk result (reader_at number self.new.links.items ≡ None) }
     {
         self.send_on(number)?;
         let Some(heard) = heard else {
@@ -80,7 +123,7 @@ impl Relay {
                 if self.unmute(number) {
                     self.resume(number, key)
                 } else {
-                    self.settled(key, true)
+                    self.acknowledged(key)
                 }
             }
             (What::Acknowledged, None) => Ok(()),
@@ -96,8 +139,13 @@ impl Relay {
     fn resume(&mut self, number: u64, key: usize) -> Result<(), NoMemory>
         ensures goes { OnOk result (Goes (Connection number)
             (desk_in self.old.desk) (desk_in self.new.desk)) }
+        ensures quiet { OnOk result (Goes (causes.Application key)
+            (desk_in self.old.desk) (desk_in self.new.desk)) }
         ensures kept { OnOk result (posts_in self.new.applications
             ≡ posts_in self.old.applications) }
+        ensures fronts { OnOk result (fronts_in self.new.applications
+            ≡ fronts_in self.old.applications) }
+        ensures read { OnOk result (Stays self.old.links.items self.new.links.items) }
     {
         if self.asks_to_keep(key) {
             self.keep(number, key)
@@ -118,8 +166,13 @@ impl Relay {
     fn keep(&mut self, number: u64, key: usize) -> Result<(), NoMemory>
         ensures goes { OnOk result (Goes (Connection number)
             (desk_in self.old.desk) (desk_in self.new.desk)) }
+        ensures quiet { OnOk result (Goes (causes.Application key)
+            (desk_in self.old.desk) (desk_in self.new.desk)) }
         ensures kept { OnOk result (posts_in self.new.applications
             ≡ posts_in self.old.applications) }
+        ensures fronts { OnOk result (fronts_in self.new.applications
+            ≡ fronts_in self.old.applications) }
+        ensures read { OnOk result (Stays self.old.links.items self.new.links.items) }
     {
         match self.desk.renew(key)? {
             Renewed::Kept(hold) => {
@@ -137,8 +190,13 @@ impl Relay {
     fn replace(&mut self, number: u64, key: usize) -> Result<(), NoMemory>
         ensures goes { OnOk result (Goes (Connection number)
             (desk_in self.old.desk) (desk_in self.new.desk)) }
+        ensures quiet { OnOk result (Goes (causes.Application key)
+            (desk_in self.old.desk) (desk_in self.new.desk)) }
         ensures kept { OnOk result (posts_in self.new.applications
             ≡ posts_in self.old.applications) }
+        ensures fronts { OnOk result (fronts_in self.new.applications
+            ≡ fronts_in self.old.applications) }
+        ensures read { OnOk result (Stays self.old.links.items self.new.links.items) }
     {
         self.desk.lose(number)?;
         self.close(number, None)?;
@@ -149,22 +207,36 @@ impl Relay {
     fn unmute(&mut self, number: u64) -> bool
         ensures desk { self.new.desk ≡ self.old.desk }
         ensures kept { posts_in self.new.applications ≡ posts_in self.old.applications }
+        ensures fronts { fronts_in self.new.applications ≡ fronts_in self.old.applications }
+        ensures read { Stays self.old.links.items self.new.links.items }
     {
-        match link_in(&mut self.links, number) {
-            Some(link) => {
-                let was_muted = link.is_muted;
-                link.is_muted = false;
-                was_muted
-            }
-            None => false,
-        }
+        set_muted(&mut self.links, number, false)
+    }
+
+    /// An application's attention has the acknowledgement: of the reset that its request asked for it hears
+    /// no more.
+    #[tactic(auto, using(crate::proofs::Posting::kept_more))]
+    fn acknowledged(&mut self, key: usize) -> Result<(), NoMemory>
+        ensures desk { self.new.desk ≡ self.old.desk }
+        ensures kept { OnOk result (posts_in self.new.applications
+            ≡ posts_in self.old.applications) }
+        ensures told { OnOk result (fronts_in self.new.applications
+            ≡ move_front key (settles true) (fronts_in self.old.applications)) }
+        ensures read { OnOk result (Stays self.old.links.items self.new.links.items) }
+    {
+        self.forget_reset(key);
+        self.settled(key, true)
     }
 
     /// An application's request has its answer, or its attention the acknowledgement.
+    #[tactic(auto, using(crate::proofs::Fronts::fronts_nobody))]
     fn settled(&mut self, key: usize, is_acknowledged: bool) -> Result<(), NoMemory>
         ensures desk { self.new.desk ≡ self.old.desk }
         ensures kept { OnOk result (posts_in self.new.applications
             ≡ posts_in self.old.applications) }
+        ensures told { OnOk result (fronts_in self.new.applications
+            ≡ move_front key (settles is_acknowledged) (fronts_in self.old.applications)) }
+        ensures links { OnOk result (self.new.links.items ≡ self.old.links.items) }
     {
         match self.applications.get_mut(key) {
             Some(application) => {
@@ -187,7 +259,6 @@ fn hear_on(
     applications: &mut Slab<Application>,
     link: &mut Link,
     number: u64,
-    told: &mut Vec<Token>,
     outbox: &mut Vec<u8>,
     piece: &[u8],
 ) -> Result<(usize, Option<Heard>), NoMemory>
@@ -195,11 +266,19 @@ fn hear_on(
         (desk_in desk.new)) }
     ensures deals { OnOk result (Deals (Connection number)
         (floor_of desk.old applications.old) (floor_of desk.new applications.new)) }
+    ensures hears { IfOk result (λ heard. HearsBy number (reading_on number desk.old.service) link.old
+        link.new piece.now heard.0 heard.1 (floor_of desk.old applications.old)
+        (floor_of desk.new applications.new)) }
+    ensures number { link.new.number ≡ link.old.number }
+    ensures muted { link.new.is_muted ≡ link.old.is_muted }
+    ensures came { IfOk result (λ out. Came number (desk_in desk.old) (desk_in desk.new) out.1) }
+    ensures fronts { OnOk result (fronts_in applications.new ≡ fronts_in applications.old) }
 {
     let Ok(count) = link.reader.feed(piece) else {
         return Ok((piece.len(), None));
     };
-    let heard = hear_packet(desk, applications, link, number, told, outbox)?;
+    reads_packets();
+    let heard = hear_packet(desk, applications, link, number, outbox)?;
     link.reader.done();
     Ok((count, Some(heard)))
 }
@@ -210,20 +289,25 @@ fn hear_packet(
     applications: &mut Slab<Application>,
     link: &mut Link,
     number: u64,
-    told: &mut Vec<Token>,
     outbox: &mut Vec<u8>,
 ) -> Result<Heard, NoMemory>
     ensures goes { OnOk result (Goes (Connection number) (desk_in desk.old)
         (desk_in desk.new)) }
-    ensures deals { OnOk result (Deals (Connection number)
+    ensures brings { IfOk result (λ heard. Brings number (reading_on number desk.old.service)
+        link.old.is_muted link.old.news link.old.answer link.old.reader heard.what
         (floor_of desk.old applications.old) (floor_of desk.new applications.new)) }
+    ensures reader { link.new.reader ≡ link.old.reader }
+    ensures number { link.new.number ≡ link.old.number }
+    ensures muted { link.new.is_muted ≡ link.old.is_muted }
+    ensures came { IfOk result (λ heard. Came number (desk_in desk.old) (desk_in desk.new)
+        (Some heard)) }
+    ensures fronts { OnOk result (fronts_in applications.new ≡ fronts_in applications.old) }
 {
     let Some(packet) = link.reader.packet() else {
         return Ok(NOTHING);
     };
-    told.clear();
     let ends = packet.header.status.ends();
-    let heard = desk.came(number, packet.data, ends, told, outbox)?;
+    let heard = desk.came(number, packet.data, ends, outbox)?;
     if matches!(heard.what, What::Closed) || link.is_muted {
         return Ok(heard);
     }
@@ -231,29 +315,50 @@ fn hear_packet(
         return Ok(heard);
     };
     if let Some(application) = applications.get_mut(key) {
-        hand_on(&mut link.answer, &mut link.cuts, packet, application)?;
+        link.news = news_with(heard.what, link.news);
+        hand_on(&mut link.answer, &mut link.news, packet, application)?;
     }
     Ok(heard)
 }
 
-/// Hands a packet on as it came, or without the news of a reset. One that comes as it is doesn't make its
-/// application full where it fits in what may wait.
+/// How the news of a reset goes with a packet of which this came: it isn't told before what only
+/// acknowledges an attention.
+fn news_with(what: What, news: News) -> News
+    ensures { result ≡ news_with what news }
+{
+    match (what, news) {
+        (What::Acknowledged, News::IsTold) => News::Comes,
+        _ => news,
+    }
+}
+
+/// Hands a packet on as it came, without the news of a reset, or behind it. One that isn't set anew doesn't
+/// make its application full where it fits in what may wait, with that news.
 fn hand_on(
     answer: &mut Answer,
-    cuts: &mut bool,
+    news: &mut News,
     packet: PacketRef<'_>,
     application: &mut Application,
 ) -> Result<(), NoMemory>
     requires { packet.header.length ≡ 8 + length packet.«data».now }
-    ensures passes { OnOk result (Passes cuts.old answer.old packet.entry.header packet.entry.«data».now
+    ensures passes { OnOk result (Passes news.old answer.old packet.entry.header packet.entry.«data».now
         (post_of application.old) (post_of application.new)) }
-    ensures fits { cuts.old ≡ false → application.old.out.is_full ≡ false
-        → waiting_in application.old.out + packet.entry.header.length ≤ application.old.out.size + PIECE
+    ensures end { OnOk result (stage_of application.new ≡ stage_of application.old) }
+    ensures fits { IsRoom news.old application.old.out packet.entry.header.length
         → application.new.out.is_full ≡ false }
 {
-    if *cuts {
-        *cuts = !answer.put_without_news(packet.header, packet.data, &mut application.out)?;
-        return Ok(());
+    let out = &mut application.out;
+    match *news {
+        News::Comes => out.put_packet(packet.header, packet.data),
+        News::IsCut => {
+            if answer.put_without_news(packet.header, packet.data, out)? {
+                *news = News::Comes;
+            }
+            Ok(())
+        }
+        News::IsTold => {
+            *news = News::Comes;
+            out.put_behind_news(packet.header, packet.data)
+        }
     }
-    application.out.put_packet(packet.header, packet.data)
 }

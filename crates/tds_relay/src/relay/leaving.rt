@@ -1,13 +1,15 @@
 //! Applications that leave, and connections that are lost.
-ghost use Rattle.std.specs.Prelude.{◌≡◌, OnOk};
+ghost use Rattle.std.specs.Prelude.{◌≡◌, None, OnOk};
 ghost use Rattle.tds_relay.specs.Desk.{Loses, turn};
 ghost use Rattle.tds_relay.specs.Dealing.{Deals, DealsOn, floor_in};
+ghost use Rattle.tds_relay.specs.Fronts.{Moves, fronts_in, hall_in};
 ghost use Rattle.tds_relay.specs.Posts.{posts_in};
+ghost use Rattle.tds_relay.specs.Reads.{Stays, reader_at};
 ghost use Rattle.tds_relay.specs.Ties.{Application, Goes, GoesOn, Leaving, NobodyWaits, desk_in};
 
 use super::Relay;
 use crate::NoMemory;
-use crate::link::Link;
+use crate::links::remove_link;
 use crate::order::Order;
 
 impl Relay {
@@ -18,6 +20,8 @@ impl Relay {
         ensures left { OnOk result (Leaving key (desk_in self.old.desk) (desk_in self.new.desk)) }
         ensures deals { OnOk result (Deals (Application key) (floor_in self.old)
             (floor_in self.new)) }
+        ensures moves { OnOk result (Moves (Application key) (hall_in self.old)
+            (hall_in self.new)) }
         ensures served { OnOk result (NobodyWaits (desk_in self.new.desk)) }
     {
         let _ = self.applications.try_remove(key).is_some();
@@ -31,6 +35,8 @@ impl Relay {
         ensures lost { OnOk result (GoesOn (turn (desk_in self.old.desk) (Loses number)).desk
             (desk_in self.new.desk)) }
         ensures deals { OnOk result (DealsOn (floor_in self.old) (floor_in self.new)) }
+        ensures fronts { OnOk result (fronts_in self.new.applications
+            ≡ fronts_in self.old.applications) }
         ensures served { OnOk result (NobodyWaits (desk_in self.new.desk)) }
     {
         self.lose(number)?;
@@ -44,6 +50,8 @@ impl Relay {
             (desk_in self.old.desk) (desk_in self.new.desk)) }
         ensures kept { OnOk result (posts_in self.new.applications
             ≡ posts_in self.old.applications) }
+        ensures fronts { OnOk result (fronts_in self.new.applications
+            ≡ fronts_in self.old.applications) }
     {
         self.end(key)?;
         self.release(key)
@@ -54,6 +62,9 @@ impl Relay {
         ensures desk { self.new.desk ≡ self.old.desk }
         ensures kept { OnOk result (posts_in self.new.applications
             ≡ posts_in self.old.applications) }
+        ensures fronts { OnOk result (fronts_in self.new.applications
+            ≡ fronts_in self.old.applications) }
+        ensures links { OnOk result (self.new.links.items ≡ self.old.links.items) }
     {
         match self.applications.get_mut(key) {
             Some(application) => {
@@ -74,6 +85,8 @@ impl Relay {
         ensures leaving { OnOk result (Leaving key (desk_in self.old.desk) (desk_in self.new.desk)) }
         ensures kept { OnOk result (posts_in self.new.applications
             ≡ posts_in self.old.applications) }
+        ensures fronts { OnOk result (fronts_in self.new.applications
+            ≡ fronts_in self.old.applications) }
     {
         self.outbox.clear();
         let Some(left) = self.desk.leave(key, &mut self.outbox)? else {
@@ -97,20 +110,31 @@ impl Relay {
         ensures goes { OnOk result (GoesOn (desk_in self.old.desk) (desk_in self.new.desk)) }
         ensures kept { OnOk result (posts_in self.new.applications
             ≡ posts_in self.old.applications) }
+        ensures fronts { OnOk result (fronts_in self.new.applications
+            ≡ fronts_in self.old.applications) }
+        ensures read { OnOk result (Stays self.old.links.items self.new.links.items) }
+        ensures gone { OnOk result (reader_at number self.new.links.items ≡ None) }
     {
         let key = self.desk.lose(number)?;
         self.close(number, key)
     }
 
+    #[tactic(auto, using(crate::proofs::Staying::stays_without, crate::proofs::Staying::taken_out))]
     fn close_link(&mut self, number: u64) -> Result<(), NoMemory>
         ensures desk { self.new.desk ≡ self.old.desk }
         ensures kept { OnOk result (posts_in self.new.applications
             ≡ posts_in self.old.applications) }
+        ensures fronts { OnOk result (fronts_in self.new.applications
+            ≡ fronts_in self.old.applications) }
+        ensures read { OnOk result (Stays self.old.links.items self.new.links.items) }
+        ensures gone { OnOk result (reader_at number self.new.links.items ≡ None) }
     {
-        let Some(link) = take_out(&mut self.links, number) else {
-            return Ok(());
+        let tag = match self.link(number) {
+            Some(link) => link.tag,
+            None => None,
         };
-        match link.tag {
+        remove_link(&mut self.links, number);
+        match tag {
             Some(tag) => {
                 self.orders.push(Order::Close(tag))?;
                 Ok(())
@@ -124,6 +148,10 @@ impl Relay {
         ensures desk { self.new.desk ≡ self.old.desk }
         ensures kept { OnOk result (posts_in self.new.applications
             ≡ posts_in self.old.applications) }
+        ensures fronts { OnOk result (fronts_in self.new.applications
+            ≡ fronts_in self.old.applications) }
+        ensures read { OnOk result (Stays self.old.links.items self.new.links.items) }
+        ensures gone { OnOk result (reader_at number self.new.links.items ≡ None) }
     {
         self.close_link(number)?;
         match key {
@@ -131,14 +159,4 @@ impl Relay {
             None => Ok(()),
         }
     }
-}
-
-/// Takes the connection of this number out of these.
-fn take_out(links: &mut Vec<Link>, number: u64) -> Option<Link> {
-    for index in 0..links.len() {
-        if links[index].number == number {
-            return Some(links.remove(index));
-        }
-    }
-    None
 }

@@ -1,21 +1,23 @@
 //! Connections that are lent to those who wait, opened, and asked.
-ghost use Rattle.std.specs.Prelude.{◌≡◌, ◌&&◌, OnOk, not};
+ghost use Rattle.std.specs.Prelude.{◌≡◌, ◌++◌, ◌∷◌, [], IfOk, OnOk, false, if◌then◌else◌};
 ghost use Rattle.slab.specs.Slab.{get};
 ghost use Rattle.tds_relay.specs.Dealing.{Deals, DealsOn, floor_in};
-ghost use Rattle.tds_relay.specs.Posts.{asks_reset, posts_in, told_if};
+ghost use Rattle.tds_relay.specs.Fronts.{fronts_in};
+ghost use Rattle.tds_relay.specs.Handing.{news_for};
+ghost use Rattle.tds_relay.specs.Posts.{asks_reset, posts_in};
+ghost use Rattle.tds_relay.specs.Reads.{Opens, Stays};
 ghost use Rattle.tds_relay.specs.Ties.{Goes, GoesOn, Neither, NobodyWaits, desk_in};
+ghost use Rattle.tds_relay.specs.declared.link.Link.{Link};
+ghost use Rattle.tds_relay.specs.declared.link.News.TheVariants.{Comes, IsTold};
 
 use super::{Relay, link_in};
 use crate::NoMemory;
 use crate::application::Asking;
 use crate::desk::Served;
-use crate::link::Link;
+use crate::link::{Link, News};
 use crate::order::Order;
 use std::alloc::AllocError;
 use tds_service::Refusal;
-
-/// The news of a reset that is done, in a packet of its own (MS-TDS 2.2.7.9, type 18).
-const NEWS: [u8; 14] = [4, 0, 0, 14, 0, 0, 1, 0, 0xe3, 3, 0, 18, 0, 0];
 
 impl Relay {
     /// A connection that is open and logged in has come before any application asked: the first one of
@@ -24,6 +26,8 @@ impl Relay {
     pub fn bring(&mut self, tag: usize) -> Result<Option<u64>, NoMemory>
         ensures goes { OnOk result (Goes Neither (desk_in self.old.desk) (desk_in self.new.desk)) }
         ensures deals { OnOk result (Deals Neither (floor_in self.old) (floor_in self.new)) }
+        ensures fronts { OnOk result (fronts_in self.new.applications
+            ≡ fronts_in self.old.applications) }
     {
         if !self.links.is_empty() {
             return Ok(None);
@@ -35,7 +39,7 @@ impl Relay {
         if !left.is_there {
             return Ok(None);
         }
-        let mut link = self.new_link(left.number)?;
+        let mut link = self.new_link(left.number, News::Comes)?;
         link.tag = Some(tag);
         link.is_open = true;
         self.links.push(link)?;
@@ -44,14 +48,18 @@ impl Relay {
         Ok(Some(left.number))
     }
 
-    fn new_link(&self, number: u64) -> Result<Link, NoMemory> {
-        Link::new(self.alloc, number, self.size, self.features)
+    fn new_link(&self, number: u64, news: News) -> Result<Link, NoMemory>
+        ensures closed { IfOk result (λ link. link.is_open ≡ false) }
+        ensures news { IfOk result (λ link. link.news ≡ news) }
+    {
+        Link::new(self.alloc, number, self.size, self.features, news)
     }
 
     /// The connection of this number is being opened, and is called so.
     pub fn opening(&mut self, number: u64, tag: usize)
         ensures desk { self.new.desk ≡ self.old.desk }
         ensures kept { posts_in self.new.applications ≡ posts_in self.old.applications }
+        ensures fronts { fronts_in self.new.applications ≡ fronts_in self.old.applications }
     {
         match link_in(&mut self.links, number) {
             Some(link) => link.tag = Some(tag),
@@ -63,6 +71,8 @@ impl Relay {
     pub fn opened(&mut self, number: u64) -> Result<(), NoMemory>
         ensures goes { OnOk result (GoesOn (desk_in self.old.desk) (desk_in self.new.desk)) }
         ensures deals { OnOk result (DealsOn (floor_in self.old) (floor_in self.new)) }
+        ensures fronts { OnOk result (fronts_in self.new.applications
+            ≡ fronts_in self.old.applications) }
         ensures served { OnOk result (NobodyWaits (desk_in self.new.desk)) }
     {
         self.set_open(number);
@@ -74,6 +84,7 @@ impl Relay {
     fn set_open(&mut self, number: u64)
         ensures desk { self.new.desk ≡ self.old.desk }
         ensures kept { posts_in self.new.applications ≡ posts_in self.old.applications }
+        ensures fronts { fronts_in self.new.applications ≡ fronts_in self.old.applications }
     {
         match link_in(&mut self.links, number) {
             Some(link) => link.is_open = true,
@@ -86,6 +97,8 @@ impl Relay {
         ensures goes { OnOk result (GoesOn (desk_in self.old.desk) (desk_in self.new.desk)) }
         ensures kept { OnOk result (posts_in self.new.applications
             ≡ posts_in self.old.applications) }
+        ensures fronts { OnOk result (fronts_in self.new.applications
+            ≡ fronts_in self.old.applications) }
     {
         match self.desk.key_on(number) {
             Some(key) => self.start(key),
@@ -98,7 +111,10 @@ impl Relay {
     pub(super) fn serve_line(&mut self) -> Result<(), NoMemory>
         ensures goes { OnOk result (GoesOn (desk_in self.old.desk) (desk_in self.new.desk)) }
         ensures deals { OnOk result (DealsOn (floor_in self.old) (floor_in self.new)) }
+        ensures fronts { OnOk result (fronts_in self.new.applications
+            ≡ fronts_in self.old.applications) }
         ensures served { OnOk result (NobodyWaits (desk_in self.new.desk)) }
+        ensures opens { OnOk result (Opens self.old.links.items self.new.links.items) }
     {
         'line: for _ in 0..u64::MAX {
             match self.desk.serve()? {
@@ -109,13 +125,19 @@ impl Relay {
         Err(AllocError)
     }
 
-    /// A connection is lent to an application.
+    /// A connection is lent to an application. Where this asks for a reset, and nobody had the connection, the
+    /// news of it goes before its answer.
     #[tactic(auto, using(crate::proofs::Reaching::reaches_turn, crate::proofs::Reaching::reaches_turned))]
     fn lend(&mut self, served: Served) -> Result<(), NoMemory>
         ensures goes { OnOk result (GoesOn (desk_in self.old.desk) (desk_in self.new.desk)) }
-        ensures told { OnOk result (posts_in self.new.applications
-            ≡ told_if (not served.had && asks_reset (get self.old.applications served.hold.key))
-            served.hold.key (posts_in self.old.applications)) }
+        ensures kept { OnOk result (posts_in self.new.applications
+            ≡ posts_in self.old.applications) }
+        ensures fronts { OnOk result (fronts_in self.new.applications
+            ≡ fronts_in self.old.applications) }
+        ensures opens { OnOk result (Opens self.old.links.items self.new.links.items) }
+        ensures told { served.had ≡ false → OnOk result ((link : Link)
+            × (link.news ≡ news_for (get self.old.applications served.hold.key))
+            × (self.new.links.items ≡ self.old.links.items ++ link ∷ [])) }
     {
         let key = served.hold.key;
         let number = served.hold.number;
@@ -124,8 +146,7 @@ impl Relay {
             self.cut(number, !asks_for_reset);
             return self.start(key);
         }
-        self.tell_news(key, asks_for_reset)?;
-        let link = self.new_link(number)?;
+        let link = self.new_link(number, news_of_new(asks_for_reset))?;
         self.links.push(link)?;
         self.orders.push(Order::Open(number))?;
         Ok(())
@@ -141,21 +162,25 @@ impl Relay {
         }
     }
 
-    /// The reset that an application asks for, if it does, is done: nobody had its connection before.
-    fn tell_news(&mut self, key: usize, asks_for_reset: bool) -> Result<(), NoMemory>
+    /// An application hears no more of the reset that its request asked for, if it did: the relay doesn't
+    /// tell it, and what a server says of it later is cut out.
+    #[tactic(auto, using(crate::proofs::Staying::stays_refl))]
+    pub(super) fn forget_reset(&mut self, key: usize)
         ensures desk { self.new.desk ≡ self.old.desk }
-        ensures told { OnOk result (posts_in self.new.applications
-            ≡ told_if asks_for_reset key (posts_in self.old.applications)) }
+        ensures kept { posts_in self.new.applications ≡ posts_in self.old.applications }
+        ensures fronts { fronts_in self.new.applications ≡ fronts_in self.old.applications }
+        ensures read { Stays self.old.links.items self.new.links.items }
     {
-        if !asks_for_reset {
-            return Ok(());
+        let Some(application) = self.applications.get_mut(key) else {
+            return;
+        };
+        if application.reset.is_none() {
+            return;
         }
-        match self.applications.get_mut(key) {
-            Some(application) => {
-                application.out.append(&NEWS)?;
-                self.order_write(key)
-            }
-            None => Ok(()),
+        application.reset = None;
+        match self.desk.hold_of(key) {
+            Some(hold) => self.cut(hold.number, true),
+            None => {}
         }
     }
 
@@ -165,6 +190,9 @@ impl Relay {
         ensures goes { OnOk result (GoesOn (desk_in self.old.desk) (desk_in self.new.desk)) }
         ensures kept { OnOk result (posts_in self.new.applications
             ≡ posts_in self.old.applications) }
+        ensures fronts { OnOk result (fronts_in self.new.applications
+            ≡ fronts_in self.old.applications) }
+        ensures read { OnOk result (Stays self.old.links.items self.new.links.items) }
     {
         let Some(application) = self.applications.get(key) else {
             return Ok(());
@@ -193,11 +221,14 @@ impl Relay {
     }
 
     /// Puts what is kept of a request on its connection.
-    #[tactic(auto, using(crate::proofs::Posting::kept_more, crate::proofs::Posting::posts_kept))]
+    #[tactic(auto, using(crate::proofs::Posting::kept_more, crate::proofs::Posting::posts_kept, crate::proofs::Fronts::fronts_more, crate::proofs::Fronts::fronts_kept))]
     fn put_held(&mut self, key: usize, whole: bool) -> Result<(), NoMemory>
         ensures goes { OnOk result (GoesOn (desk_in self.old.desk) (desk_in self.new.desk)) }
         ensures kept { OnOk result (posts_in self.new.applications
             ≡ posts_in self.old.applications) }
+        ensures fronts { OnOk result (fronts_in self.new.applications
+            ≡ fronts_in self.old.applications) }
+        ensures read { OnOk result (Stays self.old.links.items self.new.links.items) }
     {
         let Some(application) = self.applications.get_mut(key) else {
             return Ok(());
@@ -206,5 +237,16 @@ impl Relay {
         let held = application.held().to_vec(self.alloc)?;
         application.forget();
         self.put(key, &held, whole)
+    }
+}
+
+/// How the news of a reset goes on a connection that nobody had, which does none.
+fn news_of_new(asks_for_reset: bool) -> News
+    ensures { result ≡ (if asks_for_reset then IsTold else Comes) }
+{
+    if asks_for_reset {
+        News::IsTold
+    } else {
+        News::Comes
     }
 }

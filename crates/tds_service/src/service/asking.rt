@@ -8,6 +8,7 @@ ghost use Rattle.tds_service.specs.Line as line;
 ghost use Rattle.tds_service.specs.Refusing.{refusal_in};
 ghost use Rattle.tds_service.specs.Service as calls;
 ghost use Rattle.tds_service.specs.Service.{has_number};
+ghost use Rattle.tds_service.specs.Beginning.{MakesAlike};
 ghost use Rattle.tds_service.specs.Sizes.{KeepsSize, sizes_in};
 ghost use Rattle.tds_service.specs.Table.{Answers, DoesAt, Keeps, KeepsClients, Opens, Refuses};
 ghost use Rattle.tds_service.specs.Table.{RefusedBy, Steps};
@@ -142,6 +143,7 @@ impl Service {
         ensures err { OnErr result (self.new ≡ self.old) }
         ensures keeps { Keeps self.old self.new }
         ensures sizes { KeepsSize self.old self.new }
+        ensures makes { MakesAlike self.old self.new }
     {
         match find(&self.seats, Wanted::Lease(lease)) {
             Some(index) => ask_at(&mut self.seats, index, kind),
@@ -165,6 +167,7 @@ impl Service {
         ensures nothing { OnErr result (out.new.items ≡ out.old.items) }
         ensures keeps { Keeps self.old self.new }
         ensures sizes { KeepsSize self.old self.new }
+        ensures makes { MakesAlike self.old self.new }
     {
         match find(&self.seats, Wanted::Lease(lease)) {
             Some(index) => put_at(&mut self.seats, index, bytes, out),
@@ -186,6 +189,7 @@ impl Service {
         ensures nothing { OnErr result (out.new.items ≡ out.old.items) }
         ensures keeps { Keeps self.old self.new }
         ensures sizes { KeepsSize self.old self.new }
+        ensures makes { MakesAlike self.old self.new }
     {
         match find(&self.seats, Wanted::Lease(lease)) {
             Some(index) => finish_at(&mut self.seats, index, out),
@@ -206,6 +210,7 @@ impl Service {
         ensures nothing { OnErr result (out.new.items ≡ out.old.items) }
         ensures keeps { Keeps self.old self.new }
         ensures sizes { KeepsSize self.old self.new }
+        ensures makes { MakesAlike self.old self.new }
     {
         match find(&self.seats, Wanted::Lease(lease)) {
             Some(index) => cancel_at(&mut self.seats, index, out),

@@ -1,15 +1,17 @@
 //! What comes on a connection.
-ghost use Rattle.std.specs.Prelude.{◌≡◌, ◌≢◌, ◌<◌, ◌≤◌, ◌+◌, ◌++◌, ℕ, length, Some, slice_index_or, slice_set, vec_len};
+ghost use Rattle.std.specs.Prelude.{◌≡◌, ◌≢◌, ◌<◌, ◌≤◌, ◌+◌, ◌++◌, ℕ, List, [], true, false, length, Some, slice_index_or, slice_set, vec_len};
 ghost use Rattle.std.specs.Prelude.{vec_capacity, IfOk, IfErr, OnOk, OnErr};
 ghost use Rattle.tds_listen.specs.Hearing.{tokens_in};
 ghost use Rattle.tds_wire.specs.Reading.{Reading};
+ghost use Rattle.tds_wire.specs.declared.told.Token.{Token};
 ghost use Rattle.tds_service.specs.declared.seat.Seat.{Seat as CodeSeat};
 ghost use Rattle.tds_service.specs.Line as line;
-ghost use Rattle.tds_service.specs.Packets.{Reads, outcome_answer, packet_part, told_of_part};
+ghost use Rattle.tds_service.specs.Packets.{Reads, noted, outcome_answer, packet_part, told_of_part};
 ghost use Rattle.tds_service.specs.Service as calls;
 ghost use Rattle.tds_service.specs.Service.{drained, find_by, has_number, lease_in};
+ghost use Rattle.tds_service.specs.Beginning.{MakesAlike};
 ghost use Rattle.tds_service.specs.Sizes.{KeepsSize, sizes_in};
-ghost use Rattle.tds_service.specs.Table.{Comes, KeepsClientsOff, KeepsOthers, ReadsAt};
+ghost use Rattle.tds_service.specs.Table.{Comes, ComesUntold, KeepsClientsOff, KeepsOthers, ReadsAt};
 ghost use Rattle.tds_service.specs.Table.{Refuses, place_of};
 ghost use Rattle.tds_service.specs.Table.{reading_by, reading_on, service_in};
 ghost use Rattle.tds_service.specs.Ties.{Hears, line_in};
@@ -23,14 +25,20 @@ use crate::service::Service;
 use crate::service::finding::find;
 use tds_wire::Token;
 
-/// Makes room for what may be told of so many bytes, where an answer is being read.
-fn make_room(seat: &Seat, count: usize, told: &mut Vec<Token>) -> Result<(), Refusal>
-    ensures room { OnOk result ((line_in seat.now.connection).stage ≡ line.Reading
+/// Makes room for what may be told of so many bytes, where an answer is being read and the caller
+/// `tells`.
+#[inline(always)]
+fn make_room(seat: &Seat, count: usize, tells: bool, told: &mut Vec<Token>) -> Result<(), Refusal>
+    ensures room { OnOk result (tells ≡ true
+        → (line_in seat.now.connection).stage ≡ line.Reading
         → vec_len told.new + count ≤ vec_capacity told.new) }
-    ensures refused { IfErr result (λ refusal. (refusal ≡ Refusal.Memory)
+    ensures refused { IfErr result (λ refusal. (refusal ≡ Refusal.Memory) × (tells ≡ true)
         × ((line_in seat.now.connection).stage ≡ line.Reading)) }
     ensures same { told.new.items ≡ told.old.items }
 {
+    if !tells {
+        return Ok(());
+    }
     if !seat.is_reading() {
         return Ok(());
     }
@@ -41,11 +49,13 @@ fn make_room(seat: &Seat, count: usize, told: &mut Vec<Token>) -> Result<(), Ref
 }
 
 /// The connection at this index hears a packet's data.
+#[inline(always)]
 fn came_at(
     seats: &mut [Seat],
     index: usize,
     bytes: &[u8],
     ends: bool,
+    tells: bool,
     told: &mut Vec<Token>,
 ) -> Result<Came, Refusal>
     requires { index < length seats.old }
@@ -57,15 +67,15 @@ fn came_at(
         (line_in d.connection) (outcome_answer came.request came.outcome)
         (told_of_part (line_in c.connection)
         (packet_part c.connection.walker bytes.now ends))
-        × (told.new.items ≡ told.old.items ++ told_of_part (line_in c.connection)
-        (packet_part c.connection.walker bytes.now ends))) }
+        × (told.new.items ≡ told.old.items ++ noted tells (told_of_part (line_in c.connection)
+        (packet_part c.connection.walker bytes.now ends)))) }
     ensures reads { IfOk result (λ came. (c : CodeSeat) → c ≡ slice_index_or seats.old index c
         → (d : CodeSeat) × (seats.new ≡ slice_set seats.old index d) × (d.number ≡ c.number)
         × Reads came.outcome ends (tokens_in c.connection.walker bytes.now).stop
         d.connection.walker) }
     ensures others { (n : ℕ) (c : CodeSeat) → c ≡ slice_index_or seats.old index c → n ≢ c.number
         → reading_by (has_number n) seats.new ≡ reading_by (has_number n) seats.old }
-    ensures refused { IfErr result (λ refusal. (refusal ≡ Refusal.Memory)
+    ensures refused { IfErr result (λ refusal. (refusal ≡ Refusal.Memory) × (tells ≡ true)
         × ((c : CodeSeat) → c ≡ slice_index_or seats.old index c
         → (line_in c.connection).stage ≡ line.Reading)) }
     ensures err { OnErr result (seats.new ≡ seats.old) }
@@ -73,12 +83,12 @@ fn came_at(
     ensures sizes { sizes_in seats.new ≡ sizes_in seats.old }
 {
     let seat = &mut seats[index];
-    if let Err(refusal) = make_room(seat, bytes.len(), told) {
+    if let Err(refusal) = make_room(seat, bytes.len(), tells, told) {
         return Err(refusal);
     }
     let lease = seat.lease();
     let request = seat.connection.asked();
-    let outcome = hear_packet(&mut seat.connection, bytes, ends, told);
+    let outcome = hear_packet(&mut seat.connection, bytes, ends, tells, told);
     seat.settle();
     Ok(Came {
         lease,
@@ -88,6 +98,43 @@ fn came_at(
 }
 
 impl Service {
+    /// A packet's data came, of which what may be told is appended if the caller `tells`.
+    #[inline(always)]
+    fn came_by(
+        &mut self,
+        number: u64,
+        bytes: &[u8],
+        ends: bool,
+        tells: bool,
+        told: &mut Vec<Token>,
+    ) -> Result<Came, Refusal>
+        ensures ok { IfOk result (λ came. (r : Reading) × (reading_on number self.old ≡ Some r)
+            × (tokens : List Token) × Comes (service_in self.old) (service_in self.new) number
+            (packet_part r bytes.now ends) came.lease came.request
+            (outcome_answer came.request came.outcome) [] tokens
+            × (told.new.items ≡ told.old.items ++ noted tells tokens)) }
+        ensures reads { IfOk result (λ came. (r : Reading) → reading_on number self.old ≡ Some r
+            → (next : Reading) × (reading_on number self.new ≡ Some next)
+            × Reads came.outcome ends (tokens_in r bytes.now).stop next) }
+        ensures others { KeepsOthers number self.old self.new }
+        ensures clients { OnOk result (KeepsClientsOff number self.old self.new) }
+        ensures refused { IfErr result (λ refusal. (r : Reading)
+            → Refuses (calls.Came number (packet_part r bytes.now ends)) (service_in self.old)
+            refusal) }
+        ensures unknown { IfErr result (λ refusal. tells ≡ false → refusal ≡ Refusal.Unknown) }
+        ensures memory { IfErr result (λ refusal. refusal ≡ Refusal.Memory
+            → ReadsAt (find_by (has_number number) (service_in self.old).seats)) }
+        ensures err { OnErr result (self.new ≡ self.old) }
+        ensures untold { OnErr result (told.new.items ≡ told.old.items) }
+        ensures sizes { KeepsSize self.old self.new }
+        ensures makes { MakesAlike self.old self.new }
+    {
+        match find(&self.seats, Wanted::Number(number)) {
+            Some(index) => came_at(&mut self.seats, index, bytes, ends, tells, told),
+            None => Err(Refusal::Unknown),
+        }
+    }
+
     /// The data of a packet of type `04` came on the connection of this number, which ends its message
     /// or not (MS-TDS 2.2.3.1.2). What may be told is appended to `told`, and belongs to the request
     /// and the lease that are answered; it stands where `Token` says, counted from the message's first
@@ -118,10 +165,32 @@ impl Service {
         ensures err { OnErr result (self.new ≡ self.old) }
         ensures untold { OnErr result (told.new.items ≡ told.old.items) }
         ensures sizes { KeepsSize self.old self.new }
+        ensures makes { MakesAlike self.old self.new }
     {
-        match find(&self.seats, Wanted::Number(number)) {
-            Some(index) => came_at(&mut self.seats, index, bytes, ends, told),
-            None => Err(Refusal::Unknown),
-        }
+        self.came_by(number, bytes, ends, true, told)
+    }
+
+    /// The same for a caller that wants no tokens: of what comes it is told the outcome, and whose it
+    /// is. It takes no memory, and only a number that isn't known is refused.
+    pub fn heard(&mut self, number: u64, bytes: &[u8], ends: bool) -> Result<Came, Refusal>
+        ensures ok { IfOk result (λ came. (r : Reading) × (reading_on number self.old ≡ Some r)
+            × ComesUntold (service_in self.old) (service_in self.new) number
+            (packet_part r bytes.now ends) came.lease came.request
+            (outcome_answer came.request came.outcome)) }
+        ensures reads { IfOk result (λ came. (r : Reading) → reading_on number self.old ≡ Some r
+            → (next : Reading) × (reading_on number self.new ≡ Some next)
+            × Reads came.outcome ends (tokens_in r bytes.now).stop next) }
+        ensures others { KeepsOthers number self.old self.new }
+        ensures clients { OnOk result (KeepsClientsOff number self.old self.new) }
+        ensures refused { IfErr result (λ refusal. (r : Reading)
+            → Refuses (calls.Came number (packet_part r bytes.now ends)) (service_in self.old)
+            refusal) }
+        ensures unknown { IfErr result (λ refusal. refusal ≡ Refusal.Unknown) }
+        ensures err { OnErr result (self.new ≡ self.old) }
+        ensures sizes { KeepsSize self.old self.new }
+        ensures makes { MakesAlike self.old self.new }
+    {
+        let mut nobody = Vec::new(self.alloc);
+        self.came_by(number, bytes, ends, false, &mut nobody)
     }
 }

@@ -5,6 +5,7 @@ ghost use Rattle.tds_service.specs.Line as line;
 ghost use Rattle.tds_service.specs.Refusing.{refusal_in};
 ghost use Rattle.tds_service.specs.Service as calls;
 ghost use Rattle.tds_service.specs.Service.{clean_place, has_number, may_keep, rests};
+ghost use Rattle.tds_service.specs.Beginning.{MakesAlike};
 ghost use Rattle.tds_service.specs.Sizes.{KeepsSize, sizes_in};
 ghost use Rattle.tds_service.specs.Table.{IsAt, Keeps, KeepsBy, KeepsClients, KeepsClientsOff};
 ghost use Rattle.tds_service.specs.Table.{KeepsOthers, Refuses, Steps, client_of};
@@ -176,6 +177,7 @@ impl Service {
         ensures keeps_all { OnErr result (Keeps self.old self.new) }
         ensures clients { KeepsClients lease self.old self.new }
         ensures sizes { KeepsSize self.old self.new }
+        ensures makes { MakesAlike self.old self.new }
     {
         match find(&self.seats, Wanted::Lease(lease)) {
             Some(index) => match give_back_at(&mut self.seats, index, out) {
@@ -201,6 +203,7 @@ impl Service {
         ensures keeps_all { OnErr result (Keeps self.old self.new) }
         ensures clients { KeepsClients lease self.old self.new }
         ensures sizes { KeepsSize self.old self.new }
+        ensures makes { MakesAlike self.old self.new }
     {
         match find(&self.seats, Wanted::Lease(lease)) {
             Some(index) => match cleaned_at(&mut self.seats, index) {
@@ -223,6 +226,7 @@ impl Service {
         ensures keeps { Keeps self.old self.new }
         ensures clients { KeepsClients lease self.old self.new }
         ensures sizes { KeepsSize self.old self.new }
+        ensures makes { MakesAlike self.old self.new }
     {
         let ticket = self.next_given()?;
         match find(&self.seats, Wanted::Lease(lease)) {
@@ -247,6 +251,7 @@ impl Service {
         ensures keeps_all { OnErr result (Keeps self.old self.new) }
         ensures clients { (l : ℕ) → client_of l self.new ≡ client_of l self.old }
         ensures sizes { KeepsSize self.old self.new }
+        ensures makes { MakesAlike self.old self.new }
     {
         match find(&self.seats, Wanted::Ticket(ticket)) {
             Some(index) => {
@@ -267,6 +272,7 @@ impl Service {
         ensures keeps { KeepsOthers number self.old self.new }
         ensures clients { KeepsClientsOff number self.old self.new }
         ensures sizes { KeepsSize self.old self.new }
+        ensures makes { MakesAlike self.old self.new }
     {
         match find(&self.seats, Wanted::Number(number)) {
             Some(index) => {

@@ -5,6 +5,7 @@ ghost use Rattle.tds_service.specs.declared.seat.Seat.{Seat as CodeSeat};
 ghost use Rattle.tds_service.specs.Line as line;
 ghost use Rattle.tds_service.specs.Service as calls;
 ghost use Rattle.tds_service.specs.Service.{has_number, is_lendable, opens};
+ghost use Rattle.tds_service.specs.Beginning.{BeginsAt, MakesAlike};
 ghost use Rattle.tds_service.specs.Sizes.{KeepsSize, sizes_in};
 ghost use Rattle.tds_service.specs.Table.{Keeps, KeepsClients, Opened, Refuses, RefusesIn};
 ghost use Rattle.tds_service.specs.Table.{Steps, reading_by, seat_in, service_in};
@@ -108,7 +109,9 @@ impl Service {
         ensures err { OnErr result (service_in self.new ≡ service_in self.old) }
         ensures keeps { Keeps self.old self.new }
         ensures clients { KeepsClients lease self.old self.new }
+        ensures begins { IfOk result (λ lent. BeginsAt lent.number self.old self.new) }
         ensures sizes { KeepsSize self.old self.new }
+        ensures makes { MakesAlike self.old self.new }
     {
         if self.seats.len() >= self.max {
             return Err(Refusal::AllInUse);
@@ -149,7 +152,10 @@ impl Service {
         ensures err { OnErr result (service_in self.new ≡ service_in self.old) }
         ensures keeps { Keeps self.old self.new }
         ensures clients { KeepsClients (self.old.given + 1) self.old self.new }
+        ensures begins { IfOk result (λ lent. lent.had ≡ false
+            → BeginsAt lent.number self.old self.new) }
         ensures sizes { KeepsSize self.old self.new }
+        ensures makes { MakesAlike self.old self.new }
     {
         let lease = self.next_given()?;
         match find(&self.seats, Wanted::Lendable) {
@@ -178,6 +184,7 @@ impl Service {
         ensures keeps { Keeps self.old self.new }
         ensures clients { KeepsClients (self.old.given + 1) self.old self.new }
         ensures sizes { KeepsSize self.old self.new }
+        ensures makes { MakesAlike self.old self.new }
     {
         let lease = self.next_given()?;
         match find(&self.seats, Wanted::Ticket(ticket)) {
@@ -205,6 +212,7 @@ impl Service {
         ensures keeps { Keeps self.old self.new }
         ensures clients { KeepsClients (self.old.given + 1) self.old self.new }
         ensures sizes { KeepsSize self.old self.new }
+        ensures makes { MakesAlike self.old self.new }
     {
         let lease = self.next_given()?;
         match find(&self.seats, Wanted::Number(number)) {

@@ -23,6 +23,8 @@ impl Service {
         ensures given { most ≤ 4096 → IsSome result }
         ensures value { IfSome result (λ service. service_in service ≡ new_service max) }
         ensures sized { IfSome result (AllSized size) }
+        ensures told { IfSome result (λ service. (service.most ≡ most)
+            × (service.features ≡ features)) }
     {
         if most > 4096 {
             return None;

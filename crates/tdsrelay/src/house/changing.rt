@@ -28,7 +28,7 @@ impl<W: Write + Drop> House<W> {
             }
         }
         for socket in held.iter() {
-            self.report(*socket, false)?;
+            self.read_on(*socket)?;
         }
         if !is_paused {
             self.forget_deserted(key);

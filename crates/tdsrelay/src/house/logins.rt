@@ -4,6 +4,7 @@ use crate::counts::raise;
 use crate::features::leave_out_features;
 use crate::gate::Passed;
 use crate::group::{Group, Pair, Stage, put_saved};
+use crate::link::News;
 use crate::login7::{Kind, kind_of, who_of};
 use crate::socket::{Role, Whose};
 use std::io::{self, Write};
@@ -214,7 +215,7 @@ impl<W: Write + Drop> House<W> {
         put_error(alloc, &mut socket.out, REFUSED, why.as_bytes())?;
         socket.role = Role::Closing;
         self.let_go(whose)?;
-        self.report(key, false)
+        self.report(key, News::Turn)
     }
 
     /// It is closed behind what waits for it.

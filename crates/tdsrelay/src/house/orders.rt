@@ -2,6 +2,7 @@
 use super::{House, relay_of};
 use crate::counts::{raise, sum};
 use crate::group::Group;
+use crate::link::News;
 use crate::socket::{Gone, Socket, Whose};
 use slab::Slab;
 use std::io::{self, Write};
@@ -26,7 +27,7 @@ impl<W: Write + Drop> House<W> {
                     Order::Write(key) => {
                         self.note_answer(key);
                         if !self.send(key)? {
-                            self.report(key, true)?;
+                            self.report(key, News::End)?;
                         }
                     }
                     Order::Close(key) => self.close(key)?,
@@ -114,9 +115,7 @@ impl<W: Write + Drop> House<W> {
             return Ok(None);
         };
         if let Whose::Application(group, application) = gone.whose {
-            if let Some(relay) = relay_of(&mut self.groups, group) {
-                relay.left(application)?;
-            }
+            self.leave(group, application)?;
         }
         Ok(Some(gone.whose))
     }
@@ -165,10 +164,22 @@ impl<W: Write + Drop> House<W> {
 
     /// An application of a group has ended.
     fn has_left<R: Net>(&mut self, rt: &R, group: usize, application: usize) -> io::Result<()> {
-        if let Some(relay) = relay_of(&mut self.groups, group) {
-            relay.left(application)?;
-        }
+        self.leave(group, application)?;
         self.obey(rt, group)
+    }
+
+    /// An application is one of its group no more. The connection that it held is read on: what came there
+    /// may have waited for room of this application, and nothing else makes room for it from now on.
+    pub(super) fn leave(&mut self, group: usize, application: usize) -> io::Result<()> {
+        let Some(relay) = relay_of(&mut self.groups, group) else {
+            return Ok(());
+        };
+        let held = relay.sent(application, 0);
+        relay.left(application)?;
+        match held {
+            Some(connection) => self.read_on(connection),
+            None => Ok(()),
+        }
     }
 
     /// A login's connection has ended.
@@ -228,7 +239,7 @@ impl<W: Write + Drop> House<W> {
         match sent {
             Ok(None) => Ok(true),
             Ok(Some(partner)) => {
-                self.report(partner, false)?;
+                self.read_on(partner)?;
                 Ok(true)
             }
             Err(_) => Ok(false),
@@ -272,7 +283,8 @@ fn send_application(
     let mut partner = None;
     for _ in 0..64 {
         let bytes = relay.unsent(key);
-        if bytes.is_empty() {
+        let most = bytes.len();
+        if most == 0 {
             break;
         }
         let count = socket.send(bytes, time, findings)?;
@@ -280,6 +292,10 @@ fn send_application(
             break;
         }
         partner = relay.sent(key, count);
+        if count < most {
+            // The system has no room for more, and reports it once it has.
+            break;
+        }
     }
     Ok(partner)
 }
@@ -295,7 +311,8 @@ fn send_on(
     let mut partner = None;
     for _ in 0..64 {
         let bytes = relay.unsent_on(number);
-        if bytes.is_empty() {
+        let most = bytes.len();
+        if most == 0 {
             break;
         }
         let count = socket.send(bytes, time, findings)?;
@@ -303,6 +320,10 @@ fn send_on(
             break;
         }
         partner = relay.sent_on(number, count);
+        if count < most {
+            // The system has no room for more, and reports it once it has.
+            break;
+        }
     }
     Ok(partner)
 }

@@ -70,6 +70,8 @@ impl<W: Write + Drop> House<W> {
             if let Some(why) = self.look_at(*key) {
                 self.end(rt, *key, why)?;
             }
+            // What made room for it may have been said of another one alone.
+            self.read_on(*key)?;
         }
         self.check_all(rt)
     }
@@ -248,8 +250,8 @@ impl<W: Write + Drop> House<W> {
                 put_error(*alloc, &mut socket.out, number, text.as_bytes())?;
             }
             socket.role = Role::Closing;
-            relay.left(application)?;
         }
+        self.leave(group, application)?;
         self.obey(rt, group)?;
         self.let_go(Whose::Application(group, application))?;
         self.dismiss(rt, key)

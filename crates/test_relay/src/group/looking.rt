@@ -42,7 +42,7 @@ impl Group {
     }
 
     /// Who has begun to wait, and who has got a connection: the first one of those who waited, if
-    /// anybody; and nobody waits though there is a connection.
+    /// anybody; nobody waits though there is a connection; and nobody waits for an answer that was lost.
     pub(super) fn look_at_line(&mut self, tally: &mut Tally) {
         let mut first_left = u64::MAX;
         let mut last_lent = 0u64;
@@ -58,6 +58,9 @@ impl Group {
                 last_lent = last_lent.max(if ticket == 0 { u64::MAX } else { ticket });
             }
             application.on = on;
+            if self.relay.unsent(application.key).is_empty() && application.is_unanswered(place) {
+                tally.note(Wrong::Unanswered);
+            }
             if place != Some(Place::Waiting) {
                 application.ticket = 0;
             } else if application.ticket == 0 || application.begun != begun {

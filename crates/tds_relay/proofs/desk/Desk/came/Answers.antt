@@ -4,11 +4,14 @@ use Rattle.tds_wire.specs.Reading.{Reading}
 use Rattle.tds_service.specs.Line as line
 use Rattle.tds_service.specs.Packets.{packet_part}
 use Rattle.tds_service.specs.Table.{reading_on, service_in}
+use Rattle.tds_relay.specs.declared.desk.coming.What.TheVariants as whats
 use Rattle.tds_service.specs.declared.refusal.Refusal.TheVariants as refusals
 use Rattle.tds_service.specs.declared.service.Service as services
 use Rattle.tds_service.specs.Service.{Seat, lease_at}
 use Rattle.tds_relay.specs.Desk.{Comes, NotLent, whose_by}
 use Rattle.tds_relay.specs.Ties.{Turns, desk_in, part_on}
+use Rattle.tds_relay.specs.Fronts.{IsWhat, done_by}
+use Rattle.tds_relay.proofs.Fronts.{is_what, nobodys_what, what_answers}
 use Rattle.tds_relay.proofs.Made.{ok_both, came_settled, came_unknown, unread}
 use Rattle.tds_relay.proofs.desk.Desk.came.Goals as goal
 
@@ -16,33 +19,35 @@ pub returns-in_ok-what-in-Finished-clause-ok : goal.returns-in_ok-what-in-Finish
 returns-in_ok-what-in-Finished-clause-ok c =
     let d = desk_in c.args.self.now in
     let came = c.in-Ok.ensures.ok in
-    let settled = c.in_ok-what-in-Finished.ensures in
-    let answers = rw c.in-Finished.is at came.2.answers in
+    let comes = came.2.1 in
+    let settled = c.in_ok-what-in-Finished.ensures.settles in
+    let answers = rw c.in-Finished.is at comes.answers in
     let P : Option Reading → Type 0 = λ o. Turns (Comes c.args.number (part_on o c.args.bytes.now c.args.ends) settled.0) d (desk_in c.settle.new.self) c.args.out.now.items c.settle.new.out.items in (
       settled.0,
       subst P (sym came.1)
-          (came_settled d (desk_in c.settle.new.self) c.args.number (packet_part came.0 c.args.bytes.now c.args.ends) settled.0 (service_in c.came.new.self) c.in-Ok.came.lease (line.Finished c.in-Ok.came.request)
-          c.args.out.now.items c.settle.new.out.items came.2.steps answers refl came.2.holder settled.1),
+          (came_settled d (desk_in c.settle.new.self) c.args.number (packet_part came.0 c.args.bytes.now c.args.ends) settled.0 (service_in c.heard.new.self) c.in-Ok.came.lease (line.Finished c.in-Ok.came.request)
+          c.args.out.now.items c.settle.new.out.items comes.steps answers refl comes.holder settled.1),
     )
 
 pub returns-in_ok-what-in-Acknowledged-clause-ok : goal.returns-in_ok-what-in-Acknowledged-clause-ok
 returns-in_ok-what-in-Acknowledged-clause-ok c =
     let d = desk_in c.args.self.now in
     let came = c.in-Ok.ensures.ok in
-    let settled = c.in_ok-what-in-Acknowledged.ensures in
-    let answers = rw c.in-Acknowledged.is at came.2.answers in
+    let comes = came.2.1 in
+    let settled = c.in_ok-what-in-Acknowledged.ensures.settles in
+    let answers = rw c.in-Acknowledged.is at comes.answers in
     let P : Option Reading → Type 0 = λ o. Turns (Comes c.args.number (part_on o c.args.bytes.now c.args.ends) settled.0) d (desk_in c.settle-in-Acknowledged.new.self) c.args.out.now.items c.settle-in-Acknowledged.new.out.items in (
       settled.0,
       subst P (sym came.1)
-          (came_settled d (desk_in c.settle-in-Acknowledged.new.self) c.args.number (packet_part came.0 c.args.bytes.now c.args.ends) settled.0 (service_in c.came.new.self) c.in-Ok.came.lease (line.Acked c.in-Ok.came.request)
-          c.args.out.now.items c.settle-in-Acknowledged.new.out.items came.2.steps answers refl came.2.holder settled.1),
+          (came_settled d (desk_in c.settle-in-Acknowledged.new.self) c.args.number (packet_part came.0 c.args.bytes.now c.args.ends) settled.0 (service_in c.heard.new.self) c.in-Ok.came.lease (line.Acked c.in-Ok.came.request)
+          c.args.out.now.items c.settle-in-Acknowledged.new.out.items comes.steps answers refl comes.holder settled.1),
     )
 
 pub returns-in-Err-clause-ok : goal.returns-in-Err-clause-ok
 returns-in-Err-clause-ok c =
     let d = desk_in c.args.self.now in
     let part = part_on (reading_on c.args.number c.args.self.now.service) c.args.bytes.now c.args.ends in
-    let same : c.came.new.self ≡ c.args.self.now.service = search rules in
+    let same : c.heard.new.self ≡ c.args.self.now.service = search rules in
     let P : services.Service → Type 0 = λ s. Turns (Comes c.args.number part NotLent) d (record { service = service_in s; holds = d.holds; line = d.line }) c.args.out.now.items c.args.out.now.items in
     ok_both c.unheard.result (c.in-Err.refusal ≢ refusals.Memory) (λ heard. heard.key ≡ None) _
     (λ never heard nobody. (
@@ -60,3 +65,38 @@ returns-in-Err-clause-whose c =
     let unknown = unread c.args.self.now.service c.args.number c.args.bytes.now c.args.ends c.in-Err.refusal c.in-Err.ensures.refused never in
     nobody ∙ sym (ap (λ (o : Option Seat). whose_by (lease_at o) d.holds) unknown))
     c.unheard.ensures.unknown c.unheard.ensures.nobody
+
+pub returns-in_ok-what-in-Finished-clause-heard : goal.returns-in_ok-what-in-Finished-clause-heard
+returns-in_ok-what-in-Finished-clause-heard c =
+    let d = desk_in c.args.self.now in
+    let came = c.in-Ok.ensures.ok in
+    let answers = rw c.in-Finished.is at came.2.1.answers in
+    let P : Option Reading → Type 0 = λ o. IsWhat c.key_by-key.result c.in_ok-what-in-Finished.what (done_by d c.args.number (part_on o c.args.bytes.now c.args.ends)) in
+    subst P (sym came.1)
+    (is_what c.key_by-key.result whats.Finished c.in_ok-what-in-Finished.what (done_by d c.args.number (packet_part came.0 c.args.bytes.now c.args.ends)) (λ key its. c.in_ok-what-in-Finished.ensures.what key (sym c.key_by-key.ensures ∙ its))
+    (what_answers (line.Finished c.in-Ok.came.request) (done_by d c.args.number (packet_part came.0 c.args.bytes.now c.args.ends)) answers))
+
+pub returns-in_ok-what-in-Acknowledged-clause-heard : goal.returns-in_ok-what-in-Acknowledged-clause-heard
+returns-in_ok-what-in-Acknowledged-clause-heard c =
+    let d = desk_in c.args.self.now in
+    let came = c.in-Ok.ensures.ok in
+    let answers = rw c.in-Acknowledged.is at came.2.1.answers in
+    let P : Option Reading → Type 0 = λ o. IsWhat c.key_by-key.result c.in_ok-what-in-Acknowledged.what (done_by d c.args.number (part_on o c.args.bytes.now c.args.ends)) in
+    subst P (sym came.1)
+    (is_what c.key_by-key.result whats.Acknowledged c.in_ok-what-in-Acknowledged.what (done_by d c.args.number (packet_part came.0 c.args.bytes.now c.args.ends)) (λ key its. c.in_ok-what-in-Acknowledged.ensures.what key (sym c.key_by-key.ensures ∙ its))
+    (what_answers (line.Acked c.in-Ok.came.request) (done_by d c.args.number (packet_part came.0 c.args.bytes.now c.args.ends)) answers))
+
+pub returns-in_ok-lose-in-Fault-clause-heard : goal.returns-in_ok-lose-in-Fault-clause-heard
+returns-in_ok-lose-in-Fault-clause-heard c =
+    let d = desk_in c.args.self.now in
+    let came = c.in-Ok.ensures.ok in
+    let answers = rw c.in-Fault.is at came.2.1.answers in
+    let P : Option Reading → Type 0 = λ o. IsWhat c.key_by-key.result whats.Closed (done_by d c.args.number (part_on o c.args.bytes.now c.args.ends)) in
+    subst P (sym came.1)
+    (is_what c.key_by-key.result whats.Closed whats.Closed (done_by d c.args.number (packet_part came.0 c.args.bytes.now c.args.ends)) (λ key its. refl)
+    (what_answers (line.Fault _) (done_by d c.args.number (packet_part came.0 c.args.bytes.now c.args.ends)) answers))
+
+pub returns-in-Err-clause-heard : goal.returns-in-Err-clause-heard
+returns-in-Err-clause-heard c =
+    ok_both c.unheard.result (c.in-Err.refusal ≢ refusals.Memory) (λ heard. heard.key ≡ None) _
+    (λ never heard nobody. nobodys_what heard.key heard.what _ nobody) c.unheard.ensures.unknown c.unheard.ensures.nobody

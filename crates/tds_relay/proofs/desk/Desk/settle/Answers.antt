@@ -7,8 +7,8 @@ use Rattle.tds_relay.specs.Ties.{desk_in}
 use Rattle.tds_relay.proofs.Made.{settles_by}
 use Rattle.tds_relay.proofs.desk.Desk.settle.Goals as goal
 
-pub returns-in_ok-is_there-in-None-find_lease : goal.returns-in_ok-is_there-in-None-find_lease
-returns-in_ok-is_there-in-None-find_lease c =
+pub returns-in_ok-is_there-in-None-find_lease-clause-settles : goal.returns-in_ok-is_there-in-None-find_lease-clause-settles
+returns-in_ok-is_there-in-None-find_lease-clause-settles c =
     let d = desk_in c.args.self.now in
     let lease = c.in-Some.lease in
     let found : find_lease lease d.holds ≡ None = search rules in

@@ -1,12 +1,22 @@
-use Rattle.std.proofs.Common.{Bool, subst, sym}
+use Rattle.std.proofs.Common.{refl, subst, sym}
+use Rattle.tds_relay.specs.declared.link.News.{News}
 use Rattle.tds_relay.specs.Dealing.{IsBy, Without}
 use Rattle.tds_relay.proofs.relay.coming.hand_on.Goals as goal
 
-pub returns-then-cuts-clause-passes : goal.returns-then-cuts-clause-passes
-returns-then-cuts-clause-passes c =
-    let made = c.in_ok-cuts.ensures in
+pub returns-then-branch-clause-passes : goal.returns-then-branch-clause-passes
+returns-then-branch-clause-passes c =
+    let made = c.in_ok-put_without_news-in-IsCut.ensures in
     record {
       manner = Without made.0;
-      by = subst (λ (b : Bool). IsBy b c.args.answer.now c.args.packet.header c.args.packet.«data».now (Without made.0)) (sym c.if-cuts.true) made.1;
+      by = subst (λ (n : News). IsBy n c.args.answer.now c.args.packet.header c.args.packet.«data».now (Without made.0)) (sym c.in-IsCut.is) (made.0, refl, made.1);
+      is = made.2;
+    }
+
+pub returns-else-branch-clause-passes : goal.returns-else-branch-clause-passes
+returns-else-branch-clause-passes c =
+    let made = c.in_ok-put_without_news-in-IsCut.ensures in
+    record {
+      manner = Without made.0;
+      by = subst (λ (n : News). IsBy n c.args.answer.now c.args.packet.header c.args.packet.«data».now (Without made.0)) (sym c.in-IsCut.is) (made.0, refl, made.1);
       is = made.2;
     }

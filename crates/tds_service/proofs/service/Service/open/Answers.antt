@@ -1,4 +1,5 @@
-use Rattle.std.proofs.Common.{◌≡◌, ◌∙◌, ◌+◌, ◌<◌, ℕ, List, [], ◌∷◌, ◌++◌, length, suc, refl, sym, ap, subst, arith, rules}
+use Rattle.std.proofs.Common.{◌≡◌, ◌∙◌, ◌+◌, ◌<◌, ◌==◌, ℕ, true, List, [], ◌∷◌, ◌++◌, length, suc, refl, sym, ap, subst, arith, rules}
+use Rattle.std.proofs.lemmas.Bool.Decides.{nat_tests}
 use Rattle.tds_client.specs.Session.{ClientSession}
 use Rattle.tds_service.specs.declared.seat.Seat as code
 use Rattle.tds_service.specs.declared.place.Place.TheVariants as places
@@ -7,7 +8,7 @@ use Rattle.tds_service.specs.Service.{Service, Seat, Leased, has_lease, has_numb
 use Rattle.tds_service.specs.Table.{client_by, reading_by, seat_in, seats_in}
 use Rattle.tds_service.specs.Ties.{line_in}
 use Rattle.tds_service.proofs.Tables.{length_in, seats_added}
-use Rattle.tds_service.proofs.Keeping.{keeps_added}
+use Rattle.tds_service.proofs.Keeping.{keeps_added, reads_added}
 use Rattle.tds_service.proofs.Holding.{kept_added, other_held}
 use Rattle.tds_service.proofs.Sizing.{keeps_sizes_added}
 use Rattle.tds_service.proofs.service.Service.open.Goals as goal
@@ -56,3 +57,15 @@ returns-clause-sizes c =
     let new : code.Seat = record { number = s.last + 1; place = places.Leased c.args.lease; connection = c.in-Ok.connection } in
     keeps_sizes_added new s _ (c.push_reserved.ensures.items ∙ ap (λ (cs : List code.Seat). cs ++ new ∷ []) c.reserve.ensures.items)
     (ap (λ (x : ClientSession). x.size) c.in-Ok.ensures.client) refl
+
+pub returns-clause-begins : goal.returns-clause-begins
+returns-clause-begins c = λ none.
+    let s = c.args.self.now in
+    let items = s.seats.items in
+    let new : code.Seat = record { number = s.last + 1; place = places.Leased c.args.lease; connection = c.in-Ok.connection } in
+    let same : ((s.last + 1) == (s.last + 1)) ≡ true = grind (arith, nat_tests) in (
+      c.in-Ok.connection.walker,
+      ap (reading_by (has_number (s.last + 1))) (c.push_reserved.ensures.items ∙ ap (λ (cs : List code.Seat). cs ++ new ∷ []) c.reserve.ensures.items)
+          ∙ reads_added (has_number (s.last + 1)) new items none same,
+      c.in-Ok.ensures.begins,
+    )

@@ -1,0 +1,13 @@
+pub mod Lists
+pub mod Sparing
+pub mod Others
+pub mod Own
+pub mod Story
+pub mod Held
+pub mod Renewed
+pub mod Away
+pub mod Told
+pub mod Examples
+pub mod Refused
+pub mod Sitting
+pub mod Seated

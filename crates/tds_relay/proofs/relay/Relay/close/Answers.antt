@@ -1,0 +1,5 @@
+use Rattle.tds_relay.proofs.Staying.{stays_same}
+use Rattle.tds_relay.proofs.relay.Relay.close.Goals as goal
+
+pub returns-in-Some-clause-read : goal.returns-in-Some-clause-read
+returns-in-Some-clause-read c = stays_same c.end.result _ _ _ c.in_ok-close_link.ensures.read c.end.ensures.links

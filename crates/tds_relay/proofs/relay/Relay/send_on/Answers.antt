@@ -1,0 +1,8 @@
+use Rattle.tds_relay.proofs.Staying.{stays_on, stays_same}
+use Rattle.tds_relay.proofs.relay.Relay.send_on.Goals as goal
+
+pub returns-then-fits-clause-read : goal.returns-then-fits-clause-read
+returns-then-fits-clause-read c = stays_same c.order_write_on.result _ _ _ c.append_to.ensures c.order_write_on.ensures.links
+
+pub returns-else-fits-clause-read : goal.returns-else-fits-clause-read
+returns-else-fits-clause-read c = stays_on c.lose.result _ _ _ c.append_to.ensures c.lose.ensures.read

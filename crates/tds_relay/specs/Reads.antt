@@ -1,0 +1,128 @@
+-- What comes on connections: whole packets, one behind the other, and the beginning of one.
+use Rattle.std.specs.Prelude.{◌≡◌, ◌⊎◌, ℕ, suc, ◌==◌, not, Bool, false, List, [], ◌∷◌, ◌++◌, Option, Some, None, filter, option_map, if◌then◌else◌}
+use Rattle.std.specs.List.{AllByRecursion}
+use Rattle.tds_packet.specs.Layout.{header_bytes}
+use Rattle.tds_packet.specs.Reading.{Reading, joined, with_taken}
+use Rattle.tds_packet.specs.Stream.{IsLess, IsOnePacket}
+use Rattle.tds_relay.specs.declared.desk.coming.Heard.{Heard}
+use Rattle.tds_relay.specs.declared.link.Link.{Link}
+use Rattle.tds_relay.specs.Dealing.{Floor, Deal, Does, Hands, Acknowledges, Quits, DealsOn, Due, dealt_all}
+use Rattle.tds_relay.specs.Ties.{Connection}
+
+-- ---- Connections by their numbers
+
+abbrev pub link_at : ℕ → List Link → Option Link
+link_at number [] = None
+link_at number (l ∷ ls) = if l.number == number then Some l else link_at number ls
+
+-- where it is, the first one of these at this place
+abbrev pub place_from : ℕ → ℕ → List Link → Option ℕ
+place_from place number [] = None
+place_from place number (l ∷ ls) = if l.number == number then Some place else place_from (suc place) number ls
+
+abbrev pub place_of : ℕ → List Link → Option ℕ
+place_of number ls = place_from 0 number ls
+
+abbrev pub without_link : ℕ → List Link → List Link
+without_link number ls = filter (λ (l : Link). not (l.number == number)) ls
+
+abbrev pub reader_of : Link → Reading
+reader_of l = l.reader
+
+-- what has come of a packet there
+abbrev pub reader_at : ℕ → List Link → Option Reading
+reader_at number ls = option_map reader_of (link_at number ls)
+
+-- with whether it is open
+abbrev pub Seen : Type 0
+Seen = Reading × Bool
+
+abbrev pub seen_of : Link → Seen
+seen_of l = (l.reader, l.is_open)
+
+abbrev pub seen_at : ℕ → List Link → Option Seen
+seen_at number ls = option_map seen_of (link_at number ls)
+
+-- It is the same, or the connection is there no more.
+abbrev pub StaysAt : {A : Type 0} → Option A → Option A → Type 0
+StaysAt old None = Unit {0}
+StaysAt old (Some new) = old ≡ Some new
+
+-- Wherever it was so on one, it is.
+abbrev pub Stays : List Link → List Link → Type 0
+Stays old new = (number : ℕ) (had : Option Seen) → StaysAt had (seen_at number old) → StaysAt had (seen_at number new)
+
+-- It is the same, or the connection is there no more; or there is one that is yet to be opened.
+abbrev pub OpensAt : Option Seen → Option Seen → Type 0
+OpensAt old None = Unit {0}
+OpensAt old (Some new) = (new.1 ≡ false) ⊎ (old ≡ Some new)
+
+abbrev pub Opens : List Link → List Link → Type 0
+Opens old new = (number : ℕ) → OpensAt (seen_at number old) (seen_at number new)
+
+-- ---- Packets that are handed on
+
+-- those that deals hand on, as they came, also those that are withheld
+abbrev pub packets_of : List Deal → List (List ℕ)
+packets_of [] = []
+packets_of (Does event ∷ deals) = packets_of deals
+packets_of (Hands number header content part way manner ∷ deals) = (header_bytes header ++ content) ∷ packets_of deals
+packets_of (Acknowledges key ∷ deals) = packets_of deals
+packets_of (Quits key ∷ deals) = packets_of deals
+
+-- What stands behind them is less than one, and the reader has it; or the connection is lost.
+abbrev pub Holds : Reading → List ℕ → Option Reading → Type 0
+Holds r rest None = Unit {0}
+Holds r rest (Some now) = (now ≡ with_taken r rest) × IsLess r rest
+
+-- What the reader had, and these bytes behind it, are these packets and what stands behind them.
+pub record Reads (r : Reading) (bytes : List ℕ) (packets : List (List ℕ)) (now : Option Reading) : Type 0 where
+  pub rest : List ℕ
+  pub each : AllByRecursion (IsOnePacket r) packets
+  pub are : r.taken ++ bytes ≡ joined packets ++ rest
+  pub holds : Holds r rest now
+
+-- On a connection that isn't there nothing comes. A reader that has less than a packet has so behind each call.
+abbrev pub ReadsBy : Option Reading → List ℕ → List (List ℕ) → Option Reading → Type 0
+ReadsBy None bytes packets now = (packets ≡ []) × (now ≡ None)
+ReadsBy (Some r) bytes packets now = IsLess r r.taken → Reads r bytes packets now
+
+-- ---- In a call
+
+-- These bytes were heard, up to these: deals hand on the packets among them, in order.
+pub record Streams (number : ℕ) (had : Option Reading) (old : Floor) (bytes left : List ℕ) (now : Option Reading) (new : Floor) : Type 0 where
+  pub deals : List Deal
+  pub heard : List ℕ
+  pub due : Due (Connection number) old deals
+  pub are : dealt_all old deals ≡ new
+  pub bytes_are : bytes ≡ heard ++ left
+  pub reads : ReadsBy had heard (packets_of deals) now
+
+-- All of them, or the connection is lost.
+pub record StreamsAll (number : ℕ) (had : Option Reading) (old : Floor) (bytes : List ℕ) (now : Option Reading) (new : Floor) : Type 0 where
+  pub left : List ℕ
+  pub streams : Streams number had old bytes left now new
+  pub all : (left ≡ []) ⊎ (now ≡ None)
+
+-- A header that no packet has loses its connection.
+abbrev pub if_heard : Option Heard → Option Reading → Option Reading
+if_heard None now = None
+if_heard (Some heard) now = now
+
+-- Whatever was heard before, these bytes are heard behind it.
+abbrev pub Continues : ℕ → List ℕ → List ℕ → Option Reading → Option Reading → Floor → Floor → Type 0
+Continues number left rest now next f g =
+    (had : Option Reading) (old : Floor) (bytes : List ℕ) → Streams number had old bytes left now f → Streams number had old bytes rest next g
+
+-- A connection that is open has just this of a packet.
+abbrev pub HasLeft : Option Reading → Option Seen → Type 0
+HasLeft left None = Unit {0}
+HasLeft left (Some new) = (new.1 ≡ false) ⊎ (left ≡ Some new.0)
+
+-- Bytes that come are heard, and then those who wait are served: the connection has what was left of them, or is lost.
+pub record Comes (number : ℕ) (had : Option Reading) (old : Floor) (bytes : List ℕ) (now : Option Seen) (new : Floor) : Type 0 where
+  pub mid : Floor
+  pub left : Option Reading
+  pub streams : StreamsAll number had old bytes left mid
+  pub goes_on : DealsOn mid new
+  pub has : HasLeft left now

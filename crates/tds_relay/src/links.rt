@@ -1,0 +1,67 @@
+//! The connections by their numbers.
+ghost use Rattle.std.specs.Prelude.{◌≡◌, ◌<◌, IfSome, length};
+ghost use Rattle.tds_relay.specs.Reads.{Stays, place_of, without_link};
+
+use crate::NoMemory;
+use crate::link::{Link, News};
+
+/// Where the connection of this number is among these.
+#[tactic(auto, using(crate::proofs::Staying::within_is))]
+pub(crate) fn place_in(links: &[Link], number: u64) -> Option<usize>
+    ensures is { result ≡ place_of number links.now }
+    ensures within { IfSome result (λ place. place < length links.now) }
+{
+    for place in 0..links.len() {
+        if links[place].number == number {
+            return Some(place);
+        }
+    }
+    None
+}
+
+/// Takes the connection of this number out of these.
+pub(crate) fn remove_link(links: &mut Vec<Link>, number: u64)
+    ensures { links.new.items ≡ without_link number links.old.items }
+{
+    links.retain(|link| link.number != number);
+}
+
+/// What is to be sent on a connection waits there. False where more would wait than may.
+#[tactic(auto, using(crate::proofs::Staying::stays_written, crate::proofs::Staying::stays_refl))]
+pub(crate) fn append_to(links: &mut Vec<Link>, number: u64, bytes: &[u8]) -> Result<bool, NoMemory>
+    ensures { Stays links.old.items links.new.items }
+{
+    let Some(place) = place_in(links, number) else {
+        return Ok(true);
+    };
+    let link = &mut links[place];
+    link.out.append(bytes)?;
+    Ok(!link.out.is_full())
+}
+
+/// What comes on a connection is handed on, or not. Answers whether it wasn't.
+#[tactic(auto, using(crate::proofs::Staying::stays_written, crate::proofs::Staying::stays_refl))]
+pub(crate) fn set_muted(links: &mut Vec<Link>, number: u64, is_muted: bool) -> bool
+    ensures { Stays links.old.items links.new.items }
+{
+    let Some(place) = place_in(links, number) else {
+        return false;
+    };
+    let link = &mut links[place];
+    let was_muted = link.is_muted;
+    link.is_muted = is_muted;
+    was_muted
+}
+
+/// The news of a reset is cut out of what comes next on a connection, or not.
+#[tactic(auto, using(crate::proofs::Staying::stays_written, crate::proofs::Staying::stays_refl))]
+pub(crate) fn set_cuts(links: &mut Vec<Link>, number: u64, cuts: bool)
+    ensures { Stays links.old.items links.new.items }
+{
+    let Some(place) = place_in(links, number) else {
+        return;
+    };
+    let link = &mut links[place];
+    link.news = if cuts { News::IsCut } else { News::Comes };
+    link.answer.restart();
+}
