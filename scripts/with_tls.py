@@ -14,6 +14,7 @@ import ctypes
 import glob
 import ipaddress
 import os
+import queue
 import shutil
 import signal
 import socket
@@ -80,7 +81,9 @@ class Pair:
     def __init__(self, path, program, certificate, key, address, words):
         self.path, self.name, self.is_logged = path, os.path.basename(program), "--log" in words
         self.certificate, self.key, self.address = certificate, key, address
-        self.lock, self.something = threading.Lock(), threading.Event()
+        self.lock = threading.Lock()
+        # a queue, not an event: a signal's handler may put while this thread is inside its own wait
+        self.something = queue.SimpleQueue()
         self.asked, self.tls = False, None
         for number in (signal.SIGINT, signal.SIGTERM, signal.SIGHUP):
             signal.signal(number, self.end)
@@ -100,7 +103,7 @@ class Pair:
             for line in child.stderr:
                 tell(line.rstrip("\n"))
             child.wait()
-            self.something.set()
+            self.something.put(True)
         thread = threading.Thread(target=lines)
         thread.start()
         child.told = thread
@@ -133,12 +136,11 @@ class Pair:
 
     def end(self, *_):
         self.asked = True
-        self.something.set()
+        self.something.put(True)
 
     def run(self):
         """Waits until one ends or an end is asked for, ends both, and gives the status."""
-        while not self.something.wait(1):
-            pass
+        self.something.get()
         first = self.tls if self.tls and self.tls.poll() is not None and not self.asked else self.program
         self.program.stdin.close()
         status = self.program.wait()
