@@ -1,4 +1,5 @@
-"""The bulk of bench/relay: answers of 100 MB, direct and through a relay, to a reader of bytes and to drivers."""
+"""The bulk of bench/relay: answers of 100 MB, direct and through a relay, to a reader of bytes and to drivers; of 10 MB
+to drivers that take seconds for these."""
 
 import contextlib
 import os
@@ -18,20 +19,21 @@ from processes import memory, processor
 from wire_readers import READERS
 
 TOTAL = 100_000_000
+SLOW, LESS = ("go-mssqldb", "pymssql"), 10_000_000
 ROWS = (("rows of 7 bytes", 4), ("rows of 1,003 bytes", 1000))
 DONE = b"\xfd" + bytes(12)
 NEWS = bytes.fromhex("e30300120000")
 # What is asked for: a request without that text has an empty answer.
 TEXT = "all rows"
 # The seconds that a client has at most.
-LONGEST = 60
+LONGEST = 120
 
 
-def answer(width):
+def answer(width, total):
     """An answer of rows with a value of so many bytes, in packets of 4,096 bytes, and how many rows it has: a
     COLMETADATA of one BIGVARBINARY, rows, and a DONE in a packet of its own (MS-TDS 2.2.7.4, 2.2.7.19, 2.2.7.6)."""
     row = b"\xd1" + struct.pack("<H", width) + bytes(width)
-    count = TOTAL // len(row)
+    count = total // len(row)
     data = b"\x81" + struct.pack("<HIHBHB", 1, 0, 0, 0xA5, 8000, 0) + row * count
     parts = (packet(4, data[at:at + 4088], 0) for at in range(0, len(data), 4088))
     return b"".join(parts) + packet(4, DONE), count
@@ -55,9 +57,9 @@ def serve(link, stream):
 
 
 @contextlib.contextmanager
-def server(width):
+def server(width, total=TOTAL):
     """A server of such rows, in processes of its own, as Relay takes one; and how many rows it gives."""
-    stream, count = answer(width)
+    stream, count = answer(width, total)
     listener = socket.create_server(("127.0.0.1", 0))
     child = os.fork()
     if child == 0:
@@ -140,25 +142,24 @@ def seconds(made, times, count):
 
 def drivers(program, turns):
     """Prints what drivers get, which read row by row. A row that is lost ends it."""
-    print("| Answers of 100 MB | read by | direct, MB/s | tdsrelay, MB/s | of direct |\n|---|---|---|---|---|")
+    print("| Answers | of MB | read by | direct, MB/s | tdsrelay, MB/s | of direct |\n|---|---|---|---|---|---|")
     left_out = set()
     for what, width in ROWS:
-        with server(width) as (place, count), Relay(program, place, 16) as relay, tempfile.TemporaryDirectory() as room:
-            for name, make in DRIVERS.items():
-                made = []
-                for port in (place.port, relay.port):
-                    folder = tempfile.mkdtemp(dir=room)
-                    made.append(make(folder, port))
+        for name, make in DRIVERS.items():
+            total = LESS if name in SLOW else TOTAL
+            with (server(width, total) as (place, count), Relay(program, place, 16) as relay,
+                  tempfile.TemporaryDirectory() as room):
+                made = [make(tempfile.mkdtemp(dir=room), port) for port in (place.port, relay.port)]
                 if None in made:
                     left_out.add(name)
                     continue
-                direct, rate = rates(made, turns, count)
-                print(f"| {what} | {name} | {direct:.0f} | {rate:.0f} | {rate / direct:.2f} |", flush=True)
+                direct, rate = rates(made, turns, count, total)
+                print(f"| {what} | {total / 1e6:.0f} | {name} | {direct:.1f} | {rate:.1f} | {rate / direct:.2f} |", flush=True)
     for name in sorted(left_out):
         print(f"\n{name} is left out: it isn't installed.")
 
 
-def rates(made, turns, count):
+def rates(made, turns, count, total):
     """MB a second of each of these clients, which take turns: of one answer and of two the fastest, and between
     them the difference, which has no start and no login in it."""
     one, two = [[] for _ in made], [[] for _ in made]
@@ -166,4 +167,4 @@ def rates(made, turns, count):
         for at, it in enumerate(made):
             one[at].append(seconds(it, 0, count))
             two[at].append(seconds(it, 1, count))
-    return [TOTAL / (min(long) - min(short)) / 1e6 for short, long in zip(one, two)]
+    return [total / (min(long) - min(short)) / 1e6 for short, long in zip(one, two)]
