@@ -1,6 +1,6 @@
 //! The walk over an answer's tokens, in memory that is lent to it.
 
-ghost use Rattle.std.specs.Prelude.{◌≡◌, ◌≤◌, ◌<◌, ◌-◌, IfOk, IfErr, IfSome, None, Some, [], true, false, get_or, length, min};
+ghost use Rattle.std.specs.Prelude.{◌≡◌, ◌≤◌, ◌<◌, ◌-◌, IfOk, IfErr, IfSome, None, Some, [], true, false, get_or, length, min, take};
 ghost use Rattle.tds_wire.specs.Told.{added, told_of};
 ghost use Rattle.tds_wire.specs.Memory.{shapes_of, walk_of};
 ghost use Rattle.tds_wire.specs.Reading.{IsReady, behind, found_of, is_between, kept, next_token, refusal_at, restarted, token_with};
@@ -45,6 +45,18 @@ fn last_of(bytes: &[u8]) -> u8
     match bytes.get(bytes.len().saturating_sub(1)) {
         Some(byte) => *byte,
         None => 0,
+    }
+}
+
+/// The first of these bytes, as many as are kept of a token.
+#[inline(always)]
+fn first_of(bytes: &[u8]) -> &[u8]
+    ensures { result.now ≡ take 24 bytes.now }
+{
+    if bytes.len() > 24 {
+        &bytes[..24]
+    } else {
+        bytes
     }
 }
 
@@ -156,6 +168,9 @@ impl LentWalk {
     {
         if !tells(kind) {
             return Told::Other;
+        }
+        if self.head.is_empty() {
+            return told_of(kind, self.start, length, first_of(bytes));
         }
         self.head.keep(bytes);
         told_of(kind, self.start, length, self.head.bytes())
