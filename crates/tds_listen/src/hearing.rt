@@ -52,29 +52,59 @@ pub fn next(client: &mut Client, walker: &mut Walker, piece: &[u8]) -> Result<He
     ensures broken { IfErr result (λ fault. IsBroken fault client.new.stage) }
     ensures leaves { IfErr result (λ fault. client.new ≡ broken_at client.old fault) }
 {
-    let fed = match walker.feed(piece) {
-        Ok(fed) => fed,
+    let mut token = None;
+    match next_to(client, walker, piece, &mut token) {
+        Ok(count) => Ok(Heard { count, token }),
+        Err(fault) => Err(fault),
+    }
+}
+
+/// The same, with the token left in `told`: it is large, and so is written once. Where the answer is a
+/// fault, what `told` has is of no use.
+///
+/// # Errors
+///
+/// As `next`.
+#[inline(always)]
+pub fn next_to(
+    client: &mut Client,
+    walker: &mut Walker,
+    piece: &[u8],
+    told: &mut Option<Token>,
+) -> Result<usize, ListenFault>
+    ensures within { IfOk result (λ count. count ≤ length piece.now) }
+    ensures moves { IfOk result (λ count. 0 < length piece.now → 0 < count) }
+    ensures ready { IfOk result (λ count. count < length piece.now → IsReady walker.new) }
+    ensures exact { MatchResult result
+        (λ count. next_heard client.old walker.old piece.now ≡ Ok (record {
+          told = told.new;
+          session = client.new;
+          reading = walker.new;
+          rest = drop count piece.now;
+        }))
+        (λ fault. next_heard client.old walker.old piece.now ≡ Err fault) }
+    ensures broken { IfErr result (λ fault. IsBroken fault client.new.stage) }
+    ensures leaves { IfErr result (λ fault. client.new ≡ broken_at client.old fault) }
+{
+    let count = match walker.feed_to(piece, told) {
+        Ok(count) => count,
         Err(refusal) => {
             client.lost();
             return Err(ListenFault::Wire(refusal));
         }
     };
-    // A token is large: it is lent to the client, and copied once, into what is answered.
-    let Some(token) = &fed.token else {
-        return Ok(Heard {
-            count: fed.count,
-            token: None,
-        });
+    let Some(token) = told else {
+        return Ok(count);
     };
     let tells = client.may_tell();
     match client.hear_sign(Rules::Any, sign_of(token)) {
         Ok(()) => {}
         Err(fault) => return Err(ListenFault::Client(fault)),
     }
-    Ok(Heard {
-        count: fed.count,
-        token: if tells { fed.token } else { None },
-    })
+    if !tells {
+        *told = None;
+    }
+    Ok(count)
 }
 
 /// The walker passes the whole rows that bytes begin with: how many bytes they have. No client that

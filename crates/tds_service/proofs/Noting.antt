@@ -14,7 +14,6 @@ use Rattle.tds_client.specs.Machine.{signed, signed_in}
 use Rattle.tds_client.specs.Session as session
 use Rattle.tds_client.specs.Session.{ClientSession}
 use Rattle.tds_listen.specs.declared.fault.ListenFault.{ListenFault}
-use Rattle.tds_listen.specs.declared.hearing.Heard.{Heard}
 use Rattle.tds_listen.specs.Faults.{broken_at}
 use Rattle.tds_listen.specs.Hearing.{Move, heard_by, moved_by, next_heard, told_if}
 use Rattle.tds_listen.specs.Signs.{sign_of}
@@ -41,46 +40,46 @@ awaited_in s session.Cancelling c e = refl
 awaited_in s (session.Broken fault) true e = absurd (let u : ⊥ = cc in u)
 awaited_in s (session.Broken fault) false e = absurd (let u : ⊥ = cc in u)
 
-module _ (n : ℕ) (s next : ClientSession) (r reading : Reading) (piece : List ℕ) where
-  abbrev pub Exact : Result Heard ListenFault → Type 0
+module _ (n : ℕ) (s next : ClientSession) (r reading : Reading) (piece : List ℕ) (token : Option Token) where
+  abbrev pub Exact : Result ℕ ListenFault → Type 0
   Exact result =
-      MatchResult result (λ heard. next_heard s r piece ≡ Ok (record { told = heard.token; session = next; reading = reading; rest = drop heard.count piece })) (λ fault. next_heard s r piece ≡ Err fault)
+      MatchResult result (λ count. next_heard s r piece ≡ Ok (record { told = token; session = next; reading = reading; rest = drop count piece })) (λ fault. next_heard s r piece ≡ Err fault)
 
-  pub next_ok : (c : Bool) → stage_of s.stage ≡ awaiting c → (result : Result Heard ListenFault) → Exact result
-      → IfOk result (λ heard. Hears (part_of (next_token r piece)) (line_of n s) (line_of n next) line.More (told (items_of heard.token)))
-  next_ok c e (Ok heard) h = came_ok n s s next r reading piece (drop heard.count piece) heard.token _ (awaited_in s s.stage c e) h refl
+  pub next_ok : (c : Bool) → stage_of s.stage ≡ awaiting c → (result : Result ℕ ListenFault) → Exact result
+      → IfOk result (λ _. Hears (part_of (next_token r piece)) (line_of n s) (line_of n next) line.More (told (items_of token)))
+  next_ok c e (Ok count) h = came_ok n s s next r reading piece (drop count piece) token _ (awaited_in s s.stage c e) h refl
   next_ok c e (Err fault) h = tt
 
-  pub next_fault : (c : Bool) → stage_of s.stage ≡ awaiting c → (result : Result Heard ListenFault) → Exact result → IfErr result (λ fault. next ≡ broken_at s fault)
+  pub next_fault : (c : Bool) → stage_of s.stage ≡ awaiting c → (result : Result ℕ ListenFault) → Exact result → IfErr result (λ fault. next ≡ broken_at s fault)
       → IfErr result (λ fault. Hears (part_of (next_token r piece)) (line_of n s) (line_of n next) (line.Fault fault) [])
-  next_fault c e (Ok heard) h is = tt
+  next_fault c e (Ok count) h is = tt
   next_fault c e (Err fault) h is = came_fault n s s next r piece fault (awaited_in s s.stage c e) h is
 
-  pub next_stands : (result : Result Heard ListenFault) → Exact result → IfOk result (λ heard. Stands (next_token r piece) reading (drop heard.count piece))
-  next_stands (Ok heard) h = stands s next r reading piece (drop heard.count piece) heard.token h
+  pub next_stands : (result : Result ℕ ListenFault) → Exact result → IfOk result (λ count. Stands (next_token r piece) reading (drop count piece))
+  next_stands (Ok count) h = stands s next r reading piece (drop count piece) token h
   next_stands (Err fault) h = tt
 
-  pub next_sized : (result : Result Heard ListenFault) → Exact result → IfErr result (λ fault. next ≡ broken_at s fault) → next.size ≡ s.size
-  next_sized (Ok heard) h is = next_keeps s next r reading piece (drop heard.count piece) heard.token h
+  pub next_sized : (result : Result ℕ ListenFault) → Exact result → IfErr result (λ fault. next ≡ broken_at s fault) → next.size ≡ s.size
+  next_sized (Ok count) h is = next_keeps s next r reading piece (drop count piece) token h
   next_sized (Err fault) h is = ap (λ (x : ClientSession). x.size) is ∙ broken_keeps s fault
 
 -- ---- A row, of which a client that awaits something hears nothing
 
 module _ (n : ℕ) (s : ClientSession) (r after : Reading) (piece : List ℕ) (k : ℕ) (c : Bool) (e : stage_of s.stage ≡ awaiting c) (passed : IsPassed k r after piece) where
-  abbrev row : Heard
-  row = record { count = k; token = told_if (machine.tells s.stage) (row_token k r) }
+  abbrev row : Option Token
+  row = told_if (machine.tells s.stage) (row_token k r)
 
-  row_heard : next_heard s r piece ≡ Ok (record { told = row.token; session = s; reading = after; rest = drop k piece })
+  row_heard : next_heard s r piece ≡ Ok (record { told = row; session = s; reading = after; rest = drop k piece })
   row_heard =
       ap (moved_by s) passed
-      ∙ ap (λ (x : Result ClientSession ClientFault). heard_by x (λ next. Ok (let m : Move = record { told = row.token; session = next; reading = after; rest = drop k piece } in m)))
+      ∙ ap (λ (x : Result ClientSession ClientFault). heard_by x (λ next. Ok (let m : Move = record { told = row; session = next; reading = after; rest = drop k piece } in m)))
       (awaited_in s s.stage c e)
 
   pub row_ok : (tokens : List Token) × Hears (part_of (next_token r piece)) (line_of n s) (line_of n s) line.More tokens
-  row_ok = (told (items_of row.token), next_ok n s s r after piece c e (Ok row) row_heard)
+  row_ok = (told (items_of row), next_ok n s s r after piece row c e (Ok k) row_heard)
 
   pub row_stands : Stands (next_token r piece) after (drop k piece)
-  row_stands = next_stands n s s r after piece (Ok row) row_heard
+  row_stands = next_stands n s s r after piece row (Ok k) row_heard
 
 -- ---- What is noted
 

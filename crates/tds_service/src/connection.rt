@@ -18,7 +18,7 @@ ghost use Rattle.tds_service.specs.Ties.{items_of, putting, taken_answer};
 
 use std::alloc::Global;
 use tds_client::{Cancelled, Client, ClientRefusal, ClientState, MessageKind, Rules, Sign, Taken};
-use tds_listen::{Heard, ListenFault, hear_end, next, sign_of};
+use tds_listen::{Heard, ListenFault, hear_end, next, next_to, sign_of};
 use tds_packet::{PacketSize, Reset};
 use tds_wire::{Features, NoMemory, Token, Walker};
 
@@ -239,25 +239,26 @@ impl Connection {
         }
     }
 
-    /// The same where it is known that an answer or an acknowledgement is awaited. The token may be a change
-    /// of a transaction or the end of a reset: `is_told` says which tokens are told.
+    /// The same where it is known that an answer or an acknowledgement is awaited, with the token left in
+    /// `token`. It may be a change of a transaction or the end of a reset: `is_told` says which tokens are
+    /// told. The answer is how many bytes are done with.
     #[inline(always)]
-    pub(crate) fn hear_next(&mut self, piece: &[u8]) -> Result<Heard, ListenFault>
+    fn hear_next(&mut self, piece: &[u8], token: &mut Option<Token>) -> Result<usize, ListenFault>
         requires awaits { (cancelling : Bool)
             × ((line_in self.old).stage ≡ awaiting cancelling) }
-        ensures ok { IfOk result (λ heard. Hears
+        ensures ok { IfOk result (λ _. Hears
             (part_of (next_token self.old.walker piece.now)) (line_in self.old)
-            (line_in self.new) line.More (told (items_of heard.token))) }
+            (line_in self.new) line.More (told (items_of token.new))) }
         ensures fault { IfErr result (λ fault. Hears
             (part_of (next_token self.old.walker piece.now)) (line_in self.old)
             (line_in self.new) (line.Fault fault) []) }
-        ensures stands { IfOk result (λ heard. Stands (next_token self.old.walker piece.now)
-            self.new.walker (drop heard.count piece.now)) }
-        ensures within { IfOk result (λ heard. heard.count ≤ length piece.now) }
-        ensures moves { IfOk result (λ heard. 0 < length piece.now → 0 < heard.count) }
+        ensures stands { IfOk result (λ count. Stands (next_token self.old.walker piece.now)
+            self.new.walker (drop count piece.now)) }
+        ensures within { IfOk result (λ count. count ≤ length piece.now) }
+        ensures moves { IfOk result (λ count. 0 < length piece.now → 0 < count) }
         ensures size { self.new.client.size ≡ self.old.client.size }
     {
-        next(&mut self.client, &mut self.walker, piece)
+        next_to(&mut self.client, &mut self.walker, piece, token)
     }
 
     /// Passes the row that bytes begin with, where it is whole: how many bytes it has. Else nothing is done,
@@ -283,30 +284,35 @@ impl Connection {
 
     /// As `hear_next`; where the caller doesn't tell, a row that stands whole is passed, and not answered.
     #[inline(always)]
-    pub(crate) fn hear_some(&mut self, piece: &[u8], tells: bool) -> Result<Heard, ListenFault>
+    pub(crate) fn hear_some(
+        &mut self,
+        piece: &[u8],
+        tells: bool,
+        token: &mut Option<Token>,
+    ) -> Result<usize, ListenFault>
         requires awaits { (cancelling : Bool)
             × ((line_in self.old).stage ≡ awaiting cancelling) }
-        ensures ok { IfOk result (λ heard. (tokens : List Token) × Hears
+        ensures ok { IfOk result (λ _. (tokens : List Token) × Hears
             (part_of (next_token self.old.walker piece.now)) (line_in self.old)
             (line_in self.new) line.More tokens
-            × (noted tells (told (items_of heard.token)) ≡ noted tells tokens)) }
+            × (noted tells (told (items_of token.new)) ≡ noted tells tokens)) }
         ensures fault { IfErr result (λ fault. Hears
             (part_of (next_token self.old.walker piece.now)) (line_in self.old)
             (line_in self.new) (line.Fault fault) []) }
-        ensures stands { IfOk result (λ heard. Stands (next_token self.old.walker piece.now)
-            self.new.walker (drop heard.count piece.now)) }
-        ensures within { IfOk result (λ heard. heard.count ≤ length piece.now) }
-        ensures moves { IfOk result (λ heard. 0 < length piece.now → 0 < heard.count) }
+        ensures stands { IfOk result (λ count. Stands (next_token self.old.walker piece.now)
+            self.new.walker (drop count piece.now)) }
+        ensures within { IfOk result (λ count. count ≤ length piece.now) }
+        ensures moves { IfOk result (λ count. 0 < length piece.now → 0 < count) }
         ensures size { self.new.client.size ≡ self.old.client.size }
     {
         if tells {
-            return self.hear_next(piece);
+            return self.hear_next(piece, token);
         }
         let count = self.pass_row(piece);
         if count == 0 {
-            return self.hear_next(piece);
+            return self.hear_next(piece, token);
         }
-        Ok(Heard { count, token: None })
+        Ok(count)
     }
 
     /// Whether an answer or an acknowledgement is awaited. Where none is, whatever comes is a fault, which

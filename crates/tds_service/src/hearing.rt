@@ -57,11 +57,12 @@ fn hear_tokens(
     ensures size { connection.new.client.size ≡ connection.old.client.size }
 {
     let mut done = 0;
+    let mut token = None;
     'tokens: while done < bytes.len() {
-        match connection.hear_some(&bytes[done..], tells) {
-            Ok(heard) => {
-                note(told, tells, &heard.token);
-                done += heard.count;
+        match connection.hear_some(&bytes[done..], tells, &mut token) {
+            Ok(count) => {
+                note(told, tells, &token);
+                done += count;
             }
             Err(fault) => return Err(fault),
         }

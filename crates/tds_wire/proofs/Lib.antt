@@ -6,6 +6,7 @@ mod Heads
 mod Agreed
 mod Walks
 mod WholeRows
+mod WholeTokens
 mod WhatIsDue
 mod FieldsPassed
 mod ValuesPassed

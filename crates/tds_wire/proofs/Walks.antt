@@ -144,7 +144,7 @@ ran_on w v left next bytes d h s =
     ∙ (sym (end_going u (drop (length bytes) bytes) refl) ∙ ap (λ (x : Walk). to_end x (drop (length bytes) bytes)) (sym s)))
 
 -- what a turn of the loop does
-all_left : (piece : List ℕ) (done : ℕ) → take (length piece - done) (drop done piece) ≡ drop done piece
+pub all_left : (piece : List ℕ) (done : ℕ) → take (length piece - done) (drop done piece) ≡ drop done piece
 all_left piece done =
     let l = length-drop done piece in
     take_all (length piece - done) (drop done piece) (omega (arith, l))

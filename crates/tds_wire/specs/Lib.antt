@@ -11,3 +11,4 @@ pub mod Reading
 pub mod Lent
 pub mod Owned
 pub mod Rows
+pub mod Whole

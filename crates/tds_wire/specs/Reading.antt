@@ -84,6 +84,11 @@ abbrev pub found_of : Result Fed Refusal → Reading → List ℕ → Found
 found_of (Ok fed) r piece = found_to fed.token r (drop fed.count piece)
 found_of (Err refusal) r piece = Refuses refusal
 
+-- the same where the token is left elsewhere
+abbrev pub found_with : Result ℕ Refusal → Option Token → Reading → List ℕ → Found
+found_with (Ok count) token r piece = found_to token r (drop count piece)
+found_with (Err refusal) token r piece = Refuses refusal
+
 -- ---- Between two tokens
 
 abbrev pub stands_between : Standing → Bool

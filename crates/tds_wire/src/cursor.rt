@@ -10,8 +10,10 @@ mod columns;
 mod feeding;
 mod labels;
 mod numbers;
+mod parts;
 mod rows;
 mod tokens;
+mod whole;
 
 use crate::due::{At, Due, Field, Inside, Next};
 use crate::fault::WireFault;

@@ -1,9 +1,9 @@
 //! The walk over an answer's tokens, in memory that is lent to it.
 
-ghost use Rattle.std.specs.Prelude.{◌≡◌, ◌≤◌, ◌<◌, ◌-◌, IfOk, IfErr, IfSome, None, Some, [], true, false, get_or, length, min};
+ghost use Rattle.std.specs.Prelude.{◌≡◌, ◌≤◌, ◌<◌, ◌-◌, IfOk, IfErr, IfSome, None, Some, [], true, false, get_or, length, min, take};
 ghost use Rattle.tds_wire.specs.Told.{added, told_of};
 ghost use Rattle.tds_wire.specs.Memory.{shapes_of, walk_of};
-ghost use Rattle.tds_wire.specs.Reading.{IsReady, behind, found_of, is_between, kept, next_token, refusal_at, restarted, token_with};
+ghost use Rattle.tds_wire.specs.Reading.{IsReady, behind, found_of, found_with, is_between, kept, next_token, refusal_at, restarted, token_with};
 ghost use Rattle.tds_wire.specs.Lent.{head_of, reading_of};
 ghost use Rattle.tds_wire.specs.declared.memory.Memory.{Memory as AnyMemory};
 
@@ -45,6 +45,18 @@ fn last_of(bytes: &[u8]) -> u8
     match bytes.get(bytes.len().saturating_sub(1)) {
         Some(byte) => *byte,
         None => 0,
+    }
+}
+
+/// The first of these bytes, as many as are kept of a token.
+#[inline(always)]
+fn first_of(bytes: &[u8]) -> &[u8]
+    ensures { result.now ≡ take 24 bytes.now }
+{
+    if bytes.len() > 24 {
+        &bytes[..24]
+    } else {
+        bytes
     }
 }
 
@@ -94,6 +106,38 @@ impl LentWalk {
             self.new.cursor.features ≡ self.old.cursor.features) }
         ensures refused { IfErr result (λ refusal. self.new.refused ≡ Some refusal) }
     {
+        let mut token = None;
+        match self.feed_to(memory, piece, &mut token) {
+            Ok(count) => Ok(Fed { count, token }),
+            Err(refusal) => Err(refusal),
+        }
+    }
+
+    /// The same, with the token left in `token`: it is large, and so is written once. Where the answer is
+    /// a refusal, `token` stays.
+    #[inline(always)]
+    pub fn feed_to(
+        &mut self,
+        memory: &mut Memory,
+        piece: &[u8],
+        token: &mut Option<Token>,
+    ) -> Result<usize, Refusal>
+        ensures within { IfOk result (λ count. count ≤ length piece.now) }
+        ensures all { IfOk result (λ count. token.new ≡ None → count ≡ length piece.now) }
+        ensures moves { IfOk result (λ count. 0 < length piece.now → 0 < count) }
+        ensures exact { found_with result token.new (reading_of self.new memory.new) piece.now
+            ≡ next_token (reading_of self.old memory.old) piece.now }
+        ensures ready { IfOk result (λ _. IfSome token.new
+            (λ _. IsReady (reading_of self.new memory.new))) }
+        ensures start { IfOk result (λ _. IfSome token.new
+            (λ token. self.new.start ≡ added token.start token.length)) }
+        ensures most { IfOk result (λ _.
+            min 4096 self.new.cursor.most ≡ min 4096 self.old.cursor.most) }
+        ensures features { IfOk result (λ _.
+            self.new.cursor.features ≡ self.old.cursor.features) }
+        ensures refused { IfErr result (λ refusal. self.new.refused ≡ Some refusal) }
+        ensures stays { IfErr result (λ _. token.new ≡ token.old) }
+    {
         if let Some(refusal) = self.refused {
             return Err(refusal);
         }
@@ -101,23 +145,19 @@ impl LentWalk {
         let start = self.start;
         let count = self.pass_row_here(memory, piece);
         if count > 0 {
-            return Ok(Fed {
-                count,
-                token: Some(row_token(start, count)),
-            });
+            *token = Some(row_token(start, count));
+            return Ok(count);
         }
         match self.cursor.feed(memory, piece) {
-            Step::Over(count) => Ok(Fed {
-                count,
-                token: Some(self.end_token(&piece[..count])),
-            }),
+            Step::Over(count) => {
+                *token = Some(self.end_token(&piece[..count]));
+                Ok(count)
+            }
             Step::Within => {
                 self.head.keep(piece);
                 self.passed = added(self.passed, piece.len() as u64);
-                Ok(Fed {
-                    count: piece.len(),
-                    token: None,
-                })
+                *token = None;
+                Ok(piece.len())
             }
             Step::Failed(fault, count) => Err(self.refuse(fault, &piece[..count])),
         }
@@ -156,6 +196,9 @@ impl LentWalk {
     {
         if !tells(kind) {
             return Told::Other;
+        }
+        if self.head.is_empty() {
+            return told_of(kind, self.start, length, first_of(bytes));
         }
         self.head.keep(bytes);
         told_of(kind, self.start, length, self.head.bytes())

@@ -2,7 +2,7 @@
 
 ghost use Rattle.std.specs.Prelude.{◌≡◌, ◌≤◌, ◌<◌, IfOk, IfErr, IfSome, None, Some, [], true, length};
 ghost use Rattle.tds_wire.specs.Told.{added};
-ghost use Rattle.tds_wire.specs.Reading.{IsReady, found_of, is_between, next_token, restarted};
+ghost use Rattle.tds_wire.specs.Reading.{IsReady, found_of, found_with, is_between, next_token, restarted};
 ghost use Rattle.tds_wire.specs.Rows.{IsPassed};
 
 use crate::NoMemory;
@@ -10,6 +10,7 @@ use crate::fault::Refusal;
 use crate::features::Features;
 use crate::lent::{Fed, LentWalk};
 use crate::memory::Memory;
+use crate::told::Token;
 use std::alloc::Global;
 use std::marker::Model;
 
@@ -71,6 +72,26 @@ impl Walker {
         ensures refused { IfErr result (λ refusal. self.new.refused ≡ Some refusal) }
     {
         self.walk.feed(&mut self.memory, piece)
+    }
+
+    /// The same, with the token left in `token`: it is large, and so is written once. Where the answer is
+    /// a refusal, `token` stays.
+    #[inline(always)]
+    pub fn feed_to(&mut self, piece: &[u8], token: &mut Option<Token>) -> Result<usize, Refusal>
+        ensures within { IfOk result (λ count. count ≤ length piece.now) }
+        ensures all { IfOk result (λ count. token.new ≡ None → count ≡ length piece.now) }
+        ensures moves { IfOk result (λ count. 0 < length piece.now → 0 < count) }
+        ensures exact { found_with result token.new self.new piece.now
+            ≡ next_token self.old piece.now }
+        ensures ready { IfOk result (λ _. IfSome token.new (λ _. IsReady self.new)) }
+        ensures start { IfOk result (λ _. IfSome token.new
+            (λ token. self.new.start ≡ added token.start token.length)) }
+        ensures most { IfOk result (λ _. self.new.walk.most ≡ self.old.walk.most) }
+        ensures features { IfOk result (λ _. self.new.walk.features ≡ self.old.walk.features) }
+        ensures refused { IfErr result (λ refusal. self.new.refused ≡ Some refusal) }
+        ensures stays { IfErr result (λ _. token.new ≡ token.old) }
+    {
+        self.walk.feed_to(&mut self.memory, piece, token)
     }
 
     /// Passes the row that bytes begin with, where it is whole: how many bytes it has. Else nothing is

@@ -110,10 +110,19 @@ impl Cursor {
             onward (walk_of self.old memory.old) piece.now }
     {
         if self.pass_middle(memory, piece) {
-            Step::Within
-        } else {
-            self.feed_on(memory, piece)
+            return Step::Within;
         }
+        // Bytes one by one can't have what is looked for.
+        if piece.len() > 1 {
+            if self.pass_border_here(memory, piece) {
+                return Step::Within;
+            }
+            let whole = self.pass_whole_here(memory, piece);
+            if whole > 0 {
+                return Step::Over(whole);
+            }
+        }
+        self.feed_on(memory, piece)
     }
 
     /// The same of any piece, a run of bytes or a byte at a time.

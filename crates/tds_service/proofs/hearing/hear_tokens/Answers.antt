@@ -12,7 +12,7 @@ pub note-requires : goal.note-requires
 note-requires c =
     let s = c.tokens.invariant.some in
     noted_fits s.0 (line_in c.args.connection.now) (line_in c.tokens.connection) (line_in c.hear_some.new.self) c.args.connection.now.walker c.tokens.connection.walker c.args.bytes.now [] s.1
-    c.tokens.done c.tokens-test.true s.2 c.args.tells c.in-Ok.heard.token c.in-Ok.ensures.ok.0 _ _ c.in-Ok.ensures.ok.1 c.in-Ok.ensures.ok.2 c.tokens.told.ok.1 c.tokens.invariant.room
+    c.tokens.done c.tokens-test.true s.2 c.args.tells c.hear_some.new.token c.in-Ok.ensures.ok.0 _ _ c.in-Ok.ensures.ok.1 c.in-Ok.ensures.ok.2 c.tokens.told.ok.1 c.tokens.invariant.room
 
 pub tokens-preserved : goal.tokens-preserved
 tokens-preserved c =
@@ -23,7 +23,7 @@ tokens-preserved c =
     let reading = c.tokens.connection.walker in
     let new = line_in c.hear_some.new.self in
     let done = c.tokens.done in
-    let count = c.in-Ok.heard.count in
+    let count = c.in-Ok.count in
     let found = c.in-Ok.ensures.ok.0 in
     let s = c.tokens.invariant.some in
     let more = c.tokens-test.true in
@@ -36,7 +36,7 @@ tokens-preserved c =
       room = λ t e.
           let fit = c.tokens.invariant.room t e in
           let some_less : count ≤ length bytes - done = omega (arith, within) in
-          let still = noted_still_fits c.args.tells c.in-Ok.heard.token _ _ (length bytes - done) count fit moved some_less in
+          let still = noted_still_fits c.args.tells c.hear_some.new.token _ _ (length bytes - done) count fit moved some_less in
           let len = c.note.ensures.len in
           let cap = c.note.ensures.capacity in
           omega (arith, still, len, cap, within);

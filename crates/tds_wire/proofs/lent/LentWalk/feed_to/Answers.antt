@@ -8,7 +8,7 @@ use Rattle.tds_wire.specs.Lent.{reading_of}
 use Rattle.tds_wire.specs.Reading.{Reading, Refuses, next_token}
 use Rattle.tds_wire.proofs.Agreed.{keeps_over, keeps_within}
 use Rattle.tds_wire.proofs.Feeding.{feeds_refusal, feeds_over, feeds_inside, feeds_fault, inside_same, sees_same}
-use Rattle.tds_wire.proofs.lent.LentWalk.feed.Goals as goal
+use Rattle.tds_wire.proofs.lent.LentWalk.feed_to.Goals as goal
 
 pub returns-in-Some-clause-exact : goal.returns-in-Some-clause-exact
 returns-in-Some-clause-exact c = feeds_refusal (reading_of c.args.self.now c.args.memory.now) c.args.piece.now c.in-Some.refusal c.in-Some.is

@@ -1,0 +1,7 @@
+use Rattle.std.proofs.Common.{rules, ◌+◌, ◌*◌}
+use Rattle.tds_wire.proofs.WholeTokens.{counted_is}
+use Rattle.tds_wire.proofs.cursor.whole.counted_length.Goals as goal
+
+pub returns-then-count-bytes-clause-token : goal.returns-then-count-bytes-clause-token
+returns-then-count-bytes-clause-token c = λ _.
+    counted_is (c.from.result + 256 * c.from-2.result + 3) c.args.bytes.now (search rules) (search rules) (search rules) (c.is_counted.ensures (search rules))
