@@ -14,8 +14,9 @@ use tds_client::Taken;
 use tds_listen::ListenFault;
 use tds_wire::Token;
 
-/// Notes a token, where there is one that is told and the caller `tells`.
-#[inline(always)]
+/// Notes a token, where there is one that is told and the caller `tells`. It isn't put into its caller: so the
+/// token stays in one place, and isn't taken apart into its fields.
+#[inline(never)]
 fn note(told: &mut Vec<Token>, tells: bool, token: &Option<Token>)
     requires { vec_len told.old + length (noted tells (parts.told (items_of token.now)))
         ≤ vec_capacity told.old }

@@ -109,18 +109,34 @@ impl Cursor {
         ensures exact { went_of result (walk_of self.new memory.new) piece.now ≡
             onward (walk_of self.old memory.old) piece.now }
     {
+        if piece.len() > 1 {
+            return self.feed_many(memory, piece);
+        }
+        if self.pass_middle(memory, piece) {
+            Step::Within
+        } else {
+            self.feed_on(memory, piece)
+        }
+    }
+
+    /// The same of a piece of more than one byte: alone in it can stand what is passed at once.
+    #[inline(always)]
+    fn feed_many(&mut self, memory: &mut Memory, piece: &[u8]) -> Step
+        ensures within { IsWithin result (length piece.now) }
+        ensures moves { Moves result (length piece.now) }
+        ensures ends { EndsBetween result (walk_of self.new memory.new) }
+        ensures exact { went_of result (walk_of self.new memory.new) piece.now ≡
+            onward (walk_of self.old memory.old) piece.now }
+    {
         if self.pass_middle(memory, piece) {
             return Step::Within;
         }
-        // Bytes one by one can't have what is looked for.
-        if piece.len() > 1 {
-            if self.pass_border_here(memory, piece) {
-                return Step::Within;
-            }
-            let whole = self.pass_whole_here(memory, piece);
-            if whole > 0 {
-                return Step::Over(whole);
-            }
+        if self.pass_border_here(memory, piece) {
+            return Step::Within;
+        }
+        let whole = self.pass_whole_here(memory, piece);
+        if whole > 0 {
+            return Step::Over(whole);
         }
         self.feed_on(memory, piece)
     }
