@@ -1,5 +1,6 @@
 pub mod Anew
 pub mod Astray
+pub mod Away
 pub mod Bringing
 pub mod Calling
 pub mod Caring
@@ -12,9 +13,15 @@ pub mod Given
 pub mod Handed
 pub mod Hearing
 pub mod Holding
+pub mod Kept
 pub mod Lasting
+pub mod Leading
 pub mod Lining
+pub mod Lists
 pub mod Made
+pub mod Others
+pub mod Ours
+pub mod Outs
 pub mod Owning
 pub mod Phases
 pub mod Posting
@@ -22,7 +29,10 @@ pub mod Promised
 pub mod Reaching
 pub mod Renewing
 pub mod Saying
+pub mod Seated
 pub mod Seats
+pub mod Sitting
+pub mod Sparing
 pub mod Staying
 pub mod Streaming
 pub mod Taking

@@ -1,6 +1,6 @@
 //! What a desk promises, over any list of events, and a relay behind any calls. Each function does nothing
 //! when it runs: its contract is the law.
-ghost use Rattle.std.specs.Prelude.{◌≡◌, ◌+◌, ◌<◌, ◌≤◌, ◌++◌, ℕ, List, OnOk, Some, false, vec_len};
+ghost use Rattle.std.specs.Prelude.{◌≡◌, ◌+◌, ◌<◌, ◌≤◌, ◌∷◌, ◌++◌, [], ℕ, List, OnOk, Some, false, vec_len};
 ghost use Rattle.tds_wire.specs.declared.told.Token.{Token};
 ghost use Rattle.tds_service.specs.Line.{Idle};
 ghost use Rattle.tds_service.specs.Service.{Lease, Seat, seat_numbered, step};
@@ -9,6 +9,10 @@ ghost use Rattle.tds_relay.specs.Promises.{CaresFor, Each, IsAmong, IsHandedTo, 
 ghost use Rattle.tds_relay.specs.Promises.{NoneAstray, SaysOnce, TakesOne, comes_to_wait};
 ghost use Rattle.tds_front.specs.Exchanges.{place_after};
 ghost use Rattle.tds_front.specs.Serving.{IsLawful, Ready};
+ghost use Rattle.tds_front.specs.Passing.{EndsWhole, behind, towards};
+ghost use Rattle.tds_front.specs.declared.stage.Stage.TheVariants as stages;
+ghost use Rattle.tds_relay.specs.Behind.{AllAnswerOnce, Stays, events_along, passed};
+ghost use Rattle.tds_relay.specs.Hall.{Ends, Enters, MayMoveAll, Move, moved_all, new_hall};
 ghost use Rattle.tds_relay.specs.Bounds.{waiting_in};
 ghost use Rattle.tds_relay.specs.declared.application.Application.{Application};
 ghost use Rattle.tds_relay.specs.declared.link.Link.{Link};
@@ -171,3 +175,19 @@ pub fn own_bytes_over_calls()
     ensures { (key : ℕ) (f : Floor) (nexts : List Next) (p : Post) → Follow f nexts
         → StaysAlong key nexts → post_at f.posts key ≡ Some p → IsKept key p f nexts }
 {}
+
+/// Behind each application's end, from where it enters and while it stays, is a lawful server's end, over
+/// whichever connections it is lent one after the other: where the server of each connection ends each answer
+/// once at most, also behind an attention. The last of a request goes on there only where its end has come.
+pub fn lawful_behind()
+    ensures { (max key : ℕ) (ends : Ends) (before after : List Move)
+        → MayMoveAll (new_hall max) (before ++ Enters key ends ∷ after) → Stays key after
+        → AllAnswerOnce max (events_along (new_hall max) (before ++ Enters key ends ∷ after))
+        → IsLawful Ready (behind stages.Quiet (passed key
+        (moved_all (new_hall max) (before ++ Enters key ends ∷ [])) after))
+        × EndsWhole stages.Quiet (passed key
+        (moved_all (new_hall max) (before ++ Enters key ends ∷ [])) after) }
+{
+    each_alone::<Token>();
+    line_by_history::<Token>();
+}

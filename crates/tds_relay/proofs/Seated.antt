@@ -16,7 +16,7 @@ use Rattle.tds_relay.proofs.Tidy.{step_rises}
 use Rattle.tds_relay.proofs.Holding.{Rising, found_by_lease, none_above}
 use Rattle.tds_relay.proofs.Caring.{Sound}
 use Rattle.tds_relay.proofs.Bringing.{Brought, brought}
-use Rattle.tds_alone.proofs.Sitting.{Lets, LetsAll, Sits, all_sit, lent_sits, resumed_sits}
+use Rattle.tds_relay.proofs.Sitting.{Lets, LetsAll, Sits, all_sit, lent_sits, resumed_sits}
 
 filtered_by : {X : Type 0} (P Q : X → Type 0) (p : X → Bool) (x : X) (xs : List X) (b : Bool) → p x ≡ b → P x → ((y : X) → P y → p y ≡ true → Q y) → Each Q (filter p xs) → Each Q (if b then x ∷ filter p xs else filter p xs)
 filtered_by P Q p x xs true e h f rest = (f x h e, rest)
