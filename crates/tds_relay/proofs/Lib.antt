@@ -37,3 +37,4 @@ pub mod Staying
 pub mod Streaming
 pub mod Taking
 pub mod Tidy
+pub mod Tying
