@@ -33,6 +33,7 @@ pub mod Seated
 pub mod Seats
 pub mod Sitting
 pub mod Sparing
+pub mod Standing
 pub mod Staying
 pub mod Streaming
 pub mod Taking

@@ -37,11 +37,11 @@ each_above low high (h ∷ hs) r =
     let lt : low < h.lease = r.0 in
     (lt, each_weaker (λ (x : Hold). h.lease < x.lease) (λ (x : Hold). low < x.lease) (λ x more. (let m : h.lease < x.lease = more in omega arith)) hs (each_above h.lease high hs r.1))
 
-both_each : (P Q : Hold → Type 0) (hs : List Hold) → Each P hs → Each Q hs → Each (λ (x : Hold). P x × Q x) hs
+pub both_each : (P Q : Hold → Type 0) (hs : List Hold) → Each P hs → Each Q hs → Each (λ (x : Hold). P x × Q x) hs
 both_each P Q [] h k = tt
 both_each P Q (x ∷ xs) h k = ((h.0, k.0), both_each P Q xs h.1 k.1)
 
-each_found_by : (low high : ℕ) (hs : List Hold) → Rising low high hs → Each (λ (x : Hold). find_lease x.lease hs ≡ Some x) hs
+pub each_found_by : (low high : ℕ) (hs : List Hold) → Rising low high hs → Each (λ (x : Hold). find_lease x.lease hs ≡ Some x) hs
 each_found_by low high [] r = tt
 each_found_by low high (h ∷ hs) r =
     let here : (h.lease == h.lease) ≡ true = eq-eqb h.lease h.lease refl in (
