@@ -35,6 +35,7 @@ pub mod Sitting
 pub mod Sparing
 pub mod Standing
 pub mod Staying
+pub mod Stopping
 pub mod Streaming
 pub mod Taking
 pub mod Tidy

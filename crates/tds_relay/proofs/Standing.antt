@@ -46,7 +46,7 @@ pub record HoldsOne (key : ℕ) (d : Desk) : Type 0 where
 abbrev pub AtDesk : ℕ → Desk → Type 0
 AtDesk key d = HoldsOne key d ⊎ IsAbsent key d
 
-lent_at : (key : ℕ) (d : Desk) → IsLent key d ⊎ IsAbsent key d → AtDesk key d
+pub lent_at : (key : ℕ) (d : Desk) → IsLent key d ⊎ IsAbsent key d → AtDesk key d
 lent_at key d (inl lent) = inl (record { hold = lent.hold; seat = lent.seat; its = lent.its })
 lent_at key d (inr absent) = inr absent
 
