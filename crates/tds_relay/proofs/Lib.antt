@@ -7,6 +7,7 @@ pub mod Caring
 pub mod Changing
 pub mod Cuts
 pub mod Dealt
+pub mod Feeding
 pub mod Fronting
 pub mod Fronts
 pub mod Given
