@@ -20,6 +20,7 @@ pub mod Leading
 pub mod Lining
 pub mod Lists
 pub mod Made
+pub mod Moving
 pub mod Others
 pub mod Ours
 pub mod Outs

@@ -54,7 +54,7 @@ module _ (d : Desk) (key : ℕ) (sound : Sound d) (sit : AllSit d) where
       let there : seat_numbered h.number t.desk.service.seats ≡ Some c = subst (λ (x : Rattle.tds_service.specs.Service.Service). seat_numbered h.number x.seats ≡ Some c) (sym ps.service) r.0 in
       inl (record { hold = h; seat = c; its = record { sole = ps.sole; there = there; lent = k.its.lent; line = ps.line } })
 
-  never_waits : (k : HoldsOne key d) → find_key key d.holds ≡ None → ⊥
+  pub never_waits : (k : HoldsOne key d) → find_key key d.holds ≡ None → ⊥
   never_waits k none =
       let f = found d key k.hold k.seat sound k.its in
       let u : None ≡ Some k.hold = sym none ∙ f in

@@ -1,6 +1,7 @@
 use Rattle.tds_relay.proofs.Ours.{deeds}
 use Rattle.tds_relay.proofs.Kept.{renewed}
 use Rattle.tds_relay.proofs.Away.{away}
+use Rattle.tds_relay.proofs.Moving.{end_behind_is}
 use Rattle.tds_relay.proofs.Feeding.{fed_lawful}
 use Rattle.tds_relay.proofs.Stopping.{hands_on}
 use Rattle.tds_relay.proofs.Standing.{holder_number}
