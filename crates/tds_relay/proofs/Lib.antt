@@ -1,3 +1,4 @@
+pub mod Along
 pub mod Anew
 pub mod Astray
 pub mod Away
@@ -8,6 +9,7 @@ pub mod Changing
 pub mod Cuts
 pub mod Dealt
 pub mod Feeding
+pub mod Folding
 pub mod Fronting
 pub mod Fronts
 pub mod Given

@@ -1,6 +1,6 @@
 -- An application's end and what it holds at the desk, behind each move.
 use Rattle.std.proofs.Common.{◌≡◌, ◌≢◌, ◌∙◌, ◌⊎◌, ◌==◌, ◌≤◌, ◌<◌, ◌||◌, ℕ, Bool, true, false, List, [], ◌∷◌, ◌++◌, length, eqb, refl, sym, ap, subst, inl, inr}
-use Rattle.std.specs.Prelude.{Option, Some, None, Result, Ok, Err, if◌then◌else◌, option_map, slice_set}
+use Rattle.std.specs.Prelude.{Option, Some, None, Result, Ok, Err, filter, not, if◌then◌else◌, option_map, slice_set}
 use Rattle.std.proofs.lemmas.Bool.{cases_lt, eqb-true, eq-eqb}
 use Rattle.std.proofs.lemmas.Bool.Decides.{eqb_tells}
 use Rattle.std.proofs.lemmas.List.{get_or-set_same, get_or-set_other, length-set}
@@ -23,13 +23,13 @@ use Rattle.tds_service.specs.Parts.{Part}
 use Rattle.tds_service.specs.Service.{Service, Seat, Call, seat_numbered, on, steps}
 use Rattle.tds_relay.specs.declared.desk.Hold.{Hold}
 use Rattle.tds_relay.specs.Desk as desk
-use Rattle.tds_relay.specs.Desk.{Deed, Desk, Event, Turn, Way, desk_after, find_key, turn, whose}
+use Rattle.tds_relay.specs.Desk.{Deed, Desk, Event, Turn, Way, desk_after, find_key, moves, turn, whose}
 use Rattle.tds_relay.specs.Behind.{brought, gone_on, if_open, if_same, if_whose, passes, said_in, unless_withdrawn}
 use Rattle.tds_relay.specs.Fronting.{AnswersOnce, calls_along}
 use Rattle.tds_relay.specs.Hall.{End, Open, Over, Ends, Hall, HasEntered, IfOpen, IfWhose, IsAway, IsHere, IsNotPut, IsPut, IsThere, MayDo, MayDoAlone, MayMove, Move, change_end, change_whose, closes, done_by, end_at, end_behind, ends_behind, event_if, events_of, feeds, goes_on, holder, is_in, lets_go, move_stage, moved, sent_by, stops_by, stops_of, told, what_in}
 use Rattle.tds_relay.specs.Hall as hall
 use Rattle.tds_relay.proofs.Caring.{Sound}
-use Rattle.tds_relay.proofs.Lists.{places, theirs, theirs_none, none_theirs, none_filtered, theirs_still}
+use Rattle.tds_relay.proofs.Lists.{Once, comm, places, theirs, theirs_none, none_theirs, none_filtered, theirs_still}
 use Rattle.tds_relay.proofs.Seated.{AllSit}
 use Rattle.tds_relay.proofs.Others.{Its, IsOthers}
 use Rattle.tds_relay.proofs.Ours.{Gone, leaves_gone}
@@ -78,7 +78,7 @@ quit_by ends k key (inr (e, other)) =
     subst (λ (b : Bool). end_at (slice_set ends k None) key ≡ (if b then None else end_at ends key)) (sym e)
     (get_or-set_other ends k key None None (λ same. other (sym same)))
 
-abbrev whose_by : ℕ → Option ℕ → (End → End) → Option End → Option End
+abbrev pub whose_by : ℕ → Option ℕ → (End → End) → Option End → Option End
 whose_by key None by o = o
 whose_by key (Some other) by o = if other == key then option_map by o else o
 
@@ -134,6 +134,23 @@ StepOf outs d key p es (Some (Open front w)) (Some end) = Told outs d key front.
 StepOf outs d key p es (Some Over) None = Gone key d
 StepOf outs d key p es (Some Over) (Some (Open front w)) = ⊥
 StepOf outs d key p es (Some Over) (Some Over) = AtDesk key d
+
+-- who quits neither holds nor waits
+without_by : (key : ℕ) (b : Bool) → (key == key) ≡ b → b ≡ true → (if not b then key ∷ [] else []) ≡ []
+without_by key true e t = refl
+without_by key false e t = absurd (let u : ⊥ = cc in u)
+
+without_none : (key : ℕ) (line : List ℕ) → Once key line → places key (desk.without key line) ≡ []
+without_none key line (inl e) = none_filtered key (λ (x : ℕ). not (x == key)) line e
+without_none key line (inr e) =
+    comm (λ (x : ℕ). x == key) (λ (x : ℕ). not (x == key)) line ∙ ap (λ (xs : List ℕ). filter (λ (x : ℕ). not (x == key)) xs) e ∙ without_by key (key == key) refl (eq-eqb key key refl)
+
+quits_gone : (d : Desk) (key : ℕ) (gives : Bool) (way : Way) → Sound d → AtDesk key d → Gone key (turn d (desk.Leaves key gives way)).desk
+quits_gone d key gives way sound (inl k) = leaves_gone d key k.hold k.seat gives way sound k.its
+quits_gone d key gives way sound (inr x) =
+    let t : turn d (desk.Leaves key gives way) ≡ moves d d.holds (desk.without key d.line) [] = ap (λ (y : Option Hold). desk.leaves d key gives way y) (theirs_none key d.holds x.none) in
+    let gone : Gone key (moves d d.holds (desk.without key d.line) []).desk = record { holds = x.none; waits = without_none key d.line x.once } in
+    subst (λ (y : Turn). Gone key y.desk) (sym t) gone
 
 module _ (d : Desk) (key : ℕ) (outs outs2 : ℕ → Bool) (sound : Sound d) (sit : AllSit d) where
   abbrev Left : Event → Type 0
@@ -337,8 +354,165 @@ module _ (d : Desk) (key : ℕ) (outs outs2 : ℕ → Bool) (sound : Sound d) (s
 
   -- ---- It quits
 
-  none_of : (k : ℕ) (b c : Bool) (ks : List ℕ) → b ≡ c → places k ks ≡ [] → (if (if b then false else true) then (if c then k ∷ [] else []) else []) ≡ []
-  none_of k true true ks e h = refl
-  none_of k true false ks e h = refl
-  none_of k false true ks e h = absurd (let u : ⊥ = cc in u)
-  none_of k false false ks e h = refl
+  quits_step : (gives : Bool) (way : Way) (p : Place) (o : Option End) → StoryOf outs d key p o → Behind (desk.Leaves key gives way) p [] o None
+  quits_step gives way p None s = stays_gone d key s (desk.Leaves key gives way) tt
+  quits_step gives way p (Some (Open front w)) s = quits_gone d key gives way sound (at_desk outs d key front.stage w p s)
+  quits_step gives way p (Some Over) s = quits_gone d key gives way sound s
+
+  quits_if : (k : ℕ) (gives : Bool) (way : Way) (b : Bool) (p : Place) (o : Option End) → (k == key) ≡ b → StoryOf outs d key p o → As (λ x. desk.Leaves x gives way) k p [] o (if b then None else o)
+  quits_if k gives way true p o e s = own (λ x. desk.Leaves x gives way) k p [] o None e (λ left. quits_step gives way p o s)
+  quits_if k gives way false p o e s = apart_step (desk.Leaves k gives way) p o s (λ n. e) tt tt
+
+  -- ---- Nothing is done at the desk
+
+  abbrev Still : Type 0
+  Still = (n : ℕ) → outs2 n ≡ outs n
+
+  same_outs : (stage : Stage) (w : Bool) (p : Place) → Still → Standing outs d key stage w p → Standing outs2 d key stage w p
+  same_outs stage w p same (inl k) =
+      inl (record { hold = k.hold; seat = k.seat; its = k.its; tied = subst (λ (x : Bool). tying.Tied stage w p k.seat.line.stage x) (sym (same k.hold.number)) k.tied })
+  same_outs stage w p same (inr k) = inr k
+
+  still_step : (p : Place) (o : Option End) → StoryOf outs d key p o → Still → StepOf outs2 d key p [] o o
+  still_step p None s still = s
+  still_step p (Some (Open front w)) s still = stays_next outs2 d key front.stage w p (same_outs front.stage w p still s)
+  still_step p (Some Over) s still = s
+
+  closes_step : (p : Place) (o : Option End) → StoryOf outs d key p o → StepOf outs2 d key p [] o (option_map closes o)
+  closes_step p None s = s
+  closes_step p (Some (Open front w)) s = at_desk outs d key front.stage w p s
+  closes_step p (Some Over) s = s
+
+  closes_if : (k : ℕ) (b : Bool) (p : Place) (o : Option End) → (k == key) ≡ b → StoryOf outs d key p o → Still → StepOf outs2 d key p [] o (if b then option_map closes o else o)
+  closes_if k true p o e s still = closes_step p o s
+  closes_if k false p o e s still = still_step p o s still
+
+  enters_step : (size : ℕ) (p : Place) (o : Option End) → StoryOf outs d key p o → o ≡ None → StepOf outs2 d key p [] o (Some (Open (new_front size) false))
+  enters_step size p None s e =
+      (inr (record { absent = Rattle.tds_relay.proofs.Away.gone_absent key d s; rests = record { here = tt; its = refl; ready = refl } }), refl)
+  enters_step size p (Some end) s e = absurd (let u : ⊥ = cc in u)
+
+  enters_if : (k : ℕ) (ends old : Ends) (b : Bool) (p : Place) → (k == key) ≡ b → StoryOf outs d key p (end_at old key) → HasEntered k old ends → Still → StepOf outs2 d key p [] (end_at old key) (end_at ends key)
+  enters_if k ends old true p e s entered still =
+      let is = eqb-true k key e in
+      let free : end_at old key ≡ None = subst (λ (x : ℕ). end_at old x ≡ None) is entered.was_free in
+      let begins : end_at ends key ≡ Some (Open (new_front entered.size) false) = subst (λ (x : ℕ). end_at ends x ≡ Some (Open (new_front entered.size) false)) is entered.begins in
+      subst (λ (x : Option End). StepOf outs2 d key p [] (end_at old key) x) (sym begins) (enters_step entered.size p (end_at old key) s free)
+  enters_if k ends old false p e s entered still =
+      let same : end_at ends key ≡ end_at old key = entered.others_stay key (λ is. never k e (sym is)) in
+      subst (λ (x : Option End). StepOf outs2 d key p [] (end_at old key) x) (sym same) (still_step p (end_at old key) s still)
+
+  -- ---- Bytes of an application
+
+  abbrev pub Judges : Type 0
+  Judges = (front : Front) (bytes : List ℕ) → ((fed front bytes).front.stage ≡ stage_fed front.stage (judged front.due bytes) (fed front bytes).brings)
+      × SaysOf front.stage (judged front.due bytes) (fed front bytes).brings
+
+  abbrev FedAt : List ℕ → Option End → Place → Option End → Type 0
+  FedAt bytes end p o = StepOf outs2 (desk_after d (event_if (stops_of bytes end) (desk.Does key desk.Stops))) key p (if_open o (λ front withdrawn. brought front bytes)) o (option_map (feeds bytes) o)
+
+  abbrev FedLeaves : List ℕ → Option End → Type 0
+  FedLeaves bytes end = LeavesIf d key outs outs2 sound sit (stops_of bytes end)
+
+  feeds_step : (bytes : List ℕ) (p : Place) (o : Option End) → StoryOf outs d key p o → Judges → Known d key outs outs2 sound sit → FedLeaves bytes o → FedAt bytes o p o
+  feeds_step bytes p None s judges known leaves = s
+  feeds_step bytes p (Some (Open front w)) s judges known leaves =
+      let j = judges front bytes in
+      fed_next d key outs outs2 sound sit (stops_by (fed front bytes).brings) front.stage (fed front bytes).front w p (judged front.due bytes) (fed front bytes).brings refl j.0 j.1 known leaves s
+  feeds_step bytes p (Some Over) s judges known leaves = s
+
+  append_calls : (xs : List (Call Token)) → xs ++ [] ≡ xs
+  append_calls [] = refl
+  append_calls (x ∷ xs) = ap (λ (ys : List (Call Token)). x ∷ ys) (append_calls xs)
+
+  pub left_of : (event : Event) → ((n : ℕ) → outs2 n ≡ out_after (outs n) (on n (steps d.service (calls_along d (event ∷ []))))) → Left event
+  left_of event leaves n = leaves n ∙ ap (λ (xs : List (Call Token)). out_after (outs n) (on n (steps d.service xs))) (append_calls (turn d event).calls)
+
+  -- of another
+  fed_apart : (k : ℕ) (stops : Bool) (p : Place) (o : Option End) → (k == key) ≡ false → StoryOf outs d key p o
+      → ((n : ℕ) → outs2 n ≡ out_after (outs n) (on n (steps d.service (calls_along d (event_if stops (desk.Does k desk.Stops))))))
+      → StepOf outs2 (desk_after d (event_if stops (desk.Does k desk.Stops))) key p [] o o
+  fed_apart k true p o e s leaves = apart_step (desk.Does k desk.Stops) p o s (λ n. e) tt tt (left_of (desk.Does k desk.Stops) leaves)
+  fed_apart k false p o e s leaves = still_step p o s leaves
+
+  left_if : (stops : Bool) → ((n : ℕ) → outs2 n ≡ out_after (outs n) (on n (steps d.service (calls_along d (event_if stops (desk.Does key desk.Stops)))))) → LeavesIf d key outs outs2 sound sit stops
+  left_if true leaves = left_of (desk.Does key desk.Stops) leaves
+  left_if false leaves = leaves
+
+  feeds_if : (k : ℕ) (bytes : List ℕ) (ends : Ends) (b : Bool) (p : Place) → (k == key) ≡ b → StoryOf outs d key p (end_at ends key) → Judges → Known d key outs outs2 sound sit
+      → ((n : ℕ) → outs2 n ≡ out_after (outs n) (on n (steps d.service (calls_along d (event_if (stops_of bytes (end_at ends k)) (desk.Does k desk.Stops))))))
+      → StepOf outs2 (desk_after d (event_if (stops_of bytes (end_at ends k)) (desk.Does k desk.Stops))) key p (if b then if_open (end_at ends key) (λ front withdrawn. brought front bytes) else [])
+      (end_at ends key) (if b then option_map (feeds bytes) (end_at ends key) else end_at ends key)
+  feeds_if k bytes ends true p e s judges known leaves =
+      let is = eqb-true k key e in
+      let P : ℕ → Type 0 = λ (x : ℕ). ((n : ℕ) → outs2 n ≡ out_after (outs n) (on n (steps d.service (calls_along d (event_if (stops_of bytes (end_at ends x)) (desk.Does x desk.Stops))))))
+      → StepOf outs2 (desk_after d (event_if (stops_of bytes (end_at ends x)) (desk.Does x desk.Stops))) key p (if_open (end_at ends key) (λ front withdrawn. brought front bytes))
+      (end_at ends key) (option_map (feeds bytes) (end_at ends key)) in
+      let here : P key = λ l. feeds_step bytes p (end_at ends key) s judges known (left_if (stops_of bytes (end_at ends key)) l) in
+      let there : P k = subst P (sym is) here in
+      there leaves
+  feeds_if k bytes ends false p e s judges known leaves = fed_apart k (stops_of bytes (end_at ends k)) p (end_at ends key) e s leaves
+
+-- ---- Any move
+
+module _ (h : Hall) (key : ℕ) (outs outs2 : ℕ → Bool) (sound : Sound h.desk) (sit : AllSit h.desk) (judges : Judges h.desk key outs outs2 sound sit) (known : Known h.desk key outs outs2 sound sit) where
+  abbrev d : Desk
+  d = h.desk
+
+  abbrev o : Option End
+  o = end_at h.ends key
+
+  abbrev pub LeavesBy : Move → Type 0
+  LeavesBy move = (n : ℕ) → outs2 n ≡ out_after (outs n) (on n (steps d.service (calls_along d (events_of h move))))
+
+  abbrev pub Steps : Move → Place → Type 0
+  Steps move p = StepOf outs2 (desk_after d (events_of h move)) key p (passes_by key h move o) o (end_by key h move o)
+
+  away_of : (k : ℕ) → IsAway h k → k ≡ key → IsThere o × (find_key key d.holds ≡ None) × (places key d.line ≡ [])
+  away_of k away is = (
+    subst (λ (x : ℕ). IsThere (end_at h.ends x)) is away.there,
+    subst (λ (x : ℕ). find_key x d.holds ≡ None) is away.holds,
+    subst (λ (x : ℕ). places x d.line ≡ []) is (no_place k d.line away.waits),
+  )
+
+  alone_steps : (event : Event) (p : Place) → MayDoAlone h event → StoryOf outs d key p o → LeavesBy (hall.Does event) → Steps (hall.Does event) p
+  alone_steps (desk.Waits k) p may s leaves =
+      waits_if d key outs outs2 sound sit k (k == key) p o refl s (away_of k may) (left_of d key outs outs2 sound sit (desk.Waits k) leaves)
+  alone_steps (desk.Unwaits k) p may s leaves =
+      apart_step d key outs outs2 sound sit (desk.Unwaits k) p o s (λ n. tt) tt tt (left_of d key outs outs2 sound sit (desk.Unwaits k) leaves)
+  alone_steps desk.Serves p may s leaves =
+      apart_step d key outs outs2 sound sit desk.Serves p o s (λ n. tt) tt tt (left_of d key outs outs2 sound sit desk.Serves leaves)
+  alone_steps (desk.Brings gives way) p may s leaves =
+      apart_step d key outs outs2 sound sit (desk.Brings gives way) p o s (λ n. tt) tt tt (left_of d key outs outs2 sound sit (desk.Brings gives way) leaves)
+  alone_steps (desk.Does k deed) p may s leaves =
+      deed_if d key outs outs2 sound sit k deed (k == key) p o refl s (λ is. (may.0, subst (λ (x : ℕ). MayDo deed (end_at h.ends x)) is may.1))
+      (left_of d key outs outs2 sound sit (desk.Does k deed) leaves)
+  alone_steps (desk.Leaves k gives way) p may s leaves = absurd may
+  alone_steps (desk.Renews k resumes) p may s leaves =
+      renews_if d key outs outs2 sound sit k resumes (k == key) p o refl s (left_of d key outs outs2 sound sit (desk.Renews k resumes) leaves)
+  alone_steps (desk.Comes number part way) p may s leaves = absurd may
+  alone_steps (desk.Loses number) p may s leaves = absurd may
+
+  may_replace : (n : ℕ) (who : Option ℕ) → holder d n ≡ who → IfWhose (λ k. IfOpen IsHere (end_at h.ends k)) who → who ≡ Some key → IfOpen IsHere o
+  may_replace n None e may is = absurd (let u : ⊥ = cc in u)
+  may_replace n (Some k) e may is = let same : k ≡ key = cc in subst (λ (x : ℕ). IfOpen IsHere (end_at h.ends x)) same may
+
+  pub step : (move : Move) (p : Place) → MayMove h move → StoryOf outs d key p o → LeavesBy move → Steps move p
+  step (hall.Does event) p may s leaves = alone_steps event p may s leaves
+  step (hall.Sends k deed) p may s leaves =
+      sends_if d key outs outs2 sound sit k deed (k == key) p o refl s may.0 (λ is. subst (λ (x : ℕ). MayDo deed (end_at h.ends x)) is may.1) known
+      (left_of d key outs outs2 sound sit (desk.Does k deed) leaves)
+  step (hall.LetsGo k gives way) p may s leaves =
+      lets_if d key outs outs2 sound sit k gives way (k == key) p o refl s (λ is. subst (λ (x : ℕ). IfOpen IsHere (end_at h.ends x)) is may)
+      (left_of d key outs outs2 sound sit (desk.Leaves k gives way) leaves)
+  step (hall.Loses n) p may s leaves =
+      loses_whose d key outs outs2 sound sit n (holder d n) p o refl s (left_of d key outs outs2 sound sit (desk.Loses n) leaves)
+  step (hall.Replaces n) p may s leaves =
+      replaces_whose d key outs outs2 sound sit n (holder d n) p o refl s (may_replace n (holder d n) refl may) (left_of d key outs outs2 sound sit (desk.Loses n) leaves)
+  step (hall.Comes n part way) p may s leaves =
+      comes_whose d key outs outs2 sound sit n part way (whose d n) p o refl s (left_of d key outs outs2 sound sit (desk.Comes n part way) leaves)
+  step (hall.Feeds k bytes) p may s leaves = feeds_if d key outs outs2 sound sit k bytes h.ends (k == key) p refl s judges known leaves
+  step (hall.Closes k) p may s leaves = closes_if d key outs outs2 sound sit k (k == key) p o refl s leaves
+  step (hall.Enters k ends) p may s leaves = enters_if d key outs outs2 sound sit k ends h.ends (k == key) p refl s may leaves
+  step (hall.Quits k gives way) p may s leaves =
+      quits_if d key outs outs2 sound sit k gives way (k == key) p o refl s (left_of d key outs outs2 sound sit (desk.Leaves k gives way) leaves)

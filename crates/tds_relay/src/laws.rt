@@ -28,6 +28,7 @@ ghost use Rattle.tds_relay.specs.Ties as causes;
 ghost use Rattle.tds_relay.specs.Ties.{Cause, Causes, Connection, Goes, IsReached, Owns};
 
 use crate::{NoMemory, Relay};
+use tds_front::laws::bytes_are_packets;
 use tds_service::table_laws::{each_alone, line_by_history};
 use tds_wire::Token;
 
@@ -190,4 +191,5 @@ pub fn lawful_behind()
 {
     each_alone::<Token>();
     line_by_history::<Token>();
+    bytes_are_packets();
 }
