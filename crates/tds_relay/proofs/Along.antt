@@ -1,28 +1,24 @@
 -- An application's end along moves, from where it enters: behind it is a lawful server's end.
-use Rattle.std.proofs.Common.{◌≡◌, ◌∙◌, ◌==◌, ℕ, Bool, true, false, List, [], ◌∷◌, ◌++◌, refl, sym, ap, subst, inl, inr}
+use Rattle.std.proofs.Common.{◌≡◌, ◌∙◌, ℕ, Bool, false, List, [], ◌∷◌, ◌++◌, refl, sym, ap, subst}
 use Rattle.std.specs.Prelude.{Option, Some, None}
-use Rattle.tds_wire.specs.declared.told.Token.{Token}
 use Rattle.tds_front.specs.declared.front.Front.{Front}
 use Rattle.tds_front.specs.declared.stage.Stage.{Stage}
 use Rattle.tds_front.specs.declared.stage.Stage.TheVariants as stages
 use Rattle.tds_front.specs.Bytes.{fed}
 use Rattle.tds_front.specs.Passing.{Event as Passed, EndsWhole, SaysOf, behind, judged, stage_fed}
 use Rattle.tds_front.specs.Serving.{Place, Ready, IsLawful}
-use Rattle.tds_service.specs.History.{Done}
 use Rattle.tds_service.specs.Service.{Seat, seat_numbered}
 use Rattle.tds_relay.specs.Desk.{Desk, Event, desk_after, new_desk}
 use Rattle.tds_relay.specs.Behind.{AllAnswerOnce, Stays, events_along, passed, passes}
-use Rattle.tds_relay.specs.Fronting.{AnswersOnce, calls_along, done_on}
+use Rattle.tds_relay.specs.Fronting.{AnswersOnce, done_on}
 use Rattle.tds_relay.specs.Hall as hall
 use Rattle.tds_relay.specs.Hall.{End, Open, Over, Ends, Enters, Hall, MayMove, MayMoveAll, Move, end_at, events_of, moved, moved_all, new_hall}
-use Rattle.tds_relay.proofs.Caring.{Sound}
 use Rattle.tds_relay.proofs.Fronting.{out_of}
 use Rattle.tds_relay.proofs.Ours.{Gone}
-use Rattle.tds_relay.proofs.Outs.{once_split, out_after}
+use Rattle.tds_relay.proofs.Outs.{once_split}
 use Rattle.tds_relay.proofs.Leading.{Lawful, lawful_more}
-use Rattle.tds_relay.proofs.Standing.{Next, Standing}
-use Rattle.tds_relay.proofs.Stopping.{Told}
-use Rattle.tds_relay.proofs.Moving.{StepOf, StoryOf, end_behind_is, end_by, passes_by, step}
+use Rattle.tds_relay.proofs.Standing.{Standing}
+use Rattle.tds_relay.proofs.Moving.{StepOf, StoryOf, end_behind_is, passes_by, step}
 use Rattle.tds_relay.proofs.Folding.{Alone, ByHistory, IsAt, append_more, done_at, done_both, done_from, known_at, lawful_by, leaves_at, next_at, outs_of, over_silent, passes_is, sits_at, sound_at, stays_there, step_story}
 
 append_nothing : {X : Type 0} (xs : List X) → xs ++ [] ≡ xs
@@ -30,8 +26,7 @@ append_nothing [] = refl
 append_nothing {X} (x ∷ xs) = ap (λ (ys : List X). x ∷ ys) (append_nothing xs)
 
 module _ (key max : ℕ) (alone : Alone) (by : ByHistory)
-  (judges : (front : Front) (bytes : List ℕ) → ((fed front bytes).front.stage ≡ stage_fed front.stage (judged front.due bytes) (fed front bytes).brings) × SaysOf front.stage (judged front.due bytes) (fed front bytes).brings) where
-
+    (judges : (front : Front) (bytes : List ℕ) → ((fed front bytes).front.stage ≡ stage_fed front.stage (judged front.due bytes) (fed front bytes).brings) × SaysOf front.stage (judged front.due bytes) (fed front bytes).brings) where
   known_of : (events : List Event) (h : Hall) → IsAt max events h → (n : ℕ) (c : Seat) → seat_numbered n h.desk.service.seats ≡ Some c → out_of c.line.stage (outs_of max events n) ≡ outs_of max events n
   known_of events h is n c there = known_at alone by max events n c (ap (λ (d : Desk). seat_numbered n d.service.seats) (sym is) ∙ there)
 

@@ -1,7 +1,6 @@
 -- An application's end behind bytes of its own.
-use Rattle.std.proofs.Common.{◌≡◌, ◌∙◌, ◌⊎◌, ◌||◌, ℕ, Bool, true, false, List, [], ◌∷◌, refl, sym, ap, subst, inl, inr}
-use Rattle.std.specs.Prelude.{Option, Some, None, Result, Ok, Err, if◌then◌else◌}
-use Rattle.tds_wire.specs.declared.told.Token.{Token}
+use Rattle.std.proofs.Common.{◌≡◌, ◌∙◌, ◌||◌, ℕ, Bool, true, false, List, [], ◌∷◌, refl, sym, ap, subst, inl, inr}
+use Rattle.std.specs.Prelude.{Option, Some, None, Result, Ok, Err}
 use Rattle.tds_front.specs.declared.fault.FrontFault.{FrontFault}
 use Rattle.tds_front.specs.declared.front.Fed.{Fed}
 use Rattle.tds_front.specs.declared.front.Front.{Front}
@@ -13,24 +12,21 @@ use Rattle.tds_front.specs.declared.stage.Head.{Head}
 use Rattle.tds_front.specs.declared.stage.Stage.{Stage}
 use Rattle.tds_front.specs.declared.stage.Stage.TheVariants as stages
 use Rattle.tds_front.specs.Exchanges.{place_after}
-use Rattle.tds_front.specs.Passing.{Event as Passed, Packet, Refuses, EndsWhole, IsData, IsSaid, SaysOf, behind, stage_fed, with_told}
+use Rattle.tds_front.specs.Passing.{Event as Passed, Packet, IsData, IsSaid, SaysOf, stage_fed, with_told}
 use Rattle.tds_front.specs.Rules.{taken}
 use Rattle.tds_front.specs.Serving as serving
 use Rattle.tds_front.specs.Serving.{Place, Ready, IsLawful, Happening, behind_brought}
 use Rattle.tds_service.specs.Line as line
 use Rattle.tds_service.specs.Line.{Line}
-use Rattle.tds_service.specs.Service.{Seat}
-use Rattle.tds_relay.specs.declared.desk.Hold.{Hold}
 use Rattle.tds_relay.specs.Desk as desk
 use Rattle.tds_relay.specs.Desk.{Desk, Event, desk_after, turn}
 use Rattle.tds_relay.specs.Behind.{brought_by, refused_by}
-use Rattle.tds_relay.specs.Hall.{End, Open, Over, IsHere, end_behind, event_if, hands_on, stops_by, takes_back}
+use Rattle.tds_relay.specs.Hall.{IsHere, end_behind, event_if, hands_on, stops_by, takes_back}
 use Rattle.tds_relay.proofs.Caring.{Sound}
 use Rattle.tds_relay.proofs.Seated.{AllSit}
-use Rattle.tds_relay.proofs.Leading.{FitsDeed, ForgetsFrom, IsGone, KeepsGone, Lawful, Leads, fits, leads_nothing}
-use Rattle.tds_relay.proofs.Tying as tying
+use Rattle.tds_relay.proofs.Leading.{FitsDeed, ForgetsFrom, IsGone, KeepsGone, Lawful, Leads, fits}
 use Rattle.tds_relay.proofs.Tying.{GoneAt, SendsOut, ReadsOut, Tied, gone_at, here_gone}
-use Rattle.tds_relay.proofs.Standing.{AtDesk, Holds, Lacks, Leaves, Next, Standing, at_desk}
+use Rattle.tds_relay.proofs.Standing.{Leaves, Next, Standing, at_desk}
 use Rattle.tds_relay.proofs.Stopping as stopping
 use Rattle.tds_relay.proofs.Stopping.{Known, Told}
 

@@ -1,13 +1,12 @@
 -- An application's end along moves: from where it enters it is a lawful server's end behind it.
-use Rattle.std.proofs.Common.{◌≡◌, ◌≢◌, ◌∙◌, ◌⊎◌, ◌==◌, ℕ, Bool, true, false, List, [], ◌∷◌, ◌++◌, refl, sym, ap, subst, inl, inr}
+use Rattle.std.proofs.Common.{◌≡◌, ◌≢◌, ◌∙◌, ◌==◌, ℕ, Bool, true, false, List, [], ◌∷◌, ◌++◌, refl, sym, ap, subst}
 use Rattle.std.specs.Prelude.{Option, Some, None, if◌then◌else◌, option_map}
-use Rattle.std.proofs.lemmas.Bool.{eqb-true, eq-eqb}
+use Rattle.std.proofs.lemmas.Bool.{eqb-true}
 use Rattle.tds_wire.specs.declared.told.Token.{Token}
 use Rattle.tds_front.specs.declared.front.Front.{Front}
 use Rattle.tds_front.specs.declared.stage.Stage.{Stage}
-use Rattle.tds_front.specs.declared.stage.Stage.TheVariants as stages
 use Rattle.tds_front.specs.Bytes.{fed}
-use Rattle.tds_front.specs.Passing.{Event as Passed, EndsWhole, SaysOf, behind, judged, stage_fed}
+use Rattle.tds_front.specs.Passing.{Event as Passed, behind, judged}
 use Rattle.tds_front.specs.Rules as rules
 use Rattle.tds_front.specs.Serving.{Place, Ready, IsLawful, behind_brought}
 use Rattle.tds_front.specs.Serving as serving
@@ -17,7 +16,6 @@ use Rattle.tds_service.specs.History.{Done, acts_of, history, line_after}
 use Rattle.tds_service.specs.Parts.{Part}
 use Rattle.tds_service.specs.Service as calls
 use Rattle.tds_service.specs.Service.{Service, Seat, Call, Step, lease_at, new_service, on, on_one, seat_numbered, service_after, step, steps}
-use Rattle.tds_relay.specs.declared.desk.Hold.{Hold}
 use Rattle.tds_relay.specs.Desk as desk
 use Rattle.tds_relay.specs.Desk.{Deed, Desk, Event, Hearing, Turn, Way, desk_after, new_desk, turn, whose}
 use Rattle.tds_relay.specs.Behind.{AllAnswerOnce, Stays, StaysIn, brought, events_along, gone_on, if_open, passed, passes, said_in, unless_withdrawn}
@@ -29,11 +27,9 @@ use Rattle.tds_relay.proofs.Calling.{service_along}
 use Rattle.tds_relay.proofs.Caring.{Sound}
 use Rattle.tds_relay.proofs.Fronting.{out_of}
 use Rattle.tds_relay.proofs.Seated.{AllSit, turn_sits}
-use Rattle.tds_relay.proofs.Ours.{Gone}
 use Rattle.tds_relay.proofs.Outs.{once_split, out_after, out_both, tells_all}
-use Rattle.tds_relay.proofs.Leading.{Lawful, Leads, lawful_more}
-use Rattle.tds_relay.proofs.Tying.{Tied}
-use Rattle.tds_relay.proofs.Standing.{AtDesk, Holds, Next, Sent, Standing, ends_stand, puts_stand}
+use Rattle.tds_relay.proofs.Leading.{Lawful}
+use Rattle.tds_relay.proofs.Standing.{Standing, ends_stand, puts_stand}
 use Rattle.tds_relay.proofs.Stopping.{Known, Told, hears_lawful}
 use Rattle.tds_relay.proofs.Feeding.{fed_lawful}
 use Rattle.tds_relay.proofs.Moving.{Judges, LeavesBy, StepOf, Steps, StoryOf, end_by, end_behind_is, left_of, passes_by, step as moves_step}

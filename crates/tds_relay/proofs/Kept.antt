@@ -1,5 +1,5 @@
 -- An application's connection is lent to it anew, with its transaction: it is idle before, and behind it.
-use Rattle.std.proofs.Common.{◌≡◌, ◌∙◌, ◌⊎◌, ◌==◌, ◌&&◌, ℕ, suc, Bool, true, false, not, List, [], ◌∷◌, ◌++◌, refl, sym, ap, subst, inl, inr}
+use Rattle.std.proofs.Common.{◌≡◌, ◌∙◌, ◌==◌, ◌&&◌, ℕ, suc, Bool, true, false, not, List, [], ◌∷◌, ◌++◌, refl, sym, ap, subst}
 use Rattle.std.specs.Prelude.{Option, Some, None, if◌then◌else◌}
 use Rattle.std.proofs.lemmas.Bool.{eqb-true, eq-eqb}
 use Rattle.tds_packet.specs.declared.status.Reset.TheVariants.{KeepTransaction}
@@ -18,8 +18,8 @@ use Rattle.tds_relay.proofs.Seats.{Distinct, each_found, found_meets, found_othe
 use Rattle.tds_relay.proofs.Tidy.{step_rises}
 use Rattle.tds_relay.proofs.Renewing.{idle_is}
 use Rattle.tds_relay.proofs.Caring.{Sound}
-use Rattle.tds_relay.proofs.Lists.{places, theirs, theirs_left, theirs_one}
-use Rattle.tds_relay.proofs.Others.{Its, found, key_is, number_is}
+use Rattle.tds_relay.proofs.Lists.{theirs, theirs_left, theirs_one}
+use Rattle.tds_relay.proofs.Others.{Its, found, key_is}
 use Rattle.tds_relay.proofs.Ours.{Gone, by_lease, not_same, same_number}
 
 and_first : (a b : Bool) → (a && b) ≡ true → a ≡ true

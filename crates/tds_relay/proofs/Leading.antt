@@ -1,13 +1,11 @@
 -- What passes an application's end, one after the other: where that leads it, and where it leads the place behind it.
 use Rattle.std.proofs.Common.{◌≡◌, ◌∙◌, ℕ, Bool, true, false, List, [], ◌∷◌, ◌++◌, refl, sym, ap, subst}
-use Rattle.std.specs.Prelude.{Result, Ok, Err, Option, Some, None, if◌then◌else◌, ◌==◌, ◌&&◌}
+use Rattle.std.specs.Prelude.{Result, Ok, Err, if◌then◌else◌, ◌==◌, ◌&&◌}
 use Rattle.tds_packet.specs.declared.kind.Kind.{Kind}
 use Rattle.tds_packet.specs.declared.kind.Kind.TheVariants as kinds
 use Rattle.tds_packet.specs.Layout.{bits_of, has_bit, has_both_resets, kind_byte, reset_of}
 use Rattle.tds_front.specs.declared.fault.FrontFault.{FrontFault}
 use Rattle.tds_front.specs.declared.fault.FrontFault.TheVariants as faults
-use Rattle.tds_front.specs.declared.front.Said.{Said}
-use Rattle.tds_front.specs.declared.front.Said.TheVariants as said
 use Rattle.tds_front.specs.declared.stage.Deed.{Deed}
 use Rattle.tds_front.specs.declared.stage.Deed.TheVariants as deeds
 use Rattle.tds_front.specs.declared.stage.Head.{Head}
@@ -15,7 +13,7 @@ use Rattle.tds_front.specs.declared.stage.Move.{Move}
 use Rattle.tds_front.specs.declared.stage.Stage.{Stage}
 use Rattle.tds_front.specs.declared.stage.Stage.TheVariants as stages
 use Rattle.tds_front.specs.Exchanges.{place_after}
-use Rattle.tds_front.specs.Passing.{Event, Packet, Refuses, GoesOn, Says, EndsAt, EndsWhole, IsSaid, behind, stage_behind, with_told}
+use Rattle.tds_front.specs.Passing.{Event, Packet, Refuses, GoesOn, Says, EndsWhole, behind, stage_behind, with_told}
 use Rattle.tds_front.specs.Rules as rules
 use Rattle.tds_front.specs.Rules.{taken}
 use Rattle.tds_front.specs.Serving.{Place, Ready, Executing, Happening, Comes, Goes, Closes, IsLawful, behind_brought, behind_reply}

@@ -1,8 +1,7 @@
 -- What an application's own events do at the desk while it holds a connection, and what comes there.
-use Rattle.std.proofs.Common.{◌≡◌, ◌∙◌, ◌==◌, ◌&&◌, ℕ, suc, Bool, true, false, not, List, [], ◌∷◌, ◌++◌, refl, sym, ap, subst}
-use Rattle.std.specs.Prelude.{Option, Some, None, if◌then◌else◌}
-use Rattle.std.proofs.lemmas.Bool.{eqb-true, eq-eqb}
-use Rattle.tds_packet.specs.declared.status.Reset.TheVariants.{KeepTransaction}
+use Rattle.std.proofs.Common.{◌≡◌, ◌∙◌, ◌==◌, ℕ, Bool, true, false, not, List, [], ◌∷◌, ◌++◌, refl, sym, ap, subst}
+use Rattle.std.specs.Prelude.{Option, Some, None}
+use Rattle.std.proofs.lemmas.Bool.{eq-eqb}
 use Rattle.tds_client.specs.declared.fault.ClientRefusal.{ClientRefusal}
 use Rattle.tds_wire.specs.declared.told.Token.{Token}
 use Rattle.tds_service.specs.Parts.{Part}
@@ -13,18 +12,15 @@ use Rattle.tds_service.specs.Refusing.{packets, refusal_in}
 use Rattle.tds_service.specs.Service as calls
 use Rattle.tds_service.specs.Service.{Service, Step, Call, Place, Leased, Cleaning, Kept, Free, Draining, Seat, find_by, change_by, has_lease, has_number, has_ticket, is_idle, is_open, keeps, may_keep, lease_at, lease_in, seat_numbered, on, on_one, step, steps, acts_unless, does, nothing, drained}
 use Rattle.tds_service.specs.Ties.{sent_in}
-use Rattle.tds_service.proofs.Numbered.{change_here, change_other, is_found}
+use Rattle.tds_service.proofs.Numbered.{change_here}
 use Rattle.tds_relay.specs.declared.desk.Hold.{Hold}
 use Rattle.tds_relay.specs.Desk as desk
 use Rattle.tds_relay.specs.Desk.{Deed, Desk, Event, Hearing, Turn, Way, find_key, find_lease, holding, lent_in, moves, ticket_in, turn, whose, whose_by, key_of, without_lease, without_number}
-use Rattle.tds_relay.specs.Promises.{CaresFor, IsCaredFor}
 use Rattle.tds_relay.specs.Hall.{done_by, sent_by}
-use Rattle.tds_relay.proofs.Seats.{Distinct, each_found, found_meets, found_other}
-use Rattle.tds_relay.proofs.Tidy.{step_rises}
-use Rattle.tds_relay.proofs.Renewing.{idle_is}
+use Rattle.tds_relay.proofs.Seats.{found_other}
 use Rattle.tds_relay.proofs.Caring.{Sound, found_held}
 use Rattle.tds_relay.proofs.Promised.{found_numbered}
-use Rattle.tds_relay.proofs.Lists.{none_filtered, places, theirs, theirs_left, theirs_one}
+use Rattle.tds_relay.proofs.Lists.{none_filtered, places, theirs, theirs_left}
 use Rattle.tds_relay.proofs.Sparing.{none_on}
 use Rattle.tds_relay.proofs.Others.{Its, found, held, key_is, number_is}
 

@@ -1,11 +1,10 @@
 -- Whether a whole request is out on a connection whose answer hasn't ended, by where its line is; and what the line makes of a packet that comes.
-use Rattle.std.proofs.Common.{◌≡◌, ◌∙◌, ℕ, suc, Bool, true, false, List, [], ◌∷◌, ◌++◌, refl, sym, ap, subst}
-use Rattle.std.specs.Prelude.{Result, Ok, Err, if◌then◌else◌}
+use Rattle.std.proofs.Common.{◌≡◌, ℕ, Bool, true, false, List, [], ◌∷◌, ◌++◌, refl}
+use Rattle.std.specs.Prelude.{Result, Ok, Err}
 use Rattle.tds_wire.specs.declared.told.Token.{Token}
 use Rattle.tds_client.specs.declared.heard.Heard.{Heard}
 use Rattle.tds_client.specs.declared.heard.FinalDone.{FinalDone}
 use Rattle.tds_client.specs.declared.heard.FinalDone.TheVariants.{Awaited, Answered, Acknowledged}
-use Rattle.tds_client.specs.Hearing.{with_done}
 use Rattle.tds_listen.specs.declared.fault.ListenFault.{ListenFault}
 use Rattle.tds_listen.specs.declared.fault.ListenFault.TheVariants as listens
 use Rattle.tds_client.specs.declared.fault.ClientFault.TheVariants as faults
@@ -14,7 +13,7 @@ use Rattle.tds_service.specs.Line as line
 use Rattle.tds_service.specs.Line.{Line, Act, Stage, Turn, reads, skips, skips_to_end, turn}
 use Rattle.tds_service.specs.History.{Done, history, line_after}
 use Rattle.tds_service.specs.Promises.{ends_message}
-use Rattle.tds_relay.specs.Fronting.{AnswersOnce, MayEnd, is_left_out, is_out_behind}
+use Rattle.tds_relay.specs.Fronting.{AnswersOnce, is_left_out, is_out_behind}
 use Rattle.tds_relay.proofs.Fronting.{line_at, out_of}
 
 -- ---- Whether one is out, behind what was done

@@ -1,37 +1,36 @@
 -- An application's end and what it holds at the desk, behind each event.
-use Rattle.std.proofs.Common.{◌≡◌, ◌∙◌, ◌⊎◌, ◌==◌, ℕ, Bool, true, false, not, List, [], ◌∷◌, ◌++◌, refl, sym, ap, subst, inl, inr}
+use Rattle.std.proofs.Common.{◌≡◌, ◌∙◌, ◌⊎◌, ◌==◌, ℕ, Bool, true, false, List, [], ◌∷◌, refl, sym, ap, subst, inl, inr}
 use Rattle.std.specs.Prelude.{Option, Some, None, if◌then◌else◌}
 use Rattle.std.proofs.lemmas.Bool.{eqb-true, eq-eqb}
 use Rattle.tds_wire.specs.declared.told.Token.{Token}
-use Rattle.tds_front.specs.declared.front.Front.{Front}
 use Rattle.tds_front.specs.declared.stage.Stage.{Stage}
 use Rattle.tds_front.specs.Passing.{Event as Passed, EndsWhole}
-use Rattle.tds_front.specs.Serving.{Place, Ready}
+use Rattle.tds_front.specs.Serving.{Place}
 use Rattle.tds_service.specs.Line as line
 use Rattle.tds_service.specs.Line.{Act, Line, Packet}
-use Rattle.tds_service.specs.History.{Done, history, line_after}
-use Rattle.tds_service.specs.Parts.{Part, is_end}
+use Rattle.tds_service.specs.History.{history, line_after}
+use Rattle.tds_service.specs.Parts.{Part}
 use Rattle.tds_service.specs.Service.{Leased, Seat, Service, has_number, seat_numbered, on, steps}
 use Rattle.tds_service.specs.Ties.{sent_in}
 use Rattle.tds_relay.specs.declared.desk.Hold.{Hold}
 use Rattle.tds_relay.specs.Desk as desk
 use Rattle.tds_relay.specs.Desk.{Deed, Desk, Event, Hearing, Turn, Way, find_key, find_lease, find_number, key_of, turn, whose}
-use Rattle.tds_relay.specs.Behind.{gone_on, said_by, said_in, unless_withdrawn}
-use Rattle.tds_relay.specs.Hall.{End, Open, Over, IsBegun, IsHere, IsWhole, MayDo, IsPut, done_by, holder, sent_by, told, what_in, what_of}
+use Rattle.tds_relay.specs.Behind.{gone_on}
+use Rattle.tds_relay.specs.Hall.{IsBegun, IsHere, IsWhole, holder, sent_by}
 use Rattle.tds_relay.specs.Promises.{CaresFor, Each, IsCaredFor}
 use Rattle.tds_relay.proofs.Caring.{Sound}
 use Rattle.tds_relay.proofs.Fronting.{out_of}
-use Rattle.tds_relay.proofs.Lists.{Among, among, among_one, places, theirs, theirs_none, none_filtered, theirs_still}
+use Rattle.tds_relay.proofs.Lists.{Among, among, among_one, theirs, theirs_none}
 use Rattle.tds_relay.proofs.Promised.{handed_to_holder}
 use Rattle.tds_relay.proofs.Seated.{AllSit, both_each, each_found_by}
 use Rattle.tds_relay.proofs.Seats.{each_found, found_meets}
 use Rattle.tds_relay.proofs.Sitting.{Sits}
 use Rattle.tds_relay.proofs.Sparing.{remains}
-use Rattle.tds_relay.proofs.Others.{Its, IsOthers, Passes, found, held, key_is, number_is, passes}
-use Rattle.tds_relay.proofs.Ours.{Gone, Ours, acts_done, deeds, deeds_none, hears_right, hears_wrong, came_done, heard_of, leaves_gone, loses_gone, own_whose, with_came, with_line}
+use Rattle.tds_relay.proofs.Others.{Its, IsOthers, Passes, held, key_is, number_is, passes}
+use Rattle.tds_relay.proofs.Ours.{Gone, Ours, acts_done, deeds, deeds_none, leaves_gone, loses_gone, own_whose, with_line}
 use Rattle.tds_relay.proofs.Kept.{IsLent, Renewed, Rests, Lends, Goes, renewed}
 use Rattle.tds_relay.proofs.Away.{IsAbsent, WaitsOnce, away, gone_absent}
-use Rattle.tds_relay.proofs.Outs.{HeardAs, heard_as, out_after}
+use Rattle.tds_relay.proofs.Outs.{out_after}
 use Rattle.tds_relay.proofs.Leading.{Leads, leads_nothing}
 use Rattle.tds_relay.proofs.Tying as tying
 use Rattle.tds_relay.proofs.Tying.{EndTied, SentBy, Tied, asks_tied, ends_tied, heard_tied, idle_tied, puts_tied, ready, rests, stops_tied, went_by}

@@ -1,7 +1,7 @@
 -- An application's end behind a packet that comes on its connection, and behind a stop of what has gone on.
-use Rattle.std.proofs.Common.{◌≡◌, ◌∙◌, ◌⊎◌, ◌==◌, ℕ, Bool, true, false, List, [], ◌∷◌, ◌++◌, refl, sym, ap, subst, inl, inr}
-use Rattle.std.specs.Prelude.{Option, Some, None, if◌then◌else◌}
-use Rattle.std.proofs.lemmas.Bool.{eqb-true, eq-eqb}
+use Rattle.std.proofs.Common.{◌≡◌, ◌∙◌, ◌==◌, ℕ, Bool, true, false, List, [], ◌∷◌, refl, sym, ap, subst, inl, inr}
+use Rattle.std.specs.Prelude.{Some, None}
+use Rattle.std.proofs.lemmas.Bool.{eqb-true}
 use Rattle.tds_wire.specs.declared.told.Token.{Token}
 use Rattle.tds_front.specs.declared.front.Front.{Front}
 use Rattle.tds_front.specs.declared.stage.Stage.{Stage}
@@ -14,26 +14,23 @@ use Rattle.tds_service.specs.Line.{Act, Line, turn as turning}
 use Rattle.tds_service.specs.History.{Done, history, line_after, done_by as done_so}
 use Rattle.tds_service.specs.Parts.{Part, is_end}
 use Rattle.tds_service.specs.Service.{Seat, seat_numbered, on, steps}
-use Rattle.tds_relay.specs.declared.desk.Hold.{Hold}
 use Rattle.tds_relay.specs.Desk as desk
 use Rattle.tds_relay.specs.Desk.{Deed, Desk, Event, Hearing, Turn, Way, find_key, hearing_of, turn, whose}
 use Rattle.tds_relay.specs.Behind.{said_by, said_in, unless_withdrawn}
-use Rattle.tds_relay.specs.Fronting.{AnswersOnce, MayEnd}
-use Rattle.tds_relay.specs.Hall.{End, Open, Over, IsHere, done_by, told, what_in, what_of}
+use Rattle.tds_relay.specs.Fronting.{AnswersOnce}
+use Rattle.tds_relay.specs.Hall.{End, Open, Over, done_by, told, what_in, what_of}
 use Rattle.tds_relay.proofs.Caring.{Sound}
 use Rattle.tds_relay.proofs.Fronting.{out_of}
-use Rattle.tds_relay.proofs.Lists.{places, theirs}
 use Rattle.tds_relay.proofs.Seated.{AllSit}
 use Rattle.tds_relay.proofs.Sparing.{remains}
 use Rattle.tds_relay.proofs.Others.{Its, IsOthers, Passes, found, number_is, passes}
 use Rattle.tds_relay.proofs.Ours.{Gone, Ours, acts_done, came_done, deeds, heard_of, hears_right, hears_wrong, leaves_gone, loses_gone, with_came, with_line}
-use Rattle.tds_relay.proofs.Kept.{IsLent, Renewed, Rests, Lends, Goes, renewed}
-use Rattle.tds_relay.proofs.Away.{IsAbsent, WaitsOnce, away, gone_absent}
+use Rattle.tds_relay.proofs.Kept.{Renewed, Rests, Lends, Goes, renewed}
+use Rattle.tds_relay.proofs.Away.{WaitsOnce, away, gone_absent}
 use Rattle.tds_relay.proofs.Outs.{HeardAs, Breaks, ReadsOn, ReadsEnd, SkipsOn, SkipsEnd, heard_as, out_after, out_by}
-use Rattle.tds_relay.proofs.Leading.{ForgetsFrom, IsGone, Leads}
-use Rattle.tds_relay.proofs.Tying as tying
+use Rattle.tds_relay.proofs.Leading.{ForgetsFrom, IsGone}
 use Rattle.tds_relay.proofs.Tying.{EndTied, GoneAt, SendsOut, ReadsOut, Stopped, Tied, gone_at, heard_lawful, heard_tied, here_gone, stopped_reading, stopped_sending}
-use Rattle.tds_relay.proofs.Standing.{AtDesk, Holds, HoldsOne, Lacks, Leaves, Next, Standing, absent_whose, lent_at, ours_hold, whose_number}
+use Rattle.tds_relay.proofs.Standing.{AtDesk, Holds, HoldsOne, Leaves, Next, Standing, absent_whose, lent_at, ours_hold, whose_number}
 
 -- ---- At the desk alone, behind any event
 

@@ -1,6 +1,6 @@
 -- What passes an application's end, along moves: what comes of the application, what goes on of it to the connection that it holds, and what
 -- is said there (tds_front, Passing).
-use Rattle.std.specs.Prelude.{◌≡◌, ◌≢◌, ℕ, ◌==◌, Bool, true, false, List, [], ◌∷◌, ◌++◌, Option, Some, None, Result, Ok, Err, if◌then◌else◌}
+use Rattle.std.specs.Prelude.{◌≢◌, ℕ, ◌==◌, Bool, true, false, List, [], ◌∷◌, ◌++◌, Option, Some, None, Result, Ok, Err, if◌then◌else◌}
 use Rattle.tds_front.specs.declared.fault.FrontFault.{FrontFault}
 use Rattle.tds_front.specs.declared.front.Fed.{Fed}
 use Rattle.tds_front.specs.declared.front.Front.{Front}
@@ -20,7 +20,7 @@ use Rattle.tds_service.specs.Promises.{ends_message}
 use Rattle.tds_relay.specs.Desk as desk
 use Rattle.tds_relay.specs.Desk.{Desk, Event, whose}
 use Rattle.tds_relay.specs.Fronting.{AnswersOnce, done_on}
-use Rattle.tds_relay.specs.Hall.{End, Open, Over, Hall, Move, Does, Sends, LetsGo, Loses, Replaces, Comes, Feeds, Closes, Enters, Quits, done_by, end_at, events_of, moved, sent_by}
+use Rattle.tds_relay.specs.Hall.{End, Open, Over, Hall, Move, Sends, Comes, Feeds, Enters, Quits, done_by, end_at, events_of, moved, sent_by}
 
 -- ---- What passes it in one move
 
