@@ -9,21 +9,27 @@ use Rattle.tds_front.specs.Passing.{Event as Passed, EndsWhole, SaysOf, behind, 
 use Rattle.tds_front.specs.Serving.{Place, Ready, IsLawful}
 use Rattle.tds_service.specs.Service.{Seat, seat_numbered}
 use Rattle.tds_relay.specs.Desk.{Desk, Event, desk_after, new_desk}
-use Rattle.tds_relay.specs.Behind.{AllAnswerOnce, Stays, events_along, passed, passes}
+use Rattle.tds_relay.specs.Behind.{AllAnswerOnce, IsLedTo, Stay, Stays, done_in, events_along, passed, passed_in, passes}
 use Rattle.tds_relay.specs.Fronting.{AnswersOnce, done_on}
 use Rattle.tds_relay.specs.Hall as hall
-use Rattle.tds_relay.specs.Hall.{End, Open, Over, Ends, Enters, Hall, MayMove, MayMoveAll, Move, end_at, events_of, moved, moved_all, new_hall}
+use Rattle.tds_relay.specs.Hall.{End, Open, Over, Ends, Enters, Hall, MayMove, MayMoveAll, Move, Moves, end_at, events_of, moved, moved_all, new_hall}
+use Rattle.tds_relay.specs.Ties.{Cause}
 use Rattle.tds_relay.proofs.Fronting.{out_of}
 use Rattle.tds_relay.proofs.Ours.{Gone}
 use Rattle.tds_relay.proofs.Outs.{once_split}
 use Rattle.tds_relay.proofs.Leading.{Lawful, lawful_more}
 use Rattle.tds_relay.proofs.Standing.{Standing}
-use Rattle.tds_relay.proofs.Moving.{StepOf, StoryOf, end_behind_is, passes_by, step}
+use Rattle.tds_relay.proofs.Ending.{end_behind_is, passes_by}
+use Rattle.tds_relay.proofs.Moving.{StepOf, StoryOf, step}
 use Rattle.tds_relay.proofs.Folding.{Alone, ByHistory, IsAt, append_more, done_at, done_both, done_from, known_at, lawful_by, leaves_at, next_at, outs_of, over_silent, passes_is, sits_at, sound_at, stays_there, step_story}
 
 append_nothing : {X : Type 0} (xs : List X) → xs ++ [] ≡ xs
 append_nothing [] = refl
 append_nothing {X} (x ∷ xs) = ap (λ (ys : List X). x ∷ ys) (append_nothing xs)
+
+-- each server answers each request once at most
+abbrev Answers : ℕ → List Event → Type 0
+Answers max events = (number : ℕ) → AnswersOnce false (done_on max number events)
 
 module _ (key max : ℕ) (alone : Alone) (by : ByHistory)
     (judges : (front : Front) (bytes : List ℕ) → ((fed front bytes).front.stage ≡ stage_fed front.stage (judged front.due bytes) (fed front bytes).brings) × SaysOf front.stage (judged front.due bytes) (fed front bytes).brings) where
@@ -68,7 +74,7 @@ module _ (key max : ℕ) (alone : Alone) (by : ByHistory)
 
   -- ---- From where it stands
 
-  once_of : (events : List Event) (h : Hall) (move : Move) (more : List Event) → IsAt max events h → AllAnswerOnce max (events ++ (events_of h move ++ more)) → (n : ℕ)
+  once_of : (events : List Event) (h : Hall) (move : Move) (more : List Event) → IsAt max events h → Answers max (events ++ (events_of h move ++ more)) → (n : ℕ)
       → AnswersOnce (outs_of max events n) (done_from n h.desk (events_of h move))
   once_of events h move more is once n =
       let es = events_of h move in
@@ -77,10 +83,10 @@ module _ (key max : ℕ) (alone : Alone) (by : ByHistory)
       let two : AnswersOnce (outs_of max events n) (done_from n h.desk es ++ done_from n (desk_after h.desk es) more) = subst (AnswersOnce (outs_of max events n)) (done_both n h.desk es more) here in
       (once_split (outs_of max events n) (done_from n h.desk es) (done_from n (desk_after h.desk es) more) two).0
 
-  once_next : (events : List Event) (h : Hall) (move : Move) (moves : List Move) → AllAnswerOnce max (events ++ events_along h (move ∷ moves))
-      → AllAnswerOnce max ((events ++ events_of h move) ++ events_along (moved h move) moves)
+  once_next : (events : List Event) (h : Hall) (move : Move) (moves : List Move) → Answers max (events ++ events_along h (move ∷ moves))
+      → Answers max ((events ++ events_of h move) ++ events_along (moved h move) moves)
   once_next events h move moves once =
-      subst (λ (es : List Event). AllAnswerOnce max es) (sym (append_more events (events_of h move) (events_along (moved h move) moves))) once
+      subst (λ (es : List Event). Answers max es) (sym (append_more events (events_of h move) (events_along (moved h move) moves))) once
 
   lawful_next : (events : List Event) (h : Hall) (move : Move) (moves : List Move) (p : Place) (front : Front) (w : Bool) (o2 : Option End)
       → MayMoveAll (moved h move) moves → Stays key moves → Lawful p front.stage (passes key h move) → end_at (moved h move).ends key ≡ o2 → hall.IsThere o2
@@ -99,7 +105,7 @@ module _ (key max : ℕ) (alone : Alone) (by : ByHistory)
 
   -- what one move says
   lawful_one : (events : List Event) (h : Hall) (move : Move) (more : List Event) (p : Place) (front : Front) (w : Bool) → IsAt max events h → end_at h.ends key ≡ Some (Open front w)
-      → Standing (outs_of max events) h.desk key front.stage w p → MayMove h move → AllAnswerOnce max (events ++ (events_of h move ++ more)) → Lawful p front.stage (passes key h move)
+      → Standing (outs_of max events) h.desk key front.stage w p → MayMove h move → Answers max (events ++ (events_of h move ++ more)) → Lawful p front.stage (passes key h move)
   lawful_one events h move more p front w is e s may once =
       let outs = outs_of max events in
       let outs2 = outs_of max (events ++ events_of h move) in
@@ -108,7 +114,7 @@ module _ (key max : ℕ) (alone : Alone) (by : ByHistory)
       subst (λ (es : List Passed). Lawful p front.stage es) (ap (passes_by key h move) (sym e) ∙ passes_is key h move) one
 
   pub lawful_along : (events : List Event) (h : Hall) (moves : List Move) (p : Place) (front : Front) (w : Bool) → IsAt max events h → end_at h.ends key ≡ Some (Open front w)
-      → Standing (outs_of max events) h.desk key front.stage w p → MayMoveAll h moves → Stays key moves → AllAnswerOnce max (events ++ events_along h moves) → Lawful p front.stage (passed key h moves)
+      → Standing (outs_of max events) h.desk key front.stage w p → MayMoveAll h moves → Stays key moves → Answers max (events ++ events_along h moves) → Lawful p front.stage (passed key h moves)
   lawful_along events h [] p front w is e s may stays once = (tt, tt)
   lawful_along events h (move ∷ moves) p front w is e s may stays once =
       let events2 = events ++ events_of h move in
@@ -122,7 +128,7 @@ module _ (key max : ℕ) (alone : Alone) (by : ByHistory)
       subst (λ (es : List Passed). StepOf (outs_of max events2) h2.desk key p es (end_at h.ends key) (end_at h2.ends key)) (passes_is key h move) step1 in
       let step3 : StepOf (outs_of max events2) h2.desk key p (passes key h move) (Some (Open front w)) (end_at h2.ends key) =
       subst (λ (o : Option End). StepOf (outs_of max events2) h2.desk key p (passes key h move) o (end_at h2.ends key)) e step2 in
-      let once2 : AllAnswerOnce max (events2 ++ more) = subst (λ (es : List Event). AllAnswerOnce max es) (sym (append_more events (events_of h move) more)) once in
+      let once2 : Answers max (events2 ++ more) = subst (λ (es : List Event). Answers max es) (sym (append_more events (events_of h move) more)) once in
       lawful_next events h move moves p front w (end_at h2.ends key) may.1 stays.1 (lawful_one events h move more p front w is e s may.0 once) refl there step3
       (λ next v q same standing. lawful_along events2 h2 moves q next v (next_at max events h move is) same standing may.1 stays.1 once2)
 
@@ -154,14 +160,14 @@ module _ (key max : ℕ) (alone : Alone) (by : ByHistory)
   abbrev Result : Hall → List Move → Type 0
   Result h after = IsLawful Ready (behind stages.Quiet (passed key h after)) × EndsWhole stages.Quiet (passed key h after)
 
-  from_entered : (events : List Event) (h : Hall) (after : List Move) → IsAt max events h → Entered events h (end_at h.ends key) → MayMoveAll h after → Stays key after → AllAnswerOnce max (events ++ events_along h after)
+  from_entered : (events : List Event) (h : Hall) (after : List Move) → IsAt max events h → Entered events h (end_at h.ends key) → MayMoveAll h after → Stays key after → Answers max (events ++ events_along h after)
       → Result h after
   from_entered events h after is (front, w, e, quiet, s) may stays once =
       let all : Lawful Ready front.stage (passed key h after) = lawful_along events h after Ready front w is e s may stays once in
       subst (λ (stage : Stage). IsLawful Ready (behind stage (passed key h after)) × EndsWhole stage (passed key h after)) quiet all
 
   pub lawful_entered : (ends : Ends) (before after : List Move) → MayMoveAll (new_hall max) (before ++ Enters key ends ∷ after) → Stays key after
-      → AllAnswerOnce max (events_along (new_hall max) (before ++ Enters key ends ∷ after)) → Result (moved_all (new_hall max) (before ++ Enters key ends ∷ [])) after
+      → Answers max (events_along (new_hall max) (before ++ Enters key ends ∷ after)) → Result (moved_all (new_hall max) (before ++ Enters key ends ∷ [])) after
   lawful_entered ends before after may stays once =
       let h0 = new_hall max in
       let split = may_first h0 before (Enters key ends ∷ after) may in
@@ -174,7 +180,31 @@ module _ (key max : ℕ) (alone : Alone) (by : ByHistory)
       let there : hall.IsThere (end_at ends key) = subst hall.IsThere (sym enters.begins) tt in
       let is : IsAt max (events ++ []) h2 = next_at max events h1 (Enters key ends) at.is in
       let entered : Entered (events ++ []) h2 (end_at ends key) = entered_by (events ++ []) h2 (end_at h1.ends key) (end_at ends key) at.place [] enters.was_free there step1 in
-      let once2 : AllAnswerOnce max ((events ++ []) ++ events_along h2 after) =
-      subst (λ (es : List Event). AllAnswerOnce max es) (events_both h0 before (Enters key ends ∷ after) ∙ sym (append_more events [] (events_along h2 after))) once in
+      let once2 : Answers max ((events ++ []) ++ events_along h2 after) =
+      subst (λ (es : List Event). Answers max es) (events_both h0 before (Enters key ends ∷ after) ∙ sym (append_more events [] (events_along h2 after))) once in
       let result : Result h2 after = from_entered (events ++ []) h2 after is entered split.1.1 stays once2 in
       subst (λ (h : Hall). Result h after) (sym (moved_both h0 before (Enters key ends ∷ []))) result
+
+-- ---- A stay
+
+pub lawful_stay : (max key : ℕ) → Alone → ByHistory
+    → ((front : Front) (bytes : List ℕ) → ((fed front bytes).front.stage ≡ stage_fed front.stage (judged front.due bytes) (fed front bytes).brings) × SaysOf front.stage (judged front.due bytes) (fed front bytes).brings)
+    → (s : Stay max key) → AllAnswerOnce s → IsLawful Ready (behind stages.Quiet (passed_in s)) × EndsWhole stages.Quiet (passed_in s)
+lawful_stay max key alone by judges s once = lawful_entered key max alone by judges s.ends s.before s.since s.may s.stays once
+
+-- ---- Moves, one behind the other
+
+moved_more : (h : Hall) (xs ys : List Move) → moved_all h (xs ++ ys) ≡ moved_all (moved_all h xs) ys
+moved_more h [] ys = refl
+moved_more h (x ∷ xs) ys = moved_more (moved h x) xs ys
+
+may_more : (h : Hall) (xs ys : List Move) → MayMoveAll h xs → MayMoveAll (moved_all h xs) ys → MayMoveAll h (xs ++ ys)
+may_more h [] ys m n = n
+may_more h (x ∷ xs) ys m n = (m.0, may_more (moved h x) xs ys m.1 n)
+
+pub led_on : (max : ℕ) (by : Cause) (old new : Hall) → Moves by old new → IsLedTo max old → IsLedTo max new
+led_on max by old new m (moves, are, may) = (
+  moves ++ m.moves,
+  moved_more (new_hall max) moves m.moves ∙ ap (λ (h : Hall). moved_all h m.moves) are ∙ m.are,
+  may_more (new_hall max) moves m.moves may (subst (λ (h : Hall). MayMoveAll h m.moves) (sym are) m.may),
+)

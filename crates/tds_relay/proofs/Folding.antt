@@ -32,7 +32,8 @@ use Rattle.tds_relay.proofs.Leading.{Lawful}
 use Rattle.tds_relay.proofs.Standing.{Standing, ends_stand, puts_stand}
 use Rattle.tds_relay.proofs.Stopping.{Known, Told, hears_lawful}
 use Rattle.tds_relay.proofs.Feeding.{fed_lawful}
-use Rattle.tds_relay.proofs.Moving.{Judges, LeavesBy, StepOf, Steps, StoryOf, end_by, end_behind_is, left_of, passes_by, step as moves_step}
+use Rattle.tds_relay.proofs.Ending.{whose_by, end_by, end_behind_is, passes_by}
+use Rattle.tds_relay.proofs.Moving.{Judges, LeavesBy, StepOf, Steps, StoryOf, left_of, step as moves_step}
 
 -- ---- Events and calls, one behind the other
 
@@ -194,7 +195,7 @@ if_over : (b : Bool) (by : End → End) → by Over ≡ Over → (if b then opti
 if_over true by e = ap (λ (x : End). Some x) e
 if_over false by e = refl
 
-whose_over : (key : ℕ) (who : Option ℕ) (by : End → End) → by Over ≡ Over → Rattle.tds_relay.proofs.Moving.whose_by key who by (Some Over) ≡ Some Over
+whose_over : (key : ℕ) (who : Option ℕ) (by : End → End) → by Over ≡ Over → whose_by key who by (Some Over) ≡ Some Over
 whose_over key None by e = refl
 whose_over key (Some k) by e = if_over (k == key) by e
 
@@ -211,12 +212,12 @@ stays_over key h (hall.Sends k deed) may stays e =
     ap (λ (o : Option End). if k == key then option_map (goes_on (sent_by h.desk (desk.Does k deed))) o else o) e ∙ if_over (k == key) (goes_on (sent_by h.desk (desk.Does k deed))) (goes_over (sent_by h.desk (desk.Does k deed)))
 stays_over key h (hall.LetsGo k gives way) may stays e = ap (λ (o : Option End). if k == key then option_map lets_go o else o) e ∙ if_over (k == key) lets_go refl
 stays_over key h (hall.Loses n) may stays e =
-    ap (λ (o : Option End). Rattle.tds_relay.proofs.Moving.whose_by key (holder h.desk n) closes o) e ∙ whose_over key (holder h.desk n) closes refl
+    ap (λ (o : Option End). whose_by key (holder h.desk n) closes o) e ∙ whose_over key (holder h.desk n) closes refl
 stays_over key h (hall.Replaces n) may stays e =
-    ap (λ (o : Option End). Rattle.tds_relay.proofs.Moving.whose_by key (holder h.desk n) lets_go o) e ∙ whose_over key (holder h.desk n) lets_go refl
+    ap (λ (o : Option End). whose_by key (holder h.desk n) lets_go o) e ∙ whose_over key (holder h.desk n) lets_go refl
 stays_over key h (hall.Comes n part way) may stays e =
     let by : End → End = told (what_in (done_by h.desk n part)) in
-    ap (λ (o : Option End). Rattle.tds_relay.proofs.Moving.whose_by key (whose h.desk n) by o) e ∙ whose_over key (whose h.desk n) by (told_over (what_in (done_by h.desk n part)))
+    ap (λ (o : Option End). whose_by key (whose h.desk n) by o) e ∙ whose_over key (whose h.desk n) by (told_over (what_in (done_by h.desk n part)))
 stays_over key h (hall.Feeds k bytes) may stays e = ap (λ (o : Option End). if k == key then option_map (feeds bytes) o else o) e ∙ if_over (k == key) (feeds bytes) refl
 stays_over key h (hall.Closes k) may stays e = ap (λ (o : Option End). if k == key then option_map closes o else o) e ∙ if_over (k == key) closes refl
 stays_over key h (hall.Enters k ends) may stays e = entered_same key k h ends may stays ∙ e
@@ -238,7 +239,7 @@ if_there true by None i = i
 if_there true by (Some end) i = tt
 if_there false by o i = i
 
-whose_there : (key : ℕ) (who : Option ℕ) (by : End → End) (o : Option End) → Is o → Is (Rattle.tds_relay.proofs.Moving.whose_by key who by o)
+whose_there : (key : ℕ) (who : Option ℕ) (by : End → End) (o : Option End) → Is o → Is (whose_by key who by o)
 whose_there key None by o i = i
 whose_there key (Some k) by o i = if_there (k == key) by o i
 

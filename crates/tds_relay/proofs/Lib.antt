@@ -8,6 +8,7 @@ pub mod Caring
 pub mod Changing
 pub mod Cuts
 pub mod Dealt
+pub mod Ending
 pub mod Feeding
 pub mod Folding
 pub mod Fronting
@@ -42,5 +43,6 @@ pub mod Staying
 pub mod Stopping
 pub mod Streaming
 pub mod Taking
+pub mod Telling
 pub mod Tidy
 pub mod Tying

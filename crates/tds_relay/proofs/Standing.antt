@@ -33,7 +33,8 @@ use Rattle.tds_relay.proofs.Away.{IsAbsent, WaitsOnce, away, gone_absent}
 use Rattle.tds_relay.proofs.Outs.{out_after}
 use Rattle.tds_relay.proofs.Leading.{Leads, leads_nothing}
 use Rattle.tds_relay.proofs.Tying as tying
-use Rattle.tds_relay.proofs.Tying.{EndTied, SentBy, Tied, asks_tied, ends_tied, heard_tied, idle_tied, puts_tied, ready, rests, stops_tied, went_by}
+use Rattle.tds_relay.proofs.Tying.{SentBy, Tied, asks_tied, ends_tied, idle_tied, puts_tied, ready, rests, stops_tied, went_by}
+use Rattle.tds_relay.proofs.Telling.{EndTied, heard_tied}
 
 -- ---- At the desk alone
 

@@ -1,7 +1,10 @@
 -- An application's end behind a packet that comes on its connection, and behind a stop of what has gone on.
 use Rattle.std.proofs.Common.{◌≡◌, ◌∙◌, ◌==◌, ℕ, Bool, true, false, List, [], ◌∷◌, refl, sym, ap, subst, inl, inr}
 use Rattle.std.specs.Prelude.{Some, None}
-use Rattle.std.proofs.lemmas.Bool.{eqb-true}
+use Rattle.std.specs.Prelude.{Option, filter, not, if◌then◌else◌}
+use Rattle.tds_relay.proofs.Lists.{Once, comm, none_filtered, places, theirs_none}
+use Rattle.std.proofs.lemmas.Bool.{eqb-true, eq-eqb}
+use Rattle.tds_relay.specs.declared.desk.Hold.{Hold}
 use Rattle.tds_wire.specs.declared.told.Token.{Token}
 use Rattle.tds_front.specs.declared.front.Front.{Front}
 use Rattle.tds_front.specs.declared.stage.Stage.{Stage}
@@ -15,7 +18,7 @@ use Rattle.tds_service.specs.History.{Done, history, line_after, done_by as done
 use Rattle.tds_service.specs.Parts.{Part, is_end}
 use Rattle.tds_service.specs.Service.{Seat, seat_numbered, on, steps}
 use Rattle.tds_relay.specs.Desk as desk
-use Rattle.tds_relay.specs.Desk.{Deed, Desk, Event, Hearing, Turn, Way, find_key, hearing_of, turn, whose}
+use Rattle.tds_relay.specs.Desk.{Deed, Desk, Event, Hearing, Turn, Way, find_key, hearing_of, moves, turn, whose}
 use Rattle.tds_relay.specs.Behind.{said_by, said_in, unless_withdrawn}
 use Rattle.tds_relay.specs.Fronting.{AnswersOnce}
 use Rattle.tds_relay.specs.Hall.{End, Open, Over, done_by, told, what_in, what_of}
@@ -29,8 +32,27 @@ use Rattle.tds_relay.proofs.Kept.{Renewed, Rests, Lends, Goes, renewed}
 use Rattle.tds_relay.proofs.Away.{WaitsOnce, away, gone_absent}
 use Rattle.tds_relay.proofs.Outs.{HeardAs, Breaks, ReadsOn, ReadsEnd, SkipsOn, SkipsEnd, heard_as, out_after, out_by}
 use Rattle.tds_relay.proofs.Leading.{ForgetsFrom, IsGone}
-use Rattle.tds_relay.proofs.Tying.{EndTied, GoneAt, SendsOut, ReadsOut, Stopped, Tied, gone_at, heard_lawful, heard_tied, here_gone, stopped_reading, stopped_sending}
+use Rattle.tds_relay.proofs.Tying.{GoneAt, SendsOut, ReadsOut, Stopped, Tied, gone_at, here_gone, stopped_reading, stopped_sending}
+use Rattle.tds_relay.proofs.Telling.{EndTied, heard_lawful, heard_tied}
 use Rattle.tds_relay.proofs.Standing.{AtDesk, Holds, HoldsOne, Leaves, Next, Standing, absent_whose, lent_at, ours_hold, whose_number}
+
+-- ---- Who quits neither holds nor waits
+
+without_by : (key : ℕ) (b : Bool) → (key == key) ≡ b → b ≡ true → (if not b then key ∷ [] else []) ≡ []
+without_by key true e t = refl
+without_by key false e t = absurd (let u : ⊥ = cc in u)
+
+without_none : (key : ℕ) (line : List ℕ) → Once key line → places key (desk.without key line) ≡ []
+without_none key line (inl e) = none_filtered key (λ (x : ℕ). not (x == key)) line e
+without_none key line (inr e) =
+    comm (λ (x : ℕ). x == key) (λ (x : ℕ). not (x == key)) line ∙ ap (λ (xs : List ℕ). filter (λ (x : ℕ). not (x == key)) xs) e ∙ without_by key (key == key) refl (eq-eqb key key refl)
+
+pub quits_gone : (d : Desk) (key : ℕ) (gives : Bool) (way : Way) → Sound d → AtDesk key d → Gone key (turn d (desk.Leaves key gives way)).desk
+quits_gone d key gives way sound (inl k) = leaves_gone d key k.hold k.seat gives way sound k.its
+quits_gone d key gives way sound (inr x) =
+    let t : turn d (desk.Leaves key gives way) ≡ moves d d.holds (desk.without key d.line) [] = ap (λ (y : Option Hold). desk.leaves d key gives way y) (theirs_none key d.holds x.none) in
+    let gone : Gone key (moves d d.holds (desk.without key d.line) []).desk = record { holds = x.none; waits = without_none key d.line x.once } in
+    subst (λ (y : Turn). Gone key y.desk) (sym t) gone
 
 -- ---- At the desk alone, behind any event
 

@@ -1,6 +1,6 @@
 -- What passes an application's end, along moves: what comes of the application, what goes on of it to the connection that it holds, and what
 -- is said there (tds_front, Passing).
-use Rattle.std.specs.Prelude.{◌≢◌, ℕ, ◌==◌, Bool, true, false, List, [], ◌∷◌, ◌++◌, Option, Some, None, Result, Ok, Err, if◌then◌else◌}
+use Rattle.std.specs.Prelude.{◌≡◌, ◌≢◌, ℕ, ◌==◌, Bool, true, false, List, [], ◌∷◌, ◌++◌, Option, Some, None, Result, Ok, Err, if◌then◌else◌}
 use Rattle.tds_front.specs.declared.fault.FrontFault.{FrontFault}
 use Rattle.tds_front.specs.declared.front.Fed.{Fed}
 use Rattle.tds_front.specs.declared.front.Front.{Front}
@@ -18,9 +18,9 @@ use Rattle.tds_service.specs.Line as line
 use Rattle.tds_service.specs.Line.{Answer}
 use Rattle.tds_service.specs.Promises.{ends_message}
 use Rattle.tds_relay.specs.Desk as desk
-use Rattle.tds_relay.specs.Desk.{Desk, Event, whose}
+use Rattle.tds_relay.specs.Desk.{Event, whose}
 use Rattle.tds_relay.specs.Fronting.{AnswersOnce, done_on}
-use Rattle.tds_relay.specs.Hall.{End, Open, Over, Hall, Move, Sends, Comes, Feeds, Enters, Quits, done_by, end_at, events_of, moved, sent_by}
+use Rattle.tds_relay.specs.Hall.{End, Open, Over, Hall, Move, Sends, Comes, Feeds, Enters, Quits, done_by, end_at, events_of, moved, sent_by, Ends as AllEnds, MayMoveAll, moved_all, new_hall}
 
 -- ---- What passes it in one move
 
@@ -100,8 +100,29 @@ abbrev pub Stays : ℕ → List Move → Type 0
 Stays key [] = Unit {0}
 Stays key (move ∷ moves) = StaysIn key move × Stays key moves
 
--- ---- What is supposed of the servers
+-- ---- An application's stay
 
--- Each answers each request once at most, also behind an attention.
-abbrev pub AllAnswerOnce : ℕ → List Event → Type 0
-AllAnswerOnce max events = (number : ℕ) → AnswersOnce false (done_on max number events)
+-- It enters, behind these moves, with which these are the ends; and these are the moves since.
+pub record Stay (max key : ℕ) : Type 0 where
+  pub before : List Move
+  pub ends : AllEnds
+  pub since : List Move
+  pub may : MayMoveAll (new_hall max) (before ++ Enters key ends ∷ since)
+  pub stays : Stays key since
+
+-- what passes its end then
+abbrev pub passed_in : {max key : ℕ} → Stay max key → List passing.Event
+passed_in {max} {key} s = passed key (moved_all (new_hall max) (s.before ++ Enters key s.ends ∷ [])) s.since
+
+-- All that is done at the desk, also before it came. Each server answers each request once at most, also behind an attention.
+abbrev pub done_in : {max key : ℕ} → Stay max key → List Event
+done_in {max} {key} s = events_along (new_hall max) (s.before ++ Enters key s.ends ∷ s.since)
+
+abbrev pub AllAnswerOnce : {max key : ℕ} → Stay max key → Type 0
+AllAnswerOnce {max} s = (number : ℕ) → AnswersOnce false (done_on max number (done_in s))
+
+-- ---- A hall that a relay is at
+
+-- Moves lead to it from a new one.
+abbrev pub IsLedTo : ℕ → Hall → Type 0
+IsLedTo max h = (moves : List Move) × (moved_all (new_hall max) moves ≡ h) × MayMoveAll (new_hall max) moves

@@ -1,6 +1,6 @@
 //! What a desk promises, over any list of events, and a relay behind any calls. Each function does nothing
 //! when it runs: its contract is the law.
-ghost use Rattle.std.specs.Prelude.{◌≡◌, ◌+◌, ◌<◌, ◌≤◌, ◌∷◌, ◌++◌, [], ℕ, List, OnOk, Some, false, vec_len};
+ghost use Rattle.std.specs.Prelude.{◌≡◌, ◌+◌, ◌<◌, ◌≤◌, ◌++◌, ℕ, List, None, OnOk, Some, false, vec_len};
 ghost use Rattle.tds_wire.specs.declared.told.Token.{Token};
 ghost use Rattle.tds_service.specs.Line.{Idle};
 ghost use Rattle.tds_service.specs.Service.{Lease, Seat, seat_numbered, step};
@@ -11,8 +11,8 @@ ghost use Rattle.tds_front.specs.Exchanges.{place_after};
 ghost use Rattle.tds_front.specs.Serving.{IsLawful, Ready};
 ghost use Rattle.tds_front.specs.Passing.{EndsWhole, behind, towards};
 ghost use Rattle.tds_front.specs.declared.stage.Stage.TheVariants as stages;
-ghost use Rattle.tds_relay.specs.Behind.{AllAnswerOnce, Stays, events_along, passed};
-ghost use Rattle.tds_relay.specs.Hall.{Ends, Enters, MayMoveAll, Move, moved_all, new_hall};
+ghost use Rattle.tds_relay.specs.Behind.{AllAnswerOnce, IsLedTo, Stay, passed_in};
+ghost use Rattle.tds_relay.specs.Hall as halls;
 ghost use Rattle.tds_relay.specs.Bounds.{waiting_in};
 ghost use Rattle.tds_relay.specs.declared.application.Application.{Application};
 ghost use Rattle.tds_relay.specs.declared.link.Link.{Link};
@@ -28,7 +28,7 @@ ghost use Rattle.tds_relay.specs.Ties as causes;
 ghost use Rattle.tds_relay.specs.Ties.{Cause, Causes, Connection, Goes, IsReached, Owns};
 
 use crate::{NoMemory, Relay};
-use tds_front::laws::bytes_are_packets;
+use tds_front::laws::{bytes_are_packets, lawful_front};
 use tds_service::table_laws::{each_alone, line_by_history};
 use tds_wire::Token;
 
@@ -177,19 +177,34 @@ pub fn own_bytes_over_calls()
         → StaysAlong key nexts → post_at f.posts key ≡ Some p → IsKept key p f nexts }
 {}
 
-/// Behind each application's end, from where it enters and while it stays, is a lawful server's end, over
-/// whichever connections it is lent one after the other: where the server of each connection ends each answer
-/// once at most, also behind an attention. The last of a request goes on there only where its end has come.
+/// Behind each application's end is a lawful server's end, from where the application enters and while it
+/// stays, over whichever connections it is lent: where the server of each connection ends each answer once at
+/// most, also behind an attention.
 pub fn lawful_behind()
-    ensures { (max key : ℕ) (ends : Ends) (before after : List Move)
-        → MayMoveAll (new_hall max) (before ++ Enters key ends ∷ after) → Stays key after
-        → AllAnswerOnce max (events_along (new_hall max) (before ++ Enters key ends ∷ after))
-        → IsLawful Ready (behind stages.Quiet (passed key
-        (moved_all (new_hall max) (before ++ Enters key ends ∷ [])) after))
-        × EndsWhole stages.Quiet (passed key
-        (moved_all (new_hall max) (before ++ Enters key ends ∷ [])) after) }
+    ensures lawful { (max key : ℕ) (s : Stay max key) → AllAnswerOnce s
+        → IsLawful Ready (behind stages.Quiet (passed_in s)) }
+    /// The last of a request goes on there only where its end has come.
+    ensures whole { (max key : ℕ) (s : Stay max key) → AllAnswerOnce s
+        → EndsWhole stages.Quiet (passed_in s) }
 {
     each_alone::<Token>();
     line_by_history::<Token>();
     bytes_are_packets();
 }
+
+/// Each application meets a lawful server's end, from where it enters and while it stays, whoever shares with
+/// it: where the server of each connection ends each answer once at most, also behind an attention.
+pub fn lawful_applications()
+    ensures { (max key : ℕ) (s : Stay max key) → AllAnswerOnce s
+        → IsLawful Ready (towards None stages.Quiet (passed_in s)) }
+{
+    lawful_behind();
+    lawful_front();
+}
+
+/// Each call of a relay leaves its hall, which is its desk and the ends of its applications, where moves lead
+/// that may be: its own contract says so. So where moves led to the hall, they do again, and what is said here
+/// of moves holds behind any calls.
+pub fn any_calls()
+    ensures { (by : Cause) (max : ℕ) (old new : halls.Hall) → halls.Moves by old new → IsLedTo max old → IsLedTo max new }
+{}
