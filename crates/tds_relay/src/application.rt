@@ -36,6 +36,9 @@ pub(crate) struct Application {
     pub(crate) reset: Option<Reset>,
     /// What has come of the body of a request that waits.
     held: Vec<u8>,
+    /// Whether it took its request back, and the server hasn't acknowledged that: until then nothing is
+    /// handed on to it, and its next request waits.
+    pub(crate) is_withdrawn: bool,
     /// Whether nothing more of it is taken.
     pub(crate) is_over: bool,
     /// How many requests it has begun.
@@ -59,6 +62,7 @@ impl Application {
             asking: Asking::Nothing,
             reset: None,
             held: Vec::new(alloc),
+            is_withdrawn: false,
             is_over: false,
             begun: 0,
         }

@@ -20,7 +20,7 @@ use crate::NoMemory;
 use crate::application::Application;
 use crate::desk::Desk;
 use crate::link::{Link, News};
-use crate::links::{append_to, set_cuts, set_muted};
+use crate::links::{append_to, set_cuts};
 use crate::order::Order;
 use crate::outgoing::{BESIDE, PIECE};
 pub use places::{Counts, Place, PlaceOn};
@@ -220,14 +220,19 @@ impl Relay {
         self.desk.waiting()
     }
 
-    /// Whether what comes on a connection is handed on.
-    fn mute(&mut self, number: u64, is_muted: bool)
+    /// Whether an application waits for the acknowledgement of what it took back. Answers whether it did.
+    fn set_withdrawn(&mut self, key: usize, is_withdrawn: bool) -> bool
         ensures desk { self.new.desk ≡ self.old.desk }
         ensures kept { posts_in self.new.applications ≡ posts_in self.old.applications }
         ensures fronts { fronts_in self.new.applications ≡ fronts_in self.old.applications }
-        ensures read { Stays self.old.links.items self.new.links.items }
+        ensures links { self.new.links.items ≡ self.old.links.items }
     {
-        let _ = set_muted(&mut self.links, number, is_muted);
+        let Some(application) = self.applications.get_mut(key) else {
+            return false;
+        };
+        let was_withdrawn = application.is_withdrawn;
+        application.is_withdrawn = is_withdrawn;
+        was_withdrawn
     }
 
     /// Whether the news of a reset is cut out of what comes next on a connection: a message's first

@@ -132,11 +132,11 @@ impl Relay {
         let Some(hold) = self.desk.hold_of(key) else {
             return false;
         };
-        let is_muted = match self.link(hold.number) {
-            Some(link) => link.is_muted,
+        let is_withdrawn = match self.applications.get(key) {
+            Some(application) => application.is_withdrawn,
             None => false,
         };
-        is_muted && self.desk.is_open_on(hold.number) == Some(true)
+        is_withdrawn && self.desk.is_open_on(hold.number) == Some(true)
     }
 
     /// The application lets its connection go, and waits for one like who has come.
@@ -276,7 +276,7 @@ impl Relay {
         };
         match self.cancel(key)? {
             Some(Cancelled::Asked) => {
-                self.mute(hold.number, true);
+                let _ = self.set_withdrawn(key, true);
                 Ok(())
             }
             Some(_) => Ok(()),

@@ -5,7 +5,8 @@ ghost use Rattle.tds_service.specs.Table.{reading_on};
 ghost use Rattle.tds_relay.specs.Dealing.{Deals, Passes, floor_in, floor_of};
 ghost use Rattle.tds_relay.specs.Fronts.{Came, Moves, fronts_in, hall_in, move_front, owner_of, settles};
 ghost use Rattle.tds_relay.specs.Fronts.{stage_of, told_by};
-ghost use Rattle.tds_relay.specs.Handing.{Brings, HearsBy, news_with};
+ghost use Rattle.tds_relay.specs.Desk.{whose};
+ghost use Rattle.tds_relay.specs.Handing.{Brings, HearsBy, is_muted, news_with};
 ghost use Rattle.tds_relay.specs.Posts.{post_of, posts_in};
 ghost use Rattle.tds_relay.specs.Reads.{Comes, Continues, Stays, StreamsAll, if_heard};
 ghost use Rattle.tds_relay.specs.Reads.{reader_at, seen_at};
@@ -19,7 +20,7 @@ use crate::NoMemory;
 use crate::application::{Application, Asking};
 use crate::desk::{Desk, Heard, Renewed, What};
 use crate::link::{Answer, Link, News};
-use crate::links::{place_in, set_muted};
+use crate::links::place_in;
 use crate::reading::reads_packets;
 use slab::Slab;
 use tds_packet::PacketRef;
@@ -120,7 +121,7 @@ impl Relay {
             (What::Finished, Some(key)) => self.settled(key, false),
             (What::Finished, None) => Ok(()),
             (What::Acknowledged, Some(key)) => {
-                if self.unmute(number) {
+                if self.set_withdrawn(key, false) {
                     self.resume(number, key)
                 } else {
                     self.acknowledged(key)
@@ -203,16 +204,6 @@ impl Relay {
         self.desk.wait(key)
     }
 
-    /// What comes on a connection is handed on again. False where it was.
-    fn unmute(&mut self, number: u64) -> bool
-        ensures desk { self.new.desk ≡ self.old.desk }
-        ensures kept { posts_in self.new.applications ≡ posts_in self.old.applications }
-        ensures fronts { fronts_in self.new.applications ≡ fronts_in self.old.applications }
-        ensures read { Stays self.old.links.items self.new.links.items }
-    {
-        set_muted(&mut self.links, number, false)
-    }
-
     /// An application's attention has the acknowledgement: of the reset that its request asked for it hears
     /// no more.
     #[tactic(auto, using(crate::proofs::Posting::kept_more))]
@@ -266,11 +257,10 @@ fn hear_on(
         (desk_in desk.new)) }
     ensures deals { OnOk result (Deals (Connection number)
         (floor_of desk.old applications.old) (floor_of desk.new applications.new)) }
-    ensures hears { IfOk result (λ heard. HearsBy number (reading_on number desk.old.service) link.old
-        link.new piece.now heard.0 heard.1 (floor_of desk.old applications.old)
-        (floor_of desk.new applications.new)) }
+    ensures hears { IfOk result (λ heard. HearsBy number (reading_on number desk.old.service)
+        (is_muted applications.old (whose (desk_in desk.old) number)) link.old link.new piece.now
+        heard.0 heard.1 (floor_of desk.old applications.old) (floor_of desk.new applications.new)) }
     ensures number { link.new.number ≡ link.old.number }
-    ensures muted { link.new.is_muted ≡ link.old.is_muted }
     ensures came { IfOk result (λ out. Came number (desk_in desk.old) (desk_in desk.new) out.1) }
     ensures fronts { OnOk result (fronts_in applications.new ≡ fronts_in applications.old) }
 {
@@ -294,11 +284,10 @@ fn hear_packet(
     ensures goes { OnOk result (Goes (Connection number) (desk_in desk.old)
         (desk_in desk.new)) }
     ensures brings { IfOk result (λ heard. Brings number (reading_on number desk.old.service)
-        link.old.is_muted link.old.news link.old.answer link.old.reader heard.what
-        (floor_of desk.old applications.old) (floor_of desk.new applications.new)) }
+        (is_muted applications.old (whose (desk_in desk.old) number)) link.old.news
+        link.old.answer link.old.reader heard.what (floor_of desk.old applications.old) (floor_of desk.new applications.new)) }
     ensures reader { link.new.reader ≡ link.old.reader }
     ensures number { link.new.number ≡ link.old.number }
-    ensures muted { link.new.is_muted ≡ link.old.is_muted }
     ensures came { IfOk result (λ heard. Came number (desk_in desk.old) (desk_in desk.new)
         (Some heard)) }
     ensures fronts { OnOk result (fronts_in applications.new ≡ fronts_in applications.old) }
@@ -308,16 +297,20 @@ fn hear_packet(
     };
     let ends = packet.header.status.ends();
     let heard = desk.came(number, packet.data, ends, outbox)?;
-    if matches!(heard.what, What::Closed) || link.is_muted {
+    if matches!(heard.what, What::Closed) {
         return Ok(heard);
     }
     let Some(key) = heard.key else {
         return Ok(heard);
     };
-    if let Some(application) = applications.get_mut(key) {
-        link.news = news_with(heard.what, link.news);
-        hand_on(&mut link.answer, &mut link.news, packet, application)?;
+    let Some(application) = applications.get_mut(key) else {
+        return Ok(heard);
+    };
+    if application.is_withdrawn {
+        return Ok(heard);
     }
+    link.news = news_with(heard.what, link.news);
+    hand_on(&mut link.answer, &mut link.news, packet, application)?;
     Ok(heard)
 }
 

@@ -92,7 +92,7 @@ impl Relay {
         let Some(left) = self.desk.leave(key, &mut self.outbox)? else {
             return Ok(());
         };
-        self.mute(left.number, false);
+        let _ = self.set_withdrawn(key, false);
         if left.is_there {
             self.counts.cleanings = self.counts.cleanings.saturating_add(1);
             self.send_on(left.number)

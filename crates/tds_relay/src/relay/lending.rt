@@ -197,6 +197,9 @@ impl Relay {
         let Some(application) = self.applications.get(key) else {
             return Ok(());
         };
+        if application.is_withdrawn {
+            return Ok(());
+        }
         let Asking::Waits { kind, whole } = application.asking else {
             return Ok(());
         };
@@ -204,7 +207,7 @@ impl Relay {
             return Ok(());
         };
         let may_ask = match self.link(hold.number) {
-            Some(link) => link.is_open && !link.is_muted,
+            Some(link) => link.is_open,
             None => false,
         };
         if !may_ask {

@@ -1,4 +1,4 @@
-use Rattle.tds_relay.proofs.Staying.{stays_both, stays_on, stays_same}
+use Rattle.tds_relay.proofs.Staying.{stays_on, stays_same, stays_then}
 use Rattle.tds_relay.proofs.relay.Relay.heard.Goals as goal
 
 pub returns-in_default-clause-read : goal.returns-in_default-clause-read
@@ -10,11 +10,11 @@ returns-in-Goes-Some-clause-read c = stays_same c.order_write.result _ _ _ c.in_
 pub returns-in-Finished-Some-clause-read : goal.returns-in-Finished-Some-clause-read
 returns-in-Finished-Some-clause-read c = stays_same c.settled.result _ _ _ c.in_ok-send_on.ensures.read c.settled.ensures.links
 
-pub returns-then-unmute-clause-read : goal.returns-then-unmute-clause-read
-returns-then-unmute-clause-read c = stays_on c.resume.result _ _ _ (stays_both _ _ _ c.in_ok-send_on.ensures.read c.unmute.ensures.read) c.resume.ensures.read
+pub returns-then-set_withdrawn-clause-read : goal.returns-then-set_withdrawn-clause-read
+returns-then-set_withdrawn-clause-read c = stays_on c.resume.result _ _ _ (stays_then _ _ _ c.in_ok-send_on.ensures.read c.set_withdrawn.ensures.links) c.resume.ensures.read
 
-pub returns-else-unmute-clause-read : goal.returns-else-unmute-clause-read
-returns-else-unmute-clause-read c = stays_on c.acknowledged.result _ _ _ (stays_both _ _ _ c.in_ok-send_on.ensures.read c.unmute.ensures.read) c.acknowledged.ensures.read
+pub returns-else-set_withdrawn-clause-read : goal.returns-else-set_withdrawn-clause-read
+returns-else-set_withdrawn-clause-read c = stays_on c.acknowledged.result _ _ _ (stays_then _ _ _ c.in_ok-send_on.ensures.read c.set_withdrawn.ensures.links) c.acknowledged.ensures.read
 
 pub returns-in-Closed-Some-clause-read : goal.returns-in-Closed-Some-clause-read
 returns-in-Closed-Some-clause-read c = stays_on c.close.result _ _ _ c.in_ok-send_on.ensures.read c.close.ensures.read

@@ -12,7 +12,7 @@ returns-in_default-hold_of-clause-goes c = λ from h. reaches_turn (Application 
 
 pub returns-in-Some-Asked-clause-goes : goal.returns-in-Some-Asked-clause-goes
 returns-in-Some-Asked-clause-goes c = λ from h.
-    subst (λ (d : code.Desk). Reaches (Application c.args.key) from (desk_in d)) (sym c.mute.ensures.desk)
+    subst (λ (d : code.Desk). Reaches (Application c.args.key) from (desk_in d)) (sym c.set_withdrawn.ensures.desk)
     (c.in_ok-cancel.ensures.goes from (reaches_turn (Application c.args.key) from _ _ _ _ _ c.unwait.ensures refl h))
 
 pub returns-in-Some-2-clause-goes : goal.returns-in-Some-2-clause-goes
