@@ -3,9 +3,9 @@ pub mod Astray
 pub mod Bringing
 pub mod Calling
 pub mod Caring
-pub mod Changing
 pub mod Cuts
 pub mod Dealt
+pub mod Fed
 pub mod Fronting
 pub mod Fronts
 pub mod Given
@@ -19,6 +19,7 @@ pub mod Owning
 pub mod Phases
 pub mod Posting
 pub mod Promised
+pub mod Putting
 pub mod Reaching
 pub mod Renewing
 pub mod Saying

@@ -4,6 +4,7 @@ pub mod Dealing
 pub mod Desk
 pub mod Fronting
 pub mod Fronts
+pub mod Hall
 pub mod Handing
 pub mod Lasting
 pub mod News

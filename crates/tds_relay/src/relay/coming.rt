@@ -3,8 +3,9 @@ ghost use Rattle.std.specs.Prelude.{◌≡◌, ◌+◌, ◌≤◌, Bool, None, S
 ghost use Rattle.std.specs.Prelude.{IfOk, IsNone, OnOk};
 ghost use Rattle.tds_service.specs.Table.{reading_on};
 ghost use Rattle.tds_relay.specs.Dealing.{Deals, Passes, floor_in, floor_of};
-ghost use Rattle.tds_relay.specs.Fronts.{Came, Moves, fronts_in, hall_in, move_front, owner_of, settles};
-ghost use Rattle.tds_relay.specs.Fronts.{stage_of, told_by};
+ghost use Rattle.tds_relay.specs.Fronts.{Came, Moved, end_of, ends_in, hall_in, hall_of_ends, told_by};
+ghost use Rattle.tds_relay.specs.Hall.{Moves, change_end, change_whose, told};
+ghost use Rattle.tds_relay.specs.declared.desk.coming.What.TheVariants.{Acknowledged, Finished};
 ghost use Rattle.tds_relay.specs.Desk.{whose};
 ghost use Rattle.tds_relay.specs.Handing.{Brings, HearsBy, is_muted, news_with};
 ghost use Rattle.tds_relay.specs.Posts.{post_of, posts_in};
@@ -76,8 +77,8 @@ impl Relay {
             (floor_in self.new)) }
         ensures came { IfOk result (λ out. Came number (desk_in self.old.desk)
             (desk_in self.new.desk) out.1) }
-        ensures fronts { OnOk result (fronts_in self.new.applications
-            ≡ fronts_in self.old.applications) }
+        ensures ends { OnOk result (ends_in self.new.applications
+            ≡ ends_in self.old.applications) }
         ensures continues { IfOk result (λ heard. Continues number piece.now
             (drop heard.0 piece.now) (reader_at number self.old.links.items)
             (if_heard heard.1 (reader_at number self.new.links.items)) (floor_in self.old)
@@ -104,48 +105,107 @@ impl Relay {
             (desk_in self.old.desk) (desk_in self.new.desk)) }
         ensures kept { OnOk result (posts_in self.new.applications
             ≡ posts_in self.old.applications) }
-        ensures told { OnOk result ((missed : Bool) × (fronts_in self.new.applications
-            ≡ told_by heard missed (fronts_in self.old.applications))) }
-        ensures quiet { OnOk result (Goes (causes.Application (owner_of heard))
-            (desk_in self.old.desk) (desk_in self.new.desk)) }
+        ensures moves { OnOk result (Moved (Connection number) (hall_of_ends
+            (desk_in self.old.desk) (told_by heard (ends_in self.old.applications)))
+            (hall_in self.new)) }
         ensures read { OnOk result (Stays self.old.links.items self.new.links.items) }
         ensures gone { IsNone heard → OnOk result (reader_at number self.new.links.items ≡ None) }
     {
-        self.send_on(number)?;
         let Some(heard) = heard else {
             return self.lose(number);
         };
+        let resumes = self.tell(heard)?;
+        self.send_on(number)?;
         match (heard.what, heard.key) {
             (What::Goes, Some(key)) => self.order_write(key),
             (What::Goes, None) => Ok(()),
-            (What::Finished, Some(key)) => self.settled(key, false),
+            (What::Finished, Some(key)) => self.order_write(key),
             (What::Finished, None) => Ok(()),
             (What::Acknowledged, Some(key)) => {
-                if self.set_withdrawn(key, false) {
+                if resumes {
                     self.resume(number, key)
                 } else {
-                    self.acknowledged(key)
+                    self.order_write(key)
                 }
             }
             (What::Acknowledged, None) => Ok(()),
-            (What::Closed, Some(key)) => self.close(number, Some(key)),
+            (What::Closed, Some(_)) => self.close_link(number),
             (What::Closed, None) => {
                 self.counts.failed = self.counts.failed.saturating_add(1);
-                self.close(number, None)
+                self.close_link(number)
             }
         }
+    }
+
+    /// What came of a packet is told to its application's end. Answers whether this waited for the
+    /// acknowledgement of what it had taken back.
+    fn tell(&mut self, heard: Heard) -> Result<bool, NoMemory>
+        ensures desk { self.new.desk ≡ self.old.desk }
+        ensures kept { OnOk result (posts_in self.new.applications
+            ≡ posts_in self.old.applications) }
+        ensures ends { OnOk result (ends_in self.new.applications
+            ≡ change_whose heard.key (told heard.what) (ends_in self.old.applications)) }
+        ensures read { OnOk result (Stays self.old.links.items self.new.links.items) }
+    {
+        let Some(key) = heard.key else {
+            return Ok(false);
+        };
+        match heard.what {
+            What::Goes => Ok(false),
+            What::Finished => {
+                self.answered(key);
+                Ok(false)
+            }
+            What::Acknowledged => Ok(self.acknowledged(key)),
+            What::Closed => {
+                self.end(key)?;
+                Ok(false)
+            }
+        }
+    }
+
+    /// An application's request has its answer.
+    fn answered(&mut self, key: usize)
+        ensures desk { self.new.desk ≡ self.old.desk }
+        ensures kept { posts_in self.new.applications ≡ posts_in self.old.applications }
+        ensures ends { ends_in self.new.applications
+            ≡ change_end key (told Finished) (ends_in self.old.applications) }
+        ensures links { self.new.links.items ≡ self.old.links.items }
+    {
+        match self.applications.get_mut(key) {
+            Some(application) => application.answered(),
+            None => {}
+        }
+    }
+
+    /// An application's attention has the acknowledgement: of the reset that its request asked for it hears
+    /// no more. Or what it took back has. Answers whether that.
+    fn acknowledged(&mut self, key: usize) -> bool
+        ensures desk { self.new.desk ≡ self.old.desk }
+        ensures kept { posts_in self.new.applications ≡ posts_in self.old.applications }
+        ensures ends { ends_in self.new.applications
+            ≡ change_end key (told Acknowledged) (ends_in self.old.applications) }
+        ensures read { Stays self.old.links.items self.new.links.items }
+    {
+        let Some(application) = self.applications.get_mut(key) else {
+            return false;
+        };
+        let asked_for_reset = application.reset.is_some();
+        let resumes = application.acknowledged();
+        if asked_for_reset && !resumes {
+            self.cut_for(key);
+        }
+        resumes
     }
 
     /// The server has acknowledged that an application's request was taken back: its next one goes on.
     fn resume(&mut self, number: u64, key: usize) -> Result<(), NoMemory>
         ensures goes { OnOk result (Goes (Connection number)
             (desk_in self.old.desk) (desk_in self.new.desk)) }
-        ensures quiet { OnOk result (Goes (causes.Application key)
-            (desk_in self.old.desk) (desk_in self.new.desk)) }
         ensures kept { OnOk result (posts_in self.new.applications
             ≡ posts_in self.old.applications) }
-        ensures fronts { OnOk result (fronts_in self.new.applications
-            ≡ fronts_in self.old.applications) }
+        ensures moves { OnOk result (Moved (Connection number) (hall_in self.old)
+            (hall_in self.new)) }
         ensures read { OnOk result (Stays self.old.links.items self.new.links.items) }
     {
         if self.asks_to_keep(key) {
@@ -167,12 +227,10 @@ impl Relay {
     fn keep(&mut self, number: u64, key: usize) -> Result<(), NoMemory>
         ensures goes { OnOk result (Goes (Connection number)
             (desk_in self.old.desk) (desk_in self.new.desk)) }
-        ensures quiet { OnOk result (Goes (causes.Application key)
-            (desk_in self.old.desk) (desk_in self.new.desk)) }
         ensures kept { OnOk result (posts_in self.new.applications
             ≡ posts_in self.old.applications) }
-        ensures fronts { OnOk result (fronts_in self.new.applications
-            ≡ fronts_in self.old.applications) }
+        ensures moves { OnOk result (Moved (Connection number) (hall_in self.old)
+            (hall_in self.new)) }
         ensures read { OnOk result (Stays self.old.links.items self.new.links.items) }
     {
         match self.desk.renew(key)? {
@@ -180,62 +238,33 @@ impl Relay {
                 self.cut(hold.number, false);
                 self.start(key)
             }
-            Renewed::NotKept => self.replace(number, key),
+            Renewed::NotKept => self.replace(number),
             Renewed::Closed(number) => self.close(number, Some(key)),
         }
     }
 
     /// The transaction that was to be kept has ended: the connection is closed, and its application waits
-    /// for another.
+    /// for another, if it has nothing out.
     #[tactic(auto, using(crate::proofs::Reaching::reaches_turn))]
-    fn replace(&mut self, number: u64, key: usize) -> Result<(), NoMemory>
+    fn replace(&mut self, number: u64) -> Result<(), NoMemory>
         ensures goes { OnOk result (Goes (Connection number)
             (desk_in self.old.desk) (desk_in self.new.desk)) }
-        ensures quiet { OnOk result (Goes (causes.Application key)
-            (desk_in self.old.desk) (desk_in self.new.desk)) }
         ensures kept { OnOk result (posts_in self.new.applications
             ≡ posts_in self.old.applications) }
-        ensures fronts { OnOk result (fronts_in self.new.applications
-            ≡ fronts_in self.old.applications) }
+        ensures moves { OnOk result (Moved (Connection number) (hall_in self.old)
+            (hall_in self.new)) }
         ensures read { OnOk result (Stays self.old.links.items self.new.links.items) }
     {
-        self.desk.lose(number)?;
-        self.close(number, None)?;
-        self.desk.wait(key)
-    }
-
-    /// An application's attention has the acknowledgement: of the reset that its request asked for it hears
-    /// no more.
-    #[tactic(auto, using(crate::proofs::Posting::kept_more))]
-    fn acknowledged(&mut self, key: usize) -> Result<(), NoMemory>
-        ensures desk { self.new.desk ≡ self.old.desk }
-        ensures kept { OnOk result (posts_in self.new.applications
-            ≡ posts_in self.old.applications) }
-        ensures told { OnOk result (fronts_in self.new.applications
-            ≡ move_front key (settles true) (fronts_in self.old.applications)) }
-        ensures read { OnOk result (Stays self.old.links.items self.new.links.items) }
-    {
-        self.forget_reset(key);
-        self.settled(key, true)
-    }
-
-    /// An application's request has its answer, or its attention the acknowledgement.
-    #[tactic(auto, using(crate::proofs::Fronts::fronts_nobody))]
-    fn settled(&mut self, key: usize, is_acknowledged: bool) -> Result<(), NoMemory>
-        ensures desk { self.new.desk ≡ self.old.desk }
-        ensures kept { OnOk result (posts_in self.new.applications
-            ≡ posts_in self.old.applications) }
-        ensures told { OnOk result (fronts_in self.new.applications
-            ≡ move_front key (settles is_acknowledged) (fronts_in self.old.applications)) }
-        ensures links { OnOk result (self.new.links.items ≡ self.old.links.items) }
-    {
-        match self.applications.get_mut(key) {
-            Some(application) => {
-                application.settle(is_acknowledged);
-                self.order_write(key)
-            }
-            None => Ok(()),
+        let holder = self.desk.lose(number)?;
+        let Some(key) = holder else {
+            return self.close_link(number);
+        };
+        if !self.has_nothing_out(key) {
+            return self.close(number, Some(key));
         }
+        self.let_go(key);
+        self.close_link(number)?;
+        self.wait(key)
     }
 }
 
@@ -262,7 +291,7 @@ fn hear_on(
         heard.0 heard.1 (floor_of desk.old applications.old) (floor_of desk.new applications.new)) }
     ensures number { link.new.number ≡ link.old.number }
     ensures came { IfOk result (λ out. Came number (desk_in desk.old) (desk_in desk.new) out.1) }
-    ensures fronts { OnOk result (fronts_in applications.new ≡ fronts_in applications.old) }
+    ensures ends { OnOk result (ends_in applications.new ≡ ends_in applications.old) }
 {
     let Ok(count) = link.reader.feed(piece) else {
         return Ok((piece.len(), None));
@@ -290,7 +319,7 @@ fn hear_packet(
     ensures number { link.new.number ≡ link.old.number }
     ensures came { IfOk result (λ heard. Came number (desk_in desk.old) (desk_in desk.new)
         (Some heard)) }
-    ensures fronts { OnOk result (fronts_in applications.new ≡ fronts_in applications.old) }
+    ensures ends { OnOk result (ends_in applications.new ≡ ends_in applications.old) }
 {
     let Some(packet) = link.reader.packet() else {
         return Ok(NOTHING);
@@ -336,7 +365,7 @@ fn hand_on(
     requires { packet.header.length ≡ 8 + length packet.«data».now }
     ensures passes { OnOk result (Passes news.old answer.old packet.entry.header packet.entry.«data».now
         (post_of application.old) (post_of application.new)) }
-    ensures end { OnOk result (stage_of application.new ≡ stage_of application.old) }
+    ensures end { OnOk result (end_of application.new ≡ end_of application.old) }
     ensures fits { IsRoom news.old application.old.out packet.entry.header.length
         → application.new.out.is_full ≡ false }
 {

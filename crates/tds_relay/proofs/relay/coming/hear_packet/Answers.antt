@@ -7,7 +7,7 @@ use Rattle.tds_relay.specs.Desk.{whose}
 use Rattle.tds_relay.specs.Handing.{closes, is_muted, is_withheld, news_with}
 use Rattle.tds_relay.specs.Posts.{posts_in}
 use Rattle.tds_relay.specs.Ties.{Connection, desk_in}
-use Rattle.tds_relay.proofs.Fronts.{fronts_kept, has_come}
+use Rattle.tds_relay.proofs.Fronts.{ends_kept, has_come}
 use Rattle.tds_relay.proofs.Handed.{handed_for, handed_is, muted_by, passing, to_absent, to_closed, to_nobody, to_one, to_withdrawn, withheld_for, withheld_is}
 use Rattle.tds_relay.proofs.Posting.{posts_kept}
 use Rattle.tds_relay.proofs.Reaching.{reaches_turn}
@@ -99,10 +99,10 @@ returns-clause-came c = inr (has_come c.args.number _ _ _ _ _ _ _ c.in_ok-heard.
 pub returns-in_default-get_mut-clause-came : goal.returns-in_default-get_mut-clause-came
 returns-in_default-get_mut-clause-came c = inr (has_come c.args.number _ _ _ _ _ _ _ c.in_ok-heard.ensures.ok.1 c.in_ok-heard.ensures.whose c.in_ok-heard.ensures.heard)
 
-pub returns-then-application-clause-fronts : goal.returns-then-application-clause-fronts
-returns-then-application-clause-fronts c =
-    fronts_kept c.args.applications.now c.in-Some-key.key c.in-Some-get_mut.application.now c.in-Some-get_mut.application.now c.in-Some-get_mut.ensures.value refl
+pub returns-then-application-clause-ends : goal.returns-then-application-clause-ends
+returns-then-application-clause-ends c =
+    ends_kept c.args.applications.now c.in-Some-key.key c.in-Some-get_mut.application.now c.in-Some-get_mut.application.now c.in-Some-get_mut.ensures.value refl
 
-pub returns-clause-fronts : goal.returns-clause-fronts
-returns-clause-fronts c =
-    fronts_kept c.args.applications.now c.in-Some-key.key c.in-Some-get_mut.application.now c.hand_on.new.application c.in-Some-get_mut.ensures.value c.in_ok-hand_on.ensures.end
+pub returns-clause-ends : goal.returns-clause-ends
+returns-clause-ends c =
+    ends_kept c.args.applications.now c.in-Some-key.key c.in-Some-get_mut.application.now c.hand_on.new.application c.in-Some-get_mut.ensures.value c.in_ok-hand_on.ensures.end
