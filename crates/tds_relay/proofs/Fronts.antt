@@ -1,15 +1,12 @@
 -- How the ends of applications move.
-use Rattle.std.proofs.Common.{◌≡◌, ◌≢◌, ◌∙◌, ◌⊎◌, ◌++◌, ℕ, zero, suc, Bool, true, false, List, [], ◌∷◌, Option, Some, None, inl, inr, refl, sym, ap, subst, map, slice_set, slice_index_or, option_map, if◌then◌else◌}
+use Rattle.std.proofs.Common.{◌≡◌, ◌∙◌, ◌++◌, ℕ, zero, suc, Bool, false, List, [], ◌∷◌, Option, Some, None, inl, inr, refl, sym, ap, subst, map, slice_set, option_map}
 use Rattle.std.proofs.lemmas.List.{map-set, set-get_or}
 use Rattle.std.proofs.Math.Seq.{map-set_same}
 use Rattle.std.proofs.Math.ListN.{get_or-map}
 use Rattle.slab.specs.Slab.{Slab, Updates, get, with_value}
 use Rattle.std.specs.Prelude.{Result, Ok, Err, OnOk, OnSome, IfNone}
-use Rattle.tds_front.specs.declared.front.Front.{Front}
 use Rattle.tds_front.specs.declared.stage.Stage.{Stage}
-use Rattle.tds_front.specs.declared.stage.Stage.TheVariants as stages
-use Rattle.tds_front.specs.Bytes.{fed, new_front}
-use Rattle.tds_front.specs.Rules as rules
+use Rattle.tds_front.specs.Bytes.{new_front}
 use Rattle.tds_wire.specs.declared.told.Token.{Token}
 use Rattle.tds_service.specs.History.{Done}
 use Rattle.tds_service.specs.Line.{Answer}
@@ -18,11 +15,10 @@ use Rattle.tds_service.specs.Table.{answers_in}
 use Rattle.tds_relay.specs.declared.application.Application.{Application}
 use Rattle.tds_relay.specs.declared.desk.coming.Heard.{Heard}
 use Rattle.tds_relay.specs.declared.desk.coming.What.{What}
-use Rattle.tds_relay.specs.declared.desk.coming.What.TheVariants as whats
 use Rattle.tds_relay.specs.Desk as desk
 use Rattle.tds_relay.specs.Desk.{Desk, Event, Way, desk_after, turn, whose}
 use Rattle.tds_relay.specs.Fronts.{Came, HasCome, IsWhat, LetsGoFirst, Moved, MovedOn, end_of, ends_in, hall_of_ends, told_by}
-use Rattle.tds_relay.specs.Hall.{CausesMove, Closes, Comes, Does, End, Ends, Enters, Hall, HasEntered, IfOpen, IfWhose, IsHere, LetsGo, Loses, MayDoAlone, MayMove, MayMoveAll, Move, Moves, Open, Over, Quits, Replaces, change_end, change_whose, closes, done_by, end_at, holder, lets_go, move_stage, moved, moved_all, told, what_in, what_of}
+use Rattle.tds_relay.specs.Hall.{CausesMove, Closes, Comes, Does, End, Ends, Hall, HasEntered, IfOpen, IfWhose, IsHere, LetsGo, Loses, MayDoAlone, MayMove, MayMoveAll, Move, Moves, Open, Quits, Replaces, change_end, change_whose, closes, done_by, end_at, holder, lets_go, moved, moved_all, told, what_in, what_of}
 use Rattle.tds_relay.specs.Promises.{Each}
 use Rattle.tds_relay.specs.Ties as causes
 use Rattle.tds_relay.specs.Ties.{Cause, Causes, Turns}

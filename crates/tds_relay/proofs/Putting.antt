@@ -2,7 +2,6 @@
 use Rattle.std.proofs.Common.{◌≡◌, ◌∙◌, ◌++◌, ◌+◌, ◌==◌, length, ℕ, Bool, true, false, List, [], ◌∷◌, Option, Some, None, inl, inr, refl, sym, ap, subst, option_map, append-nil}
 use Rattle.tds_packet.specs.declared.kind.Kind.{Kind}
 use Rattle.tds_packet.specs.declared.kind.Kind.TheVariants as kinds
-use Rattle.tds_front.specs.declared.front.Front.{Front}
 use Rattle.tds_front.specs.declared.stage.Stage.{Stage}
 use Rattle.tds_front.specs.declared.stage.Stage.TheVariants as stages
 use Rattle.tds_front.specs.Rules as rules
@@ -11,7 +10,7 @@ use Rattle.tds_packet.specs.Sent.{end_bit}
 use Rattle.tds_client.specs.Packets.{packet_bytes}
 use Rattle.tds_service.specs.Line as line
 use Rattle.tds_service.specs.Line.{Packet}
-use Rattle.tds_service.specs.Ties.{Appends, AreBytes, IsBytes}
+use Rattle.tds_service.specs.Ties.{Appends, IsBytes}
 use Rattle.tds_relay.specs.Desk as desk
 use Rattle.tds_relay.specs.Desk.{Deed, Desk, turn}
 use Rattle.tds_relay.specs.Fronts.{MayPut, PutsOn, goes_by, hall_of_ends, puts}

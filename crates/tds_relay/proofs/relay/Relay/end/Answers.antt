@@ -1,4 +1,3 @@
-use Rattle.std.proofs.Common.{refl}
 use Rattle.tds_relay.specs.Hall.{closes}
 use Rattle.tds_relay.proofs.Fronts.{ends_moved}
 use Rattle.tds_relay.proofs.Posting.{posts_kept}

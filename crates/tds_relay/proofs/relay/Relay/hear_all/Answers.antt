@@ -1,4 +1,4 @@
-use Rattle.std.proofs.Common.{◌∙◌, List, Option, ap, refl, subst, sym, ℕ}
+use Rattle.std.proofs.Common.{List, Option, ap, refl, subst, sym, ℕ}
 use Rattle.tds_packet.specs.Reading.{Reading}
 use Rattle.tds_relay.specs.declared.relay.Relay.{Relay}
 use Rattle.tds_relay.specs.Dealing.{Deals, floor_in}

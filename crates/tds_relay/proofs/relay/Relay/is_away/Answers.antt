@@ -1,7 +1,4 @@
-use Rattle.std.proofs.Common.{◌≡◌, None, false, rules}
-use Rattle.tds_relay.specs.Desk.{find_key}
-use Rattle.tds_relay.specs.Hall.{is_in}
-use Rattle.tds_relay.specs.Ties.{desk_in}
+use Rattle.std.proofs.Common.{rules}
 use Rattle.tds_relay.proofs.Fed.{is_there}
 use Rattle.tds_relay.proofs.relay.Relay.is_away.Goals as goal
 

@@ -1,5 +1,5 @@
-use Rattle.std.proofs.Common.{refl, subst, sym}
-use Rattle.tds_relay.specs.Ties.{Application, Reaches}
+use Rattle.std.proofs.Common.{refl}
+use Rattle.tds_relay.specs.Ties.{Application}
 use Rattle.tds_relay.proofs.Fronts.{moves_does, moves_same}
 use Rattle.tds_relay.proofs.Reaching.{reaches_turn}
 use Rattle.tds_relay.proofs.relay.Relay.stop.Goals as goal

@@ -1,5 +1,5 @@
 use Rattle.std.proofs.Common.{inl, inr, refl, rules, subst, sym}
-use Rattle.tds_relay.specs.Ties.{Reaches, desk_in}
+use Rattle.tds_relay.specs.Ties.{Reaches}
 use Rattle.tds_relay.proofs.Reaching.{reaches_turn}
 use Rattle.tds_relay.proofs.relay.asking.put_on.Goals as goal
 
