@@ -9,7 +9,7 @@ use Rattle.tds_front.specs.Passing.{Event as Passed, EndsWhole, SaysOf, behind, 
 use Rattle.tds_front.specs.Serving.{Place, Ready, IsLawful}
 use Rattle.tds_service.specs.Service.{Seat, seat_numbered}
 use Rattle.tds_relay.specs.Desk.{Desk, Event, desk_after, new_desk}
-use Rattle.tds_relay.specs.Behind.{AllAnswerOnce, IsLedTo, Stay, Stays, done_in, events_along, passed, passed_in, passes}
+use Rattle.tds_relay.specs.Behind.{AllAnswerOnce, IsLedTo, Stay, Stays, events_along, passed, passed_in, passes}
 use Rattle.tds_relay.specs.Fronting.{AnswersOnce, done_on}
 use Rattle.tds_relay.specs.Hall as hall
 use Rattle.tds_relay.specs.Hall.{End, Open, Over, Ends, Enters, Hall, MayMove, MayMoveAll, Move, Moves, end_at, events_of, moved, moved_all, new_hall}

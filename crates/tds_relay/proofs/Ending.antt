@@ -1,39 +1,16 @@
 -- The end of one application, among all, behind a move; and what passes it.
-use Rattle.std.proofs.Common.{◌≡◌, ◌≢◌, ◌∙◌, ◌⊎◌, ◌==◌, ◌≤◌, ◌<◌, ℕ, Bool, true, false, List, [], ◌∷◌, ◌++◌, length, eqb, refl, sym, ap, subst, inl, inr}
-use Rattle.std.specs.Prelude.{Option, Some, None, filter, not, if◌then◌else◌, option_map, slice_set}
-use Rattle.std.proofs.lemmas.Bool.{cases_lt, eqb-true, eq-eqb}
+use Rattle.std.proofs.Common.{◌≡◌, ◌≢◌, ◌∙◌, ◌⊎◌, ◌==◌, ◌≤◌, ◌<◌, ℕ, Bool, true, false, List, [], length, eqb, refl, sym, ap, subst, inl, inr}
+use Rattle.std.specs.Prelude.{Option, Some, None, if◌then◌else◌, option_map, slice_set}
+use Rattle.std.proofs.lemmas.Bool.{cases_lt}
 use Rattle.std.proofs.lemmas.Bool.Decides.{eqb_tells}
 use Rattle.std.proofs.lemmas.List.{get_or-set_same, get_or-set_other, length-set}
 use Rattle.std.proofs.Math.ListN.{get_or-eq_default}
-use Rattle.tds_wire.specs.declared.told.Token.{Token}
-use Rattle.tds_front.specs.declared.front.Front.{Front}
-use Rattle.tds_front.specs.declared.stage.Stage.{Stage}
-use Rattle.tds_front.specs.declared.stage.Stage.TheVariants as stages
-use Rattle.tds_front.specs.Bytes.{fed, new_front}
-use Rattle.tds_front.specs.Passing.{Event as Passed, SaysOf, judged, stage_fed}
-use Rattle.tds_front.specs.Serving.{Place, Ready}
-use Rattle.tds_service.specs.Line.{Packet}
-use Rattle.tds_service.specs.Parts.{Part}
-use Rattle.tds_service.specs.Service.{Call, on, steps}
-use Rattle.tds_relay.specs.declared.desk.Hold.{Hold}
+use Rattle.tds_front.specs.Passing.{Event as Passed}
 use Rattle.tds_relay.specs.Desk as desk
 use Rattle.tds_relay.specs.Desk.{Deed, Desk, Event, Turn, Way, desk_after, find_key, moves, turn, whose}
 use Rattle.tds_relay.specs.Behind.{brought, gone_on, if_open, if_same, if_whose, said_in, unless_withdrawn}
-use Rattle.tds_relay.specs.Fronting.{calls_along}
 use Rattle.tds_relay.specs.Hall.{End, Open, Over, Ends, Hall, HasEntered, IfOpen, IfWhose, IsAway, IsHere, IsNotPut, IsPut, IsThere, MayDo, MayDoAlone, MayMove, Move, change_end, change_whose, closes, done_by, end_at, end_behind, ends_behind, event_if, events_of, feeds, goes_on, holder, is_in, lets_go, move_stage, moved, sent_by, stops_by, stops_of, told, what_in}
 use Rattle.tds_relay.specs.Hall as hall
-use Rattle.tds_relay.proofs.Caring.{Sound}
-use Rattle.tds_relay.proofs.Lists.{Once, comm, places, theirs_none, none_filtered}
-use Rattle.tds_relay.proofs.Seated.{AllSit}
-use Rattle.tds_relay.proofs.Others.{IsOthers}
-use Rattle.tds_relay.proofs.Ours.{Gone, leaves_gone}
-use Rattle.tds_relay.proofs.Away.{IsAbsent, WaitsNot, WaitsOnce, no_place, stays_gone}
-use Rattle.tds_relay.proofs.Outs.{out_after}
-use Rattle.tds_relay.proofs.Tying as tying
-use Rattle.tds_relay.proofs.Tying.{went_by}
-use Rattle.tds_relay.proofs.Standing.{AtDesk, Leaves, Sent, Standing, apart_stands, asks_stand, at_desk, ends_stand, lacks_stand, lets_stand, puts_stand, renews_stand, replaced_stands, stays_next, stops_stand, unheard_stands, unlost_stands}
-use Rattle.tds_relay.proofs.Stopping.{Known, Told, desk_next, hears_stand, never_waits}
-use Rattle.tds_relay.proofs.Feeding.{LeavesIf, fed_next}
 
 beyond : (ends : Ends) (key : ℕ) (o : Option End) → length ends ≤ key → end_at (slice_set ends key o) key ≡ None
 beyond ends key o far = get_or-eq_default (slice_set ends key o) None (subst (λ (n : ℕ). n ≤ key) (sym (length-set ends key o)) far)

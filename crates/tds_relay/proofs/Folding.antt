@@ -33,7 +33,7 @@ use Rattle.tds_relay.proofs.Standing.{Standing, ends_stand, puts_stand}
 use Rattle.tds_relay.proofs.Stopping.{Known, Told, hears_lawful}
 use Rattle.tds_relay.proofs.Feeding.{fed_lawful}
 use Rattle.tds_relay.proofs.Ending.{whose_by, end_by, end_behind_is, passes_by}
-use Rattle.tds_relay.proofs.Moving.{Judges, LeavesBy, StepOf, Steps, StoryOf, left_of, step as moves_step}
+use Rattle.tds_relay.proofs.Moving.{Judges, LeavesBy, StepOf, StoryOf, left_of}
 
 -- ---- Events and calls, one behind the other
 

@@ -5,10 +5,10 @@ pub mod Away
 pub mod Bringing
 pub mod Calling
 pub mod Caring
-pub mod Changing
 pub mod Cuts
 pub mod Dealt
 pub mod Ending
+pub mod Fed
 pub mod Feeding
 pub mod Folding
 pub mod Fronting
@@ -31,6 +31,7 @@ pub mod Owning
 pub mod Phases
 pub mod Posting
 pub mod Promised
+pub mod Putting
 pub mod Reaching
 pub mod Renewing
 pub mod Saying

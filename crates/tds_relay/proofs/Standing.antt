@@ -34,7 +34,6 @@ use Rattle.tds_relay.proofs.Outs.{out_after}
 use Rattle.tds_relay.proofs.Leading.{Leads, leads_nothing}
 use Rattle.tds_relay.proofs.Tying as tying
 use Rattle.tds_relay.proofs.Tying.{SentBy, Tied, asks_tied, ends_tied, idle_tied, puts_tied, ready, rests, stops_tied, went_by}
-use Rattle.tds_relay.proofs.Telling.{EndTied, heard_tied}
 
 -- ---- At the desk alone
 

@@ -1,25 +1,22 @@
 -- Where an application's end is, beside where the line of its connection is, and the place behind its end.
-use Rattle.std.proofs.Common.{◌≡◌, ◌∙◌, ℕ, zero, suc, Bool, true, false, List, [], ◌∷◌, ◌++◌, refl, sym, ap, subst}
+use Rattle.std.proofs.Common.{◌≡◌, ℕ, zero, suc, Bool, true, false, List, [], ◌∷◌, ◌++◌, refl, sym, ap, subst}
 use Rattle.tds_wire.specs.declared.told.Token.{Token}
 use Rattle.tds_client.specs.declared.heard.Heard.{Heard}
-use Rattle.tds_front.specs.declared.front.Front.{Front}
 use Rattle.tds_front.specs.declared.stage.Stage.{Stage}
 use Rattle.tds_front.specs.declared.stage.Stage.TheVariants as stages
 use Rattle.tds_front.specs.Passing.{Event, GoesOn, Says, EndsWhole, behind}
 use Rattle.tds_front.specs.Rules as rules
-use Rattle.tds_front.specs.Serving as serving
-use Rattle.tds_front.specs.Serving.{Place, Ready, Executing, Stopping, IsLawful, MayGo, behind_brought, behind_reply}
+use Rattle.tds_front.specs.Serving.{Place, Ready, Executing}
 use Rattle.tds_service.specs.Line as line
 use Rattle.tds_service.specs.Line.{Line, Act, Answer, Packet, Turn, turn}
 use Rattle.tds_service.specs.History.{history, line_after}
 use Rattle.tds_service.specs.Refusing.{packets}
 use Rattle.tds_service.specs.Ties.{sent_in}
 use Rattle.tds_relay.specs.Desk as desk
-use Rattle.tds_relay.specs.Behind.{gone_on, said_by, unless_withdrawn}
-use Rattle.tds_relay.specs.Fronting.{MayEnd, is_left_out, is_out_behind}
-use Rattle.tds_relay.specs.Hall.{End, Open, Over, IsBegun, IsHere, IsWhole, told, what_of}
+use Rattle.tds_relay.specs.Behind.{gone_on}
+use Rattle.tds_relay.specs.Hall.{IsBegun, IsHere, IsWhole}
 use Rattle.tds_relay.proofs.Fronting.{line_at, out_of, place_of}
-use Rattle.tds_relay.proofs.Outs.{HeardAs, Breaks, ReadsOn, ReadsEnd, SkipsOn, SkipsEnd, out_after}
+use Rattle.tds_relay.proofs.Outs.{out_after}
 use Rattle.tds_relay.proofs.Leading.{IsGone, Leads, leads_nothing}
 use Rattle.tds_relay.proofs.Ours.{acts_done}
 

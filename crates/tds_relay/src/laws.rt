@@ -12,7 +12,6 @@ ghost use Rattle.tds_front.specs.Serving.{IsLawful, Ready};
 ghost use Rattle.tds_front.specs.Passing.{EndsWhole, behind, towards};
 ghost use Rattle.tds_front.specs.declared.stage.Stage.TheVariants as stages;
 ghost use Rattle.tds_relay.specs.Behind.{AllAnswerOnce, IsLedTo, Stay, passed_in};
-ghost use Rattle.tds_relay.specs.Hall as halls;
 ghost use Rattle.tds_relay.specs.Bounds.{waiting_in};
 ghost use Rattle.tds_relay.specs.declared.application.Application.{Application};
 ghost use Rattle.tds_relay.specs.declared.link.Link.{Link};
@@ -20,7 +19,8 @@ ghost use Rattle.tds_relay.specs.declared.outgoing.Outgoing.{Outgoing};
 ghost use Rattle.tds_relay.specs.Dealing.{Floor, floor_in};
 ghost use Rattle.tds_relay.specs.Fronting.{AnswersOnce, done_on, happened};
 ghost use Rattle.tds_relay.specs.Owning.{Gives};
-ghost use Rattle.tds_relay.specs.Fronts.{Hall, Moves, hall_in};
+ghost use Rattle.tds_relay.specs.Fronts.{hall_in};
+ghost use Rattle.tds_relay.specs.Hall.{Hall, Moves};
 ghost use Rattle.tds_relay.specs.Lasting.{Follow, IsKept, Next, StaysAlong};
 ghost use Rattle.tds_relay.specs.Posts.{Post, post_at};
 ghost use Rattle.tds_relay.specs.Reads.{Comes, reader_at, seen_at};
@@ -151,10 +151,10 @@ pub fn packets_that_came(relay: &mut Relay, number: u64, came: &[u8]) -> Result<
     relay.came(number, came)
 }
 
-/// An application's end moves, in a call, by bytes of its own, in a call with these; and by what its
-/// connection's service answers to a packet that comes there, in a call with that: its request is answered
-/// where the service has its whole answer, and its attention acknowledged where the service has the
-/// acknowledgement, unless that is of what it has taken back. By nothing else.
+/// The applications' ends move with the desk, in a call, by moves that the call causes: by bytes of an
+/// application, in a call with these; by packets of its request that go out; by what its connection's service
+/// answers to a packet that comes there, in a call with that; by a connection that is let go, replaced or
+/// lost; and where the relay closes an application. By nothing else, and each is done only where it may be.
 pub fn ends_move(
     relay: &mut Relay,
     key: usize,
@@ -206,5 +206,6 @@ pub fn lawful_applications()
 /// that may be: its own contract says so. So where moves led to the hall, they do again, and what is said here
 /// of moves holds behind any calls.
 pub fn any_calls()
-    ensures { (by : Cause) (max : ℕ) (old new : halls.Hall) → halls.Moves by old new → IsLedTo max old → IsLedTo max new }
+    ensures { (by : Cause) (max : ℕ) (old new : Hall) → Moves by old new → IsLedTo max old
+        → IsLedTo max new }
 {}
