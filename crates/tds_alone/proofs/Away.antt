@@ -23,9 +23,9 @@ use Rattle.tds_relay.proofs.Caring.{Sound}
 use Rattle.tds_relay.proofs.Bringing.{lendable_idle}
 use Rattle.tds_alone.specs.Serving.{Ask, Resets, End, Moment, Server, World, fresh, goes_out, happens, logged_in, new_end, packets_in, said, takes_all}
 use Rattle.tds_alone.specs.Alone.{IsAway, IsOrderly, asks_by, does_by, ends_at, ends_by, given_at, given_in, heard_of, keeps_by, line_of, settles_by, underway, unless_wrong}
-use Rattle.tds_alone.proofs.Lists.{Once, found_key, line_one, line_other, none_behind, once_behind, once_filtered, places, theirs, theirs_found, theirs_none, theirs_one, theirs_other, theirs_still}
-use Rattle.tds_alone.proofs.Sparing.{none_on}
-use Rattle.tds_alone.proofs.Others.{Its}
+use Rattle.tds_relay.proofs.Lists.{Once, found_key, line_one, line_other, none_behind, once_behind, once_filtered, places, theirs, theirs_found, theirs_none, theirs_one, theirs_other, theirs_still}
+use Rattle.tds_relay.proofs.Sparing.{none_on}
+use Rattle.tds_relay.proofs.Others.{Its}
 use Rattle.tds_alone.proofs.Own.{Follows, Stands, StandsAt}
 use Rattle.tds_alone.proofs.Story.{IsAbsent, Next, absent_whose, moved, not_its, underway_held, underway_none}
 

@@ -22,9 +22,9 @@ use Rattle.tds_relay.proofs.Caring.{Sound, found_held}
 use Rattle.tds_relay.proofs.Promised.{found_numbered}
 use Rattle.tds_alone.specs.Serving.{Ask, End, Moment, Server, World, fresh, goes_out, packets_in, said}
 use Rattle.tds_alone.specs.Alone.{IsNextAt, IsOrderly, IsSaid, asks_by, does_at, does_by, ends_at, ends_by, given_at, given_in, heard_of, line_at, line_of, settles_at, settles_by, unless_wrong}
-use Rattle.tds_alone.proofs.Lists.{none_filtered, places, theirs, theirs_left}
-use Rattle.tds_alone.proofs.Sparing.{none_on}
-use Rattle.tds_alone.proofs.Others.{Its, found, held, number_is}
+use Rattle.tds_relay.proofs.Lists.{none_filtered, places, theirs, theirs_left}
+use Rattle.tds_relay.proofs.Sparing.{none_on}
+use Rattle.tds_relay.proofs.Others.{Its, found, held, number_is}
 use Rattle.tds_alone.proofs.Own.{Acted, Follows, Hears, Stands, StandsAt, acts_of_deed, come_end, comes_heard, deed_acted, first_of_deed, refused_asks, same_acted}
 use Rattle.tds_alone.proofs.Story.{Holding, Next, goes_away, goes_on, its_own, own_whose}
 

@@ -1,6 +1,3 @@
-pub mod Lists
-pub mod Sparing
-pub mod Others
 pub mod Own
 pub mod Story
 pub mod Held
@@ -9,5 +6,3 @@ pub mod Away
 pub mod Told
 pub mod Examples
 pub mod Refused
-pub mod Sitting
-pub mod Seated

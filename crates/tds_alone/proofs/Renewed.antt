@@ -23,9 +23,9 @@ use Rattle.tds_relay.proofs.Renewing.{idle_is}
 use Rattle.tds_relay.proofs.Caring.{Sound}
 use Rattle.tds_alone.specs.Serving.{Ask, Resets, End, Moment, Server, World, goes_out, happens, logged_in, packets_in, reset_if, said, takes_all}
 use Rattle.tds_alone.specs.Alone.{asks_by, given_at, given_in, keeps_by, underway}
-use Rattle.tds_alone.proofs.Lists.{places, theirs, theirs_found, theirs_left, theirs_one}
-use Rattle.tds_alone.proofs.Sparing.{none_on}
-use Rattle.tds_alone.proofs.Others.{Its, found, key_is, number_is}
+use Rattle.tds_relay.proofs.Lists.{places, theirs, theirs_found, theirs_left, theirs_one}
+use Rattle.tds_relay.proofs.Sparing.{none_on}
+use Rattle.tds_relay.proofs.Others.{Its, found, key_is, number_is}
 use Rattle.tds_alone.proofs.Own.{Stands, StandsAt}
 use Rattle.tds_alone.proofs.Story.{Holding, Next, goes_away, goes_on, logged, moved, seated, underway_held}
 use Rattle.tds_alone.proofs.Held.{append_done, by_lease, not_same, same_number}

@@ -17,10 +17,10 @@ use Rattle.tds_relay.proofs.Caring.{Sound}
 use Rattle.tds_relay.proofs.Promised.{handed_to_holder}
 use Rattle.tds_alone.specs.Serving.{Ask, End, Moment, Server, World, fresh, goes_out, happens, logged_in, packets_in, said, takes_all}
 use Rattle.tds_alone.specs.Alone.{asks_by, ends_at, given_at, given_in, heard_of, if_its, line_at, line_of, settles_by, underway, underway_by, unless_wrong}
-use Rattle.tds_alone.proofs.Lists.{Among, Once, among, among_one, theirs, theirs_found, theirs_none}
-use Rattle.tds_alone.proofs.Sparing.{remains}
-use Rattle.tds_alone.proofs.Seated.{AllSit}
-use Rattle.tds_alone.proofs.Others.{Its, IsOthers, Passes, found, held, key_is, number_is, passes}
+use Rattle.tds_relay.proofs.Lists.{Among, Once, among, among_one, theirs, theirs_found, theirs_none}
+use Rattle.tds_relay.proofs.Sparing.{remains}
+use Rattle.tds_relay.proofs.Seated.{AllSit}
+use Rattle.tds_relay.proofs.Others.{Its, IsOthers, Passes, found, held, key_is, number_is, passes}
 use Rattle.tds_alone.proofs.Own.{Follows, Stands}
 
 -- It holds a connection, whose server's end keeps step with a server of its own, which is in this session; or it holds none.

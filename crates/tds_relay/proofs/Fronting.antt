@@ -19,21 +19,21 @@ use Rattle.tds_front.specs.Serving.{Place, Ready, Executing, Stopping, Broken, I
 use Rattle.tds_front.specs.Exchanges.{place_after}
 use Rattle.tds_relay.specs.Fronting.{AnswersOnce, MayEnd, happened, is_left_out, is_out_behind, with_heard, with_sent}
 
-abbrev line_at : ℕ → Stage → Heard → Line
+abbrev pub line_at : ℕ → Stage → Heard → Line
 line_at n s h = record { asked = n; stage = s; heard = h }
 
 abbrev with_mark : Heard → Reset → Heard
 with_mark h reset = record { descriptor = h.descriptor; mark = strongest (Some reset) h.mark; done = h.done }
 
 -- where its server is, and whether a whole request is out
-abbrev place_of : Stage → Bool → Place
+abbrev pub place_of : Stage → Bool → Place
 place_of line.Idle out = Ready
 place_of (line.Sending begun) out = Ready
 place_of line.Reading out = Executing
 place_of line.Cancelling out = Stopping out
 place_of (line.Broken fault) out = Broken
 
-abbrev out_of : Stage → Bool → Bool
+abbrev pub out_of : Stage → Bool → Bool
 out_of line.Idle out = false
 out_of (line.Sending begun) out = false
 out_of line.Reading out = true

@@ -1,18 +1,14 @@
 -- How the ends of applications move.
-use Rattle.std.proofs.Common.{◌≡◌, ◌∙◌, ◌⊎◌, ◌++◌, ℕ, Bool, true, false, List, [], ◌∷◌, Option, Some, None, inl, inr, refl, sym, ap, subst, map, slice_set, option_map}
+use Rattle.std.proofs.Common.{◌≡◌, ◌∙◌, ◌++◌, ℕ, zero, suc, Bool, false, List, [], ◌∷◌, Option, Some, None, inl, inr, refl, sym, ap, subst, map, slice_set, option_map}
 use Rattle.std.proofs.lemmas.List.{map-set, set-get_or}
 use Rattle.std.proofs.Math.Seq.{map-set_same}
 use Rattle.std.proofs.Math.ListN.{get_or-map}
-use Rattle.slab.specs.Slab.{Slab, get, with_value}
+use Rattle.slab.specs.Slab.{Slab, Updates, get, with_value}
 use Rattle.std.specs.Prelude.{Result, Ok, Err, OnOk, OnSome, IfNone}
-use Rattle.tds_front.specs.declared.front.Front.{Front}
 use Rattle.tds_front.specs.declared.stage.Stage.{Stage}
-use Rattle.tds_front.specs.declared.stage.Stage.TheVariants as stages
-use Rattle.tds_front.specs.Bytes.{fed}
-use Rattle.tds_front.specs.Rules as rules
+use Rattle.tds_front.specs.Bytes.{new_front}
 use Rattle.tds_wire.specs.declared.told.Token.{Token}
 use Rattle.tds_service.specs.History.{Done}
-use Rattle.tds_service.specs.Line as line
 use Rattle.tds_service.specs.Line.{Answer}
 use Rattle.tds_service.specs.Parts.{Part}
 use Rattle.tds_service.specs.Table.{answers_in}
@@ -21,67 +17,98 @@ use Rattle.tds_relay.specs.declared.desk.coming.Heard.{Heard}
 use Rattle.tds_relay.specs.declared.desk.coming.What.{What}
 use Rattle.tds_relay.specs.Desk as desk
 use Rattle.tds_relay.specs.Desk.{Desk, Event, Way, desk_after, turn, whose}
-use Rattle.tds_relay.specs.Fronts.{Came, Does, Feeds, Fronts, Hall, HasCome, Hears, IsAcknowledgement, IsNoPacket, IsWhat, MayMoveAll, Misses, Move, Moves, Quits, comes, done_by, front_at, fronts_in, hears, hears_of, known_of, move_front, move_whose, moved, moved_all, settles, stage_of, told_by, told_to, what_in, what_of}
+use Rattle.tds_relay.specs.Fronts.{Came, HasCome, IsWhat, LetsGoFirst, Moved, MovedOn, end_of, ends_in, hall_of_ends, told_by}
+use Rattle.tds_relay.specs.Hall.{CausesMove, Closes, Comes, Does, End, Ends, Hall, HasEntered, IfOpen, IfWhose, IsHere, LetsGo, Loses, MayDoAlone, MayMove, MayMoveAll, Move, Moves, Open, Quits, Replaces, change_end, change_whose, closes, done_by, end_at, holder, lets_go, moved, moved_all, told, what_in, what_of}
 use Rattle.tds_relay.specs.Promises.{Each}
 use Rattle.tds_relay.specs.Ties as causes
-use Rattle.tds_relay.specs.Ties.{Cause, Causes, Connection, Goes, GoesOn, Reaches, Turns}
+use Rattle.tds_relay.specs.Ties.{Cause, Causes, Turns}
 
 -- ---- The ends of all, where one of them changes
 
 -- an application is written back whose end is as it was
-pub fronts_kept : (s : Slab Application) (key : ℕ) (a b : Application) → Some a ≡ get s key → stage_of b ≡ stage_of a → fronts_in (with_value s key b) ≡ fronts_in s
-fronts_kept s key a b is same = map-set_same (option_map stage_of) s.slots key (Some b) None (ap Some same ∙ ap (option_map stage_of) is)
+pub ends_kept : (s : Slab Application) (key : ℕ) (a b : Application) → Some a ≡ get s key → end_of b ≡ end_of a → ends_in (with_value s key b) ≡ ends_in s
+ends_kept s key a b is same = map-set_same (option_map end_of) s.slots key (Some b) None (ap Some same ∙ ap (option_map end_of) is)
 
 -- one's is what its slot has
-front_is : (s : Slab Application) (key : ℕ) → front_at (fronts_in s) key ≡ option_map stage_of (get s key)
-front_is s key = get_or-map (option_map stage_of) s.slots key None
+pub end_is : (s : Slab Application) (key : ℕ) → end_at (ends_in s) key ≡ option_map end_of (get s key)
+end_is s key = get_or-map (option_map end_of) s.slots key None
 
 -- of one that isn't there none moves
-pub fronts_nobody : (s : Slab Application) (key : ℕ) (by : Stage → Stage) → get s key ≡ None → fronts_in s ≡ move_front key by (fronts_in s)
-fronts_nobody s key by none =
-    let absent : front_at (fronts_in s) key ≡ None = front_is s key ∙ ap (option_map stage_of) none in
-    sym (ap (λ (o : Option Stage). slice_set (fronts_in s) key o) (ap (option_map by) absent ∙ sym absent) ∙ set-get_or (fronts_in s) key None)
+pub ends_nobody : (s : Slab Application) (key : ℕ) (by : End → End) → get s key ≡ None → ends_in s ≡ change_end key by (ends_in s)
+ends_nobody s key by none =
+    let absent : end_at (ends_in s) key ≡ None = end_is s key ∙ ap (option_map end_of) none in
+    sym (ap (λ (o : Option End). slice_set (ends_in s) key o) (ap (option_map by) absent ∙ sym absent) ∙ set-get_or (ends_in s) key None)
 
 -- one is written back whose end has moved
-pub fronts_moved : (s : Slab Application) (key : ℕ) (a b : Application) (by : Stage → Stage) → Some a ≡ get s key → stage_of b ≡ by (stage_of a) → fronts_in (with_value s key b) ≡ move_front key by (fronts_in s)
-fronts_moved s key a b by is moves =
-    map-set (option_map stage_of) s.slots key (Some b)
-    ∙ ap (λ (o : Option Stage). slice_set (fronts_in s) key o) (ap Some moves ∙ sym (ap (option_map by) (front_is s key ∙ ap (option_map stage_of) (sym is))))
+pub ends_moved : (s : Slab Application) (key : ℕ) (a b : Application) (by : End → End) → Some a ≡ get s key → end_of b ≡ by (end_of a) → ends_in (with_value s key b) ≡ change_end key by (ends_in s)
+ends_moved s key a b by is moves =
+    map-set (option_map end_of) s.slots key (Some b)
+    ∙ ap (λ (o : Option End). slice_set (ends_in s) key o) (ap Some moves ∙ sym (ap (option_map by) (end_is s key ∙ ap (option_map end_of) (sym is))))
 
 -- the same behind two steps; or what it is behind the first
-pub fronts_more : {A E : Type 0} (r : Result A E) (p q s : Fronts) → OnOk r (p ≡ q) → q ≡ s → OnOk r (p ≡ s)
-fronts_more (Ok x) p q s h k = h ∙ k
-fronts_more (Err e) p q s h k = tt
+pub ends_more : {A E : Type 0} (r : Result A E) (p q s : Ends) → OnOk r (p ≡ q) → q ≡ s → OnOk r (p ≡ s)
+ends_more (Ok x) p q s h k = h ∙ k
+ends_more (Err e) p q s h k = tt
 
 -- an application is there no more
-pub fronts_quit : (s s1 : Slab Application) (key : ℕ) (r : Option Application) → r ≡ get s key → OnSome r (s1.slots ≡ slice_set s.slots key None) → IfNone r (s1 ≡ s)
-    → fronts_in s1 ≡ slice_set (fronts_in s) key None
-fronts_quit s s1 key (Some a) is slots absent = ap (map (option_map stage_of)) slots ∙ map-set (option_map stage_of) s.slots key None
-fronts_quit s s1 key None is slots absent =
-    let none : front_at (fronts_in s) key ≡ None = front_is s key ∙ ap (option_map stage_of) (sym is) in
-    ap fronts_in absent ∙ sym (set-get_or (fronts_in s) key None) ∙ ap (λ (o : Option Stage). slice_set (fronts_in s) key o) none
+pub ends_quit : (s s1 : Slab Application) (key : ℕ) (r : Option Application) → r ≡ get s key → OnSome r (s1.slots ≡ slice_set s.slots key None) → IfNone r (s1 ≡ s)
+    → ends_in s1 ≡ slice_set (ends_in s) key None
+ends_quit s s1 key (Some a) is slots absent = ap (map (option_map end_of)) slots ∙ map-set (option_map end_of) s.slots key None
+ends_quit s s1 key None is slots absent =
+    let none : end_at (ends_in s) key ≡ None = end_is s key ∙ ap (option_map end_of) (sym is) in
+    ap ends_in absent ∙ sym (set-get_or (ends_in s) key None) ∙ ap (λ (o : Option End). slice_set (ends_in s) key o) none
 
--- whether something of its request has gone on makes no difference to what it hears
-pub answered_known : (stage : Stage) → known_of (rules.answered stage) ≡ rules.answered (known_of stage)
-answered_known stages.Quiet = refl
-answered_known (stages.Receiving kind gone) = refl
-answered_known (stages.Underway gone) = refl
-answered_known stages.Stopping = refl
-answered_known (stages.Broken fault) = refl
+-- an application has come
+pub ends_entered : (s s1 : Slab Application) (size key : ℕ) (a : Application) → get s key ≡ None → Updates s s1 key (Some a) → end_of a ≡ Open (new_front size) false → HasEntered key (ends_in s) (ends_in s1)
+ends_entered s s1 size key a none updates is = record {
+  was_free = end_is s key ∙ ap (option_map end_of) none;
+  size = size;
+  begins = end_is s1 key ∙ ap (option_map end_of) updates.changed ∙ ap Some is;
+  others_stay = λ other apart. end_is s1 other ∙ ap (option_map end_of) (updates.others other apart) ∙ sym (end_is s other);
+}
 
-pub acknowledged_known : (stage : Stage) → known_of (rules.acknowledged stage) ≡ rules.acknowledged (known_of stage)
-acknowledged_known stages.Quiet = refl
-acknowledged_known (stages.Receiving kind gone) = refl
-acknowledged_known (stages.Underway gone) = refl
-acknowledged_known stages.Stopping = refl
-acknowledged_known (stages.Broken fault) = refl
+-- ---- One end that changes
 
-pub went_on_known : (stage : Stage) → known_of (rules.went_on stage) ≡ known_of stage
-went_on_known stages.Quiet = refl
-went_on_known (stages.Receiving kind gone) = refl
-went_on_known (stages.Underway gone) = refl
-went_on_known stages.Stopping = refl
-went_on_known (stages.Broken fault) = refl
+pub changed_at : (es : Ends) (key : ℕ) (by : End → End) → end_at (change_end key by es) key ≡ option_map by (end_at es key)
+changed_at [] key by = refl
+changed_at (e ∷ es) zero by = refl
+changed_at (e ∷ es) (suc key) by = changed_at es key by
+
+set_both : (es : Ends) (key : ℕ) (o p : Option End) → slice_set (slice_set es key o) key p ≡ slice_set es key p
+set_both [] key o p = refl
+set_both (e ∷ es) zero o p = refl
+set_both (e ∷ es) (suc key) o p = ap (λ (xs : Ends). e ∷ xs) (set_both es key o p)
+
+map_both : (f g : End → End) (o : Option End) → option_map f (option_map g o) ≡ option_map (λ e. f (g e)) o
+map_both f g None = refl
+map_both f g (Some e) = refl
+
+map_same : (f g : End → End) → ((e : End) → f e ≡ g e) → (o : Option End) → option_map f o ≡ option_map g o
+map_same f g same None = refl
+map_same f g same (Some e) = ap Some (same e)
+
+pub changed_both : (es : Ends) (key : ℕ) (f g : End → End) → change_end key f (change_end key g es) ≡ change_end key (λ e. f (g e)) es
+changed_both es key f g =
+    set_both es key (option_map g (end_at es key)) (option_map f (end_at (change_end key g es) key))
+    ∙ ap (λ (o : Option End). slice_set es key o) (ap (option_map f) (changed_at es key g) ∙ map_both f g (end_at es key))
+
+pub changed_alike : (es : Ends) (key : ℕ) (f g : End → End) → ((e : End) → f e ≡ g e) → change_end key f es ≡ change_end key g es
+changed_alike es key f g same = ap (λ (o : Option End). slice_set es key o) (map_same f g same (end_at es key))
+
+map_id : (f : End → End) → ((e : End) → f e ≡ e) → (o : Option End) → option_map f o ≡ o
+map_id f same None = refl
+map_id f same (Some e) = ap Some (same e)
+
+pub changed_not : (es : Ends) (key : ℕ) (f : End → End) → ((e : End) → f e ≡ e) → es ≡ change_end key f es
+changed_not es key f same = sym (ap (λ (o : Option End). slice_set es key o) (map_id f same (end_at es key)) ∙ set-get_or es key None)
+
+-- one that is over or isn't there
+open_over : (P : Stage → Type 0) (o : Option End) → IfOpen P (option_map closes o)
+open_over P None = tt
+open_over P (Some e) = tt
+
+pub open_closed : (P : Stage → Type 0) (es : Ends) (key : ℕ) → IfOpen P (end_at (change_end key closes es) key)
+open_closed P es key = subst (IfOpen P) (sym (changed_at es key closes)) (open_over P (end_at es key))
 
 -- ---- Moves, one behind the other
 
@@ -89,162 +116,97 @@ moved_both : (h : Hall) (xs ys : List Move) → moved_all h (xs ++ ys) ≡ moved
 moved_both h [] ys = refl
 moved_both h (x ∷ xs) ys = moved_both (moved h x) xs ys
 
-may_both : (by : Cause) (h : Hall) (xs ys : List Move) → MayMoveAll by h xs → MayMoveAll by (moved_all h xs) ys → MayMoveAll by h (xs ++ ys)
-may_both by h [] ys m n = n
-may_both by h (x ∷ xs) ys m n = (m.0, may_both by (moved h x) xs ys m.1 n)
+may_both : (h : Hall) (xs ys : List Move) → MayMoveAll h xs → MayMoveAll (moved_all h xs) ys → MayMoveAll h (xs ++ ys)
+may_both h [] ys m n = n
+may_both h (x ∷ xs) ys m n = (m.0, may_both (moved h x) xs ys m.1 n)
+
+each_both : {X : Type 0} (P : X → Type 0) (xs ys : List X) → Each P xs → Each P ys → Each P (xs ++ ys)
+each_both P [] ys h k = k
+each_both P (x ∷ xs) ys h k = (h.0, each_both P xs ys h.1 k)
 
 pub moves_both : (by : Cause) (a b c : Hall) → Moves by a b → Moves by b c → Moves by a c
 moves_both by a b c m n = record {
   moves = m.moves ++ n.moves;
   are = moved_both a m.moves n.moves ∙ ap (λ (h : Hall). moved_all h n.moves) m.are ∙ n.are;
-  may = may_both by a m.moves n.moves m.may (subst (λ (h : Hall). MayMoveAll by h n.moves) (sym m.are) n.may);
+  may = may_both a m.moves n.moves m.may (subst (λ (h : Hall). MayMoveAll h n.moves) (sym m.are) n.may);
+  caused = each_both (CausesMove by) m.moves n.moves m.caused n.caused;
 }
 
 pub no_moves : (by : Cause) (h : Hall) → Moves by h h
-no_moves by h = record { moves = []; are = refl; may = tt }
+no_moves by h = record { moves = []; are = refl; may = tt; caused = tt }
 
--- ---- What is done at the desk alone
+pub moves_one : (by : Cause) (from old : Hall) (move : Move) → MayMove old move → CausesMove by move → Moves by from old → Moves by from (moved old move)
+moves_one by from old move may caused m = moves_both by from old (moved old move) m (record { moves = move ∷ []; are = refl; may = (may, tt); caused = (caused, tt) })
 
-abbrev does_all : List Event → List Move
-does_all [] = []
-does_all (event ∷ events) = Does event ∷ does_all events
+pub same_hall : (d d1 : Desk) (es es1 : Ends) → d1 ≡ d → es1 ≡ es → hall_of_ends d es ≡ hall_of_ends d1 es1
+same_hall d d1 es es1 same ends = ap (λ (x : Desk). hall_of_ends x es) (sym same) ∙ ap (λ (x : Ends). hall_of_ends d1 x) (sym ends)
 
-moved_does : (h : Hall) (events : List Event) → moved_all h (does_all events) ≡ record { desk = desk_after h.desk events; fronts = h.fronts }
-moved_does h [] = refl
-moved_does h (event ∷ events) = moved_does (moved h (Does event)) events
+-- to the same hall
+pub moves_same : (by : Cause) (from : Hall) (d d1 : Desk) (es es1 : Ends) → d1 ≡ d → es1 ≡ es → Moves by from (hall_of_ends d es) → Moves by from (hall_of_ends d1 es1)
+moves_same by from d d1 es es1 same ends m = subst (Moves by from) (same_hall d d1 es es1 same ends) m
 
-no_packet : (key : ℕ) (event : Event) → Causes (causes.Application key) event → IsNoPacket event
-no_packet key (desk.Waits other) c = tt
-no_packet key (desk.Unwaits other) c = tt
-no_packet key desk.Serves c = tt
-no_packet key (desk.Brings gives way) c = tt
-no_packet key (desk.Does other deed) c = tt
-no_packet key (desk.Leaves other gives way) c = tt
-no_packet key (desk.Renews other resumes) c = tt
-no_packet key (desk.Comes number part way) c = absurd (let u : ⊥ = cc in u)
-no_packet key (desk.Loses number) c = tt
+-- and on from it
+pub moved_same : (by : Cause) (d d1 : Desk) (es es1 : Ends) (new : Hall) → d1 ≡ d → es1 ≡ es → Moved by (hall_of_ends d1 es1) new → Moved by (hall_of_ends d es) new
+moved_same by d d1 es es1 new same ends m = λ from h. m from (moves_same by from d d1 es es1 same ends h)
 
-may_does : (by : Cause) (key : ℕ) (h : Hall) (events : List Event) → Each (Causes (causes.Application key)) events → MayMoveAll by h (does_all events)
-may_does by key h [] e = tt
-may_does by key h (event ∷ events) e = (no_packet key event e.0, may_does by key (moved h (Does event)) events e.1)
+-- where a call answers
+pub moves_ok : {A E : Type 0} (r : Result A E) (by : Cause) (old new : Hall) → OnOk r (Moved by old new) → OnOk r (Moves by old new)
+moves_ok (Ok x) by old new m = m old (no_moves by old)
+moves_ok (Err e) by old new m = tt
 
--- no packet comes where the desk goes on as an application may cause it
-pub moves_events : (by : Cause) (key : ℕ) (d d1 : Desk) (p p1 : Fronts) → Goes (causes.Application key) d d1 → p1 ≡ p → Moves by (record { desk = d; fronts = p }) (record { desk = d1; fronts = p1 })
-moves_events by key d d1 p p1 goes kept =
-    let r : Reaches (causes.Application key) d d1 = goes d (record { events = []; are = refl; caused = tt }) in
-    record {
-      moves = does_all r.events;
-      are = moved_does (record { desk = d; fronts = p }) r.events ∙ ap (λ (e : Desk). record { desk = e; fronts = p }) r.are ∙ ap (λ (fs : Fronts). record { desk = d1; fronts = fs }) (sym kept);
-      may = may_does by key (record { desk = d; fronts = p }) r.events r.caused;
-    }
+-- ---- Each as the code does it
 
-pub moves_on : (by : Cause) (d d1 : Desk) (p p1 : Fronts) → GoesOn d d1 → p1 ≡ p → Moves by (record { desk = d; fronts = p }) (record { desk = d1; fronts = p1 })
-moves_on by d d1 p p1 goes kept = moves_events by 0 d d1 p p1 (goes (causes.Application 0)) kept
+pub moves_does : (by : Cause) (from : Hall) (d d1 : Desk) (es es1 : Ends) (event : Event) (before after : List ℕ)
+    → Turns event d d1 before after → MayDoAlone (hall_of_ends d es) event → Causes by event → es1 ≡ es → Moves by from (hall_of_ends d es) → Moves by from (hall_of_ends d1 es1)
+moves_does by from d d1 es es1 event before after t may cause ends m =
+    subst (Moves by from) (same_hall (turn d event).desk d1 es es1 t.desk_is ends) (moves_one by from (hall_of_ends d es) (Does event) may cause m)
 
--- ---- What is heard
+pub moves_closes : (by : Cause) (from : Hall) (d d1 : Desk) (es es1 : Ends) (key : ℕ) → d1 ≡ d → es1 ≡ change_end key closes es → Moves by from (hall_of_ends d es) → Moves by from (hall_of_ends d1 es1)
+moves_closes by from d d1 es es1 key same ends m =
+    subst (Moves by from) (same_hall d d1 (change_end key closes es) es1 same ends) (moves_one by from (hall_of_ends d es) (Closes key) tt tt m)
 
-same_move : (key : ℕ) (f g : Stage → Stage) (fs : Fronts) → ((s : Stage) → f s ≡ g s) → (o : Option Stage) → slice_set fs key (option_map f o) ≡ slice_set fs key (option_map g o)
-same_move key f g fs same None = refl
-same_move key f g fs same (Some s) = ap (λ (x : Stage). slice_set fs key (Some x)) (same s)
+pub moves_loses : (by : Cause) (from : Hall) (d d1 : Desk) (es es1 : Ends) (number : ℕ) (key : Option ℕ) (before after : List ℕ)
+    → Turns (desk.Loses number) d d1 before after → key ≡ holder d number → es1 ≡ change_whose key closes es → Moves by from (hall_of_ends d es) → Moves by from (hall_of_ends d1 es1)
+moves_loses by from d d1 es es1 number key before after t its ends m =
+    subst (Moves by from)
+    (same_hall (turn d (desk.Loses number)).desk d1 (change_whose (holder d number) closes es) es1 t.desk_is (ends ∙ ap (λ (o : Option ℕ). change_whose o closes es) its))
+    (moves_one by from (hall_of_ends d es) (Loses number) tt tt m)
 
-stays : (f : Stage → Stage) → ((s : Stage) → f s ≡ s) → (o : Option Stage) → option_map f o ≡ o
-stays f same None = refl
-stays f same (Some s) = ap Some (same s)
+pub lets_go_first : (key : ℕ) (d d1 : Desk) (es es1 : Ends) (new : Hall) (gives : Bool) (way : Way) (before after : List ℕ)
+    → Turns (desk.Leaves key gives way) d d1 before after → es1 ≡ change_end key lets_go es → MovedOn (hall_of_ends d1 es1) new → LetsGoFirst key (hall_of_ends d es) new
+lets_go_first key d d1 es es1 new gives way before after t ends on = (
+  gives,
+  way,
+  λ by. moved_same by (turn d (desk.Leaves key gives way)).desk d1 (change_end key lets_go es) es1 new t.desk_is ends (on by),
+)
 
-unmoved : (key : ℕ) (f : Stage → Stage) (fs : Fronts) → ((s : Stage) → f s ≡ s) → move_front key f fs ≡ fs
-unmoved key f fs same = ap (λ (o : Option Stage). slice_set fs key o) (stays f same (front_at fs key)) ∙ set-get_or fs key None
+pub moves_lets_go : (key : ℕ) (from : Hall) (d : Desk) (es : Ends) (new : Hall) → IfOpen IsHere (end_at es key) → LetsGoFirst key (hall_of_ends d es) new
+    → Moves (causes.Application key) from (hall_of_ends d es) → Moves (causes.Application key) from new
+moves_lets_go key from d es new here l m =
+    l.2 (causes.Application key) from (moves_one (causes.Application key) from (hall_of_ends d es) (LetsGo key l.0 l.1) here refl m)
 
--- a packet's outcome is told, or it is an acknowledgement that is missed
-abbrev IsTold : Answer → Fronts → Fronts → Fronts → Type 0
-IsTold a f g fs = (f ≡ g) ⊎ (((request : ℕ) × (a ≡ line.Acked request)) × (fs ≡ g))
+pub moves_replaces : (number key : ℕ) (from : Hall) (d d1 : Desk) (es es1 : Ends) (before after : List ℕ)
+    → Turns (desk.Loses number) d d1 before after → Some key ≡ holder d number → IfOpen IsHere (end_at es key) → es1 ≡ change_end key lets_go es
+    → Moves (causes.Connection number) from (hall_of_ends d es) → Moves (causes.Connection number) from (hall_of_ends d1 es1)
+moves_replaces number key from d d1 es es1 before after t its here ends m =
+    subst (Moves (causes.Connection number) from)
+    (same_hall (turn d (desk.Loses number)).desk d1 (change_whose (holder d number) lets_go es) es1 t.desk_is (ends ∙ ap (λ (o : Option ℕ). change_whose o lets_go es) its))
+    (moves_one (causes.Connection number) from (hall_of_ends d es) (Replaces number) (subst (IfWhose (λ (k : ℕ). IfOpen IsHere (end_at es k))) its here) refl m)
 
-told_one : (key : ℕ) (a : Answer) (missed : Bool) (fs : Fronts) → IsTold a (move_front key (hears a) fs) (told_to (Some key) (what_of a) missed fs) fs
-told_one key (line.Refused why) missed fs = inl (unmoved key _ fs (λ s. refl))
-told_one key line.Marked missed fs = inl (unmoved key _ fs (λ s. refl))
-told_one key (line.Asked request descriptor) missed fs = inl (unmoved key _ fs (λ s. refl))
-told_one key line.Sent missed fs = inl (unmoved key _ fs (λ s. refl))
-told_one key line.Nothing missed fs = inl (unmoved key _ fs (λ s. refl))
-told_one key line.Already missed fs = inl (unmoved key _ fs (λ s. refl))
-told_one key (line.Unsent request) missed fs = inl (unmoved key _ fs (λ s. refl))
-told_one key (line.Stopped request) missed fs = inl (unmoved key _ fs (λ s. refl))
-told_one key line.More missed fs = inl (unmoved key _ fs (λ s. refl))
-told_one key (line.Finished request) missed fs = inl (same_move key (hears (line.Finished request)) (settles false) fs (λ s. refl) (front_at fs key))
-told_one key (line.Acked request) false fs = inl (same_move key (hears (line.Acked request)) (settles true) fs (λ s. refl) (front_at fs key))
-told_one key (line.Acked request) true fs = inr ((request, refl), refl)
-told_one key (line.Fault fault) missed fs = inl (unmoved key _ fs (λ s. refl))
-told_one key line.Lost missed fs = inl (unmoved key _ fs (λ s. refl))
+gone_stays : (es : Ends) (key : ℕ) (by : End → End) → change_end key by (slice_set es key None) ≡ slice_set es key None
+gone_stays [] key by = refl
+gone_stays (e ∷ es) zero by = refl
+gone_stays (e ∷ es) (suc key) by = ap (λ (xs : Ends). e ∷ xs) (gone_stays es key by)
 
-abbrev IsToldOf : List (Done Token) → Fronts → Fronts → Fronts → Type 0
-IsToldOf ds f g fs = (f ≡ g) ⊎ (IsAcknowledgement ds × (fs ≡ g))
-
-told_own : (key : ℕ) (ds : List (Done Token)) (missed : Bool) (fs : Fronts) → IsToldOf ds (move_front key (hears_of ds) fs) (told_to (Some key) (what_in ds) missed fs) fs
-told_own key [] missed fs = inl (unmoved key _ fs (λ s. refl))
-told_own key (d ∷ ds) missed fs = elim (told_one key d.answer missed fs) [
-  | inl e ↦ inl (same_move key (hears_of (d ∷ ds)) (hears d.answer) fs (λ s. refl) (front_at fs key) ∙ e)
-  | inr e ↦ inr e
-]
-
-told_whose : (who : Option ℕ) (what : What) (ds : List (Done Token)) (missed : Bool) (fs : Fronts) → IsWhat who what ds
-    → IsToldOf ds (move_whose who (hears_of ds) fs) (told_to who what missed fs) fs
-told_whose None what ds missed fs is = inl refl
-told_whose (Some key) what ds missed fs is = subst (λ (w : What). IsToldOf ds (move_front key (hears_of ds) fs) (told_to (Some key) w missed fs) fs) (sym is) (told_own key ds missed fs)
-
-moves_packet : (number : ℕ) (d d1 : Desk) (heard : Heard) (missed : Bool) (fs : Fronts) → HasCome number d d1 heard
-    → Moves (Connection number) (record { desk = d; fronts = fs }) (record { desk = d1; fronts = told_to heard.key heard.what missed fs })
-moves_packet number d d1 heard missed fs come =
-    let fs1 : Fronts = told_to heard.key heard.what missed fs in
-    let ends : (e : Desk) (gs : Fronts) → e ≡ d1 → gs ≡ fs1 → let a : Hall = record { desk = e; fronts = gs } in let b : Hall = record { desk = d1; fronts = fs1 } in a ≡ b
-    = λ e gs same moves. ap (λ (x : Desk). record { desk = x; fronts = gs }) same ∙ ap (λ (x : Fronts). record { desk = d1; fronts = x }) moves in
-    elim (told_whose heard.key heard.what (done_by d number come.part) missed fs come.what_is) [
-      | inl e ↦ record {
-        moves = Hears number come.part come.way ∷ [];
-        are = ends (comes d number come.part come.way) _ (sym come.desk_is) (ap (λ (o : Option ℕ). move_whose o (hears_of (done_by d number come.part)) fs) (sym come.whose_is) ∙ e);
-        may = (refl, tt);
-      }
-      | inr e ↦ record {
-        moves = Misses number come.part come.way ∷ [];
-        are = ends (comes d number come.part come.way) _ (sym come.desk_is) e.1;
-        may = ((refl, e.0), tt);
-      }
-    ]
-
--- a packet has come, or none
-pub moves_came : (number : ℕ) (d d1 : Desk) (heard : Option Heard) (missed : Bool) (fs fs1 : Fronts) → Came number d d1 heard → fs1 ≡ told_by heard missed fs
-    → Moves (Connection number) (record { desk = d; fronts = fs }) (record { desk = d1; fronts = fs1 })
-moves_came number d d1 None missed fs fs1 came is =
-    subst (λ (h : Hall). Moves (Connection number) (record { desk = d; fronts = fs }) h)
-    (ap (λ (e : Desk). record { desk = e; fronts = fs }) (sym came) ∙ ap (λ (x : Fronts). record { desk = d1; fronts = x }) (sym is)) (no_moves (Connection number) (record { desk = d; fronts = fs }))
-moves_came number d d1 (Some heard) missed fs fs1 (inl (same, nobody)) is =
-    let none : fs1 ≡ fs = is ∙ ap (λ (o : Option ℕ). told_to o heard.what missed fs) nobody in
-    subst (λ (h : Hall). Moves (Connection number) (record { desk = d; fronts = fs }) h)
-    (ap (λ (e : Desk). record { desk = e; fronts = fs }) (sym same) ∙ ap (λ (x : Fronts). record { desk = d1; fronts = x }) (sym none)) (no_moves (Connection number) (record { desk = d; fronts = fs }))
-moves_came number d d1 (Some heard) missed fs fs1 (inr come) is =
-    subst (λ (x : Fronts). Moves (Connection number) (record { desk = d; fronts = fs }) (record { desk = d1; fronts = x })) (sym is) (moves_packet number d d1 heard missed fs come)
-
--- ---- What an application says, and its end
-
--- bytes of it were taken
-pub moves_fed : (key : ℕ) (d : Desk) (s : Slab Application) (a b : Application) (bytes : List ℕ) → Some a ≡ get s key → b.front ≡ (fed a.front bytes).front
-    → Moves (causes.Application key) (record { desk = d; fronts = fronts_in s }) (record { desk = d; fronts = fronts_in (with_value s key b) })
-moves_fed key d s a b bytes is feeds = record {
-  moves = Feeds key (stage_of b) ∷ [];
-  are = ap (λ (x : Fronts). record { desk = d; fronts = x }) (sym (map-set (option_map stage_of) s.slots key (Some b)));
-  may = (
-    (
-      refl,
-      record {
-        front = a.front;
-        bytes = bytes;
-        was = front_is s key ∙ ap (option_map stage_of) (sym is);
-        is = ap (λ (f : Front). known_of f.stage) feeds;
-      },
-    ),
-    tt,
-  );
-}
-
-pub moves_quit : (key : ℕ) (d : Desk) (p p1 : Fronts) → p1 ≡ slice_set p key None → Moves (causes.Application key) (record { desk = d; fronts = p }) (record { desk = d; fronts = p1 })
-moves_quit key d p p1 quit = record { moves = Quits key ∷ []; are = ap (λ (x : Fronts). record { desk = d; fronts = x }) (sym quit); may = (refl, tt) }
+-- an application is there no more, and what it held is let go
+pub moves_quits : (key : ℕ) (from : Hall) (d : Desk) (es es1 : Ends) (new : Hall) → es1 ≡ slice_set es key None → LetsGoFirst key (hall_of_ends d es1) new
+    → Moves (causes.Application key) from (hall_of_ends d es) → Moves (causes.Application key) from new
+moves_quits key from d es es1 new quit l m =
+    let left : Desk = (turn d (desk.Leaves key l.0 l.1)).desk in
+    l.2 (causes.Application key) from
+    (moves_same (causes.Application key) from left left (slice_set es key None) (change_end key lets_go es1) refl
+    (ap (change_end key lets_go) quit ∙ gone_stays es key lets_go)
+    (moves_one (causes.Application key) from (hall_of_ends d es) (Quits key l.0 l.1) tt refl m))
 
 -- ---- As the desk answers it
 
@@ -265,3 +227,36 @@ pub has_come : (number : ℕ) (d d1 : Desk) (heard : Heard) (part : Part Token) 
     → heard.key ≡ whose d number → IsWhat heard.key heard.what (done_by d number part) → HasCome number d d1 heard
 has_come number d d1 heard part way before after turned whose_is what_is =
     record { part = part; way = way; desk_is = turned.desk_is; whose_is = whose_is; what_is = what_is }
+
+-- ---- What is heard
+
+-- as code tells it
+pub told_as : (who : Option ℕ) (key : ℕ) (what said : What) (es es1 : Ends) → who ≡ Some key → what ≡ said → es1 ≡ change_end key (told said) es → es1 ≡ change_whose who (told what) es
+told_as who key what said es es1 its is ends =
+    ends ∙ ap (λ (x : What). change_end key (told x) es) (sym is) ∙ ap (λ (o : Option ℕ). change_whose o (told what) es) (sym its)
+
+pub told_nobody : (who : Option ℕ) (what : What) (es : Ends) → who ≡ None → es ≡ change_whose who (told what) es
+told_nobody who what es nobody = ap (λ (o : Option ℕ). change_whose o (told what) es) (sym nobody)
+
+pub told_some : (o : Option Heard) (heard : Heard) (es : Ends) → o ≡ Some heard → change_whose heard.key (told heard.what) es ≡ told_by o es
+told_some o heard es is = ap (λ (x : Option Heard). told_by x es) (sym is)
+
+pub told_none : (o : Option Heard) (es : Ends) → o ≡ None → es ≡ told_by o es
+told_none o es is = ap (λ (x : Option Heard). told_by x es) (sym is)
+
+told_whose : (who : Option ℕ) (what : What) (dones : List (Done Token)) (es : Ends) → IsWhat who what dones → change_whose who (told (what_in dones)) es ≡ change_whose who (told what) es
+told_whose None what dones es is = refl
+told_whose (Some key) what dones es is = ap (λ (w : What). change_end key (told w) es) (sym is)
+
+-- a packet has come, or none, and it is told
+pub moves_heard : (number : ℕ) (from : Hall) (d d1 : Desk) (heard : Option Heard) (es : Ends) → Came number d d1 heard
+    → Moves (causes.Connection number) from (hall_of_ends d es) → Moves (causes.Connection number) from (hall_of_ends d1 (told_by heard es))
+moves_heard number from d d1 None es came m = moves_same (causes.Connection number) from d d1 es es came refl m
+moves_heard number from d d1 (Some heard) es (inl (same, nobody)) m =
+    moves_same (causes.Connection number) from d d1 es (told_by (Some heard) es) same (ap (λ (o : Option ℕ). change_whose o (told heard.what) es) nobody) m
+moves_heard number from d d1 (Some heard) es (inr come) m =
+    let answers : List (Done Token) = done_by d number come.part in
+    subst (Moves (causes.Connection number) from)
+    (same_hall (turn d (desk.Comes number come.part come.way)).desk d1 (change_whose (whose d number) (told (what_in answers)) es) (told_by (Some heard) es) come.desk_is
+    (sym (ap (λ (o : Option ℕ). change_whose o (told (what_in answers)) es) (sym come.whose_is) ∙ told_whose heard.key heard.what answers es come.what_is)))
+    (moves_one (causes.Connection number) from (hall_of_ends d es) (Comes number come.part come.way) tt refl m)

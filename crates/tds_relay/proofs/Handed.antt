@@ -17,7 +17,7 @@ use Rattle.tds_relay.specs.declared.link.News.TheVariants as how
 use Rattle.tds_relay.specs.Cutting.{ends_in}
 use Rattle.tds_relay.specs.Dealing.{Floor, Manner, Withheld, Hands, IsBy, IsRight, Leads, handed, passed}
 use Rattle.tds_relay.specs.Desk.{Desk, Comes, Way, turn, whose}
-use Rattle.tds_relay.specs.Handing.{Brings, Hears, IsDone, IsFor, fed, is_held, is_withheld, news_with}
+use Rattle.tds_relay.specs.Handing.{Brings, Hears, IsDone, IsFor, fed, has_withdrawn, is_held, is_muted, is_withheld, news_with}
 use Rattle.tds_relay.specs.Posts.{Post, Posts, post_at, post_of, posts_in}
 use Rattle.tds_relay.specs.Ties.{Connection, Turns, part_on}
 use Rattle.tds_relay.proofs.Dealt.{leads_deal}
@@ -89,10 +89,20 @@ to_one false false s who key a e f its is =
     ap (λ (o : Option ℕ). not (is_held (posts_in s) o)) (sym its)
     ∙ ap (λ (o : Option Post). not (is_some o)) (post_is s key ∙ ap (option_map post_of) (sym is))
 
-pub or_true : (m c h : Bool) → (c || m) ≡ true → (m || (c || h)) ≡ true
-or_true true c h e = refl
-or_true false true h e = refl
-or_true false false h e = absurd (let u : ⊥ = cc in u)
+-- it is closed behind it
+pub to_closed : (m c h : Bool) → c ≡ true → (m || (c || h)) ≡ true
+to_closed true c h e = refl
+to_closed false true h e = refl
+to_closed false false h e = absurd (let u : ⊥ = cc in u)
+
+-- its application took its request back
+pub to_withdrawn : (m h : Bool) → m ≡ true → (m || h) ≡ true
+to_withdrawn true h e = refl
+to_withdrawn false h e = absurd (let u : ⊥ = cc in u)
+
+-- as its application has it
+pub muted_by : (s : Slab Application) (who : Option ℕ) (key : ℕ) (a : Application) (b : Bool) → Some key ≡ who → Some a ≡ get s key → a.is_withdrawn ≡ b → is_muted s who ≡ b
+muted_by s who key a b its is same = ap (λ (o : Option ℕ). is_muted s o) (sym its) ∙ ap has_withdrawn (sym is) ∙ same
 
 -- ---- That it was
 
@@ -135,18 +145,18 @@ left_less less nothing number walker muted goes a r next bytes what old new (inr
     subst (λ (x : packets.Reading). IsLess x x.taken) (sym (done.whole (p.header, p.content, p.packet))) (nothing r)
 
 pub hears_is : ((r : packets.Reading) (bytes : List ℕ) → ¬ IsWhole (with_taken r (up_to_end r bytes)) → IsLess r (up_to_end r bytes)) → ((r : packets.Reading) → IsLess r [])
-    → (number : ℕ) (walker : Option Reading) (link next : Link) (bytes : List ℕ) (count : ℕ) (what : What) (old new : Floor) (r s : packets.Reading)
-    → r ≡ fed link.reader bytes → r.taken ≡ link.reader.taken ++ take count bytes → Brings number walker link.is_muted link.news link.answer r what old new
-    → s ≡ r → (IsWhole s → next.reader ≡ with_taken s []) → (¬ IsWhole s → next.reader ≡ s) → Hears number walker link next bytes count what old new
-hears_is less nothing number walker link next bytes count what old new r s is took brings same whole none =
-    let brought = subst (λ (x : packets.Reading). Brings number walker link.is_muted link.news link.answer x what old new) is brings in
+    → (number : ℕ) (walker : Option Reading) (muted : Bool) (link next : Link) (bytes : List ℕ) (count : ℕ) (what : What) (old new : Floor) (r s : packets.Reading)
+    → r ≡ fed link.reader bytes → r.taken ≡ link.reader.taken ++ take count bytes → Brings number walker muted link.news link.answer r what old new
+    → s ≡ r → (IsWhole s → next.reader ≡ with_taken s []) → (¬ IsWhole s → next.reader ≡ s) → Hears number walker muted link next bytes count what old new
+hears_is less nothing number walker muted link next bytes count what old new r s is took brings same whole none =
+    let brought = subst (λ (x : packets.Reading). Brings number walker muted link.news link.answer x what old new) is brings in
     let done : IsDone (fed link.reader bytes) next.reader =
     subst (λ (x : packets.Reading). IsDone x next.reader) (same ∙ is) (record { whole = whole; less = none }) in
     record {
       taken = ap (λ (x : packets.Reading). x.taken) (sym is) ∙ took;
       brings = brought;
       done = done;
-      less = left_less less nothing number walker link.is_muted link.news link.answer link.reader next.reader bytes what old new brought done;
+      less = left_less less nothing number walker muted link.news link.answer link.reader next.reader bytes what old new brought done;
     }
 
 -- its reader goes the same way

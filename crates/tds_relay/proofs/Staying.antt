@@ -19,6 +19,9 @@ stays_refl ls number had h = h
 pub stays_both : (ls ms ns : List Link) → Stays ls ms → Stays ms ns → Stays ls ns
 stays_both ls ms ns h k number had s = k number had (h number had s)
 
+pub stays_then : (ls ms ns : List Link) → Stays ls ms → ns ≡ ms → Stays ls ns
+stays_then ls ms ns h e = subst (λ (xs : List Link). Stays ls xs) (sym e) h
+
 -- where a call answers
 pub stays_on : {A E : Type 0} (r : Result A E) (ls ms ns : List Link) → Stays ls ms → OnOk r (Stays ms ns) → OnOk r (Stays ls ns)
 stays_on (Ok x) ls ms ns h k = stays_both ls ms ns h k

@@ -1,5 +1,5 @@
 -- What deals hand on of the bytes that a connection's reader takes.
-use Rattle.std.proofs.Common.{◌≡◌, ◌∙◌, ℕ, List, [], ◌∷◌, ◌++◌, Option, Some, None, inl, inr, refl, sym, ap, subst, drop, take, slice_index_or, slice_set, option_map, append_assoc, append-nil}
+use Rattle.std.proofs.Common.{◌≡◌, ◌∙◌, ℕ, Bool, List, [], ◌∷◌, ◌++◌, Option, Some, None, inl, inr, refl, sym, ap, subst, drop, take, slice_index_or, slice_set, option_map, append_assoc, append-nil}
 use Rattle.std.proofs.lemmas.List.{take-append-drop}
 use Rattle.std.specs.Prelude.{Result, Ok, Err, IfOk, IsNone, OnOk}
 use Rattle.tds_packet.specs.Layout.{header_bytes}
@@ -95,9 +95,9 @@ packet_by None now r next bytes more ps s is whole fed = absurd (let none = s.1 
 packet_by (Some h) now r next bytes more ps s is whole fed = λ begins. reads_packet h r next bytes more ps (subst (λ (o : Option packets.Reading). Reads h bytes ps o) is (s begins)) whole fed
 
 -- what they are with what was there
-pub streams_hear : (number : ℕ) (walker : Option Reading) (had now : Option packets.Reading) (link next : Link) (old f g : Floor) (bytes left : List ℕ) (count : ℕ) (what : What)
-    → now ≡ Some link.reader → Hears number walker link next left count what f g → Streams number had old bytes left now f → Streams number had old bytes (drop count left) (Some next.reader) g
-streams_hear number walker had now link next old f g bytes left count what is hears s =
+pub streams_hear : (number : ℕ) (walker : Option Reading) (muted : Bool) (had now : Option packets.Reading) (link next : Link) (old f g : Floor) (bytes left : List ℕ) (count : ℕ) (what : What)
+    → now ≡ Some link.reader → Hears number walker muted link next left count what f g → Streams number had old bytes left now f → Streams number had old bytes (drop count left) (Some next.reader) g
+streams_hear number walker muted had now link next old f g bytes left count what is hears s =
     let more : List ℕ = take count left in
     let r : packets.Reading = fed link.reader left in
     let same : r ≡ with_taken link.reader (link.reader.taken ++ more) = ap (λ (xs : List ℕ). with_taken link.reader xs) hears.taken in
@@ -120,7 +120,7 @@ streams_hear number walker had now link next old f g bytes left count what is he
             deals = s.deals ++ deal ∷ [];
             heard = s.heard ++ more;
             due = due_both (Connection number) old s.deals (deal ∷ []) s.due
-                ((refl, p.packet.laid_out.counted, right_for (is_withheld link.is_muted what f number) (news_with what link.news) link.answer p.header p.content p.manner p.by), tt);
+                ((refl, p.packet.laid_out.counted, right_for (is_withheld muted what f number) (news_with what link.news) link.answer p.header p.content p.manner p.by), tt);
             are = dealt_both old s.deals (deal ∷ []) ∙ ap (λ (h : Floor). dealt h deal) s.are ∙ sym p.is;
             bytes_are = heard_more bytes s.heard left count s.bytes_are;
             reads = subst (λ (ps : List (List ℕ)). ReadsBy had (s.heard ++ more) ps (Some next.reader)) all
@@ -130,27 +130,27 @@ streams_hear number walker had now link next old f g bytes left count what is he
 
 -- ---- As calls answer
 
-hear_by : (number : ℕ) (walker : Option Reading) (link next : Link) (piece : List ℕ) (now behind : Option packets.Reading) (f g : Floor) (count : ℕ) (heard : Option Heard)
-    → now ≡ Some link.reader → behind ≡ Some next.reader → HearsBy number walker link next piece count heard f g → Continues number piece (drop count piece) now (if_heard heard behind) f g
-hear_by number walker link next piece now behind f g count None is after h = λ had old bytes s. streams_unheard number had now old f g bytes piece count h.1 s
-hear_by number walker link next piece now behind f g count (Some heard) is after h = λ had old bytes s.
+hear_by : (number : ℕ) (walker : Option Reading) (muted : Bool) (link next : Link) (piece : List ℕ) (now behind : Option packets.Reading) (f g : Floor) (count : ℕ) (heard : Option Heard)
+    → now ≡ Some link.reader → behind ≡ Some next.reader → HearsBy number walker muted link next piece count heard f g → Continues number piece (drop count piece) now (if_heard heard behind) f g
+hear_by number walker muted link next piece now behind f g count None is after h = λ had old bytes s. streams_unheard number had now old f g bytes piece count h.1 s
+hear_by number walker muted link next piece now behind f g count (Some heard) is after h = λ had old bytes s.
     subst (λ (o : Option packets.Reading). Streams number had old bytes (drop count piece) o g) (sym after)
-    (streams_hear number walker had now link next old f g bytes piece count heard.what is h s)
+    (streams_hear number walker muted had now link next old f g bytes piece count heard.what is h s)
 
-pub hear_ok : {E : Type 0} (r : Result (ℕ × Option Heard) E) (number : ℕ) (walker : Option Reading) (link next : Link) (piece : List ℕ) (now behind : Option packets.Reading) (f g : Floor)
-    → now ≡ Some link.reader → behind ≡ Some next.reader → IfOk r (λ heard. HearsBy number walker link next piece heard.0 heard.1 f g)
+pub hear_ok : {E : Type 0} (r : Result (ℕ × Option Heard) E) (number : ℕ) (walker : Option Reading) (muted : Bool) (link next : Link) (piece : List ℕ) (now behind : Option packets.Reading) (f g : Floor)
+    → now ≡ Some link.reader → behind ≡ Some next.reader → IfOk r (λ heard. HearsBy number walker muted link next piece heard.0 heard.1 f g)
     → IfOk r (λ heard. Continues number piece (drop heard.0 piece) now (if_heard heard.1 behind) f g)
-hear_ok (Ok x) number walker link next piece now behind f g is after h = hear_by number walker link next piece now behind f g x.0 x.1 is after h
-hear_ok (Err e) number walker link next piece now behind f g is after h = tt
+hear_ok (Ok x) number walker muted link next piece now behind f g is after h = hear_by number walker muted link next piece now behind f g x.0 x.1 is after h
+hear_ok (Err e) number walker muted link next piece now behind f g is after h = tt
 
 -- it is there, and what has come of a packet is written back
-pub hear_at : {E : Type 0} (r : Result (ℕ × Option Heard) E) (number : ℕ) (walker : Option Reading) (ls : List Link) (place : ℕ) (l next : Link) (piece : List ℕ) (f g : Floor)
+pub hear_at : {E : Type 0} (r : Result (ℕ × Option Heard) E) (number : ℕ) (walker : Option Reading) (muted : Bool) (ls : List Link) (place : ℕ) (l next : Link) (piece : List ℕ) (f g : Floor)
     → place_of number ls ≡ Some place → l ≡ slice_index_or ls place l → next.number ≡ l.number
-    → IfOk r (λ heard. HearsBy number walker l next piece heard.0 heard.1 f g)
+    → IfOk r (λ heard. HearsBy number walker muted l next piece heard.0 heard.1 f g)
     → IfOk r (λ heard. Continues number piece (drop heard.0 piece) (reader_at number ls) (if_heard heard.1 (reader_at number (slice_set ls place next))) f g)
-hear_at r number walker ls place l next piece f g is there same h =
+hear_at r number walker muted ls place l next piece f g is there same h =
     let at : IsAt number ls place = is_at number ls place is in
-    hear_ok r number walker l next piece (reader_at number ls) (reader_at number (slice_set ls place next)) f g
+    hear_ok r number walker muted l next piece (reader_at number ls) (reader_at number (slice_set ls place next)) f g
     (ap (λ (o : Option Link). option_map reader_of o) (at.found l) ∙ ap (λ (x : Link). Some x.reader) (sym there))
     (ap (λ (o : Option Link). option_map reader_of o) (at.written l next (same ∙ ap (λ (x : Link). x.number) there))) h
 

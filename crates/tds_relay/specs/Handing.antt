@@ -6,6 +6,7 @@ use Rattle.tds_packet.specs.Reading as packets
 use Rattle.tds_packet.specs.Reading.{IsWhole, fault_of, up_to_end, with_taken}
 use Rattle.tds_packet.specs.Stream.{IsLess}
 use Rattle.tds_wire.specs.Reading.{Reading}
+use Rattle.slab.specs.Slab.{Slab, get}
 use Rattle.tds_relay.specs.declared.application.Application.{Application}
 use Rattle.tds_relay.specs.declared.desk.coming.Heard.{Heard}
 use Rattle.tds_relay.specs.declared.desk.coming.What.{What}
@@ -33,6 +34,16 @@ closes whats.Closed = true
 abbrev pub is_held : Posts → Option ℕ → Bool
 is_held posts None = false
 is_held posts (Some key) = is_some (post_at posts key)
+
+-- whether it took its request back, and the acknowledgement of that hasn't come
+abbrev pub has_withdrawn : Option Application → Bool
+has_withdrawn None = false
+has_withdrawn (Some a) = a.is_withdrawn
+
+-- who has the connection did
+abbrev pub is_muted : Slab Application → Option ℕ → Bool
+is_muted s None = false
+is_muted s (Some key) = has_withdrawn (get s key)
 
 -- its application took its request back; or the connection is closed behind it; or nobody has that
 abbrev pub is_withheld : Bool → What → Floor → ℕ → Bool
@@ -84,13 +95,13 @@ abbrev pub fed : packets.Reading → List ℕ → packets.Reading
 fed r bytes = with_taken r (up_to_end r (r.taken ++ bytes))
 
 -- So many of these bytes were taken, and what the reader had with them is handed on. It keeps less than a packet.
-pub record Hears (number : ℕ) (walker : Option Reading) (link next : Link) (bytes : List ℕ) (count : ℕ) (what : What) (old new : Floor) : Type 0 where
+pub record Hears (number : ℕ) (walker : Option Reading) (muted : Bool) (link next : Link) (bytes : List ℕ) (count : ℕ) (what : What) (old new : Floor) : Type 0 where
   pub taken : (fed link.reader bytes).taken ≡ link.reader.taken ++ take count bytes
-  pub brings : Brings number walker link.is_muted link.news link.answer (fed link.reader bytes) what old new
+  pub brings : Brings number walker muted link.news link.answer (fed link.reader bytes) what old new
   pub done : IsDone (fed link.reader bytes) next.reader
   pub less : IsLess next.reader next.reader.taken
 
 -- Or a header with a fault has come, and nothing is done.
-abbrev pub HearsBy : ℕ → Option Reading → Link → Link → List ℕ → ℕ → Option Heard → Floor → Floor → Type 0
-HearsBy number walker link next bytes count None old new = IsSome (fault_of (fed link.reader bytes) (fed link.reader bytes).taken) × (new ≡ old)
-HearsBy number walker link next bytes count (Some heard) old new = Hears number walker link next bytes count heard.what old new
+abbrev pub HearsBy : ℕ → Option Reading → Bool → Link → Link → List ℕ → ℕ → Option Heard → Floor → Floor → Type 0
+HearsBy number walker muted link next bytes count None old new = IsSome (fault_of (fed link.reader bytes) (fed link.reader bytes).taken) × (new ≡ old)
+HearsBy number walker muted link next bytes count (Some heard) old new = Hears number walker muted link next bytes count heard.what old new

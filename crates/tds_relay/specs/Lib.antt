@@ -1,9 +1,11 @@
+pub mod Behind
 pub mod Bounds
 pub mod Cutting
 pub mod Dealing
 pub mod Desk
 pub mod Fronting
 pub mod Fronts
+pub mod Hall
 pub mod Handing
 pub mod Lasting
 pub mod News

@@ -1,5 +1,5 @@
 //! An application, as the relay knows it.
-ghost use Rattle.std.specs.Prelude.{◌≡◌, ◌≤◌, ◌-◌, vec_len};
+ghost use Rattle.std.specs.Prelude.{◌≡◌, ◌≤◌, ◌-◌, Some, false, true, vec_len};
 ghost use Rattle.tds_relay.specs.declared.application.TheConstants.{MOST_HELD};
 ghost use Rattle.tds_relay.specs.declared.outgoing.TheConstants.{PIECE};
 
@@ -36,6 +36,9 @@ pub(crate) struct Application {
     pub(crate) reset: Option<Reset>,
     /// What has come of the body of a request that waits.
     held: Vec<u8>,
+    /// Whether it took its request back, and the server hasn't acknowledged that: until then nothing is
+    /// handed on to it, and its next request waits.
+    pub(crate) is_withdrawn: bool,
     /// Whether nothing more of it is taken.
     pub(crate) is_over: bool,
     /// How many requests it has begun.
@@ -44,12 +47,16 @@ pub(crate) struct Application {
 }
 
 impl Application {
-    ghost use Rattle.tds_relay.specs.Fronts.{settles, stage_of};
+    ghost use Rattle.tds_front.specs.Rules as rules;
+    ghost use Rattle.tds_relay.specs.Fronts.{end_of, puts, withdraws};
+    ghost use Rattle.tds_front.specs.Bytes.{new_front};
+    ghost use Rattle.tds_relay.specs.Hall.{IfOpen, IsHere, Open, acknowledged, closes, lets_go, move_stage};
     ghost use Rattle.tds_relay.specs.Posts.{nothing, post_of};
 
     pub(crate) fn new(alloc: Global, tag: usize, size: PacketSize) -> Application
         ensures size { result.out.size ≡ size }
         ensures post { post_of result ≡ nothing size }
+        ensures end { end_of result ≡ Open (new_front size) false }
     {
         Application {
             alloc,
@@ -59,6 +66,7 @@ impl Application {
             asking: Asking::Nothing,
             reset: None,
             held: Vec::new(alloc),
+            is_withdrawn: false,
             is_over: false,
             begun: 0,
         }
@@ -99,7 +107,7 @@ impl Application {
     /// Keeps these bytes of its request. False where they are too many.
     pub(crate) fn keep(&mut self, bytes: &[u8]) -> Result<bool, NoMemory>
         ensures post { post_of self.new ≡ post_of self.old }
-        ensures end { stage_of self.new ≡ stage_of self.old }
+        ensures end { end_of self.new ≡ end_of self.old }
     {
         if bytes.len() > self.room_to_keep() {
             return Ok(false);
@@ -108,25 +116,94 @@ impl Application {
         Ok(true)
     }
 
-    /// Its request has its answer, or its attention the acknowledgement.
-    #[tactic(auto, using(crate::proofs::Fronts::answered_known, crate::proofs::Fronts::acknowledged_known))]
-    pub(crate) fn settle(&mut self, is_acknowledged: bool)
+    /// Its request has its answer.
+    pub(crate) fn answered(&mut self)
         ensures post { post_of self.new ≡ post_of self.old }
-        ensures end { stage_of self.new ≡ settles is_acknowledged (stage_of self.old) }
+        ensures end { end_of self.new ≡ move_stage rules.answered (end_of self.old) }
     {
         self.asking = Asking::Nothing;
         self.reset = None;
-        if is_acknowledged {
-            self.front.acknowledged();
-        } else {
-            self.front.answered();
+        self.front.answered();
+    }
+
+    /// Its attention has the acknowledgement; or what it took back has, and its next request may go on.
+    /// Answers whether that.
+    pub(crate) fn acknowledged(&mut self) -> bool
+        ensures post { post_of self.new ≡ post_of self.old }
+        ensures end { end_of self.new ≡ acknowledged (end_of self.old) }
+    {
+        if self.is_withdrawn {
+            self.is_withdrawn = false;
+            return true;
+        }
+        self.asking = Asking::Nothing;
+        self.reset = None;
+        self.front.acknowledged();
+        false
+    }
+
+    /// Something of its request has gone on.
+    pub(crate) fn went_on(&mut self)
+        ensures post { post_of self.new ≡ post_of self.old }
+        ensures end { end_of self.new ≡ move_stage rules.went_on (end_of self.old) }
+    {
+        self.front.went_on();
+    }
+
+    /// It took its request back, of which something has gone on.
+    pub(crate) fn withdraw(&mut self)
+        ensures post { post_of self.new ≡ post_of self.old }
+        ensures end { end_of self.new ≡ withdraws (end_of self.old) }
+    {
+        self.is_withdrawn = true;
+    }
+
+    /// Its connection is let go, and with it what it took back there.
+    pub(crate) fn let_go(&mut self)
+        ensures post { post_of self.new ≡ post_of self.old }
+        ensures end { end_of self.new ≡ lets_go (end_of self.old) }
+    {
+        self.is_withdrawn = false;
+    }
+
+    /// Nothing more of it is taken.
+    pub(crate) fn close(&mut self)
+        ensures post { post_of self.new ≡ post_of self.old }
+        ensures end { end_of self.new ≡ closes (end_of self.old) }
+    {
+        self.is_over = true;
+    }
+
+    /// Whether bytes of its request may be put, and its end: one has begun, or is whole.
+    pub(crate) fn may_put(&self, whole: bool) -> bool
+        ensures { result ≡ true → IfOpen (puts whole) (Some (end_of self.now)) }
+    {
+        match self.front.stage() {
+            Stage::Quiet => false,
+            Stage::Receiving { .. } => !whole,
+            Stage::Underway { .. } => true,
+            Stage::Stopping => false,
+            Stage::Broken(_) => false,
+        }
+    }
+
+    /// Whether nothing of its request has gone on, and no attention.
+    pub(crate) fn has_nothing_out(&self) -> bool
+        ensures { result ≡ true → IfOpen IsHere (Some (end_of self.now)) }
+    {
+        match self.front.stage() {
+            Stage::Quiet => true,
+            Stage::Receiving { gone, .. } => !gone,
+            Stage::Underway { gone } => !gone,
+            Stage::Stopping => false,
+            Stage::Broken(_) => false,
         }
     }
 
     /// Nothing is kept of its request any more.
     pub(crate) fn forget(&mut self)
         ensures post { post_of self.new ≡ post_of self.old }
-        ensures end { stage_of self.new ≡ stage_of self.old }
+        ensures end { end_of self.new ≡ end_of self.old }
     {
         self.held = Vec::new(self.alloc);
     }

@@ -3,6 +3,7 @@ ghost use Rattle.std.specs.Prelude.{◌≡◌, [], IfOk, OnOk, OnErr, length, op
 ghost use Rattle.tds_service.specs.Service.{Seat, is_open, seat_numbered};
 ghost use Rattle.tds_service.specs.Table.{place_of};
 ghost use Rattle.tds_relay.specs.Desk.{Serves, Unwaits, Waits, find_key, find_number, key_of, new_desk};
+ghost use Rattle.tds_relay.specs.Hall.{is_in};
 ghost use Rattle.tds_relay.specs.Ties.{Serving, Turns, desk_in};
 
 mod asking;
@@ -14,7 +15,7 @@ use crate::NoMemory;
 use crate::link::COLUMNS;
 pub use coming::{Heard, What};
 pub use leaving::{Left, Renewed};
-use lists::{find_key, find_number, remove_key};
+use lists::{find_key, find_number, has_key, remove_key};
 use std::alloc::{AllocError, Global};
 use tds_packet::PacketSize;
 use tds_service::{Place, Refusal, Service};
@@ -86,6 +87,13 @@ impl Desk {
         ensures { Turns (Unwaits key) (desk_in self.old) (desk_in self.new) [] [] }
     {
         remove_key(&mut self.line, key);
+    }
+
+    /// Whether an application waits.
+    pub fn waits(&self, key: usize) -> bool
+        ensures { result ≡ is_in key (desk_in self.now).line }
+    {
+        has_key(&self.line, key)
     }
 
     /// Lends a connection to whoever has waited longest. None where nobody waits, or as many are in use as

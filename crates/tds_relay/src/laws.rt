@@ -1,6 +1,6 @@
 //! What a desk promises, over any list of events, and a relay behind any calls. Each function does nothing
 //! when it runs: its contract is the law.
-ghost use Rattle.std.specs.Prelude.{◌≡◌, ◌+◌, ◌<◌, ◌≤◌, ◌++◌, ℕ, List, OnOk, Some, false, vec_len};
+ghost use Rattle.std.specs.Prelude.{◌≡◌, ◌+◌, ◌<◌, ◌≤◌, ◌++◌, ℕ, List, None, OnOk, Some, false, vec_len};
 ghost use Rattle.tds_wire.specs.declared.told.Token.{Token};
 ghost use Rattle.tds_service.specs.Line.{Idle};
 ghost use Rattle.tds_service.specs.Service.{Lease, Seat, seat_numbered, step};
@@ -9,6 +9,9 @@ ghost use Rattle.tds_relay.specs.Promises.{CaresFor, Each, IsAmong, IsHandedTo, 
 ghost use Rattle.tds_relay.specs.Promises.{NoneAstray, SaysOnce, TakesOne, comes_to_wait};
 ghost use Rattle.tds_front.specs.Exchanges.{place_after};
 ghost use Rattle.tds_front.specs.Serving.{IsLawful, Ready};
+ghost use Rattle.tds_front.specs.Passing.{EndsWhole, behind, towards};
+ghost use Rattle.tds_front.specs.declared.stage.Stage.TheVariants as stages;
+ghost use Rattle.tds_relay.specs.Behind.{AllAnswerOnce, IsLedTo, Stay, passed_in};
 ghost use Rattle.tds_relay.specs.Bounds.{waiting_in};
 ghost use Rattle.tds_relay.specs.declared.application.Application.{Application};
 ghost use Rattle.tds_relay.specs.declared.link.Link.{Link};
@@ -16,7 +19,8 @@ ghost use Rattle.tds_relay.specs.declared.outgoing.Outgoing.{Outgoing};
 ghost use Rattle.tds_relay.specs.Dealing.{Floor, floor_in};
 ghost use Rattle.tds_relay.specs.Fronting.{AnswersOnce, done_on, happened};
 ghost use Rattle.tds_relay.specs.Owning.{Gives};
-ghost use Rattle.tds_relay.specs.Fronts.{Hall, Moves, hall_in};
+ghost use Rattle.tds_relay.specs.Fronts.{hall_in};
+ghost use Rattle.tds_relay.specs.Hall.{Hall, Moves};
 ghost use Rattle.tds_relay.specs.Lasting.{Follow, IsKept, Next, StaysAlong};
 ghost use Rattle.tds_relay.specs.Posts.{Post, post_at};
 ghost use Rattle.tds_relay.specs.Reads.{Comes, reader_at, seen_at};
@@ -24,6 +28,7 @@ ghost use Rattle.tds_relay.specs.Ties as causes;
 ghost use Rattle.tds_relay.specs.Ties.{Cause, Causes, Connection, Goes, IsReached, Owns};
 
 use crate::{NoMemory, Relay};
+use tds_front::laws::{bytes_are_packets, lawful_front};
 use tds_service::table_laws::{each_alone, line_by_history};
 use tds_wire::Token;
 
@@ -146,10 +151,10 @@ pub fn packets_that_came(relay: &mut Relay, number: u64, came: &[u8]) -> Result<
     relay.came(number, came)
 }
 
-/// An application's end moves, in a call, by bytes of its own, in a call with these; and by what its
-/// connection's service answers to a packet that comes there, in a call with that: its request is answered
-/// where the service has its whole answer, and its attention acknowledged where the service has the
-/// acknowledgement, unless that is of what it has taken back. By nothing else.
+/// The applications' ends move with the desk, in a call, by moves that the call causes: by bytes of an
+/// application, in a call with these; by packets of its request that go out; by what its connection's service
+/// answers to a packet that comes there, in a call with that; by a connection that is let go, replaced or
+/// lost; and where the relay closes an application. By nothing else, and each is done only where it may be.
 pub fn ends_move(
     relay: &mut Relay,
     key: usize,
@@ -170,4 +175,37 @@ pub fn ends_move(
 pub fn own_bytes_over_calls()
     ensures { (key : ℕ) (f : Floor) (nexts : List Next) (p : Post) → Follow f nexts
         → StaysAlong key nexts → post_at f.posts key ≡ Some p → IsKept key p f nexts }
+{}
+
+/// Behind each application's end is a lawful server's end, from where the application enters and while it
+/// stays, over whichever connections it is lent: where the server of each connection ends each answer once at
+/// most, also behind an attention.
+pub fn lawful_behind()
+    ensures lawful { (max key : ℕ) (s : Stay max key) → AllAnswerOnce s
+        → IsLawful Ready (behind stages.Quiet (passed_in s)) }
+    /// The last of a request goes on there only where its end has come.
+    ensures whole { (max key : ℕ) (s : Stay max key) → AllAnswerOnce s
+        → EndsWhole stages.Quiet (passed_in s) }
+{
+    each_alone::<Token>();
+    line_by_history::<Token>();
+    bytes_are_packets();
+}
+
+/// Each application meets a lawful server's end, from where it enters and while it stays, whoever shares with
+/// it: where the server of each connection ends each answer once at most, also behind an attention.
+pub fn lawful_applications()
+    ensures { (max key : ℕ) (s : Stay max key) → AllAnswerOnce s
+        → IsLawful Ready (towards None stages.Quiet (passed_in s)) }
+{
+    lawful_behind();
+    lawful_front();
+}
+
+/// Each call of a relay leaves its hall, which is its desk and the ends of its applications, where moves lead
+/// that may be: its own contract says so. So where moves led to the hall, they do again, and what is said here
+/// of moves holds behind any calls.
+pub fn any_calls()
+    ensures { (by : Cause) (max : ℕ) (old new : Hall) → Moves by old new → IsLedTo max old
+        → IsLedTo max new }
 {}

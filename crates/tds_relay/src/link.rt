@@ -31,9 +31,6 @@ pub(crate) struct Link {
     pub(crate) tag: Option<usize>,
     /// Whether it is logged in.
     pub(crate) is_open: bool,
-    /// Whether its application took its request back, so that nothing is handed on until the
-    /// acknowledgement of that.
-    pub(crate) is_muted: bool,
     pub(crate) news: News,
     pub(crate) out: Outgoing,
     pub(crate) reader: PacketReader,
@@ -74,7 +71,6 @@ impl Link {
             number,
             tag: None,
             is_open: false,
-            is_muted: false,
             news,
             out: Outgoing::new(alloc, size),
             reader: PacketReader::new(alloc, size, Direction::ToClient)?,

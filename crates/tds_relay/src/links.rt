@@ -39,20 +39,6 @@ pub(crate) fn append_to(links: &mut Vec<Link>, number: u64, bytes: &[u8]) -> Res
     Ok(!link.out.is_full())
 }
 
-/// What comes on a connection is handed on, or not. Answers whether it wasn't.
-#[tactic(auto, using(crate::proofs::Staying::stays_written, crate::proofs::Staying::stays_refl))]
-pub(crate) fn set_muted(links: &mut Vec<Link>, number: u64, is_muted: bool) -> bool
-    ensures { Stays links.old.items links.new.items }
-{
-    let Some(place) = place_in(links, number) else {
-        return false;
-    };
-    let link = &mut links[place];
-    let was_muted = link.is_muted;
-    link.is_muted = is_muted;
-    was_muted
-}
-
 /// The news of a reset is cut out of what comes next on a connection, or not.
 #[tactic(auto, using(crate::proofs::Staying::stays_written, crate::proofs::Staying::stays_refl))]
 pub(crate) fn set_cuts(links: &mut Vec<Link>, number: u64, cuts: bool)

@@ -1,12 +1,13 @@
 //! The relay: who is there, and what whoever carries its bytes asks of it.
-ghost use Rattle.std.specs.Prelude.{◌≡◌, ◌+◌, ◌-◌, ◌≤◌, ℕ, IfOk, IfSome, OnOk, Some, length, vec_len};
+ghost use Rattle.std.specs.Prelude.{◌≡◌, ◌+◌, ◌-◌, ◌≤◌, ℕ, IfOk, IfSome, OnOk, Some, length, true, vec_len};
 ghost use Rattle.slab.specs.Slab.{get, slab_len};
 ghost use Rattle.tds_relay.specs.Bounds.{most_for, waiting_for};
 ghost use Rattle.tds_relay.specs.Desk.{find_number, key_of, new_desk};
-ghost use Rattle.tds_relay.specs.Fronts.{fronts_in};
+ghost use Rattle.tds_relay.specs.Fronts.{Moved, MovedOn, ends_in, hall_in};
+ghost use Rattle.tds_relay.specs.Hall.{IfOpen, IsAway, IsHere, Moves, change_end, end_at, lets_go, new_hall};
 ghost use Rattle.tds_relay.specs.Posts.{Enters, change, posts_in, unsent_of, without_first};
 ghost use Rattle.tds_relay.specs.Reads.{Stays};
-ghost use Rattle.tds_relay.specs.Ties.{GoesOn, desk_in};
+ghost use Rattle.tds_relay.specs.Ties.{Cause, CausesRequest, Goes, GoesOn, Neither, desk_in};
 ghost use Rattle.tds_relay.specs.declared.application.Application.{Application};
 ghost use Rattle.tds_relay.specs.declared.outgoing.TheConstants.{PIECE};
 
@@ -15,12 +16,13 @@ mod coming;
 mod leaving;
 mod lending;
 mod places;
+mod stopping;
 
 use crate::NoMemory;
 use crate::application::Application;
 use crate::desk::Desk;
 use crate::link::{Link, News};
-use crate::links::{append_to, set_cuts, set_muted};
+use crate::links::{append_to, set_cuts};
 use crate::order::Order;
 use crate::outgoing::{BESIDE, PIECE};
 pub use places::{Counts, Place, PlaceOn};
@@ -59,7 +61,8 @@ impl Relay {
         size: PacketSize,
         features: Features,
     ) -> Result<Relay, NoMemory>
-        ensures { IfOk result (λ relay. desk_in relay.desk ≡ new_desk most) }
+        ensures desk { IfOk result (λ relay. desk_in relay.desk ≡ new_desk most) }
+        ensures hall { IfOk result (λ relay. hall_in relay ≡ new_hall most) }
     {
         let desk = Desk::new(alloc, most, size, features)?;
         Ok(Relay {
@@ -82,6 +85,7 @@ impl Relay {
             (λ (a : Application). a.out.size ≡ self.old.size)) }
         ensures posts { IfOk result (λ key. Enters self.old.size key
             (posts_in self.old.applications) (posts_in self.new.applications)) }
+        ensures moves { OnOk result (Moves Neither (hall_in self.old) (hall_in self.new)) }
     {
         let application = Application::new(self.alloc, tag, self.size);
         let Ok(key) = self.applications.insert(application) else {
@@ -94,7 +98,7 @@ impl Relay {
     pub fn orders(&mut self) -> Vec<Order>
         ensures desk { self.new.desk ≡ self.old.desk }
         ensures kept { posts_in self.new.applications ≡ posts_in self.old.applications }
-        ensures fronts { fronts_in self.new.applications ≡ fronts_in self.old.applications }
+        ensures ends { ends_in self.new.applications ≡ ends_in self.old.applications }
     {
         mem::replace(&mut self.orders, Vec::new(self.alloc))
     }
@@ -179,6 +183,7 @@ impl Relay {
         ensures desk { self.new.desk ≡ self.old.desk }
         ensures sent { posts_in self.new.applications
             ≡ change key (without_first count) (posts_in self.old.applications) }
+        ensures ends { ends_in self.new.applications ≡ ends_in self.old.applications }
     {
         let application = self.applications.get_mut(key)?;
         application.out.sent(count);
@@ -191,7 +196,7 @@ impl Relay {
     pub fn sent_on(&mut self, number: u64, count: usize) -> Option<usize>
         ensures desk { self.new.desk ≡ self.old.desk }
         ensures kept { posts_in self.new.applications ≡ posts_in self.old.applications }
-        ensures fronts { fronts_in self.new.applications ≡ fronts_in self.old.applications }
+        ensures ends { ends_in self.new.applications ≡ ends_in self.old.applications }
     {
         let link = link_in(&mut self.links, number)?;
         link.out.sent(count);
@@ -220,14 +225,60 @@ impl Relay {
         self.desk.waiting()
     }
 
-    /// Whether what comes on a connection is handed on.
-    fn mute(&mut self, number: u64, is_muted: bool)
+    /// An application has nothing more to do with the connection that it had.
+    fn let_go(&mut self, key: usize)
         ensures desk { self.new.desk ≡ self.old.desk }
         ensures kept { posts_in self.new.applications ≡ posts_in self.old.applications }
-        ensures fronts { fronts_in self.new.applications ≡ fronts_in self.old.applications }
-        ensures read { Stays self.old.links.items self.new.links.items }
+        ensures ends { ends_in self.new.applications
+            ≡ change_end key lets_go (ends_in self.old.applications) }
+        ensures links { self.new.links.items ≡ self.old.links.items }
     {
-        let _ = set_muted(&mut self.links, number, is_muted);
+        match self.applications.get_mut(key) {
+            Some(application) => application.let_go(),
+            None => {}
+        }
+    }
+
+    /// Whether an application has nothing out: nothing of its request has gone on, and no attention.
+    fn has_nothing_out(&self, key: usize) -> bool
+        ensures { result ≡ true → IfOpen IsHere (end_at (ends_in self.now.applications) key) }
+    {
+        match self.applications.get(key) {
+            Some(application) => application.has_nothing_out(),
+            None => false,
+        }
+    }
+
+    /// An application's request waits for a connection, behind all others.
+    fn wait(&mut self, key: usize) -> Result<(), NoMemory>
+        ensures goes { OnOk result ((by : Cause) → CausesRequest by key
+            → Goes by (desk_in self.old.desk) (desk_in self.new.desk)) }
+        ensures kept { posts_in self.new.applications ≡ posts_in self.old.applications }
+        ensures moves { OnOk result ((by : Cause) → CausesRequest by key
+            → Moved by (hall_in self.old) (hall_in self.new)) }
+        ensures links { self.new.links.items ≡ self.old.links.items }
+    {
+        if self.is_away(key) {
+            self.desk.wait(key)
+        } else {
+            Ok(())
+        }
+    }
+
+    /// Whether an application is taken from, holds no connection, and waits for none.
+    fn is_away(&self, key: usize) -> bool
+        ensures { result ≡ true → IsAway (hall_in self.now) key }
+    {
+        let Some(application) = self.applications.get(key) else {
+            return false;
+        };
+        if application.is_over {
+            return false;
+        }
+        match self.desk.hold_of(key) {
+            Some(_) => false,
+            None => !self.desk.waits(key),
+        }
     }
 
     /// Whether the news of a reset is cut out of what comes next on a connection: a message's first
@@ -235,7 +286,7 @@ impl Relay {
     fn cut(&mut self, number: u64, cuts: bool)
         ensures desk { self.new.desk ≡ self.old.desk }
         ensures kept { posts_in self.new.applications ≡ posts_in self.old.applications }
-        ensures fronts { fronts_in self.new.applications ≡ fronts_in self.old.applications }
+        ensures ends { ends_in self.new.applications ≡ ends_in self.old.applications }
         ensures read { Stays self.old.links.items self.new.links.items }
     {
         set_cuts(&mut self.links, number, cuts);
@@ -247,8 +298,7 @@ impl Relay {
         ensures goes { OnOk result (GoesOn (desk_in self.old.desk) (desk_in self.new.desk)) }
         ensures kept { OnOk result (posts_in self.new.applications
             ≡ posts_in self.old.applications) }
-        ensures fronts { OnOk result (fronts_in self.new.applications
-            ≡ fronts_in self.old.applications) }
+        ensures moves { OnOk result (MovedOn (hall_in self.old) (hall_in self.new)) }
         ensures read { OnOk result (Stays self.old.links.items self.new.links.items) }
     {
         let fits = append_to(&mut self.links, number, &self.outbox)?;
@@ -265,8 +315,7 @@ impl Relay {
         ensures desk { self.new.desk ≡ self.old.desk }
         ensures kept { OnOk result (posts_in self.new.applications
             ≡ posts_in self.old.applications) }
-        ensures fronts { OnOk result (fronts_in self.new.applications
-            ≡ fronts_in self.old.applications) }
+        ensures moves { OnOk result (MovedOn (hall_in self.old) (hall_in self.new)) }
         ensures links { OnOk result (self.new.links.items ≡ self.old.links.items) }
     {
         let Some(application) = self.applications.get(key) else {
@@ -284,8 +333,8 @@ impl Relay {
         ensures desk { self.new.desk ≡ self.old.desk }
         ensures kept { OnOk result (posts_in self.new.applications
             ≡ posts_in self.old.applications) }
-        ensures fronts { OnOk result (fronts_in self.new.applications
-            ≡ fronts_in self.old.applications) }
+        ensures ends { OnOk result (ends_in self.new.applications
+            ≡ ends_in self.old.applications) }
         ensures links { OnOk result (self.new.links.items ≡ self.old.links.items) }
     {
         let Some(link) = self.link(number) else {

@@ -2,7 +2,8 @@
 ghost use Rattle.std.specs.Prelude.{◌≡◌, ◌≢◌, ℕ, List, Some, IfOk, OnOk};
 ghost use Rattle.tds_service.specs.Table.{reading_on, service_in};
 ghost use Rattle.tds_relay.specs.Desk.{Comes, Way, cleaned_by, settles, whose, whose_by};
-ghost use Rattle.tds_relay.specs.Fronts.{IsWhat, done_by};
+ghost use Rattle.tds_relay.specs.Fronts.{IsWhat};
+ghost use Rattle.tds_relay.specs.Hall.{done_by};
 ghost use Rattle.tds_relay.specs.Ties.{Makes, Settles, Turns, desk_in, part_on};
 
 use super::Desk;

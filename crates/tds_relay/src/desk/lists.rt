@@ -1,6 +1,7 @@
 //! Who is in a list.
 ghost use Rattle.std.specs.Prelude.{◌≡◌};
 ghost use Rattle.tds_relay.specs.Desk.{find_key, find_lease, find_number, without, without_lease, without_number};
+ghost use Rattle.tds_relay.specs.Hall.{is_in};
 
 use super::Hold;
 
@@ -38,6 +39,18 @@ pub(crate) fn find_number(holds: &[Hold], number: u64) -> Option<Hold>
         }
     }
     None
+}
+
+/// Whether this is among them.
+pub(crate) fn has_key(line: &[usize], key: usize) -> bool
+    ensures { result ≡ is_in key line.now }
+{
+    for waits in line {
+        if *waits == key {
+            return true;
+        }
+    }
+    false
 }
 
 pub(crate) fn remove_key(line: &mut Vec<usize>, key: usize)

@@ -1,8 +1,9 @@
 //! What applications say: requests, and cancels.
-ghost use Rattle.std.specs.Prelude.{◌≡◌, OnOk, drop};
+ghost use Rattle.std.specs.Prelude.{◌≡◌, OnOk, drop, true};
 ghost use Rattle.tds_relay.specs.Dealing.{Deals, floor_in};
-ghost use Rattle.tds_relay.specs.Fronts.{Moves, fronts_in, hall_in};
-ghost use Rattle.tds_relay.specs.Posts.{acknowledgement, give, posts_in};
+ghost use Rattle.tds_relay.specs.Fronts.{FedOn, MayPut, Moved, MovedOn, ends_in, goes_by, hall_in, puts};
+ghost use Rattle.tds_relay.specs.Hall.{IfOpen, Moves, change_end, end_at};
+ghost use Rattle.tds_relay.specs.Posts.{posts_in};
 ghost use Rattle.tds_relay.specs.Reads.{Stays};
 ghost use Rattle.tds_relay.specs.Ties.{Application, Goes, GoesOn, NobodyWaits, desk_in};
 
@@ -10,14 +11,9 @@ use super::Relay;
 use crate::NoMemory;
 use crate::application::Asking;
 use crate::desk::{Desk, Renewed};
-use tds_client::{Cancelled, MessageKind};
+use tds_client::MessageKind;
 use tds_front::Said;
 use tds_packet::{Kind, Reset};
-
-/// The acknowledgement of an attention: a message of one DONE with bit 0020 (MS-TDS 2.2.7.6).
-const ACKNOWLEDGED: [u8; 21] = [
-    4, 1, 0, 21, 0, 0, 1, 0, 0xfd, 0x20, 0, 0, 0, 0, 0, 0, 0, 0, 0, 0, 0,
-];
 
 impl Relay {
     /// These bytes of an application came. At most as many as `room` says are to be handed in.
@@ -42,13 +38,12 @@ impl Relay {
     }
 
     /// Takes some of them, and answers how many.
-    #[tactic(auto, using(crate::proofs::Fronts::no_moves))]
     fn take(&mut self, key: usize, piece: &[u8]) -> Result<usize, NoMemory>
         ensures goes { OnOk result (Goes (Application key)
             (desk_in self.old.desk) (desk_in self.new.desk)) }
         ensures deals { OnOk result (Deals (Application key) (floor_in self.old)
             (floor_in self.new)) }
-        ensures moves { OnOk result (Moves (Application key) (hall_in self.old)
+        ensures moves { OnOk result (Moved (Application key) (hall_in self.old)
             (hall_in self.new)) }
     {
         let Some(application) = self.applications.get_mut(key) else {
@@ -72,15 +67,16 @@ impl Relay {
             (desk_in self.old.desk) (desk_in self.new.desk)) }
         ensures deals { OnOk result (Deals (Application key) (floor_in self.old)
             (floor_in self.new)) }
-        ensures fronts { OnOk result (fronts_in self.new.applications
-            ≡ fronts_in self.old.applications) }
+        ensures moves { OnOk result (FedOn key said (desk_in self.old.desk)
+            (ends_in self.old.applications) (hall_in self.new)) }
     {
         match said {
             Said::Nothing => Ok(()),
             Said::Begin { kind, reset } => self.begin(key, kind, reset),
             Said::Body(count) => self.go_on(key, last(bytes, count), false),
             Said::End(count) => self.go_on(key, last(bytes, count), true),
-            Said::Forget { .. } => self.forget(key),
+            Said::Forget { gone: false } => self.forget(key),
+            Said::Forget { gone: true } => self.take_back(key),
             Said::Acknowledge => {
                 self.forget(key)?;
                 self.acknowledge(key)
@@ -92,14 +88,14 @@ impl Relay {
     /// A request begins. Where it asks for a reset itself, its application gives back what it holds; but
     /// where the transaction is to stay, its connection stays too: whether there is one is known once the
     /// server has acknowledged what was taken back before.
-    #[tactic(auto, using(crate::proofs::Reaching::reaches_turn, crate::proofs::Reaching::reaches_left, crate::proofs::Posting::kept_more, crate::proofs::Posting::posts_kept, crate::proofs::Fronts::fronts_more, crate::proofs::Fronts::fronts_kept))]
+    #[tactic(auto, using(crate::proofs::Reaching::reaches_turn, crate::proofs::Reaching::reaches_left, crate::proofs::Posting::kept_more, crate::proofs::Posting::posts_kept, crate::proofs::Fronts::ends_more, crate::proofs::Fronts::ends_kept))]
     fn begin(&mut self, key: usize, kind: Kind, reset: Option<Reset>) -> Result<(), NoMemory>
         ensures goes { OnOk result (Goes (Application key)
             (desk_in self.old.desk) (desk_in self.new.desk)) }
         ensures kept { OnOk result (posts_in self.new.applications
             ≡ posts_in self.old.applications) }
-        ensures fronts { OnOk result (fronts_in self.new.applications
-            ≡ fronts_in self.old.applications) }
+        ensures moves { OnOk result (Moved (Application key) (hall_in self.old)
+            (hall_in self.new)) }
     {
         let Some(application) = self.applications.get_mut(key) else {
             return Ok(());
@@ -113,7 +109,7 @@ impl Relay {
         application.forget();
         let holds = self.desk.hold_of(key).is_some();
         match (holds, reset) {
-            (false, _) => self.desk.wait(key),
+            (false, _) => self.wait(key),
             (true, None) => self.start(key),
             (true, Some(Reset::KeepTransaction)) => {
                 if self.may_keep_later(key) {
@@ -132,11 +128,11 @@ impl Relay {
         let Some(hold) = self.desk.hold_of(key) else {
             return false;
         };
-        let is_muted = match self.link(hold.number) {
-            Some(link) => link.is_muted,
+        let is_withdrawn = match self.applications.get(key) {
+            Some(application) => application.is_withdrawn,
             None => false,
         };
-        is_muted && self.desk.is_open_on(hold.number) == Some(true)
+        is_withdrawn && self.desk.is_open_on(hold.number) == Some(true)
     }
 
     /// The application lets its connection go, and waits for one like who has come.
@@ -146,11 +142,14 @@ impl Relay {
             (desk_in self.old.desk) (desk_in self.new.desk)) }
         ensures kept { OnOk result (posts_in self.new.applications
             ≡ posts_in self.old.applications) }
-        ensures fronts { OnOk result (fronts_in self.new.applications
-            ≡ fronts_in self.old.applications) }
+        ensures moves { OnOk result (Moved (Application key) (hall_in self.old)
+            (hall_in self.new)) }
     {
+        if !self.has_nothing_out(key) {
+            return self.expel(key);
+        }
         self.release(key)?;
-        self.desk.wait(key)
+        self.wait(key)
     }
 
     /// The application keeps its connection with its transaction, and its next request resets the rest.
@@ -160,8 +159,8 @@ impl Relay {
             (desk_in self.old.desk) (desk_in self.new.desk)) }
         ensures kept { OnOk result (posts_in self.new.applications
             ≡ posts_in self.old.applications) }
-        ensures fronts { OnOk result (fronts_in self.new.applications
-            ≡ fronts_in self.old.applications) }
+        ensures moves { OnOk result (Moved (Application key) (hall_in self.old)
+            (hall_in self.new)) }
     {
         match self.desk.renew(key)? {
             Renewed::Kept(hold) => {
@@ -174,14 +173,14 @@ impl Relay {
     }
 
     /// The next bytes of its request's body, with which it is whole or not.
-    #[tactic(auto, using(crate::proofs::Posting::kept_more, crate::proofs::Posting::posts_kept, crate::proofs::Fronts::fronts_more, crate::proofs::Fronts::fronts_kept))]
+    #[tactic(auto, using(crate::proofs::Posting::kept_more, crate::proofs::Posting::posts_kept, crate::proofs::Fronts::ends_more, crate::proofs::Fronts::ends_kept))]
     fn go_on(&mut self, key: usize, bytes: &[u8], whole: bool) -> Result<(), NoMemory>
         ensures goes { OnOk result (Goes (Application key)
             (desk_in self.old.desk) (desk_in self.new.desk)) }
         ensures kept { OnOk result (posts_in self.new.applications
             ≡ posts_in self.old.applications) }
-        ensures fronts { OnOk result (fronts_in self.new.applications
-            ≡ fronts_in self.old.applications) }
+        ensures moves { OnOk result (Moved (Application key) (hall_in self.old)
+            (hall_in self.new)) }
     {
         let Some(application) = self.applications.get_mut(key) else {
             return Ok(());
@@ -205,147 +204,58 @@ impl Relay {
         ensures goes { OnOk result (GoesOn (desk_in self.old.desk) (desk_in self.new.desk)) }
         ensures kept { OnOk result (posts_in self.new.applications
             ≡ posts_in self.old.applications) }
-        ensures fronts { OnOk result (fronts_in self.new.applications
-            ≡ fronts_in self.old.applications) }
+        ensures moves { OnOk result (MovedOn (hall_in self.old) (hall_in self.new)) }
         ensures read { OnOk result (Stays self.old.links.items self.new.links.items) }
     {
         let Some(hold) = self.desk.hold_of(key) else {
             return Ok(());
         };
-        self.outbox.clear();
-        if !put_on(&mut self.desk, key, bytes, whole, &mut self.outbox) {
+        if !self.may_put(key, whole) {
             return self.lose(hold.number);
         }
+        self.outbox.clear();
+        let fits = put_on(&mut self.desk, key, bytes, whole, &mut self.outbox);
         self.note_went_on(key);
-        self.send_on(hold.number)
+        if fits {
+            self.send_on(hold.number)
+        } else {
+            self.lose(hold.number)
+        }
+    }
+
+    /// Whether an application has begun a request, or all of one has come.
+    fn may_put(&self, key: usize, whole: bool) -> bool
+        ensures { result ≡ true → IfOpen (puts whole) (end_at (ends_in self.now.applications) key) }
+    {
+        match self.applications.get(key) {
+            Some(application) => application.may_put(whole),
+            None => false,
+        }
     }
 
     /// Something of a request goes on, where the desk has something to send.
     fn note_went_on(&mut self, key: usize)
         ensures desk { self.new.desk ≡ self.old.desk }
         ensures kept { posts_in self.new.applications ≡ posts_in self.old.applications }
-        ensures fronts { fronts_in self.new.applications ≡ fronts_in self.old.applications }
+        ensures ends { ends_in self.new.applications
+            ≡ change_end key (goes_by self.old.outbox.items) (ends_in self.old.applications) }
         ensures links { self.new.links.items ≡ self.old.links.items }
     {
         if self.outbox.is_empty() {
             return;
         }
         match self.applications.get_mut(key) {
-            Some(application) => application.front.went_on(),
+            Some(application) => application.went_on(),
             None => {}
-        }
-    }
-
-    /// Its request is forgotten, and the reset that this asked for.
-    #[tactic(auto, using(crate::proofs::Posting::kept_more, crate::proofs::Fronts::fronts_more))]
-    fn forget(&mut self, key: usize) -> Result<(), NoMemory>
-        ensures goes { OnOk result (Goes (Application key)
-            (desk_in self.old.desk) (desk_in self.new.desk)) }
-        ensures kept { OnOk result (posts_in self.new.applications
-            ≡ posts_in self.old.applications) }
-        ensures fronts { OnOk result (fronts_in self.new.applications
-            ≡ fronts_in self.old.applications) }
-    {
-        self.forget_reset(key);
-        self.take_back(key)
-    }
-
-    /// What has come of its request is forgotten; where something of it has gone on, the server is to
-    /// forget it too, and its acknowledgement is nobody's.
-    #[tactic(auto, using(crate::proofs::Reaching::reaches_turn, crate::proofs::Reaching::reaches_left, crate::proofs::Posting::kept_more, crate::proofs::Posting::posts_kept, crate::proofs::Fronts::fronts_more, crate::proofs::Fronts::fronts_kept))]
-    fn take_back(&mut self, key: usize) -> Result<(), NoMemory>
-        ensures goes { OnOk result (Goes (Application key)
-            (desk_in self.old.desk) (desk_in self.new.desk)) }
-        ensures kept { OnOk result (posts_in self.new.applications
-            ≡ posts_in self.old.applications) }
-        ensures fronts { OnOk result (fronts_in self.new.applications
-            ≡ fronts_in self.old.applications) }
-    {
-        let Some(application) = self.applications.get_mut(key) else {
-            return Ok(());
-        };
-        let goes = matches!(application.asking, Asking::Goes);
-        application.asking = Asking::Nothing;
-        application.forget();
-        self.desk.unwait(key);
-        if !goes {
-            return Ok(());
-        }
-        let Some(hold) = self.desk.hold_of(key) else {
-            return Ok(());
-        };
-        match self.cancel(key)? {
-            Some(Cancelled::Asked) => {
-                self.mute(hold.number, true);
-                Ok(())
-            }
-            Some(_) => Ok(()),
-            None => self.lose(hold.number),
-        }
-    }
-
-    /// The relay acknowledges an attention.
-    fn acknowledge(&mut self, key: usize) -> Result<(), NoMemory>
-        ensures desk { self.new.desk ≡ self.old.desk }
-        ensures given { OnOk result (posts_in self.new.applications
-            ≡ give key acknowledgement (posts_in self.old.applications)) }
-        ensures fronts { OnOk result (fronts_in self.new.applications
-            ≡ fronts_in self.old.applications) }
-    {
-        match self.applications.get_mut(key) {
-            Some(application) => {
-                application.out.append(&ACKNOWLEDGED)?;
-                self.order_write(key)
-            }
-            None => Ok(()),
-        }
-    }
-
-    /// The server acknowledges an attention.
-    fn hand_on(&mut self, key: usize) -> Result<(), NoMemory>
-        ensures goes { OnOk result (Goes (Application key)
-            (desk_in self.old.desk) (desk_in self.new.desk)) }
-        ensures kept { OnOk result (posts_in self.new.applications
-            ≡ posts_in self.old.applications) }
-        ensures fronts { OnOk result (fronts_in self.new.applications
-            ≡ fronts_in self.old.applications) }
-    {
-        let Some(hold) = self.desk.hold_of(key) else {
-            return self.expel(key);
-        };
-        match self.cancel(key)? {
-            Some(Cancelled::Asked) => {
-                self.counts.cancels = self.counts.cancels.saturating_add(1);
-                Ok(())
-            }
-            _ => self.lose(hold.number),
-        }
-    }
-
-    /// Cancels what is underway of an application. None where its connection is of no use any more.
-    #[tactic(auto, using(crate::proofs::Reaching::reaches_turn, crate::proofs::Reaching::reaches_left))]
-    fn cancel(&mut self, key: usize) -> Result<Option<Cancelled>, NoMemory>
-        ensures goes { OnOk result (Goes (Application key)
-            (desk_in self.old.desk) (desk_in self.new.desk)) }
-        ensures kept { OnOk result (posts_in self.new.applications
-            ≡ posts_in self.old.applications) }
-        ensures fronts { OnOk result (fronts_in self.new.applications
-            ≡ fronts_in self.old.applications) }
-    {
-        self.outbox.clear();
-        match self.desk.cancel(key, &mut self.outbox) {
-            Ok((hold, how)) => {
-                self.send_on(hold.number)?;
-                Ok(Some(how))
-            }
-            Err(_) => Ok(None),
         }
     }
 }
 
 /// Puts bytes of a request, and its end. False where one was refused.
 fn put_on(desk: &mut Desk, key: usize, bytes: &[u8], whole: bool, out: &mut Vec<u8>) -> bool
-    ensures { GoesOn (desk_in desk.old) (desk_in desk.new) }
+    ensures goes { GoesOn (desk_in desk.old) (desk_in desk.new) }
+    ensures puts { MayPut key whole (desk_in desk.old) (desk_in desk.new) out.old.items
+        out.new.items }
 {
     let Ok(_) = desk.put(key, bytes, out) else {
         return false;

@@ -3,9 +3,11 @@ ghost use Rattle.std.specs.Prelude.{◌≡◌, ◌+◌, ◌≤◌, Bool, None, S
 ghost use Rattle.std.specs.Prelude.{IfOk, IsNone, OnOk};
 ghost use Rattle.tds_service.specs.Table.{reading_on};
 ghost use Rattle.tds_relay.specs.Dealing.{Deals, Passes, floor_in, floor_of};
-ghost use Rattle.tds_relay.specs.Fronts.{Came, Moves, fronts_in, hall_in, move_front, owner_of, settles};
-ghost use Rattle.tds_relay.specs.Fronts.{stage_of, told_by};
-ghost use Rattle.tds_relay.specs.Handing.{Brings, HearsBy, news_with};
+ghost use Rattle.tds_relay.specs.Fronts.{Came, Moved, end_of, ends_in, hall_in, hall_of_ends, told_by};
+ghost use Rattle.tds_relay.specs.Hall.{Moves, change_end, change_whose, told};
+ghost use Rattle.tds_relay.specs.declared.desk.coming.What.TheVariants.{Acknowledged, Finished};
+ghost use Rattle.tds_relay.specs.Desk.{whose};
+ghost use Rattle.tds_relay.specs.Handing.{Brings, HearsBy, is_muted, news_with};
 ghost use Rattle.tds_relay.specs.Posts.{post_of, posts_in};
 ghost use Rattle.tds_relay.specs.Reads.{Comes, Continues, Stays, StreamsAll, if_heard};
 ghost use Rattle.tds_relay.specs.Reads.{reader_at, seen_at};
@@ -19,7 +21,7 @@ use crate::NoMemory;
 use crate::application::{Application, Asking};
 use crate::desk::{Desk, Heard, Renewed, What};
 use crate::link::{Answer, Link, News};
-use crate::links::{place_in, set_muted};
+use crate::links::place_in;
 use crate::reading::reads_packets;
 use slab::Slab;
 use tds_packet::PacketRef;
@@ -75,8 +77,8 @@ impl Relay {
             (floor_in self.new)) }
         ensures came { IfOk result (λ out. Came number (desk_in self.old.desk)
             (desk_in self.new.desk) out.1) }
-        ensures fronts { OnOk result (fronts_in self.new.applications
-            ≡ fronts_in self.old.applications) }
+        ensures ends { OnOk result (ends_in self.new.applications
+            ≡ ends_in self.old.applications) }
         ensures continues { IfOk result (λ heard. Continues number piece.now
             (drop heard.0 piece.now) (reader_at number self.old.links.items)
             (if_heard heard.1 (reader_at number self.new.links.items)) (floor_in self.old)
@@ -103,48 +105,107 @@ impl Relay {
             (desk_in self.old.desk) (desk_in self.new.desk)) }
         ensures kept { OnOk result (posts_in self.new.applications
             ≡ posts_in self.old.applications) }
-        ensures told { OnOk result ((missed : Bool) × (fronts_in self.new.applications
-            ≡ told_by heard missed (fronts_in self.old.applications))) }
-        ensures quiet { OnOk result (Goes (causes.Application (owner_of heard))
-            (desk_in self.old.desk) (desk_in self.new.desk)) }
+        ensures moves { OnOk result (Moved (Connection number) (hall_of_ends
+            (desk_in self.old.desk) (told_by heard (ends_in self.old.applications)))
+            (hall_in self.new)) }
         ensures read { OnOk result (Stays self.old.links.items self.new.links.items) }
         ensures gone { IsNone heard → OnOk result (reader_at number self.new.links.items ≡ None) }
     {
-        self.send_on(number)?;
         let Some(heard) = heard else {
             return self.lose(number);
         };
+        let resumes = self.tell(heard)?;
+        self.send_on(number)?;
         match (heard.what, heard.key) {
             (What::Goes, Some(key)) => self.order_write(key),
             (What::Goes, None) => Ok(()),
-            (What::Finished, Some(key)) => self.settled(key, false),
+            (What::Finished, Some(key)) => self.order_write(key),
             (What::Finished, None) => Ok(()),
             (What::Acknowledged, Some(key)) => {
-                if self.unmute(number) {
+                if resumes {
                     self.resume(number, key)
                 } else {
-                    self.acknowledged(key)
+                    self.order_write(key)
                 }
             }
             (What::Acknowledged, None) => Ok(()),
-            (What::Closed, Some(key)) => self.close(number, Some(key)),
+            (What::Closed, Some(_)) => self.close_link(number),
             (What::Closed, None) => {
                 self.counts.failed = self.counts.failed.saturating_add(1);
-                self.close(number, None)
+                self.close_link(number)
             }
         }
+    }
+
+    /// What came of a packet is told to its application's end. Answers whether this waited for the
+    /// acknowledgement of what it had taken back.
+    fn tell(&mut self, heard: Heard) -> Result<bool, NoMemory>
+        ensures desk { self.new.desk ≡ self.old.desk }
+        ensures kept { OnOk result (posts_in self.new.applications
+            ≡ posts_in self.old.applications) }
+        ensures ends { OnOk result (ends_in self.new.applications
+            ≡ change_whose heard.key (told heard.what) (ends_in self.old.applications)) }
+        ensures read { OnOk result (Stays self.old.links.items self.new.links.items) }
+    {
+        let Some(key) = heard.key else {
+            return Ok(false);
+        };
+        match heard.what {
+            What::Goes => Ok(false),
+            What::Finished => {
+                self.answered(key);
+                Ok(false)
+            }
+            What::Acknowledged => Ok(self.acknowledged(key)),
+            What::Closed => {
+                self.end(key)?;
+                Ok(false)
+            }
+        }
+    }
+
+    /// An application's request has its answer.
+    fn answered(&mut self, key: usize)
+        ensures desk { self.new.desk ≡ self.old.desk }
+        ensures kept { posts_in self.new.applications ≡ posts_in self.old.applications }
+        ensures ends { ends_in self.new.applications
+            ≡ change_end key (told Finished) (ends_in self.old.applications) }
+        ensures links { self.new.links.items ≡ self.old.links.items }
+    {
+        match self.applications.get_mut(key) {
+            Some(application) => application.answered(),
+            None => {}
+        }
+    }
+
+    /// An application's attention has the acknowledgement: of the reset that its request asked for it hears
+    /// no more. Or what it took back has. Answers whether that.
+    fn acknowledged(&mut self, key: usize) -> bool
+        ensures desk { self.new.desk ≡ self.old.desk }
+        ensures kept { posts_in self.new.applications ≡ posts_in self.old.applications }
+        ensures ends { ends_in self.new.applications
+            ≡ change_end key (told Acknowledged) (ends_in self.old.applications) }
+        ensures read { Stays self.old.links.items self.new.links.items }
+    {
+        let Some(application) = self.applications.get_mut(key) else {
+            return false;
+        };
+        let asked_for_reset = application.reset.is_some();
+        let resumes = application.acknowledged();
+        if asked_for_reset && !resumes {
+            self.cut_for(key);
+        }
+        resumes
     }
 
     /// The server has acknowledged that an application's request was taken back: its next one goes on.
     fn resume(&mut self, number: u64, key: usize) -> Result<(), NoMemory>
         ensures goes { OnOk result (Goes (Connection number)
             (desk_in self.old.desk) (desk_in self.new.desk)) }
-        ensures quiet { OnOk result (Goes (causes.Application key)
-            (desk_in self.old.desk) (desk_in self.new.desk)) }
         ensures kept { OnOk result (posts_in self.new.applications
             ≡ posts_in self.old.applications) }
-        ensures fronts { OnOk result (fronts_in self.new.applications
-            ≡ fronts_in self.old.applications) }
+        ensures moves { OnOk result (Moved (Connection number) (hall_in self.old)
+            (hall_in self.new)) }
         ensures read { OnOk result (Stays self.old.links.items self.new.links.items) }
     {
         if self.asks_to_keep(key) {
@@ -166,12 +227,10 @@ impl Relay {
     fn keep(&mut self, number: u64, key: usize) -> Result<(), NoMemory>
         ensures goes { OnOk result (Goes (Connection number)
             (desk_in self.old.desk) (desk_in self.new.desk)) }
-        ensures quiet { OnOk result (Goes (causes.Application key)
-            (desk_in self.old.desk) (desk_in self.new.desk)) }
         ensures kept { OnOk result (posts_in self.new.applications
             ≡ posts_in self.old.applications) }
-        ensures fronts { OnOk result (fronts_in self.new.applications
-            ≡ fronts_in self.old.applications) }
+        ensures moves { OnOk result (Moved (Connection number) (hall_in self.old)
+            (hall_in self.new)) }
         ensures read { OnOk result (Stays self.old.links.items self.new.links.items) }
     {
         match self.desk.renew(key)? {
@@ -179,72 +238,33 @@ impl Relay {
                 self.cut(hold.number, false);
                 self.start(key)
             }
-            Renewed::NotKept => self.replace(number, key),
+            Renewed::NotKept => self.replace(number),
             Renewed::Closed(number) => self.close(number, Some(key)),
         }
     }
 
     /// The transaction that was to be kept has ended: the connection is closed, and its application waits
-    /// for another.
+    /// for another, if it has nothing out.
     #[tactic(auto, using(crate::proofs::Reaching::reaches_turn))]
-    fn replace(&mut self, number: u64, key: usize) -> Result<(), NoMemory>
+    fn replace(&mut self, number: u64) -> Result<(), NoMemory>
         ensures goes { OnOk result (Goes (Connection number)
             (desk_in self.old.desk) (desk_in self.new.desk)) }
-        ensures quiet { OnOk result (Goes (causes.Application key)
-            (desk_in self.old.desk) (desk_in self.new.desk)) }
         ensures kept { OnOk result (posts_in self.new.applications
             ≡ posts_in self.old.applications) }
-        ensures fronts { OnOk result (fronts_in self.new.applications
-            ≡ fronts_in self.old.applications) }
+        ensures moves { OnOk result (Moved (Connection number) (hall_in self.old)
+            (hall_in self.new)) }
         ensures read { OnOk result (Stays self.old.links.items self.new.links.items) }
     {
-        self.desk.lose(number)?;
-        self.close(number, None)?;
-        self.desk.wait(key)
-    }
-
-    /// What comes on a connection is handed on again. False where it was.
-    fn unmute(&mut self, number: u64) -> bool
-        ensures desk { self.new.desk ≡ self.old.desk }
-        ensures kept { posts_in self.new.applications ≡ posts_in self.old.applications }
-        ensures fronts { fronts_in self.new.applications ≡ fronts_in self.old.applications }
-        ensures read { Stays self.old.links.items self.new.links.items }
-    {
-        set_muted(&mut self.links, number, false)
-    }
-
-    /// An application's attention has the acknowledgement: of the reset that its request asked for it hears
-    /// no more.
-    #[tactic(auto, using(crate::proofs::Posting::kept_more))]
-    fn acknowledged(&mut self, key: usize) -> Result<(), NoMemory>
-        ensures desk { self.new.desk ≡ self.old.desk }
-        ensures kept { OnOk result (posts_in self.new.applications
-            ≡ posts_in self.old.applications) }
-        ensures told { OnOk result (fronts_in self.new.applications
-            ≡ move_front key (settles true) (fronts_in self.old.applications)) }
-        ensures read { OnOk result (Stays self.old.links.items self.new.links.items) }
-    {
-        self.forget_reset(key);
-        self.settled(key, true)
-    }
-
-    /// An application's request has its answer, or its attention the acknowledgement.
-    #[tactic(auto, using(crate::proofs::Fronts::fronts_nobody))]
-    fn settled(&mut self, key: usize, is_acknowledged: bool) -> Result<(), NoMemory>
-        ensures desk { self.new.desk ≡ self.old.desk }
-        ensures kept { OnOk result (posts_in self.new.applications
-            ≡ posts_in self.old.applications) }
-        ensures told { OnOk result (fronts_in self.new.applications
-            ≡ move_front key (settles is_acknowledged) (fronts_in self.old.applications)) }
-        ensures links { OnOk result (self.new.links.items ≡ self.old.links.items) }
-    {
-        match self.applications.get_mut(key) {
-            Some(application) => {
-                application.settle(is_acknowledged);
-                self.order_write(key)
-            }
-            None => Ok(()),
+        let holder = self.desk.lose(number)?;
+        let Some(key) = holder else {
+            return self.close_link(number);
+        };
+        if !self.has_nothing_out(key) {
+            return self.close(number, Some(key));
         }
+        self.let_go(key);
+        self.close_link(number)?;
+        self.wait(key)
     }
 }
 
@@ -266,13 +286,12 @@ fn hear_on(
         (desk_in desk.new)) }
     ensures deals { OnOk result (Deals (Connection number)
         (floor_of desk.old applications.old) (floor_of desk.new applications.new)) }
-    ensures hears { IfOk result (λ heard. HearsBy number (reading_on number desk.old.service) link.old
-        link.new piece.now heard.0 heard.1 (floor_of desk.old applications.old)
-        (floor_of desk.new applications.new)) }
+    ensures hears { IfOk result (λ heard. HearsBy number (reading_on number desk.old.service)
+        (is_muted applications.old (whose (desk_in desk.old) number)) link.old link.new piece.now
+        heard.0 heard.1 (floor_of desk.old applications.old) (floor_of desk.new applications.new)) }
     ensures number { link.new.number ≡ link.old.number }
-    ensures muted { link.new.is_muted ≡ link.old.is_muted }
     ensures came { IfOk result (λ out. Came number (desk_in desk.old) (desk_in desk.new) out.1) }
-    ensures fronts { OnOk result (fronts_in applications.new ≡ fronts_in applications.old) }
+    ensures ends { OnOk result (ends_in applications.new ≡ ends_in applications.old) }
 {
     let Ok(count) = link.reader.feed(piece) else {
         return Ok((piece.len(), None));
@@ -294,30 +313,33 @@ fn hear_packet(
     ensures goes { OnOk result (Goes (Connection number) (desk_in desk.old)
         (desk_in desk.new)) }
     ensures brings { IfOk result (λ heard. Brings number (reading_on number desk.old.service)
-        link.old.is_muted link.old.news link.old.answer link.old.reader heard.what
-        (floor_of desk.old applications.old) (floor_of desk.new applications.new)) }
+        (is_muted applications.old (whose (desk_in desk.old) number)) link.old.news
+        link.old.answer link.old.reader heard.what (floor_of desk.old applications.old) (floor_of desk.new applications.new)) }
     ensures reader { link.new.reader ≡ link.old.reader }
     ensures number { link.new.number ≡ link.old.number }
-    ensures muted { link.new.is_muted ≡ link.old.is_muted }
     ensures came { IfOk result (λ heard. Came number (desk_in desk.old) (desk_in desk.new)
         (Some heard)) }
-    ensures fronts { OnOk result (fronts_in applications.new ≡ fronts_in applications.old) }
+    ensures ends { OnOk result (ends_in applications.new ≡ ends_in applications.old) }
 {
     let Some(packet) = link.reader.packet() else {
         return Ok(NOTHING);
     };
     let ends = packet.header.status.ends();
     let heard = desk.came(number, packet.data, ends, outbox)?;
-    if matches!(heard.what, What::Closed) || link.is_muted {
+    if matches!(heard.what, What::Closed) {
         return Ok(heard);
     }
     let Some(key) = heard.key else {
         return Ok(heard);
     };
-    if let Some(application) = applications.get_mut(key) {
-        link.news = news_with(heard.what, link.news);
-        hand_on(&mut link.answer, &mut link.news, packet, application)?;
+    let Some(application) = applications.get_mut(key) else {
+        return Ok(heard);
+    };
+    if application.is_withdrawn {
+        return Ok(heard);
     }
+    link.news = news_with(heard.what, link.news);
+    hand_on(&mut link.answer, &mut link.news, packet, application)?;
     Ok(heard)
 }
 
@@ -343,7 +365,7 @@ fn hand_on(
     requires { packet.header.length ≡ 8 + length packet.«data».now }
     ensures passes { OnOk result (Passes news.old answer.old packet.entry.header packet.entry.«data».now
         (post_of application.old) (post_of application.new)) }
-    ensures end { OnOk result (stage_of application.new ≡ stage_of application.old) }
+    ensures end { OnOk result (end_of application.new ≡ end_of application.old) }
     ensures fits { IsRoom news.old application.old.out packet.entry.header.length
         → application.new.out.is_full ≡ false }
 {

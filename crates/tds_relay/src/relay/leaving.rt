@@ -2,7 +2,8 @@
 ghost use Rattle.std.specs.Prelude.{◌≡◌, None, OnOk};
 ghost use Rattle.tds_relay.specs.Desk.{Loses, turn};
 ghost use Rattle.tds_relay.specs.Dealing.{Deals, DealsOn, floor_in};
-ghost use Rattle.tds_relay.specs.Fronts.{Moves, fronts_in, hall_in};
+ghost use Rattle.tds_relay.specs.Fronts.{LetsGoFirst, Moved, MovedOn, ends_in, hall_in, hall_of_ends};
+ghost use Rattle.tds_relay.specs.Hall.{Moves, change_end, change_whose, closes};
 ghost use Rattle.tds_relay.specs.Posts.{posts_in};
 ghost use Rattle.tds_relay.specs.Reads.{Stays, reader_at};
 ghost use Rattle.tds_relay.specs.Ties.{Application, Goes, GoesOn, Leaving, NobodyWaits, desk_in};
@@ -35,8 +36,7 @@ impl Relay {
         ensures lost { OnOk result (GoesOn (turn (desk_in self.old.desk) (Loses number)).desk
             (desk_in self.new.desk)) }
         ensures deals { OnOk result (DealsOn (floor_in self.old) (floor_in self.new)) }
-        ensures fronts { OnOk result (fronts_in self.new.applications
-            ≡ fronts_in self.old.applications) }
+        ensures moves { OnOk result (MovedOn (hall_in self.old) (hall_in self.new)) }
         ensures served { OnOk result (NobodyWaits (desk_in self.new.desk)) }
     {
         self.lose(number)?;
@@ -50,8 +50,8 @@ impl Relay {
             (desk_in self.old.desk) (desk_in self.new.desk)) }
         ensures kept { OnOk result (posts_in self.new.applications
             ≡ posts_in self.old.applications) }
-        ensures fronts { OnOk result (fronts_in self.new.applications
-            ≡ fronts_in self.old.applications) }
+        ensures moves { OnOk result (Moved (Application key) (hall_of_ends (desk_in self.old.desk)
+            (change_end key closes (ends_in self.old.applications))) (hall_in self.new)) }
     {
         self.end(key)?;
         self.release(key)
@@ -62,8 +62,8 @@ impl Relay {
         ensures desk { self.new.desk ≡ self.old.desk }
         ensures kept { OnOk result (posts_in self.new.applications
             ≡ posts_in self.old.applications) }
-        ensures fronts { OnOk result (fronts_in self.new.applications
-            ≡ fronts_in self.old.applications) }
+        ensures ends { OnOk result (ends_in self.new.applications
+            ≡ change_end key closes (ends_in self.old.applications)) }
         ensures links { OnOk result (self.new.links.items ≡ self.old.links.items) }
     {
         match self.applications.get_mut(key) {
@@ -71,7 +71,7 @@ impl Relay {
                 if application.is_over {
                     return Ok(());
                 }
-                application.is_over = true;
+                application.close();
                 self.orders.push(Order::Close(application.tag))?;
                 Ok(())
             }
@@ -85,14 +85,14 @@ impl Relay {
         ensures leaving { OnOk result (Leaving key (desk_in self.old.desk) (desk_in self.new.desk)) }
         ensures kept { OnOk result (posts_in self.new.applications
             ≡ posts_in self.old.applications) }
-        ensures fronts { OnOk result (fronts_in self.new.applications
-            ≡ fronts_in self.old.applications) }
+        ensures lets_go { OnOk result (LetsGoFirst key (hall_in self.old) (hall_in self.new)) }
     {
         self.outbox.clear();
-        let Some(left) = self.desk.leave(key, &mut self.outbox)? else {
+        let left = self.desk.leave(key, &mut self.outbox)?;
+        self.let_go(key);
+        let Some(left) = left else {
             return Ok(());
         };
-        self.mute(left.number, false);
         if left.is_there {
             self.counts.cleanings = self.counts.cleanings.saturating_add(1);
             self.send_on(left.number)
@@ -110,8 +110,7 @@ impl Relay {
         ensures goes { OnOk result (GoesOn (desk_in self.old.desk) (desk_in self.new.desk)) }
         ensures kept { OnOk result (posts_in self.new.applications
             ≡ posts_in self.old.applications) }
-        ensures fronts { OnOk result (fronts_in self.new.applications
-            ≡ fronts_in self.old.applications) }
+        ensures moves { OnOk result (MovedOn (hall_in self.old) (hall_in self.new)) }
         ensures read { OnOk result (Stays self.old.links.items self.new.links.items) }
         ensures gone { OnOk result (reader_at number self.new.links.items ≡ None) }
     {
@@ -120,12 +119,12 @@ impl Relay {
     }
 
     #[tactic(auto, using(crate::proofs::Staying::stays_without, crate::proofs::Staying::taken_out))]
-    fn close_link(&mut self, number: u64) -> Result<(), NoMemory>
+    pub(super) fn close_link(&mut self, number: u64) -> Result<(), NoMemory>
         ensures desk { self.new.desk ≡ self.old.desk }
         ensures kept { OnOk result (posts_in self.new.applications
             ≡ posts_in self.old.applications) }
-        ensures fronts { OnOk result (fronts_in self.new.applications
-            ≡ fronts_in self.old.applications) }
+        ensures ends { OnOk result (ends_in self.new.applications
+            ≡ ends_in self.old.applications) }
         ensures read { OnOk result (Stays self.old.links.items self.new.links.items) }
         ensures gone { OnOk result (reader_at number self.new.links.items ≡ None) }
     {
@@ -148,8 +147,8 @@ impl Relay {
         ensures desk { self.new.desk ≡ self.old.desk }
         ensures kept { OnOk result (posts_in self.new.applications
             ≡ posts_in self.old.applications) }
-        ensures fronts { OnOk result (fronts_in self.new.applications
-            ≡ fronts_in self.old.applications) }
+        ensures ends { OnOk result (ends_in self.new.applications
+            ≡ change_whose key closes (ends_in self.old.applications)) }
         ensures read { OnOk result (Stays self.old.links.items self.new.links.items) }
         ensures gone { OnOk result (reader_at number self.new.links.items ≡ None) }
     {

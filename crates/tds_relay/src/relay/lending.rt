@@ -2,7 +2,8 @@
 ghost use Rattle.std.specs.Prelude.{◌≡◌, ◌++◌, ◌∷◌, [], IfOk, OnOk, false, if◌then◌else◌};
 ghost use Rattle.slab.specs.Slab.{get};
 ghost use Rattle.tds_relay.specs.Dealing.{Deals, DealsOn, floor_in};
-ghost use Rattle.tds_relay.specs.Fronts.{fronts_in};
+ghost use Rattle.tds_relay.specs.Fronts.{MovedOn, ends_in, hall_in};
+ghost use Rattle.tds_relay.specs.Hall.{Moves};
 ghost use Rattle.tds_relay.specs.Handing.{news_for};
 ghost use Rattle.tds_relay.specs.Posts.{asks_reset, posts_in};
 ghost use Rattle.tds_relay.specs.Reads.{Opens, Stays};
@@ -26,8 +27,7 @@ impl Relay {
     pub fn bring(&mut self, tag: usize) -> Result<Option<u64>, NoMemory>
         ensures goes { OnOk result (Goes Neither (desk_in self.old.desk) (desk_in self.new.desk)) }
         ensures deals { OnOk result (Deals Neither (floor_in self.old) (floor_in self.new)) }
-        ensures fronts { OnOk result (fronts_in self.new.applications
-            ≡ fronts_in self.old.applications) }
+        ensures moves { OnOk result (Moves Neither (hall_in self.old) (hall_in self.new)) }
     {
         if !self.links.is_empty() {
             return Ok(None);
@@ -59,7 +59,7 @@ impl Relay {
     pub fn opening(&mut self, number: u64, tag: usize)
         ensures desk { self.new.desk ≡ self.old.desk }
         ensures kept { posts_in self.new.applications ≡ posts_in self.old.applications }
-        ensures fronts { fronts_in self.new.applications ≡ fronts_in self.old.applications }
+        ensures ends { ends_in self.new.applications ≡ ends_in self.old.applications }
     {
         match link_in(&mut self.links, number) {
             Some(link) => link.tag = Some(tag),
@@ -71,8 +71,7 @@ impl Relay {
     pub fn opened(&mut self, number: u64) -> Result<(), NoMemory>
         ensures goes { OnOk result (GoesOn (desk_in self.old.desk) (desk_in self.new.desk)) }
         ensures deals { OnOk result (DealsOn (floor_in self.old) (floor_in self.new)) }
-        ensures fronts { OnOk result (fronts_in self.new.applications
-            ≡ fronts_in self.old.applications) }
+        ensures moves { OnOk result (MovedOn (hall_in self.old) (hall_in self.new)) }
         ensures served { OnOk result (NobodyWaits (desk_in self.new.desk)) }
     {
         self.set_open(number);
@@ -84,7 +83,7 @@ impl Relay {
     fn set_open(&mut self, number: u64)
         ensures desk { self.new.desk ≡ self.old.desk }
         ensures kept { posts_in self.new.applications ≡ posts_in self.old.applications }
-        ensures fronts { fronts_in self.new.applications ≡ fronts_in self.old.applications }
+        ensures ends { ends_in self.new.applications ≡ ends_in self.old.applications }
     {
         match link_in(&mut self.links, number) {
             Some(link) => link.is_open = true,
@@ -97,8 +96,7 @@ impl Relay {
         ensures goes { OnOk result (GoesOn (desk_in self.old.desk) (desk_in self.new.desk)) }
         ensures kept { OnOk result (posts_in self.new.applications
             ≡ posts_in self.old.applications) }
-        ensures fronts { OnOk result (fronts_in self.new.applications
-            ≡ fronts_in self.old.applications) }
+        ensures moves { OnOk result (MovedOn (hall_in self.old) (hall_in self.new)) }
     {
         match self.desk.key_on(number) {
             Some(key) => self.start(key),
@@ -111,8 +109,7 @@ impl Relay {
     pub(super) fn serve_line(&mut self) -> Result<(), NoMemory>
         ensures goes { OnOk result (GoesOn (desk_in self.old.desk) (desk_in self.new.desk)) }
         ensures deals { OnOk result (DealsOn (floor_in self.old) (floor_in self.new)) }
-        ensures fronts { OnOk result (fronts_in self.new.applications
-            ≡ fronts_in self.old.applications) }
+        ensures moves { OnOk result (MovedOn (hall_in self.old) (hall_in self.new)) }
         ensures served { OnOk result (NobodyWaits (desk_in self.new.desk)) }
         ensures opens { OnOk result (Opens self.old.links.items self.new.links.items) }
     {
@@ -132,8 +129,7 @@ impl Relay {
         ensures goes { OnOk result (GoesOn (desk_in self.old.desk) (desk_in self.new.desk)) }
         ensures kept { OnOk result (posts_in self.new.applications
             ≡ posts_in self.old.applications) }
-        ensures fronts { OnOk result (fronts_in self.new.applications
-            ≡ fronts_in self.old.applications) }
+        ensures moves { OnOk result (MovedOn (hall_in self.old) (hall_in self.new)) }
         ensures opens { OnOk result (Opens self.old.links.items self.new.links.items) }
         ensures told { served.had ≡ false → OnOk result ((link : Link)
             × (link.news ≡ news_for (get self.old.applications served.hold.key))
@@ -168,7 +164,7 @@ impl Relay {
     pub(super) fn forget_reset(&mut self, key: usize)
         ensures desk { self.new.desk ≡ self.old.desk }
         ensures kept { posts_in self.new.applications ≡ posts_in self.old.applications }
-        ensures fronts { fronts_in self.new.applications ≡ fronts_in self.old.applications }
+        ensures ends { ends_in self.new.applications ≡ ends_in self.old.applications }
         ensures read { Stays self.old.links.items self.new.links.items }
     {
         let Some(application) = self.applications.get_mut(key) else {
@@ -178,6 +174,17 @@ impl Relay {
             return;
         }
         application.reset = None;
+        self.cut_for(key);
+    }
+
+    /// The news of a reset is cut out of what comes next for an application.
+    #[tactic(auto, using(crate::proofs::Staying::stays_refl))]
+    pub(super) fn cut_for(&mut self, key: usize)
+        ensures desk { self.new.desk ≡ self.old.desk }
+        ensures kept { posts_in self.new.applications ≡ posts_in self.old.applications }
+        ensures ends { ends_in self.new.applications ≡ ends_in self.old.applications }
+        ensures read { Stays self.old.links.items self.new.links.items }
+    {
         match self.desk.hold_of(key) {
             Some(hold) => self.cut(hold.number, true),
             None => {}
@@ -190,13 +197,15 @@ impl Relay {
         ensures goes { OnOk result (GoesOn (desk_in self.old.desk) (desk_in self.new.desk)) }
         ensures kept { OnOk result (posts_in self.new.applications
             ≡ posts_in self.old.applications) }
-        ensures fronts { OnOk result (fronts_in self.new.applications
-            ≡ fronts_in self.old.applications) }
+        ensures moves { OnOk result (MovedOn (hall_in self.old) (hall_in self.new)) }
         ensures read { OnOk result (Stays self.old.links.items self.new.links.items) }
     {
         let Some(application) = self.applications.get(key) else {
             return Ok(());
         };
+        if application.is_over || application.is_withdrawn {
+            return Ok(());
+        }
         let Asking::Waits { kind, whole } = application.asking else {
             return Ok(());
         };
@@ -204,7 +213,7 @@ impl Relay {
             return Ok(());
         };
         let may_ask = match self.link(hold.number) {
-            Some(link) => link.is_open && !link.is_muted,
+            Some(link) => link.is_open,
             None => false,
         };
         if !may_ask {
@@ -221,13 +230,12 @@ impl Relay {
     }
 
     /// Puts what is kept of a request on its connection.
-    #[tactic(auto, using(crate::proofs::Posting::kept_more, crate::proofs::Posting::posts_kept, crate::proofs::Fronts::fronts_more, crate::proofs::Fronts::fronts_kept))]
+    #[tactic(auto, using(crate::proofs::Posting::kept_more, crate::proofs::Posting::posts_kept, crate::proofs::Fronts::ends_more, crate::proofs::Fronts::ends_kept))]
     fn put_held(&mut self, key: usize, whole: bool) -> Result<(), NoMemory>
         ensures goes { OnOk result (GoesOn (desk_in self.old.desk) (desk_in self.new.desk)) }
         ensures kept { OnOk result (posts_in self.new.applications
             ≡ posts_in self.old.applications) }
-        ensures fronts { OnOk result (fronts_in self.new.applications
-            ≡ fronts_in self.old.applications) }
+        ensures moves { OnOk result (MovedOn (hall_in self.old) (hall_in self.new)) }
         ensures read { OnOk result (Stays self.old.links.items self.new.links.items) }
     {
         let Some(application) = self.applications.get_mut(key) else {

@@ -10,7 +10,8 @@ use Rattle.tds_service.specs.declared.service.Service as services
 use Rattle.tds_service.specs.Service.{Seat, lease_at}
 use Rattle.tds_relay.specs.Desk.{Comes, NotLent, whose_by}
 use Rattle.tds_relay.specs.Ties.{Turns, desk_in, part_on}
-use Rattle.tds_relay.specs.Fronts.{IsWhat, done_by}
+use Rattle.tds_relay.specs.Fronts.{IsWhat}
+use Rattle.tds_relay.specs.Hall.{done_by}
 use Rattle.tds_relay.proofs.Fronts.{is_what, nobodys_what, what_answers}
 use Rattle.tds_relay.proofs.Made.{ok_both, came_settled, came_unknown, unread}
 use Rattle.tds_relay.proofs.desk.Desk.came.Goals as goal

@@ -1,13 +1,12 @@
-use Rattle.std.proofs.Common.{[], refl}
-use Rattle.tds_relay.specs.Desk.{Waits}
-use Rattle.tds_relay.specs.Ties.{Application, Goes, Turns, desk_in}
-use Rattle.tds_relay.proofs.Reaching.{ok_more, reaches_turn}
+use Rattle.std.proofs.Common.{refl}
+use Rattle.tds_relay.specs.Ties.{Application}
+use Rattle.tds_relay.proofs.Fronts.{ends_kept, moves_same}
+use Rattle.tds_relay.proofs.Reaching.{ok_more}
 use Rattle.tds_relay.proofs.relay.Relay.begin.Goals as goal
 
 pub returns-in-false-default-clause-goes : goal.returns-in-false-default-clause-goes
-returns-in-false-default-clause-goes c =
-    ok_more c.wait.result
-    (Turns (Waits c.args.key) (desk_in c.args.self.now.desk) (desk_in c.wait.new.self) [] [])
-    (Goes (Application c.args.key) (desk_in c.args.self.now.desk) (desk_in c.wait.new.self))
-    (λ t from h. reaches_turn (Application c.args.key) from (desk_in c.args.self.now.desk) (desk_in c.wait.new.self) (Waits c.args.key) [] [] t refl h)
-    c.wait.ensures.ok
+returns-in-false-default-clause-goes c = ok_more c.wait.result _ _ (λ g from h. g (Application c.args.key) refl from h) c.wait.ensures.goes
+
+pub returns-in-false-default-clause-moves : goal.returns-in-false-default-clause-moves
+returns-in-false-default-clause-moves c =
+    ok_more c.wait.result _ _ (λ m from h. m (Application c.args.key) refl from (moves_same (Application c.args.key) from _ _ _ _ refl (ends_kept c.args.self.now.applications c.args.key c.in-Some.application.now _ c.in-Some.ensures.value c.forget.ensures.end) h)) c.wait.ensures.moves

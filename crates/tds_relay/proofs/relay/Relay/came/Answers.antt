@@ -1,6 +1,5 @@
 use Rattle.tds_relay.specs.Ties.{Connection}
-use Rattle.tds_relay.proofs.Fronts.{moves_both, moves_on}
-use Rattle.tds_relay.proofs.Reaching.{ok_more, ok_with}
+use Rattle.tds_relay.proofs.Reaching.{ok_more}
 use Rattle.tds_relay.proofs.Streaming.{comes}
 use Rattle.tds_relay.proofs.relay.Relay.came.Goals as goal
 
@@ -9,10 +8,7 @@ returns-clause-deals c =
     ok_more c.serve_line.result _ _ (λ g from h. g (Connection c.args.number) from (c.in_ok-hear_all.ensures.deals from h)) c.serve_line.ensures.deals
 
 pub returns-clause-moves : goal.returns-clause-moves
-returns-clause-moves c =
-    ok_with c.serve_line.result _ _ _
-    (λ g f. moves_both (Connection c.args.number) _ _ _ c.in_ok-hear_all.ensures.moves (moves_on (Connection c.args.number) _ _ _ _ g f))
-    c.serve_line.ensures.goes c.serve_line.ensures.fronts
+returns-clause-moves c = ok_more c.serve_line.result _ _ (λ m. m (Connection c.args.number) _ c.in_ok-hear_all.ensures.moves) c.serve_line.ensures.moves
 
 pub returns-clause-comes : goal.returns-clause-comes
 returns-clause-comes c =

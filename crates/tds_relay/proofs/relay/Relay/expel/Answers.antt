@@ -1,6 +1,9 @@
-use Rattle.std.proofs.Common.{subst, sym}
+use Rattle.std.proofs.Common.{ap, subst, sym}
 use Rattle.tds_relay.specs.declared.desk.Desk as code
 use Rattle.tds_relay.specs.Ties.{Application, Reaches, desk_in}
+use Rattle.tds_relay.specs.Fronts.{ends_in}
+use Rattle.tds_relay.specs.Hall.{Ends, IfOpen, IsHere, end_at}
+use Rattle.tds_relay.proofs.Fronts.{moves_lets_go, moves_same, open_closed}
 use Rattle.tds_relay.proofs.Reaching.{ok_more, reaches_left}
 use Rattle.tds_relay.proofs.relay.Relay.expel.Goals as goal
 
@@ -10,3 +13,11 @@ returns-clause-goes c =
     (λ l from h. reaches_left c.args.key from _ _ l
     (subst (λ (d : code.Desk). Reaches (Application c.args.key) from (desk_in d)) (sym c.in_ok-end.ensures.desk) h))
     c.release.ensures.leaving
+
+pub returns-clause-moves : goal.returns-clause-moves
+returns-clause-moves c =
+    ok_more c.release.result _ _
+    (λ l from h. moves_lets_go c.args.key from _ _ _
+    (subst (λ (es : Ends). IfOpen IsHere (end_at es c.args.key)) (sym c.in_ok-end.ensures.ends) (open_closed IsHere (ends_in c.args.self.now.applications) c.args.key)) l
+    (moves_same (Application c.args.key) from _ _ _ _ (ap desk_in c.in_ok-end.ensures.desk) c.in_ok-end.ensures.ends h))
+    c.release.ensures.lets_go

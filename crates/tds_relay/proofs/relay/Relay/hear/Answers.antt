@@ -12,6 +12,6 @@ returns-in_default-clause-continues c =
 
 pub returns-clause-continues : goal.returns-clause-continues
 returns-clause-continues c =
-    hear_at c.hear_on.result c.args.number _ c.args.self.now.links.items c.in-Some.place c.index_mut-link.result.now c.hear_on.new.link c.args.piece.now _ _
+    hear_at c.hear_on.result c.args.number _ _ c.args.self.now.links.items c.in-Some.place c.index_mut-link.result.now c.hear_on.new.link c.args.piece.now _ _
     (ap (λ (ls : List Link). place_of c.args.number ls) (sym c.deref.ensures.value) ∙ sym c.place_in.ensures.is ∙ c.in-Some.is)
     c.index_mut-link.ensures.value c.hear_on.ensures.number c.hear_on.ensures.hears

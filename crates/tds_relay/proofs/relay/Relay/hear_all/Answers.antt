@@ -1,13 +1,14 @@
-use Rattle.std.proofs.Common.{◌∙◌, List, Option, ap, refl, subst, sym, ℕ}
+use Rattle.std.proofs.Common.{List, Option, ap, refl, subst, sym, ℕ}
 use Rattle.tds_packet.specs.Reading.{Reading}
 use Rattle.tds_relay.specs.declared.relay.Relay.{Relay}
 use Rattle.tds_relay.specs.Dealing.{Deals, floor_in}
-use Rattle.tds_relay.specs.Fronts.{Moves, hall_in, told_by}
+use Rattle.tds_relay.specs.Fronts.{hall_in, told_by}
+use Rattle.tds_relay.specs.Hall.{Moves}
 use Rattle.tds_relay.specs.Reads.{Streams, reader_at}
 use Rattle.tds_relay.specs.Ties.{Connection}
 use Rattle.tds_relay.proofs.Dealt.{leads_goes}
-use Rattle.tds_relay.proofs.Fronts.{moves_both, moves_came, moves_events, moves_on, no_moves}
-use Rattle.tds_relay.proofs.Reaching.{ok_with}
+use Rattle.tds_relay.proofs.Fronts.{moves_heard, moves_same, no_moves}
+use Rattle.tds_relay.proofs.Reaching.{ok_more, ok_with}
 use Rattle.tds_relay.proofs.Streaming.{streams_begin, streams_left, streams_lost, streams_on}
 use Rattle.tds_relay.proofs.relay.Relay.hear_all.Goals as goal
 use Rattle.tds_relay.proofs.relay.Relay.hear_all.Goals.{else-taking-test, then-taking-test+else-is_empty+in_ok-count+in_ok-heard+else-counter-end}
@@ -24,11 +25,8 @@ pub taking-preserved : goal.taking-preserved
 taking-preserved c = record {
   goes = λ from h. c.in_ok-heard.ensures.goes from (c.in_ok-count.ensures.goes from (c.taking.invariant.goes from h));
   deals = λ from h. leads_goes (Connection c.args.number) from _ _ _ _ c.in_ok-heard.ensures.goes c.in_ok-heard.ensures.kept (c.in_ok-count.ensures.deals from (c.taking.invariant.deals from h));
-  moves = moves_both (Connection c.args.number) _ _ _ c.taking.invariant.moves
-      (moves_both (Connection c.args.number) _ _ _
-      (moves_came c.args.number _ _ _ c.in_ok-heard.ensures.told.0 _ _ c.in_ok-count.ensures.came
-      (c.in_ok-heard.ensures.told.1 ∙ ap (told_by _ c.in_ok-heard.ensures.told.0) c.in_ok-count.ensures.fronts))
-      (moves_events (Connection c.args.number) _ _ _ _ _ c.in_ok-heard.ensures.quiet refl));
+  moves = c.in_ok-heard.ensures.moves (hall_in c.args.self.now)
+      (moves_same (Connection c.args.number) _ _ _ _ _ refl (ap (told_by _) c.in_ok-count.ensures.ends) (moves_heard c.args.number _ _ _ _ _ c.in_ok-count.ensures.came c.taking.invariant.moves));
   streams =
       streams_left c.args.number _ _ _ _ _ _ _ c.behind-rest.ensures
       (streams_on c.args.number _ _ _ _ _ _ _ _ _ _ _ _ c.taking.invariant.streams c.in_ok-count.ensures.continues
@@ -55,15 +53,10 @@ returns-clause-moves c =
       | else-taking-test w ↦ subst to (sym w.self-is) c.taking.invariant.moves
       | then-taking-test+else-is_empty+in_ok-count+in_ok-heard+else-counter-end w ↦
           subst to (sym w.self-is)
-          (moves_both (Connection c.args.number) _ _ _ c.taking.invariant.moves
-          (moves_both (Connection c.args.number) _ _ _
-          (moves_came c.args.number _ _ _ w.in_ok-heard.ensures.told.0 _ _ w.in_ok-count.ensures.came
-          (w.in_ok-heard.ensures.told.1 ∙ ap (told_by _ w.in_ok-heard.ensures.told.0) w.in_ok-count.ensures.fronts))
-          (moves_events (Connection c.args.number) _ _ _ _ _ w.in_ok-heard.ensures.quiet refl)))
+          (w.in_ok-heard.ensures.moves (hall_in c.args.self.now)
+          (moves_same (Connection c.args.number) _ _ _ _ _ refl (ap (told_by _) w.in_ok-count.ensures.ends) (moves_heard c.args.number _ _ _ _ _ w.in_ok-count.ensures.came c.taking.invariant.moves)))
     ] in
-    ok_with c.lose.result _ _ _
-    (λ g f. moves_both (Connection c.args.number) _ _ _ led (moves_on (Connection c.args.number) _ _ _ _ g f))
-    c.lose.ensures.goes c.lose.ensures.fronts
+    ok_more c.lose.result _ _ (λ m. m (Connection c.args.number) _ led) c.lose.ensures.moves
 
 pub returns-clause-streams : goal.returns-clause-streams
 returns-clause-streams c =

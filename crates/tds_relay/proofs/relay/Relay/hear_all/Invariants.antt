@@ -1,5 +1,6 @@
 use Rattle.tds_relay.specs.Dealing.{Deals, floor_in}
-use Rattle.tds_relay.specs.Fronts.{Moves, hall_in}
+use Rattle.tds_relay.specs.Fronts.{hall_in}
+use Rattle.tds_relay.specs.Hall.{Moves}
 use Rattle.tds_relay.specs.Reads.{Streams, reader_at}
 use Rattle.tds_relay.specs.Ties.{Connection, Goes, desk_in}
 use Rattle.tds_relay.proofs.relay.Relay.hear_all.Given as goal

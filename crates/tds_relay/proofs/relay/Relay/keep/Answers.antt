@@ -1,6 +1,7 @@
-use Rattle.std.proofs.Common.{refl, subst, sym}
+use Rattle.std.proofs.Common.{ap, refl, subst, sym}
 use Rattle.tds_relay.specs.declared.desk.Desk as code
-use Rattle.tds_relay.specs.Ties.{Application, Connection, Reaches, desk_in}
+use Rattle.tds_relay.specs.Ties.{Connection, Reaches, desk_in}
+use Rattle.tds_relay.proofs.Fronts.{moves_closes, moves_does, moves_same}
 use Rattle.tds_relay.proofs.Reaching.{ok_if, ok_more, reaches_turn}
 use Rattle.tds_relay.proofs.Staying.{stays_on}
 use Rattle.tds_relay.proofs.relay.Relay.keep.Goals as goal
@@ -17,17 +18,18 @@ returns-in-NotKept-clause-goes c = ok_more c.replace.result _ _ (λ g from h. g 
 pub returns-in-Closed-clause-goes : goal.returns-in-Closed-clause-goes
 returns-in-Closed-clause-goes c = ok_if c.close.result _ (λ from h. subst (λ (d : code.Desk). Reaches (Connection c.args.number) from (desk_in d)) (sym c.close.ensures.desk) (reaches_turn (Connection c.args.number) from _ _ _ _ _ c.in_ok-hold.ensures.1 tt h))
 
-pub returns-in-Kept-clause-quiet : goal.returns-in-Kept-clause-quiet
-returns-in-Kept-clause-quiet c =
+pub returns-in-Kept-clause-moves : goal.returns-in-Kept-clause-moves
+returns-in-Kept-clause-moves c =
     ok_more c.start.result _ _
-    (λ g from h. g (Application c.args.key) from (subst (λ (d : code.Desk). Reaches (Application c.args.key) from (desk_in d)) (sym c.cut.ensures.desk) (reaches_turn (Application c.args.key) from _ _ _ _ _ c.in_ok-hold.ensures.1 refl h)))
-    c.start.ensures.goes
+    (λ m from h. m (Connection c.args.number) from (moves_same (Connection c.args.number) from _ _ _ _ (ap desk_in c.cut.ensures.desk) c.cut.ensures.ends (moves_does (Connection c.args.number) from _ _ _ _ _ _ _ c.in_ok-hold.ensures.1 tt tt refl h)))
+    c.start.ensures.moves
 
-pub returns-in-NotKept-clause-quiet : goal.returns-in-NotKept-clause-quiet
-returns-in-NotKept-clause-quiet c = ok_more c.replace.result _ _ (λ g from h. g from (reaches_turn (Application c.args.key) from _ _ _ _ _ c.in_ok-hold.ensures.1 refl h)) c.replace.ensures.quiet
+pub returns-in-NotKept-clause-moves : goal.returns-in-NotKept-clause-moves
+returns-in-NotKept-clause-moves c = ok_more c.replace.result _ _ (λ m from h. m from (moves_does (Connection c.args.number) from _ _ _ _ _ _ _ c.in_ok-hold.ensures.1 tt tt refl h)) c.replace.ensures.moves
 
-pub returns-in-Closed-clause-quiet : goal.returns-in-Closed-clause-quiet
-returns-in-Closed-clause-quiet c = ok_if c.close.result _ (λ from h. subst (λ (d : code.Desk). Reaches (Application c.args.key) from (desk_in d)) (sym c.close.ensures.desk) (reaches_turn (Application c.args.key) from _ _ _ _ _ c.in_ok-hold.ensures.1 refl h))
+pub returns-in-Closed-clause-moves : goal.returns-in-Closed-clause-moves
+returns-in-Closed-clause-moves c =
+    ok_more c.close.result _ _ (λ e from h. moves_closes (Connection c.args.number) from _ _ _ _ c.args.key (ap desk_in c.close.ensures.desk) e (moves_does (Connection c.args.number) from _ _ _ _ _ _ _ c.in_ok-hold.ensures.1 tt tt refl h)) c.close.ensures.ends
 
 pub returns-in-Kept-clause-read : goal.returns-in-Kept-clause-read
 returns-in-Kept-clause-read c = stays_on c.start.result _ _ _ c.cut.ensures.read c.start.ensures.read

@@ -1,11 +1,11 @@
-use Rattle.std.proofs.Common.{◌∙◌, refl}
+use Rattle.std.proofs.Common.{refl}
 use Rattle.tds_relay.specs.Dealing.{Quits, floor_in}
-use Rattle.tds_relay.specs.Fronts.{fronts_in}
+use Rattle.tds_relay.specs.Fronts.{ends_in, hall_in}
 use Rattle.tds_relay.specs.Ties.{Application, desk_in}
 use Rattle.tds_relay.proofs.Dealt.{leads_deal, leads_goes, leads_kept}
-use Rattle.tds_relay.proofs.Fronts.{fronts_quit, moves_both, moves_events, moves_quit}
+use Rattle.tds_relay.proofs.Fronts.{ends_quit, moves_quits, no_moves}
 use Rattle.tds_relay.proofs.Posting.{quits_is}
-use Rattle.tds_relay.proofs.Reaching.{ok_more, ok_with, reaches_left}
+use Rattle.tds_relay.proofs.Reaching.{ok_more, reaches_left}
 use Rattle.tds_relay.proofs.relay.Relay.left.Goals as goal
 
 pub returns-clause-left : goal.returns-clause-left
@@ -25,9 +25,7 @@ returns-clause-deals c =
 pub returns-clause-moves : goal.returns-clause-moves
 returns-clause-moves c =
     let old = c.args.self.now in
-    let quit = fronts_quit old.applications c.try_remove.new.self c.args.key c.try_remove.result c.try_remove.ensures.value c.try_remove.ensures.slots c.try_remove.ensures.absent in
-    ok_with c.serve_line.result _ _ _
-    (λ g f. moves_both (Application c.args.key) _ _ _ (moves_quit c.args.key (desk_in old.desk) (fronts_in old.applications) _ quit)
-    (moves_events (Application c.args.key) c.args.key _ _ _ _ (λ from h. g (Application c.args.key) from (reaches_left c.args.key from _ _ c.in_ok-release.ensures.leaving h))
-    (f ∙ c.in_ok-release.ensures.fronts)))
-    c.serve_line.ensures.goes c.serve_line.ensures.fronts
+    let quit = ends_quit old.applications c.try_remove.new.self c.args.key c.try_remove.result c.try_remove.ensures.value c.try_remove.ensures.slots c.try_remove.ensures.absent in
+    ok_more c.serve_line.result _ _
+    (λ m. m (Application c.args.key) (hall_in old) (moves_quits c.args.key (hall_in old) (desk_in old.desk) (ends_in old.applications) _ _ quit c.in_ok-release.ensures.lets_go (no_moves (Application c.args.key) (hall_in old))))
+    c.serve_line.ensures.moves

@@ -1,6 +1,9 @@
 use Rattle.std.proofs.Common.{◌∙◌, Bool, refl, ap, if◌then◌else◌}
 use Rattle.tds_relay.specs.declared.link.News.{News}
 use Rattle.tds_relay.specs.declared.link.News.TheVariants as how
+use Rattle.tds_relay.specs.Ties.{desk_in}
+use Rattle.tds_relay.proofs.Fronts.{moves_same}
+use Rattle.tds_relay.proofs.Reaching.{ok_more}
 use Rattle.tds_relay.proofs.Staying.{opens_by_push, opens_on}
 use Rattle.tds_relay.proofs.relay.Relay.lend.Goals as goal
 
@@ -16,3 +19,6 @@ returns-then-served-clause-opens c = opens_on c.start.result _ _ _ c.cut.ensures
 
 pub returns-clause-opens : goal.returns-clause-opens
 returns-clause-opens c = opens_by_push c.args.self.now.links.items c.args.self.now.links.items c.push.new.self.items c.in_ok-link.link refl c.in_ok-push.ensures.items c.in_ok-link.ensures.closed
+
+pub returns-then-served-clause-moves : goal.returns-then-served-clause-moves
+returns-then-served-clause-moves c = ok_more c.start.result _ _ (λ m by from h. m by from (moves_same by from _ _ _ _ (ap desk_in c.cut.ensures.desk) c.cut.ensures.ends h)) c.start.ensures.moves

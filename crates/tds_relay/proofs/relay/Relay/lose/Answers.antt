@@ -1,7 +1,8 @@
-use Rattle.std.proofs.Common.{subst, sym}
+use Rattle.std.proofs.Common.{ap, refl, subst, sym}
 use Rattle.tds_relay.specs.declared.desk.Desk as code
 use Rattle.tds_relay.specs.Ties.{Reaches, desk_in}
-use Rattle.tds_relay.proofs.Reaching.{ok_if, reaches_turn, reaches_turned}
+use Rattle.tds_relay.proofs.Fronts.{moves_loses, moves_same}
+use Rattle.tds_relay.proofs.Reaching.{ok_if, ok_more, reaches_turn, reaches_turned}
 use Rattle.tds_relay.proofs.relay.Relay.lose.Goals as goal
 
 pub returns-clause-lost : goal.returns-clause-lost
@@ -13,3 +14,10 @@ pub returns-clause-goes : goal.returns-clause-goes
 returns-clause-goes c =
     ok_if c.close.result _ (λ by from h. subst (λ (d : code.Desk). Reaches by from (desk_in d)) (sym c.close.ensures.desk)
     (reaches_turn by from _ _ _ _ _ c.in_ok-key.ensures.turns tt h))
+
+pub returns-clause-moves : goal.returns-clause-moves
+returns-clause-moves c =
+    ok_more c.close.result _ _
+    (λ e by from h. moves_same by from _ _ _ _ (ap desk_in c.close.ensures.desk) e
+    (moves_loses by from _ _ _ _ c.args.number c.in_ok-key.key _ _ c.in_ok-key.ensures.turns c.in_ok-key.ensures.whose refl h))
+    c.close.ensures.ends

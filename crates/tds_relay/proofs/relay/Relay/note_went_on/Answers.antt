@@ -1,14 +1,14 @@
-use Rattle.std.proofs.Common.{◌∙◌, ap, refl}
-use Rattle.tds_front.specs.declared.front.Front.{Front}
-use Rattle.tds_relay.specs.Fronts.{known_of}
-use Rattle.tds_relay.proofs.Fronts.{fronts_kept, went_on_known}
+use Rattle.std.proofs.Common.{◌∙◌, rules}
+use Rattle.tds_relay.specs.Fronts.{end_of, goes_by}
+use Rattle.tds_relay.proofs.Fronts.{ends_moved}
 use Rattle.tds_relay.proofs.Posting.{posts_kept}
+use Rattle.tds_relay.proofs.Putting.{gone_where}
 use Rattle.tds_relay.proofs.relay.Relay.note_went_on.Goals as goal
 
 pub returns-in-Some-clause-kept : goal.returns-in-Some-clause-kept
-returns-in-Some-clause-kept c = posts_kept c.args.self.now.applications c.args.key c.in-Some.application.now _ c.in-Some.ensures.value refl
+returns-in-Some-clause-kept c = posts_kept c.args.self.now.applications c.args.key c.in-Some.application.now c.went_on.new.self c.in-Some.ensures.value c.went_on.ensures.post
 
-pub returns-in-Some-clause-fronts : goal.returns-in-Some-clause-fronts
-returns-in-Some-clause-fronts c =
-    fronts_kept c.args.self.now.applications c.args.key c.in-Some.application.now _ c.in-Some.ensures.value
-    (ap (λ (f : Front). known_of f.stage) c.went_on.ensures ∙ went_on_known c.in-Some.application.now.front.stage)
+pub returns-in-Some-clause-ends : goal.returns-in-Some-clause-ends
+returns-in-Some-clause-ends c =
+    ends_moved c.args.self.now.applications c.args.key c.in-Some.application.now c.went_on.new.self (goes_by c.args.self.now.outbox.items) c.in-Some.ensures.value
+    (c.went_on.ensures.end ∙ gone_where c.args.self.now.outbox.items c.is_empty.result (end_of c.in-Some.application.now) (search rules) c.if-is_empty.false)

@@ -1,6 +1,7 @@
-use Rattle.std.proofs.Common.{refl, subst, sym}
+use Rattle.std.proofs.Common.{ap, refl, subst, sym}
 use Rattle.tds_relay.specs.declared.desk.Desk as code
 use Rattle.tds_relay.specs.Ties.{Application, Reaches, desk_in}
+use Rattle.tds_relay.proofs.Fronts.{moves_closes, moves_does, moves_same}
 use Rattle.tds_relay.proofs.Reaching.{ok_if, ok_more, reaches_turn}
 use Rattle.tds_relay.proofs.relay.Relay.renew.Goals as goal
 
@@ -15,3 +16,17 @@ returns-in-NotKept-clause-goes c = ok_more c.change.result _ _ (λ g from h. g f
 
 pub returns-in-Closed-clause-goes : goal.returns-in-Closed-clause-goes
 returns-in-Closed-clause-goes c = ok_if c.close.result _ (λ from h. subst (λ (d : code.Desk). Reaches (Application c.args.key) from (desk_in d)) (sym c.close.ensures.desk) (reaches_turn (Application c.args.key) from _ _ _ _ _ c.in_ok-hold.ensures.1 refl h))
+
+pub returns-in-Kept-clause-moves : goal.returns-in-Kept-clause-moves
+returns-in-Kept-clause-moves c =
+    ok_more c.start.result _ _
+    (λ m from h. m (Application c.args.key) from (moves_same (Application c.args.key) from _ _ _ _ (ap desk_in c.cut.ensures.desk) c.cut.ensures.ends
+    (moves_does (Application c.args.key) from _ _ _ _ _ _ _ c.in_ok-hold.ensures.1 tt refl refl h)))
+    c.start.ensures.moves
+
+pub returns-in-NotKept-clause-moves : goal.returns-in-NotKept-clause-moves
+returns-in-NotKept-clause-moves c = ok_more c.change.result _ _ (λ m from h. m from (moves_does (Application c.args.key) from _ _ _ _ _ _ _ c.in_ok-hold.ensures.1 tt refl refl h)) c.change.ensures.moves
+
+pub returns-in-Closed-clause-moves : goal.returns-in-Closed-clause-moves
+returns-in-Closed-clause-moves c =
+    ok_more c.close.result _ _ (λ e from h. moves_closes (Application c.args.key) from _ _ _ _ c.args.key (ap desk_in c.close.ensures.desk) e (moves_does (Application c.args.key) from _ _ _ _ _ _ _ c.in_ok-hold.ensures.1 tt refl refl h)) c.close.ensures.ends

@@ -1,21 +1,51 @@
-use Rattle.std.proofs.Common.{refl, subst, sym}
+use Rattle.std.proofs.Common.{◌∙◌, List, Some, ap, refl, rules, subst, sym}
 use Rattle.tds_relay.specs.declared.desk.Desk as code
-use Rattle.tds_relay.specs.Ties.{Application, Connection, Reaches, desk_in}
-use Rattle.tds_relay.proofs.Reaching.{ok_more, reaches_turn}
+use Rattle.tds_relay.specs.declared.link.Link.{Link}
+use Rattle.tds_relay.specs.Reads.{Stays}
+use Rattle.tds_relay.specs.Ties.{Connection, Reaches, desk_in}
+use Rattle.tds_relay.proofs.Fronts.{moves_loses, moves_replaces, moves_same}
+use Rattle.tds_relay.proofs.Reaching.{ok_if, ok_more, reaches_turn}
+use Rattle.tds_relay.proofs.Staying.{stays_then}
 use Rattle.tds_relay.proofs.relay.Relay.replace.Goals as goal
+
+pub returns-in_default-clause-goes : goal.returns-in_default-clause-goes
+returns-in_default-clause-goes c =
+    ok_if c.close_link.result _ (λ from h. subst (λ (d : code.Desk). Reaches (Connection c.args.number) from (desk_in d)) (sym c.close_link.ensures.desk) (reaches_turn (Connection c.args.number) from _ _ _ _ _ c.in_ok-holder.ensures.turns tt h))
+
+pub returns-in_default-clause-moves : goal.returns-in_default-clause-moves
+returns-in_default-clause-moves c =
+    ok_more c.close_link.result _ _
+    (λ e from h. moves_same (Connection c.args.number) from _ _ _ _ (ap desk_in c.close_link.ensures.desk) e
+    (moves_loses (Connection c.args.number) from _ _ _ _ c.args.number _ _ _ c.in_ok-holder.ensures.turns (sym c.in_default.is ∙ c.in_ok-holder.ensures.whose) refl h))
+    c.close_link.ensures.ends
+
+pub returns-then-not-has_nothing_out-clause-goes : goal.returns-then-not-has_nothing_out-clause-goes
+returns-then-not-has_nothing_out-clause-goes c =
+    ok_if c.close.result _ (λ from h. subst (λ (d : code.Desk). Reaches (Connection c.args.number) from (desk_in d)) (sym c.close.ensures.desk) (reaches_turn (Connection c.args.number) from _ _ _ _ _ c.in_ok-holder.ensures.turns tt h))
+
+pub returns-then-not-has_nothing_out-clause-moves : goal.returns-then-not-has_nothing_out-clause-moves
+returns-then-not-has_nothing_out-clause-moves c =
+    ok_more c.close.result _ _
+    (λ e from h. moves_same (Connection c.args.number) from _ _ _ _ (ap desk_in c.close.ensures.desk) e
+    (moves_loses (Connection c.args.number) from _ _ _ _ c.args.number (Some c.in-Some.key) _ _ c.in_ok-holder.ensures.turns (sym c.in-Some.is ∙ c.in_ok-holder.ensures.whose) refl h))
+    c.close.ensures.ends
 
 pub returns-clause-goes : goal.returns-clause-goes
 returns-clause-goes c =
     ok_more c.wait.result _ _
-    (λ t from h. reaches_turn (Connection c.args.number) from _ _ _ _ _ t tt
-    (subst (λ (d : code.Desk). Reaches (Connection c.args.number) from (desk_in d)) (sym c.in_ok-close.ensures.desk)
-    (reaches_turn (Connection c.args.number) from _ _ _ _ _ c.in_ok-lose.ensures.turns tt h)))
-    c.wait.ensures.ok
+    (λ g from h. g (Connection c.args.number) tt from
+    (subst (λ (d : code.Desk). Reaches (Connection c.args.number) from (desk_in d)) (sym (c.in_ok-close_link.ensures.desk ∙ c.let_go.ensures.desk)) (reaches_turn (Connection c.args.number) from _ _ _ _ _ c.in_ok-holder.ensures.turns tt h)))
+    c.wait.ensures.goes
 
-pub returns-clause-quiet : goal.returns-clause-quiet
-returns-clause-quiet c =
+pub returns-clause-moves : goal.returns-clause-moves
+returns-clause-moves c =
     ok_more c.wait.result _ _
-    (λ t from h. reaches_turn (Application c.args.key) from _ _ _ _ _ t refl
-    (subst (λ (d : code.Desk). Reaches (Application c.args.key) from (desk_in d)) (sym c.in_ok-close.ensures.desk)
-    (reaches_turn (Application c.args.key) from _ _ _ _ _ c.in_ok-lose.ensures.turns tt h)))
-    c.wait.ensures.ok
+    (λ m from h. m (Connection c.args.number) tt from
+    (moves_same (Connection c.args.number) from _ _ _ _ (ap desk_in (c.in_ok-close_link.ensures.desk ∙ c.let_go.ensures.desk)) c.in_ok-close_link.ensures.ends
+    (moves_replaces c.args.number c.in-Some.key from _ _ _ _ _ _ c.in_ok-holder.ensures.turns (sym c.in-Some.is ∙ c.in_ok-holder.ensures.whose) (c.has_nothing_out.ensures (search rules)) c.let_go.ensures.ends h)))
+    c.wait.ensures.moves
+
+pub returns-clause-read : goal.returns-clause-read
+returns-clause-read c =
+    ok_if c.wait.result _
+    (stays_then _ _ _ (subst (λ (ls : List Link). Stays ls c.close_link-2.new.self.links.items) c.let_go.ensures.links c.in_ok-close_link.ensures.read) c.wait.ensures.links)

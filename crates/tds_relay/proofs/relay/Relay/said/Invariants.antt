@@ -1,5 +1,6 @@
 use Rattle.tds_relay.specs.Dealing.{Deals, floor_in}
-use Rattle.tds_relay.specs.Fronts.{Moves, hall_in}
+use Rattle.tds_relay.specs.Fronts.{hall_in}
+use Rattle.tds_relay.specs.Hall.{Moves}
 use Rattle.tds_relay.specs.Ties.{Application, Goes, desk_in}
 use Rattle.tds_relay.proofs.relay.Relay.said.Given as goal
 

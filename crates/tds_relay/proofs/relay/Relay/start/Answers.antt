@@ -1,5 +1,10 @@
+use Rattle.std.proofs.Common.{refl}
+use Rattle.tds_relay.proofs.Fronts.{moves_does}
 use Rattle.tds_relay.proofs.Reaching.{ok_more, reaches_turn}
 use Rattle.tds_relay.proofs.relay.Relay.start.Goals as goal
 
 pub returns-in-Ok-clause-goes : goal.returns-in-Ok-clause-goes
 returns-in-Ok-clause-goes c = ok_more c.put_held.result _ _ (λ g by from h. g by from (reaches_turn by from _ _ _ _ _ c.in-Ok.ensures.ok tt h)) c.put_held.ensures.goes
+
+pub returns-in-Ok-clause-moves : goal.returns-in-Ok-clause-moves
+returns-in-Ok-clause-moves c = ok_more c.put_held.result _ _ (λ m by from h. m by from (moves_does by from _ _ _ _ _ _ _ c.in-Ok.ensures.ok (tt, tt) tt refl h)) c.put_held.ensures.moves

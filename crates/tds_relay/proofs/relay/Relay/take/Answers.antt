@@ -1,8 +1,10 @@
-use Rattle.std.proofs.Common.{◌∙◌, refl}
+use Rattle.std.proofs.Common.{◌∙◌, refl, rules, sym}
 use Rattle.tds_relay.specs.Posts.{posts_in}
 use Rattle.tds_relay.specs.Ties.{Application, desk_in}
 use Rattle.tds_relay.proofs.Dealt.{leads_goes, leads_kept}
-use Rattle.tds_relay.proofs.Fronts.{moves_both, moves_events, moves_fed}
+use Rattle.tds_relay.specs.Fronts.{end_of, ends_in}
+use Rattle.tds_relay.proofs.Fed.{closed_fed, end_there, ends_written, is_fed}
+use Rattle.tds_relay.proofs.Fronts.{moves_closes}
 use Rattle.tds_relay.proofs.Posting.{posts_kept}
 use Rattle.tds_relay.proofs.relay.Relay.take.Goals as goal
 
@@ -18,13 +20,15 @@ returns-clause-deals c = λ from h.
     (posts_kept c.args.self.now.applications c.args.key c.in-Some.application.now _ c.in-Some.ensures.value refl) h)
 
 pub returns-in_default-feed-clause-moves : goal.returns-in_default-feed-clause-moves
-returns-in_default-feed-clause-moves c =
-    moves_both (Application c.args.key) _ _ _
-    (moves_fed c.args.key (desk_in c.args.self.now.desk) c.args.self.now.applications c.in-Some.application.now _ c.args.piece.now c.in-Some.ensures.value c.feed.ensures.front)
-    (moves_events (Application c.args.key) c.args.key _ _ _ _ c.in_ok-expel.ensures.goes c.in_ok-expel.ensures.fronts)
+returns-in_default-feed-clause-moves c = λ from h.
+    let slab = c.args.self.now.applications in
+    let a = c.in-Some.application.now in
+    c.in_ok-expel.ensures.moves from
+    (moves_closes (Application c.args.key) from _ _ (ends_in slab) _ c.args.key refl
+    (sym (closed_fed (ends_in slab) _ c.args.key _ (end_of a) (end_there slab c.args.key a c.in-Some.ensures.value) (ends_written slab c.args.key _))) h)
 
 pub returns-clause-moves : goal.returns-clause-moves
-returns-clause-moves c =
-    moves_both (Application c.args.key) _ _ _
-    (moves_fed c.args.key (desk_in c.args.self.now.desk) c.args.self.now.applications c.in-Some.application.now _ c.args.piece.now c.in-Some.ensures.value c.feed.ensures.front)
-    (moves_events (Application c.args.key) c.args.key _ _ _ _ c.in_ok-obey.ensures.goes c.in_ok-obey.ensures.fronts)
+returns-clause-moves c = λ from h.
+    c.in_ok-obey.ensures.moves (ends_in c.args.self.now.applications)
+    (is_fed c.args.key c.args.self.now.applications c.in-Some.application.now _ c.args.piece.now c.in-Ok.fed.count c.in-Ok.fed.said c.in-Some.ensures.value (search rules) (search rules)
+    refl c.feed.ensures.front (search rules)) from h

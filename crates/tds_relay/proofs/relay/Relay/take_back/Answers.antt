@@ -1,25 +1,33 @@
-use Rattle.std.proofs.Common.{refl, subst, sym}
-use Rattle.tds_relay.specs.declared.desk.Desk as code
-use Rattle.tds_relay.specs.Ties.{Application, Reaches, desk_in}
-use Rattle.tds_relay.proofs.Reaching.{ok_more, reaches_turn}
+use Rattle.std.proofs.Common.{◌∙◌, ap, refl, sym}
+use Rattle.tds_relay.specs.Fronts.{ends_in, withdraws}
+use Rattle.tds_relay.specs.Hall.{IsHere, change_end, closes}
+use Rattle.tds_relay.specs.Ties.{Application, desk_in}
+use Rattle.tds_relay.proofs.Fed.{closed_as_fed, moves_taken_back}
+use Rattle.tds_relay.proofs.Fronts.{moves_closes, moves_does, moves_same, open_closed}
+use Rattle.tds_relay.proofs.Reaching.{ok_more}
 use Rattle.tds_relay.proofs.relay.Relay.take_back.Goals as goal
 
-pub returns-then-not-goes-clause-goes : goal.returns-then-not-goes-clause-goes
-returns-then-not-goes-clause-goes c = λ from h. reaches_turn (Application c.args.key) from _ _ _ _ _ c.unwait.ensures refl h
+pub returns-in-Some-clause-moves : goal.returns-in-Some-clause-moves
+returns-in-Some-clause-moves c =
+    let same = c.stop.ensures.ends ∙ c.forget_request.ensures.ends ∙ c.forget_reset.ensures.ends in
+    ok_more c.send_on.result _ _
+    (λ m before f from h. m (Application c.args.key) from
+    (moves_same (Application c.args.key) from _ _ _ _ (ap desk_in c.withdraw.ensures.desk) refl
+    (moves_taken_back c.args.key from _ _ before (ends_in c.args.self.now.applications) _ _ _ f c.in-Some.ensures.some.2
+    (c.withdraw.ensures.ends ∙ ap (change_end c.args.key withdraws) same)
+    (moves_does (Application c.args.key) from _ _ _ _ _ _ _ c.forget_request.ensures.turns tt refl refl
+    (moves_same (Application c.args.key) from _ _ _ _ (ap desk_in c.forget_reset.ensures.desk) refl h)))))
+    c.send_on.ensures.moves
 
-pub returns-in_default-hold_of-clause-goes : goal.returns-in_default-hold_of-clause-goes
-returns-in_default-hold_of-clause-goes c = λ from h. reaches_turn (Application c.args.key) from _ _ _ _ _ c.unwait.ensures refl h
-
-pub returns-in-Some-Asked-clause-goes : goal.returns-in-Some-Asked-clause-goes
-returns-in-Some-Asked-clause-goes c = λ from h.
-    subst (λ (d : code.Desk). Reaches (Application c.args.key) from (desk_in d)) (sym c.mute.ensures.desk)
-    (c.in_ok-cancel.ensures.goes from (reaches_turn (Application c.args.key) from _ _ _ _ _ c.unwait.ensures refl h))
-
-pub returns-in-Some-2-clause-goes : goal.returns-in-Some-2-clause-goes
-returns-in-Some-2-clause-goes c = λ from h. c.in_ok-cancel.ensures.goes from (reaches_turn (Application c.args.key) from _ _ _ _ _ c.unwait.ensures refl h)
-
-pub returns-in-None-clause-goes : goal.returns-in-None-clause-goes
-returns-in-None-clause-goes c =
-    ok_more c.lose.result _ _
-    (λ g from h. g (Application c.args.key) from (c.in_ok-cancel.ensures.goes from (reaches_turn (Application c.args.key) from _ _ _ _ _ c.unwait.ensures refl h)))
-    c.lose.ensures.goes
+pub returns-in-None-clause-moves : goal.returns-in-None-clause-moves
+returns-in-None-clause-moves c =
+    let same = c.stop.ensures.ends ∙ c.forget_request.ensures.ends ∙ c.forget_reset.ensures.ends in
+    ok_more c.expel.result _ _
+    (λ m before f from h. m from
+    (moves_same (Application c.args.key) from _ _ (change_end c.args.key closes before) _ refl
+    (ap (change_end c.args.key closes) same ∙ sym (closed_as_fed c.args.key before (ends_in c.args.self.now.applications) _ f))
+    (c.stop.ensures.moves (change_end c.args.key closes before) (open_closed IsHere before c.args.key) from
+    (moves_closes (Application c.args.key) from _ _ before _ c.args.key refl refl
+    (moves_does (Application c.args.key) from _ _ _ _ _ _ _ c.forget_request.ensures.turns tt refl refl
+    (moves_same (Application c.args.key) from _ _ _ _ (ap desk_in c.forget_reset.ensures.desk) refl h))))))
+    c.expel.ensures.moves

@@ -1,13 +1,29 @@
-use Rattle.std.proofs.Common.{subst, sym}
+use Rattle.std.proofs.Common.{inl, inr, refl, rules, subst, sym}
 use Rattle.tds_relay.specs.Ties.{Reaches}
 use Rattle.tds_relay.proofs.Reaching.{reaches_turn}
 use Rattle.tds_relay.proofs.relay.asking.put_on.Goals as goal
 
-pub returns-then-not-whole : goal.returns-then-not-whole
-returns-then-not-whole c = λ by from h. reaches_turn by from _ _ _ _ _ c.in-Ok.ensures.ok.1 tt h
+pub returns-then-not-whole-clause-goes : goal.returns-then-not-whole-clause-goes
+returns-then-not-whole-clause-goes c = λ by from h. reaches_turn by from _ _ _ _ _ c.in-Ok.ensures.ok.1 tt h
 
-pub returns-in-Ok-finish : goal.returns-in-Ok-finish
-returns-in-Ok-finish c = λ by from h. reaches_turn by from _ _ _ _ _ c.in-Ok-finish.ensures.ok.1 tt (reaches_turn by from _ _ _ _ _ c.in-Ok.ensures.ok.1 tt h)
+pub returns-in-Ok-finish-clause-goes : goal.returns-in-Ok-finish-clause-goes
+returns-in-Ok-finish-clause-goes c = λ by from h. reaches_turn by from _ _ _ _ _ c.in-Ok-finish.ensures.ok.1 tt (reaches_turn by from _ _ _ _ _ c.in-Ok.ensures.ok.1 tt h)
 
-pub returns-in-Err : goal.returns-in-Err
-returns-in-Err c = λ by from h. subst (Reaches by from) (sym c.in-Err.ensures.err) (reaches_turn by from _ _ _ _ _ c.in-Ok.ensures.ok.1 tt h)
+pub returns-in-Err-clause-goes : goal.returns-in-Err-clause-goes
+returns-in-Err-clause-goes c = λ by from h. subst (Reaches by from) (sym c.in-Err.ensures.err) (reaches_turn by from _ _ _ _ _ c.in-Ok.ensures.ok.1 tt h)
+
+pub returns-then-not-whole-clause-puts : goal.returns-then-not-whole-clause-puts
+returns-then-not-whole-clause-puts c = inr (record { count = c.in-Ok.ensures.ok.0; mid = _; between = _; first = c.in-Ok.ensures.ok.1; last = inl (refl, refl) })
+
+pub returns-in-Ok-finish-clause-puts : goal.returns-in-Ok-finish-clause-puts
+returns-in-Ok-finish-clause-puts c = inr (record {
+  count = c.in-Ok.ensures.ok.0;
+  mid = _;
+  between = _;
+  first = c.in-Ok.ensures.ok.1;
+  last = inr (search rules, c.in-Ok-finish.ensures.ok.0, c.in-Ok-finish.ensures.ok.1);
+})
+
+pub returns-in-Err-clause-puts : goal.returns-in-Err-clause-puts
+returns-in-Err-clause-puts c =
+    inr (record { count = c.in-Ok.ensures.ok.0; mid = _; between = _; first = c.in-Ok.ensures.ok.1; last = inl (c.in-Err.ensures.err, c.in-Err.ensures.nothing) })

@@ -18,5 +18,5 @@ returns-clause-deals c = λ from h. leads_brought c.args.number (reading_on c.ar
 
 pub returns-clause-hears : goal.returns-clause-hears
 returns-clause-hears c =
-    hears_is c.reads_packets.ensures.less c.reads_packets.ensures.nothing c.args.number (reading_on c.args.number c.args.desk.now.service) c.args.link.now _ c.args.piece.now _ _ _ _ _ _
+    hears_is c.reads_packets.ensures.less c.reads_packets.ensures.nothing c.args.number (reading_on c.args.number c.args.desk.now.service) _ c.args.link.now _ c.args.piece.now _ _ _ _ _ _
     c.feed.ensures.taken c.in-Ok.ensures.count c.in_ok-heard.ensures.brings c.in_ok-heard.ensures.reader c.done.ensures.next c.done.ensures.same

@@ -16,7 +16,7 @@ use Rattle.tds_relay.proofs.Tidy.{step_rises}
 use Rattle.tds_relay.proofs.Holding.{Rising, found_by_lease, none_above}
 use Rattle.tds_relay.proofs.Caring.{Sound}
 use Rattle.tds_relay.proofs.Bringing.{Brought, brought}
-use Rattle.tds_alone.proofs.Sitting.{Lets, LetsAll, Sits, all_sit, lent_sits, resumed_sits}
+use Rattle.tds_relay.proofs.Sitting.{Lets, LetsAll, Sits, all_sit, lent_sits, resumed_sits}
 
 filtered_by : {X : Type 0} (P Q : X → Type 0) (p : X → Bool) (x : X) (xs : List X) (b : Bool) → p x ≡ b → P x → ((y : X) → P y → p y ≡ true → Q y) → Each Q (filter p xs) → Each Q (if b then x ∷ filter p xs else filter p xs)
 filtered_by P Q p x xs true e h f rest = (f x h e, rest)
@@ -37,11 +37,11 @@ each_above low high (h ∷ hs) r =
     let lt : low < h.lease = r.0 in
     (lt, each_weaker (λ (x : Hold). h.lease < x.lease) (λ (x : Hold). low < x.lease) (λ x more. (let m : h.lease < x.lease = more in omega arith)) hs (each_above h.lease high hs r.1))
 
-both_each : (P Q : Hold → Type 0) (hs : List Hold) → Each P hs → Each Q hs → Each (λ (x : Hold). P x × Q x) hs
+pub both_each : (P Q : Hold → Type 0) (hs : List Hold) → Each P hs → Each Q hs → Each (λ (x : Hold). P x × Q x) hs
 both_each P Q [] h k = tt
 both_each P Q (x ∷ xs) h k = ((h.0, k.0), both_each P Q xs h.1 k.1)
 
-each_found_by : (low high : ℕ) (hs : List Hold) → Rising low high hs → Each (λ (x : Hold). find_lease x.lease hs ≡ Some x) hs
+pub each_found_by : (low high : ℕ) (hs : List Hold) → Rising low high hs → Each (λ (x : Hold). find_lease x.lease hs ≡ Some x) hs
 each_found_by low high [] r = tt
 each_found_by low high (h ∷ hs) r =
     let here : (h.lease == h.lease) ≡ true = eq-eqb h.lease h.lease refl in (

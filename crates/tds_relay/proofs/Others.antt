@@ -16,10 +16,10 @@ use Rattle.tds_relay.proofs.Holding.{found_by_lease}
 use Rattle.tds_relay.proofs.Phases.{IsIdleAt, Other, Phase, of_one}
 use Rattle.tds_relay.proofs.Caring.{Sound}
 use Rattle.tds_relay.proofs.Bringing.{Brought, brought}
-use Rattle.tds_alone.proofs.Lists.{theirs, places, theirs_found, theirs_kept, theirs_other, found_key, first_other, line_other, none_filtered}
-use Rattle.tds_alone.proofs.Sparing.{Spares, SparesAll, if_all_spare, spares}
-use Rattle.tds_alone.proofs.Sitting.{Sits}
-use Rattle.tds_alone.proofs.Seated.{AllSit, each_key}
+use Rattle.tds_relay.proofs.Lists.{theirs, places, theirs_found, theirs_kept, theirs_other, found_key, first_other, line_other, none_filtered}
+use Rattle.tds_relay.proofs.Sparing.{Spares, SparesAll, if_all_spare, spares}
+use Rattle.tds_relay.proofs.Sitting.{Sits}
+use Rattle.tds_relay.proofs.Seated.{AllSit, each_key}
 
 -- An application holds one connection, and doesn't wait.
 pub record Its (d : Desk) (key : ℕ) (h : Hold) (c : Seat) : Type 0 where

@@ -1,0 +1,113 @@
+-- Bytes of an application, and what is taken back by them.
+use Rattle.std.proofs.Common.{◌≡◌, ◌∙◌, ◌||◌, ℕ, Bool, true, false, List, Option, Some, refl, sym, ap, subst, slice_set, option_map, if◌then◌else◌}
+use Rattle.std.proofs.lemmas.List.{map-set}
+use Rattle.std.specs.Prelude.{Result, Ok}
+use Rattle.slab.specs.Slab.{Slab, get, with_value}
+use Rattle.tds_front.specs.declared.fault.FrontFault.{FrontFault}
+use Rattle.tds_front.specs.declared.front.Fed.{Fed}
+use Rattle.tds_front.specs.declared.front.Front.{Front}
+use Rattle.tds_front.specs.declared.front.Said.{Said}
+use Rattle.tds_front.specs.declared.front.Said.TheVariants as said
+use Rattle.tds_front.specs.Bytes.{fed}
+use Rattle.tds_relay.specs.declared.application.Application.{Application}
+use Rattle.tds_relay.specs.Desk as desk
+use Rattle.tds_relay.specs.Desk.{Desk, Event, desk_after, turn}
+use Rattle.tds_relay.specs.Fronts.{IsFed, end_of, ends_in, hall_of_ends, withdraws}
+use Rattle.tds_relay.specs.Hall.{End, Ends, Feeds, Hall, IsThere, Moves, Open, Over, change_end, closes, end_at, end_behind, event_if, feeds, hands_on, stops_by, stops_of, takes_back}
+use Rattle.tds_relay.specs.Ties.{Application as ByApplication, Turns}
+use Rattle.tds_relay.proofs.Fronts.{changed_both, end_is, moves_one, same_hall}
+
+-- ---- The move
+
+-- what bytes lead to, of which this was said
+end_fed : (bytes : List ℕ) (front : Front) (withdrawn : Bool) (o : Option End) (count : ℕ) (answer : Said) → o ≡ Some (Open front withdrawn)
+    → (fed front bytes).brings ≡ Ok (record { count = count; said = answer }) → option_map (feeds bytes) o ≡ Some (Open (fed front bytes).front (takes_back answer || withdrawn))
+end_fed bytes front withdrawn o count answer was says =
+    ap (option_map (feeds bytes)) was ∙ ap (λ (r : Result Fed FrontFault). Some (end_behind (fed front bytes).front withdrawn r)) says
+
+stops_fed : (bytes : List ℕ) (front : Front) (withdrawn : Bool) (o : Option End) (count : ℕ) (answer : Said) → o ≡ Some (Open front withdrawn)
+    → (fed front bytes).brings ≡ Ok (record { count = count; said = answer }) → stops_of bytes o ≡ (takes_back answer || hands_on answer)
+stops_fed bytes front withdrawn o count answer was says = ap (stops_of bytes) was ∙ ap stops_by says
+
+-- bytes were taken: what is done at the desk by them, and the end that they lead to
+moves_feeds : (key : ℕ) (from : Hall) (d : Desk) (before now : Ends) (answer : Said) (stops : Bool) → IsFed key before now answer → (takes_back answer || hands_on answer) ≡ stops
+    → Moves (ByApplication key) from (hall_of_ends d before)
+    → (f : IsFed key before now answer)
+    → Moves (ByApplication key) from (hall_of_ends (desk_after d (event_if stops (desk.Does key desk.Stops))) (slice_set before key (Some (Open (fed f.front f.bytes).front (takes_back answer || f.withdrawn)))))
+moves_feeds key from d before now answer stops it same m f =
+    subst (Moves (ByApplication key) from)
+    (same_hall (desk_after d (event_if (stops_of f.bytes (end_at before key)) (desk.Does key desk.Stops))) _ (change_end key (feeds f.bytes) before) _
+    (ap (λ (b : Bool). desk_after d (event_if b (desk.Does key desk.Stops))) (sym (stops_fed f.bytes f.front f.withdrawn (end_at before key) f.count answer f.was f.says ∙ same)))
+    (ap (λ (o : Option End). slice_set before key o) (sym (end_fed f.bytes f.front f.withdrawn (end_at before key) f.count answer f.was f.says))))
+    (moves_one (ByApplication key) from (hall_of_ends d before) (Feeds key f.bytes) tt refl m)
+
+-- ---- As it is done
+
+-- nothing is done at the desk by them
+pub moves_fed : (key : ℕ) (from : Hall) (d : Desk) (before now : Ends) (answer : Said) → takes_back answer ≡ false → hands_on answer ≡ false → IsFed key before now answer
+    → Moves (ByApplication key) from (hall_of_ends d before) → Moves (ByApplication key) from (hall_of_ends d now)
+moves_fed key from d before now answer keeps here f m =
+    subst (Moves (ByApplication key) from)
+    (same_hall d d (slice_set before key (Some (Open (fed f.front f.bytes).front (takes_back answer || f.withdrawn)))) now refl
+    (f.is ∙ ap (λ (b : Bool). slice_set before key (Some (Open (fed f.front f.bytes).front (b || f.withdrawn)))) (sym keeps)))
+    (moves_feeds key from d before now answer false f (ap (λ (b : Bool). b || hands_on answer) keeps ∙ here) m f)
+
+-- its attention is the server's
+pub moves_handed_on : (key : ℕ) (from : Hall) (d d1 : Desk) (before now : Ends) (out out1 : List ℕ) → IsFed key before now said.HandOn → Turns (desk.Does key desk.Stops) d d1 out out1
+    → Moves (ByApplication key) from (hall_of_ends d before) → Moves (ByApplication key) from (hall_of_ends d1 now)
+moves_handed_on key from d d1 before now out out1 f t m =
+    subst (Moves (ByApplication key) from)
+    (same_hall (turn d (desk.Does key desk.Stops)).desk d1 (slice_set before key (Some (Open (fed f.front f.bytes).front f.withdrawn))) now t.desk_is f.is)
+    (moves_feeds key from d before now said.HandOn true f refl m f)
+
+-- it stays what it is written twice
+set_twice : (before now : Ends) (key : ℕ) (end was : End) (by : End → End) → end_at before key ≡ Some was → now ≡ slice_set before key (Some end) → change_end key by now ≡ slice_set before key (Some (by end))
+set_twice before now key end was by there is =
+    let one : now ≡ change_end key (λ e. end) before = is ∙ ap (λ (o : Option End). slice_set before key o) (sym (ap (option_map (λ (e : End). end)) there)) in
+    ap (λ (es : Ends). change_end key by es) one ∙ changed_both before key by (λ e. end)
+    ∙ ap (λ (o : Option End). slice_set before key (option_map (λ (e : End). by end) o)) there
+
+-- what had gone on of its request is taken back
+pub moves_taken_back : (key : ℕ) (from : Hall) (d d1 : Desk) (before now behind : Ends) (out out1 : List ℕ) → IsFed key before now (said.Forget true) → Turns (desk.Does key desk.Stops) d d1 out out1
+    → behind ≡ change_end key withdraws now → Moves (ByApplication key) from (hall_of_ends d before) → Moves (ByApplication key) from (hall_of_ends d1 behind)
+moves_taken_back key from d d1 before now behind out out1 f t is m =
+    subst (Moves (ByApplication key) from)
+    (same_hall (turn d (desk.Does key desk.Stops)).desk d1 (slice_set before key (Some (Open (fed f.front f.bytes).front true))) behind t.desk_is
+    (is ∙ set_twice before now key (Open (fed f.front f.bytes).front f.withdrawn) (Open f.front f.withdrawn) withdraws f.was f.is))
+    (moves_feeds key from d before now (said.Forget true) true f refl m f)
+
+-- whatever was said, it is closed
+pub closed_fed : (before now : Ends) (key : ℕ) (end was : End) → end_at before key ≡ Some was → now ≡ slice_set before key (Some end) → change_end key closes before ≡ change_end key closes now
+closed_fed before now key end was there is =
+    ap (λ (o : Option End). slice_set before key (option_map closes o)) there ∙ sym (set_twice before now key end was closes there is)
+
+pub closed_as_fed : (key : ℕ) (before now : Ends) (answer : Said) → IsFed key before now answer → change_end key closes before ≡ change_end key closes now
+closed_as_fed key before now answer f = closed_fed before now key (Open (fed f.front f.bytes).front f.withdrawn) (Open f.front f.withdrawn) f.was f.is
+
+-- ---- As the code has it
+
+pub end_there : (s : Slab Application) (key : ℕ) (a : Application) → Some a ≡ get s key → end_at (ends_in s) key ≡ Some (end_of a)
+end_there s key a is = end_is s key ∙ ap (option_map end_of) (sym is)
+
+pub ends_written : (s : Slab Application) (key : ℕ) (a : Application) → ends_in (with_value s key a) ≡ slice_set (ends_in s) key (Some (end_of a))
+ends_written s key a = map-set (option_map end_of) s.slots key (Some a)
+
+pub end_open : (a : Application) → a.is_over ≡ false → end_of a ≡ Open a.front a.is_withdrawn
+end_open a over = ap (λ (b : Bool). if b then Over else Open a.front a.is_withdrawn) over
+
+pub is_fed : (key : ℕ) (s : Slab Application) (a b : Application) (bytes : List ℕ) (count : ℕ) (answer : Said) → Some a ≡ get s key → a.is_over ≡ false → b.is_over ≡ false
+    → b.is_withdrawn ≡ a.is_withdrawn → b.front ≡ (fed a.front bytes).front → Ok (record { count = count; said = answer }) ≡ (fed a.front bytes).brings → IsFed key (ends_in s) (ends_in (with_value s key b)) answer
+is_fed key s a b bytes count answer is begins still withdrawn front says = record {
+  front = a.front;
+  withdrawn = a.is_withdrawn;
+  bytes = bytes;
+  count = count;
+  was = end_there s key a is ∙ ap Some (end_open a begins);
+  says = sym says;
+  is =
+      ends_written s key b
+      ∙ ap (λ (e : End). slice_set (ends_in s) key (Some e)) (end_open b still ∙ ap (λ (f : Front). Open f b.is_withdrawn) front ∙ ap (λ (w : Bool). Open (fed a.front bytes).front w) withdrawn);
+}
+
+pub is_there : (s : Slab Application) (key : ℕ) (a : Application) → Some a ≡ get s key → IsThere (end_at (ends_in s) key)
+is_there s key a is = subst IsThere (sym (end_there s key a is)) tt

@@ -1,0 +1,18 @@
+use Rattle.std.proofs.Common.{refl}
+use Rattle.tds_relay.specs.Ties.{Application}
+use Rattle.tds_relay.proofs.Fronts.{ends_kept}
+use Rattle.tds_relay.proofs.Posting.{posts_kept}
+use Rattle.tds_relay.proofs.Reaching.{reaches_turn}
+use Rattle.tds_relay.proofs.relay.Relay.forget_request.Goals as goal
+
+pub returns-in_default-clause-goes : goal.returns-in_default-clause-goes
+returns-in_default-clause-goes c = λ from h. reaches_turn (Application c.args.key) from _ _ _ _ _ c.unwait.ensures refl h
+
+pub returns-clause-goes : goal.returns-clause-goes
+returns-clause-goes c = λ from h. reaches_turn (Application c.args.key) from _ _ _ _ _ c.unwait.ensures refl h
+
+pub returns-clause-kept : goal.returns-clause-kept
+returns-clause-kept c = posts_kept c.args.self.now.applications c.args.key c.in-Some.application.now _ c.in-Some.ensures.value c.forget.ensures.post
+
+pub returns-clause-ends : goal.returns-clause-ends
+returns-clause-ends c = ends_kept c.args.self.now.applications c.args.key c.in-Some.application.now _ c.in-Some.ensures.value c.forget.ensures.end

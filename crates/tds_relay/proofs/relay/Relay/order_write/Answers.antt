@@ -1,0 +1,8 @@
+use Rattle.std.proofs.Common.{ap}
+use Rattle.tds_relay.specs.Ties.{desk_in}
+use Rattle.tds_relay.proofs.Fronts.{moves_closes}
+use Rattle.tds_relay.proofs.Reaching.{ok_more}
+use Rattle.tds_relay.proofs.relay.Relay.order_write.Goals as goal
+
+pub returns-then-is_full-clause-moves : goal.returns-then-is_full-clause-moves
+returns-then-is_full-clause-moves c = ok_more c.end.result _ _ (λ e by from h. moves_closes by from _ _ _ _ c.args.key (ap desk_in c.end.ensures.desk) e h) c.end.ensures.ends

@@ -1,0 +1,16 @@
+use Rattle.std.proofs.Common.{◌∙◌, ap, refl}
+use Rattle.tds_relay.specs.Ties.{desk_in}
+use Rattle.tds_relay.proofs.Fronts.{lets_go_first, moved_same, moves_same}
+use Rattle.tds_relay.proofs.Reaching.{ok_more}
+use Rattle.tds_relay.proofs.relay.Relay.release.Goals as goal
+
+pub returns-in_default-clause-lets_go : goal.returns-in_default-clause-lets_go
+returns-in_default-clause-lets_go c = lets_go_first c.args.key _ _ _ _ _ c.in_ok-left.ensures.turns.0 c.in_ok-left.ensures.turns.1 _ _ c.in_ok-left.ensures.turns.2 c.let_go.ensures.ends (λ by from h. moves_same by from _ _ _ _ (ap desk_in c.let_go.ensures.desk) refl h)
+
+pub returns-then-left-clause-lets_go : goal.returns-then-left-clause-lets_go
+returns-then-left-clause-lets_go c =
+    ok_more c.send_on.result _ _ (λ m. lets_go_first c.args.key _ _ _ _ _ c.in_ok-left.ensures.turns.0 c.in_ok-left.ensures.turns.1 _ _ c.in_ok-left.ensures.turns.2 c.let_go.ensures.ends (λ by. moved_same by _ _ _ _ _ (ap desk_in c.let_go.ensures.desk) refl (m by))) c.send_on.ensures.moves
+
+pub returns-else-left-clause-lets_go : goal.returns-else-left-clause-lets_go
+returns-else-left-clause-lets_go c =
+    ok_more c.close.result _ _ (λ e. lets_go_first c.args.key _ _ _ _ _ c.in_ok-left.ensures.turns.0 c.in_ok-left.ensures.turns.1 _ _ c.in_ok-left.ensures.turns.2 c.let_go.ensures.ends (λ by from h. moves_same by from _ _ _ _ (ap desk_in (c.close.ensures.desk ∙ c.let_go.ensures.desk)) e h)) c.close.ensures.ends

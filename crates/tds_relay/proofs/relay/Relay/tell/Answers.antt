@@ -1,0 +1,21 @@
+use Rattle.std.proofs.Common.{refl}
+use Rattle.tds_relay.specs.declared.desk.coming.What.TheVariants as whats
+use Rattle.tds_relay.specs.Hall.{told}
+use Rattle.tds_relay.proofs.Fronts.{changed_not, told_as, told_nobody}
+use Rattle.tds_relay.proofs.relay.Relay.tell.Goals as goal
+
+pub returns-in_default-clause-ends : goal.returns-in_default-clause-ends
+returns-in_default-clause-ends c = told_nobody c.args.heard.key c.args.heard.what _ c.in_default.is
+
+pub returns-in-Goes-clause-ends : goal.returns-in-Goes-clause-ends
+returns-in-Goes-clause-ends c =
+    told_as c.args.heard.key c.in-Some.key c.args.heard.what whats.Goes _ _ c.in-Some.is c.in-Goes.is (changed_not _ c.in-Some.key (told whats.Goes) (λ e. refl))
+
+pub returns-in-Finished-clause-ends : goal.returns-in-Finished-clause-ends
+returns-in-Finished-clause-ends c = told_as c.args.heard.key c.in-Some.key c.args.heard.what whats.Finished _ _ c.in-Some.is c.in-Finished.is c.answered.ensures.ends
+
+pub returns-in-Acknowledged-clause-ends : goal.returns-in-Acknowledged-clause-ends
+returns-in-Acknowledged-clause-ends c = told_as c.args.heard.key c.in-Some.key c.args.heard.what whats.Acknowledged _ _ c.in-Some.is c.in-Acknowledged.is c.acknowledged.ensures.ends
+
+pub returns-in_ok-end-in-Closed-clause-ends : goal.returns-in_ok-end-in-Closed-clause-ends
+returns-in_ok-end-in-Closed-clause-ends c = told_as c.args.heard.key c.in-Some.key c.args.heard.what whats.Closed _ _ c.in-Some.is c.in-Closed.is c.in_ok-end-in-Closed.ensures.ends

@@ -1,0 +1,11 @@
+use Rattle.std.proofs.Common.{refl, rules}
+use Rattle.tds_relay.proofs.Fronts.{moves_does}
+use Rattle.tds_relay.proofs.Reaching.{ok_more, reaches_turn}
+use Rattle.tds_relay.proofs.relay.Relay.wait.Goals as goal
+
+pub returns-then-is_away-clause-goes : goal.returns-then-is_away-clause-goes
+returns-then-is_away-clause-goes c = ok_more c.wait.result _ _ (λ t by cause from h. reaches_turn by from _ _ _ _ _ t cause h) c.wait.ensures.ok
+
+pub returns-then-is_away-clause-moves : goal.returns-then-is_away-clause-moves
+returns-then-is_away-clause-moves c =
+    ok_more c.wait.result _ _ (λ t by cause from h. moves_does by from _ _ _ _ _ _ _ t (c.is_away.ensures (search rules)) cause refl h) c.wait.ensures.ok

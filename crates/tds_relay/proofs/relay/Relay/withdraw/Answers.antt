@@ -1,0 +1,10 @@
+use Rattle.tds_relay.specs.Fronts.{withdraws}
+use Rattle.tds_relay.proofs.Fronts.{ends_moved}
+use Rattle.tds_relay.proofs.Posting.{posts_kept}
+use Rattle.tds_relay.proofs.relay.Relay.withdraw.Goals as goal
+
+pub returns-in-Some-clause-kept : goal.returns-in-Some-clause-kept
+returns-in-Some-clause-kept c = posts_kept c.args.self.now.applications c.args.key c.in-Some.application.now c.withdraw.new.self c.in-Some.ensures.value c.withdraw.ensures.post
+
+pub returns-in-Some-clause-ends : goal.returns-in-Some-clause-ends
+returns-in-Some-clause-ends c = ends_moved c.args.self.now.applications c.args.key c.in-Some.application.now c.withdraw.new.self withdraws c.in-Some.ensures.value c.withdraw.ensures.end

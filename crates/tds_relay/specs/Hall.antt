@@ -1,0 +1,326 @@
+-- Who holds which connection, and the ends of applications: how they move together, move by move. One total function.
+use Rattle.std.specs.Prelude.{◌≡◌, ◌≢◌, ℕ, ◌==◌, ◌||◌, Bool, true, false, List, [], ◌∷◌, Option, Some, None, Result, Ok, Err, if◌then◌else◌, option_map, slice_index_or, slice_set}
+use Rattle.tds_front.specs.declared.fault.FrontFault.{FrontFault}
+use Rattle.tds_front.specs.declared.front.Fed.{Fed}
+use Rattle.tds_front.specs.declared.front.Front.{Front}
+use Rattle.tds_front.specs.declared.front.Said.{Said}
+use Rattle.tds_front.specs.declared.front.Said.TheVariants as said
+use Rattle.tds_front.specs.declared.stage.Stage.{Stage}
+use Rattle.tds_front.specs.declared.stage.Stage.TheVariants as stages
+use Rattle.tds_front.specs.Bytes.{fed, new_front}
+use Rattle.tds_front.specs.Rules as rules
+use Rattle.tds_wire.specs.declared.told.Token.{Token}
+use Rattle.tds_service.specs.History.{Done}
+use Rattle.tds_service.specs.Line as line
+use Rattle.tds_service.specs.Line.{Answer, Packet}
+use Rattle.tds_service.specs.Parts.{Part}
+use Rattle.tds_service.specs.Service as calls
+use Rattle.tds_service.specs.Service.{step}
+use Rattle.tds_relay.specs.declared.desk.coming.What.{What}
+use Rattle.tds_relay.specs.declared.desk.coming.What.TheVariants as whats
+use Rattle.tds_relay.specs.Desk as desk
+use Rattle.tds_relay.specs.Desk.{Desk, Deed, Event, Way, desk_after, find_key, find_number, key_of, new_desk, turn, whose}
+use Rattle.tds_relay.specs.Promises.{Each}
+use Rattle.tds_relay.specs.Ties as causes
+use Rattle.tds_relay.specs.Ties.{Cause, Causes, sent_along}
+
+-- ---- The ends of all applications, by their keys
+
+pub data End : Type 0 where
+  -- its application is taken from, and told. It may have taken back its request, of which something had gone on: then it has nothing to do
+  -- with its connection until the server's acknowledgement of that
+  Open : (front : Front) (withdrawn : Bool) → End
+  -- nothing more is taken of it, and it is to be closed
+  Over : End
+
+abbrev pub Ends : Type 0
+Ends = List (Option End)
+
+abbrev pub end_at : Ends → ℕ → Option End
+end_at ends key = slice_index_or ends key None
+
+-- that of one application changes so, if there is this application
+abbrev pub change_end : ℕ → (End → End) → Ends → Ends
+change_end key by ends = slice_set ends key (option_map by (end_at ends key))
+
+abbrev pub change_whose : Option ℕ → (End → End) → Ends → Ends
+change_whose None by ends = ends
+change_whose (Some key) by ends = change_end key by ends
+
+-- Who holds which connection, and the ends.
+pub record Hall : Type 0 where
+  pub desk : Desk
+  pub ends : Ends
+
+abbrev pub new_hall : ℕ → Hall
+new_hall max = record { desk = new_desk max; ends = [] }
+
+-- ---- How one moves
+
+abbrev pub move_stage : (Stage → Stage) → End → End
+move_stage by (Open front withdrawn) = Open (record front { stage = by front.stage }) withdrawn
+move_stage by Over = Over
+
+abbrev pub closes : End → End
+closes end = Over
+
+-- its connection is let go, and with it what was taken back there
+abbrev pub lets_go : End → End
+lets_go (Open front withdrawn) = Open front false
+lets_go Over = Over
+
+-- something of its request has gone on, where packets went out
+abbrev pub goes_on : List Packet → End → End
+goes_on [] end = end
+goes_on (packet ∷ packets) end = move_stage rules.went_on end
+
+-- The acknowledgement is the end's, or that of what was taken back.
+abbrev pub acknowledged : End → End
+acknowledged (Open front true) = Open front false
+acknowledged (Open front false) = move_stage rules.acknowledged (Open front false)
+acknowledged Over = Over
+
+-- this came of a packet on its connection
+abbrev pub told : What → End → End
+told whats.Goes end = end
+told whats.Finished end = move_stage rules.answered end
+told whats.Acknowledged end = acknowledged end
+told whats.Closed end = Over
+
+-- ---- What came, as the service answers it
+
+abbrev pub what_of : Answer → What
+what_of (line.Finished request) = whats.Finished
+what_of (line.Acked request) = whats.Acknowledged
+what_of (line.Fault fault) = whats.Closed
+what_of answer = whats.Goes
+
+abbrev pub what_in : List (Done Token) → What
+what_in [] = whats.Goes
+what_in (d ∷ ds) = what_of d.answer
+
+abbrev pub done_by : Desk → ℕ → Part Token → List (Done Token)
+done_by d number part = (step d.service (calls.Came number part)).dones
+
+-- ---- Bytes of an application
+
+-- what of its request has gone on it takes back
+abbrev pub takes_back : Said → Bool
+takes_back (said.Forget gone) = gone
+takes_back answer = false
+
+-- its attention is the server's
+abbrev pub hands_on : Said → Bool
+hands_on said.HandOn = true
+hands_on answer = false
+
+abbrev pub end_behind : Front → Bool → Result Fed FrontFault → End
+end_behind front withdrawn (Ok fed) = Open front (takes_back fed.said || withdrawn)
+end_behind front withdrawn (Err fault) = Over
+
+abbrev pub feeds : List ℕ → End → End
+feeds bytes (Open front withdrawn) = end_behind (fed front bytes).front withdrawn (fed front bytes).brings
+feeds bytes Over = Over
+
+-- whether an attention goes out by them
+abbrev pub stops_by : Result Fed FrontFault → Bool
+stops_by (Ok fed) = takes_back fed.said || hands_on fed.said
+stops_by (Err fault) = false
+
+abbrev pub stops_of : List ℕ → Option End → Bool
+stops_of bytes (Some (Open front withdrawn)) = stops_by (fed front bytes).brings
+stops_of bytes end = false
+
+-- ---- Moves
+
+pub data Move : Type 0 where
+  -- something is done at the desk alone
+  Does : (event : Event) → Move
+  -- bytes of a request, or its end, are put where an application holds a connection
+  Sends : (key : ℕ) (deed : Deed) → Move
+  -- an application lets its connection go, and stays
+  LetsGo : (key : ℕ) (gives : Bool) (way : Way) → Move
+  -- a connection is lost, and whoever holds it is closed; or that one stays, and has none
+  Loses : (number : ℕ) → Move
+  Replaces : (number : ℕ) → Move
+  -- a packet comes on a connection
+  Comes : (number : ℕ) (part : Part Token) (way : Way) → Move
+  -- bytes of an application come
+  Feeds : (key : ℕ) (bytes : List ℕ) → Move
+  -- an application is to be closed
+  Closes : (key : ℕ) → Move
+  -- one has come, with which these are the ends; one is there no more
+  Enters : (key : ℕ) (ends : Ends) → Move
+  Quits : (key : ℕ) (gives : Bool) (way : Way) → Move
+
+-- what is done at the desk
+abbrev pub event_if : Bool → Event → List Event
+event_if b event = if b then event ∷ [] else []
+
+abbrev pub events_of : Hall → Move → List Event
+events_of h (Does event) = event ∷ []
+events_of h (Sends key deed) = desk.Does key deed ∷ []
+events_of h (LetsGo key gives way) = desk.Leaves key gives way ∷ []
+events_of h (Loses number) = desk.Loses number ∷ []
+events_of h (Replaces number) = desk.Loses number ∷ []
+events_of h (Comes number part way) = desk.Comes number part way ∷ []
+events_of h (Feeds key bytes) = event_if (stops_of bytes (end_at h.ends key)) (desk.Does key desk.Stops)
+events_of h (Closes key) = []
+events_of h (Enters key ends) = []
+events_of h (Quits key gives way) = desk.Leaves key gives way ∷ []
+
+-- the packets that go out by an event
+abbrev pub sent_by : Desk → Event → List Packet
+sent_by d event = sent_along d.service (turn d event).calls
+
+-- whoever holds a connection
+abbrev pub holder : Desk → ℕ → Option ℕ
+holder d number = key_of (find_number number d.holds)
+
+abbrev pub ends_behind : Hall → Move → Ends
+ends_behind h (Does event) = h.ends
+ends_behind h (Sends key deed) = change_end key (goes_on (sent_by h.desk (desk.Does key deed))) h.ends
+ends_behind h (LetsGo key gives way) = change_end key lets_go h.ends
+ends_behind h (Loses number) = change_whose (holder h.desk number) closes h.ends
+ends_behind h (Replaces number) = change_whose (holder h.desk number) lets_go h.ends
+ends_behind h (Comes number part way) = change_whose (whose h.desk number) (told (what_in (done_by h.desk number part))) h.ends
+ends_behind h (Feeds key bytes) = change_end key (feeds bytes) h.ends
+ends_behind h (Closes key) = change_end key closes h.ends
+ends_behind h (Enters key ends) = ends
+ends_behind h (Quits key gives way) = slice_set h.ends key None
+
+abbrev pub moved : Hall → Move → Hall
+moved h move = record { desk = desk_after h.desk (events_of h move); ends = ends_behind h move }
+
+abbrev pub moved_all : Hall → List Move → Hall
+moved_all h [] = h
+moved_all h (move ∷ moves) = moved_all (moved h move) moves
+
+-- ---- When each may be
+
+-- Nothing of its request has gone on, and no attention.
+abbrev pub IsHere : Stage → Type 0
+IsHere stages.Quiet = Unit {0}
+IsHere (stages.Receiving kind gone) = gone ≡ false
+IsHere (stages.Underway gone) = gone ≡ false
+IsHere stages.Stopping = ⊥
+IsHere (stages.Broken fault) = ⊥
+
+-- Its request has begun; all of it has come.
+abbrev pub IsBegun : Stage → Type 0
+IsBegun stages.Quiet = ⊥
+IsBegun (stages.Receiving kind gone) = Unit {0}
+IsBegun (stages.Underway gone) = Unit {0}
+IsBegun stages.Stopping = ⊥
+IsBegun (stages.Broken fault) = ⊥
+
+abbrev pub IsWhole : Stage → Type 0
+IsWhole stages.Quiet = ⊥
+IsWhole (stages.Receiving kind gone) = ⊥
+IsWhole (stages.Underway gone) = Unit {0}
+IsWhole stages.Stopping = ⊥
+IsWhole (stages.Broken fault) = ⊥
+
+-- where its end is open
+abbrev pub IfOpen : (Stage → Type 0) → Option End → Type 0
+IfOpen P None = Unit {0}
+IfOpen P (Some (Open front withdrawn)) = P front.stage
+IfOpen P (Some Over) = Unit {0}
+
+abbrev pub is_in : ℕ → List ℕ → Bool
+is_in key [] = false
+is_in key (k ∷ ks) = (k == key) || is_in key ks
+
+abbrev pub IsThere : Option End → Type 0
+IsThere None = ⊥
+IsThere (Some end) = Unit {0}
+
+-- It is there, holds no connection, and waits for none.
+pub record IsAway (h : Hall) (key : ℕ) : Type 0 where
+  pub there : IsThere (end_at h.ends key)
+  pub holds : find_key key h.desk.holds ≡ None
+  pub waits : is_in key h.desk.line ≡ false
+
+-- Bytes are put of a request that has begun, and its end where all of it has come; what is asked may be taken back where nothing of it has
+-- gone on.
+abbrev pub MayDo : Deed → Option End → Type 0
+MayDo desk.Asks end = Unit {0}
+MayDo (desk.Puts count) end = IfOpen IsBegun end
+MayDo (desk.Ends count) end = IfOpen IsWhole end
+MayDo desk.Stops end = IfOpen IsHere end
+
+abbrev pub IsPut : Deed → Type 0
+IsPut desk.Asks = ⊥
+IsPut (desk.Puts count) = Unit {0}
+IsPut (desk.Ends count) = Unit {0}
+IsPut desk.Stops = ⊥
+
+abbrev pub IsNotPut : Deed → Type 0
+IsNotPut desk.Asks = Unit {0}
+IsNotPut (desk.Puts count) = ⊥
+IsNotPut (desk.Ends count) = ⊥
+IsNotPut desk.Stops = Unit {0}
+
+-- Nobody waits who holds a connection, or waits already. What is put moves an end, and so does a connection that is let go or lost, and a
+-- packet that comes.
+abbrev pub MayDoAlone : Hall → Event → Type 0
+MayDoAlone h (desk.Waits key) = IsAway h key
+MayDoAlone h (desk.Unwaits key) = Unit {0}
+MayDoAlone h desk.Serves = Unit {0}
+MayDoAlone h (desk.Brings gives way) = Unit {0}
+MayDoAlone h (desk.Does key deed) = IsNotPut deed × MayDo deed (end_at h.ends key)
+MayDoAlone h (desk.Leaves key gives way) = ⊥
+MayDoAlone h (desk.Renews key resumes) = Unit {0}
+MayDoAlone h (desk.Comes number part way) = ⊥
+MayDoAlone h (desk.Loses number) = ⊥
+
+-- where it is somebody's
+abbrev pub IfWhose : (ℕ → Type 0) → Option ℕ → Type 0
+IfWhose P None = Unit {0}
+IfWhose P (Some key) = P key
+
+-- It has come by a key that nobody had, and has said nothing yet; the others are as they were.
+pub record HasEntered (key : ℕ) (old new : Ends) : Type 0 where
+  pub was_free : end_at old key ≡ None
+  pub size : ℕ
+  pub begins : end_at new key ≡ Some (Open (new_front size) false)
+  pub others_stay : (other : ℕ) → other ≢ key → end_at new other ≡ end_at old other
+
+-- Who lets a connection go and stays has nothing there.
+abbrev pub MayMove : Hall → Move → Type 0
+MayMove h (Does event) = MayDoAlone h event
+MayMove h (Sends key deed) = IsPut deed × MayDo deed (end_at h.ends key)
+MayMove h (LetsGo key gives way) = IfOpen IsHere (end_at h.ends key)
+MayMove h (Loses number) = Unit {0}
+MayMove h (Replaces number) = IfWhose (λ key. IfOpen IsHere (end_at h.ends key)) (holder h.desk number)
+MayMove h (Comes number part way) = Unit {0}
+MayMove h (Feeds key bytes) = Unit {0}
+MayMove h (Closes key) = Unit {0}
+MayMove h (Enters key ends) = HasEntered key h.ends ends
+MayMove h (Quits key gives way) = Unit {0}
+
+abbrev pub MayMoveAll : Hall → List Move → Type 0
+MayMoveAll h [] = Unit {0}
+MayMoveAll h (move ∷ moves) = MayMove h move × MayMoveAll (moved h move) moves
+
+-- ---- Who causes each
+
+-- Its bytes, and its end, are an application's own; a packet is its connection's. The rest is as at the desk.
+abbrev pub CausesMove : Cause → Move → Type 0
+CausesMove by (Does event) = Causes by event
+CausesMove by (Sends key deed) = Unit {0}
+CausesMove by (LetsGo key gives way) = by ≡ causes.Application key
+CausesMove by (Loses number) = Unit {0}
+CausesMove by (Replaces number) = by ≡ causes.Connection number
+CausesMove by (Comes number part way) = by ≡ causes.Connection number
+CausesMove by (Feeds key bytes) = by ≡ causes.Application key
+CausesMove by (Closes key) = Unit {0}
+CausesMove by (Enters key ends) = by ≡ causes.Neither
+CausesMove by (Quits key gives way) = by ≡ causes.Application key
+
+-- Moves that this causes led from one hall to the other.
+pub record Moves (by : Cause) (old new : Hall) : Type 0 where
+  pub moves : List Move
+  pub are : moved_all old moves ≡ new
+  pub may : MayMoveAll old moves
+  pub caused : Each (CausesMove by) moves

@@ -1,0 +1,163 @@
+//! What applications take back: requests that are forgotten, and attentions.
+ghost use Rattle.std.specs.Prelude.{◌≡◌, [], ℕ, IfSome, List, OnOk, true};
+ghost use Rattle.tds_front.specs.declared.front.Said.TheVariants.{Forget, HandOn};
+ghost use Rattle.tds_relay.specs.Desk.{Does, Stops, Unwaits};
+ghost use Rattle.tds_relay.specs.Fronts.{FedOn, Moved, MovedOn, ends_in, hall_in, hall_of_ends, withdraws};
+ghost use Rattle.tds_relay.specs.Hall.{Ends, IfOpen, IsHere, change_end, end_at};
+ghost use Rattle.tds_relay.specs.Posts.{acknowledgement, give, posts_in};
+ghost use Rattle.tds_relay.specs.Ties.{Application, Goes, Turns, desk_in};
+
+use super::Relay;
+use crate::NoMemory;
+use crate::application::Asking;
+use tds_client::Cancelled;
+
+/// The acknowledgement of an attention: a message of one DONE with bit 0020 (MS-TDS 2.2.7.6).
+const ACKNOWLEDGED: [u8; 21] = [
+    4, 1, 0, 21, 0, 0, 1, 0, 0xfd, 0x20, 0, 0, 0, 0, 0, 0, 0, 0, 0, 0, 0,
+];
+
+impl Relay {
+    /// What has come of its request is forgotten, and the reset that this asked for. Nothing of it has gone
+    /// on.
+    pub(super) fn forget(&mut self, key: usize) -> Result<(), NoMemory>
+        ensures goes { OnOk result (Goes (Application key)
+            (desk_in self.old.desk) (desk_in self.new.desk)) }
+        ensures kept { OnOk result (posts_in self.new.applications
+            ≡ posts_in self.old.applications) }
+        ensures moves { OnOk result (Moved (Application key) (hall_in self.old)
+            (hall_in self.new)) }
+    {
+        self.forget_reset(key);
+        let was_asked = self.forget_request(key);
+        if was_asked { self.unask(key) } else { Ok(()) }
+    }
+
+    /// What has come of its request is forgotten. Answers whether that was asked on a connection.
+    fn forget_request(&mut self, key: usize) -> bool
+        ensures goes { Goes (Application key) (desk_in self.old.desk) (desk_in self.new.desk) }
+        ensures kept { posts_in self.new.applications ≡ posts_in self.old.applications }
+        ensures ends { ends_in self.new.applications ≡ ends_in self.old.applications }
+        ensures turns { Turns (Unwaits key) (desk_in self.old.desk) (desk_in self.new.desk) [] [] }
+    {
+        self.desk.unwait(key);
+        let Some(application) = self.applications.get_mut(key) else {
+            return false;
+        };
+        let was_asked = matches!(application.asking, Asking::Goes);
+        application.asking = Asking::Nothing;
+        application.forget();
+        was_asked
+    }
+
+    /// A request that was asked, and of which nothing has gone on, isn't asked any more.
+    fn unask(&mut self, key: usize) -> Result<(), NoMemory>
+        ensures goes { OnOk result (Goes (Application key)
+            (desk_in self.old.desk) (desk_in self.new.desk)) }
+        ensures kept { OnOk result (posts_in self.new.applications
+            ≡ posts_in self.old.applications) }
+        ensures moves { OnOk result (Moved (Application key) (hall_in self.old)
+            (hall_in self.new)) }
+    {
+        if !self.has_nothing_out(key) {
+            return self.expel(key);
+        }
+        self.outbox.clear();
+        match self.desk.cancel(key, &mut self.outbox) {
+            Ok((hold, _)) => self.send_on(hold.number),
+            Err(_) => self.expel(key),
+        }
+    }
+
+    /// What has come of its request is forgotten, of which something has gone on: the server is to forget it
+    /// too, and its acknowledgement is nobody's.
+    pub(super) fn take_back(&mut self, key: usize) -> Result<(), NoMemory>
+        ensures goes { OnOk result (Goes (Application key)
+            (desk_in self.old.desk) (desk_in self.new.desk)) }
+        ensures kept { OnOk result (posts_in self.new.applications
+            ≡ posts_in self.old.applications) }
+        ensures moves { OnOk result (FedOn key (Forget true) (desk_in self.old.desk)
+            (ends_in self.old.applications) (hall_in self.new)) }
+    {
+        self.forget_reset(key);
+        let _ = self.forget_request(key);
+        match self.stop(key) {
+            Some(number) => {
+                self.withdraw(key);
+                self.send_on(number)
+            }
+            None => self.expel(key),
+        }
+    }
+
+    /// An attention goes out for what an application has asked. Answers on which connection, if it does.
+    fn stop(&mut self, key: usize) -> Option<u64>
+        ensures goes { Goes (Application key) (desk_in self.old.desk) (desk_in self.new.desk) }
+        ensures kept { posts_in self.new.applications ≡ posts_in self.old.applications }
+        ensures ends { ends_in self.new.applications ≡ ends_in self.old.applications }
+        ensures some { IfSome result (λ number. (before after : List ℕ) × Turns (Does key Stops)
+            (desk_in self.old.desk) (desk_in self.new.desk) before after) }
+        ensures moves { (ends : Ends) → IfOpen IsHere (end_at ends key) → Moved (Application key)
+            (hall_of_ends (desk_in self.old.desk) ends) (hall_of_ends (desk_in self.new.desk) ends) }
+    {
+        self.outbox.clear();
+        match self.desk.cancel(key, &mut self.outbox) {
+            Ok((hold, how)) => {
+                if matches!(how, Cancelled::Asked) {
+                    Some(hold.number)
+                } else {
+                    None
+                }
+            }
+            Err(_) => None,
+        }
+    }
+
+    /// An application waits for the acknowledgement of what it took back.
+    fn withdraw(&mut self, key: usize)
+        ensures desk { self.new.desk ≡ self.old.desk }
+        ensures kept { posts_in self.new.applications ≡ posts_in self.old.applications }
+        ensures ends { ends_in self.new.applications
+            ≡ change_end key withdraws (ends_in self.old.applications) }
+        ensures links { self.new.links.items ≡ self.old.links.items }
+    {
+        match self.applications.get_mut(key) {
+            Some(application) => application.withdraw(),
+            None => {}
+        }
+    }
+
+    /// The relay acknowledges an attention.
+    pub(super) fn acknowledge(&mut self, key: usize) -> Result<(), NoMemory>
+        ensures desk { self.new.desk ≡ self.old.desk }
+        ensures given { OnOk result (posts_in self.new.applications
+            ≡ give key acknowledgement (posts_in self.old.applications)) }
+        ensures moves { OnOk result (MovedOn (hall_in self.old) (hall_in self.new)) }
+    {
+        match self.applications.get_mut(key) {
+            Some(application) => {
+                application.out.append(&ACKNOWLEDGED)?;
+                self.order_write(key)
+            }
+            None => Ok(()),
+        }
+    }
+
+    /// The server acknowledges an attention.
+    pub(super) fn hand_on(&mut self, key: usize) -> Result<(), NoMemory>
+        ensures goes { OnOk result (Goes (Application key)
+            (desk_in self.old.desk) (desk_in self.new.desk)) }
+        ensures kept { OnOk result (posts_in self.new.applications
+            ≡ posts_in self.old.applications) }
+        ensures moves { OnOk result (FedOn key HandOn (desk_in self.old.desk)
+            (ends_in self.old.applications) (hall_in self.new)) }
+    {
+        match self.stop(key) {
+            Some(number) => {
+                self.counts.cancels = self.counts.cancels.saturating_add(1);
+                self.send_on(number)
+            }
+            None => self.expel(key),
+        }
+    }
+}
